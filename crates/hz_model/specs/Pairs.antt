@@ -1,0 +1,14 @@
+use Rattle.std.specs.Prelude.{ℕ, ◌+◌, List, map}
+
+-- A unit that is taken in a cycle. `U` is what units are: their numbers in one automaton, or an automaton and a number.
+pub record Pair (U : Type 0) : Type 0 where
+  pub unit : U
+  pub cycle : ℕ
+
+-- the same unit, n cycles later
+abbrev pub later : {U : Type 0} → ℕ → Pair U → Pair U
+later n p = record { unit = p.unit; cycle = n + p.cycle }
+
+-- pairs, placed n cycles later
+abbrev pub placed : {U : Type 0} → ℕ → List (Pair U) → List (Pair U)
+placed n pairs = map (later n) pairs

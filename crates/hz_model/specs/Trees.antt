@@ -1,0 +1,15 @@
+use Rattle.std.specs.Prelude.{ℕ, ℤ, List}
+
+-- A form of a text: what it is, and the line where it begins. An atom that spells a number is the number.
+mutual
+  pub data Tree : Type 0 where
+    list : (line : ℕ) → (forms : Trees) → Tree
+    vector : (line : ℕ) → (forms : Trees) → Tree
+    atom : (line : ℕ) → (bytes : List ℕ) → Tree
+    quoted : (line : ℕ) → (bytes : List ℕ) → Tree
+    number : (line : ℕ) → (value : ℤ) → Tree
+
+  -- forms side by side
+  pub data Trees : Type 0 where
+    none : Trees
+    more : (first : Tree) → (others : Trees) → Trees

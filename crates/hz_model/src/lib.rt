@@ -1,0 +1,2 @@
+//! What a pipeline description means: the definitions that contracts cite, and their laws.
+#![tactic(auto)]
