@@ -1,3 +1,13 @@
+pub mod Limits
 pub mod Names
 pub mod Pairs
 pub mod Trees
+pub mod Forms
+pub mod Alternatives
+pub mod Sets
+pub mod Replay
+pub mod Lines
+pub mod Straight
+pub mod Texts
+pub mod Words
+pub mod Answers

@@ -1,0 +1,28 @@
+use Rattle.std.specs.Prelude.{ℕ}
+
+-- units of one automaton
+abbrev pub unit_limit : ℕ
+unit_limit = 128
+
+-- cycles of an alternative
+abbrev pub cycle_limit : ℕ
+cycle_limit = 256
+
+abbrev pub class_limit : ℕ
+class_limit = 1024
+
+-- the greatest latency
+abbrev pub latency_limit : ℕ
+latency_limit = 1000
+
+-- bytes of a description
+abbrev pub description_limit : ℕ
+description_limit = 4194304
+
+-- bytes of a trace
+abbrev pub trace_limit : ℕ
+trace_limit = 67108864
+
+-- all the advances of a trace together
+abbrev pub advance_limit : ℕ
+advance_limit = 16777216

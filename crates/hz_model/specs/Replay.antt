@@ -1,0 +1,114 @@
+use Rattle.std.specs.Prelude.{◌≡◌, ℕ, ◌+◌, ◌<◌, List, [], ◌∷◌, ◌++◌, Option, Some, None, length, take, slice_get, slice_index}
+use Rattle.hz_model.specs.Pairs.{Pair, placed}
+use Rattle.hz_model.specs.Alternatives.{Alternative}
+use Rattle.hz_model.specs.Sets.{Statement, Fits}
+
+-- How an issue takes an alternative: the first that fits, or under `ndfa` any that fits.
+pub data Treatment : Type 0 where
+  first_fit : Treatment
+  any_fit : Treatment
+
+-- an instruction reservation: its name and its alternatives
+pub record Class (U : Type 0) : Type 0 where
+  pub name : List ℕ
+  pub alternatives : List (Alternative U)
+
+-- what a description means to a replay
+pub record Machine (U : Type 0) : Type 0 where
+  pub classes : List (Class U)
+  pub statements : List (Statement U)
+  pub treatment : Treatment
+
+-- an issue of a class, by its number, or so many cycle advances
+pub data Event : Type 0 where
+  issue : (class : ℕ) → Event
+  advance : (cycles : ℕ) → Event
+
+-- how many issues there are
+abbrev pub issues_of : List Event → ℕ
+issues_of [] = 0
+issues_of (issue k ∷ t) = 1 + issues_of t
+issues_of (advance n ∷ t) = issues_of t
+
+-- how many cycles are advanced
+abbrev pub cycles_of : List Event → ℕ
+cycles_of [] = 0
+cycles_of (issue k ∷ t) = cycles_of t
+cycles_of (advance n ∷ t) = n + cycles_of t
+
+-- the alternatives of a class, none where there is no such class
+abbrev pub of_class : {U : Type 0} → Option (Class U) → List (Alternative U)
+of_class None = []
+of_class (Some c) = c.alternatives
+
+abbrev pub alternatives_at : {U : Type 0} → Machine U → ℕ → List (Alternative U)
+alternatives_at m k = of_class (slice_get m.classes k)
+
+-- the pairs of an alternative, none where there is no such alternative
+abbrev pub pairs_at : {U : Type 0} → Option (Alternative U) → List (Pair U)
+pairs_at None = []
+pairs_at (Some a) = a.pairs
+
+-- the pairs of the class's alternative of this number
+abbrev pub chosen : {U : Type 0} → Machine U → ℕ → ℕ → List (Pair U)
+chosen m k i = pairs_at (slice_get (alternatives_at m k) i)
+
+-- What stands reserved, in absolute cycles, and the present cycle.
+pub record State (U : Type 0) : Type 0 where
+  pub reserved : List (Pair U)
+  pub now : ℕ
+
+-- nothing reserved, in cycle 0
+abbrev pub start : {U : Type 0} → State U
+start = record { reserved = []; now = 0 }
+
+-- the class's alternative of this number exists and fits
+abbrev pub FitsAt : {U : Type 0} → Machine U → State U → ℕ → ℕ → Type 0
+FitsAt m s k i = (i < length (alternatives_at m k)) × Fits m.statements s.reserved (chosen m k i) s.now
+
+-- An issue of class k may take its alternative of number i: it fits, and in the first treatment none before it does.
+pub record MayTake {U : Type 0} (m : Machine U) (s : State U) (k i : ℕ) : Type 0 where
+  pub fits : FitsAt m s k i
+  pub first : m.treatment ≡ first_fit → (j : ℕ) → j < i → FitsAt m s k j → ⊥
+
+-- The calendar of events whose issues take the alternatives of these numbers, from cycle `now` on: all pairs that
+-- they reserve. Cycles are absolute, and what is past stays.
+abbrev pub calendar : {U : Type 0} → Machine U → ℕ → List Event → List ℕ → List (Pair U)
+calendar m now [] choices = []
+calendar m now (advance n ∷ t) choices = calendar m (n + now) t choices
+calendar m now (issue k ∷ t) [] = []
+calendar m now (issue k ∷ t) (i ∷ choices) = placed now (chosen m k i) ++ calendar m now t choices
+
+-- what events leave whose issues take the alternatives of these numbers
+abbrev pub left_by : {U : Type 0} → Machine U → List Event → List ℕ → State U
+left_by m t choices = record { reserved = calendar m 0 t choices; now = cycles_of t }
+
+-- A choice for each issue, each of which it may take where the issues before it have left the calendar.
+-- In the first treatment there is at most one such list.
+pub record IsChoice {U : Type 0} (m : Machine U) (t : List Event) (choices : List ℕ) : Type 0 where
+  pub each : length choices ≡ issues_of t
+  pub may : (before after : List Event) (k : ℕ) → t ≡ before ++ issue k ∷ after → MayTake m (left_by m before choices) k (slice_index choices (issues_of before))
+
+-- some choices make every issue fit in its turn
+abbrev pub Accepted : {U : Type 0} → Machine U → List Event → Type 0
+Accepted m t = (choices : List ℕ) × IsChoice m t choices
+
+-- the place of the last event of the shortest prefix that is not accepted
+pub record FirstRefused {U : Type 0} (m : Machine U) (t : List Event) (i : ℕ) : Type 0 where
+  pub within : i < length t
+  pub before : Accepted m (take i t)
+  pub refused : Accepted m (take (i + 1) t) → ⊥
+
+-- One event from one state to the next.
+abbrev pub Step : {U : Type 0} → Machine U → State U → Event → State U → Type 0
+Step m old (advance n) new = new ≡ record { reserved = old.reserved; now = n + old.now }
+Step m old (issue k) new = (i : ℕ) × MayTake m old k i × (new ≡ record { reserved = old.reserved ++ placed old.now (chosen m k i); now = old.now })
+
+-- events from one state to another
+abbrev pub Run : {U : Type 0} → Machine U → State U → List Event → State U → Type 0
+Run m old [] new = new ≡ old
+Run {U} m old (e ∷ t) new = (middle : State U) × Step m old e middle × Run m middle t new
+
+-- events that can be run from the start
+abbrev pub Runs : {U : Type 0} → Machine U → List Event → Type 0
+Runs {U} m t = (s : State U) × Run m start t s
