@@ -3,7 +3,7 @@ use Rattle.hz_model.specs.Limits.{description_limit, trace_limit}
 use Rattle.hz_model.specs.Words.{Order, replay, order_of}
 use Rattle.hz_model.specs.Texts.{usage_line, file_line, limit_line, not_built_line, accepted_line, refused_line}
 use Rattle.hz_model.specs.Replay.{Event, Machine, Class, Accepted, FirstRefused, issue, issues_of, cycles_of}
-use Rattle.hz_model.specs.Straight.{Description, Straight, StraightTrace, machine_of}
+use Rattle.hz_model.specs.Straight.{Description, Straight, StraightTrace, machine_of, class_names}
 
 -- the status and the text
 abbrev pub Says : ℕ → List ℕ → ℕ → List ℕ → Type 0
@@ -32,8 +32,8 @@ Describes name bytes next status text =
 -- the trace is judged
 abbrev pub Traces : Description → List ℕ → List ℕ → Next (List Event) → ℕ → List ℕ → Type 0
 Traces d name bytes next status text =
-    ((events : List Event) × StraightTrace d bytes events × next events status text)
-    ⊎ (((events : List Event) → StraightTrace d bytes events → ⊥) × Says 2 (not_built_line name) status text)
+    ((events : List Event) × StraightTrace (class_names d) bytes events × next events status text)
+    ⊎ (((events : List Event) → StraightTrace (class_names d) bytes events → ⊥) × Says 2 (not_built_line name) status text)
 
 -- the class that an event issues
 abbrev pub IsIssueOf : Machine ℕ → Option Event → List ℕ → Type 0

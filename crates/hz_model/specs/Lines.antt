@@ -1,5 +1,5 @@
 use Rattle.std.specs.Prelude.{ℕ, ◌+◌, ◌-◌, ◌*◌, ◌==◌, Bool, List, [], ◌∷◌, Option, Some, None, if◌then◌else◌, nat_le, ◌&&◌, length, take, drop, map}
-use Rattle.std.specs.Char.{is_ascii_whitespace}
+use Rattle.std.specs.Char.{is_ascii_digit, is_ascii_whitespace}
 use Rattle.std.specs.List.{onto_first, slice_split, list_all, prefix_len, suffix_len, position}
 use Rattle.std.specs.Str.{bytes_eq}
 
@@ -19,9 +19,6 @@ trimmed bytes = without_trailing (drop (prefix_len is_ascii_whitespace bytes) by
 abbrev pub separated : List ℕ → List (List ℕ)
 separated bytes = map trimmed (slice_split (λ b. b == 44) bytes)
 
-abbrev pub is_digit : ℕ → Bool
-is_digit b = nat_le 48 b && nat_le b 57
-
 -- the number that digits spell, after those that spelled `high`
 abbrev pub number_from : ℕ → List ℕ → ℕ
 number_from high [] = high
@@ -30,7 +27,7 @@ number_from high (b ∷ bs) = number_from (high * 10 + (b - 48)) bs
 -- the number of one or more digits
 abbrev pub number_of : List ℕ → Option ℕ
 number_of [] = None
-number_of (b ∷ bs) = if list_all is_digit (b ∷ bs) then Some (number_from 0 (b ∷ bs)) else None
+number_of (b ∷ bs) = if list_all is_ascii_digit (b ∷ bs) then Some (number_from 0 (b ∷ bs)) else None
 
 -- the place of a name in a list of names
 abbrev pub place_of : List ℕ → List (List ℕ) → Option ℕ

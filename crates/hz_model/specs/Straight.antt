@@ -107,7 +107,7 @@ abbrev pub events_of : List (List ℕ) → List (List ℕ) → Option (List Even
 events_of classes [] = Some []
 events_of classes (line ∷ lines) = option_and_then (λ e. option_map (λ es. e ∷ es) (events_of classes lines)) (event_of classes line)
 
--- the text is this list of events of the description: one of each line
-pub record StraightTrace (d : Description) (text : List ℕ) (events : List Event) : Type 0 where
-  pub lines : events_of (class_names d) (lines_of text) ≡ Some events
+-- the text is this list of events of classes with these names: one of each line
+pub record StraightTrace (classes : List (List ℕ)) (text : List ℕ) (events : List Event) : Type 0 where
+  pub lines : events_of classes (lines_of text) ≡ Some events
   pub short : cycles_of events ≤ advance_limit

@@ -1,0 +1,45 @@
+use Rattle.std.specs.Prelude.{◌≡◌, ℕ, ◌+◌, ◌≤◌, min, List, map, Option, None, Some}
+use Rattle.std.specs.Option.{option_map}
+use Rattle.std.specs.declared.alloc.Global.{Global}
+use Rattle.std.specs.declared.vec.Vec.{Vec}
+use Rattle.hz_model.specs.Limits.{advance_limit}
+use Rattle.hz_model.specs.Replay as model
+use Rattle.hz_model.specs.Straight.{StraightTrace}
+use Rattle.hz_tool.specs.declared.trace.Event.{Event}
+use Rattle.hz_tool.specs.declared.trace.Event.TheVariants.{Issue, Advance}
+use Rattle.hz_tool.specs.declared.trace.TraceFault.{TraceFault}
+use Rattle.hz_tool.specs.declared.trace.TraceFault.TheVariants.{NotBuilt, NoMemory}
+
+-- an event of the program as an event of the model
+abbrev pub event : Event → model.Event
+event (Issue class) = model.issue class
+event (Advance cycles) = model.advance cycles
+
+-- a sum of advances, or the limit and one more where it is greater
+abbrev pub capped : ℕ → ℕ
+capped n = min (advance_limit + 1) n
+
+abbrev pub capped_event : model.Event → model.Event
+capped_event (model.issue class) = model.issue class
+capped_event (model.advance cycles) = model.advance (capped cycles)
+
+-- the names in a list of owned names
+abbrev pub names_in : List (Vec ℕ Global) → List (List ℕ)
+names_in keys = map (λ k. k.items) keys
+
+-- the cycles that one event advances
+abbrev pub cycles_in : model.Event → ℕ
+cycles_in (model.issue class) = 0
+cycles_in (model.advance cycles) = cycles
+
+abbrev pub events_in : List Event → List model.Event
+events_in events = map event events
+
+-- a text that is no list of events of these classes
+abbrev pub IsNoTrace : List (List ℕ) → List ℕ → Type 0
+IsNoTrace classes text = (events : List model.Event) → StraightTrace classes text events → ⊥
+
+-- why a trace was refused
+abbrev pub RefusesTrace : List (List ℕ) → List ℕ → TraceFault → Type 0
+RefusesTrace classes text NotBuilt = IsNoTrace classes text
+RefusesTrace classes text NoMemory = Unit {0}

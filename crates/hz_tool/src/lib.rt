@@ -1,0 +1,4 @@
+//! The top call: words, files and phases, and the answer.
+#![tactic(auto)]
+
+mod trace;
