@@ -1,4 +1,4 @@
-use Rattle.std.specs.Prelude.{◌≡◌, ℕ, ◌+◌, ◌<◌, List, [], ◌∷◌, ◌++◌, Option, Some, None, length, take, slice_get, slice_index}
+use Rattle.std.specs.Prelude.{◌≡◌, ℕ, zero, suc, ◌+◌, ◌<◌, List, [], ◌∷◌, ◌++◌, Option, Some, None, length, take, slice_get, slice_index}
 use Rattle.hz_model.specs.Pairs.{Pair, placed}
 use Rattle.hz_model.specs.Alternatives.{Alternative}
 use Rattle.hz_model.specs.Sets.{Statement, Fits}
@@ -26,8 +26,8 @@ pub data Event : Type 0 where
 
 -- how many issues there are
 abbrev pub issues_of : List Event → ℕ
-issues_of [] = 0
-issues_of (issue k ∷ t) = 1 + issues_of t
+issues_of [] = zero
+issues_of (issue k ∷ t) = suc (issues_of t)
 issues_of (advance n ∷ t) = issues_of t
 
 -- how many cycles are advanced

@@ -1,2 +1,3 @@
 pub mod NameLemmas
+pub mod ReplayLemmas
 pub mod TraceLemmas
