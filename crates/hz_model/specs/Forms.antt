@@ -11,21 +11,21 @@ pub data Bracket : Type 0 where
   round square : Bracket
 
 -- a bracket that is open, and the line where it stands
-pub record Open : Type 0 where
+pub record OpenBracket : Type 0 where
   pub bracket : Bracket
   pub line : ℕ
 
 -- What a text is made of: brackets, and forms without brackets.
 pub data Token : Type 0 where
-  opens : (bracket : Open) → Token
+  opens : (bracket : Bracket) (line : ℕ) → Token
   closes : (bracket : Bracket) → Token
   leaf : (form : Tree) → Token
 
 -- the tokens that spell forms
 abbrev mutual
   pub spelled_tree : Tree → List Token
-  spelled_tree (list line forms) = opens (record { bracket = round; line = line }) ∷ (spelled forms ++ closes round ∷ [])
-  spelled_tree (vector line forms) = opens (record { bracket = square; line = line }) ∷ (spelled forms ++ closes square ∷ [])
+  spelled_tree (list line forms) = opens round line ∷ (spelled forms ++ closes round ∷ [])
+  spelled_tree (vector line forms) = opens square line ∷ (spelled forms ++ closes square ∷ [])
   spelled_tree (atom line bytes) = leaf (atom line bytes) ∷ []
   spelled_tree (quoted line bytes) = leaf (quoted line bytes) ∷ []
   spelled_tree (number line value) = leaf (number line value) ∷ []
@@ -44,18 +44,18 @@ same_bracket square square = true
 same_bracket _ _ = false
 
 -- the innermost open bracket is closed by one of its own kind
-abbrev pub closed : List Open → Bracket → Option (List Open)
+abbrev pub closed : List OpenBracket → Bracket → Option (List OpenBracket)
 closed [] bracket = None
 closed (inner ∷ outer) bracket = if same_bracket inner.bracket bracket then Some outer else None
 
 -- the brackets that are open after a token, the innermost first, where it may stand
-abbrev pub open_after : List Open → Token → Option (List Open)
-open_after opened (opens bracket) = if nat_lt (length opened) depth_limit then Some (bracket ∷ opened) else None
+abbrev pub open_after : List OpenBracket → Token → Option (List OpenBracket)
+open_after opened (opens bracket line) = if nat_lt (length opened) depth_limit then Some (record { bracket = bracket; line = line } ∷ opened) else None
 open_after opened (closes bracket) = closed opened bracket
 open_after opened (leaf form) = Some opened
 
 -- the same after several tokens
-abbrev pub open_after_all : List Open → List Token → Option (List Open)
+abbrev pub open_after_all : List OpenBracket → List Token → Option (List OpenBracket)
 open_after_all opened [] = Some opened
 open_after_all opened (token ∷ tokens) = option_and_then (λ now. open_after_all now tokens) (open_after opened token)
 
@@ -131,9 +131,13 @@ abbrev pub is_in_range : ℤ → Bool
 is_in_range (pos n) = nat_lt n (2 ^ 64)
 is_in_range (negsuc n) = nat_lt n (2 ^ 63)
 
--- a line feed, a tab or a printable byte other than `"` and the backslash stands for itself in a string
+-- a line feed, a tab and a printable byte may stand in a string
+abbrev pub is_string_byte : ℕ → Bool
+is_string_byte b = b == 10 || b == 9 || (nat_le 32 b && nat_le b 126)
+
+-- all of them but `"` and the backslash stand for themselves
 abbrev pub is_plain : ℕ → Bool
-is_plain b = (b == 10 || b == 9 || (nat_le 32 b && nat_le b 126)) && not (b == 34) && not (b == 92)
+is_plain b = is_string_byte b && not (b == 34) && not (b == 92)
 
 -- what a backslash and a byte stand for: nothing at a line's end, a quote, a backslash
 abbrev pub escaped : ℕ → Option (List ℕ)
@@ -164,7 +168,7 @@ pub data Step (line : ℕ) : (text : List ℕ) (tokens : List Token) (last : ℕ
   line_comment : {b : ℕ} {text : List ℕ} → role b ≡ semicolon → Step line (b ∷ text) [] line (line_end text)
   comment : {text rest : List ℕ} {last : ℕ} → Comment line text last (42 ∷ 47 ∷ rest) → Step line (47 ∷ 42 ∷ text) [] last rest
   opening : {b : ℕ} {bracket : Bracket} {rest : List ℕ} → role b ≡ opener bracket
-      → Step line (b ∷ rest) (opens (record { bracket = bracket; line = line }) ∷ []) line rest
+      → Step line (b ∷ rest) (opens bracket line ∷ []) line rest
   closing : {b : ℕ} {bracket : Bracket} {rest : List ℕ} → role b ≡ closer bracket → Step line (b ∷ rest) (closes bracket ∷ []) line rest
   word : {b : ℕ} {text bytes rest : List ℕ} → Word (b ∷ text) (b ∷ bytes) rest → number_of (b ∷ bytes) ≡ None
       → Step line (b ∷ text) (leaf (atom line (b ∷ bytes)) ∷ []) line rest
@@ -184,3 +188,36 @@ pub record Reads (text : List ℕ) (forms : Trees) : Type 0 where
   pub last : ℕ
   pub reading : Reading 1 text (spelled forms) last []
   pub nests : open_after_all [] (spelled forms) ≡ Some []
+
+-- What can be wrong with a text.
+pub data FormFault : Type 0 where
+  unclosed stray bad_escape too_deep bad_byte number_too_large : FormFault
+
+-- What a text begins with where it is wrong, at a line and with brackets open: the fault and its line.
+pub data Faulty (opened : List OpenBracket) (line : ℕ) : (text : List ℕ) (fault : FormFault) (place : ℕ) → Type 0 where
+  open_bracket : {inner : OpenBracket} {outer : List OpenBracket} → opened ≡ inner ∷ outer → Faulty opened line [] unclosed inner.line
+  open_comment : {text : List ℕ} {last : ℕ} → Comment line text last [] → Faulty opened line (47 ∷ 42 ∷ text) unclosed line
+  open_string : {b last : ℕ} {text bytes : List ℕ} → role b ≡ quote → Inside line text bytes last [] → Faulty opened line (b ∷ text) unclosed line
+  cut_string : {b last : ℕ} {text bytes : List ℕ} → role b ≡ quote → Inside line text bytes last (92 ∷ [])
+      → Faulty opened line (b ∷ text) unclosed line
+  stray_bracket : {b : ℕ} {bracket : Bracket} {rest : List ℕ} → role b ≡ closer bracket → closed opened bracket ≡ None
+      → Faulty opened line (b ∷ rest) stray line
+  wrong_escape : {b c last : ℕ} {text bytes rest : List ℕ} → role b ≡ quote → Inside line text bytes last (92 ∷ c ∷ rest) → escaped c ≡ None
+      → Faulty opened line (b ∷ text) bad_escape last
+  deep_bracket : {b : ℕ} {bracket : Bracket} {rest : List ℕ} → role b ≡ opener bracket → IsFalse (nat_lt (length opened) depth_limit)
+      → Faulty opened line (b ∷ rest) too_deep line
+  foreign_byte : {b : ℕ} {rest : List ℕ} → role b ≡ foreign → Faulty opened line (b ∷ rest) bad_byte line
+  foreign_in_string : {b c last : ℕ} {text bytes rest : List ℕ} → role b ≡ quote → Inside line text bytes last (c ∷ rest)
+      → IsFalse (is_string_byte c) → Faulty opened line (b ∷ text) bad_byte last
+  large_number : {b : ℕ} {text bytes rest : List ℕ} {value : ℤ} → Word (b ∷ text) (b ∷ bytes) rest → number_of (b ∷ bytes) ≡ Some value
+      → IsFalse (is_in_range value) → Faulty opened line (b ∷ text) number_too_large line
+
+-- The text is read up to a rest, with certain brackets open, and the rest begins with what is wrong.
+pub record FaultAt (text : List ℕ) (fault : FormFault) (place : ℕ) : Type 0 where
+  pub tokens : List Token
+  pub last : ℕ
+  pub rest : List ℕ
+  pub opened : List OpenBracket
+  pub reading : Reading 1 text tokens last rest
+  pub nests : open_after_all [] tokens ≡ Some opened
+  pub wrong : Faulty opened last rest fault place
