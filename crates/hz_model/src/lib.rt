@@ -1,2 +1,4 @@
 //! What a pipeline description means: the definitions that contracts cite, and their laws.
 #![tactic(auto)]
+
+pub mod forms;
