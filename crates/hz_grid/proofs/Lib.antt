@@ -1,0 +1,5 @@
+pub mod Ascending
+pub mod Elements
+pub mod Pairs
+pub mod Steps
+pub mod Units
