@@ -1,3 +1,4 @@
+pub mod EventLemmas
 pub mod NameLemmas
 pub mod ReplayLemmas
 pub mod TraceLemmas

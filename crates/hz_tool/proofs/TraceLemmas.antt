@@ -6,13 +6,9 @@ use Rattle.hz_model.specs.Limits.{advance_limit}
 use Rattle.hz_model.specs.Lines.{lines_of}
 use Rattle.hz_model.specs.Replay as model
 use Rattle.hz_model.specs.Replay.{cycles_of}
+use Rattle.hz_model.proofs.ReplayLaws.{cycles_of-append}
 use Rattle.hz_model.specs.Straight.{event_of, events_of, StraightTrace}
 use Rattle.hz_tool.specs.Trace.{event, capped, capped_event, cycles_in}
-
-pub cycles_of-append : (xs ys : List model.Event) → cycles_of (xs ++ ys) ≡ cycles_of xs + cycles_of ys
-cycles_of-append [] ys = omega arith
-cycles_of-append (model.issue k ∷ xs) ys = cycles_of-append xs ys
-cycles_of-append (model.advance n ∷ xs) ys = omega (arith, cycles_of-append xs ys)
 
 pub cycles_of_push : (xs : List model.Event) (e : model.Event) → cycles_of (xs ++ e ∷ []) ≡ cycles_of xs + cycles_in e
 cycles_of_push xs (model.issue k) = omega (arith, cycles_of-append xs (model.issue k ∷ []))

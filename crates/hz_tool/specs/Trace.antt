@@ -27,6 +27,11 @@ capped_event (model.advance cycles) = model.advance (capped cycles)
 abbrev pub names_in : List (Vec ℕ Global) → List (List ℕ)
 names_in keys = map (λ k. k.items) keys
 
+-- 1 for an issue, and 0 for advances
+abbrev pub issues_in : model.Event → ℕ
+issues_in (model.issue class) = 1
+issues_in (model.advance cycles) = 0
+
 -- the cycles that one event advances
 abbrev pub cycles_in : model.Event → ℕ
 cycles_in (model.issue class) = 0

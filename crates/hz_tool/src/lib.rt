@@ -1,4 +1,5 @@
 //! The top call: words, files and phases, and the answer.
 #![tactic(auto)]
 
+mod replay;
 mod trace;

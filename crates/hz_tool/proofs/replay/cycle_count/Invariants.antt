@@ -1,0 +1,7 @@
+use Rattle.std.proofs.Common.{◌≡◌, ◌≤◌, take}
+use Rattle.hz_model.specs.Replay.{cycles_of}
+use Rattle.hz_tool.specs.Trace.{events_in}
+use Rattle.hz_tool.proofs.replay.cycle_count.Given as goal
+
+abbrev pub invariant-loop-event : goal.invariant-loop-event
+invariant-loop-event l = l.count ≡ cycles_of (events_in (take l.event-index l.events))

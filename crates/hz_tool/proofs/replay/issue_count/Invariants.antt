@@ -1,0 +1,10 @@
+use Rattle.std.proofs.Common.{◌≡◌, ◌≤◌, take}
+use Rattle.hz_model.specs.Replay.{issues_of}
+use Rattle.hz_tool.specs.Trace.{events_in}
+use Rattle.hz_tool.proofs.replay.issue_count.Given as goal
+
+abbrev pub invariant-loop-event : goal.invariant-loop-event
+invariant-loop-event l = record {
+  counted : l.count ≡ issues_of (events_in (take l.event-index l.events));
+  small : l.count ≤ l.event-index;
+}

@@ -1,0 +1,131 @@
+//! The replay of events by one grid of the present and planned cycles.
+
+ghost use Rattle.std.specs.Prelude.{◌≡◌, ℕ, ◌+◌, ◌<◌, ◌≤◌, ◌⊎◌, length, List, [], ◌∷◌, All, IfOk, OnOk, MatchOption, IfSome, is_none};
+ghost use Rattle.hz_model.specs.Limits.{advance_limit};
+ghost use Rattle.hz_model.specs.Replay.{Machine, issue, issues_of, cycles_of};
+ghost use Rattle.hz_grid.specs.Grids.{Meets, IsUnion, IsAdvanced};
+ghost use Rattle.hz_tool.specs.Trace.{event as event_lem, events_in, issues_in, cycles_in};
+ghost use Rattle.hz_tool.specs.Replay.{AreGridsOf, IsAdvancedBy, PlaysFrom, IsOutcome, IsOfClass};
+
+use super::trace::Event;
+use hz_grid::{Grid, NoMemory};
+use std::alloc::Global;
+
+/// What a replay answers.
+#[derive(Clone, Copy, Debug)]
+pub enum Outcome {
+    /// Every issue fits: how many issues and how many cycle advances there are.
+    Accepted { issues: u64, cycles: u64 },
+    /// The first event that does not fit, by its place from 0, an issue of this class.
+    Refused { event: usize, class: u32 },
+}
+
+/// Goes so many cycles on.
+fn advance_by(present: &mut Grid, cycles: u32)
+    ensures { IsAdvancedBy cycles present.old present.new }
+{
+    for _cycle in 0..cycles {
+        present.advance();
+    }
+}
+
+/// The grid with the pairs of both, None where they meet.
+fn joined(alloc: Global, present: &Grid, added: &Grid) -> Result<Option<Grid>, NoMemory>
+    ensures { IfOk result (λ grid. MatchOption grid (Meets present.now added.now) (λ union. IsUnion present.now added.now union × (Meets present.now added.now → ⊥))) }
+{
+    if present.meets(added) {
+        return Ok(None);
+    }
+    Ok(Some(present.with(alloc, added)?))
+}
+
+/// Plays one event on the grid of the present and planned cycles. None where it fits, else the class whose issue does not.
+fn play(
+    alloc: Global,
+    grids: &[Grid],
+    present: &mut Grid,
+    event: Event,
+) -> Result<Option<u32>, NoMemory>
+    requires { IsOfClass (length grids.now) (event_lem event) }
+    ensures played { IfOk result (λ refused. PlaysFrom grids.now present.old (event_lem event) (is_none refused) present.new) }
+    ensures class { IfOk result (λ refused. IfSome refused (λ k. event_lem event ≡ issue k)) }
+{
+    match event {
+        Event::Advance(cycles) => {
+            advance_by(present, cycles);
+            Ok(None)
+        }
+        Event::Issue(class) => match joined(alloc, present, &grids[class as usize])? {
+            Some(grid) => {
+                *present = grid;
+                Ok(None)
+            }
+            None => Ok(Some(class)),
+        },
+    }
+}
+
+/// 1 for an issue, and 0 for advances.
+fn issues_at(event: Event) -> u64
+    ensures { result ≡ issues_in (event_lem event) }
+{
+    match event {
+        Event::Issue(_) => 1,
+        Event::Advance(_) => 0,
+    }
+}
+
+/// The cycles that an event advances.
+fn cycles_at(event: Event) -> u64
+    ensures { result ≡ cycles_in (event_lem event) }
+{
+    match event {
+        Event::Issue(_) => 0,
+        Event::Advance(cycles) => u64::from(cycles),
+    }
+}
+
+/// How many events are issues.
+fn issue_count(events: &[Event]) -> u64
+    ensures { result ≡ issues_of (events_in events.now) }
+{
+    let mut count = 0;
+    for event in events {
+        count += issues_at(*event);
+    }
+    count
+}
+
+/// How many cycles are advanced.
+fn cycle_count(events: &[Event]) -> u64
+    requires { cycles_of (events_in events.now) ≤ advance_limit }
+    ensures { result ≡ cycles_of (events_in events.now) }
+{
+    let mut count = 0;
+    for event in events {
+        count += cycles_at(*event);
+    }
+    count
+}
+
+/// Replays events from the empty calendar, where the grids are those of the classes by number. The answer is right for
+/// each machine that the grids stand for.
+pub fn replay(alloc: Global, grids: &[Grid], events: &[Event]) -> Result<Outcome, NoMemory>
+    requires classes { All (IsOfClass (length grids.now)) (events_in events.now) }
+    requires short { cycles_of (events_in events.now) ≤ advance_limit }
+    ensures { IfOk result (λ outcome. (m : Machine ℕ) → AreGridsOf grids.now m → IsOutcome m (events_in events.now) outcome) }
+{
+    let mut present = Grid::empty(alloc);
+    for (place, event) in events.iter().enumerate() {
+        if let Some(class) = play(alloc, grids, &mut present, *event)? {
+            return Ok(Outcome::Refused {
+                event: place,
+                class,
+            });
+        }
+    }
+    Ok(Outcome::Accepted {
+        issues: issue_count(events),
+        cycles: cycle_count(events),
+    })
+}
