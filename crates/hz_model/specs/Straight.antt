@@ -29,16 +29,17 @@ is_among name names = is_some (place_of name names)
 abbrev pub class_names : Description → List (List ℕ)
 class_names d = map (λ c. c.name) d.classes
 
--- a unit joins where its name is a new name other than `nothing`, and there is room
-abbrev pub with_unit : Description → List ℕ → Option Description
-with_unit d name =
-    if is_name name && not (is_nothing name) && not (is_among name d.units) && nat_lt (length d.units) unit_limit
-    then Some (record d { units = d.units ++ name ∷ [] })
+-- a unit joins the units where its name is a new name other than `nothing`, and there is room
+abbrev pub unit_with : List (List ℕ) → List ℕ → Option (List (List ℕ))
+unit_with units name =
+    if is_name name && not (is_nothing name) && not (is_among name units) && nat_lt (length units) unit_limit
+    then Some (units ++ name ∷ [])
     else None
 
-abbrev pub with_units : Description → List (List ℕ) → Option Description
-with_units d [] = Some d
-with_units d (name ∷ names) = option_and_then (λ e. with_units e names) (with_unit d name)
+-- units join one after the other
+abbrev pub units_with : List (List ℕ) → List (List ℕ) → Option (List (List ℕ))
+units_with units [] = Some units
+units_with units (name ∷ names) = option_and_then (λ more. units_with more names) (unit_with units name)
 
 -- what a name means: the one alternative of a unit
 abbrev pub unit_alternatives : List (List ℕ) → List ℕ → List (Alternative ℕ)
@@ -55,11 +56,14 @@ piece_parts (piece ∷ pieces) = expression.more (piece_expression piece) (piece
 abbrev pub straight_alternatives : List (List ℕ) → List (List ℕ) → List (Alternative ℕ)
 straight_alternatives units pieces = alternatives_of (unit_alternatives units) (expression.sequence (piece_parts pieces))
 
--- a class joins where its name is a new name, each piece is `nothing` or a unit, and there is room
+-- at most so many pieces as cycles, each of them `nothing` or a unit
+abbrev pub are_pieces : List (List ℕ) → List (List ℕ) → Bool
+are_pieces units pieces = nat_le (length pieces) cycle_limit && list_all (λ piece. is_nothing piece || is_among piece units) pieces
+
+-- a class joins where its name is a new name, its pieces are pieces, and there is room
 abbrev pub with_class : Description → List ℕ → List (List ℕ) → Option Description
 with_class d name pieces =
-    if is_name name && not (is_among name (class_names d)) && nat_lt (length d.classes) class_limit
-    && nat_le (length pieces) cycle_limit && list_all (λ piece. is_nothing piece || is_among piece d.units) pieces
+    if is_name name && not (is_among name (class_names d)) && nat_lt (length d.classes) class_limit && are_pieces d.units pieces
     then Some (record d { classes = d.classes ++ record { name = name; alternatives = straight_alternatives d.units pieces } ∷ [] })
     else None
 
@@ -70,7 +74,7 @@ is_always _ = false
 
 -- what a form adds: `(define_cpu_unit "names")` or `(define_insn_reservation "name" latency (const_int 1) "pieces")`
 abbrev pub with_cpu_unit : Description → Trees → Option Description
-with_cpu_unit d (form.more (form.quoted _ names) form.none) = with_units d (separated names)
+with_cpu_unit d (form.more (form.quoted _ names) form.none) = option_map (λ units. record d { units = units }) (units_with d.units (separated names))
 with_cpu_unit d _ = None
 
 abbrev pub with_insn_reservation : Description → Trees → Option Description

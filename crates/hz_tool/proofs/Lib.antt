@@ -1,4 +1,5 @@
 pub mod EventLemmas
 pub mod NameLemmas
 pub mod ReplayLemmas
+pub mod StraightLemmas
 pub mod TraceLemmas

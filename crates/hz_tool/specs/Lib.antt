@@ -1,2 +1,4 @@
+pub mod Names
 pub mod Replay
+pub mod Straight
 pub mod Trace

@@ -1,7 +1,5 @@
 use Rattle.std.specs.Prelude.{◌≡◌, ℕ, ◌+◌, ◌≤◌, min, List, map, Option, None, Some}
 use Rattle.std.specs.Option.{option_map}
-use Rattle.std.specs.declared.alloc.Global.{Global}
-use Rattle.std.specs.declared.vec.Vec.{Vec}
 use Rattle.hz_model.specs.Limits.{advance_limit}
 use Rattle.hz_model.specs.Replay as model
 use Rattle.hz_model.specs.Straight.{StraightTrace}
@@ -22,10 +20,6 @@ capped n = min (advance_limit + 1) n
 abbrev pub capped_event : model.Event → model.Event
 capped_event (model.issue class) = model.issue class
 capped_event (model.advance cycles) = model.advance (capped cycles)
-
--- the names in a list of owned names
-abbrev pub names_in : List (Vec ℕ Global) → List (List ℕ)
-names_in keys = map (λ k. k.items) keys
 
 -- 1 for an issue, and 0 for advances
 abbrev pub issues_in : model.Event → ℕ

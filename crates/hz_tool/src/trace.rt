@@ -2,12 +2,14 @@
 
 ghost use Rattle.std.specs.Prelude.{◌≡◌, ℕ, ◌+◌, ◌<◌, ◌≤◌, ◌==◌, length, min, MatchOption, MatchResult, List, ◌∷◌, ◌++◌, position, map};
 ghost use Rattle.std.specs.Option.{option_map};
-ghost use Rattle.hz_model.specs.Lines.{lines_of, number_of, place_of};
+ghost use Rattle.hz_model.specs.Lines.{lines_of, number_of};
 ghost use Rattle.hz_model.specs.Limits.{advance_limit, class_limit};
 ghost use Rattle.hz_model.specs.Straight.{event_of, StraightTrace};
-ghost use Rattle.hz_tool.specs.Trace.{event as event_lem, capped, capped_event, names_in, cycles_in, events_in, RefusesTrace};
+ghost use Rattle.hz_tool.specs.Names.{names_in};
+ghost use Rattle.hz_tool.specs.Trace.{event as event_lem, capped, capped_event, cycles_in, events_in, RefusesTrace};
 ghost use Rattle.indexmap.specs.IndexSet.{index_set_len};
 
+use super::names::place_of;
 use indexmap::IndexSet;
 use std::alloc::{AllocError, Global};
 
@@ -67,25 +69,13 @@ fn number(digits: &[u8]) -> Option<u32>
     Some(value)
 }
 
-/// The number of a class name.
-#[tactic(auto, using(crate::proofs::NameLemmas::place_of_names))]
-fn class_of(classes: &IndexSet<Vec<u8>>, name: &[u8]) -> Option<u32>
-    requires { index_set_len classes.now ≤ class_limit }
-    ensures { result ≡ place_of name.now (names_in classes.now.keys) }
-{
-    match classes.get_index_of(name) {
-        Some(place) => Some(place as u32),
-        None => None,
-    }
-}
-
 /// The event of a line, advances above the limit cut to the limit and one more.
 fn line_event(classes: &IndexSet<Vec<u8>>, line: &[u8]) -> Option<Event>
     requires { index_set_len classes.now ≤ class_limit }
     ensures { option_map event_lem result ≡ option_map capped_event (event_of (names_in classes.now.keys) line.now) }
 {
     if let Some(name) = line.strip_prefix(b"issue ") {
-        return Some(Event::Issue(class_of(classes, name)?));
+        return Some(Event::Issue(place_of(classes, name)?));
     }
     let digits = line.strip_prefix(b"advance ")?;
     Some(Event::Advance(number(digits)?))

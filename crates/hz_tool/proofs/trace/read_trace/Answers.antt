@@ -6,7 +6,8 @@ use Rattle.hz_model.specs.Replay as model
 use Rattle.hz_model.specs.Limits.{advance_limit}
 use Rattle.hz_model.specs.Replay.{cycles_of}
 use Rattle.hz_model.specs.Straight.{event_of, events_of}
-use Rattle.hz_tool.specs.Trace.{event, events_in, names_in, cycles_in, capped_event}
+use Rattle.hz_tool.specs.Names.{names_in}
+use Rattle.hz_tool.specs.Trace.{event, events_in, cycles_in, capped_event}
 use Rattle.hz_tool.proofs.TraceLemmas.{event_whole, told_step, no_event, too_far, cycles_of_push}
 use Rattle.hz_tool.proofs.trace.read_trace.Goals as goal
 

@@ -4,7 +4,8 @@ use Rattle.hz_model.specs.Limits.{advance_limit}
 use Rattle.hz_model.specs.Lines.{lines_of}
 use Rattle.hz_model.specs.Replay.{cycles_of}
 use Rattle.hz_model.specs.Straight.{events_of}
-use Rattle.hz_tool.specs.Trace.{names_in, events_in}
+use Rattle.hz_tool.specs.Names.{names_in}
+use Rattle.hz_tool.specs.Trace.{events_in}
 use Rattle.hz_tool.proofs.trace.read_trace.Given as goal
 
 -- the events so far, with those of the rest, are those of the text

@@ -1,0 +1,45 @@
+use Rattle.std.specs.Prelude.{◌≡◌, ℕ, ◌+◌, ◌<◌, ◌≤◌, List, [], ◌∷◌, ◌++◌, Option, Some, None, slice_index_or, length, map, if◌then◌else◌, Result, MatchResult, ⊤, Bool, false}
+use Rattle.std.specs.Option.{option_map_or}
+use Rattle.std.specs.Borrow.{Bor}
+use Rattle.hz_model.specs.Limits.{unit_limit, class_limit}
+use Rattle.hz_model.specs.Lines.{place_of, trimmed}
+use Rattle.hz_model.specs.Pairs.{Pair}
+use Rattle.hz_model.specs.Straight as model
+use Rattle.hz_model.specs.Straight.{is_nothing, machine_of, class_names}
+use Rattle.hz_tool.specs.declared.straight.Description.{Description}
+use Rattle.hz_tool.specs.declared.straight.DescriptionFault.{DescriptionFault}
+use Rattle.hz_tool.specs.declared.straight.DescriptionFault.TheVariants.{NotBuilt, NoMemory}
+use Rattle.hz_tool.specs.Names.{names_in}
+use Rattle.hz_tool.specs.Replay.{IsGridOf, AreGridsOf}
+
+-- the pair of a piece at a cycle, none for `nothing`
+abbrev pub piece_pair : List (List ℕ) → ℕ → List ℕ → List (ℕ × ℕ)
+piece_pair units cycle piece = if is_nothing piece then [] else option_map_or (λ u. (u, cycle) ∷ []) (place_of piece units) []
+
+-- the pairs of pieces of which the first stands at a cycle
+abbrev pub piece_pairs : List (List ℕ) → ℕ → List (List ℕ) → List (ℕ × ℕ)
+piece_pairs units cycle [] = []
+piece_pairs units cycle (piece ∷ pieces) = piece_pair units cycle piece ++ piece_pairs units (cycle + 1) pieces
+
+-- The program's description stands for the model's: the same names, and each class's grid is its one alternative.
+pub record Stands (d : Description) (of : model.Description) : Type 0 where
+  pub units : names_in d.units.keys ≡ of.units
+  pub names : names_in d.names.keys ≡ class_names of
+  pub count : length d.grids.items ≡ length of.classes
+  pub grids : AreGridsOf d.grids.items (machine_of of)
+  pub unit_room : length of.units ≤ unit_limit
+  pub class_room : length of.classes ≤ class_limit
+
+-- why a form is refused: it adds nothing
+abbrev pub Refuses : {A : Type 0} → Option A → DescriptionFault → Type 0
+Refuses o NotBuilt = o ≡ None
+Refuses o NoMemory = ⊤
+
+-- why a test fails
+abbrev pub Fails : Bool → DescriptionFault → Type 0
+Fails test NotBuilt = test ≡ false
+Fails test NoMemory = ⊤
+
+-- the pieces that are borrowed, without the white space at their ends
+abbrev pub trimmed_all : List (Bor (List ℕ)) → List (List ℕ)
+trimmed_all pieces = map trimmed (map (λ piece. piece.now) pieces)
