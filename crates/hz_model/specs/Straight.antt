@@ -67,26 +67,64 @@ with_class d name pieces =
     then Some (record d { classes = d.classes ++ record { name = name; alternatives = straight_alternatives d.units pieces } ∷ [] })
     else None
 
+-- the word that a list begins with, and its operands
+abbrev pub headed : Tree → Option (List ℕ × Trees)
+headed (form.list _ (form.more (form.atom _ word) operands)) = Some (word, operands)
+headed _ = None
+
+-- the bytes of a quoted string
+abbrev pub quoted_bytes : Tree → Option (List ℕ)
+quoted_bytes (form.quoted _ bytes) = Some bytes
+quoted_bytes _ = None
+
+-- a number from 0 to the greatest latency
+abbrev pub is_latency : Tree → Bool
+is_latency (form.number _ (pos n)) = nat_le n latency_limit
+is_latency _ = false
+
+-- the number 1
+abbrev pub is_one : Tree → Bool
+is_one (form.number _ (pos n)) = n == 1
+is_one _ = false
+
+-- one operand, the number 1
+abbrev pub is_only_one : Trees → Bool
+is_only_one (form.more only form.none) = is_one only
+is_only_one _ = false
+
 -- `(const_int 1)`
 abbrev pub is_always : Tree → Bool
-is_always (form.list _ (form.more (form.atom _ word) (form.more (form.number _ (pos value)) form.none))) = bytes_eq word (codes "const_int") && value == 1
-is_always _ = false
+is_always condition = option_map_or (λ h. bytes_eq h.0 (codes "const_int") && is_only_one h.1) (headed condition) false
 
--- what a form adds: `(define_cpu_unit "names")` or `(define_insn_reservation "name" latency (const_int 1) "pieces")`
+-- the operand of `(define_cpu_unit "names")`
+abbrev pub unit_operand : Trees → Option (List ℕ)
+unit_operand (form.more names form.none) = quoted_bytes names
+unit_operand _ = None
+
+-- the name and the pieces of `(define_insn_reservation "name" latency (const_int 1) "pieces")`
+abbrev pub class_operands : Trees → Option (List ℕ × List ℕ)
+class_operands (form.more name (form.more latency (form.more condition (form.more pieces form.none)))) =
+    if is_latency latency && is_always condition
+    then option_and_then (λ class. option_map (λ bytes. (class, bytes)) (quoted_bytes pieces)) (quoted_bytes name)
+    else None
+class_operands _ = None
+
+-- what these operands add
 abbrev pub with_cpu_unit : Description → Trees → Option Description
-with_cpu_unit d (form.more (form.quoted _ names) form.none) = option_map (λ units. record d { units = units }) (units_with d.units (separated names))
-with_cpu_unit d _ = None
+with_cpu_unit d operands =
+    option_and_then (λ names. option_map (λ units. record d { units = units }) (units_with d.units (separated names))) (unit_operand operands)
 
 abbrev pub with_insn_reservation : Description → Trees → Option Description
-with_insn_reservation d (form.more (form.quoted _ name) (form.more (form.number _ (pos latency)) (form.more condition (form.more (form.quoted _ pieces) form.none)))) =
-    if nat_le latency latency_limit && is_always condition then with_class d name (separated pieces) else None
-with_insn_reservation d _ = None
+with_insn_reservation d operands = option_and_then (λ o. with_class d o.0 (separated o.1)) (class_operands operands)
 
-abbrev pub with_form : Description → Tree → Option Description
-with_form d (form.list _ (form.more (form.atom _ word) operands)) =
+-- what a form adds, by the word that it begins with
+abbrev pub with_operands : Description → List ℕ → Trees → Option Description
+with_operands d word operands =
     if bytes_eq word (codes "define_cpu_unit") then with_cpu_unit d operands
     else (if bytes_eq word (codes "define_insn_reservation") then with_insn_reservation d operands else None)
-with_form d _ = None
+
+abbrev pub with_form : Description → Tree → Option Description
+with_form d form = option_and_then (λ h. with_operands d h.0 h.1) (headed form)
 
 -- what forms add, one after the other
 abbrev pub with_forms : Description → Trees → Option Description

@@ -43,3 +43,11 @@ Fails test NoMemory = ⊤
 -- the pieces that are borrowed, without the white space at their ends
 abbrev pub trimmed_all : List (Bor (List ℕ)) → List (List ℕ)
 trimmed_all pieces = map trimmed (map (λ piece. piece.now) pieces)
+
+-- what the old description stands for becomes what the new one stands for
+abbrev pub Becomes : Description → Description → (model.Description → Option model.Description) → Type 0
+Becomes old new next = (of : model.Description) → Stands old of → (more : model.Description) × (next of ≡ Some more) × Stands new more
+
+-- what the description stands for gets nothing
+abbrev pub RefusesAt : Description → (model.Description → Option model.Description) → DescriptionFault → Type 0
+RefusesAt old next fault = (of : model.Description) → Stands old of → Refuses (next of) fault

@@ -7,12 +7,15 @@ ghost use Rattle.hz_model.specs.Lines as lines;
 ghost use Rattle.hz_model.specs.Straight as model;
 ghost use Rattle.hz_tool.specs.Names.{names_in};
 ghost use Rattle.hz_tool.specs.Replay.{IsGridOf};
-ghost use Rattle.hz_tool.specs.Straight.{piece_pairs, Refuses, Fails};
+ghost use Rattle.hz_tool.specs.Straight.{piece_pairs, Refuses, Fails, Stands, Becomes, RefusesAt};
+ghost use Rattle.hz_sexp.specs.Shape.{tree, trees};
+ghost use Rattle.std.specs.Option.{option_map};
 ghost use Rattle.hz_tool.specs.declared.straight.DescriptionFault.TheVariants.{NoMemory as no_memory};
 ghost use Rattle.indexmap.specs.IndexSet.{index_set_len};
 
 use super::names::{add, is_name, is_nothing, pieces, place_of, trimmed};
 use hz_grid::{CYCLES, Grid, UNITS};
+use hz_sexp::{Form, Node};
 use indexmap::IndexSet;
 use std::alloc::{AllocError, AllocFailed, Global};
 
@@ -46,6 +49,12 @@ impl<T: Drop> From<AllocFailed<T>> for DescriptionFault {
         DescriptionFault::NoMemory
     }
 }
+
+/// Classes of a description, at most.
+const CLASS_LIMIT: usize = 1024;
+
+/// The greatest latency.
+const LATENCY_LIMIT: i128 = 1000;
 
 /// Adds a unit of this name.
 fn add_unit(
@@ -114,4 +123,182 @@ fn grid_of_pieces(
         pairs.push((unit as u8, cycle as u16))?;
     }
     Ok(Grid::of(alloc, &pairs)?)
+}
+
+/// The word that a list begins with, and its operands.
+fn headed(form: &Form) -> Option<(&[u8], &[Form])>
+    ensures { option_map (λ found. (found.0.now, trees found.1.now)) result ≡ model.headed (tree form.now) }
+{
+    let Node::List(parts) = &form.node else {
+        return None;
+    };
+    let (head, operands) = parts.as_slice().split_first()?;
+    match &head.node {
+        Node::Atom(word) => Some((word.bytes(), operands)),
+        _ => None,
+    }
+}
+
+/// The bytes of a quoted string.
+fn quoted_bytes(form: &Form) -> Option<&[u8]>
+    ensures { option_map (λ bytes. bytes.now) result ≡ model.quoted_bytes (tree form.now) }
+{
+    match &form.node {
+        Node::Quoted(text) => Some(text.bytes()),
+        _ => None,
+    }
+}
+
+/// Whether the form is a number from 0 to the greatest latency.
+fn is_latency(form: &Form) -> bool
+    ensures { result ≡ model.is_latency (tree form.now) }
+{
+    match form.node {
+        Node::Number(number) => 0 <= number && number <= LATENCY_LIMIT,
+        _ => false,
+    }
+}
+
+/// Whether the form is the number 1.
+fn is_one(form: &Form) -> bool
+    ensures { result ≡ model.is_one (tree form.now) }
+{
+    match form.node {
+        Node::Number(number) => number == 1,
+        _ => false,
+    }
+}
+
+/// Whether the operands are the number 1 alone.
+#[tactic(auto, using(crate::proofs::FormLemmas::not_one))]
+fn is_only_one(operands: &[Form]) -> bool
+    ensures { result ≡ model.is_only_one (trees operands.now) }
+{
+    if operands.len() != 1 {
+        return false;
+    }
+    let [only] = operands else { unreachable!() };
+    is_one(only)
+}
+
+/// Whether the form is `(const_int 1)`.
+fn is_always(form: &Form) -> bool
+    ensures { result ≡ model.is_always (tree form.now) }
+{
+    match headed(form) {
+        Some((word, operands)) => word == b"const_int".as_slice() && is_only_one(operands),
+        None => false,
+    }
+}
+
+/// The operands of a class.
+#[derive(Clone, Copy)]
+struct ClassOperands<'a> {
+    name: &'a [u8],
+    pieces: &'a [u8],
+}
+
+/// The operands of `define_insn_reservation`, where the latency is in its range and the condition is `(const_int 1)`.
+#[tactic(auto, using(crate::proofs::FormLemmas::no_class_operands))]
+fn class_operands(operands: &[Form]) -> Option<ClassOperands<'_>>
+    ensures { option_map (λ found. (found.name.now, found.pieces.now)) result ≡ model.class_operands (trees operands.now) }
+{
+    if operands.len() != 4 {
+        return None;
+    }
+    let [name, latency, condition, pieces] = operands else {
+        unreachable!()
+    };
+    if !is_latency(latency) || !is_always(condition) {
+        return None;
+    }
+    Some(ClassOperands {
+        name: quoted_bytes(name)?,
+        pieces: quoted_bytes(pieces)?,
+    })
+}
+
+/// The names of `define_cpu_unit`.
+#[tactic(auto, using(crate::proofs::FormLemmas::no_unit_operand))]
+fn unit_operand(operands: &[Form]) -> Option<&[u8]>
+    ensures { option_map (λ names. names.now) result ≡ model.unit_operand (trees operands.now) }
+{
+    if operands.len() != 1 {
+        return None;
+    }
+    let [names] = operands else { unreachable!() };
+    quoted_bytes(names)
+}
+
+impl Description {
+    /// No unit and no class.
+    fn new(alloc: Global) -> Description
+        ensures { Stands result model.nothing_defined }
+    {
+        Description {
+            units: IndexSet::new(alloc),
+            names: IndexSet::new(alloc),
+            grids: Vec::new(alloc),
+        }
+    }
+
+    /// Adds a class of this name that takes these pieces.
+    fn add_class(&mut self, alloc: Global, class: ClassOperands<'_>) -> Result<(), DescriptionFault>
+        requires { (of : model.Description) × Stands self.old of }
+        ensures ok { OnOk result (Becomes self.old self.new (λ of. model.with_class of class.entry.name.now (lines.separated class.entry.pieces.now))) }
+        ensures err { IfErr result (RefusesAt self.old (λ of. model.with_class of class.entry.name.now (lines.separated class.entry.pieces.now))) }
+    {
+        if !is_name(class.name)
+            || self.names.len() >= CLASS_LIMIT
+            || place_of(&self.names, class.name).is_some()
+        {
+            return Err(DescriptionFault::NotBuilt);
+        }
+        let grid = grid_of_pieces(alloc, &self.units, class.pieces)?;
+        add(alloc, &mut self.names, class.name)?;
+        self.grids.push(grid)?;
+        Ok(())
+    }
+
+    /// Adds what a form defines.
+    fn add_form(&mut self, alloc: Global, form: &Form) -> Result<(), DescriptionFault>
+        requires { (of : model.Description) × Stands self.old of }
+        ensures ok { OnOk result (Becomes self.old self.new (λ of. model.with_form of (tree form.now))) }
+        ensures err { IfErr result (RefusesAt self.old (λ of. model.with_form of (tree form.now))) }
+    {
+        let Some((word, operands)) = headed(form) else {
+            return Err(DescriptionFault::NotBuilt);
+        };
+        if word == b"define_cpu_unit".as_slice() {
+            match unit_operand(operands) {
+                Some(names) => {
+                    add_units(alloc, &mut self.units, names)?;
+                    Ok(())
+                }
+                None => Err(DescriptionFault::NotBuilt),
+            }
+        } else if word == b"define_insn_reservation".as_slice() {
+            match class_operands(operands) {
+                Some(class) => self.add_class(alloc, class),
+                None => Err(DescriptionFault::NotBuilt),
+            }
+        } else {
+            Err(DescriptionFault::NotBuilt)
+        }
+    }
+}
+
+/// The description that forms make, one after the other. `NotBuilt` where they make none.
+pub fn describe(alloc: Global, forms: &[Form]) -> Result<Description, DescriptionFault>
+    ensures ok { IfOk result (λ d. (of : model.Description) × (model.with_forms model.nothing_defined (trees forms.now) ≡ Some of) × Stands d of) }
+    ensures err { IfErr result (Refuses (model.with_forms model.nothing_defined (trees forms.now))) }
+{
+    let mut description = Description::new(alloc);
+    for form in forms {
+        match description.add_form(alloc, form) {
+            Ok(()) => {}
+            Err(fault) => return Err(fault),
+        }
+    }
+    Ok(description)
 }
