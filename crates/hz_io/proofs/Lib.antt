@@ -1,0 +1,3 @@
+pub mod DriveLemmas
+pub mod ReadLemmas
+pub mod Writing

@@ -1,0 +1,7 @@
+pub mod Cursors
+pub mod Drive
+pub mod FileNames
+pub mod Files
+pub mod Sink
+pub mod Slurp
+pub mod Tape
