@@ -1,14 +1,15 @@
 -- What the calls do to the rows, and what that says of the pairs.
-use Rattle.std.proofs.Common.{◌≡◌, ℕ, ◌+◌, ◌-◌, ◌<◌, ◌≤◌, max, min, ◌⊎◌, inl, inr, ⊎_elim, ◌↔◌, List, [], ◌∷◌, ◌++◌, length, get_or, set, take, drop, refl, sym, ap, arith}
+use Rattle.std.proofs.Common.{◌≡◌, ℕ, ◌+◌, ◌-◌, ◌<◌, ◌≤◌, max, min, ◌⊎◌, inl, inr, ⊎_elim, ◌↔◌, List, [], ◌∷◌, ◌++◌, length, get_or, set, take, drop, All, Any, refl, sym, ap, ◌∙◌, arith}
 use Rattle.std.proofs.lemmas.Bool.{cases_lt, cases_eq}
-use Rattle.std.proofs.lemmas.List.{length-drop, get_or-drop, get_or_past, get_or-set_same, get_or-set_other, take_more, length_push, get_or_push, get_or_append_left}
-use Rattle.std.proofs.lemmas.List.Elements.{Contains-append_left, Contains-push, Contains-push_cases}
+use Rattle.std.proofs.lemmas.List.{length-drop, get_or-drop, get_or_past, get_or_default, get_or-set_same, get_or-set_other, take_more, length_push, get_or_push, get_or_append_left}
+use Rattle.std.proofs.lemmas.List.Elements.{Contains-get_or, Contains-append_left, Contains-push, Contains-push_cases}
+use Rattle.hz_model.specs.Pairs.{Pair}
 use Rattle.hz_grid.specs.Rows.{HasUnit, RowsMeet}
-use Rattle.hz_grid.specs.Grids.{HoldsJust, Meets, IsUnion, IsAdvanced}
+use Rattle.hz_grid.specs.Grids.{Holds, HoldsJust, Meets, IsUnion, IsAdvanced}
 use Rattle.hz_grid.specs.Stored.{IsSet, pairs_from, IsRows, HasJust, HasSameUnits, GainsUnit, ShareUnit, IsJoined}
-use Rattle.hz_grid.proofs.Units.{HasUnit-zero}
+use Rattle.hz_grid.proofs.Units.{HasUnit-zero, some_unit}
 use Rattle.hz_grid.proofs.Elements.{Contains-nil}
-use Rattle.hz_grid.proofs.Pairs.{Holds-rows, row_below}
+use Rattle.hz_grid.proofs.Pairs.{Holds-rows, row_below, set_from_pairs}
 
 -- ---- the rows are those of a grid
 
@@ -158,3 +159,36 @@ apart_from_rows first second n e apart shared =
     let in_first = row_below first shared.0 shared.1 shared.2 in
     let in_second = row_below second shared.0 shared.1 shared.3 in
     apart shared.1 (omega arith) (shared.0, shared.2, shared.3)
+
+-- ---- the greatest cycle, and one row
+
+pub All-below_length : (rows : List ℕ) → All (λ (p : Pair ℕ). p.cycle < length rows) (pairs_from 0 rows)
+All-below_length rows k d within =
+    let pair = set_from_pairs 0 rows (get_or (pairs_from 0 rows) k d) (Contains-get_or (pairs_from 0 rows) k d within) in
+    omega (arith, pair.1, row_below rows _ pair.0 pair.3)
+
+pub Any-at_length : (rows : List ℕ) → IsRows rows → 0 < length rows → Any (λ (p : Pair ℕ). p.cycle + 1 ≡ length rows) (pairs_from 0 rows)
+Any-at_length rows is some =
+    let last = length rows - 1 in
+    let row = get_or rows last 0 in
+    let filled : 0 < row = ⊎_elim
+    (λ (e : row ≡ 0). absurd (is.trimmed some (λ unit h. HasUnit-zero unit (rw e at h))))
+    (λ (n : row ≡ 0 → ⊥). omega arith)
+    (cases_eq row 0) in
+    let unit = some_unit row filled in
+    let held = (Holds-rows rows is unit.0 last).1 unit.1 in
+    (held.0, record { unit = unit.0; cycle = last }, held.1, held.2, omega arith)
+
+pub HasUnit-row : (rows : List ℕ) → IsRows rows → (cycle none row unit : ℕ) → ((other : ℕ) → ¬ HasUnit none other) → row ≡ get_or rows cycle none → HasUnit row unit ↔ Holds (pairs_from 0 rows) unit cycle
+HasUnit-row rows is cycle none row unit empty e =
+    let holds = Holds-rows rows is unit cycle in
+    ⊎_elim
+    (λ (within : cycle < length rows).
+    let same = e ∙ get_or_default rows cycle none 0 within in
+    (λ h. holds.1 (rw same at h), λ h. rw same (holds.0 h)))
+    (λ (past : length rows ≤ cycle).
+    let same = e ∙ get_or_past rows cycle none past in (
+      λ h. absurd (empty unit (rw same at h)),
+      λ h. absurd (HasUnit-zero unit (rw (get_or_past rows cycle 0 past) at (holds.0 h))),
+    ))
+    (cases_lt cycle (length rows))
