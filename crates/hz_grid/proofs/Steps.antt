@@ -1,15 +1,14 @@
 -- What the calls do to the rows, and what that says of the pairs.
-use Rattle.std.proofs.Common.{◌≡◌, ℕ, ◌+◌, ◌-◌, ◌<◌, ◌≤◌, max, min, ◌⊎◌, inl, inr, ⊎_elim, ◌↔◌, List, [], ◌∷◌, ◌++◌, length, get_or, set, take, drop, All, Any, refl, sym, ap, ◌∙◌, arith}
+use Rattle.std.proofs.Common.{◌≡◌, ℕ, ◌+◌, ◌-◌, ◌<◌, ◌≤◌, max, min, ◌⊎◌, inl, inr, ⊎_elim, ◌↔◌, List, [], ◌∷◌, ◌++◌, length, get_or, set, take, drop, refl, sym, ap, ◌∙◌, arith}
 use Rattle.std.proofs.lemmas.Bool.{cases_lt, cases_eq}
 use Rattle.std.proofs.lemmas.List.{length-drop, get_or-drop, get_or_past, get_or_default, get_or-set_same, get_or-set_other, take_more, length_push, get_or_push, get_or_append_left}
-use Rattle.std.proofs.lemmas.List.Elements.{Contains-get_or, Contains-append_left, Contains-push, Contains-push_cases}
-use Rattle.hz_model.specs.Pairs.{Pair}
+use Rattle.std.proofs.lemmas.List.Elements.{Contains-append_left, Contains-push, Contains-push_cases}
 use Rattle.hz_grid.specs.Rows.{HasUnit, RowsMeet}
 use Rattle.hz_grid.specs.Grids.{Holds, HoldsJust, Meets, IsUnion, IsAdvanced}
 use Rattle.hz_grid.specs.Stored.{IsSet, pairs_from, IsRows, HasJust, HasSameUnits, GainsUnit, ShareUnit, IsJoined}
 use Rattle.hz_grid.proofs.Units.{HasUnit-zero, some_unit}
 use Rattle.hz_grid.proofs.Elements.{Contains-nil}
-use Rattle.hz_grid.proofs.Pairs.{Holds-rows, row_below, set_from_pairs}
+use Rattle.hz_grid.proofs.Pairs.{Holds-rows, row_below}
 
 -- ---- the rows are those of a grid
 
@@ -62,24 +61,24 @@ HoldsJust-rows pairs rows is just unit cycle =
 
 pub Meets-rows : (first second : List ℕ) → IsRows first → IsRows second → ShareUnit first second ↔ Meets (pairs_from 0 first) (pairs_from 0 second)
 Meets-rows first second is_first is_second = (
-  λ shared. (record { unit = shared.0; cycle = shared.1 }, (Holds-rows first is_first shared.0 shared.1).1 shared.2, (Holds-rows second is_second shared.0 shared.1).1 shared.3),
-  λ meets. (meets.0.unit, meets.0.cycle, (Holds-rows first is_first meets.0.unit meets.0.cycle).0 meets.1, (Holds-rows second is_second meets.0.unit meets.0.cycle).0 meets.2),
+  λ shared. (shared.0, shared.1, (Holds-rows first is_first shared.0 shared.1).1 shared.2, (Holds-rows second is_second shared.0 shared.1).1 shared.3),
+  λ meets. (meets.0, meets.1, (Holds-rows first is_first meets.0 meets.1).0 meets.2, (Holds-rows second is_second meets.0 meets.1).0 meets.3),
 )
 
 pub IsUnion-rows : (first second rows : List ℕ) → IsRows first → IsRows second → IsRows rows → IsJoined first second rows → IsUnion (pairs_from 0 first) (pairs_from 0 second) (pairs_from 0 rows)
-IsUnion-rows first second rows is_first is_second is joined p =
-    let holds = Holds-rows rows is p.unit p.cycle in
-    let in_first = Holds-rows first is_first p.unit p.cycle in
-    let in_second = Holds-rows second is_second p.unit p.cycle in (
-      λ h. ⊎_elim (λ k. inl (in_first.1 k)) (λ k. inr (in_second.1 k)) ((joined p.unit p.cycle).0 (holds.0 h)),
-      λ h. holds.1 ((joined p.unit p.cycle).1 (⊎_elim (λ k. inl (in_first.0 k)) (λ k. inr (in_second.0 k)) h)),
+IsUnion-rows first second rows is_first is_second is joined unit cycle =
+    let holds = Holds-rows rows is unit cycle in
+    let in_first = Holds-rows first is_first unit cycle in
+    let in_second = Holds-rows second is_second unit cycle in (
+      λ h. ⊎_elim (λ k. inl (in_first.1 k)) (λ k. inr (in_second.1 k)) ((joined unit cycle).0 (holds.0 h)),
+      λ h. holds.1 ((joined unit cycle).1 (⊎_elim (λ k. inl (in_first.0 k)) (λ k. inr (in_second.0 k)) h)),
     )
 
 pub IsAdvanced-rows : (rows : List ℕ) → IsRows rows → IsAdvanced (pairs_from 0 rows) (pairs_from 0 (drop 1 rows))
-IsAdvanced-rows rows is p =
-    let old = Holds-rows rows is p.unit (1 + p.cycle) in
-    let new = Holds-rows (drop 1 rows) (IsRows-drop rows is) p.unit p.cycle in
-    let step = IsSet-drop rows p.unit p.cycle in
+IsAdvanced-rows rows is unit cycle =
+    let old = Holds-rows rows is unit (1 + cycle) in
+    let new = Holds-rows (drop 1 rows) (IsRows-drop rows is) unit cycle in
+    let step = IsSet-drop rows unit cycle in
     (λ h. old.1 (step.0 (new.0 h)), λ h. new.1 (step.1 (old.0 h)))
 
 -- ---- the loops
@@ -162,22 +161,20 @@ apart_from_rows first second n e apart shared =
 
 -- ---- the greatest cycle, and one row
 
-pub All-below_length : (rows : List ℕ) → All (λ (p : Pair ℕ). p.cycle < length rows) (pairs_from 0 rows)
-All-below_length rows k d within =
-    let pair = set_from_pairs 0 rows (get_or (pairs_from 0 rows) k d) (Contains-get_or (pairs_from 0 rows) k d within) in
-    omega (arith, pair.1, row_below rows _ pair.0 pair.3)
+pub cycle_below_length : (rows : List ℕ) → IsRows rows → (unit cycle : ℕ) → Holds (pairs_from 0 rows) unit cycle → cycle < length rows
+cycle_below_length rows is unit cycle h = row_below rows unit cycle ((Holds-rows rows is unit cycle).0 h)
 
-pub Any-at_length : (rows : List ℕ) → IsRows rows → 0 < length rows → Any (λ (p : Pair ℕ). p.cycle + 1 ≡ length rows) (pairs_from 0 rows)
-Any-at_length rows is some =
+pub Holds-last : (rows : List ℕ) → IsRows rows → 0 < length rows → (unit : ℕ) × Holds (pairs_from 0 rows) unit (length rows - 1)
+Holds-last rows is some =
     let last = length rows - 1 in
     let row = get_or rows last 0 in
-    let filled : 0 < row = ⊎_elim
+    let filled : 0 < row =
+    ⊎_elim
     (λ (e : row ≡ 0). absurd (is.trimmed some (λ unit h. HasUnit-zero unit (rw e at h))))
     (λ (n : row ≡ 0 → ⊥). omega arith)
     (cases_eq row 0) in
     let unit = some_unit row filled in
-    let held = (Holds-rows rows is unit.0 last).1 unit.1 in
-    (held.0, record { unit = unit.0; cycle = last }, held.1, held.2, omega arith)
+    (unit.0, (Holds-rows rows is unit.0 last).1 unit.1)
 
 pub HasUnit-row : (rows : List ℕ) → IsRows rows → (cycle none row unit : ℕ) → ((other : ℕ) → ¬ HasUnit none other) → row ≡ get_or rows cycle none → HasUnit row unit ↔ Holds (pairs_from 0 rows) unit cycle
 HasUnit-row rows is cycle none row unit empty e =

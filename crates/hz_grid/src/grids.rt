@@ -1,5 +1,5 @@
 //! A grid: the pairs of a unit and a cycle that are reserved, with the cycles counted from the present one.
-ghost use Rattle.std.specs.Prelude.{◌≡◌, ◌↔◌, ◌<◌, ◌≤◌, ◌+◌, ℕ, [], length, max, All, Any, IsTrue, IfOk, OnOk, vec_len};
+ghost use Rattle.std.specs.Prelude.{◌≡◌, ◌↔◌, ◌<◌, ◌≤◌, ◌-◌, ℕ, [], length, drop, max, All, IsTrue, IfOk, OnOk, vec_len};
 ghost use Rattle.hz_grid.specs.Rows.{HasUnit};
 ghost use Rattle.hz_grid.specs.Grids.{Holds, IsGrid, HoldsJust, Meets, IsUnion, IsAdvanced};
 ghost use Rattle.hz_grid.specs.Stored.{IsRows, HasJust, HasSameUnits, GainsUnit, ShareUnit, IsJoined};
@@ -38,6 +38,7 @@ impl Grid {
     pub fn empty(alloc: Global) -> Grid
         ensures empty { result ≡ [] }
         ensures grid { IsGrid result }
+        ensures pairs { (unit cycle : ℕ) → ¬ Holds result unit cycle }
     {
         Grid {
             rows: Vec::new(alloc),
@@ -82,15 +83,13 @@ impl Grid {
         ensures grid { IsGrid self.new }
         ensures pairs { IsAdvanced self.old self.new }
     {
-        if !self.rows.is_empty() {
-            let _first = self.rows.remove(0);
-        }
+        drop_first(&mut self.rows);
     }
 
     /// One more than the greatest cycle of a pair, and 0 for the grid with no pair. It takes no memory.
     pub fn length(&self) -> u16
-        ensures above { All (λ p. p.cycle < result) self.now }
-        ensures reached { 0 < result → Any (λ p. p.cycle + 1 ≡ result) self.now }
+        ensures above { (unit cycle : ℕ) → Holds self.now unit cycle → cycle < result }
+        ensures reached { 0 < result → (unit : ℕ) × Holds self.now unit (result - 1) }
         ensures grid { IsGrid self.now }
     {
         self.rows.len() as u16
@@ -196,6 +195,15 @@ fn put(rows: &mut Vec<Row>, unit: u8, cycle: u16) -> Result<(), NoMemory>
     lengthen(rows, place + 1)?;
     rows[place] = rows[place].add(unit);
     Ok(())
+}
+
+// Drops the first row, if there is one.
+fn drop_first(rows: &mut Vec<Row>)
+    ensures { rows.new.items ≡ drop 1 rows.old.items }
+{
+    if !rows.is_empty() {
+        let _first = rows.remove(0);
+    }
 }
 
 // Adds rows with no unit, up to that length.
