@@ -6,7 +6,7 @@ use Rattle.std.specs.Cmp.Lexicographic.{pointwise}
 use Rattle.std.proofs.lemmas.Bool.{cases_lt, and_parts, and_from, eqb-true, eq-eqb}
 use Rattle.std.proofs.lemmas.Bool.Decides.{same_from_decides, Decides-eqb}
 use Rattle.std.proofs.lemmas.List.{get_or_past, ext_get_or}
-use Rattle.std.proofs.lemmas.List.Elements.{Contains-append_left, Contains-append_right, Contains-append_cases}
+use Rattle.std.proofs.lemmas.List.Elements.{Contains-append_left, Contains-append_right, Contains-append_cases, Contains-get_or}
 use Rattle.std.proofs.lemmas.List.Kept.{AllPairs-filter}
 use Rattle.std.proofs.lemmas.Slice.Eq.{slice_eq-Decides}
 use Rattle.hz_model.specs.Pairs.{Pair}
@@ -47,12 +47,7 @@ pair_from_row cycle row p h =
 
 -- ---- the pairs of rows
 
-pub Holds-nil : (unit cycle : ℕ) → ¬ Holds [] unit cycle
-unfolding Holds
-Holds-nil unit cycle h = Contains-nil _ h
-
 pub Holds-pairs_from : (start : ℕ) (rows : List ℕ) (unit cycle : ℕ) → unit < 128 → IsSet rows unit cycle → Holds (pairs_from start rows) unit (start + cycle)
-unfolding Holds
 Holds-pairs_from start [] unit cycle small h = absurd (HasUnit-zero unit h)
 Holds-pairs_from start (row ∷ rows) unit zero small h =
     let e : start + 0 ≡ start = omega arith in
@@ -75,7 +70,6 @@ set_from_pairs start (row ∷ rows) p h =
 
 -- a grid has a pair where the unit is in the row of the cycle
 pub Holds-rows : (rows : List ℕ) → IsRows rows → (unit cycle : ℕ) → Holds (pairs_from 0 rows) unit cycle ↔ IsSet rows unit cycle
-unfolding Holds
 Holds-rows rows is unit cycle = (
   λ h.
       let pair = set_from_pairs 0 rows (in_cycle cycle unit) h in
@@ -108,8 +102,12 @@ row_below rows unit cycle h =
 pub IsGrid-pairs_from : (rows : List ℕ) → IsRows rows → IsGrid (pairs_from 0 rows)
 IsGrid-pairs_from rows is = record {
   ascending = AllPairs-pairs_from 0 rows;
-  units = λ unit cycle h. is.units unit cycle ((Holds-rows rows is unit cycle).0 h);
-  cycles = λ unit cycle h. omega (arith, row_below rows unit cycle ((Holds-rows rows is unit cycle).0 h), is.cycles);
+  units = λ k d within.
+      let pair = set_from_pairs 0 rows (get_or (pairs_from 0 rows) k d) (Contains-get_or (pairs_from 0 rows) k d within) in
+      pair.2;
+  cycles = λ k d within.
+      let pair = set_from_pairs 0 rows (get_or (pairs_from 0 rows) k d) (Contains-get_or (pairs_from 0 rows) k d within) in
+      omega (arith, pair.1, row_below rows _ pair.0 pair.3, is.cycles);
 }
 
 -- ---- equal grids
@@ -122,9 +120,8 @@ Precedes_asymmetric p q (inr a) (inr b) = omega arith
 
 -- grids with the same pairs are equal
 pub same_grids : (first second : List (Pair ℕ)) → IsGrid first → IsGrid second → HasSamePairs first second → first ≡ second
-unfolding Holds
 same_grids first second a b same =
-    same_from_ascending Precedes Precedes_asymmetric first second a.ascending b.ascending (λ p. (same p.unit p.cycle).0) (λ p. (same p.unit p.cycle).1)
+    same_from_ascending Precedes Precedes_asymmetric first second a.ascending b.ascending (λ p. (same p).0) (λ p. (same p).1)
 
 -- rows with the same units are equal
 no_longer : (a b : List ℕ) → IsRows b → ((unit cycle : ℕ) → IsSet b unit cycle → IsSet a unit cycle) → length b ≤ length a
@@ -176,6 +173,6 @@ grid_eq-rows a b is_a is_b r e =
 pub sets_from_rows : (a b : List ℕ) → IsRows a → IsRows b → (r : Bool) → r ≡ pointwise nat_eq a b → IsTrue r ↔ HasSamePairs (pairs_from 0 a) (pairs_from 0 b)
 sets_from_rows a b is_a is_b r e =
     let equal = same_from_rows a b is_a is_b r e in (
-      λ t unit cycle. let same = equal.0 t in (λ h. rw same at h, λ h. rw same h),
+      λ t p. let same = equal.0 t in (λ h. rw same at h, λ h. rw same h),
       λ same. equal.1 (same_grids (pairs_from 0 a) (pairs_from 0 b) (IsGrid-pairs_from a is_a) (IsGrid-pairs_from b is_b) same),
     )

@@ -61,24 +61,24 @@ HoldsJust-rows pairs rows is just unit cycle =
 
 pub Meets-rows : (first second : List ℕ) → IsRows first → IsRows second → ShareUnit first second ↔ Meets (pairs_from 0 first) (pairs_from 0 second)
 Meets-rows first second is_first is_second = (
-  λ shared. (shared.0, shared.1, (Holds-rows first is_first shared.0 shared.1).1 shared.2, (Holds-rows second is_second shared.0 shared.1).1 shared.3),
-  λ meets. (meets.0, meets.1, (Holds-rows first is_first meets.0 meets.1).0 meets.2, (Holds-rows second is_second meets.0 meets.1).0 meets.3),
+  λ shared. (record { unit = shared.0; cycle = shared.1 }, (Holds-rows first is_first shared.0 shared.1).1 shared.2, (Holds-rows second is_second shared.0 shared.1).1 shared.3),
+  λ meets. (meets.0.unit, meets.0.cycle, (Holds-rows first is_first meets.0.unit meets.0.cycle).0 meets.1, (Holds-rows second is_second meets.0.unit meets.0.cycle).0 meets.2),
 )
 
 pub IsUnion-rows : (first second rows : List ℕ) → IsRows first → IsRows second → IsRows rows → IsJoined first second rows → IsUnion (pairs_from 0 first) (pairs_from 0 second) (pairs_from 0 rows)
-IsUnion-rows first second rows is_first is_second is joined unit cycle =
-    let holds = Holds-rows rows is unit cycle in
-    let in_first = Holds-rows first is_first unit cycle in
-    let in_second = Holds-rows second is_second unit cycle in (
-      λ h. ⊎_elim (λ k. inl (in_first.1 k)) (λ k. inr (in_second.1 k)) ((joined unit cycle).0 (holds.0 h)),
-      λ h. holds.1 ((joined unit cycle).1 (⊎_elim (λ k. inl (in_first.0 k)) (λ k. inr (in_second.0 k)) h)),
+IsUnion-rows first second rows is_first is_second is joined p =
+    let holds = Holds-rows rows is p.unit p.cycle in
+    let in_first = Holds-rows first is_first p.unit p.cycle in
+    let in_second = Holds-rows second is_second p.unit p.cycle in (
+      λ h. ⊎_elim (λ k. inl (in_first.1 k)) (λ k. inr (in_second.1 k)) ((joined p.unit p.cycle).0 (holds.0 h)),
+      λ h. holds.1 ((joined p.unit p.cycle).1 (⊎_elim (λ k. inl (in_first.0 k)) (λ k. inr (in_second.0 k)) h)),
     )
 
 pub IsAdvanced-rows : (rows : List ℕ) → IsRows rows → IsAdvanced (pairs_from 0 rows) (pairs_from 0 (drop 1 rows))
-IsAdvanced-rows rows is unit cycle =
-    let old = Holds-rows rows is unit (1 + cycle) in
-    let new = Holds-rows (drop 1 rows) (IsRows-drop rows is) unit cycle in
-    let step = IsSet-drop rows unit cycle in
+IsAdvanced-rows rows is p =
+    let old = Holds-rows rows is p.unit (1 + p.cycle) in
+    let new = Holds-rows (drop 1 rows) (IsRows-drop rows is) p.unit p.cycle in
+    let step = IsSet-drop rows p.unit p.cycle in
     (λ h. old.1 (step.0 (new.0 h)), λ h. new.1 (step.1 (old.0 h)))
 
 -- ---- the loops

@@ -1,13 +1,13 @@
-use Rattle.std.specs.Prelude.{◌≡◌, ◌⊎◌, ◌↔◌, ℕ, ◌+◌, ◌<◌, Bool, ◌&&◌, ◌==◌, List, Contains}
+use Rattle.std.specs.Prelude.{◌≡◌, ◌⊎◌, ◌↔◌, ℕ, ◌<◌, Bool, ◌&&◌, ◌==◌, List, All, Contains}
 use Rattle.std.specs.List.{AllPairs}
 use Rattle.std.specs.Cmp.Lexicographic.{pointwise, lists_equiv}
 use Rattle.std.specs.Cmp.{IsEquivalence, nat_eq_equiv, on_equiv, and_equiv}
-use Rattle.hz_model.specs.Pairs.{Pair}
+use Rattle.hz_model.specs.Pairs.{Pair, later}
 use Rattle.hz_grid.specs.declared.rows.TheConstants.{UNITS}
 use Rattle.hz_grid.specs.declared.grids.TheConstants.{CYCLES}
 
 -- the grid has the pair of that unit and cycle
-unfoldable pub Holds : List (Pair ℕ) → ℕ → ℕ → Type 0
+abbrev pub Holds : List (Pair ℕ) → ℕ → ℕ → Type 0
 Holds grid unit cycle = Contains grid (record { unit = unit; cycle = cycle })
 
 -- an earlier cycle, or a lower unit of the same cycle
@@ -17,8 +17,8 @@ Precedes p q = (p.cycle < q.cycle) ⊎ ((p.cycle ≡ q.cycle) × (p.unit < q.uni
 -- a set of pairs as the one list in which each pair precedes all later ones, with units and cycles in their range
 pub record IsGrid (grid : List (Pair ℕ)) : Type 0 where
   pub ascending : AllPairs Precedes grid
-  pub units : (unit cycle : ℕ) → Holds grid unit cycle → unit < UNITS
-  pub cycles : (unit cycle : ℕ) → Holds grid unit cycle → cycle < CYCLES
+  pub units : All (λ p. p.unit < UNITS) grid
+  pub cycles : All (λ p. p.cycle < CYCLES) grid
 
 -- the grid has these pairs of a unit and a cycle, and no others
 abbrev pub HoldsJust : List (ℕ × ℕ) → List (Pair ℕ) → Type 0
@@ -26,19 +26,19 @@ HoldsJust pairs grid = (unit cycle : ℕ) → Holds grid unit cycle ↔ Contains
 
 -- some pair is in both grids
 abbrev pub Meets : List (Pair ℕ) → List (Pair ℕ) → Type 0
-Meets first second = (unit : ℕ) × (cycle : ℕ) × Holds first unit cycle × Holds second unit cycle
+Meets first second = (p : Pair ℕ) × Contains first p × Contains second p
 
 -- the union has the pairs of both, and no others
 abbrev pub IsUnion : List (Pair ℕ) → List (Pair ℕ) → List (Pair ℕ) → Type 0
-IsUnion first second union = (unit cycle : ℕ) → Holds union unit cycle ↔ (Holds first unit cycle ⊎ Holds second unit cycle)
+IsUnion first second union = (p : Pair ℕ) → Contains union p ↔ (Contains first p ⊎ Contains second p)
 
 -- the new grid has the pairs that stand one cycle later in the old one
 abbrev pub IsAdvanced : List (Pair ℕ) → List (Pair ℕ) → Type 0
-IsAdvanced old new = (unit cycle : ℕ) → Holds new unit cycle ↔ Holds old unit (1 + cycle)
+IsAdvanced old new = (p : Pair ℕ) → Contains new p ↔ Contains old (later 1 p)
 
 -- a pair is in the one grid exactly where it is in the other
 abbrev pub HasSamePairs : List (Pair ℕ) → List (Pair ℕ) → Type 0
-HasSamePairs first second = (unit cycle : ℕ) → Holds first unit cycle ↔ Holds second unit cycle
+HasSamePairs first second = (p : Pair ℕ) → Contains first p ↔ Contains second p
 
 -- whether two pairs are equal
 abbrev pub pair_eq : Pair ℕ → Pair ℕ → Bool

@@ -38,7 +38,6 @@ impl Grid {
     pub fn empty(alloc: Global) -> Grid
         ensures empty { result ≡ [] }
         ensures grid { IsGrid result }
-        ensures pairs { (unit cycle : ℕ) → ¬ Holds result unit cycle }
     {
         Grid {
             rows: Vec::new(alloc),
@@ -169,6 +168,15 @@ fn overlaid(alloc: Global, longer: &[Row], shorter: &[Row]) -> Result<Vec<Row>, 
     Ok(rows)
 }
 
+// Drops the first row, if there is one.
+fn drop_first(rows: &mut Vec<Row>)
+    ensures { rows.new.items ≡ drop 1 rows.old.items }
+{
+    if !rows.is_empty() {
+        let _first = rows.remove(0);
+    }
+}
+
 // The rows of these pairs.
 fn rows_of(alloc: Global, pairs: &[(u8, u16)]) -> Result<Vec<Row>, NoMemory>
     requires units { All (λ pair. pair.0 < UNITS) pairs.now }
@@ -195,15 +203,6 @@ fn put(rows: &mut Vec<Row>, unit: u8, cycle: u16) -> Result<(), NoMemory>
     lengthen(rows, place + 1)?;
     rows[place] = rows[place].add(unit);
     Ok(())
-}
-
-// Drops the first row, if there is one.
-fn drop_first(rows: &mut Vec<Row>)
-    ensures { rows.new.items ≡ drop 1 rows.old.items }
-{
-    if !rows.is_empty() {
-        let _first = rows.remove(0);
-    }
 }
 
 // Adds rows with no unit, up to that length.
