@@ -1,12 +1,12 @@
 -- What the calls do to the rows, and what that says of the pairs.
-use Rattle.std.proofs.Common.{◌≡◌, ℕ, ◌+◌, ◌-◌, ◌<◌, ◌≤◌, max, min, ◌⊎◌, inl, inr, ⊎_elim, ◌↔◌, List, [], ◌∷◌, ◌++◌, length, get_or, set, take, drop, refl, sym, ap, arith}
+use Rattle.std.proofs.Common.{◌≡◌, ℕ, ◌+◌, ◌-◌, ◌<◌, ◌≤◌, max, min, ◌⊎◌, inl, inr, ⊎_elim, ◌↔◌, List, [], ◌∷◌, ◌++◌, length, get_or, set, take, drop, refl, sym, ap, ◌∙◌, arith}
 use Rattle.std.proofs.lemmas.Bool.{cases_lt, cases_eq}
-use Rattle.std.proofs.lemmas.List.{length-drop, get_or-drop, get_or_past, get_or-set_same, get_or-set_other, take_more, length_push, get_or_push, get_or_append_left}
+use Rattle.std.proofs.lemmas.List.{length-drop, get_or-drop, get_or_past, get_or_default, get_or-set_same, get_or-set_other, take_more, length_push, get_or_push, get_or_append_left}
 use Rattle.std.proofs.lemmas.List.Elements.{Contains-append_left, Contains-push, Contains-push_cases}
 use Rattle.hz_grid.specs.Rows.{HasUnit, RowsMeet}
-use Rattle.hz_grid.specs.Grids.{HoldsJust, Meets, IsUnion, IsAdvanced}
+use Rattle.hz_grid.specs.Grids.{Holds, HoldsJust, Meets, IsUnion, IsAdvanced}
 use Rattle.hz_grid.specs.Stored.{IsSet, pairs_from, IsRows, HasJust, HasSameUnits, GainsUnit, ShareUnit, IsJoined}
-use Rattle.hz_grid.proofs.Units.{HasUnit-zero}
+use Rattle.hz_grid.proofs.Units.{HasUnit-zero, some_unit}
 use Rattle.hz_grid.proofs.Elements.{Contains-nil}
 use Rattle.hz_grid.proofs.Pairs.{Holds-rows, row_below}
 
@@ -158,3 +158,34 @@ apart_from_rows first second n e apart shared =
     let in_first = row_below first shared.0 shared.1 shared.2 in
     let in_second = row_below second shared.0 shared.1 shared.3 in
     apart shared.1 (omega arith) (shared.0, shared.2, shared.3)
+
+-- ---- the greatest cycle, and one row
+
+pub cycle_below_length : (rows : List ℕ) → IsRows rows → (unit cycle : ℕ) → Holds (pairs_from 0 rows) unit cycle → cycle < length rows
+cycle_below_length rows is unit cycle h = row_below rows unit cycle ((Holds-rows rows is unit cycle).0 h)
+
+pub Holds-last : (rows : List ℕ) → IsRows rows → 0 < length rows → (unit : ℕ) × Holds (pairs_from 0 rows) unit (length rows - 1)
+Holds-last rows is some =
+    let last = length rows - 1 in
+    let row = get_or rows last 0 in
+    let filled : 0 < row =
+    ⊎_elim
+    (λ (e : row ≡ 0). absurd (is.trimmed some (λ unit h. HasUnit-zero unit (rw e at h))))
+    (λ (n : row ≡ 0 → ⊥). omega arith)
+    (cases_eq row 0) in
+    let unit = some_unit row filled in
+    (unit.0, (Holds-rows rows is unit.0 last).1 unit.1)
+
+pub HasUnit-row : (rows : List ℕ) → IsRows rows → (cycle none row unit : ℕ) → ((other : ℕ) → ¬ HasUnit none other) → row ≡ get_or rows cycle none → HasUnit row unit ↔ Holds (pairs_from 0 rows) unit cycle
+HasUnit-row rows is cycle none row unit empty e =
+    let holds = Holds-rows rows is unit cycle in
+    ⊎_elim
+    (λ (within : cycle < length rows).
+    let same = e ∙ get_or_default rows cycle none 0 within in
+    (λ h. holds.1 (rw same at h), λ h. rw same (holds.0 h)))
+    (λ (past : length rows ≤ cycle).
+    let same = e ∙ get_or_past rows cycle none past in (
+      λ h. absurd (empty unit (rw same at h)),
+      λ h. absurd (HasUnit-zero unit (rw (get_or_past rows cycle 0 past) at (holds.0 h))),
+    ))
+    (cases_lt cycle (length rows))

@@ -1,6 +1,7 @@
 //! A grid: the pairs of a unit and a cycle that are reserved, with the cycles counted from the present one.
-ghost use Rattle.std.specs.Prelude.{◌≡◌, ◌↔◌, ◌<◌, ◌≤◌, [], length, max, All, IsTrue, IfOk, OnOk, vec_len};
-ghost use Rattle.hz_grid.specs.Grids.{IsGrid, HoldsJust, Meets, IsUnion, IsAdvanced};
+ghost use Rattle.std.specs.Prelude.{◌≡◌, ◌↔◌, ◌<◌, ◌≤◌, ◌-◌, ℕ, [], length, drop, max, All, IsTrue, IfOk, OnOk, vec_len};
+ghost use Rattle.hz_grid.specs.Rows.{HasUnit};
+ghost use Rattle.hz_grid.specs.Grids.{Holds, IsGrid, HoldsJust, Meets, IsUnion, IsAdvanced};
 ghost use Rattle.hz_grid.specs.Stored.{IsRows, HasJust, HasSameUnits, GainsUnit, ShareUnit, IsJoined};
 
 use crate::rows::{Row, UNITS};
@@ -15,7 +16,7 @@ pub const CYCLES: usize = 256;
 
 /// A set of pairs (unit, cycle), with units below `UNITS` and cycles below `CYCLES`.
 /// It is equal to another grid exactly where the sets are.
-#[derive(Drop)]
+#[derive(Drop, Debug)]
 pub struct Grid {
     rows: Vec<Row>,
 }
@@ -81,9 +82,26 @@ impl Grid {
         ensures grid { IsGrid self.new }
         ensures pairs { IsAdvanced self.old self.new }
     {
-        if !self.rows.is_empty() {
-            let _first = self.rows.remove(0);
-        }
+        drop_first(&mut self.rows);
+    }
+
+    /// One more than the greatest cycle of a pair, and 0 for the grid with no pair. It takes no memory.
+    pub fn length(&self) -> u16
+        ensures above { (unit cycle : ℕ) → Holds self.now unit cycle → cycle < result }
+        ensures reached { 0 < result → (unit : ℕ) × Holds self.now unit (result - 1) }
+        ensures grid { IsGrid self.now }
+    {
+        self.rows.len() as u16
+    }
+
+    /// The units of the pairs of that cycle: none past the greatest one. It takes no memory.
+    pub fn row(&self, cycle: u16) -> Row
+        ensures { (unit : ℕ) → HasUnit result unit ↔ Holds self.now unit cycle }
+    {
+        self.rows
+            .get(usize::from(cycle))
+            .copied()
+            .unwrap_or(Row::empty())
     }
 }
 
@@ -148,6 +166,15 @@ fn overlaid(alloc: Global, longer: &[Row], shorter: &[Row]) -> Result<Vec<Row>, 
         rows[cycle] = rows[cycle].join(*row);
     }
     Ok(rows)
+}
+
+// Drops the first row, if there is one.
+fn drop_first(rows: &mut Vec<Row>)
+    ensures { rows.new.items ≡ drop 1 rows.old.items }
+{
+    if !rows.is_empty() {
+        let _first = rows.remove(0);
+    }
 }
 
 // The rows of these pairs.

@@ -6,3 +6,6 @@ mod rows;
 
 pub use grids::{CYCLES, Grid, NoMemory};
 pub use rows::{Row, UNITS};
+
+#[cfg(test)]
+mod tests;

@@ -2,8 +2,11 @@ use Rattle.hz_grid.proofs.Pairs.{IsGrid-pairs_from}
 use Rattle.hz_grid.proofs.Steps.{IsRows-drop, IsAdvanced-rows}
 use Rattle.hz_grid.proofs.grids.Grid.advance.Goals as goal
 
-pub returns-then-not-is_empty-clause-grid : goal.returns-then-not-is_empty-clause-grid
-returns-then-not-is_empty-clause-grid c = rw c.remove-first.ensures.items (IsGrid-pairs_from _ (IsRows-drop _ c.self.invariant))
+pub returns-clause-grid : goal.returns-clause-grid
+returns-clause-grid c = rw c.drop_first.ensures (IsGrid-pairs_from _ (IsRows-drop _ c.self.invariant))
 
-pub returns-then-not-is_empty-clause-pairs : goal.returns-then-not-is_empty-clause-pairs
-returns-then-not-is_empty-clause-pairs c = rw (c.remove-first.ensures.items, ← c.self.view_is) (IsAdvanced-rows _ c.self.invariant)
+pub returns-clause-pairs : goal.returns-clause-pairs
+returns-clause-pairs c = rw (c.drop_first.ensures, ← c.self.view_is) (IsAdvanced-rows _ c.self.invariant)
+
+pub invariant_of-self : goal.invariant_of-self
+invariant_of-self c = rw c.drop_first.ensures (IsRows-drop _ c.self.invariant)
