@@ -1,4 +1,5 @@
 pub mod Names
 pub mod Pairs
 pub mod Trees
+pub mod FormFronts
 pub mod Forms
