@@ -1,34 +1,13 @@
 -- A front of a text that is read, as the open brackets with the forms before each. Every text ends in forms or in a fault.
-use Rattle.std.proofs.Common.{◌≡◌, ℕ, zero, suc, ◌+◌, ◌<◌, ◌≤◌, true, List, [], ◌∷◌, ◌++◌, length, map, refl, sym, ap, ◌∙◌, arith, subst, Some, None, ◌⊎◌, inl, inr, append_assoc}
+use Rattle.std.proofs.Common.{◌≡◌, ℕ, zero, suc, ◌+◌, ◌<◌, ◌≤◌, true, List, [], ◌∷◌, ◌++◌, length, refl, sym, ap, ◌∙◌, arith, subst, Some, None, ◌⊎◌, inl, inr, append_assoc}
 use Rattle.std.specs.Prelude.{nat_lt, ◌==◌}
 use Rattle.std.proofs.lemmas.List.{append-nil, length-map}
 use Rattle.std.proofs.lemmas.Bool.{cases_Bool, lt-ltb, ltb-true}
-use Rattle.hz_model.specs.Trees.{Tree, Trees, list, vector, none, more}
+use Rattle.hz_model.specs.Trees.{Tree, Trees, none, more}
 use Rattle.hz_model.specs.Forms.{Bracket, round, square, same_bracket, OpenBracket, Token, opens, closes, leaf, spelled_tree, spelled, open_after_all, Step, Reading, Reads, FormFault, FaultAt, Word, Comment, Inside, line_end}
+use Rattle.hz_model.specs.FormFronts.{Frame, brackets, front, push, enclosed_by}
 use Rattle.hz_model.proofs.FormsNext.{Next, goes, stops, IsNext, is_next}
 use Rattle.hz_model.proofs.FormsLaws.{open_after_all-append}
-
--- an open bracket, and the forms that stand before it in the list or vector around it
-pub record Frame : Type 0 where
-  pub opened : OpenBracket
-  pub before : Trees
-
-abbrev pub brackets : List Frame → List OpenBracket
-brackets frames = map (λ (f : Frame). f.opened) frames
-
--- the tokens of a front: the innermost frame stands first, and forms stand behind it
-abbrev pub front : List Frame → Trees → List Token
-front [] forms = spelled forms
-front (inner ∷ outer) forms = front outer inner.before ++ (opens inner.opened.bracket inner.opened.line ∷ spelled forms)
-
--- one more form at the end
-abbrev pub push : Trees → Tree → Trees
-push none form = more form none
-push (more first others) form = more first (push others form)
-
--- what a bracket and its partner make
-abbrev pub enclosed : OpenBracket → Trees → Tree
-enclosed inner forms = elim inner.bracket [ round ↦ list inner.line forms | square ↦ vector inner.line forms ]
 
 pub spelled-push : (forms : Trees) (form : Tree) → spelled (push forms form) ≡ spelled forms ++ spelled_tree form
 spelled-push none form = append-nil (spelled_tree form)
@@ -38,10 +17,11 @@ pub front-push : (frames : List Frame) (forms : Trees) (form : Tree) → front f
 front-push [] forms form = spelled-push forms form
 front-push (inner ∷ outer) forms form = rw (spelled-push forms form) (sym (append_assoc (front outer inner.before) (opens inner.opened.bracket inner.opened.line ∷ spelled forms) (spelled_tree form)))
 
-pub front-close : (inner : Frame) (outer : List Frame) (forms : Trees) → front outer (push inner.before (enclosed inner.opened forms)) ≡ front (inner ∷ outer) forms ++ (closes inner.opened.bracket ∷ [])
-front-close inner outer forms = front-push outer inner.before (enclosed inner.opened forms) ∙ go inner.opened.bracket
+pub front-close : (inner : Frame) (outer : List Frame) (forms : Trees)
+    → front outer (push inner.before (enclosed_by inner.opened.bracket inner.opened.line forms)) ≡ front (inner ∷ outer) forms ++ (closes inner.opened.bracket ∷ [])
+front-close inner outer forms = front-push outer inner.before (enclosed_by inner.opened.bracket inner.opened.line forms) ∙ go inner.opened.bracket
   where
-    go : (b : Bracket) → front outer inner.before ++ spelled_tree (elim b [ round ↦ list inner.opened.line forms | square ↦ vector inner.opened.line forms ]) ≡ (front outer inner.before ++ (opens b inner.opened.line ∷ spelled forms)) ++ (closes b ∷ [])
+    go : (b : Bracket) → front outer inner.before ++ spelled_tree (enclosed_by b inner.opened.line forms) ≡ (front outer inner.before ++ (opens b inner.opened.line ∷ spelled forms)) ++ (closes b ∷ [])
     go round = sym (append_assoc (front outer inner.before) (opens round inner.opened.line ∷ spelled forms) (closes round ∷ []))
     go square = sym (append_assoc (front outer inner.before) (opens square inner.opened.line ∷ spelled forms) (closes square ∷ []))
 
@@ -74,13 +54,13 @@ pub front_open : {text rest left : List ℕ} {line last : ℕ} (frames : List Fr
     → Front text frames forms line rest → Step line rest (opens opened.bracket opened.line ∷ []) last left → Front text (record { opened = opened; before = forms } ∷ frames) none last left
 front_open frames forms opened h f step = front_on frames (record { opened = opened; before = forms } ∷ frames) forms none f step refl (let few : length (brackets frames) < 64 = rw length-map h in rw (lt-ltb _ _ few) refl)
 
-same_is : (b : Bracket) → same_bracket b b ≡ true
+pub same_is : (b : Bracket) → same_bracket b b ≡ true
 same_is round = refl
 same_is square = refl
 
 pub front_close : {text rest left : List ℕ} {line last : ℕ} (inner : Frame) (outer : List Frame) (forms : Trees)
-    → Front text (inner ∷ outer) forms line rest → Step line rest (closes inner.opened.bracket ∷ []) last left → Front text outer (push inner.before (enclosed inner.opened forms)) last left
-front_close inner outer forms f step = front_on (inner ∷ outer) outer forms (push inner.before (enclosed inner.opened forms)) f step (front-close inner outer forms) (rw (same_is inner.opened.bracket) refl)
+    → Front text (inner ∷ outer) forms line rest → Step line rest (closes inner.opened.bracket ∷ []) last left → Front text outer (push inner.before (enclosed_by inner.opened.bracket inner.opened.line forms)) last left
+front_close inner outer forms f step = front_on (inner ∷ outer) outer forms (push inner.before (enclosed_by inner.opened.bracket inner.opened.line forms)) f step (front-close inner outer forms) (rw (same_is inner.opened.bracket) refl)
 
 -- a front with a step after it is a front
 pub record Longer (text : List ℕ) (line : ℕ) (rest : List ℕ) : Type 0 where

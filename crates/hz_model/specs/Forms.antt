@@ -114,10 +114,13 @@ pub data Word : (text bytes rest : List ℕ) → Type 0 where
   ends : {rest : List ℕ} → IsFalse (goes_on rest) → Word rest [] rest
   letter : {b : ℕ} {text bytes rest : List ℕ} → IsTrue (goes_on (b ∷ text)) → Word text bytes rest → Word (b ∷ text) (b ∷ bytes) rest
 
+-- `0` to `9`
+abbrev pub is_digit : ℕ → Bool
+is_digit b = nat_le 48 b && nat_le b 57
+
 -- one digit or more
 abbrev pub is_digits : List ℕ → Bool
-is_digits [] = false
-is_digits (b ∷ bytes) = list_all (λ d. nat_le 48 d && nat_le d 57) (b ∷ bytes)
+is_digits bytes = not (length bytes == 0) && list_all is_digit bytes
 
 -- the number that a word is: `-`, if any, and digits; any other word is an atom
 abbrev pub number_of : List ℕ → Option ℤ

@@ -2,6 +2,7 @@ pub mod Limits
 pub mod Names
 pub mod Pairs
 pub mod Trees
+pub mod FormFronts
 pub mod Forms
 pub mod Alternatives
 pub mod Sets

@@ -1,0 +1,5 @@
+pub mod Parts
+pub mod Digits
+pub mod Leaves
+pub mod StepLemmas
+pub mod ReaderLemmas

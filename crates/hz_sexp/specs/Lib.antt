@@ -1,0 +1,5 @@
+pub mod Shape
+pub mod Kinds
+pub mod Faults
+pub mod Steps
+pub mod State
