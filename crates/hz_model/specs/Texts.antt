@@ -1,23 +1,24 @@
-use Rattle.std.specs.Prelude.{ℕ, List, ◌++◌, codes, decimal}
+use Rattle.std.specs.Prelude.{ℕ, List, [], ◌∷◌, codes, decimal}
+use Rattle.std.specs.List.{concat}
 
--- the texts that the program writes; a file goes by the word that names it
+-- The texts that the program writes, each one line. A file goes by the word that names it.
 abbrev pub accepted_line : ℕ → ℕ → List ℕ
-accepted_line issues cycles = codes "accepted " ++ decimal issues ++ codes " issues " ++ decimal cycles ++ codes " cycles\n"
+accepted_line issues cycles = concat (codes "accepted " ∷ decimal issues ∷ codes " issues " ∷ decimal cycles ∷ codes " cycles\n" ∷ [])
 
 abbrev pub refused_line : ℕ → List ℕ → List ℕ
-refused_line line class = codes "refused line " ++ decimal line ++ codes " " ++ class ++ codes "\n"
+refused_line line class = concat (codes "refused line " ∷ decimal line ∷ codes " " ∷ class ∷ codes "\n" ∷ [])
 
 abbrev pub not_built_line : List ℕ → List ℕ
-not_built_line file = codes "fault " ++ file ++ codes " NotBuilt\n"
+not_built_line file = concat (codes "fault " ∷ file ∷ codes " NotBuilt\n" ∷ [])
 
 abbrev pub limit_line : List ℕ → List ℕ
-limit_line file = codes "limit " ++ file ++ codes " bytes\n"
+limit_line file = concat (codes "limit " ∷ file ∷ codes " bytes\n" ∷ [])
 
 abbrev pub file_line : List ℕ → List ℕ
-file_line file = codes "file " ++ file ++ codes " could not be read\n"
+file_line file = concat (codes "file " ∷ file ∷ codes " could not be read\n" ∷ [])
 
 abbrev pub memory_line : List ℕ
-memory_line = codes "memory\n"
+memory_line = concat (codes "memory\n" ∷ [])
 
 abbrev pub usage_line : List ℕ
-usage_line = codes "usage: hz replay DESC TRACE\n"
+usage_line = concat (codes "usage: hz replay DESC TRACE\n" ∷ [])

@@ -5,3 +5,4 @@ pub mod ReplayLemmas
 pub mod StandsLemmas
 pub mod StraightLemmas
 pub mod TraceLemmas
+pub mod WritingLemmas

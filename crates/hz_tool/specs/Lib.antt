@@ -1,4 +1,6 @@
 pub mod Names
 pub mod Replay
+pub mod Reports
 pub mod Straight
 pub mod Trace
+pub mod Words

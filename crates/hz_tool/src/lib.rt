@@ -3,5 +3,7 @@
 
 mod names;
 mod replay;
+mod report;
 mod straight;
 mod trace;
+mod words;

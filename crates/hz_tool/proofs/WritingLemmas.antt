@@ -1,0 +1,21 @@
+use Rattle.std.proofs.Common.{◌≡◌, ℕ, ◌+◌, ◌<◌, List, [], ◌∷◌, ◌++◌, length, get_or, take, drop, map, refl, sym, ap, ◌∙◌, append_assoc}
+use Rattle.std.proofs.lemmas.List.{append-nil, map_more, take-append-drop, drop_more, map-append}
+use Rattle.std.proofs.lemmas.List.Folds.{concat-append}
+use Rattle.std.specs.Borrow.{Bor}
+use Rattle.std.specs.List.{concat}
+
+-- the text of pieces
+abbrev pub text : List (Bor (List ℕ)) → List ℕ
+text pieces = concat (map (λ piece. piece.now) pieces)
+
+-- one more piece
+pub text_more : (pieces : List (Bor (List ℕ))) (i : ℕ) (d : Bor (List ℕ)) → i < length pieces → text (take (i + 1) pieces) ≡ text (take i pieces) ++ (get_or pieces i d).now
+text_more pieces i d inside =
+    let now : Bor (List ℕ) → List ℕ = λ piece. piece.now in
+    ap concat (map_more now pieces i d inside) ∙ (concat-append (map now (take i pieces)) ((get_or pieces i d).now ∷ []) ∙ ap (λ bytes. text (take i pieces) ++ bytes) (append-nil (get_or pieces i d).now))
+
+-- what is written up to a piece, and what stands after it
+pub text_parts : (pieces : List (Bor (List ℕ))) (i : ℕ) (d : Bor (List ℕ)) → i < length pieces → text pieces ≡ text (take i pieces) ++ (get_or pieces i d).now ++ text (drop (i + 1) pieces)
+text_parts pieces i d inside =
+    let now : Bor (List ℕ) → List ℕ = λ piece. piece.now in
+    ap text (sym (take-append-drop (i + 1) pieces)) ∙ (ap concat (map-append now (take (i + 1) pieces) (drop (i + 1) pieces)) ∙ (concat-append (map now (take (i + 1) pieces)) (map now (drop (i + 1) pieces)) ∙ ap (λ bytes. bytes ++ text (drop (i + 1) pieces)) (text_more pieces i d inside)))

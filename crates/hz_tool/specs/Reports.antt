@@ -1,0 +1,24 @@
+use Rattle.std.specs.Prelude.{ℕ, List}
+use Rattle.hz_model.specs.Texts as model
+use Rattle.hz_tool.specs.declared.report.Report.{Report}
+use Rattle.hz_tool.specs.declared.report.Report.TheVariants.{Accepted, Refused, NotBuilt, Long, Usage, Memory, File}
+
+-- the text of a report
+abbrev pub text_of : Report → List ℕ
+text_of (Accepted issues cycles) = model.accepted_line issues cycles
+text_of (Refused line class) = model.refused_line line class.items
+text_of (NotBuilt file) = model.not_built_line file.now
+text_of (Long file) = model.limit_line file.now
+text_of Usage = model.usage_line
+text_of Memory = model.memory_line
+text_of (File file) = model.file_line file.now
+
+-- its status, where the text is written whole
+abbrev pub status_of : Report → ℕ
+status_of (Accepted issues cycles) = 0
+status_of (Refused line class) = 1
+status_of (NotBuilt file) = 2
+status_of (Long file) = 3
+status_of Usage = 4
+status_of Memory = 5
+status_of (File file) = 6

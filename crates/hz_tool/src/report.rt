@@ -1,0 +1,118 @@
+//! What the program answers: its status and its text.
+
+ghost use Rattle.std.specs.Prelude.{◌≡◌, ◌+◌, ◌-◌, ◌^◌, ◌<◌, map};
+ghost use Rattle.std.specs.List.{concat};
+ghost use Rattle.hz_io.specs.Sink.{Writes};
+ghost use Rattle.hz_model.specs.Texts as model;
+
+use hz_io::{Failed, Sink};
+use itoa::Buffer;
+
+/// An answer, before it is written. A file goes by the word that names it.
+#[derive(Debug, Drop)]
+pub enum Report<'a> {
+    /// Every issue of the trace fits.
+    Accepted { issues: u64, cycles: u64 },
+    /// The first issue that does not fit: its line, counted from 1, and its class.
+    Refused { line: u64, class: Vec<u8> },
+    /// A text of a form that is not built.
+    NotBuilt { file: &'a str },
+    /// A file of more bytes than its limit.
+    Long { file: &'a str },
+    /// The words are no command.
+    Usage,
+    /// Memory ran out.
+    Memory,
+    /// A file that could not be read.
+    File { file: &'a str },
+}
+
+/// Writes pieces one after the other.
+fn put_all<S: Sink>(out: &mut S, pieces: &[&[u8]]) -> Result<(), Failed>
+    requires { S.faults out.old < 2 ^ 64 - 1 }
+    ensures { Writes S.written S.room S.faults out.old out.new (concat (map (λ piece. piece.now) pieces.now)) result }
+{
+    for piece in pieces {
+        match out.put(piece) {
+            Ok(()) => {}
+            Err(failed) => return Err(failed),
+        }
+    }
+    Ok(())
+}
+
+/// Writes the line of an accepted trace.
+fn put_accepted<S: Sink>(out: &mut S, issues: u64, cycles: u64) -> Result<(), Failed>
+    requires { S.faults out.old < 2 ^ 64 - 1 }
+    ensures { Writes S.written S.room S.faults out.old out.new (model.accepted_line issues cycles) result }
+{
+    let mut issues_digits = Buffer::new();
+    let mut cycles_digits = Buffer::new();
+    put_all(
+        out,
+        &[
+            b"accepted ",
+            issues_digits.format(issues).as_bytes(),
+            b" issues ",
+            cycles_digits.format(cycles).as_bytes(),
+            b" cycles\n",
+        ],
+    )
+}
+
+/// Writes the line of a refused trace.
+fn put_refused<S: Sink>(out: &mut S, line: u64, class: &[u8]) -> Result<(), Failed>
+    requires { S.faults out.old < 2 ^ 64 - 1 }
+    ensures { Writes S.written S.room S.faults out.old out.new (model.refused_line line class.now) result }
+{
+    let mut digits = Buffer::new();
+    put_all(
+        out,
+        &[
+            b"refused line ",
+            digits.format(line).as_bytes(),
+            b" ",
+            class,
+            b"\n",
+        ],
+    )
+}
+
+impl Report<'_> {
+    ghost use Rattle.hz_tool.specs.Reports.{text_of, status_of};
+
+    /// The status that the program ends with, where the text is written whole.
+    pub fn status(&self) -> u8
+        ensures { result ≡ status_of self.now }
+    {
+        match self {
+            Report::Accepted { .. } => 0,
+            Report::Refused { .. } => 1,
+            Report::NotBuilt { .. } => 2,
+            Report::Long { .. } => 3,
+            Report::Usage => 4,
+            Report::Memory => 5,
+            Report::File { .. } => 6,
+        }
+    }
+
+    /// Writes the text. It takes no memory.
+    pub fn write<S: Sink>(&self, out: &mut S) -> Result<(), Failed>
+        requires { S.faults out.old < 2 ^ 64 - 1 }
+        ensures { Writes S.written S.room S.faults out.old out.new (text_of self.now) result }
+    {
+        match self {
+            Report::Accepted { issues, cycles } => put_accepted(out, *issues, *cycles),
+            Report::Refused { line, class } => put_refused(out, *line, class.as_slice()),
+            Report::NotBuilt { file } => {
+                put_all(out, &[b"fault ", file.as_bytes(), b" NotBuilt\n"])
+            }
+            Report::Long { file } => put_all(out, &[b"limit ", file.as_bytes(), b" bytes\n"]),
+            Report::Usage => put_all(out, &[b"usage: hz replay DESC TRACE\n"]),
+            Report::Memory => put_all(out, &[b"memory\n"]),
+            Report::File { file } => {
+                put_all(out, &[b"file ", file.as_bytes(), b" could not be read\n"])
+            }
+        }
+    }
+}
