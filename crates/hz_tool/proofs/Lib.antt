@@ -6,3 +6,5 @@ pub mod StandsLemmas
 pub mod StraightLemmas
 pub mod TraceLemmas
 pub mod WritingLemmas
+pub mod JudgeLemmas
+pub mod AnswerLemmas

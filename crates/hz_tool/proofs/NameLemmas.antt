@@ -25,8 +25,9 @@ none_any : {K : Type 0} (p : K → Bool) (xs : List K) → length xs ≤ positio
 none_any p [] = λ h. refl
 none_any p (x ∷ xs) =
     elim (p x) as (λ t. length (x ∷ xs) ≤ cond (not t) (1 + position_or_len p xs) 0 → (t || list_any p xs) ≡ false) [
-      true ↦ λ h. absurd (omega arith)
-    | false ↦ λ h. none_any p xs (omega arith) ]
+      | true ↦ λ h. absurd (omega arith)
+      | false ↦ λ h. none_any p xs (omega arith)
+    ]
 
 none_position : {K : Type 0} (p : K → Bool) (xs : List K) → position p xs ≡ None → length xs ≤ position_or_len p xs
 none_position p xs h =

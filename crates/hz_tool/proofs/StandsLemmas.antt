@@ -48,12 +48,13 @@ grids_more grids grid of name pieces count are is =
       free = refl;
       classes = λ k inside. ⊎_elim
           (λ (old : k < length grids).
-              subst (λ (g : List (Pair ℕ)). IsGridOf g (of_class (slice_get (of.classes ++ new ∷ []) k))) (sym (get_or_append_left grids (grid ∷ []) [] k old))
-              (subst (λ (o : Option (Class ℕ)). IsGridOf (get_or grids k []) (of_class o)) (sym (slice_get-append_left of.classes (new ∷ []) k (omega arith))) (are.classes k old)))
+          subst (λ (g : List (Pair ℕ)). IsGridOf g (of_class (slice_get (of.classes ++ new ∷ []) k))) (sym (get_or_append_left grids (grid ∷ []) [] k old))
+          (subst (λ (o : Option (Class ℕ)). IsGridOf (get_or grids k []) (of_class o)) (sym (slice_get-append_left of.classes (new ∷ []) k (omega arith))) (are.classes k old)))
           (λ (last : k ≡ length grids).
-              subst (λ (g : List (Pair ℕ)). IsGridOf g (of_class (slice_get (of.classes ++ new ∷ []) k))) (sym (get_or_push grids grid [] k (sym last)))
-              (subst (λ (o : Option (Class ℕ)). IsGridOf grid (of_class o)) (sym (slice_get_last of.classes new k (last ∙ count))) is))
-          (below_or_last k (length grids) (omega arith)) }
+          subst (λ (g : List (Pair ℕ)). IsGridOf g (of_class (slice_get (of.classes ++ new ∷ []) k))) (sym (get_or_push grids grid [] k (sym last)))
+          (subst (λ (o : Option (Class ℕ)). IsGridOf grid (of_class o)) (sym (slice_get_last of.classes new k (last ∙ count))) is))
+          (below_or_last k (length grids) (omega arith));
+    }
   where
     below_or_last : (k n : ℕ) → k < n + 1 → (k < n) ⊎ (k ≡ n)
     below_or_last zero zero h = inr refl
@@ -70,7 +71,8 @@ stands_class old new of name pieces grid stands units names grids room is = reco
   count = ap length grids ∙ (length_push old.grids.items grid ∙ (ap (λ (n : ℕ). n + 1) stands.count ∙ sym (length_push of.classes _)));
   grids = subst (λ gs. AreGridsOf gs (machine_of (class_more of name pieces))) (sym grids) (grids_more old.grids.items grid of name pieces stands.count stands.grids is);
   unit_room = stands.unit_room;
-  class_room = omega (arith, length_push of.classes (record { name = name; alternatives = straight_alternatives of.units pieces })) }
+  class_room = omega (arith, length_push of.classes (record { name = name; alternatives = straight_alternatives of.units pieces }));
+}
 
 -- a description with more units stands for one with more units
 pub stands_units : (old new : Description) (of : model.Description) (units : List (List ℕ)) → Stands old of → names_in new.units.keys ≡ units → new.names ≡ old.names → new.grids ≡ old.grids → length units ≤ unit_limit → Stands new (record of { units = units })
@@ -80,7 +82,8 @@ stands_units old new of units stands same names grids room = record {
   count = ap (λ g. length g.items) grids ∙ stands.count;
   grids = subst (λ g. AreGridsOf g.items (machine_of (record of { units = units }))) (sym grids) (record { free = refl; classes = stands.grids.classes });
   unit_room = room;
-  class_room = stands.class_room }
+  class_room = stands.class_room;
+}
 
 pub none_there : {A : Type 0} (o : Option A) → is_some o ≡ false → o ≡ None
 none_there None h = refl

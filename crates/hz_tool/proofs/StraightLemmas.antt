@@ -29,10 +29,12 @@ later_piece : (units : List (List ℕ)) (cycle : ℕ) (piece : List ℕ) → pla
 later_piece units cycle piece =
     let next : 1 + cycle ≡ cycle + 1 = omega arith in
     elim (is_nothing piece) as (λ t. placed 1 (map to_pair (cond t [] (option_map_or (λ u. (u, cycle) ∷ []) (place_of piece units) []))) ≡ map to_pair (cond t [] (option_map_or (λ u. (u, cycle + 1) ∷ []) (place_of piece units) []))) [
-      true ↦ refl
-    | false ↦ elim (place_of piece units) as (λ o. placed 1 (map to_pair (option_map_or (λ u. (u, cycle) ∷ []) o [])) ≡ map to_pair (option_map_or (λ u. (u, cycle + 1) ∷ []) o [])) [
-        None ↦ refl
-      | Some u ↦ ap (λ (c : ℕ). record { unit = u; cycle = c } ∷ []) next ] ]
+      | true ↦ refl
+      | false ↦ elim (place_of piece units) as (λ o. placed 1 (map to_pair (option_map_or (λ u. (u, cycle) ∷ []) o [])) ≡ map to_pair (option_map_or (λ u. (u, cycle + 1) ∷ []) o [])) [
+        | None ↦ refl
+        | Some u ↦ ap (λ (c : ℕ). record { unit = u; cycle = c } ∷ []) next
+      ]
+    ]
 
 -- the pairs of pieces, one cycle later
 later_pieces : (units : List (List ℕ)) (cycle : ℕ) (pieces : List (List ℕ)) → placed 1 (map to_pair (piece_pairs units cycle pieces)) ≡ map to_pair (piece_pairs units (cycle + 1) pieces)
@@ -51,10 +53,12 @@ fits_piece units piece = is_nothing piece || is_among piece units
 one_alternative : (units : List (List ℕ)) (piece : List ℕ) → fits_piece units piece ≡ true → alternatives_of (unit_alternatives units) (piece_expression piece) ≡ record { pairs = map to_pair (piece_pair units 0 piece); cycles = 1 } ∷ []
 one_alternative units piece =
     elim (is_nothing piece) as (λ t. (t || is_among piece units) ≡ true → alternatives_of (unit_alternatives units) (cond t expression.nothing (expression.named piece)) ≡ record { pairs = map to_pair (cond t [] (option_map_or (λ u. (u, 0) ∷ []) (place_of piece units) [])); cycles = 1 } ∷ []) [
-      true ↦ λ h. refl
-    | false ↦ elim (place_of piece units) as (λ o. is_some o ≡ true → option_map_or (λ u. taking u ∷ []) o [] ≡ record { pairs = map to_pair (option_map_or (λ u. (u, 0) ∷ []) o []); cycles = 1 } ∷ []) [
-        None ↦ λ h. absurd (false≢true h)
-      | Some u ↦ λ h. refl ] ]
+      | true ↦ λ h. refl
+      | false ↦ elim (place_of piece units) as (λ o. is_some o ≡ true → option_map_or (λ u. taking u ∷ []) o [] ≡ record { pairs = map to_pair (option_map_or (λ u. (u, 0) ∷ []) o []); cycles = 1 } ∷ []) [
+        | None ↦ λ h. absurd (false≢true h)
+        | Some u ↦ λ h. refl
+      ]
+    ]
 
 -- what pieces mean: one alternative with their pairs
 pub one_for_pieces : (units pieces : List _) → list_all (fits_piece units) pieces ≡ true → in_sequence (unit_alternatives units) (piece_parts pieces) ≡ record { pairs = map to_pair (piece_pairs units 0 pieces); cycles = length pieces } ∷ []
@@ -77,11 +81,13 @@ pub grid_of_pieces : (units pieces : List (List ℕ)) (pairs : List (ℕ × ℕ)
 grid_of_pieces units pieces pairs grid fine all just = record {
   alternative = record { pairs = map to_pair (piece_pairs units 0 pieces); cycles = length pieces };
   only = one_for_pieces units pieces fine;
-  pairs = λ p.
-      (λ h. Contains-map to_pair (piece_pairs units 0 pieces) (p.unit, p.cycle) (subst (λ (ps : List (ℕ × ℕ)). Contains ps (p.unit, p.cycle)) all ((just p.unit p.cycle).0 h)),
-       λ h.
-          let found = Contains-from_map to_pair (piece_pairs units 0 pieces) p h in
-          (just p.unit p.cycle).1 (subst (λ (q : Pair ℕ). Contains pairs (q.unit, q.cycle)) found.2 (subst (λ (ps : List (ℕ × ℕ)). Contains ps found.0) (sym all) found.1))) }
+  pairs = λ p. (
+    λ h. Contains-map to_pair (piece_pairs units 0 pieces) (p.unit, p.cycle) (subst (λ (ps : List (ℕ × ℕ)). Contains ps (p.unit, p.cycle)) all ((just p.unit p.cycle).0 h)),
+    λ h.
+        let found = Contains-from_map to_pair (piece_pairs units 0 pieces) p h in
+        (just p.unit p.cycle).1 (subst (λ (q : Pair ℕ). Contains pairs (q.unit, q.cycle)) found.2 (subst (λ (ps : List (ℕ × ℕ)). Contains ps found.0) (sym all) found.1)),
+  );
+}
 
 -- the piece at a place
 pub piece_at : (pieces : List (Bor (List ℕ))) (i : ℕ) (d : Bor (List ℕ)) → i < length pieces → get_or (trimmed_all pieces) i [] ≡ trimmed (get_or pieces i d).now

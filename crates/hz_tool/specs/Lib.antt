@@ -1,3 +1,4 @@
+pub mod Decisions
 pub mod Names
 pub mod Replay
 pub mod Reports

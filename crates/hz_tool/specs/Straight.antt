@@ -1,16 +1,17 @@
-use Rattle.std.specs.Prelude.{◌≡◌, ℕ, ◌+◌, ◌<◌, ◌≤◌, List, [], ◌∷◌, ◌++◌, Option, Some, None, slice_index_or, length, map, if◌then◌else◌, Result, MatchResult, ⊤, Bool, false}
+use Rattle.std.specs.Prelude.{◌≡◌, ℕ, ◌+◌, ◌<◌, ◌≤◌, List, [], ◌∷◌, ◌++◌, Option, Some, None, slice_index_or, length, map, if◌then◌else◌, Result, MatchResult, ⊤, Bool, false, All}
 use Rattle.std.specs.Option.{option_map_or}
 use Rattle.std.specs.Borrow.{Bor}
-use Rattle.hz_model.specs.Limits.{unit_limit, class_limit}
+use Rattle.hz_model.specs.Limits.{unit_limit, class_limit, advance_limit}
 use Rattle.hz_model.specs.Lines.{place_of, trimmed}
 use Rattle.hz_model.specs.Pairs.{Pair}
+use Rattle.hz_model.specs.Replay.{Event, cycles_of}
 use Rattle.hz_model.specs.Straight as model
 use Rattle.hz_model.specs.Straight.{is_nothing, machine_of, class_names}
 use Rattle.hz_tool.specs.declared.straight.Description.{Description}
 use Rattle.hz_tool.specs.declared.straight.DescriptionFault.{DescriptionFault}
 use Rattle.hz_tool.specs.declared.straight.DescriptionFault.TheVariants.{NotBuilt, NoMemory}
 use Rattle.hz_tool.specs.Names.{names_in}
-use Rattle.hz_tool.specs.Replay.{IsGridOf, AreGridsOf}
+use Rattle.hz_tool.specs.Replay.{IsGridOf, AreGridsOf, IsOfClass}
 
 -- the pair of a piece at a cycle, none for `nothing`
 abbrev pub piece_pair : List (List ℕ) → ℕ → List ℕ → List (ℕ × ℕ)
@@ -51,3 +52,9 @@ Becomes old new next = (of : model.Description) → Stands old of → (more : mo
 -- what the description stands for gets nothing
 abbrev pub RefusesAt : Description → (model.Description → Option model.Description) → DescriptionFault → Type 0
 RefusesAt old next fault = (of : model.Description) → Stands old of → Refuses (next of) fault
+
+-- events of the description's classes, with no more advances than a trace may have
+pub record IsTraceOf (d : Description) (events : List Event) : Type 0 where
+  pub classes : All (IsOfClass (length d.grids.items)) events
+  pub names : length (names_in d.names.keys) ≡ length d.grids.items
+  pub short : cycles_of events ≤ advance_limit

@@ -5,6 +5,7 @@ ghost use Rattle.hz_model.specs.Limits.{advance_limit};
 ghost use Rattle.hz_model.specs.Replay.{Machine, issue, issues_of, cycles_of};
 ghost use Rattle.hz_grid.specs.Grids.{Meets, IsUnion, IsAdvanced};
 ghost use Rattle.hz_tool.specs.Trace.{event as event_lem, events_in, issues_in, cycles_in};
+ghost use Rattle.hz_tool.specs.Decisions.{IsWithin};
 ghost use Rattle.hz_tool.specs.Replay.{AreGridsOf, IsAdvancedBy, PlaysFrom, IsOutcome, IsOfClass};
 
 use super::trace::Event;
@@ -113,7 +114,8 @@ fn cycle_count(events: &[Event]) -> u64
 pub fn replay(alloc: Global, grids: &[Grid], events: &[Event]) -> Result<Outcome, NoMemory>
     requires classes { All (IsOfClass (length grids.now)) (events_in events.now) }
     requires short { cycles_of (events_in events.now) ≤ advance_limit }
-    ensures { IfOk result (λ outcome. (m : Machine ℕ) → AreGridsOf grids.now m → IsOutcome m (events_in events.now) outcome) }
+    ensures right { IfOk result (λ outcome. (m : Machine ℕ) → AreGridsOf grids.now m → IsOutcome m (events_in events.now) outcome) }
+    ensures within { IfOk result (IsWithin (length events.now) (length grids.now)) }
 {
     let mut present = Grid::empty(alloc);
     for (place, event) in events.iter().enumerate() {

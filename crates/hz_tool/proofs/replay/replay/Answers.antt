@@ -16,8 +16,8 @@ play-requires c =
     let long = length-map es event in
     subst (IsOfClass (length c.args.grids.now)) (get_or-map event es i (Issue 0) (model.issue 0) inside) (All-get_or (IsOfClass (length c.args.grids.now)) (events_in es) i (model.issue 0) (omega arith) c.requires.classes)
 
-pub returns-in-Some : goal.returns-in-Some
-returns-in-Some c = λ m are.
+pub returns-in-Some-clause-right : goal.returns-in-Some-clause-right
+returns-in-Some-clause-right c = λ m are.
     let es = c.args.events.now in
     let i = c.loop-place.place in
     let inside : i < length es = omega arith in
@@ -36,9 +36,19 @@ loop-place-preserved c = λ m are.
     subst (λ (t : List model.Event). Follows m t c.play.new.present) (sym (events_more es i inside))
     (follows_more m (events_in (take i es)) (event_at es i) c.loop-place.present c.play.new.present (c.loop-place.invariant m are) (played m are))
 
-pub returns : goal.returns
-returns c = λ m are. (
+pub returns-clause-right : goal.returns-clause-right
+returns-clause-right c = λ m are. (
   all_played m c.args.events.now c.loop-place.place c.loop-place.present (omega arith) (c.loop-place.invariant m are),
   c.issue_count.ensures,
   c.cycle_count.ensures,
 )
+
+pub returns-in-Some-clause-within : goal.returns-in-Some-clause-within
+returns-in-Some-clause-within c =
+    let es = c.args.events.now in
+    let i = c.loop-place.place in
+    let inside : i < length es = omega arith in
+    let long = length-map es event in
+    let class = subst (λ (o : Option ℕ). IfSome o (λ k. event_at es i ≡ model.issue k)) c.in-Some.is c.in_ok-class.ensures.class in
+    let known = subst (IsOfClass (length c.args.grids.now)) (get_or-map event es i (Issue 0) (model.issue 0) inside) (All-get_or (IsOfClass (length c.args.grids.now)) (events_in es) i (model.issue 0) (omega arith) c.requires.classes) in
+    (inside, subst (IsOfClass (length c.args.grids.now)) class known)

@@ -10,4 +10,5 @@ use Rattle.hz_tool.proofs.straight.add_units.Given as goal
 abbrev pub invariant-loop-piece : goal.invariant-loop-piece
 invariant-loop-piece l = record {
   told : units_with (names_in l.units.keys) (trimmed_all (drop l.piece-index l.piece-items)) ≡ units_with (names_in l.fn.units.keys) (separated l.names);
-  room : length (names_in l.units.keys) ≤ unit_limit }
+  room : length (names_in l.units.keys) ≤ unit_limit;
+}

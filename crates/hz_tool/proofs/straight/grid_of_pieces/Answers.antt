@@ -18,7 +18,7 @@ returns-in_default-clause-err c =
     let here = subst (λ (ps : List (Bor (List ℕ))). trimmed (get_or ps c.loop-cycle.cycle _).now ≡ c.trimmed-name.result.now) c.deref-piece-items.ensures.value (sym c.trimmed-name.ensures) in
     subst (λ (ps : List (List ℕ)). are_pieces units ps ≡ false) (ap (map trimmed) c.in_ok-list.ensures)
     (no_piece units items c.loop-cycle.cycle c.trimmed-name.result.now inside (piece_at items c.loop-cycle.cycle _ inside ∙ here)
-     (sym c.is_nothing.ensures ∙ c.if-is_nothing.false) (sym c.in_default.ensures))
+    (sym c.is_nothing.ensures ∙ c.if-is_nothing.false) (sym c.in_default.ensures))
 
 pub returns-clause-grid : goal.returns-clause-grid
 returns-clause-grid c =

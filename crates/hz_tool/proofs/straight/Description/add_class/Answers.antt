@@ -16,7 +16,8 @@ returns-clause-ok c = λ of stands.
     let same = ap length stands.names in
     let room : length of.classes < 1024 = omega (arith, c.len.ensures.len) in
     let fine = subst (λ us. are_pieces us pieces ≡ true) stands.units c.in_ok-grid.ensures.ok in
-    let is = subst (λ us. IsGridOf c.in_ok-grid.grid (straight_alternatives us pieces)) stands.units c.in_ok-grid.ensures.grid in
-    (class_more of name pieces,
-     class_joins of name pieces (sym c.is_name.ensures ∙ c.if-not-is_name.false) (subst (λ ns. lines.place_of name ns ≡ None) stands.names free) room fine,
-     stands_class c.args.self.now _ of name pieces c.in_ok-grid.grid stands refl c.in_ok-add.ensures c.in_ok-push.ensures.items room is)
+    let is = subst (λ us. IsGridOf c.in_ok-grid.grid (straight_alternatives us pieces)) stands.units c.in_ok-grid.ensures.grid in (
+      class_more of name pieces,
+      class_joins of name pieces (sym c.is_name.ensures ∙ c.if-not-is_name.false) (subst (λ ns. lines.place_of name ns ≡ None) stands.names free) room fine,
+      stands_class c.args.self.now _ of name pieces c.in_ok-grid.grid stands refl c.in_ok-add.ensures c.in_ok-push.ensures.items room is,
+    )
