@@ -20,80 +20,128 @@ fn row(rt: &impl Abort, units: &[u8]) -> Row {
     row
 }
 
+// These grids have a pair in common.
+fn meet(
+    rt: &impl Abort,
+    alloc: Global,
+    first: &[(u8, u16)],
+    second: &[(u8, u16)],
+) -> Result<(), Fail> {
+    let first = grid(rt, alloc, first)?;
+    let second = grid(rt, alloc, second)?;
+    assert!(rt; first.meets(&second));
+    assert!(rt; second.meets(&first));
+    Ok(())
+}
+
+// These grids have no pair in common, and this is their union.
+fn join(
+    rt: &impl Abort,
+    alloc: Global,
+    first: &[(u8, u16)],
+    second: &[(u8, u16)],
+    union: &[(u8, u16)],
+) -> Result<(), Fail> {
+    let first = grid(rt, alloc, first)?;
+    let second = grid(rt, alloc, second)?;
+    let union = grid(rt, alloc, union)?;
+    assert!(rt; !second.meets(&first));
+    assert!(rt; !first.meets(&second));
+    assert!(rt; first.with(alloc, &second)? == union);
+    assert!(rt; union.length() == first.length().max(second.length()));
+    Ok(())
+}
+
 #[test]
 fn grids_meet_or_join(rt: HostRuntime) -> Result<(), Fail> {
-    let cases: [(&[(u8, u16)], &[(u8, u16)], bool, &[(u8, u16)]); 7] = [
-        (&[], &[], false, &[]),
-        (&[(3, 0)], &[], false, &[(3, 0)]),
-        (&[(3, 0)], &[(3, 0)], true, &[]),
-        (
-            &[(3, 0)],
-            &[(4, 0), (3, 1)],
-            false,
-            &[(3, 1), (3, 0), (4, 0), (3, 0)],
-        ),
-        (&[(1, 2), (5, 7)], &[(5, 7)], true, &[]),
-        (
-            &[(127, 255)],
-            &[(0, 0), (126, 255)],
-            false,
-            &[(126, 255), (0, 0), (127, 255)],
-        ),
-        (&[(127, 255)], &[(0, 0), (127, 255)], true, &[]),
-    ];
-    for (first, second, meets, union) in cases {
-        let first = grid(&rt, rt.alloc(), first)?;
-        let second = grid(&rt, rt.alloc(), second)?;
-        assert_eq!(rt; first.meets(&second), meets);
-        assert_eq!(rt; second.meets(&first), meets);
-        if !first.meets(&second) {
-            let union = grid(&rt, rt.alloc(), union)?;
-            assert!(rt; first.with(rt.alloc(), &second)? == union);
-            assert_eq!(rt; union.length(), first.length().max(second.length()));
-        }
-    }
+    let alloc = rt.alloc();
+    meet(&rt, alloc, &[(3, 0)], &[(3, 0)])?;
+    meet(&rt, alloc, &[(1, 2), (5, 7)], &[(5, 7)])?;
+    meet(&rt, alloc, &[(127, 255)], &[(0, 0), (127, 255)])?;
+    join(&rt, alloc, &[], &[], &[])?;
+    join(&rt, alloc, &[(3, 0)], &[], &[(3, 0)])?;
+    join(
+        &rt,
+        alloc,
+        &[(3, 0)],
+        &[(4, 0), (3, 1)],
+        &[(3, 1), (3, 0), (4, 0), (3, 0)],
+    )?;
+    join(
+        &rt,
+        alloc,
+        &[(127, 255)],
+        &[(0, 0), (126, 255)],
+        &[(126, 255), (0, 0), (127, 255)],
+    )
+}
+
+// What is left of a grid one cycle later, and its length.
+fn advance(
+    rt: &impl Abort,
+    alloc: Global,
+    before: &[(u8, u16)],
+    after: &[(u8, u16)],
+    length: u16,
+) -> Result<(), Fail> {
+    let mut before = grid(rt, alloc, before)?;
+    before.advance();
+    assert!(rt; before == grid(rt, alloc, after)?);
+    assert!(rt; before.length() == length);
     Ok(())
 }
 
 #[test]
 fn grids_advance(rt: HostRuntime) -> Result<(), Fail> {
-    let cases: [(&[(u8, u16)], &[(u8, u16)], u16); 5] = [
-        (&[], &[], 0),
-        (&[(9, 0), (9, 0)], &[], 0),
-        (&[(9, 1)], &[(9, 0)], 1),
-        (&[(5, 0), (6, 1), (127, 255)], &[(127, 254), (6, 0)], 255),
-        (&[(5, 4), (7, 0)], &[(5, 3)], 4),
-    ];
-    for (before, after, length) in cases {
-        let mut before = grid(&rt, rt.alloc(), before)?;
-        let after = grid(&rt, rt.alloc(), after)?;
-        before.advance();
-        assert!(rt; before == after);
-        assert_eq!(rt; before.length(), length);
-    }
-    assert!(rt; Grid::empty(rt.alloc()) == grid(&rt, rt.alloc(), &[])?);
-    Ok(())
+    let alloc = rt.alloc();
+    assert!(rt; Grid::empty(alloc) == grid(&rt, alloc, &[])?);
+    advance(&rt, alloc, &[], &[], 0)?;
+    advance(&rt, alloc, &[(9, 0), (9, 0)], &[], 0)?;
+    advance(&rt, alloc, &[(9, 1)], &[(9, 0)], 1)?;
+    advance(
+        &rt,
+        alloc,
+        &[(5, 0), (6, 1), (127, 255)],
+        &[(127, 254), (6, 0)],
+        255,
+    )?;
+    advance(&rt, alloc, &[(5, 4), (7, 0)], &[(5, 3)], 4)
 }
 
 #[test]
 fn rows_of_a_grid(rt: HostRuntime) -> Result<(), Fail> {
-    let pairs: &[(u8, u16)] = &[(127, 255), (0, 1), (64, 1)];
-    let cases: [(u16, &[u8]); 5] = [(0, &[]), (1, &[64, 0]), (2, &[]), (255, &[127]), (256, &[])];
-    let pairs = grid(&rt, rt.alloc(), pairs)?;
-    for (cycle, units) in cases {
-        assert_eq!(rt; pairs.row(cycle), row(&rt, units));
-    }
+    let pairs = grid(&rt, rt.alloc(), &[(127, 255), (0, 1), (64, 1)])?;
+    assert!(rt; pairs.row(0) == Row::empty());
+    assert!(rt; pairs.row(1) == row(&rt, &[64, 0]));
+    assert!(rt; pairs.row(2) == Row::empty());
+    assert!(rt; pairs.row(255) == row(&rt, &[127]));
+    assert!(rt; pairs.row(256) == Row::empty());
     Ok(())
+}
+
+// What the calls on two rows answer.
+fn compare(rt: &impl Abort, first: &[u8], second: &[u8], meets: bool, within: bool, union: &[u8]) {
+    let first = row(rt, first);
+    let second = row(rt, second);
+    assert!(rt; first.meets(second) == meets);
+    assert!(rt; first.within(second) == within);
+    assert!(rt; first.join(second) == row(rt, union));
 }
 
 #[test]
 fn rows_are_sets(rt: HostRuntime) {
-    let low = row(&rt, &[0, 5]);
-    let high = row(&rt, &[127]);
-    assert!(rt; low.holds(5) && !low.holds(4) && high.holds(127));
-    assert!(rt; !high.holds(128) && !high.holds(255));
-    assert!(rt; !low.meets(high) && low.meets(row(&rt, &[5, 6])));
-    assert!(rt; low.join(high) == row(&rt, &[127, 5, 0, 5]));
-    assert!(rt; low.within(low.join(high)) && !low.join(high).within(low));
-    assert!(rt; Row::empty().within(low) && !Row::empty().meets(low));
+    compare(&rt, &[], &[5], false, true, &[5]);
+    compare(&rt, &[5, 0, 5], &[127], false, false, &[127, 0, 5]);
+    compare(&rt, &[5], &[5, 6], true, true, &[6, 5]);
+    compare(&rt, &[5, 127], &[127], true, false, &[5, 127]);
+    let held = row(&rt, &[0, 127]);
+    for (unit, holds) in [
+        (0, true),
+        (1, false),
+        (127, true),
+        (128, false),
+        (255, false),
+    ] {
+        assert!(rt; held.holds(unit) == holds);
+    }
 }
