@@ -1,4 +1,4 @@
-use Rattle.std.specs.Prelude.{◌≡◌, ◌⊎◌, ℕ, ◌+◌, ◌≤◌, ◌<◌, ⊤, List, Option, Some, None, length, Result, Ok, Err, MatchResult, Bool, true, false}
+use Rattle.std.specs.Prelude.{◌≡◌, ◌⊎◌, ℕ, ◌+◌, ◌≤◌, ◌<◌, ⊤, List, Option, Some, None, length, Result, Ok, Err, MatchResult, MatchOption, Bool, true, false}
 use Rattle.std.specs.Option.{ForSome}
 use Rattle.std.specs.declared.alloc.Global.{Global}
 use Rattle.std.specs.declared.vec.Vec.{Vec}
@@ -104,3 +104,19 @@ is_no_memory _ = false
 abbrev pub Judges : List ℕ → List ℕ → List ℕ → List ℕ → ℕ → List ℕ → Type 0
 Judges description described trace traced =
     Describes description described (λ d. Traces d trace traced (λ events. Replays (machine_of d) events))
+
+-- a report of texts that were judged
+abbrev pub IsJudged : Report → Type 0
+IsJudged (Accepted issues cycles) = ⊤
+IsJudged (Refused line class) = ⊤
+IsJudged (NotBuilt file) = ⊤
+IsJudged Memory = ⊤
+IsJudged _ = ⊥
+
+-- the report is the usage line exactly where the words are no order
+abbrev pub ReportsWords : Option Order → Report → Type 0
+ReportsWords order report = MatchOption order (report ≡ Usage) (λ _. IsOfOrder report)
+
+-- a file word of the words, where they are an order
+abbrev pub IsFileWord : List (List ℕ) → List ℕ → Type 0
+IsFileWord words name = MatchOption (order_of words) ⊥ (λ order. IsFileOf order name)

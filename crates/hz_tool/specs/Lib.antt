@@ -1,4 +1,5 @@
 pub mod Decisions
+pub mod Endings
 pub mod Names
 pub mod Replay
 pub mod Reports

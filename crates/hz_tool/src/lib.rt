@@ -1,12 +1,14 @@
 //! The top call: words, files and phases, and the answer.
 #![tactic(auto)]
 
-mod judge;
+mod judging;
 mod names;
 mod read;
 mod replay;
 mod report;
-mod run;
+mod top;
 mod straight;
 mod trace;
 mod words;
+
+pub use top::run;

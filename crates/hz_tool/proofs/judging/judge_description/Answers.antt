@@ -4,7 +4,7 @@ use Rattle.hz_sexp.specs.Shape.{trees}
 use Rattle.hz_tool.specs.declared.straight.DescriptionFault.{DescriptionFault}
 use Rattle.hz_tool.specs.Straight.{Refuses}
 use Rattle.hz_tool.proofs.JudgeLemmas.{not_described, fault_described}
-use Rattle.hz_tool.proofs.judge.judge_description.Goals as goal
+use Rattle.hz_tool.proofs.judging.judge_description.Goals as goal
 
 pub returns-in-Err-NotBuilt-clause-err : goal.returns-in-Err-NotBuilt-clause-err
 returns-in-Err-NotBuilt-clause-err c =

@@ -4,7 +4,7 @@ ghost use Rattle.std.specs.Prelude.{◌≡◌, ◌^◌, ◌<◌, ◌≤◌, IfOk
 ghost use Rattle.hz_model.specs.Answers.{Replays};
 ghost use Rattle.hz_model.specs.Limits.{class_limit};
 ghost use Rattle.hz_model.specs.Straight as model;
-ghost use Rattle.hz_tool.specs.Decisions.{Agrees, IsJudgement, IsWithin, Judges, is_no_memory};
+ghost use Rattle.hz_tool.specs.Decisions.{Agrees, IsJudgement, IsJudged, IsWithin, Judges, is_no_memory};
 ghost use Rattle.hz_tool.specs.Replay.{IsOutcome};
 ghost use Rattle.hz_tool.specs.Names.{names_in};
 ghost use Rattle.hz_tool.specs.Straight.{Stands, IsTraceOf};
@@ -93,7 +93,8 @@ fn outcome_report<'a>(
     outcome: Outcome,
 ) -> Report<'a>
     requires { IsWithin (length events.now) (index_set_len names.now) outcome }
-    ensures { (of : model.Description) → names_in names.now.keys ≡ model.class_names of → IsOutcome (model.machine_of of) (events_in events.now) outcome → Agrees (Replays (model.machine_of of) (events_in events.now)) result }
+    ensures kind { IsJudged result }
+    ensures answer { (of : model.Description) → names_in names.now.keys ≡ model.class_names of → IsOutcome (model.machine_of of) (events_in events.now) outcome → Agrees (Replays (model.machine_of of) (events_in events.now)) result }
 {
     match outcome {
         Outcome::Accepted { issues, cycles } => Report::Accepted { issues, cycles },
@@ -110,7 +111,8 @@ fn outcome_report<'a>(
 /// The report of the replay of events.
 fn replay_report<'a>(alloc: Global, description: &Description, events: &[Event]) -> Report<'a>
     requires { IsTraceOf description.now (events_in events.now) }
-    ensures { (of : model.Description) → Stands description.now of → Agrees (Replays (model.machine_of of) (events_in events.now)) result }
+    ensures kind { IsJudged result }
+    ensures answer { (of : model.Description) → Stands description.now of → Agrees (Replays (model.machine_of of) (events_in events.now)) result }
 {
     match replay(alloc, description.grids.as_slice(), events) {
         Ok(outcome) => outcome_report(alloc, &description.names, events, outcome),
@@ -126,7 +128,8 @@ pub fn judge<'a>(
     trace: &[u8],
 ) -> Report<'a>
     requires { length description.now < 2 ^ 32 }
-    ensures { Agrees (Judges order.entry.description.now description.now order.entry.trace.now trace.now) result }
+    ensures kind { IsJudged result }
+    ensures answer { Agrees (Judges order.entry.description.now description.now order.entry.trace.now trace.now) result }
 {
     let described = match judge_description(alloc, order.description, description) {
         Ok(described) => described,

@@ -4,10 +4,10 @@ use Rattle.hz_tool.specs.Names.{names_in}
 use Rattle.hz_tool.specs.Replay.{IsOutcome}
 use Rattle.hz_tool.specs.Trace.{events_in}
 use Rattle.hz_tool.proofs.AnswerLemmas.{issue_named}
-use Rattle.hz_tool.proofs.judge.outcome_report.Goals as goal
+use Rattle.hz_tool.proofs.judging.outcome_report.Goals as goal
 
-pub returns-in-Ok : goal.returns-in-Ok
-returns-in-Ok c = λ of names is.
+pub returns-in-Ok-clause-answer : goal.returns-in-Ok-clause-answer
+returns-in-Ok-clause-answer c = λ of names is.
     let events = events_in c.args.events.now in
     let first = subst (λ o. IsOutcome (machine_of of) events o) c.in-Refused.is is in
     let there = subst (λ (ns : List (List ℕ)). slice_get ns c.in-Refused.class ≡ Some c.in-Ok.class.items) names c.in-Ok.ensures in

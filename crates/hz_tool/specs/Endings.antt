@@ -1,0 +1,39 @@
+use Rattle.std.specs.Prelude.{◌≡◌, ◌⊎◌, ◌↔◌, ℕ, ◌+◌, ◌<◌, List, ◌++◌, length, Option, Some, None}
+use Rattle.std.specs.Option.{ForSome}
+use Rattle.hz_model.specs.Answers.{Held, Answer}
+use Rattle.hz_model.specs.Texts.{usage_line, memory_line, file_line}
+use Rattle.hz_tool.specs.Decisions.{IsFileWord}
+
+-- the text was appended, where what is written is told
+abbrev pub IsAppended : Option (List ℕ) → Option (List ℕ) → List ℕ → Type 0
+IsAppended old new text = ForSome old (λ before. new ≡ Some (before ++ text))
+
+-- the line of a file word that could not be read
+pub record SaysFile (words : List (List ℕ)) (text : List ℕ) : Type 0 where
+  pub name : List ℕ
+  pub word : IsFileWord words name
+  pub line : text ≡ file_line name
+
+-- what status 6 appends
+pub record AppendsFile (words : List (List ℕ)) (old new : Option (List ℕ)) : Type 0 where
+  pub text : List ℕ
+  pub says : SaysFile words text
+  pub appended : IsAppended old new text
+
+-- memory ran out, or the status and what is appended are an answer
+abbrev pub Completes : List (List ℕ) → Held → ℕ → Option (List ℕ) → Option (List ℕ) → Type 0
+Completes words held status old new = (status ≡ 5) ⊎ ((text : List ℕ) × Answer words held status text × IsAppended old new text)
+
+-- a text that may be cut: an answer, the line `memory`, or where a file failed the line of a file word
+abbrev pub MayWrite : List (List ℕ) → Held → Type 0 → List ℕ → Type 0
+MayWrite words held failed text = ((status : ℕ) × Answer words held status text) ⊎ ((text ≡ memory_line) ⊎ (failed × SaysFile words text))
+
+-- a front of such a text was appended, which is longer than the room
+pub record IsCutShort (words : List (List ℕ)) (held : Held) (failed : Type 0) (old new : Option (List ℕ)) (room : Option ℕ) : Type 0 where
+  pub text : List ℕ
+  pub may : MayWrite words held failed text
+  pub front : List ℕ
+  pub back : List ℕ
+  pub parts : text ≡ front ++ back
+  pub appended : IsAppended old new front
+  pub longer : ForSome room (λ most. most < length text)

@@ -1,0 +1,87 @@
+//! The top call: the words, the files, the texts, and then the answer.
+
+ghost use Rattle.std.specs.Prelude.{◌≡◌, ◌⊎◌, ◌↔◌, ◌-◌, ◌^◌, ◌<◌, None};
+ghost use Rattle.std.specs.Option.{ForSome};
+ghost use Rattle.hz_model.specs.Answers.{Answer, AnswersReplay};
+ghost use Rattle.hz_model.specs.Texts.{usage_line, memory_line};
+ghost use Rattle.hz_model.specs.Words as model;
+ghost use Rattle.hz_tool.specs.Decisions.{Agrees, CountsReport, NamesFile, IsOfOrder, IsFileOf, IsFileWord, ReportsWords};
+ghost use Rattle.hz_tool.specs.Endings.{IsAppended, AppendsFile, Completes, IsCutShort};
+ghost use Rattle.hz_tool.specs.Words.{words_in};
+
+use super::judging::judge;
+use super::read::read_file;
+use super::report::Report;
+use super::words::{ReplayOrder, order_of};
+use hz_io::{Files, Sink};
+use std::alloc::Global;
+
+/// Bytes of a description, at most.
+const DESCRIPTION_LIMIT: u64 = 4_194_304;
+
+/// Bytes of a trace, at most.
+const TRACE_LIMIT: u64 = 67_108_864;
+
+/// The report of a replay: both files are read before either is judged.
+fn decide_replay<'a, F: Files>(
+    alloc: Global,
+    order: ReplayOrder<'a>,
+    files: &mut F,
+) -> Report<'a>
+    requires { F.faults files.old < 2 ^ 64 - 1 }
+    ensures counts { CountsReport (F.faults files.old) (F.faults files.new) result }
+    ensures order { IsOfOrder result }
+    ensures file { NamesFile (IsFileOf (model.replay order.entry.description.now order.entry.trace.now)) result }
+    ensures answer { ForSome (F.held files.old) (λ held. (F.faults files.new ≡ F.faults files.old) ⊎ F.steady files.old → Agrees (AnswersReplay held order.entry.description.now order.entry.trace.now) result) }
+{
+    let description = match read_file(alloc, files, order.description, DESCRIPTION_LIMIT) {
+        Ok(description) => description,
+        Err(report) => return report,
+    };
+    let trace = match read_file(alloc, files, order.trace, TRACE_LIMIT) {
+        Ok(trace) => trace,
+        Err(report) => return report,
+    };
+    judge(alloc, order, description.as_slice(), trace.as_slice())
+}
+
+/// The report of the words.
+fn decide<'a, F: Files>(alloc: Global, words: &'a [String], files: &mut F) -> Report<'a>
+    requires { F.faults files.old < 2 ^ 64 - 1 }
+    ensures counts { CountsReport (F.faults files.old) (F.faults files.new) result }
+    ensures words { ReportsWords (model.order_of (words_in words.entry.now)) result }
+    ensures file { NamesFile (IsFileWord (words_in words.entry.now)) result }
+    ensures answer { ForSome (F.held files.old) (λ held. (F.faults files.new ≡ F.faults files.old) ⊎ F.steady files.old → Agrees (Answer (words_in words.entry.now) held) result) }
+{
+    match order_of(words) {
+        Some(order) => decide_replay(alloc, order, files),
+        None => Report::Usage,
+    }
+}
+
+/// Answers to the words, which do not hold the program's own name: reads the files that they name, writes the text of
+/// the answer and gives its status. Statuses: 0 accepted, 1 refused, 2 fault, 3 limit, 4 words, 5 memory, 6 file, 7 sink.
+pub fn run<F: Files, S: Sink>(alloc: Global, words: &[String], files: &mut F, out: &mut S) -> u8
+    requires files { F.faults files.old < 2 ^ 64 - 1 }
+    requires out { S.faults out.old < 2 ^ 64 - 1 }
+
+    // When each status comes.
+    ensures sink { (result ≡ 7) ↔ (S.faults out.old < S.faults out.new) }
+    ensures file { (result ≡ 6) ↔ ((F.faults files.old < F.faults files.new) × (S.faults out.new ≡ S.faults out.old)) }
+    ensures words { F.faults files.new ≡ F.faults files.old → S.faults out.new ≡ S.faults out.old → ((result ≡ 4) ↔ (model.order_of (words_in words.now) ≡ None)) }
+
+    // What is written.
+    ensures usage { result ≡ 4 → IsAppended (S.written out.old) (S.written out.new) usage_line }
+    ensures memory { result ≡ 5 → IsAppended (S.written out.old) (S.written out.new) memory_line }
+    ensures file_line { result ≡ 6 → AppendsFile (words_in words.now) (S.written out.old) (S.written out.new) }
+
+    // Where the files tell what they hold, the status and the text are an answer, unless memory ran out.
+    ensures complete { ForSome (F.held files.old) (λ held. S.faults out.new ≡ S.faults out.old → (F.faults files.new ≡ F.faults files.old) ⊎ F.steady files.old → Completes (words_in words.now) held result (S.written out.old) (S.written out.new)) }
+    ensures cut { ForSome (F.held files.old) (λ held. result ≡ 7 → IsCutShort (words_in words.now) held (F.faults files.old < F.faults files.new) (S.written out.old) (S.written out.new) (S.room out.old)) }
+{
+    let report = decide(alloc, words, files);
+    match report.write(out) {
+        Ok(()) => report.status(),
+        Err(_) => 7,
+    }
+}
