@@ -8,3 +8,4 @@ pub mod TraceLemmas
 pub mod WritingLemmas
 pub mod JudgeLemmas
 pub mod AnswerLemmas
+pub mod RunLemmas

@@ -6,8 +6,8 @@ mod names;
 mod read;
 mod replay;
 mod report;
-mod top;
 mod straight;
+mod top;
 mod trace;
 mod words;
 

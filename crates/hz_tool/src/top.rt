@@ -23,11 +23,7 @@ const DESCRIPTION_LIMIT: u64 = 4_194_304;
 const TRACE_LIMIT: u64 = 67_108_864;
 
 /// The report of a replay: both files are read before either is judged.
-fn decide_replay<'a, F: Files>(
-    alloc: Global,
-    order: ReplayOrder<'a>,
-    files: &mut F,
-) -> Report<'a>
+fn decide_replay<'a, F: Files>(alloc: Global, order: ReplayOrder<'a>, files: &mut F) -> Report<'a>
     requires { F.faults files.old < 2 ^ 64 - 1 }
     ensures counts { CountsReport (F.faults files.old) (F.faults files.new) result }
     ensures order { IsOfOrder result }

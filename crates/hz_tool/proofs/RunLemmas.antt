@@ -1,0 +1,46 @@
+use Rattle.std.proofs.Common.{◌≡◌, ℕ, ◌+◌, ◌<◌, ◌≤◌, ◌⊎◌, inl, inr, Bool, true, false, List, length, Option, Some, None, nat_lt, MatchBool, MatchOption, refl, sym, ap, ◌∙◌, subst, arith}
+use Rattle.std.proofs.lemmas.Bool.{le-ltb}
+use Rattle.hz_model.specs.Answers.{Held, Next, Opens, Answer, AnswersReplay, Describes, Traces, Replays, Says}
+use Rattle.hz_model.specs.Limits.{description_limit, trace_limit}
+use Rattle.hz_model.specs.Straight.{machine_of}
+use Rattle.hz_model.specs.Texts.{memory_line, file_line, limit_line}
+use Rattle.hz_tool.specs.Decisions.{Agrees, Judges, CountsReport, NamesFile, IsFileWord}
+use Rattle.hz_tool.specs.Endings.{SaysFile, MayWrite}
+use Rattle.hz_tool.specs.Reports.{text_of, status_of}
+use Rattle.hz_tool.specs.declared.report.Report.{Report}
+use Rattle.hz_tool.specs.declared.report.Report.TheVariants.{Accepted, Refused, NotBuilt, Long, Usage, Memory, File}
+use Rattle.hz_tool.proofs.AnswerLemmas.{agrees_weaker}
+
+-- a file that is there and not too long leads on
+pub opens_found : (held : Held) (name : List ℕ) (most : ℕ) (bytes : List ℕ) (next : Next (List ℕ)) (s : ℕ) (t : List ℕ) → held name ≡ Some bytes → length bytes ≤ most → next bytes s t → Opens held name most next s t
+opens_found held name most bytes next s t found short h =
+    let fits = le-ltb most (length bytes) short in
+    subst (λ (o : Option (List ℕ)). MatchOption o (Says 6 (file_line name) s t) (λ bs. MatchBool (nat_lt most (length bs)) (Says 3 (limit_line name) s t) (next bs s t))) (sym found)
+    (subst (λ (b : Bool). MatchBool b (Says 3 (limit_line name) s t) (next bytes s t)) (sym fits) h)
+
+-- where both files are read, what both texts answer is the answer
+pub answers_replay : (held : Held) (description trace described traced : List ℕ) (report : Report) → held description ≡ Some described → length described ≤ description_limit → held trace ≡ Some traced → length traced ≤ trace_limit → Agrees (Judges description described trace traced) report → Agrees (AnswersReplay held description trace) report
+answers_replay held description trace described traced report found short found' short' h =
+    agrees_weaker (Judges description described trace traced) (AnswersReplay held description trace)
+    (λ s t j. opens_found held description description_limit described (λ bytes. Opens held trace trace_limit (λ others. Judges description bytes trace others)) s t found short (opens_found held trace trace_limit traced (λ bytes. Judges description described trace bytes) s t found' short' j))
+    report h
+
+-- status 6 is that of a file's line
+pub says_file : (words : List (List ℕ)) (report : Report) → status_of report ≡ 6 → NamesFile (IsFileWord words) report → SaysFile words (text_of report)
+says_file words (Accepted issues cycles) e h = absurd (omega arith)
+says_file words (Refused line class) e h = absurd (omega arith)
+says_file words (NotBuilt file) e h = absurd (omega arith)
+says_file words (Long file) e h = absurd (omega arith)
+says_file words Usage e h = absurd (omega arith)
+says_file words Memory e h = absurd (omega arith)
+says_file words (File file) e h = record { name = file.now; word = h; line = refl }
+
+-- the text of a report is one that may be written
+pub may_write : (words : List (List ℕ)) (held : Held) (old new : ℕ) (steady : Type 0) (report : Report) → CountsReport old new report → NamesFile (IsFileWord words) report → ((new ≡ old) ⊎ steady → Agrees (Answer words held) report) → MayWrite words held (old < new) (text_of report)
+may_write words held old new steady (Accepted issues cycles) same file answer = inl (0, answer (inl same))
+may_write words held old new steady (Refused line class) same file answer = inl (1, answer (inl same))
+may_write words held old new steady (NotBuilt name) same file answer = inl (2, answer (inl same))
+may_write words held old new steady (Long name) same file answer = inl (3, answer (inl same))
+may_write words held old new steady Usage same file answer = inl (4, answer (inl same))
+may_write words held old new steady Memory same file answer = inr (inl refl)
+may_write words held old new steady (File name) more file answer = inr (inr (omega arith, record { name = name.now; word = file; line = refl }))
