@@ -36,8 +36,11 @@ impl<'a, R: HostFiles> Files for RealFiles<'a, R> {
     ghost use Rattle.std.specs.Prelude.{None};
 
     ghost held = { λ _. None };
+
     ghost rest = { λ _. None };
+
     ghost steady = { λ _. ⊥ };
+
     ghost faults = { λ files. files.faults };
 
     fn open(&mut self, name: &str) -> Result<(), Failed> {
@@ -92,7 +95,9 @@ impl<'a, P: Print> Sink for RealSink<'a, P> {
     ghost use Rattle.std.specs.Prelude.{None};
 
     ghost written = { λ _. None };
+
     ghost room = { λ _. None };
+
     ghost faults = { λ sink. sink.faults };
 
     fn put(&mut self, bytes: &[u8]) -> Result<(), Failed> {

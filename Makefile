@@ -1,0 +1,35 @@
+# Builds, tries and installs hz. `rt` is the command of the Rattle toolchain.
+
+PREFIX ?= /usr/local
+SOURCES := crates.txt $(shell find crates -path '*/out' -prune -o \( -name '*.rt' -o -name '*.antt' \) -print)
+
+.PHONY: all test examples bench install clean
+
+all: bin/hz
+
+bin/hz: $(SOURCES)
+	@echo "hz: proving and building; the first time this takes some minutes"
+	@cd crates/hz && rt run -- replay ../../examples/divider/machine.md ../../examples/divider/spaced.trace
+	@mkdir -p bin
+	@cp crates/hz/out/hz bin/hz
+	@echo "hz: built bin/hz"
+
+# the whole gate
+test:
+	@rt ci
+
+# each example and each status of the program, against what is expected
+examples: bin/hz
+	@sh examples/check.sh bin/hz
+	@sh examples/statuses.sh bin/hz
+
+bench: bin/hz
+	@sh bench/replay/run.sh bin/hz
+
+install: bin/hz
+	@install -d "$(DESTDIR)$(PREFIX)/bin"
+	@install -m 755 bin/hz "$(DESTDIR)$(PREFIX)/bin/hz"
+	@echo "hz: installed $(DESTDIR)$(PREFIX)/bin/hz"
+
+clean:
+	@rm -rf bin bench/data

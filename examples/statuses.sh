@@ -1,0 +1,72 @@
+#!/bin/sh
+# Shows each status of the program on real files, and compares status and text.
+hz=$(cd "$(dirname "$1")" && pwd)/$(basename "$1")
+work=$(mktemp -d) || exit 2
+trap 'rm -rf "$work"' EXIT
+cd "$work" || exit 2
+bad=0
+
+# expect STATUS TEXT WORDS..: the program, given the words, ends so
+expect() {
+    want_status=$1
+    want_text=$2
+    shift 2
+    text=$("$hz" "$@" 2> errors)
+    status=$?
+    if [ "$status" = "$want_status" ] && [ "$text" = "$want_text" ] && [ ! -s errors ]; then
+        echo "status $status: hz $*: $text"
+    else
+        echo "hz $*: status $status, text '$text', wanted $want_status, '$want_text'"
+        bad=1
+    fi
+}
+
+usage='usage: hz replay DESC TRACE'
+printf '(define_cpu_unit "a")\n(define_insn_reservation "x" 1 (const_int 1) "nothing,a")\n' > d
+printf '(define_cpu_unit "a,b")\n(define_insn_reservation "x" 1 (const_int 1) "a|b")\n' > alternation
+printf 'issue x\nadvance 1\nissue x\n' > t
+printf 'issue x\nissue x\n' > twice
+printf 'issue z\n' > unknown
+: > empty
+mkdir folder
+head -c 4194304 /dev/zero | tr '\0' ' ' > longest
+head -c 4194305 /dev/zero | tr '\0' ' ' > long
+head -c 67108865 /dev/zero | tr '\0' '\n' > long_trace
+
+expect 0 'accepted 2 issues 1 cycles' replay d t
+expect 0 'accepted 0 issues 0 cycles' replay d empty
+expect 0 'accepted 0 issues 0 cycles' replay empty empty
+expect 0 'accepted 0 issues 0 cycles' replay longest empty
+expect 1 'refused line 2 x' replay d twice
+expect 2 'fault alternation NotBuilt' replay alternation t
+expect 2 'fault unknown NotBuilt' replay d unknown
+expect 2 'fault t NotBuilt' replay empty t
+expect 3 'limit long bytes' replay long t
+expect 3 'limit long bytes' replay long missing
+expect 3 'limit long_trace bytes' replay d long_trace
+expect 3 'limit long_trace bytes' replay alternation long_trace
+expect 4 "$usage"
+expect 4 "$usage" replay d
+expect 4 "$usage" replay d t more
+expect 4 "$usage" --help
+expect 4 "$usage" replay -d t
+expect 4 "$usage" replay d "$(printf '\377')"
+expect 6 'file missing could not be read' replay missing t
+expect 6 'file missing could not be read' replay d missing
+expect 6 'file folder could not be read' replay folder t
+expect 6 'file  could not be read' replay '' t
+if [ "$(id -u)" != 0 ]; then
+    : > closed
+    chmod 0 closed
+    expect 6 'file closed could not be read' replay d closed
+fi
+
+"$hz" replay d t >&- 2> errors
+status=$?
+if [ "$status" = 7 ] && [ ! -s errors ]; then echo "status 7: standard output closed"; else echo "closed output: status $status"; bad=1; fi
+if [ -e /dev/full ]; then
+    "$hz" replay d t > /dev/full 2> errors
+    status=$?
+    if [ "$status" = 7 ] && [ ! -s errors ]; then echo "status 7: standard output full"; else echo "full output: status $status"; bad=1; fi
+fi
+exit $bad
