@@ -9,3 +9,4 @@ pub mod WritingLemmas
 pub mod JudgeLemmas
 pub mod AnswerLemmas
 pub mod RunLemmas
+pub mod SingleLemmas

@@ -10,6 +10,7 @@ use Rattle.hz_tool.specs.Reports.{text_of, status_of}
 use Rattle.hz_tool.specs.declared.report.Report.{Report}
 use Rattle.hz_tool.specs.declared.report.Report.TheVariants.{Accepted, Refused, NotBuilt, Long, Usage, Memory, File}
 use Rattle.hz_tool.proofs.AnswerLemmas.{agrees_weaker}
+use Rattle.hz_tool.proofs.SingleLemmas.{answer_single}
 
 -- a file that is there and not too long leads on
 pub opens_found : (held : Held) (name : List ℕ) (most : ℕ) (bytes : List ℕ) (next : Next (List ℕ)) (s : ℕ) (t : List ℕ) → held name ≡ Some bytes → length bytes ≤ most → next bytes s t → Opens held name most next s t
@@ -44,3 +45,13 @@ may_write words held old new steady (Long name) same file answer = inl (3, answe
 may_write words held old new steady Usage same file answer = inl (4, answer (inl same))
 may_write words held old new steady Memory same file answer = inr (inl refl)
 may_write words held old new steady (File name) more file answer = inr (inr (omega arith, record { name = name.now; word = file; line = refl }))
+
+-- the status of a report that is an answer
+pub status_exact : (words : List (List ℕ)) (held : Held) (report : Report) → Agrees (Answer words held) report → (status : ℕ) (text : List ℕ) → Answer words held status text → (status_of report ≡ status) ⊎ (status_of report ≡ 5)
+status_exact words held (Accepted issues cycles) h status text a = inl (answer_single words held _ _ _ _ h a).0
+status_exact words held (Refused line class) h status text a = inl (answer_single words held _ _ _ _ h a).0
+status_exact words held (NotBuilt file) h status text a = inl (answer_single words held _ _ _ _ h a).0
+status_exact words held (Long file) h status text a = inl (answer_single words held _ _ _ _ h a).0
+status_exact words held Usage h status text a = inl (answer_single words held _ _ _ _ h a).0
+status_exact words held Memory h status text a = inr refl
+status_exact words held (File file) h status text a = inl (answer_single words held _ _ _ _ h a).0

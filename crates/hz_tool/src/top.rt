@@ -1,6 +1,6 @@
 //! The top call: the words, the files, the texts, and then the answer.
 
-ghost use Rattle.std.specs.Prelude.{◌≡◌, ◌⊎◌, ◌↔◌, ◌-◌, ◌^◌, ◌<◌, None};
+ghost use Rattle.std.specs.Prelude.{◌≡◌, ◌⊎◌, ◌↔◌, ℕ, List, ◌-◌, ◌^◌, ◌<◌, None};
 ghost use Rattle.std.specs.Option.{ForSome};
 ghost use Rattle.hz_model.specs.Answers.{Answer, AnswersReplay};
 ghost use Rattle.hz_model.specs.Texts.{usage_line, memory_line};
@@ -73,6 +73,7 @@ pub fn run<F: Files, S: Sink>(alloc: Global, words: &[String], files: &mut F, ou
 
     // Where the files tell what they hold, the status and the text are an answer, unless memory ran out.
     ensures complete { ForSome (F.held files.old) (λ held. S.faults out.new ≡ S.faults out.old → (F.faults files.new ≡ F.faults files.old) ⊎ F.steady files.old → Completes (words_in words.now) held result (S.written out.old) (S.written out.new)) }
+    ensures exact { ForSome (F.held files.old) (λ held. S.faults out.new ≡ S.faults out.old → (F.faults files.new ≡ F.faults files.old) ⊎ F.steady files.old → (status : ℕ) (text : List ℕ) → Answer (words_in words.now) held status text → (result ≡ status) ⊎ (result ≡ 5)) }
     ensures cut { ForSome (F.held files.old) (λ held. result ≡ 7 → IsCutShort (words_in words.now) held (F.faults files.old < F.faults files.new) (S.written out.old) (S.written out.new) (S.room out.old)) }
 {
     let report = decide(alloc, words, files);

@@ -1,5 +1,5 @@
-use Rattle.std.proofs.Common.{◌≡◌, sym, ◌∙◌}
-use Rattle.hz_tool.proofs.RunLemmas.{says_file, may_write}
+use Rattle.std.proofs.Common.{◌≡◌, ◌⊎◌, ℕ, sym, subst, ◌∙◌}
+use Rattle.hz_tool.proofs.RunLemmas.{says_file, may_write, status_exact}
 use Rattle.hz_tool.specs.Words.{words_in}
 use Rattle.hz_tool.proofs.top.run.Goals as goal
 
@@ -20,3 +20,7 @@ returns-clause-cut g c = λ held told seven. record {
   appended = c.in-Err.ensures.appended;
   longer = c.in-Err.ensures.exceeded;
 }
+
+pub returns-in-Ok-clause-exact : goal.returns-in-Ok-clause-exact
+returns-in-Ok-clause-exact g c = λ held told same which status text a.
+    subst (λ (n : ℕ). (n ≡ status) ⊎ (n ≡ 5)) (sym c.status.ensures) (status_exact (words_in c.args.words.now) held c.decide-report.result (c.decide-report.ensures.answer held told which) status text a)
