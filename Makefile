@@ -25,6 +25,7 @@ examples: bin/hz
 
 bench: bin/hz
 	@sh bench/replay/run.sh bin/hz
+	@sh bench/forms/run.sh bin/hz
 
 install: bin/hz
 	@install -d "$(DESTDIR)$(PREFIX)/bin"

@@ -1,0 +1,45 @@
+#!/bin/sh
+# Times the reading of descriptions of 1, 2 and 4 MB: real-looking forms, one atom, one string, comments, and open
+# brackets. The least of five runs of `hz replay` each, whatever it answers.
+hz=$1
+cd "$(dirname "$0")/../.." || exit 2
+data=bench/data
+mkdir -p "$data"
+: > "$data/empty"
+
+least() {
+    best=
+    for _ in 1 2 3 4 5; do
+        from=$(date +%s%N)
+        "$@" > /dev/null
+        to=$(date +%s%N)
+        time=$((to - from))
+        if [ -z "$best" ] || [ "$time" -lt "$best" ]; then best=$time; fi
+    done
+    echo "$best"
+}
+
+# make KIND BYTES: the text
+make_text() {
+    case $1 in
+        forms) awk 'BEGIN { for (i = 0; ; i++) printf "(define_insn_reservation \"class%d\" %d (eq_attr \"type\" \"int\")\n  \"(i0_pipeline | i1_pipeline), (port0 | port1)\") ; class %d\n", i, i % 9, i }' ;;
+        atom) awk 'BEGIN { for (;;) printf "abcdefghijklmnopqrstuvwxyz_0123456789" }' ;;
+        string) awk 'BEGIN { printf "\""; for (;;) printf "a name, another name\n" }' ;;
+        comments) awk 'BEGIN { for (;;) print "; a line comment\n/* and a\nlonger one */" }' ;;
+        brackets) awk 'BEGIN { for (;;) printf "((((((((((" }' ;;
+    esac | head -c "$2"
+}
+
+echo "kind bytes MB_a_second doubling"
+for kind in forms atom string comments brackets; do
+    before=
+    for mega in 1 2 4; do
+        bytes=$((mega * 1048576))
+        text=$data/${kind}_$mega
+        [ -f "$text" ] || make_text "$kind" "$bytes" > "$text"
+        time=$(least "$hz" replay "$text" "$data/empty")
+        awk -v k="$kind" -v b="$bytes" -v t="$time" -v p="${before:-0}" \
+            'BEGIN { printf "%s %d %.0f %s\n", k, b, b * 1000 / t, p ? sprintf("%.2f", t / p) : "-" }'
+        before=$time
+    done
+done
