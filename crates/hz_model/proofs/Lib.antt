@@ -1,4 +1,6 @@
+pub mod AcceptanceLaws
 pub mod Elements
+pub mod FitLaws
 pub mod LineLaws
 pub mod ReplayLaws
 pub mod FormsNext

@@ -1,4 +1,4 @@
-use Rattle.std.proofs.Common.{◌≡◌, ℕ, ◌+◌, ◌-◌, ◌*◌, ◌<◌, ◌≤◌, ◌==◌, Bool, true, false, cond, not, List, [], ◌∷◌, ◌++◌, length, take, drop, refl, sym, ap, suc, ◌∙◌, arith, zero-add, subst, Option, Some, None, nat_lt, ⊎_elim}
+use Rattle.std.proofs.Common.{◌≡◌, ℕ, ◌+◌, ◌-◌, ◌*◌, ◌<◌, ◌≤◌, ◌==◌, Bool, true, false, cond, not, List, [], ◌∷◌, ◌++◌, length, take, drop, refl, sym, ap, suc, ◌∙◌, arith, subst, Some, None, nat_lt, ⊎_elim}
 use Rattle.std.proofs.lemmas.Bool.{ltb-true, ltb-false, cases_Bool}
 use Rattle.std.proofs.lemmas.Option.{cond_some, none-some}
 use Rattle.std.specs.List.{onto_first, position, position_or_len, before_first, after_first, prefix_len}
@@ -12,12 +12,13 @@ pub lines_of_first : (xs : List ℕ) → position_or_len is_line_feed xs < lengt
 lines_of_first [] = λ h. absurd (omega arith)
 lines_of_first (b ∷ bs) =
     elim (b == 10) as (λ t. cond (not t) (1 + prefix_len (λ x. not (is_line_feed x)) bs) 0 < length (b ∷ bs) → cond t ([] ∷ lines_of bs) (onto_first b (lines_of bs)) ≡ take (cond (not t) (1 + prefix_len (λ x. not (is_line_feed x)) bs) 0) (b ∷ bs) ∷ lines_of (drop (cond (not t) (1 + prefix_len (λ x. not (is_line_feed x)) bs) 0 + 1) (b ∷ bs))) [
-      true ↦ λ h. refl
-    | false ↦ λ h.
-        let n : ℕ = prefix_len (λ x. not (is_line_feed x)) bs in
-        let one : 1 + n ≡ suc n = omega arith in
-        let two : 1 + n + 1 ≡ suc (n + 1) = omega arith in
-        rw (two, one) (ap (onto_first b) (lines_of_first bs (omega arith))) ]
+      | true ↦ λ h. refl
+      | false ↦ λ h.
+          let n : ℕ = prefix_len (λ x. not (is_line_feed x)) bs in
+          let one : 1 + n ≡ suc n = omega arith in
+          let two : 1 + n + 1 ≡ suc (n + 1) = omega arith in
+          rw (two, one) (ap (onto_first b) (lines_of_first bs (omega arith)))
+    ]
 
 -- a text with no line feed is one line, unless it is empty
 pub lines_of_last : (xs : List ℕ) → 0 < length xs → length xs ≤ position_or_len is_line_feed xs → lines_of xs ≡ xs ∷ []
@@ -26,8 +27,9 @@ lines_of_last (b ∷ []) =
     elim (b == 10) as (λ t. 0 < 1 → 1 ≤ cond (not t) (1 + 0) 0 → cond t ([] ∷ []) ((b ∷ []) ∷ []) ≡ (b ∷ []) ∷ []) [ true ↦ λ h k. absurd (omega arith) | false ↦ λ h k. refl ]
 lines_of_last (b ∷ c ∷ bs) =
     elim (b == 10) as (λ t. 0 < length (b ∷ c ∷ bs) → length (b ∷ c ∷ bs) ≤ cond (not t) (1 + prefix_len (λ x. not (is_line_feed x)) (c ∷ bs)) 0 → cond t ([] ∷ lines_of (c ∷ bs)) (onto_first b (lines_of (c ∷ bs))) ≡ (b ∷ c ∷ bs) ∷ []) [
-      true ↦ λ h k. absurd (omega arith)
-    | false ↦ λ h k. ap (onto_first b) (lines_of_last (c ∷ bs) (omega arith) (omega arith)) ]
+      | true ↦ λ h k. absurd (omega arith)
+      | false ↦ λ h k. ap (onto_first b) (lines_of_last (c ∷ bs) (omega arith) (omega arith))
+    ]
 
 -- one more digit
 pub number_from_more : (high : ℕ) (xs : List ℕ) (x : ℕ) → number_from high (xs ++ x ∷ []) ≡ number_from high xs * 10 + (x - 48)

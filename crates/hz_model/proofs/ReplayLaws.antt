@@ -1,4 +1,4 @@
-use Rattle.std.proofs.Common.{◌≡◌, ℕ, suc, zero, ◌+◌, ◌<◌, List, [], ◌∷◌, ◌++◌, length, drop, refl, sym, ap, ◌∙◌, subst, append_assoc, slice_index, arith, zero-add, add-zero}
+use Rattle.std.proofs.Common.{◌≡◌, ℕ, suc, ◌+◌, ◌<◌, List, [], ◌∷◌, ◌++◌, length, drop, refl, sym, ap, ◌∙◌, subst, append_assoc, slice_index, arith, zero-add, add-zero}
 use Rattle.std.proofs.lemmas.List.{append-nil, drop_more, length-append}
 use Rattle.hz_model.specs.Pairs.{Pair, placed}
 use Rattle.hz_model.specs.Replay.{Machine, Event, issue, advance, State, Step, Run, Runs, MayTake, IsChoice, Accepted, start, calendar, chosen, left_by, issues_of, cycles_of}
@@ -74,7 +74,7 @@ run_through m t choices is done (issue k ∷ todo) all run =
     let within : issues_of done < length choices = omega (arith, is.each, ap issues_of all, issues_of-append done (issue k ∷ todo)) in
     run_through m t choices is (done ++ issue k ∷ []) todo (all ∙ sym (append_assoc done (issue k ∷ []) todo))
     (run_more m start (left_by m done choices) (left_by m (done ++ issue k ∷ []) choices) done (issue k) run
-     (slice_index choices (issues_of done), is.may done todo k all, left_by_issue m done k choices within))
+    (slice_index choices (issues_of done), is.may done todo k all, left_by_issue m done k choices within))
 
 -- what choices leave from a state on
 abbrev left_from : {U : Type 0} → Machine U → State U → List Event → List ℕ → State U
@@ -150,8 +150,11 @@ runs_from_accepted m t (choices, is) = (left_by m t choices, run_through m t cho
 
 pub accepted_from_runs : {U : Type 0} (m : Machine U) (t : List Event) → Runs m t → Accepted m t
 accepted_from_runs {U} m t (new, run) =
-    let found = choices_of m start new t run in
-    (found.0, record {
-      each = found.1.each;
-      may = λ before after k e.
-          subst (λ (c : ℕ). MayTake m (record { reserved = calendar m 0 before found.0; now = c }) k (slice_index found.0 (issues_of before))) (add-zero (cycles_of before)) (found.1.may before after k e) })
+    let found = choices_of m start new t run in (
+      found.0,
+      record {
+        each = found.1.each;
+        may = λ before after k e.
+            subst (λ (c : ℕ). MayTake m (record { reserved = calendar m 0 before found.0; now = c }) k (slice_index found.0 (issues_of before))) (add-zero (cycles_of before)) (found.1.may before after k e);
+      },
+    )
