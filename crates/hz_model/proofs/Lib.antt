@@ -1,6 +1,8 @@
 pub mod AcceptanceLaws
 pub mod Elements
+pub mod ExpressionLaws
 pub mod FitLaws
+pub mod MeaningLaws
 pub mod LineLaws
 pub mod ReplayLaws
 pub mod FormsNext

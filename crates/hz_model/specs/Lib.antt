@@ -5,6 +5,8 @@ pub mod Trees
 pub mod FormFronts
 pub mod Forms
 pub mod Alternatives
+pub mod Expressions
+pub mod Meanings
 pub mod Sets
 pub mod Replay
 pub mod Lines

@@ -2,4 +2,5 @@
 #![tactic(auto)]
 
 pub mod acceptance;
+pub mod expressions;
 pub mod forms;

@@ -1,0 +1,50 @@
+-- What the names of a description stand for, and which alternatives they have. GCC Internals, 'Specifying processor
+-- pipeline description', on `define_cpu_unit` and `define_reservation`.
+use Rattle.std.specs.Prelude.{◌≡◌, ℕ, ◌<◌, ◌⊎◌, List, [], ◌∷◌, Option, Some, None, IsTrue, IsSome}
+use Rattle.hz_model.specs.Expressions.{is_expression}
+use Rattle.hz_model.specs.Alternatives.{Alternative, Expression, named, nothing, sequence, one_of, all_of, repeat, Parts, none, more, alternatives_of, taking}
+
+-- a unit, or a reservation with its expression
+pub data Meaning (U : Type 0) : Type 0 where
+  unit : (unit : U) → Meaning U
+  reservation : (expression : Expression) → Meaning U
+
+-- the alternatives of what a name stands for, where the names in expressions have those of `known`; a name that stands
+-- for nothing has none
+abbrev pub alternatives_of_meaning : {U : Type 0} → (List ℕ → List (Alternative U)) → Option (Meaning U) → List (Alternative U)
+alternatives_of_meaning known None = []
+alternatives_of_meaning known (Some (unit u)) = taking u ∷ []
+alternatives_of_meaning known (Some (reservation expression)) = alternatives_of known expression
+
+-- An assignment of alternatives to names is right: a unit has its one alternative, a reservation those of its expression.
+abbrev pub Expands : {U : Type 0} → (List ℕ → Option (Meaning U)) → (List ℕ → List (Alternative U)) → Type 0
+Expands defined known = (name : List ℕ) → known name ≡ alternatives_of_meaning known (defined name)
+
+-- the name stands somewhere in the expression
+abbrev mutual
+  pub Names : Expression → List ℕ → Type 0
+  Names (named other) name = other ≡ name
+  Names nothing name = ⊥
+  Names (sequence parts) name = NamesIn parts name
+  Names (one_of parts) name = NamesIn parts name
+  Names (all_of parts) name = NamesIn parts name
+  Names (repeat part times) name = Names part name
+
+  pub NamesIn : Parts → List ℕ → Type 0
+  NamesIn none name = ⊥
+  NamesIn (more first others) name = Names first name ⊎ NamesIn others name
+
+-- A reservation leads to each name in its expression, and to where these lead.
+pub data Reaches {U : Type 0} (defined : List ℕ → Option (Meaning U)) : (from to : List ℕ) → Type 0 where
+  names : {from to : List ℕ} {expression : Expression} → defined from ≡ Some (reservation expression) → Names expression to → Reaches defined from to
+  through : {from middle to : List ℕ} → Reaches defined from middle → Reaches defined middle to → Reaches defined from to
+
+-- No reservation reaches itself: some rank of names falls from each reservation to the names in its expression.
+pub record Unwinds {U : Type 0} (defined : List ℕ → Option (Meaning U)) : Type 0 where
+  pub rank : List ℕ → ℕ
+  pub falls : (name other : List ℕ) (expression : Expression) → defined name ≡ Some (reservation expression) → Names expression other → rank other < rank name
+
+-- every expression can be written, and the names in it stand for something
+pub record AreWritten {U : Type 0} (defined : List ℕ → Option (Meaning U)) : Type 0 where
+  pub expressions : (name : List ℕ) (expression : Expression) → defined name ≡ Some (reservation expression) → IsTrue (is_expression expression)
+  pub names : (name other : List ℕ) (expression : Expression) → defined name ≡ Some (reservation expression) → Names expression other → IsSome (defined other)
