@@ -5,6 +5,8 @@ pub mod FitLaws
 pub mod MeaningLaws
 pub mod LineLaws
 pub mod ReplayLaws
+pub mod PlayLaws
+pub mod Rows
 pub mod FormsNext
 pub mod FormsLaws
 pub mod FormsFront

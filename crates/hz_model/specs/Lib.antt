@@ -9,8 +9,10 @@ pub mod Expressions
 pub mod Meanings
 pub mod Sets
 pub mod Replay
+pub mod Plays
 pub mod Lines
 pub mod Straight
+pub mod Examples
 pub mod Texts
 pub mod Words
 pub mod Answers

@@ -1,6 +1,8 @@
 //! Laws of acceptance, for both treatments and any units.
 
-ghost use Rattle.std.specs.Prelude.{◌≡◌, ℕ, ◌+◌, ◌↔◌, List, ◌∷◌, ◌++◌, take, Some, slice_get};
+ghost use Rattle.std.specs.Prelude.{◌≡◌, ℕ, ◌+◌, ◌↔◌, ◌⊎◌, Bool, Contains, List, ◌∷◌, ◌++◌, take, Some, slice_get};
+ghost use Rattle.std.specs.Bool.{Decides};
+ghost use Rattle.hz_model.specs.Plays.{Tells, plays, accepts};
 ghost use Rattle.hz_model.specs.Replay.{Machine, Event, issue, advance, State, Run, Runs, Accepted, FirstRefused};
 
 /// Where a list of events is accepted, each of its prefixes is.
@@ -31,4 +33,12 @@ pub fn only_differences_of_cycles_count<U>()
 /// Acceptance by choices is acceptance by runs.
 pub fn accepted_where_a_run_is<U>()
     ensures { (m : Machine U) (t : List Event) → Accepted m t ↔ Runs m t }
+{}
+
+/// Where a test tells units apart, the states that events can leave are computed, acceptance is decided, and what is not
+/// accepted has a first refused event.
+pub fn acceptance_is_computed<U>()
+    ensures states { (same : U → U → Bool) → Tells same → (m : Machine U) (t : List Event) (old new : State U) → Contains (plays same m old t) new ↔ Run m old t new }
+    ensures decided { (same : U → U → Bool) → Tells same → (m : Machine U) (t : List Event) → Decides (accepts same m t) (Accepted m t) }
+    ensures each { (same : U → U → Bool) → Tells same → (m : Machine U) (t : List Event) → Accepted m t ⊎ ((i : ℕ) × FirstRefused m t i) }
 {}

@@ -2,5 +2,6 @@
 #![tactic(auto)]
 
 pub mod acceptance;
+pub mod examples;
 pub mod expressions;
 pub mod forms;
