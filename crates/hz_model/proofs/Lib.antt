@@ -7,6 +7,8 @@ pub mod LineLaws
 pub mod ReplayLaws
 pub mod PlayLaws
 pub mod Rows
+pub mod TraceLaws
+pub mod StraightLaws
 pub mod FormsNext
 pub mod FormsLaws
 pub mod FormsFront

@@ -12,6 +12,7 @@ pub mod Replay
 pub mod Plays
 pub mod Lines
 pub mod Straight
+pub mod Traces
 pub mod Examples
 pub mod Texts
 pub mod Words

@@ -5,3 +5,4 @@ pub mod acceptance;
 pub mod examples;
 pub mod expressions;
 pub mod forms;
+pub mod traces;
