@@ -1,5 +1,5 @@
 -- Acceptance: prefixes, advances, and the first refused event.
-use Rattle.std.proofs.Common.{◌≡◌, ℕ, ◌+◌, ◌<◌, ◌≤◌, List, [], ◌∷◌, ◌++◌, take, drop, get_or, refl, sym, ap, ◌∙◌, subst, arith, ⊎_elim, Some}
+use Rattle.std.proofs.Common.{◌≡◌, ℕ, ◌+◌, ◌<◌, ◌≤◌, List, [], ◌∷◌, ◌++◌, take, drop, get_or, refl, sym, ap, ◌∙◌, subst, arith, suc, add-one, ⊎_elim, Some}
 use Rattle.std.specs.Prelude.{◌↔◌, slice_get}
 use Rattle.std.proofs.lemmas.Bool.{cases_order}
 use Rattle.std.proofs.lemmas.List.{map-append, take_more, take-append-drop, take-take}
@@ -125,3 +125,21 @@ module _ {U : Type 0} (m : Machine U) where
 
   pub accepted_or_refused : (t : List Event) (i : ℕ) → Accepted m t → FirstRefused m t i → ⊥
   accepted_or_refused t i h k = k.refused (prefix_accepted (take (i + 1) t) (drop (i + 1) t) (subst (Accepted m) (sym (take-append-drop (i + 1) t)) h))
+
+  -- the first refused event moves with the events
+  pub moved_refused : (n : ℕ) (t : List Event) (i : ℕ) → FirstRefused m (advance n ∷ t) (i + 1) ↔ FirstRefused m t i
+  moved_refused n t i = rw add-one (down, up)
+    where
+      down : FirstRefused m (advance n ∷ t) (suc i) → FirstRefused m t i
+      down h = record {
+        within = omega (arith, h.within);
+        before = (moved_accepted n (take i t)).0 h.before;
+        refused = λ k. h.refused (rw add-one ((moved_accepted n (take (suc i) t)).1 (rw add-one at k)));
+      }
+
+      up : FirstRefused m t i → FirstRefused m (advance n ∷ t) (suc i)
+      up h = record {
+        within = omega (arith, h.within);
+        before = (moved_accepted n (take i t)).1 h.before;
+        refused = λ k. h.refused (rw add-one ((moved_accepted n (take (suc i) t)).0 (rw add-one at k)));
+      }

@@ -1,8 +1,8 @@
 -- Repeats as sequences, and how many alternatives expressions have.
-use Rattle.std.proofs.Common.{◌≡◌, ℕ, zero, suc, ◌*◌, ◌^◌, ◌<◌, List, [], ◌∷◌, map, length, refl, sym, ap, ◌∙◌, arith, length-append, inl, inr}
+use Rattle.std.proofs.Common.{◌≡◌, ℕ, zero, suc, ◌+◌, ◌*◌, ◌^◌, ◌<◌, List, [], ◌∷◌, map, length, get_or, refl, sym, ap, ◌∙◌, arith, length-append, inl, inr}
 use Rattle.std.specs.Prelude.{IsTrue, ◌&&◌, nat_le}
 use Rattle.std.proofs.lemmas.Bool.{and_parts}
-use Rattle.std.proofs.lemmas.List.{length-map}
+use Rattle.std.proofs.lemmas.List.{length-map, get_or-map, get_or_append_left, get_or-append-add}
 use Rattle.hz_model.specs.Alternatives.{Alternative, Expression, named, nothing, sequence, one_of, all_of, repeat, Parts, none, more, alternatives_of, in_sequence, any_of, together, each_choice, followed_by, beside, copies}
 use Rattle.std.proofs.Math.Nat.{pow-succ', pow-zero, mul-pos}
 use Rattle.hz_model.specs.Meanings.{Names, NamesIn}
@@ -11,6 +11,17 @@ use Rattle.hz_model.specs.Expressions.{how_many, is_expression, are_expressions,
 pub length-each_choice : {A : Type 0} (join : A → A → A) (xs ys : List A) → length (each_choice join xs ys) ≡ length xs * length ys
 length-each_choice join [] ys = omega arith
 length-each_choice join (x ∷ xs) ys = omega (arith, length-append (map (join x) ys) (each_choice join xs ys), length-map ys (join x), length-each_choice join xs ys)
+
+-- the choice of item i and item j stands behind those of all items before i, and of all before j with i
+pub ordered_choices : {A : Type 0} (join : A → A → A) (xs ys : List A) (i j : ℕ) (d : A) → i < length xs → j < length ys → get_or (each_choice join xs ys) (i * length ys + j) d ≡ join (get_or xs i d) (get_or ys j d)
+ordered_choices join [] ys i j d h k = absurd (omega arith)
+ordered_choices join (x ∷ xs) ys zero j d h k =
+    let long = length-map ys (join x) in
+    let at : 0 * length ys + j ≡ j = omega arith in
+    rw at (get_or_append_left (map (join x) ys) (each_choice join xs ys) d j (omega arith) ∙ get_or-map (join x) ys j d d k)
+ordered_choices join (x ∷ xs) ys (suc i) j d h k =
+    let at : suc i * length ys + j ≡ length (map (join x) ys) + (i * length ys + j) = omega (arith, length-map ys (join x)) in
+    rw at (get_or-append-add (map (join x) ys) (each_choice join xs ys) (i * length ys + j) d ∙ ordered_choices join xs ys i j d (omega arith) k)
 
 positive_product : (a b : ℕ) → 0 < a → 0 < b → 0 < a * b
 positive_product a b h k = mul-pos h k

@@ -1,4 +1,5 @@
 pub mod AcceptanceLaws
+pub mod ChoiceLaws
 pub mod Elements
 pub mod ExpressionLaws
 pub mod FitLaws

@@ -3,7 +3,7 @@
 ghost use Rattle.std.specs.Prelude.{◌≡◌, ℕ, ◌+◌, ◌↔◌, ◌⊎◌, Bool, Contains, List, ◌∷◌, ◌++◌, take, Some, slice_get};
 ghost use Rattle.std.specs.Bool.{Decides};
 ghost use Rattle.hz_model.specs.Plays.{Tells, plays, accepts};
-ghost use Rattle.hz_model.specs.Replay.{Machine, Event, issue, advance, State, Run, Runs, Accepted, FirstRefused};
+ghost use Rattle.hz_model.specs.Replay.{Machine, Event, issue, advance, State, Run, Runs, first_fit, IsChoice, Accepted, FirstRefused};
 
 /// Where a list of events is accepted, each of its prefixes is.
 pub fn prefixes_are_accepted<U>()
@@ -27,7 +27,8 @@ pub fn advances_add_up<U>()
 
 /// Events that are all moved by n cycles are accepted as before: only differences of cycles count.
 pub fn only_differences_of_cycles_count<U>()
-    ensures { (m : Machine U) (n : ℕ) (t : List Event) → Accepted m (advance n ∷ t) ↔ Accepted m t }
+    ensures acceptance { (m : Machine U) (n : ℕ) (t : List Event) → Accepted m (advance n ∷ t) ↔ Accepted m t }
+    ensures refused { (m : Machine U) (n : ℕ) (t : List Event) (i : ℕ) → FirstRefused m (advance n ∷ t) (i + 1) ↔ FirstRefused m t i }
 {}
 
 /// Acceptance by choices is acceptance by runs.
@@ -41,4 +42,9 @@ pub fn acceptance_is_computed<U>()
     ensures states { (same : U → U → Bool) → Tells same → (m : Machine U) (t : List Event) (old new : State U) → Contains (plays same m old t) new ↔ Run m old t new }
     ensures decided { (same : U → U → Bool) → Tells same → (m : Machine U) (t : List Event) → Decides (accepts same m t) (Accepted m t) }
     ensures each { (same : U → U → Bool) → Tells same → (m : Machine U) (t : List Event) → Accepted m t ⊎ ((i : ℕ) × FirstRefused m t i) }
+{}
+
+/// In the first treatment at most one list of choices accepts a list of events.
+pub fn one_choice_in_the_first_treatment<U>()
+    ensures { (m : Machine U) → m.treatment ≡ first_fit → (t : List Event) (p q : List ℕ) → IsChoice m t p → IsChoice m t q → p ≡ q }
 {}

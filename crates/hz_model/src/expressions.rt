@@ -1,7 +1,7 @@
 //! Laws of expressions, of their alternatives and of the names in them, for any units.
 
-ghost use Rattle.std.specs.Prelude.{◌≡◌, ℕ, ◌<◌, ◌^◌, List, length, Option, IsTrue, IsSome};
-ghost use Rattle.hz_model.specs.Alternatives.{Alternative, Expression, Parts, sequence, one_of, all_of, repeat as repeat_of, alternatives_of};
+ghost use Rattle.std.specs.Prelude.{◌≡◌, ℕ, ◌+◌, ◌*◌, ◌<◌, ◌^◌, slice_index_or, List, length, Option, IsTrue, IsSome};
+ghost use Rattle.hz_model.specs.Alternatives.{Alternative, Expression, Parts, sequence, one_of, all_of, repeat as repeat_of, alternatives_of, each_choice};
 ghost use Rattle.hz_model.specs.Expressions.{is_expression, repeated, product_of_counts, sum_of_counts};
 ghost use Rattle.hz_model.specs.Meanings.{Meaning, Expands, Names, Reaches, Unwinds, AreWritten};
 
@@ -17,6 +17,11 @@ pub fn counts_of_alternatives<U>()
     ensures together { (known : List ℕ → List (Alternative U)) (parts : Parts) → length (alternatives_of known (all_of parts)) ≡ product_of_counts known parts }
     ensures any { (known : List ℕ → List (Alternative U)) (parts : Parts) → length (alternatives_of known (one_of parts)) ≡ sum_of_counts known parts }
     ensures repeats { (known : List ℕ → List (Alternative U)) (part : Expression) (n : ℕ) → length (alternatives_of known (repeat_of part n)) ≡ length (alternatives_of known part) ^ n }
+{}
+
+/// Choices are ordered with the leftmost part most significant.
+pub fn choices_are_ordered<A>()
+    ensures { (join : A → A → A) (xs ys : List A) (i j : ℕ) (d : A) → i < length xs → j < length ys → slice_index_or (each_choice join xs ys) (i * length ys + j) d ≡ join (slice_index_or xs i d) (slice_index_or ys j d) }
 {}
 
 /// An expression that can be written has alternatives where the names in it have some; and so has every name of a
