@@ -5,7 +5,7 @@ use Rattle.std.proofs.lemmas.Bool.{and_parts}
 use Rattle.std.proofs.lemmas.List.{length-map, get_or-map, get_or_append_left, get_or-append-add}
 use Rattle.hz_model.specs.Alternatives.{Alternative, Expression, named, nothing, sequence, one_of, all_of, repeat, Parts, none, more, alternatives_of, in_sequence, any_of, together, each_choice, followed_by, beside, copies}
 use Rattle.std.proofs.Math.Nat.{pow-succ', pow-zero, mul-pos}
-use Rattle.hz_model.specs.Meanings.{Names, NamesIn}
+use Rattle.hz_model.specs.Meanings.{Mentions, MentionsIn}
 use Rattle.hz_model.specs.Expressions.{how_many, is_expression, are_expressions, repeated, product_of_counts, sum_of_counts}
 
 pub length-each_choice : {A : Type 0} (join : A → A → A) (xs ys : List A) → length (each_choice join xs ys) ≡ length xs * length ys
@@ -62,7 +62,7 @@ module _ {U : Type 0} (known : List ℕ → List (Alternative U)) where
       omega (arith, length-each_choice followed_by xs (copies n xs))
 
   mutual
-    pub some_alternatives : (e : Expression) → IsTrue (is_expression e) → HaveSome (Names e) → 0 < length (alternatives_of known e)
+    pub some_alternatives : (e : Expression) → IsTrue (is_expression e) → HaveSome (Mentions e) → 0 < length (alternatives_of known e)
     some_alternatives (named name) is have = have name refl
     some_alternatives nothing is have = omega arith
     some_alternatives (sequence parts) is have = some_sequence parts (and_parts _ _ is).1 have
@@ -73,14 +73,14 @@ module _ {U : Type 0} (known : List ℕ → List (Alternative U)) where
     some_alternatives (all_of parts) is have = some_together parts (and_parts _ _ is).1 have
     some_alternatives (repeat part times) is have = some_copies times (alternatives_of known part) (some_alternatives part (and_parts _ _ is).1 have)
 
-    some_sequence : (parts : Parts) → IsTrue (are_expressions parts) → HaveSome (NamesIn parts) → 0 < length (in_sequence known parts)
+    some_sequence : (parts : Parts) → IsTrue (are_expressions parts) → HaveSome (MentionsIn parts) → 0 < length (in_sequence known parts)
     some_sequence none is have = omega arith
     some_sequence (more first others) is have =
         let each = and_parts _ _ is in
         let product = positive_product _ _ (some_alternatives first each.0 (λ name h. have name (inl h))) (some_sequence others each.1 (λ name h. have name (inr h))) in
         omega (arith, length-each_choice followed_by (alternatives_of known first) (in_sequence known others))
 
-    some_together : (parts : Parts) → IsTrue (are_expressions parts) → HaveSome (NamesIn parts) → 0 < length (together known parts)
+    some_together : (parts : Parts) → IsTrue (are_expressions parts) → HaveSome (MentionsIn parts) → 0 < length (together known parts)
     some_together none is have = omega arith
     some_together (more first others) is have =
         let each = and_parts _ _ is in

@@ -2,7 +2,7 @@
 use Rattle.std.proofs.Common.{◌≡◌, ℕ, zero, suc, ◌<◌, inl, inr, List, [], ◌++◌, length, refl, sym, ap, ◌∙◌, arith, Option, Some, None}
 use Rattle.std.specs.Prelude.{IsSome}
 use Rattle.hz_model.specs.Alternatives.{Alternative, Expression, named, nothing, sequence, one_of, all_of, repeat, Parts, none, more, alternatives_of, in_sequence, any_of, together, each_choice, followed_by, beside, copies}
-use Rattle.hz_model.specs.Meanings.{Meaning, unit, reservation, alternatives_of_meaning, Expands, Names, NamesIn, Reaches, Unwinds, AreWritten}
+use Rattle.hz_model.specs.Meanings.{Meaning, unit, reservation, alternatives_of_meaning, Expands, Mentions, MentionsIn, Reaches, Unwinds, IsClosed}
 use Rattle.hz_model.proofs.ExpressionLaws.{some_alternatives}
 
 module _ {U : Type 0} where
@@ -15,7 +15,7 @@ module _ {U : Type 0} where
 
   -- an expression's alternatives depend on its names alone
   mutual
-    pub alternatives_same : (known other : List ℕ → List (Alternative U)) (e : Expression) → Agree known other (Names e) → alternatives_of known e ≡ alternatives_of other e
+    pub alternatives_same : (known other : List ℕ → List (Alternative U)) (e : Expression) → Agree known other (Mentions e) → alternatives_of known e ≡ alternatives_of other e
     alternatives_same known other (named name) agree = agree name refl
     alternatives_same known other nothing agree = refl
     alternatives_same known other (sequence parts) agree = sequence_same known other parts agree
@@ -23,17 +23,17 @@ module _ {U : Type 0} where
     alternatives_same known other (all_of parts) agree = together_same known other parts agree
     alternatives_same known other (repeat part times) agree = ap (copies times) (alternatives_same known other part agree)
 
-    sequence_same : (known other : List ℕ → List (Alternative U)) (parts : Parts) → Agree known other (NamesIn parts) → in_sequence known parts ≡ in_sequence other parts
+    sequence_same : (known other : List ℕ → List (Alternative U)) (parts : Parts) → Agree known other (MentionsIn parts) → in_sequence known parts ≡ in_sequence other parts
     sequence_same known other none agree = refl
     sequence_same known other (more first others) agree = join_same followed_by _ _ _ _ (alternatives_same known other first (λ name h. agree name (inl h))) (sequence_same known other others (λ name h. agree name (inr h)))
 
-    any_same : (known other : List ℕ → List (Alternative U)) (parts : Parts) → Agree known other (NamesIn parts) → any_of known parts ≡ any_of other parts
+    any_same : (known other : List ℕ → List (Alternative U)) (parts : Parts) → Agree known other (MentionsIn parts) → any_of known parts ≡ any_of other parts
     any_same known other none agree = refl
     any_same known other (more first others) agree =
         ap (λ (zs : List (Alternative U)). zs ++ any_of known others) (alternatives_same known other first (λ name h. agree name (inl h)))
         ∙ ap (λ (zs : List (Alternative U)). alternatives_of other first ++ zs) (any_same known other others (λ name h. agree name (inr h)))
 
-    together_same : (known other : List ℕ → List (Alternative U)) (parts : Parts) → Agree known other (NamesIn parts) → together known parts ≡ together other parts
+    together_same : (known other : List ℕ → List (Alternative U)) (parts : Parts) → Agree known other (MentionsIn parts) → together known parts ≡ together other parts
     together_same known other none agree = refl
     together_same known other (more first others) agree = join_same beside _ _ _ _ (alternatives_same known other first (λ name h. agree name (inl h))) (together_same known other others (λ name h. agree name (inr h)))
 
@@ -76,7 +76,7 @@ module _ {U : Type 0} where
     one_assignment known other a b name = one_below (suc (rank name)) known other a b name (omega arith)
 
     reach_falls : (from to : List ℕ) → Reaches defined from to → rank to < rank from
-    reach_falls from to (Reaches.names {expression = e} is h) = unwinds.falls from to e is h
+    reach_falls from to (Reaches.mentions {expression = e} is h) = unwinds.falls from to e is h
     reach_falls from to (Reaches.through {middle = middle} first second) =
         let a = reach_falls from middle first in
         let b = reach_falls middle to second in omega arith
@@ -85,7 +85,7 @@ module _ {U : Type 0} where
     none_reaches_itself name h = let low = reach_falls name name h in absurd (omega arith)
 
     -- names that stand for something have alternatives, where expressions can be written and use such names alone
-    pub some_assigned : (known : List ℕ → List (Alternative U)) → Expands defined known → AreWritten defined → (n : ℕ) (name : List ℕ) → rank name < n → IsSome (defined name) → 0 < length (known name)
+    pub some_assigned : (known : List ℕ → List (Alternative U)) → Expands defined known → IsClosed defined → (n : ℕ) (name : List ℕ) → rank name < n → IsSome (defined name) → 0 < length (known name)
     some_assigned known right written zero name low is = absurd (omega arith)
     some_assigned known right written (suc n) name low is = by_meaning (λ used below there. some_assigned known right written n used below there) (defined name) refl is
       where

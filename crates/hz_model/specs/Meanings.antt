@@ -22,29 +22,29 @@ Expands defined known = (name : List ℕ) → known name ≡ alternatives_of_mea
 
 -- the name stands somewhere in the expression
 abbrev mutual
-  pub Names : Expression → List ℕ → Type 0
-  Names (named other) name = other ≡ name
-  Names nothing name = ⊥
-  Names (sequence parts) name = NamesIn parts name
-  Names (one_of parts) name = NamesIn parts name
-  Names (all_of parts) name = NamesIn parts name
-  Names (repeat part times) name = Names part name
+  pub Mentions : Expression → List ℕ → Type 0
+  Mentions (named other) name = other ≡ name
+  Mentions nothing name = ⊥
+  Mentions (sequence parts) name = MentionsIn parts name
+  Mentions (one_of parts) name = MentionsIn parts name
+  Mentions (all_of parts) name = MentionsIn parts name
+  Mentions (repeat part times) name = Mentions part name
 
-  pub NamesIn : Parts → List ℕ → Type 0
-  NamesIn none name = ⊥
-  NamesIn (more first others) name = Names first name ⊎ NamesIn others name
+  pub MentionsIn : Parts → List ℕ → Type 0
+  MentionsIn none name = ⊥
+  MentionsIn (more first others) name = Mentions first name ⊎ MentionsIn others name
 
 -- A reservation leads to each name in its expression, and to where these lead.
 pub data Reaches {U : Type 0} (defined : List ℕ → Option (Meaning U)) : (from to : List ℕ) → Type 0 where
-  names : {from to : List ℕ} {expression : Expression} → defined from ≡ Some (reservation expression) → Names expression to → Reaches defined from to
+  mentions : {from to : List ℕ} {expression : Expression} → defined from ≡ Some (reservation expression) → Mentions expression to → Reaches defined from to
   through : {from middle to : List ℕ} → Reaches defined from middle → Reaches defined middle to → Reaches defined from to
 
 -- No reservation reaches itself: some rank of names falls from each reservation to the names in its expression.
 pub record Unwinds {U : Type 0} (defined : List ℕ → Option (Meaning U)) : Type 0 where
   pub rank : List ℕ → ℕ
-  pub falls : (name other : List ℕ) (expression : Expression) → defined name ≡ Some (reservation expression) → Names expression other → rank other < rank name
+  pub falls : (name other : List ℕ) (expression : Expression) → defined name ≡ Some (reservation expression) → Mentions expression other → rank other < rank name
 
 -- every expression can be written, and the names in it stand for something
-pub record AreWritten {U : Type 0} (defined : List ℕ → Option (Meaning U)) : Type 0 where
+pub record IsClosed {U : Type 0} (defined : List ℕ → Option (Meaning U)) : Type 0 where
   pub expressions : (name : List ℕ) (expression : Expression) → defined name ≡ Some (reservation expression) → IsTrue (is_expression expression)
-  pub names : (name other : List ℕ) (expression : Expression) → defined name ≡ Some (reservation expression) → Names expression other → IsSome (defined other)
+  pub names : (name other : List ℕ) (expression : Expression) → defined name ≡ Some (reservation expression) → Mentions expression other → IsSome (defined other)

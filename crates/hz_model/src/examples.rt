@@ -1,8 +1,9 @@
 //! Worked examples of the rules, computed on the definitions.
 
-ghost use Rattle.std.specs.Prelude.{List, [], ◌∷◌};
+ghost use Rattle.std.specs.Prelude.{◌≡◌, List, [], ◌∷◌, codes};
 ghost use Rattle.hz_model.specs.Replay.{issue, advance, first_fit, any_fit, Accepted, FirstRefused};
 ghost use Rattle.hz_model.specs.Sets.{final_presence};
+ghost use Rattle.hz_model.specs.Traces.{line_says, skipped, says, wrong, bad_line, unknown_class};
 ghost use Rattle.hz_model.specs.Examples.{superscalar, simple, mult, div, float, choice, slot_present, slots_together, slot_absent, pattern_present, excluded_later, two_stages, two_lengths};
 
 /// The superscalar example: a third `simple` finds both integer pipelines taken; after a `float` two `simple` would need
@@ -41,4 +42,18 @@ pub fn cycle_rows()
     ensures later { FirstRefused excluded_later (issue 0 ∷ issue 1 ∷ []) 1 }
     ensures two_automata { FirstRefused two_stages (issue 0 ∷ issue 0 ∷ issue 0 ∷ []) 2 }
     ensures two_lengths { Accepted two_lengths (issue 0 ∷ advance 2 ∷ issue 0 ∷ []) }
+{}
+
+/// Blanks and carriage returns at both ends of a line are dropped, and blanks alone stand between its words; an empty
+/// line and one that begins with `;` say nothing.
+pub fn trace_line_rows()
+    ensures issue_line { line_says (codes "x" ∷ []) (codes " issue\t x\r") ≡ says (issue 0) }
+    ensures advance_line { line_says (codes "x" ∷ []) (codes "advance 007") ≡ says (advance 7) }
+    ensures blank { line_says (codes "x" ∷ []) (codes "\t \r") ≡ skipped }
+    ensures comment { line_says (codes "x" ∷ []) (codes " \r;issue x") ≡ skipped }
+    ensures other_class { line_says (codes "x" ∷ []) (codes "issue y") ≡ wrong unknown_class }
+    ensures return_between { line_says (codes "x" ∷ []) (codes "issue\r x") ≡ wrong bad_line }
+    ensures three_words { line_says (codes "x" ∷ []) (codes "issue x x") ≡ wrong bad_line }
+    ensures one_word { line_says (codes "x" ∷ []) (codes "advance") ≡ wrong bad_line }
+    ensures other_word { line_says (codes "x" ∷ []) (codes "stall 1") ≡ wrong bad_line }
 {}

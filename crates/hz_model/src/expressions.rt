@@ -3,7 +3,7 @@
 ghost use Rattle.std.specs.Prelude.{◌≡◌, ℕ, ◌+◌, ◌*◌, ◌<◌, ◌^◌, slice_index_or, List, length, Option, IsTrue, IsSome};
 ghost use Rattle.hz_model.specs.Alternatives.{Alternative, Expression, Parts, sequence, one_of, all_of, repeat as repeat_of, alternatives_of, each_choice};
 ghost use Rattle.hz_model.specs.Expressions.{is_expression, repeated, product_of_counts, sum_of_counts};
-ghost use Rattle.hz_model.specs.Meanings.{Meaning, Expands, Names, Reaches, Unwinds, AreWritten};
+ghost use Rattle.hz_model.specs.Meanings.{Meaning, Expands, Mentions, Reaches, Unwinds, IsClosed};
 
 /// `e * n` has the alternatives of the sequence of n copies of e.
 pub fn repeats_are_sequences<U>()
@@ -27,8 +27,8 @@ pub fn choices_are_ordered<A>()
 /// An expression that can be written has alternatives where the names in it have some; and so has every name of a
 /// description whose expressions use such names and in which no reservation reaches itself.
 pub fn alternatives_are_never_empty<U>()
-    ensures expressions { (known : List ℕ → List (Alternative U)) (e : Expression) → IsTrue (is_expression e) → ((name : List ℕ) → Names e name → 0 < length (known name)) → 0 < length (alternatives_of known e) }
-    ensures names { (defined : List ℕ → Option (Meaning U)) → Unwinds defined → AreWritten defined → (known : List ℕ → List (Alternative U)) → Expands defined known → (name : List ℕ) → IsSome (defined name) → 0 < length (known name) }
+    ensures expressions { (known : List ℕ → List (Alternative U)) (e : Expression) → IsTrue (is_expression e) → ((name : List ℕ) → Mentions e name → 0 < length (known name)) → 0 < length (alternatives_of known e) }
+    ensures names { (defined : List ℕ → Option (Meaning U)) → Unwinds defined → IsClosed defined → (known : List ℕ → List (Alternative U)) → Expands defined known → (name : List ℕ) → IsSome (defined name) → 0 < length (known name) }
 {}
 
 /// Where no reservation reaches itself, exactly one assignment of alternatives to names is right.
