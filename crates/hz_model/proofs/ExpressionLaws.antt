@@ -1,9 +1,9 @@
 -- Repeats as sequences, and how many alternatives expressions have.
-use Rattle.std.proofs.Common.{◌≡◌, ℕ, zero, suc, ◌+◌, ◌*◌, ◌^◌, ◌<◌, List, [], ◌∷◌, map, length, get_or, refl, sym, ap, ◌∙◌, arith, length-append, inl, inr}
+use Rattle.std.proofs.Common.{◌≡◌, ℕ, zero, suc, ◌+◌, ◌*◌, ◌^◌, ◌<◌, List, [], ◌∷◌, map, length, get_or, refl, sym, ap, ◌∙◌, arith, max, add-zero, length-append, inl, inr}
 use Rattle.std.specs.Prelude.{IsTrue, ◌&&◌, nat_le}
 use Rattle.std.proofs.lemmas.Bool.{and_parts}
-use Rattle.std.proofs.lemmas.List.{length-map, get_or-map, get_or_append_left, get_or-append-add}
-use Rattle.hz_model.specs.Alternatives.{Alternative, Expression, named, nothing, sequence, one_of, all_of, repeat, Parts, none, more, alternatives_of, in_sequence, any_of, together, each_choice, followed_by, beside, copies}
+use Rattle.std.proofs.lemmas.List.{append-nil, length-map, get_or-map, get_or_append_left, get_or-append-add}
+use Rattle.hz_model.specs.Alternatives.{Alternative, Expression, named, nothing, sequence, one_of, all_of, repeat, Parts, none, more, alternatives_of, in_sequence, any_of, together, each_choice, followed_by, beside, copies, empty}
 use Rattle.std.proofs.Math.Nat.{pow-succ', pow-zero, mul-pos}
 use Rattle.hz_model.specs.Meanings.{Mentions, MentionsIn}
 use Rattle.hz_model.specs.Expressions.{how_many, is_expression, are_expressions, repeated, product_of_counts, sum_of_counts}
@@ -86,3 +86,21 @@ module _ {U : Type 0} (known : List ℕ → List (Alternative U)) where
         let each = and_parts _ _ is in
         let product = positive_product _ _ (some_alternatives first each.0 (λ name h. have name (inl h))) (some_together others each.1 (λ name h. have name (inr h))) in
         omega (arith, length-each_choice beside (alternatives_of known first) (together known others))
+
+  -- an alternative followed by nothing, or beside nothing
+  one_followed : (xs : List (Alternative U)) → each_choice followed_by xs (empty ∷ []) ≡ xs
+  one_followed [] = refl
+  one_followed (x ∷ xs) = rw (append-nil x.pairs, add-zero x.cycles, one_followed xs) refl
+
+  one_beside : (xs : List (Alternative U)) → each_choice beside xs (empty ∷ []) ≡ xs
+  one_beside [] = refl
+  one_beside (x ∷ xs) = let most : max x.cycles 0 ≡ x.cycles = omega arith in rw (append-nil x.pairs, most, one_beside xs) refl
+
+  pub one_in_sequence : (part : Expression) → alternatives_of known (sequence (more part none)) ≡ alternatives_of known part
+  one_in_sequence part = one_followed (alternatives_of known part)
+
+  pub one_together : (part : Expression) → alternatives_of known (all_of (more part none)) ≡ alternatives_of known part
+  one_together part = one_beside (alternatives_of known part)
+
+  pub one_of_one : (part : Expression) → alternatives_of known (one_of (more part none)) ≡ alternatives_of known part
+  one_of_one part = append-nil (alternatives_of known part)

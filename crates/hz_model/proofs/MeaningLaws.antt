@@ -1,7 +1,10 @@
 -- Where no reservation reaches itself, names have exactly one right assignment of alternatives.
-use Rattle.std.proofs.Common.{◌≡◌, ℕ, zero, suc, ◌<◌, inl, inr, List, [], ◌++◌, length, refl, sym, ap, ◌∙◌, arith, Option, Some, None}
+use Rattle.std.proofs.Common.{◌≡◌, ℕ, zero, suc, ◌<◌, inl, inr, List, [], ◌∷◌, ◌++◌, length, refl, sym, ap, ◌∙◌, arith, Option, Some, None}
 use Rattle.std.specs.Prelude.{IsSome}
-use Rattle.hz_model.specs.Alternatives.{Alternative, Expression, named, nothing, sequence, one_of, all_of, repeat, Parts, none, more, alternatives_of, in_sequence, any_of, together, each_choice, followed_by, beside, copies}
+use Rattle.hz_model.specs.Alternatives.{Alternative, taking, Expression, named, nothing, sequence, one_of, all_of, repeat, Parts, none, more, alternatives_of, in_sequence, any_of, together, each_choice, followed_by, beside, copies}
+use Rattle.std.specs.Option.{option_map, option_map_or}
+use Rattle.hz_model.specs.Lines.{place_of}
+use Rattle.hz_model.specs.Straight.{unit_alternatives}
 use Rattle.hz_model.specs.Meanings.{Meaning, unit, reservation, alternatives_of_meaning, Expands, Mentions, MentionsIn, Reaches, Unwinds, IsClosed}
 use Rattle.hz_model.proofs.ExpressionLaws.{some_alternatives}
 
@@ -94,3 +97,10 @@ module _ {U : Type 0} where
         by_meaning each (Some (unit u)) e is = rw (right name, e) (omega arith)
         by_meaning each (Some (reservation x)) e is = rw (right name, e) (some_alternatives known x (written.expressions name x e)
             (λ used h. let below = unwinds.falls name used x e h in each used (omega arith) (written.names name used x e h)))
+
+pub straight_right : (units : List (List ℕ)) → Expands (λ name. option_map unit (place_of name units)) (unit_alternatives units)
+straight_right units name = by_place (place_of name units)
+  where
+    by_place : (o : Option ℕ) → option_map_or (λ (u : ℕ). taking u ∷ []) o [] ≡ alternatives_of_meaning (unit_alternatives units) (option_map unit o)
+    by_place None = refl
+    by_place (Some u) = refl

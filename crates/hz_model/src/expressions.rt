@@ -1,13 +1,23 @@
 //! Laws of expressions, of their alternatives and of the names in them, for any units.
 
 ghost use Rattle.std.specs.Prelude.{◌≡◌, ℕ, ◌+◌, ◌*◌, ◌<◌, ◌^◌, slice_index_or, List, length, Option, IsTrue, IsSome};
-ghost use Rattle.hz_model.specs.Alternatives.{Alternative, Expression, Parts, sequence, one_of, all_of, repeat as repeat_of, alternatives_of, each_choice};
+ghost use Rattle.hz_model.specs.Alternatives.{Alternative, Expression, Parts, none, more, sequence, one_of, all_of, repeat as repeat_of, alternatives_of, each_choice};
 ghost use Rattle.hz_model.specs.Expressions.{is_expression, repeated, product_of_counts, sum_of_counts};
-ghost use Rattle.hz_model.specs.Meanings.{Meaning, Expands, Mentions, Reaches, Unwinds, IsClosed};
+ghost use Rattle.std.specs.Option.{option_map};
+ghost use Rattle.hz_model.specs.Lines.{place_of};
+ghost use Rattle.hz_model.specs.Straight.{unit_alternatives};
+ghost use Rattle.hz_model.specs.Meanings.{Meaning, unit, Expands, Mentions, Reaches, Unwinds, IsClosed};
 
 /// `e * n` has the alternatives of the sequence of n copies of e.
 pub fn repeats_are_sequences<U>()
     ensures { (known : List ℕ → List (Alternative U)) (part : Expression) (n : ℕ) → alternatives_of known (repeat_of part n) ≡ alternatives_of known (sequence (repeated n part)) }
+{}
+
+/// One part by itself is that part, whatever the mark.
+pub fn one_part_is_itself<U>()
+    ensures in_sequence { (known : List ℕ → List (Alternative U)) (part : Expression) → alternatives_of known (sequence (more part none)) ≡ alternatives_of known part }
+    ensures together { (known : List ℕ → List (Alternative U)) (part : Expression) → alternatives_of known (all_of (more part none)) ≡ alternatives_of known part }
+    ensures any { (known : List ℕ → List (Alternative U)) (part : Expression) → alternatives_of known (one_of (more part none)) ≡ alternatives_of known part }
 {}
 
 /// A sequence has as many alternatives as the product of its parts' numbers, parts side by side too, an alternation as
@@ -40,4 +50,9 @@ pub fn names_have_one_meaning<U>()
 /// A rank that falls from each reservation to the names in its expression keeps each from reaching itself.
 pub fn ranks_keep_from_circles<U>()
     ensures { (defined : List ℕ → Option (Meaning U)) → Unwinds defined → (name : List ℕ) → Reaches defined name name → ⊥ }
+{}
+
+/// The names of units alone have the alternatives that straight descriptions give them.
+pub fn straight_names_are_right()
+    ensures { (units : List (List ℕ)) → Expands (λ name. option_map unit (place_of name units)) (unit_alternatives units) }
 {}
