@@ -7,10 +7,11 @@ use Rattle.hz_model.specs.Sets.{Statement, exclusion, presence, absence}
 use Rattle.hz_model.specs.Replay.{Class, Machine, Treatment, first_fit}
 use Rattle.hz_model.specs.Straight.{unit_alternatives}
 
--- two parts, and three
+-- two parts
 abbrev pub two : Expression → Expression → Parts
 two a b = more a (more b none)
 
+-- three parts
 abbrev pub three : Expression → Expression → Expression → Parts
 three a b c = more a (two b c)
 
@@ -22,13 +23,15 @@ class units name expression = record { name = name; alternatives = alternatives_
 abbrev pub superscalar_units : List (List ℕ)
 superscalar_units = codes "i0_pipeline" ∷ codes "i1_pipeline" ∷ codes "f_pipeline" ∷ codes "port0" ∷ codes "port1" ∷ codes "div" ∷ []
 
+-- one of the integer pipelines
 abbrev pub integer : Expression
 integer = one_of (two (named (codes "i0_pipeline")) (named (codes "i1_pipeline")))
 
+-- one of the ports
 abbrev pub port : Expression
 port = one_of (two (named (codes "port0")) (named (codes "port1")))
 
--- the classes 0 `simple`, 1 `mult`, 2 `div` and 3 `float`
+-- its classes, which are `simple`, `mult`, `div` and `float`
 abbrev pub superscalar : Machine ℕ
 superscalar = record {
   classes = class superscalar_units (codes "simple") (sequence (two integer port))
@@ -40,6 +43,7 @@ superscalar = record {
   treatment = first_fit;
 }
 
+-- the classes by their numbers
 abbrev pub simple : ℕ
 simple = 0
 

@@ -19,6 +19,7 @@ abbrev mutual
   is_expression (all_of parts) = nat_le 2 (how_many parts) && are_expressions parts
   is_expression (repeat part times) = nat_le 1 times && nat_le times repeat_limit && is_expression part
 
+  -- each part can be written
   pub are_expressions : Parts → Bool
   are_expressions none = true
   are_expressions (more first others) = is_expression first && are_expressions others

@@ -30,6 +30,7 @@ abbrev mutual
   Mentions (all_of parts) name = MentionsIn parts name
   Mentions (repeat part times) name = Mentions part name
 
+  -- the name stands somewhere in the parts
   pub MentionsIn : Parts → List ℕ → Type 0
   MentionsIn none name = ⊥
   MentionsIn (more first others) name = Mentions first name ⊎ MentionsIn others name

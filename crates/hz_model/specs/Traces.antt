@@ -26,6 +26,7 @@ is_margin b = b == 32 || b == 9 || b == 13
 abbrev pub is_gap : ℕ → Bool
 is_gap b = b == 32 || b == 9
 
+-- a line without the margin at both ends
 abbrev pub without_margin : List ℕ → List ℕ
 without_margin line = without_end (drop (prefix_len is_margin line) line)
   where
@@ -52,6 +53,7 @@ says_issue classes name =
 abbrev pub says_advance : List ℕ → Line
 says_advance digits = option_map_or (λ n. says (advance n)) (number_of digits) (wrong bad_line)
 
+-- a word and its operand
 abbrev pub says_words : List (List ℕ) → (word operand : List ℕ) → Line
 says_words classes word operand =
     if bytes_eq word (codes "issue") then says_issue classes operand
@@ -94,11 +96,12 @@ pub record TraceFaultAt (classes : List (List ℕ)) (text : List ℕ) (fault : T
   pub counted : number ≡ length before + 1
   pub wrong : WrongAfter classes (cycles_of events) line fault
 
--- the numbers of the lines that say an event, where the first line has this number
+-- the number of a line joins where the line says an event
 abbrev pub numbered : Line → ℕ → List ℕ → List ℕ
 numbered (says event) number numbers = number ∷ numbers
 numbered _ number numbers = numbers
 
+-- the numbers of the lines that say an event, where the first line has this number
 abbrev pub event_lines : List (List ℕ) → ℕ → List (List ℕ) → List ℕ
 event_lines classes number [] = []
 event_lines classes number (line ∷ lines) = numbered (line_says classes line) number (event_lines classes (number + 1) lines)
