@@ -1,6 +1,15 @@
+pub mod AcceptanceLaws
+pub mod ChoiceLaws
 pub mod Elements
+pub mod ExpressionLaws
+pub mod FitLaws
+pub mod MeaningLaws
 pub mod LineLaws
 pub mod ReplayLaws
+pub mod PlayLaws
+pub mod Rows
+pub mod TraceLaws
+pub mod StraightLaws
 pub mod FormsNext
 pub mod FormsLaws
 pub mod FormsFront

@@ -1,4 +1,4 @@
-use Rattle.std.proofs.Common.{◌≡◌, ℕ, suc, zero, ◌+◌, ◌<◌, List, [], ◌∷◌, ◌++◌, length, drop, refl, sym, ap, ◌∙◌, subst, append_assoc, slice_index, arith, zero-add, add-zero}
+use Rattle.std.proofs.Common.{◌≡◌, ℕ, suc, ◌+◌, ◌<◌, List, [], ◌∷◌, ◌++◌, length, drop, refl, sym, ap, ◌∙◌, subst, append_assoc, slice_index, arith, zero-add, add-zero}
 use Rattle.std.proofs.lemmas.List.{append-nil, drop_more, length-append}
 use Rattle.hz_model.specs.Pairs.{Pair, placed}
 use Rattle.hz_model.specs.Replay.{Machine, Event, issue, advance, State, Step, Run, Runs, MayTake, IsChoice, Accepted, start, calendar, chosen, left_by, issues_of, cycles_of}

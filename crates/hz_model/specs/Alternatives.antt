@@ -1,3 +1,5 @@
+-- Expressions and their alternatives. GCC Internals, 'Specifying processor pipeline description', on `,` `|` `+` `*`
+-- and `nothing`.
 use Rattle.std.specs.Prelude.{ℕ, zero, suc, ◌+◌, max, List, [], ◌∷◌, ◌++◌, map}
 use Rattle.std.specs.List.{flat_map}
 use Rattle.hz_model.specs.Pairs.{Pair, placed}

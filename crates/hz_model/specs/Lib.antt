@@ -5,10 +5,15 @@ pub mod Trees
 pub mod FormFronts
 pub mod Forms
 pub mod Alternatives
+pub mod Expressions
+pub mod Meanings
 pub mod Sets
 pub mod Replay
+pub mod Plays
 pub mod Lines
 pub mod Straight
+pub mod Traces
+pub mod Examples
 pub mod Texts
 pub mod Words
 pub mod Answers

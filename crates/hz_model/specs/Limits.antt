@@ -11,6 +11,10 @@ cycle_limit = 256
 abbrev pub class_limit : ℕ
 class_limit = 1024
 
+-- the greatest number after `*`
+abbrev pub repeat_limit : ℕ
+repeat_limit = 65535
+
 -- the greatest latency
 abbrev pub latency_limit : ℕ
 latency_limit = 1000

@@ -1,3 +1,4 @@
+-- Units in cycles. GCC Internals, 'Specifying processor pipeline description'.
 use Rattle.std.specs.Prelude.{ℕ, ◌+◌, List, map}
 
 -- A unit that is taken in a cycle. `U` is what units are: their numbers in one automaton, or an automaton and a number.

@@ -1,3 +1,4 @@
+-- Acceptance of events. GCC Internals, 'Specifying processor pipeline description', on `|` and on `ndfa`.
 use Rattle.std.specs.Prelude.{◌≡◌, ℕ, zero, suc, ◌+◌, ◌<◌, List, [], ◌∷◌, ◌++◌, Option, Some, None, length, take, slice_get, slice_index}
 use Rattle.hz_model.specs.Pairs.{Pair, placed}
 use Rattle.hz_model.specs.Alternatives.{Alternative}

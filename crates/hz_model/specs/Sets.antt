@@ -1,3 +1,5 @@
+-- The five set statements. GCC Internals, 'Specifying processor pipeline description'; the cycles and states that they
+-- look at are this profile's, docs/RULES.md.
 use Rattle.std.specs.Prelude.{◌≡◌, ℕ, List, ◌++◌}
 use Rattle.std.specs.List.{Contains}
 use Rattle.hz_model.specs.Pairs.{Pair, placed}

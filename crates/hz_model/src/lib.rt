@@ -1,4 +1,8 @@
 //! What a pipeline description means: the definitions that contracts cite, and their laws.
 #![tactic(auto)]
 
+pub mod acceptance;
+pub mod examples;
+pub mod expressions;
 pub mod forms;
+pub mod traces;

@@ -1,0 +1,36 @@
+//! Laws of the texts of traces, whatever names classes have.
+
+ghost use Rattle.std.specs.Prelude.{◌≡◌, ℕ, ◌⊎◌, List, length, All, IsTrue};
+ghost use Rattle.std.specs.List.{range_with_len};
+ghost use Rattle.hz_model.specs.Names.{is_name};
+ghost use Rattle.hz_model.specs.Lines.{lines_of};
+ghost use Rattle.hz_model.specs.Replay.{Event};
+ghost use Rattle.hz_model.specs.Straight.{StraightTrace};
+ghost use Rattle.hz_model.specs.Traces.{Trace, TraceFault, TraceFaultAt, event_lines};
+
+/// One trace text has one list of events, and each of them one line.
+pub fn one_list_of_events()
+    ensures events { (classes : List (List ℕ)) (text : List ℕ) (a b : List Event) → Trace classes text a → Trace classes text b → a ≡ b }
+    ensures lines { (classes : List (List ℕ)) (text : List ℕ) (events : List Event) → Trace classes text events → length (event_lines classes 1 (lines_of text)) ≡ length events }
+{}
+
+/// One text has one fault, at one line.
+pub fn one_fault_of_traces()
+    ensures { (classes : List (List ℕ)) (text : List ℕ) (f g : TraceFault) (m n : ℕ) → TraceFaultAt classes text f m → TraceFaultAt classes text g n → (f ≡ g) × (m ≡ n) }
+{}
+
+/// No text has both events and a fault.
+pub fn events_or_fault()
+    ensures { (classes : List (List ℕ)) (text : List ℕ) (events : List Event) (fault : TraceFault) (number : ℕ) → Trace classes text events → TraceFaultAt classes text fault number → ⊥ }
+{}
+
+/// Every text has events or a fault.
+pub fn events_of_every_text()
+    ensures { (classes : List (List ℕ)) (text : List ℕ) → ((events : List Event) × Trace classes text events) ⊎ ((fault : TraceFault) × (number : ℕ) × TraceFaultAt classes text fault number) }
+{}
+
+/// A text of plain lines, one event each, has these events by the whole grammar too, each on the line of its place.
+pub fn straight_traces_are_traces()
+    ensures events { (classes : List (List ℕ)) → All (λ n. IsTrue (is_name n)) classes → (text : List ℕ) (events : List Event) → StraightTrace classes text events → Trace classes text events }
+    ensures lines { (classes : List (List ℕ)) → All (λ n. IsTrue (is_name n)) classes → (text : List ℕ) (events : List Event) → StraightTrace classes text events → event_lines classes 1 (lines_of text) ≡ range_with_len 1 (length events) }
+{}
