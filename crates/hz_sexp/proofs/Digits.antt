@@ -1,9 +1,10 @@
 -- The number that digits spell, digit by digit.
-use Rattle.std.proofs.Common.{◌≡◌, ℕ, zero, suc, ◌+◌, ◌*◌, ◌<◌, ◌≤◌, List, [], ◌∷◌, length, take, get_or, arith, ◌^◌, refl, Some, inl, inr}
-use Rattle.std.specs.Prelude.{IsTrue, IsFalse, ◌==◌, pos, negsuc, neg_ℤ, ℤ}
+use Rattle.std.proofs.Common.{◌≡◌, ℕ, zero, suc, ◌+◌, ◌*◌, ◌<◌, ◌≤◌, List, [], ◌∷◌, length, take, get_or, arith, ◌^◌, refl, Some, inl, inr, subst}
+use Rattle.std.specs.Prelude.{IsTrue, IsFalse, ◌==◌, not, nat_le, pos, negsuc, neg_ℤ, ℤ}
 use mir.Val.{SFits}
 use mir.Syntax.{w128}
 use Rattle.std.specs.List.{list_all}
+use Rattle.std.specs.Char.{digit_value}
 use Rattle.std.specs.Str.Parse.{digits_value}
 use Rattle.std.proofs.lemmas.Bool.{and_parts, leb-true, cases_Bool, eqb-true, le-ltb, ltb-true}
 use Rattle.std.proofs.lemmas.Int.Digits.{digits_value_more}
@@ -16,6 +17,9 @@ digit_at [] k all h = absurd (omega arith)
 digit_at (b ∷ bytes) zero all h = (and_parts _ _ all).0
 digit_at (b ∷ bytes) (suc k) all h = digit_at bytes k (and_parts _ _ all).1 (omega arith)
 
+digit_of : (bytes : List ℕ) (k : ℕ) → IsTrue (is_digits bytes) → k < length bytes → IsTrue (is_digit (get_or bytes k 0))
+digit_of bytes k h within = digit_at bytes k (and_parts (not (length bytes == 0)) (list_all is_digit bytes) h).1 within
+
 -- one digit more, and what it adds
 pub record More (bytes : List ℕ) (k : ℕ) : Type 0 where
   pub low : 48 ≤ get_or bytes k 0
@@ -24,10 +28,11 @@ pub record More (bytes : List ℕ) (k : ℕ) : Type 0 where
 
 pub value_more : (bytes : List ℕ) (k : ℕ) → IsTrue (is_digits bytes) → k < length bytes → More bytes k
 value_more bytes k all h =
-    let both = and_parts _ _ (digit_at bytes k (and_parts _ _ all).1 h) in
-    let low : 48 ≤ get_or bytes k 0 = leb-true _ _ both.0 in
-    let high : get_or bytes k 0 ≤ 57 = leb-true _ _ both.1 in
-    let digit = digit_value_digit (get_or bytes k 0) (low, high) in
+    let digit = get_or bytes k 0 in
+    let both : IsTrue (nat_le 48 digit) × IsTrue (nat_le digit 57) = and_parts _ _ (digit_of bytes k all h) in
+    let low : 48 ≤ digit = leb-true 48 digit both.0 in
+    let high : digit ≤ 57 = leb-true digit 57 both.1 in
+    let value : digit_value digit + 48 ≡ digit = digit_value_digit digit (low, high) in
     record {
       low = low;
       value = rw (digits_value_more 10 bytes k h) (omega arith);
@@ -42,8 +47,8 @@ minus_value bytes h = rw h refl
 pub plain_value : (word : List ℕ) → IsTrue (is_digits word) → number_of word ≡ Some (pos (digits_value 10 word))
 plain_value [] h = absurd (cc)
 plain_value (b ∷ bytes) h = elim (cases_Bool (b == 45)) [
-  | inl e ↦ let first = digit_at (b ∷ bytes) 0 (and_parts _ _ h).1 (omega arith) in
-      absurd (let clash : IsTrue (is_digit 45) = rw (eqb-true b 45 e) at first in cc)
+  | inl e ↦ let P : ℕ → Type 0 = λ n. IsTrue (is_digit n) in
+      let clash : P 45 = subst P (eqb-true b 45 e) (digit_of (b ∷ bytes) 0 h (omega arith)) in absurd (cc)
   | inr e ↦ rw (e, h) refl
 ]
 

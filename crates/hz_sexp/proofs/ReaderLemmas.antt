@@ -67,13 +67,13 @@ close_wrong opened (Step.closing e) h = Faulty.stray_bracket e h
 
 -- a token that is refused is what is wrong at its place
 pub refused_wrong : {text rest : List ℕ} {line last : ℕ} (reader : Reader) (token : code_token.Token) → Step line text (token_of line token ∷ []) last rest → (e : SexpFault)
-    → Tells (λ fault place. IsRefused reader token fault × (place ≡ line)) e → Tells (Faulty (opened_in reader) line text) e
-refused_wrong {text} {rest} {line} {last} reader token step e h = tells_weaker {P = λ fault place. IsRefused reader token fault × (place ≡ line)} {Q = Faulty (opened_in reader) line text} (λ fault place told. go token step fault place told) e h
+    → Tells (IsRefused reader token line) e → Tells (Faulty (opened_in reader) line text) e
+refused_wrong {text} {rest} {line} {last} reader token step e h = tells_weaker {P = IsRefused reader token line} {Q = Faulty (opened_in reader) line text} (λ fault place told. go token step fault place told) e h
   where
-    go : (t : code_token.Token) → Step line text (token_of line t ∷ []) last rest → (fault : FormFault) (place : ℕ) → IsRefused reader t fault × (place ≡ line) → Faulty (opened_in reader) line text fault place
-    go (Open bracket) s fault place told = rw (told.0.0, told.1) (open_wrong (opened_in reader) s told.0.1)
-    go (Close bracket) s fault place told = rw (told.0.0, told.1) (close_wrong (opened_in reader) s told.0.1)
-    go (Leaf form) s fault place told = absurd told.0
+    go : (t : code_token.Token) → Step line text (token_of line t ∷ []) last rest → (fault : FormFault) (place : ℕ) → IsRefused reader t line fault place → Faulty (opened_in reader) line text fault place
+    go (Open bracket) s fault place told = rw (told.0, told.1) (open_wrong (opened_in reader) s told.2)
+    go (Close bracket) s fault place told = rw (told.0, told.1) (close_wrong (opened_in reader) s told.2)
+    go (Leaf form) s fault place told = absurd told
 
 leaf_simple : {line last : ℕ} {text rest : List ℕ} {t : Tree} → Step line text (leaf t ∷ []) last rest → spelled_tree t ≡ leaf t ∷ []
 leaf_simple (Step.word w e) = refl

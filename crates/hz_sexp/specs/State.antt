@@ -49,11 +49,11 @@ pub record Takes (old : Reader) (token : model.Token) (new : Reader) : Type 0 wh
   pub read : read_in new ≡ read_in old ++ token ∷ []
   pub opened : open_after_all (opened_in old) (token ∷ []) ≡ Some (opened_in new)
 
--- why a token may not stand there
-abbrev pub IsRefused : Reader → Token → FormFault → Type 0
-IsRefused reader (Open bracket) fault = (fault ≡ too_deep) × IsFalse (nat_lt (length (opened_in reader)) depth_limit)
-IsRefused reader (Close bracket) fault = (fault ≡ stray) × (closed (opened_in reader) (bracket_of bracket) ≡ None)
-IsRefused reader _ fault = ⊥
+-- why a token that begins at a line may not stand there: the fault, and its line
+abbrev pub IsRefused : Reader → Token → ℕ → FormFault → ℕ → Type 0
+IsRefused reader (Open bracket) line fault place = (fault ≡ too_deep) × (place ≡ line) × IsFalse (nat_lt (length (opened_in reader)) depth_limit)
+IsRefused reader (Close bracket) line fault place = (fault ≡ stray) × (place ≡ line) × (closed (opened_in reader) (bracket_of bracket) ≡ None)
+IsRefused reader _ line fault place = ⊥
 
 -- a bracket is open: the fault at the end, and its line
 abbrev pub IsOpen : Reader → FormFault → ℕ → Type 0

@@ -1,10 +1,11 @@
 -- What the parts of the reader say of a text, by the words of its definition.
 use Rattle.std.specs.Prelude.{◌≡◌, ℕ, ℤ, ◌<◌, List, [], ◌∷◌, length, Some, None, IsTrue, IsFalse}
+use Rattle.hz_sexp.specs.declared.place.Place.{Place}
 use Rattle.hz_sexp.specs.declared.string.Part.{Part}
 use Rattle.hz_sexp.specs.declared.string.Part.TheVariants.{End, Byte, Nothing}
 use Rattle.hz_sexp.specs.declared.word.Spelled.{Spelled}
 use Rattle.hz_sexp.specs.declared.word.Spelled.TheVariants.{Other, Number, TooLarge}
-use Rattle.hz_model.specs.Forms.{OpenBracket, role, quote, number_of, is_in_range, Inside, FormFault, Faulty}
+use Rattle.hz_model.specs.Forms.{OpenBracket, role, quote, number_of, is_in_range, Inside, Comment, Step, Token, line_after, FormFault, Faulty}
 
 -- what a word is
 abbrev pub IsSpelled : List ℕ → Spelled → Type 0
@@ -26,3 +27,19 @@ IsWrongInString start line rest fault place = (opened : List OpenBracket) (b : �
 -- what is wrong at the front of a text, whatever brackets are open
 abbrev pub IsWrong : ℕ → List ℕ → FormFault → ℕ → Type 0
 IsWrong line text fault place = (opened : List OpenBracket) → Faulty opened line text fault place
+
+-- one step leads from a place to a place
+abbrev pub IsStep : Place → List Token → Place → Type 0
+IsStep from tokens to = Step from.line from.rest.now tokens to.line to.rest.now
+
+-- a string's bytes, from behind its first quote, and the place behind its end quote
+abbrev pub IsString : Place → List ℕ × Place → Type 0
+IsString from found = Inside from.line from.rest.now found.0 found.1.line (34 ∷ found.1.rest.now)
+
+-- the byte at a place and the place behind it
+abbrev pub IsFirst : Place → ℕ × Place → Type 0
+IsFirst from found = (from.rest.now ≡ found.0 ∷ found.1.rest.now) × (found.1.line ≡ line_after found.0 from.line)
+
+-- the place behind the end of a comment that is open
+abbrev pub IsCommentEnd : Place → Place → Type 0
+IsCommentEnd from end = Comment from.line from.rest.now end.line (42 ∷ 47 ∷ end.rest.now)

@@ -5,7 +5,7 @@ ghost use Rattle.hz_model.specs.Forms as model;
 ghost use Rattle.hz_sexp.specs.Kinds.{role_of};
 
 /// The two kinds of brackets.
-#[derive(Clone, Copy, Debug, PartialEq, Eq)]
+#[derive(Clone, Copy, PartialEq, Eq)]
 pub enum Bracket {
     /// `( )`
     Round,
@@ -14,7 +14,7 @@ pub enum Bracket {
 }
 
 /// What a byte is outside strings and comments.
-#[derive(Clone, Copy, Debug, PartialEq, Eq)]
+#[derive(Clone, Copy)]
 pub enum Role {
     Blank,
     Semicolon,

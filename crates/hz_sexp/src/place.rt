@@ -1,7 +1,7 @@
 //! A place in a text.
 
-ghost use Rattle.std.specs.Prelude.{◌≡◌, ℕ, ◌+◌, ◌^◌, ◌≤◌, ◌<◌, ◌∷◌, [], length, drop, MatchOption, IsTrue};
-ghost use Rattle.hz_model.specs.Forms.{line_after, line_end, Comment, begins};
+ghost use Rattle.std.specs.Prelude.{◌≡◌, ℕ, ◌+◌, ◌^◌, ◌≤◌, ◌<◌, [], length, drop, MatchOption, IfSome, IfNone};
+ghost use Rattle.hz_model.specs.Forms.{line_end, Comment, begins};
 
 /// What is left of a text, and the line where it begins, counted from 1.
 #[derive(Clone, Copy)]
@@ -22,6 +22,8 @@ pub fn begins_with(text: &[u8], first: u8, second: u8) -> bool
 }
 
 impl<'a> Place<'a> {
+    ghost use Rattle.hz_sexp.specs.Steps.{IsFirst, IsCommentEnd};
+
     /// The first place of a text.
     pub fn start(text: &'a [u8]) -> Place<'a>
         requires { length text.now < 2 ^ 32 }
@@ -36,7 +38,7 @@ impl<'a> Place<'a> {
 
     /// The byte at this place, and the place after it.
     pub fn first(self) -> Option<(u8, Place<'a>)>
-        ensures { MatchOption result (self.entry.rest.now ≡ []) (λ found. (self.entry.rest.now ≡ found.0 ∷ found.1.rest.now) × (found.1.line ≡ line_after found.0 self.entry.line)) }
+        ensures { MatchOption result (self.entry.rest.now ≡ []) (IsFirst self.entry) }
     {
         let (first, rest) = self.rest.split_first()?;
         let line = if *first == b'\n' {
@@ -76,7 +78,8 @@ impl<'a> Place<'a> {
 
     /// The place behind the `*/` that ends a comment which is open here, if there is one.
     pub fn end_of_comment(self) -> Option<Place<'a>>
-        ensures { MatchOption result ((last : ℕ) × Comment self.entry.line self.entry.rest.now last []) (λ end. Comment self.entry.line self.entry.rest.now end.line (42 ∷ 47 ∷ end.rest.now)) }
+        ensures found { IfSome result (IsCommentEnd self.entry) }
+        ensures none { IfNone result ((last : ℕ) × Comment self.entry.line self.entry.rest.now last []) }
     {
         let mut place = self;
         while let Some((_, next)) = place.first() {

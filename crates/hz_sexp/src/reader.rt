@@ -49,7 +49,7 @@ impl Reader {
     /// Takes an open bracket at a line.
     fn open_bracket(&mut self, alloc: Global, bracket: Bracket, line: u32) -> Result<(), SexpFault>
         ensures ok { IfOk result (λ _. Takes self.old (token_of line (Token.Open bracket)) self.new) }
-        ensures err { IfErr result (Tells (λ fault place. IsRefused self.old (Token.Open bracket) fault × (place ≡ line))) }
+        ensures err { IfErr result (Tells (IsRefused self.old (Token.Open bracket) line)) }
     {
         if self.open.len() >= DEPTH_LIMIT {
             return Err(SexpFault::TooDeep { line });
@@ -66,7 +66,7 @@ impl Reader {
     /// Takes a closing bracket at a line.
     fn close_bracket(&mut self, bracket: Bracket, line: u32) -> Result<(), SexpFault>
         ensures ok { IfOk result (λ _. Takes self.old (token_of line (Token.Close bracket)) self.new) }
-        ensures err { IfErr result (Tells (λ fault place. IsRefused self.old (Token.Close bracket) fault × (place ≡ line))) }
+        ensures err { IfErr result (Tells (IsRefused self.old (Token.Close bracket) line)) }
     {
         let Some(frame) = self.open.pop() else {
             return Err(SexpFault::Stray { line });
@@ -98,7 +98,7 @@ impl Reader {
     pub fn take(&mut self, alloc: Global, token: Token, line: u32) -> Result<(), SexpFault>
         requires { IsSimple token }
         ensures ok { IfOk result (λ _. Takes self.old (token_of line token) self.new) }
-        ensures err { IfErr result (Tells (λ fault place. IsRefused self.old token fault × (place ≡ line))) }
+        ensures err { IfErr result (Tells (IsRefused self.old token line)) }
     {
         match token {
             Token::Open(bracket) => self.open_bracket(alloc, bracket, line),
@@ -131,7 +131,9 @@ fn enclosed(bracket: Bracket, line: u32, forms: Vec<Form>) -> Form
     Form { line, node }
 }
 
-/// The forms of a text of fewer than 2^32 bytes, or what is wrong at the first place from the left where it is wrong.
+/// The forms of a text of fewer than 2^32 bytes: lists, vectors, strings, atoms and numbers, with
+/// white space and comments between them. Where something is wrong, the first such place from the
+/// left decides which fault is told.
 pub fn read_forms(alloc: Global, bytes: &[u8]) -> Result<Vec<Form>, SexpFault>
     requires { length bytes.now < 2 ^ 32 }
     ensures forms { IfOk result (λ forms. Reads bytes.now (trees forms.items)) }

@@ -4,7 +4,7 @@ ghost use Rattle.std.specs.Prelude.{◌≡◌, ℕ, ◌<◌, ◌∷◌, [], leng
 ghost use Rattle.hz_model.specs.Forms as model;
 ghost use Rattle.hz_sexp.specs.Faults.{Tells};
 ghost use Rattle.hz_sexp.specs.Shape.{tree};
-ghost use Rattle.hz_sexp.specs.Steps.{IsWrong};
+ghost use Rattle.hz_sexp.specs.Steps.{IsStep, IsWrong};
 ghost use Rattle.hz_sexp.specs.State.{tokens_of};
 
 use crate::byte::{Bracket, Role, role_at};
@@ -26,7 +26,7 @@ pub enum Token {
 /// The place behind the comment that begins here.
 fn comment<'a>(place: Place<'a>) -> Result<Place<'a>, SexpFault>
     requires { IsTrue (model.begins_comment place.rest.now) }
-    ensures ok { IfOk result (λ after. model.Step place.entry.line place.entry.rest.now [] after.line after.rest.now) }
+    ensures ok { IfOk result (λ after. IsStep place.entry [] after) }
     ensures err { IfErr result (Tells (IsWrong place.entry.line place.entry.rest.now)) }
 {
     match place.along(2).end_of_comment() {
@@ -40,7 +40,7 @@ fn comment<'a>(place: Place<'a>) -> Result<Place<'a>, SexpFault>
 /// The number or atom that begins here, and the place behind it.
 fn word<'a>(alloc: Global, place: Place<'a>) -> Result<(Form, Place<'a>), SexpFault>
     requires { IsTrue (model.goes_on place.rest.now) }
-    ensures ok { IfOk result (λ found. model.Step place.entry.line place.entry.rest.now (model.leaf (tree found.0) ∷ []) found.1.line found.1.rest.now) }
+    ensures ok { IfOk result (λ found. IsStep place.entry (model.leaf (tree found.0) ∷ []) found.1) }
     ensures err { IfErr result (Tells (IsWrong place.entry.line place.entry.rest.now)) }
 {
     let line = place.line as u32;
@@ -60,7 +60,8 @@ fn word<'a>(alloc: Global, place: Place<'a>) -> Result<(Form, Place<'a>), SexpFa
     }
 }
 
-/// The token that begins with the byte `b` at this place, if one does, and the place behind it; `next` is the place behind the byte.
+/// The token that begins with the byte `b` at this place, if one does, and the place behind it.
+/// `next` is the place behind the byte.
 pub fn next_step<'a>(
     alloc: Global,
     place: Place<'a>,
@@ -69,7 +70,7 @@ pub fn next_step<'a>(
 ) -> Result<(Option<Token>, Place<'a>), SexpFault>
     requires byte { place.rest.now ≡ b ∷ next.rest.now }
     requires line { next.line ≡ model.line_after b place.line }
-    ensures ok { IfOk result (λ found. model.Step place.entry.line place.entry.rest.now (tokens_of place.entry.line found.0) found.1.line found.1.rest.now) }
+    ensures ok { IfOk result (λ found. IsStep place.entry (tokens_of place.entry.line found.0) found.1) }
     ensures err { IfErr result (Tells (IsWrong place.entry.line place.entry.rest.now)) }
 {
     if begins_with(place.rest, b'/', b'*') {

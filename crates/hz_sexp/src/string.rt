@@ -3,7 +3,7 @@
 ghost use Rattle.std.specs.Prelude.{◌≡◌, ◌≤◌, ◌<◌, ◌+◌, ◌^◌, ◌∷◌, length, IfOk, IfErr};
 ghost use Rattle.hz_model.specs.Forms.{Inside, Faulty, role, quote, OpenBracket};
 ghost use Rattle.hz_sexp.specs.Faults.{Tells};
-ghost use Rattle.hz_sexp.specs.Steps.{IsPart, IsWrongInString};
+ghost use Rattle.hz_sexp.specs.Steps.{IsPart, IsString, IsWrongInString};
 
 use crate::byte::is_string_byte;
 use crate::fault::SexpFault;
@@ -11,7 +11,8 @@ use crate::form::Text;
 use crate::place::Place;
 use std::alloc::Global;
 
-/// The next part of a string: its end, a byte that it stands for, or a line's end that stands for nothing.
+/// The next part of a string: its end, a byte that it stands for, or an escaped line feed, which
+/// stands for nothing.
 pub enum Part<'a> {
     End(Place<'a>),
     Byte(u8, Place<'a>),
@@ -62,7 +63,7 @@ pub fn quoted<'a>(
     place: Place<'a>,
     start: u32,
 ) -> Result<(Text, Place<'a>), SexpFault>
-    ensures ok { IfOk result (λ found. Inside place.entry.line place.entry.rest.now found.0 found.1.line (34 ∷ found.1.rest.now)) }
+    ensures ok { IfOk result (IsString place.entry) }
     ensures err { IfErr result (Tells (IsWrongInString start place.entry.line place.entry.rest.now)) }
 {
     let mut bytes = Vec::new(alloc);

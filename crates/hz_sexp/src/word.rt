@@ -70,9 +70,13 @@ fn below_zero(digits: &[u8]) -> Spelled
     requires { IsTrue (model.is_digits digits.now) }
     ensures { IsSpelled (45 ∷ digits.now) result }
 {
-    match magnitude(digits) {
-        Some(value) if value <= 1 << 63 => Spelled::Number(-i128::from(value)),
-        _ => Spelled::TooLarge,
+    let Some(value) = magnitude(digits) else {
+        return Spelled::TooLarge;
+    };
+    if value <= 1 << 63 {
+        Spelled::Number(-i128::from(value))
+    } else {
+        Spelled::TooLarge
     }
 }
 
