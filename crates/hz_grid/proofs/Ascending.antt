@@ -5,7 +5,7 @@ use Rattle.std.proofs.lemmas.List.{length-map, get_or-map}
 use Rattle.std.proofs.lemmas.List.Elements.{All-append, All-contains, Contains-get_or}
 use Rattle.std.proofs.lemmas.List.Kept.{AllPairs-cons}
 use Rattle.std.proofs.lemmas.List.FromFn.{length-range_with_len, get_or-range_with_len}
-use Rattle.hz_grid.proofs.Elements.{Contains-nil, Contains-head, Contains-tail, Contains-cons_cases}
+use Rattle.hz_model.proofs.Elements.{Contains-nil, Contains-head, Contains-tail, Contains-cons_cases}
 
 module _ {X : Type 0} (R : X → X → Type 0) where
   pub AllPairs-head : (x : X) (xs : List X) → AllPairs R (x ∷ xs) → All (R x) xs

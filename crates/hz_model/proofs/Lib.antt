@@ -13,3 +13,4 @@ pub mod StraightLaws
 pub mod FormsNext
 pub mod FormsLaws
 pub mod FormsFront
+pub mod AnswerLaws

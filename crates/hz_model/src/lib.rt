@@ -2,6 +2,7 @@
 #![tactic(auto)]
 
 pub mod acceptance;
+pub mod answers;
 pub mod examples;
 pub mod expressions;
 pub mod forms;

@@ -1,4 +1,4 @@
-use Rattle.std.proofs.Common.{◌≡◌, ℕ, ◌+◌, ◌<◌, ◌≤◌, List, [], ◌∷◌, ◌++◌, length, take, drop, get_or, map, Some, slice_get, refl, sym, ap, ◌∙◌, subst, arith}
+use Rattle.std.proofs.Common.{◌≡◌, ℕ, ◌+◌, ◌<◌, ◌≤◌, List, [], ◌∷◌, ◌++◌, length, take, drop, get_or, Some, slice_get, sym, ap, ◌∙◌, subst, arith}
 use Rattle.std.proofs.lemmas.List.{map_more, length-map, take-append-drop, map-append, take-map, take_all}
 use Rattle.std.proofs.lemmas.Option.{slice_get-get_or, slice_get-map}
 use Rattle.std.specs.Option.{option_map}
@@ -8,7 +8,7 @@ use Rattle.hz_model.specs.Replay as model
 use Rattle.hz_model.specs.Replay.{Machine, State, Step, Run, Runs, start, issues_of, cycles_of}
 use Rattle.hz_tool.specs.declared.trace.Event.{Event}
 use Rattle.hz_tool.specs.declared.trace.Event.TheVariants.{Issue}
-use Rattle.hz_tool.specs.Replay.{AreGridsOf, IsFuture, PlaysTo, PlaysFrom, Follows}
+use Rattle.hz_tool.specs.Replay.{IsFuture, PlaysTo, Follows}
 use Rattle.hz_tool.specs.Trace.{event, events_in, issues_in, cycles_in}
 
 -- the event at a place of the program's list

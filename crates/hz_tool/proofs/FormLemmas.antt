@@ -1,4 +1,4 @@
-use Rattle.std.proofs.Common.{◌≡◌, ℕ, Bool, false, List, [], ◌∷◌, length, Option, None, refl, ◌+◌, ◌<◌, get_or, drop, sym, ap, ◌∙◌, option_and_then}
+use Rattle.std.proofs.Common.{◌≡◌, ℕ, false, List, [], ◌∷◌, length, Option, None, refl, ◌+◌, ◌<◌, get_or, drop, sym, ap, ◌∙◌, option_and_then}
 use Rattle.hz_sexp.specs.declared.form.Form.{Form}
 use Rattle.hz_sexp.specs.Shape.{tree, trees}
 use Rattle.std.proofs.lemmas.List.{drop_more}

@@ -9,4 +9,3 @@ pub mod WritingLemmas
 pub mod JudgeLemmas
 pub mod AnswerLemmas
 pub mod RunLemmas
-pub mod SingleLemmas

@@ -1,11 +1,11 @@
-use Rattle.std.proofs.Common.{◌≡◌, ℕ, ◌+◌, ◌<◌, ◌≤◌, zero, suc, ◌⊎◌, inl, inr, ⊎_elim, ◌↔◌, Bool, true, false, List, [], ◌∷◌, ◌++◌, length, get_or, Contains, Option, Some, None, slice_get, refl, sym, ap, ◌∙◌, subst, arith}
+use Rattle.std.proofs.Common.{◌≡◌, ℕ, ◌+◌, ◌<◌, ◌⊎◌, inl, inr, ⊎_elim, ◌↔◌, true, false, List, [], ◌∷◌, ◌++◌, length, get_or, Contains, slice_get, refl, sym, ap, ◌∙◌, subst, arith}
 use Rattle.std.proofs.lemmas.List.Elements.{Contains-append_left, Contains-append_right, Contains-append_cases}
 use Rattle.hz_model.proofs.Elements.{Contains-nil, Contains-map, Contains-from_map}
 use Rattle.hz_model.specs.Pairs.{Pair, later, placed}
 use Rattle.hz_model.specs.Alternatives.{Alternative}
 use Rattle.hz_model.specs.Sets.{Statement, Fits}
-use Rattle.hz_model.specs.Replay.{Machine, State, Event, issue, advance, Step, MayTake, FitsAt, alternatives_at, chosen, pairs_at}
-use Rattle.hz_tool.specs.Replay.{IsGridOf, AreGridsOf, IsFuture, IsAdvancedBy, PlaysTo, PlaysFrom}
+use Rattle.hz_model.specs.Replay.{Machine, State, issue, advance, Step, alternatives_at, chosen, pairs_at}
+use Rattle.hz_tool.specs.Replay.{IsGridOf, IsFuture, IsAdvancedBy, PlaysFrom}
 
 -- pairs that are placed are those pairs, later
 pub placed_has : (n unit cycle : ℕ) (pairs : List (Pair ℕ)) → Contains pairs (record { unit = unit; cycle = cycle }) → Contains (placed n pairs) (record { unit = unit; cycle = n + cycle })

@@ -1,13 +1,12 @@
-use Rattle.std.proofs.Common.{◌≡◌, ℕ, zero, suc, ◌+◌, ◌<◌, ◌≤◌, ◌&&◌, ◌⊎◌, inl, inr, ⊎_elim, Bool, true, false, not, cond, nat_lt, List, [], ◌∷◌, ◌++◌, length, get_or, map, Option, Some, None, is_some, slice_get, refl, sym, ap, ◌∙◌, subst, codes, arith}
+use Rattle.std.proofs.Common.{◌≡◌, ℕ, zero, suc, ◌+◌, ◌<◌, ◌≤◌, ◌⊎◌, inl, inr, ⊎_elim, true, false, List, [], ◌∷◌, ◌++◌, length, get_or, Option, Some, None, is_some, slice_get, refl, sym, ap, ◌∙◌, subst, codes, arith}
 use Rattle.std.proofs.lemmas.Bool.{lt-ltb, false≢true}
 use Rattle.std.specs.Str.{bytes_eq}
 use Rattle.hz_model.specs.Trees.{Tree, Trees}
-use Rattle.std.proofs.lemmas.List.{length-map, map_push, length_push, get_or_append_left, get_or_push}
-use Rattle.hz_model.specs.Alternatives.{Alternative}
+use Rattle.std.proofs.lemmas.List.{map_push, length_push, get_or_append_left, get_or_push}
 use Rattle.hz_model.specs.Limits.{unit_limit, class_limit}
 use Rattle.hz_model.specs.Names.{is_name}
 use Rattle.hz_model.specs.Pairs.{Pair}
-use Rattle.hz_model.specs.Replay.{Class, of_class, alternatives_at}
+use Rattle.hz_model.specs.Replay.{Class, of_class}
 use Rattle.hz_model.specs.Lines.{place_of, separated}
 use Rattle.hz_model.specs.Straight as model
 use Rattle.hz_model.specs.Straight.{machine_of, class_names, with_class, are_pieces, is_among, straight_alternatives}

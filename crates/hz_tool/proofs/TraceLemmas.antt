@@ -1,5 +1,4 @@
-use Rattle.std.proofs.Common.{◌≡◌, ℕ, ◌+◌, ◌<◌, ◌≤◌, List, [], ◌∷◌, ◌++◌, map, Option, Some, None, refl, sym, ap, ◌∙◌, arith, append_assoc, subst, option_and_then, add_assoc}
-use Rattle.std.proofs.lemmas.List.{map-append}
+use Rattle.std.proofs.Common.{◌≡◌, ℕ, ◌+◌, ◌<◌, ◌≤◌, List, [], ◌∷◌, ◌++◌, Option, Some, None, refl, sym, ap, ◌∙◌, arith, append_assoc}
 use Rattle.std.proofs.lemmas.Option.{none-some, same_Some}
 use Rattle.std.specs.Option.{option_map}
 use Rattle.hz_model.specs.Limits.{advance_limit}
@@ -8,7 +7,7 @@ use Rattle.hz_model.specs.Replay as model
 use Rattle.hz_model.specs.Replay.{cycles_of}
 use Rattle.hz_model.proofs.ReplayLaws.{cycles_of-append}
 use Rattle.hz_model.specs.Straight.{event_of, events_of, StraightTrace}
-use Rattle.hz_tool.specs.Trace.{event, capped, capped_event, cycles_in}
+use Rattle.hz_tool.specs.Trace.{capped, capped_event, cycles_in}
 
 pub cycles_of_push : (xs : List model.Event) (e : model.Event) → cycles_of (xs ++ e ∷ []) ≡ cycles_of xs + cycles_in e
 cycles_of_push xs (model.issue k) = omega (arith, cycles_of-append xs (model.issue k ∷ []))

@@ -1,13 +1,12 @@
-use Rattle.std.specs.Prelude.{◌≡◌, ◌⊎◌, ℕ, ◌+◌, ◌≤◌, ◌<◌, ⊤, List, Option, Some, None, length, Result, Ok, Err, MatchResult, MatchOption, Bool, true, false}
-use Rattle.std.specs.Option.{ForSome}
+use Rattle.std.specs.Prelude.{◌≡◌, ◌⊎◌, ℕ, ◌+◌, ◌<◌, ⊤, List, Option, Some, None, length, Result, MatchResult, MatchOption, Bool, true, false}
 use Rattle.std.specs.declared.alloc.Global.{Global}
 use Rattle.std.specs.declared.vec.Vec.{Vec}
-use Rattle.hz_model.specs.Answers.{Held, Next, Opens, Describes, Traces, Replays, Answer, AnswersReplay}
+use Rattle.hz_model.specs.Answers.{Held, Describes, Traces, Replays}
 use Rattle.hz_model.specs.Straight.{machine_of}
 use Rattle.hz_model.specs.Words.{Order, replay, order_of}
 use Rattle.hz_sexp.specs.declared.fault.SexpFault.{SexpFault}
 use Rattle.hz_sexp.specs.declared.fault.SexpFault.TheVariants as fault
-use Rattle.hz_tool.specs.Reports.{text_of, status_of}
+use Rattle.hz_tool.specs.Reports.{text_of}
 use Rattle.hz_tool.specs.declared.replay.Outcome.{Outcome}
 use Rattle.hz_tool.specs.declared.replay.Outcome.TheVariants as outcome
 use Rattle.hz_tool.specs.declared.report.Report.{Report}

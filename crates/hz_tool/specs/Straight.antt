@@ -1,9 +1,8 @@
-use Rattle.std.specs.Prelude.{◌≡◌, ℕ, ◌+◌, ◌<◌, ◌≤◌, List, [], ◌∷◌, ◌++◌, Option, Some, None, slice_index_or, length, map, if◌then◌else◌, Result, MatchResult, ⊤, Bool, false, All}
+use Rattle.std.specs.Prelude.{◌≡◌, ℕ, ◌+◌, ◌≤◌, List, [], ◌∷◌, ◌++◌, Option, Some, None, length, map, if◌then◌else◌, ⊤, Bool, false, All}
 use Rattle.std.specs.Option.{option_map_or}
 use Rattle.std.specs.Borrow.{Bor}
 use Rattle.hz_model.specs.Limits.{unit_limit, class_limit, advance_limit}
 use Rattle.hz_model.specs.Lines.{place_of, trimmed}
-use Rattle.hz_model.specs.Pairs.{Pair}
 use Rattle.hz_model.specs.Replay.{Event, cycles_of}
 use Rattle.hz_model.specs.Straight as model
 use Rattle.hz_model.specs.Straight.{is_nothing, machine_of, class_names}
@@ -11,7 +10,7 @@ use Rattle.hz_tool.specs.declared.straight.Description.{Description}
 use Rattle.hz_tool.specs.declared.straight.DescriptionFault.{DescriptionFault}
 use Rattle.hz_tool.specs.declared.straight.DescriptionFault.TheVariants.{NotBuilt, NoMemory}
 use Rattle.hz_tool.specs.Names.{names_in}
-use Rattle.hz_tool.specs.Replay.{IsGridOf, AreGridsOf, IsOfClass}
+use Rattle.hz_tool.specs.Replay.{AreGridsOf, IsOfClass}
 
 -- the pair of a piece at a cycle, none for `nothing`
 abbrev pub piece_pair : List (List ℕ) → ℕ → List ℕ → List (ℕ × ℕ)

@@ -1,5 +1,4 @@
-use Rattle.std.specs.Prelude.{◌≡◌, ℕ, ◌+◌, ◌≤◌, min, List, map, Option, None, Some}
-use Rattle.std.specs.Option.{option_map}
+use Rattle.std.specs.Prelude.{ℕ, ◌+◌, min, List, map}
 use Rattle.hz_model.specs.Limits.{advance_limit}
 use Rattle.hz_model.specs.Replay as model
 use Rattle.hz_model.specs.Straight.{StraightTrace}

@@ -1,5 +1,4 @@
-use Rattle.std.proofs.Common.{◌≡◌, List, ℕ, sym, ap, subst}
-use Rattle.hz_model.specs.Straight as model
+use Rattle.std.proofs.Common.{List, ℕ, sym, subst}
 use Rattle.hz_model.specs.Straight.{StraightTrace}
 use Rattle.hz_tool.specs.Names.{names_in}
 use Rattle.hz_tool.specs.Straight.{IsTraceOf}

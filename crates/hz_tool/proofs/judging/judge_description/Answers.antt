@@ -1,4 +1,4 @@
-use Rattle.std.proofs.Common.{◌≡◌, None, refl, sym, ap, ◌∙◌, subst}
+use Rattle.std.proofs.Common.{refl, sym, ap, ◌∙◌, subst}
 use Rattle.hz_model.specs.Straight as model
 use Rattle.hz_sexp.specs.Shape.{trees}
 use Rattle.hz_tool.specs.declared.straight.DescriptionFault.{DescriptionFault}

@@ -1,6 +1,5 @@
-use Rattle.std.proofs.Common.{◌≡◌, ℕ, List, Some, slice_get, inr, refl, subst, sym, ◌∙◌}
+use Rattle.std.proofs.Common.{◌≡◌, ℕ, List, Some, slice_get, inr, refl, subst}
 use Rattle.hz_model.specs.Straight.{machine_of}
-use Rattle.hz_tool.specs.Names.{names_in}
 use Rattle.hz_tool.specs.Replay.{IsOutcome}
 use Rattle.hz_tool.specs.Trace.{events_in}
 use Rattle.hz_tool.proofs.AnswerLemmas.{issue_named}

@@ -1,4 +1,4 @@
-use Rattle.std.proofs.Common.{◌≡◌, sym, subst}
+use Rattle.std.proofs.Common.{sym, subst}
 use Rattle.hz_model.specs.Straight.{machine_of}
 use Rattle.hz_tool.specs.Replay.{AreGridsOf}
 use Rattle.hz_tool.proofs.judging.replay_report.Goals as goal

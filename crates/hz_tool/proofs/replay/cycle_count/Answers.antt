@@ -1,4 +1,4 @@
-use Rattle.std.proofs.Common.{◌+◌, ◌≤◌, arith}
+use Rattle.std.proofs.Common.{◌+◌, arith}
 use Rattle.hz_tool.proofs.EventLemmas.{cycles_more, cycles_front}
 use Rattle.hz_tool.proofs.replay.cycle_count.Goals as goal
 

@@ -1,4 +1,4 @@
-use Rattle.std.proofs.Common.{ap, ◌+◌, ◌∙◌, ℕ, arith}
+use Rattle.std.proofs.Common.{arith}
 use Rattle.hz_tool.proofs.EventLemmas.{issues_more, one_issue, event_at}
 use Rattle.hz_tool.proofs.replay.issue_count.Goals as goal
 

@@ -1,11 +1,10 @@
-use Rattle.std.proofs.Common.{◌≡◌, ℕ, ◌<◌, ◌≤◌, List, [], length, get_or, Bool, true, false, sym, ap, ◌∙◌, subst, arith}
+use Rattle.std.proofs.Common.{◌≡◌, ℕ, ◌<◌, List, [], length, get_or, true, false, sym, subst}
 use Rattle.std.proofs.lemmas.List.{get_or_read}
 use Rattle.std.proofs.lemmas.Option.{MatchOption-at_some, MatchOption-at_none}
 use Rattle.std.specs.List.{Contains}
 use Rattle.hz_model.specs.Pairs.{Pair}
 use Rattle.hz_grid.specs.Grids.{Meets, IsUnion}
 use Rattle.hz_tool.specs.declared.trace.Event.{Event}
-use Rattle.hz_tool.specs.declared.trace.Event.TheVariants.{Issue, Advance}
 use Rattle.hz_tool.specs.Trace.{event as event_lem}
 use Rattle.hz_tool.specs.Replay.{PlaysFrom, IsOfClass}
 use Rattle.hz_tool.proofs.ReplayLemmas.{plays_advance, plays_issue, plays_no_issue}

@@ -1,4 +1,4 @@
-use Rattle.std.proofs.Common.{◌≡◌, ℕ, ◌+◌, ◌<◌, List, length, get_or, take, drop, sym, subst, arith}
+use Rattle.std.proofs.Common.{ℕ, ◌+◌, ◌<◌, List, length, drop, sym, subst, arith}
 use Rattle.hz_io.specs.Sink.{Wrote, Cut}
 use Rattle.hz_io.proofs.Writing.{wrote_then, wrote_then_cut, cut_before}
 use Rattle.hz_tool.proofs.WritingLemmas.{text, text_more, text_parts}

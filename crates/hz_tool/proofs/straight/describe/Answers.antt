@@ -1,9 +1,4 @@
-use Rattle.std.proofs.Common.{◌≡◌, ◌+◌, ◌<◌, length, drop, Some, None, refl, sym, ap, ◌∙◌, subst, arith}
-use Rattle.hz_model.specs.Straight as model
-use Rattle.hz_sexp.specs.Shape.{tree, trees}
-use Rattle.hz_tool.specs.Straight.{Refuses}
-use Rattle.hz_tool.specs.declared.straight.DescriptionFault.{DescriptionFault}
-use Rattle.hz_tool.specs.declared.straight.DescriptionFault.TheVariants.{NotBuilt, NoMemory}
+use Rattle.std.proofs.Common.{Some, sym, ◌∙◌, arith}
 use Rattle.hz_tool.proofs.FormLemmas.{forms_step, refused_by}
 use Rattle.hz_tool.proofs.straight.describe.Goals as goal
 

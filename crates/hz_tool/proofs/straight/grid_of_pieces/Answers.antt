@@ -1,12 +1,10 @@
-use Rattle.std.proofs.Common.{◌≡◌, ℕ, ◌<◌, ◌≤◌, ◌++◌, ◌↔◌, Contains, Bool, false, true, List, [], length, get_or, drop, map, sym, ap, ◌∙◌, subst, arith}
-use Rattle.std.proofs.lemmas.List.{append-nil, drop_all, take_all}
+use Rattle.std.proofs.Common.{◌≡◌, ℕ, ◌<◌, ◌≤◌, ◌↔◌, Contains, false, List, length, get_or, map, sym, ap, ◌∙◌, subst, arith}
 use Rattle.std.specs.Borrow.{Bor}
-use Rattle.std.specs.List.{list_all}
 use Rattle.hz_model.specs.Lines.{trimmed}
 use Rattle.hz_model.specs.Straight.{are_pieces, straight_alternatives}
 use Rattle.hz_tool.specs.Names.{names_in}
 use Rattle.hz_tool.specs.Replay.{IsGridOf}
-use Rattle.hz_tool.specs.Straight.{trimmed_all, piece_pairs}
+use Rattle.hz_tool.specs.Straight.{trimmed_all}
 use Rattle.hz_tool.proofs.StraightLemmas.{piece_at, no_piece, all_pieces}
 use Rattle.hz_tool.proofs.straight.grid_of_pieces.Goals as goal
 

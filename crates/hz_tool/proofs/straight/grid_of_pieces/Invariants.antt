@@ -1,6 +1,5 @@
-use Rattle.std.proofs.Common.{◌≡◌, ◌<◌, ◌≤◌, ◌++◌, ◌&&◌, ◌||◌, true, length, drop, take, All}
+use Rattle.std.proofs.Common.{◌≡◌, ◌<◌, ◌++◌, ◌||◌, true, drop, take, All}
 use Rattle.std.specs.List.{list_all}
-use Rattle.hz_model.specs.Lines.{separated}
 use Rattle.hz_model.specs.Straight.{is_nothing, is_among}
 use Rattle.hz_tool.specs.Names.{names_in}
 use Rattle.hz_tool.specs.Straight.{trimmed_all, piece_pairs}

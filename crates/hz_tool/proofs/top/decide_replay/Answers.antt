@@ -1,4 +1,4 @@
-use Rattle.std.proofs.Common.{◌≡◌, ◌≤◌, Some, inl, length, sym, ap, ◌∙◌, subst, arith}
+use Rattle.std.proofs.Common.{Some, inl, sym, ap, ◌∙◌, arith}
 use Rattle.hz_tool.proofs.RunLemmas.{answers_replay}
 use Rattle.hz_tool.proofs.top.decide_replay.Goals as goal
 

@@ -1,4 +1,4 @@
-use Rattle.std.proofs.Common.{◌≡◌, ℕ, List, ◌++◌, ◌+◌, ◌<◌, ◌≤◌, ap, sym, ◌∙◌, subst, arith}
+use Rattle.std.proofs.Common.{◌≡◌, ℕ, List, ◌++◌, ◌+◌, ◌<◌, ap, sym, ◌∙◌, subst, arith}
 use Rattle.std.proofs.lemmas.List.{map_push}
 use Rattle.std.specs.Option.{option_map}
 use Rattle.hz_model.specs.Lines.{lines_of}
@@ -7,8 +7,8 @@ use Rattle.hz_model.specs.Limits.{advance_limit}
 use Rattle.hz_model.specs.Replay.{cycles_of}
 use Rattle.hz_model.specs.Straight.{event_of, events_of}
 use Rattle.hz_tool.specs.Names.{names_in}
-use Rattle.hz_tool.specs.Trace.{event, events_in, cycles_in, capped_event}
-use Rattle.hz_tool.proofs.TraceLemmas.{event_whole, told_step, no_event, too_far, cycles_of_push}
+use Rattle.hz_tool.specs.Trace.{event, events_in, cycles_in}
+use Rattle.hz_tool.proofs.TraceLemmas.{event_whole, told_step, too_far, cycles_of_push}
 use Rattle.hz_tool.proofs.trace.read_trace.Goals as goal
 
 pub returns-in_default-total_with : goal.returns-in_default-total_with

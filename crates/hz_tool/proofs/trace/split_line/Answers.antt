@@ -1,4 +1,4 @@
-use Rattle.std.proofs.Common.{length, drop, ap, sym, ◌∙◌, arith}
+use Rattle.std.proofs.Common.{length, sym, ◌∙◌, arith}
 use Rattle.std.proofs.lemmas.List.{take_rest, drop_all}
 use Rattle.hz_model.proofs.LineLaws.{lines_of_at, lines_of_none}
 use Rattle.hz_tool.proofs.trace.split_line.Goals as goal

@@ -1,4 +1,4 @@
-use Rattle.std.proofs.Common.{◌∷◌, [], ℕ, List, codes, sym, subst, ◌∙◌}
+use Rattle.std.proofs.Common.{◌∷◌, [], ℕ, List, codes, sym, subst}
 use Rattle.std.specs.List.{concat}
 use Rattle.hz_io.specs.Sink.{Writes}
 use Rattle.hz_tool.specs.declared.report.Report.{Report}

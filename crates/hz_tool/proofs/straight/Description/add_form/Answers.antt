@@ -1,6 +1,5 @@
-use Rattle.std.proofs.Common.{◌≡◌, Some, refl, sym, ap, ◌∙◌, subst, ◌≤◌, length}
+use Rattle.std.proofs.Common.{◌≡◌, Some, refl, sym, ap, ◌∙◌, subst}
 use Rattle.std.specs.Str.{bytes_eq}
-use Rattle.hz_model.specs.Limits.{unit_limit}
 use Rattle.hz_model.specs.Lines.{separated}
 use Rattle.hz_model.specs.Straight as model
 use Rattle.hz_sexp.specs.Shape.{tree, trees}

@@ -1,15 +1,14 @@
-use Rattle.std.proofs.Common.{◌≡◌, ℕ, ◌+◌, ◌<◌, ◌≤◌, ◌⊎◌, inl, inr, ⊎_elim, Bool, true, false, List, length, take, drop, Option, Some, None, MatchOption, MatchBool, nat_lt, slice_get, refl, sym, ap, ◌∙◌, subst, arith}
-use Rattle.std.proofs.lemmas.List.{take-append-drop, take-take}
-use Rattle.std.proofs.lemmas.Option.{none-some, same_Some}
+-- Answers: there is one, and no other.
+use Rattle.std.proofs.Common.{◌≡◌, ℕ, ◌+◌, inl, inr, true, false, List, length, Option, Some, None, MatchOption, MatchBool, nat_lt, slice_get, sym, ap, ◌∙◌, subst}
+use Rattle.std.proofs.lemmas.Option.{same_Some}
 use Rattle.hz_model.proofs.FormsLaws.{one_reading}
-use Rattle.hz_model.proofs.ReplayLaws.{run_split, runs_from_accepted, accepted_from_runs}
-use Rattle.hz_model.specs.Answers.{Held, Says, Opens, Describes, Traces, Replays, IsIssueOf, AnswersReplay, AnswersOrder, Answer}
+use Rattle.hz_model.proofs.AcceptanceLaws.{one_refused, accepted_or_refused}
+use Rattle.hz_model.specs.Answers.{Held, Says, Opens, Describes, Traces, Replays, IsIssueOf, AnswersOrder, Answer}
 use Rattle.hz_model.specs.Limits.{description_limit, trace_limit}
-use Rattle.hz_model.specs.Replay.{Machine, State, Class, Event, issue, Run, Runs, start, Accepted, FirstRefused}
-use Rattle.hz_model.specs.Straight.{Description, Straight, StraightTrace, machine_of, class_names, with_forms, nothing_defined}
-use Rattle.hz_model.specs.Texts.{file_line, limit_line, usage_line, not_built_line, refused_line, accepted_line}
+use Rattle.hz_model.specs.Replay.{Machine, Class, Event, issue}
+use Rattle.hz_model.specs.Straight.{Description, Straight, machine_of, with_forms, nothing_defined}
+use Rattle.hz_model.specs.Texts.{file_line, limit_line, usage_line, refused_line}
 use Rattle.hz_model.specs.Words.{Order, replay, order_of}
-use Rattle.hz_model.specs.Trees.{Trees}
 
 -- answers that leave no choice
 abbrev pub IsSingle : (ℕ → List ℕ → Type 0) → Type 0
@@ -17,28 +16,6 @@ IsSingle answer = (s s' : ℕ) (t t' : List ℕ) → answer s t → answer s' t'
 
 says_single : (status : ℕ) (text : List ℕ) → IsSingle (Says status text)
 says_single status text s s' t t' a b = (a.0 ∙ sym b.0, a.1 ∙ sym b.1)
-
--- a front of what is accepted is accepted
-pub accepted_front : {U : Type 0} (m : Machine U) (t : List Event) (n : ℕ) → Accepted m t → Accepted m (take n t)
-accepted_front m t n accepted =
-    let (s, run) = runs_from_accepted m t accepted in
-    let (middle, first, rest) = run_split m start s (take n t) (drop n t) (subst (λ (es : List Event). Run m start es s) (sym (take-append-drop n t)) run) in
-    accepted_from_runs m (take n t) (middle, first)
-
--- no list of events is both accepted and refused
-pub refused_or_accepted : {U : Type 0} (m : Machine U) (t : List Event) (i : ℕ) → FirstRefused m t i → Accepted m t → ⊥
-refused_or_accepted m t i refused accepted = refused.refused (accepted_front m t (i + 1) accepted)
-
-not_before : {U : Type 0} (m : Machine U) (t : List Event) (i j : ℕ) → FirstRefused m t i → FirstRefused m t j → i < j → ⊥
-not_before m t i j first second before =
-    first.refused (subst (Accepted m) (take-take (i + 1) j t (omega arith)) (accepted_front m (take j t) (i + 1) second.before))
-
--- one list of events has one first refused event
-pub one_refused : {U : Type 0} (m : Machine U) (t : List Event) (i j : ℕ) → FirstRefused m t i → FirstRefused m t j → i ≡ j
-one_refused m t i j first second =
-    let no : i < j → ⊥ = not_before m t i j first second in
-    let nor : j < i → ⊥ = not_before m t j i second first in
-    omega arith
 
 one_class : (m : Machine ℕ) (e : Option Event) (a b : List ℕ) → IsIssueOf m e a → IsIssueOf m e b → a ≡ b
 one_class m e a b (k, c, is, there, name) (l, d, is', there', name') =
@@ -51,8 +28,8 @@ one_class m e a b (k, c, is, there, name) (l, d, is', there', name') =
 
 replays_single : (m : Machine ℕ) (events : List Event) → IsSingle (Replays m events)
 replays_single m events s s' t t' (inl a) (inl b) = says_single _ _ s s' t t' a.1 b.1
-replays_single m events s s' t t' (inl a) (inr b) = absurd (refused_or_accepted m events b.0 b.2 a.0)
-replays_single m events s s' t t' (inr a) (inl b) = absurd (refused_or_accepted m events a.0 a.2 b.0)
+replays_single m events s s' t t' (inl a) (inr b) = absurd (accepted_or_refused m events b.0 a.0 b.2)
+replays_single m events s s' t t' (inr a) (inl b) = absurd (accepted_or_refused m events a.0 b.0 a.2)
 replays_single m events s s' t t' (inr (i, class, first, named, says)) (inr (j, class', first', named', says')) =
     let place = one_refused m events i j first first' in
     let name = one_class m (slice_get events i) class class' named (subst (λ (n : ℕ). IsIssueOf m (slice_get events n) class') (sym place) named') in

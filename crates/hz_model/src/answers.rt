@@ -1,0 +1,15 @@
+//! Laws of answers.
+
+ghost use Rattle.std.specs.Prelude.{◌≡◌, ℕ, List};
+ghost use Rattle.hz_model.specs.Answers.{Held, Answer};
+ghost use Rattle.hz_model.specs.Straight.{Description, Straight};
+
+/// The words and what is held have one answer at most: one status and one text.
+pub fn one_answer()
+    ensures { (words : List (List ℕ)) (held : Held) (s s' : ℕ) (t t' : List ℕ) → Answer words held s t → Answer words held s' t' → (s ≡ s') × (t ≡ t') }
+{}
+
+/// A text is one straight description at most.
+pub fn one_straight_description()
+    ensures { (text : List ℕ) (d e : Description) → Straight text d → Straight text e → d ≡ e }
+{}
