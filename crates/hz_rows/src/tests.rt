@@ -209,22 +209,29 @@ fn descriptions_are_read_or_not_built(rt: HostRuntime) -> Result<(), Fail> {
     Ok(())
 }
 
+/// Asserts that these words are answered by the usage line.
+fn is_usage(rt: &impl Abort, alloc: Global, words: &[&str]) -> Result<(), Fail> {
+    let files = files_of(rt, alloc, LATE, b"", NEVER, 64)?;
+    expect(
+        rt,
+        alloc,
+        words,
+        files,
+        ROOM,
+        4,
+        b"usage: hz replay DESC TRACE\n",
+    )
+}
+
 #[test]
 fn other_words_are_answered_by_the_usage_line(rt: HostRuntime) -> Result<(), Fail> {
     let alloc = rt.alloc();
-    let usage = b"usage: hz replay DESC TRACE\n".as_slice();
-    for words in [
-        [].as_slice(),
-        ["replay", "d"].as_slice(),
-        ["replay", "d", "t", "u"].as_slice(),
-        ["compile", "d", "t"].as_slice(),
-        ["replay", "-d", "t"].as_slice(),
-        ["--help"].as_slice(),
-    ] {
-        let files = files_of(&rt, alloc, LATE, b"", NEVER, 64)?;
-        expect(&rt, alloc, words, files, ROOM, 4, usage)?;
-    }
-    Ok(())
+    is_usage(&rt, alloc, &[])?;
+    is_usage(&rt, alloc, &["replay", "d"])?;
+    is_usage(&rt, alloc, &["replay", "d", "t", "u"])?;
+    is_usage(&rt, alloc, &["compile", "d", "t"])?;
+    is_usage(&rt, alloc, &["replay", "-d", "t"])?;
+    is_usage(&rt, alloc, &["--help"])
 }
 
 #[test]
