@@ -8,6 +8,9 @@ use std::fs;
 use std::io::{self, Read, Write};
 use std::rt::Files as HostFiles;
 
+#[cfg(test)]
+mod tests;
+
 /// How many bytes are read at a time.
 const CHUNK: usize = 16_384;
 

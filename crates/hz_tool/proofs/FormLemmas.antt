@@ -4,8 +4,8 @@ use Rattle.hz_sexp.specs.Shape.{tree, trees}
 use Rattle.std.proofs.lemmas.List.{drop_more}
 use Rattle.hz_model.specs.Straight as model
 use Rattle.hz_tool.specs.Straight.{Refuses}
-use Rattle.hz_tool.specs.declared.straight.DescriptionFault.{DescriptionFault}
-use Rattle.hz_tool.specs.declared.straight.DescriptionFault.TheVariants.{NotBuilt, NoMemory}
+use Rattle.hz_tool.specs.declared.early.Early.{Early}
+use Rattle.hz_tool.specs.declared.early.Early.TheVariants.{NotBuilt, NoMemory}
 
 -- operands of another number
 pub no_unit_operand : (operands : List Form) → (length operands ≡ 1 → ⊥) → model.unit_operand (trees operands) ≡ None
@@ -32,6 +32,6 @@ forms_step of forms i f o inside is makes =
     ap (λ fs. model.with_forms of (trees fs)) (drop_more forms i f inside ∙ ap (λ g. g ∷ drop (i + 1) forms) (sym is)) ∙ ap (option_and_then (λ e. model.with_forms e (trees (drop (i + 1) forms)))) makes
 
 -- a form that is refused refuses all
-pub refused_by : (of : model.Description) (forms : List Form) (i : ℕ) (f : Form) (fault : DescriptionFault) → i < length forms → f ≡ get_or forms i f → model.with_forms of (trees (drop i forms)) ≡ model.with_forms model.nothing_defined (trees forms) → Refuses (model.with_form of (tree f)) fault → Refuses (model.with_forms model.nothing_defined (trees forms)) fault
+pub refused_by : (of : model.Description) (forms : List Form) (i : ℕ) (f : Form) (fault : Early) → i < length forms → f ≡ get_or forms i f → model.with_forms of (trees (drop i forms)) ≡ model.with_forms model.nothing_defined (trees forms) → Refuses (model.with_form of (tree f)) fault → Refuses (model.with_forms model.nothing_defined (trees forms)) fault
 refused_by of forms i f NotBuilt inside is told refused = sym told ∙ forms_step of forms i f None inside is refused
 refused_by of forms i f NoMemory inside is told refused = refused

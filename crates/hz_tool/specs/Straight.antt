@@ -7,8 +7,8 @@ use Rattle.hz_model.specs.Replay.{Event, cycles_of}
 use Rattle.hz_model.specs.Straight as model
 use Rattle.hz_model.specs.Straight.{is_nothing, machine_of, class_names}
 use Rattle.hz_tool.specs.declared.straight.Description.{Description}
-use Rattle.hz_tool.specs.declared.straight.DescriptionFault.{DescriptionFault}
-use Rattle.hz_tool.specs.declared.straight.DescriptionFault.TheVariants.{NotBuilt, NoMemory}
+use Rattle.hz_tool.specs.declared.early.Early.{Early}
+use Rattle.hz_tool.specs.declared.early.Early.TheVariants.{NotBuilt, NoMemory}
 use Rattle.hz_tool.specs.Names.{names_in}
 use Rattle.hz_tool.specs.Replay.{AreGridsOf, IsOfClass}
 
@@ -31,12 +31,12 @@ pub record Stands (d : Description) (of : model.Description) : Type 0 where
   pub class_room : length of.classes ≤ class_limit
 
 -- why a form is refused: it adds nothing
-abbrev pub Refuses : {A : Type 0} → Option A → DescriptionFault → Type 0
+abbrev pub Refuses : {A : Type 0} → Option A → Early → Type 0
 Refuses o NotBuilt = o ≡ None
 Refuses o NoMemory = ⊤
 
 -- why a test fails
-abbrev pub Fails : Bool → DescriptionFault → Type 0
+abbrev pub Fails : Bool → Early → Type 0
 Fails test NotBuilt = test ≡ false
 Fails test NoMemory = ⊤
 
@@ -49,7 +49,7 @@ abbrev pub Becomes : Description → Description → (model.Description → Opti
 Becomes old new next = (of : model.Description) → Stands old of → (more : model.Description) × (next of ≡ Some more) × Stands new more
 
 -- what the description stands for gets nothing
-abbrev pub RefusesAt : Description → (model.Description → Option model.Description) → DescriptionFault → Type 0
+abbrev pub RefusesAt : Description → (model.Description → Option model.Description) → Early → Type 0
 RefusesAt old next fault = (of : model.Description) → Stands old of → Refuses (next of) fault
 
 -- events of the description's classes, with no more advances than a trace may have

@@ -4,8 +4,8 @@ use Rattle.hz_model.specs.Replay as model
 use Rattle.hz_model.specs.Straight.{StraightTrace}
 use Rattle.hz_tool.specs.declared.trace.Event.{Event}
 use Rattle.hz_tool.specs.declared.trace.Event.TheVariants.{Issue, Advance}
-use Rattle.hz_tool.specs.declared.trace.TraceFault.{TraceFault}
-use Rattle.hz_tool.specs.declared.trace.TraceFault.TheVariants.{NotBuilt, NoMemory}
+use Rattle.hz_tool.specs.declared.early.Early.{Early}
+use Rattle.hz_tool.specs.declared.early.Early.TheVariants.{NotBuilt, NoMemory}
 
 -- an event of the program as an event of the model
 abbrev pub event : Event → model.Event
@@ -38,6 +38,6 @@ abbrev pub IsNoTrace : List (List ℕ) → List ℕ → Type 0
 IsNoTrace classes text = (events : List model.Event) → StraightTrace classes text events → ⊥
 
 -- why a trace was refused
-abbrev pub RefusesTrace : List (List ℕ) → List ℕ → TraceFault → Type 0
+abbrev pub RefusesTrace : List (List ℕ) → List ℕ → Early → Type 0
 RefusesTrace classes text NotBuilt = IsNoTrace classes text
 RefusesTrace classes text NoMemory = Unit {0}

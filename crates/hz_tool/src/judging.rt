@@ -11,10 +11,11 @@ ghost use Rattle.hz_tool.specs.Straight.{Stands, IsTraceOf};
 ghost use Rattle.hz_tool.specs.Trace.{events_in, IsNoTrace};
 ghost use Rattle.indexmap.specs.IndexSet.{index_set_len};
 
+use super::early::Early;
 use super::replay::{Outcome, replay};
 use super::report::Report;
-use super::straight::{Description, DescriptionFault, describe};
-use super::trace::{Event, TraceFault, read_trace};
+use super::straight::{Description, describe};
+use super::trace::{Event, read_trace};
 use super::words::ReplayOrder;
 use hz_sexp::{SexpFault, read_forms};
 use indexmap::IndexSet;
@@ -43,8 +44,8 @@ pub fn judge_description<'a>(
     match read_forms(alloc, text) {
         Ok(forms) => match describe(alloc, forms.as_slice()) {
             Ok(description) => Ok(description),
-            Err(DescriptionFault::NotBuilt) => Err(Report::NotBuilt { file: name }),
-            Err(DescriptionFault::NoMemory) => Err(Report::Memory),
+            Err(Early::NotBuilt) => Err(Report::NotBuilt { file: name }),
+            Err(Early::NoMemory) => Err(Report::Memory),
         },
         Err(fault) => {
             if is_no_memory(&fault) {
@@ -69,8 +70,8 @@ pub fn judge_trace<'a>(
 {
     match read_trace(alloc, classes, text) {
         Ok(events) => Ok(events),
-        Err(TraceFault::NotBuilt) => Err(Report::NotBuilt { file: name }),
-        Err(TraceFault::NoMemory) => Err(Report::Memory),
+        Err(Early::NotBuilt) => Err(Report::NotBuilt { file: name }),
+        Err(Early::NoMemory) => Err(Report::Memory),
     }
 }
 

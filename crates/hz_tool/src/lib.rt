@@ -1,6 +1,7 @@
 //! The top call: words, files and phases, and the answer.
 #![tactic(auto)]
 
+mod early;
 mod judging;
 mod names;
 mod read;

@@ -10,14 +10,14 @@ ghost use Rattle.hz_tool.specs.Replay.{IsGridOf};
 ghost use Rattle.hz_tool.specs.Straight.{piece_pairs, Refuses, Fails, Stands, Becomes, RefusesAt};
 ghost use Rattle.hz_sexp.specs.Shape.{tree, trees};
 ghost use Rattle.std.specs.Option.{option_map};
-ghost use Rattle.hz_tool.specs.declared.straight.DescriptionFault.TheVariants.{NoMemory as no_memory};
 ghost use Rattle.indexmap.specs.IndexSet.{index_set_len};
 
+use super::early::Early;
 use super::names::{add, is_name, is_nothing, pieces, place_of, trimmed};
 use hz_grid::{CYCLES, Grid, UNITS};
 use hz_sexp::{Form, Node};
 use indexmap::IndexSet;
-use std::alloc::{AllocError, AllocFailed, Global};
+use std::alloc::Global;
 
 /// Units and classes by their numbers. The grid of a class is what it takes, from the cycle of its issue on.
 #[derive(Drop)]
@@ -27,29 +27,6 @@ pub struct Description {
     pub grids: Vec<Grid>,
 }
 
-/// Why a text is no description that is built.
-#[derive(Debug, Drop)]
-pub enum DescriptionFault {
-    NotBuilt,
-    NoMemory,
-}
-
-impl From<AllocError> for DescriptionFault {
-    ghost from_gives = { λ _ e. e ≡ no_memory };
-
-    fn from(_error: AllocError) -> DescriptionFault {
-        DescriptionFault::NoMemory
-    }
-}
-
-impl<T: Drop> From<AllocFailed<T>> for DescriptionFault {
-    ghost from_gives = { λ _ e. e ≡ no_memory };
-
-    fn from(_error: AllocFailed<T>) -> DescriptionFault {
-        DescriptionFault::NoMemory
-    }
-}
-
 /// Classes of a description, at most.
 const CLASS_LIMIT: usize = 1024;
 
@@ -57,11 +34,7 @@ const CLASS_LIMIT: usize = 1024;
 const LATENCY_LIMIT: i128 = 1000;
 
 /// Adds a unit of this name.
-fn add_unit(
-    alloc: Global,
-    units: &mut IndexSet<Vec<u8>>,
-    name: &[u8],
-) -> Result<(), DescriptionFault>
+fn add_unit(alloc: Global, units: &mut IndexSet<Vec<u8>>, name: &[u8]) -> Result<(), Early>
     requires { length (names_in units.old.keys) ≤ unit_limit }
     ensures ok { OnOk result (model.unit_with (names_in units.old.keys) name.now ≡ Some (names_in units.new.keys)) }
     ensures room { OnOk result (length (names_in units.new.keys) ≤ unit_limit) }
@@ -72,18 +45,14 @@ fn add_unit(
         || place_of(units, name).is_some()
         || units.len() >= UNITS
     {
-        return Err(DescriptionFault::NotBuilt);
+        return Err(Early::NotBuilt);
     }
     add(alloc, units, name)?;
     Ok(())
 }
 
 /// Adds the units of a list of names.
-fn add_units(
-    alloc: Global,
-    units: &mut IndexSet<Vec<u8>>,
-    names: &[u8],
-) -> Result<(), DescriptionFault>
+fn add_units(alloc: Global, units: &mut IndexSet<Vec<u8>>, names: &[u8]) -> Result<(), Early>
     requires { length (names_in units.old.keys) ≤ unit_limit }
     ensures ok { OnOk result (model.units_with (names_in units.old.keys) (lines.separated names.now) ≡ Some (names_in units.new.keys)) }
     ensures room { OnOk result (length (names_in units.new.keys) ≤ unit_limit) }
@@ -97,11 +66,7 @@ fn add_units(
 }
 
 /// The grid of pieces: each takes its unit in its cycle, `nothing` takes none.
-fn grid_of_pieces(
-    alloc: Global,
-    units: &IndexSet<Vec<u8>>,
-    text: &[u8],
-) -> Result<Grid, DescriptionFault>
+fn grid_of_pieces(alloc: Global, units: &IndexSet<Vec<u8>>, text: &[u8]) -> Result<Grid, Early>
     requires { length (names_in units.now.keys) ≤ unit_limit }
     ensures ok { OnOk result (model.are_pieces (names_in units.now.keys) (lines.separated text.now) ≡ true) }
     ensures grid { IfOk result (λ grid. IsGridOf grid (model.straight_alternatives (names_in units.now.keys) (lines.separated text.now))) }
@@ -109,7 +74,7 @@ fn grid_of_pieces(
 {
     let list = pieces(alloc, text)?;
     if list.len() > CYCLES {
-        return Err(DescriptionFault::NotBuilt);
+        return Err(Early::NotBuilt);
     }
     let mut pairs = Vec::new(alloc);
     for (cycle, piece) in list.iter().enumerate() {
@@ -118,7 +83,7 @@ fn grid_of_pieces(
             continue;
         }
         let Some(unit) = place_of(units, name) else {
-            return Err(DescriptionFault::NotBuilt);
+            return Err(Early::NotBuilt);
         };
         pairs.push((unit as u8, cycle as u16))?;
     }
@@ -243,7 +208,7 @@ impl Description {
     }
 
     /// Adds a class of this name that takes these pieces.
-    fn add_class(&mut self, alloc: Global, class: ClassOperands<'_>) -> Result<(), DescriptionFault>
+    fn add_class(&mut self, alloc: Global, class: ClassOperands<'_>) -> Result<(), Early>
         requires { (of : model.Description) × Stands self.old of }
         ensures ok { OnOk result (Becomes self.old self.new (λ of. model.with_class of class.entry.name.now (lines.separated class.entry.pieces.now))) }
         ensures err { IfErr result (RefusesAt self.old (λ of. model.with_class of class.entry.name.now (lines.separated class.entry.pieces.now))) }
@@ -252,7 +217,7 @@ impl Description {
             || self.names.len() >= CLASS_LIMIT
             || place_of(&self.names, class.name).is_some()
         {
-            return Err(DescriptionFault::NotBuilt);
+            return Err(Early::NotBuilt);
         }
         let grid = grid_of_pieces(alloc, &self.units, class.pieces)?;
         add(alloc, &mut self.names, class.name)?;
@@ -261,13 +226,13 @@ impl Description {
     }
 
     /// Adds what a form defines.
-    fn add_form(&mut self, alloc: Global, form: &Form) -> Result<(), DescriptionFault>
+    fn add_form(&mut self, alloc: Global, form: &Form) -> Result<(), Early>
         requires { (of : model.Description) × Stands self.old of }
         ensures ok { OnOk result (Becomes self.old self.new (λ of. model.with_form of (tree form.now))) }
         ensures err { IfErr result (RefusesAt self.old (λ of. model.with_form of (tree form.now))) }
     {
         let Some((word, operands)) = headed(form) else {
-            return Err(DescriptionFault::NotBuilt);
+            return Err(Early::NotBuilt);
         };
         if word == b"define_cpu_unit".as_slice() {
             match unit_operand(operands) {
@@ -275,21 +240,21 @@ impl Description {
                     add_units(alloc, &mut self.units, names)?;
                     Ok(())
                 }
-                None => Err(DescriptionFault::NotBuilt),
+                None => Err(Early::NotBuilt),
             }
         } else if word == b"define_insn_reservation".as_slice() {
             match class_operands(operands) {
                 Some(class) => self.add_class(alloc, class),
-                None => Err(DescriptionFault::NotBuilt),
+                None => Err(Early::NotBuilt),
             }
         } else {
-            Err(DescriptionFault::NotBuilt)
+            Err(Early::NotBuilt)
         }
     }
 }
 
 /// The description that forms make, one after the other. `NotBuilt` where they make none.
-pub fn describe(alloc: Global, forms: &[Form]) -> Result<Description, DescriptionFault>
+pub fn describe(alloc: Global, forms: &[Form]) -> Result<Description, Early>
     ensures ok { IfOk result (λ d. (of : model.Description) × (model.with_forms model.nothing_defined (trees forms.now) ≡ Some of) × Stands d of) }
     ensures err { IfErr result (Refuses (model.with_forms model.nothing_defined (trees forms.now))) }
 {

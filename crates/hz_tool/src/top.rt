@@ -1,6 +1,6 @@
 //! The top call: the words, the files, the texts, and then the answer.
 
-ghost use Rattle.std.specs.Prelude.{◌≡◌, ◌⊎◌, ◌↔◌, ℕ, List, ◌-◌, ◌^◌, ◌<◌, None};
+ghost use Rattle.std.specs.Prelude.{◌≡◌, ◌⊎◌, ◌↔◌, ℕ, List, ◌-◌, ◌^◌, ◌<◌, ◌≤◌, None};
 ghost use Rattle.std.specs.Option.{ForSome};
 ghost use Rattle.hz_model.specs.Answers.{Answer, AnswersReplay};
 ghost use Rattle.hz_model.specs.Texts.{usage_line, memory_line};
@@ -64,6 +64,9 @@ pub fn run<F: Files, S: Sink>(alloc: Global, words: &[String], files: &mut F, ou
     // When each status comes.
     ensures sink { (result ≡ 7) ↔ (S.faults out.old < S.faults out.new) }
     ensures file { (result ≡ 6) ↔ ((F.faults files.old < F.faults files.new) × (S.faults out.new ≡ S.faults out.old)) }
+    ensures lacks { ForSome (F.held files.old) (λ held. F.steady files.old → F.faults files.old < F.faults files.new → (text : List ℕ) × Answer (words_in words.now) held 6 text) }
+    ensures rises { F.faults files.old ≤ F.faults files.new }
+    ensures fails { S.faults out.old ≤ S.faults out.new }
     ensures words { F.faults files.new ≡ F.faults files.old → S.faults out.new ≡ S.faults out.old → ((result ≡ 4) ↔ (model.order_of (words_in words.now) ≡ None)) }
 
     // What is written.

@@ -9,6 +9,7 @@ ghost use Rattle.hz_tool.specs.Names.{names_in};
 ghost use Rattle.hz_tool.specs.Trace.{event as event_lem, capped, capped_event, cycles_in, events_in, RefusesTrace};
 ghost use Rattle.indexmap.specs.IndexSet.{index_set_len};
 
+use super::early::Early;
 use super::names::place_of;
 use indexmap::IndexSet;
 use std::alloc::{AllocError, Global};
@@ -20,13 +21,6 @@ pub enum Event {
     Issue(u32),
     /// So many cycle advances.
     Advance(u32),
-}
-
-/// Why a text is no trace that is built.
-#[derive(Debug, Drop)]
-pub enum TraceFault {
-    NotBuilt,
-    NoMemory,
 }
 
 /// The advances of a trace sum to at most this.
@@ -99,7 +93,7 @@ pub fn read_trace(
     alloc: Global,
     classes: &IndexSet<Vec<u8>>,
     text: &[u8],
-) -> Result<Vec<Event>, TraceFault>
+) -> Result<Vec<Event>, Early>
     requires { index_set_len classes.now ≤ class_limit }
     ensures { MatchResult result
         (λ events. StraightTrace (names_in classes.now.keys) text.now (events_in events.items))
@@ -111,14 +105,14 @@ pub fn read_trace(
     while !rest.is_empty() {
         let (line, others) = split_line(rest);
         let Some(event) = line_event(classes, line) else {
-            return Err(TraceFault::NotBuilt);
+            return Err(Early::NotBuilt);
         };
         let Some(sum) = total_with(total, event) else {
-            return Err(TraceFault::NotBuilt);
+            return Err(Early::NotBuilt);
         };
         match events.push(event) {
             Ok(()) => {}
-            Err(_) => return Err(TraceFault::NoMemory),
+            Err(_) => return Err(Early::NoMemory),
         }
         total = sum;
         rest = others;

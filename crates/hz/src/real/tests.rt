@@ -1,0 +1,54 @@
+//! The host's files and its standard output as the system has them.
+ghost use Rattle.std.specs.Prelude.{◌≡◌, ◌-◌, ◌^◌, ◌<◌};
+
+use super::{RealFiles, RealSink};
+use hz_io::{Failed, Files, Sink, slurp};
+use std::alloc::Global;
+use std::fs;
+use std::test::Fail;
+
+/// The name of the file that the test makes.
+const NAME: &str = "hz_real_files_test";
+
+/// More bytes than one read gives.
+const LENGTH: usize = 40_000;
+
+/// A limit that no file here reaches.
+const MOST: u64 = 1_000_000;
+
+/// What the file of that name holds, where it's read whole.
+fn held<F: Files>(alloc: Global, files: &mut F) -> Option<Vec<u8>>
+    requires { F.faults files.old < 2 ^ 64 - 1 }
+{
+    slurp(alloc, files, NAME, MOST).ok()
+}
+
+#[test]
+fn a_real_file_is_read_whole(rt: HostRuntime) -> Result<(), Fail> {
+    let bytes = vec![in rt.alloc(); b'a'; LENGTH]?;
+    fs::write(&rt, NAME, bytes.as_slice())?;
+    let read = held(rt.alloc(), &mut RealFiles::new(&rt));
+    fs::remove_file(&rt, NAME)?;
+    let read = read.unwrap_or(Vec::new(rt.alloc()));
+    assert_eq!(rt; read.as_slice(), bytes.as_slice());
+    Ok(())
+}
+
+#[test]
+fn a_missing_file_is_counted(rt: HostRuntime) -> Result<(), Fail> {
+    let mut files = RealFiles::new(&rt);
+    assert_eq!(rt; files.open("hz_real_files_test/none"), Err(Failed));
+    assert_eq!(rt; files.faults, 1);
+    assert_eq!(rt; files.read(&mut [0u8; 4]), Ok(0));
+    assert_eq!(rt; files.faults, 1);
+    Ok(())
+}
+
+#[test]
+fn standard_output_takes_bytes(rt: HostRuntime) -> Result<(), Fail> {
+    let mut out = RealSink::new(&rt);
+    assert_eq!(rt; out.put(b"standard output\n"), Ok(()));
+    assert_eq!(rt; out.put(b""), Ok(()));
+    assert_eq!(rt; out.faults, 0);
+    Ok(())
+}
