@@ -5,7 +5,7 @@ use Rattle.std.proofs.lemmas.Bool.{cases_order}
 use Rattle.std.proofs.lemmas.List.{map-append, take_more, take-append-drop, take-take}
 use Rattle.std.proofs.lemmas.Option.{slice_get-get_or, get_or_from_slice_get}
 use Rattle.hz_model.specs.Pairs.{placed}
-use Rattle.hz_model.specs.Replay.{Machine, Event, issue, advance, State, Run, MayTake, Accepted, FirstRefused, start, chosen}
+use Rattle.hz_model.specs.Replay.{Machine, Event, issue, advance, State, Plays, MayTake, Accepted, FirstRefused, start, chosen}
 use Rattle.hz_model.proofs.FitLaws.{placed_placed, fits_moved, fits_back}
 use Rattle.hz_model.proofs.ReplayLaws.{run_split, run_join, run_more, runs_from_accepted, accepted_from_runs}
 
@@ -23,21 +23,21 @@ module _ {U : Type 0} (m : Machine U) where
       accepted_from_runs m (xs ++ advance n ∷ []) (record { reserved = (run.0).reserved; now = n + (run.0).now }, run_more m start run.0 _ xs (advance n) run.1 refl)
 
   -- two advances are one
-  one_advance : (a b : ℕ) (ys : List Event) (s q : State U) → Run m s (advance a ∷ advance b ∷ ys) q → Run m s (advance (a + b) ∷ ys) q
+  one_advance : (a b : ℕ) (ys : List Event) (s q : State U) → Plays m s (advance a ∷ advance b ∷ ys) q → Plays m s (advance (a + b) ∷ ys) q
   one_advance a b ys s q (first, e, (second, f, run)) =
       let time : b + (a + s.now) ≡ a + b + s.now = omega arith in
       (second, f ∙ ap (λ (x : State U). record { reserved = x.reserved; now = b + x.now }) e ∙ ap (λ (c : ℕ). record { reserved = s.reserved; now = c }) time, run)
 
-  two_advances : (a b : ℕ) (ys : List Event) (s q : State U) → Run m s (advance (a + b) ∷ ys) q → Run m s (advance a ∷ advance b ∷ ys) q
+  two_advances : (a b : ℕ) (ys : List Event) (s q : State U) → Plays m s (advance (a + b) ∷ ys) q → Plays m s (advance a ∷ advance b ∷ ys) q
   two_advances a b ys s q (middle, e, run) =
       let time : a + b + s.now ≡ b + (a + s.now) = omega arith in
       (record { reserved = s.reserved; now = a + s.now }, refl, (middle, e ∙ ap (λ (c : ℕ). record { reserved = s.reserved; now = c }) time, run))
 
-  pub advances_run : (a b : ℕ) (ys : List Event) (s q : State U) → Run m s (advance a ∷ advance b ∷ ys) q ↔ Run m s (advance (a + b) ∷ ys) q
+  pub advances_run : (a b : ℕ) (ys : List Event) (s q : State U) → Plays m s (advance a ∷ advance b ∷ ys) q ↔ Plays m s (advance (a + b) ∷ ys) q
   advances_run a b ys s q = (one_advance a b ys s q, two_advances a b ys s q)
 
   -- where parts of lists of events run alike, the lists are accepted alike
-  runs_alike : (xs ys zs : List Event) → ((s q : State U) → Run m s ys q → Run m s zs q) → Accepted m (xs ++ ys) → Accepted m (xs ++ zs)
+  runs_alike : (xs ys zs : List Event) → ((s q : State U) → Plays m s ys q → Plays m s zs q) → Accepted m (xs ++ ys) → Accepted m (xs ++ zs)
   runs_alike xs ys zs same h =
       let run = runs_from_accepted m (xs ++ ys) h in
       let parts = run_split m start run.0 xs ys run.1 in
@@ -65,7 +65,7 @@ module _ {U : Type 0} (m : Machine U) where
   issued_moved : (n k i : ℕ) (s : State U) → record { reserved = placed n s.reserved ++ placed (n + s.now) (chosen m k i); now = n + s.now } ≡ moved n (record { reserved = s.reserved ++ placed s.now (chosen m k i); now = s.now })
   issued_moved n k i s = rw (map-append, placed_placed) refl
 
-  run_moved : (n : ℕ) (t : List Event) (s q : State U) → Run m s t q → Run m (moved n s) t (moved n q)
+  run_moved : (n : ℕ) (t : List Event) (s q : State U) → Plays m s t q → Plays m (moved n s) t (moved n q)
   run_moved n [] s q r = ap (moved n) r
   run_moved n (advance a ∷ t) s q (middle, e, run) =
       let time : n + (a + s.now) ≡ a + (n + s.now) = omega arith in
@@ -73,15 +73,15 @@ module _ {U : Type 0} (m : Machine U) where
   run_moved n (issue k ∷ t) s q (middle, (i, may, e), run) =
       (moved n middle, (i, may_moved n s k i may, ap (moved n) e ∙ sym (issued_moved n k i s)), run_moved n t middle q run)
 
-  run_back : (n : ℕ) (t : List Event) (s p : State U) → Run m (moved n s) t p → (q : State U) × Run m s t q
+  run_back : (n : ℕ) (t : List Event) (s p : State U) → Plays m (moved n s) t p → (q : State U) × Plays m s t q
   run_back n [] s p r = (s, refl)
   run_back n (advance a ∷ t) s p (middle, e, run) =
       let time : a + (n + s.now) ≡ n + (a + s.now) = omega arith in
       let same : middle ≡ moved n (record { reserved = s.reserved; now = a + s.now }) = e ∙ ap (λ (c : ℕ). record { reserved = placed n s.reserved; now = c }) time in
-      let rest = run_back n t (record { reserved = s.reserved; now = a + s.now }) p (subst (λ (x : State U). Run m x t p) same run) in
+      let rest = run_back n t (record { reserved = s.reserved; now = a + s.now }) p (subst (λ (x : State U). Plays m x t p) same run) in
       (rest.0, (_, refl, rest.1))
   run_back n (issue k ∷ t) s p (middle, (i, may, e), run) =
-      let rest = run_back n t (record { reserved = s.reserved ++ placed s.now (chosen m k i); now = s.now }) p (subst (λ (x : State U). Run m x t p) (e ∙ issued_moved n k i s) run) in
+      let rest = run_back n t (record { reserved = s.reserved ++ placed s.now (chosen m k i); now = s.now }) p (subst (λ (x : State U). Plays m x t p) (e ∙ issued_moved n k i s) run) in
       (rest.0, (_, (i, may_back n s k i may, refl), rest.1))
 
   -- all events n cycles later
@@ -91,7 +91,7 @@ module _ {U : Type 0} (m : Machine U) where
       down : Accepted m (advance n ∷ t) → Accepted m t
       down h =
           let run = runs_from_accepted m (advance n ∷ t) h in
-          accepted_from_runs m t (run_back n t start run.0 (subst (λ (x : State U). Run m x t run.0) run.1.1 run.1.2))
+          accepted_from_runs m t (run_back n t start run.0 (subst (λ (x : State U). Plays m x t run.0) run.1.1 run.1.2))
 
       up : Accepted m t → Accepted m (advance n ∷ t)
       up h =

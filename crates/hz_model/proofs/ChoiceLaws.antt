@@ -4,7 +4,8 @@ use Rattle.std.proofs.lemmas.Bool.{cases_order}
 use Rattle.std.proofs.lemmas.List.{take_more_same}
 use Rattle.std.proofs.Math.Seq.{take-length}
 use Rattle.hz_model.specs.Pairs.{Pair, placed}
-use Rattle.hz_model.specs.Replay.{Machine, first_fit, Event, issue, advance, State, MayTake, IsChoice, calendar, chosen, left_by, issues_of, cycles_of}
+use Rattle.std.specs.Prelude.{◌↔◌}
+use Rattle.hz_model.specs.Replay.{Machine, Treatment, first_fit, Event, issue, advance, State, MayTake, IsChoice, ChoiceFirst, Accepted, calendar, chosen, left_by, issues_of, cycles_of}
 
 -- the issue of this number, with what stands around it
 record IssueAt (t : List Event) (n : ℕ) : Type 0 where
@@ -53,3 +54,13 @@ module _ {U : Type 0} (m : Machine U) where
     one_choice =
         let all = same_front (issues_of t) (omega arith) in
         sym (take-length p) ∙ (ap (λ (n : ℕ). take n p) a.each ∙ (all ∙ (ap (λ (n : ℕ). take n q) (sym b.each) ∙ take-length q)))
+
+-- in the first treatment what is accepted is accepted by its choice
+pub by_first_choice : {U : Type 0} (m : Machine U) → m.treatment ≡ first_fit → (t : List Event) → Accepted m t ↔ ((choices : List ℕ) × ChoiceFirst m t choices)
+by_first_choice {U} m is t = (λ h. (h.0, there h.0 h.1), λ h. (h.0, back h.0 h.1))
+  where
+    there : (choices : List ℕ) → IsChoice m t choices → ChoiceFirst m t choices
+    there choices h = subst (λ (x : Treatment). IsChoice (record m { treatment = x }) t choices) is h
+
+    back : (choices : List ℕ) → ChoiceFirst m t choices → IsChoice m t choices
+    back choices h = subst (λ (x : Treatment). IsChoice (record m { treatment = x }) t choices) (sym is) h

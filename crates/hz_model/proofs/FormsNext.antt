@@ -4,7 +4,7 @@ use Rattle.std.specs.Prelude.{IsTrue, ◌&&◌, ◌==◌, nat_lt, ℤ}
 use Rattle.std.specs.Option.{option_and_then}
 use Rattle.std.proofs.lemmas.Bool.{cases_Bool, eqb-true, and_parts, not-true}
 use Rattle.hz_model.specs.Trees.{atom, quoted, number}
-use Rattle.hz_model.specs.Forms.{Bracket, round, square, OpenBracket, Token, opens, closes, leaf, depth_limit, closed, open_after_all, line_after, Role, role, blank, semicolon, quote, letter, foreign, opener, closer, is_letter, begins_comment, ends_comment, goes_on, Word, number_of, is_in_range, is_plain, is_string_byte, escaped, Inside, Comment, line_end, Step, FormFault, unclosed, stray, bad_escape, too_deep, bad_byte, number_too_large, Faulty}
+use Rattle.hz_model.specs.Forms.{Bracket, round, square, OpenBracket, Token, opens, closes, leaf, depth_limit, closed, open_after_all, line_after, Role, role, blank, semicolon, quote, letter, foreign, opener, closer, is_letter, begins_comment, ends_comment, goes_on, Word, integer_of, is_in_range, is_plain, is_string_byte, escaped, Inside, Comment, line_end, Step, FormFault, unclosed, stray, bad_escape, too_deep, bad_byte, number_too_large, Faulty}
 
 -- what stands next: a step, with the brackets that are open after it, or the end with or without a fault
 pub data Next : Type 0 where
@@ -150,7 +150,7 @@ abbrev pub role_next : List OpenBracket → ℕ → ℕ → List ℕ → Role �
 role_next opened line b text blank = goes opened [] (line_after b line) text
 role_next opened line b text semicolon = goes opened [] line (line_end text)
 role_next opened line b text quote = let s = inside_scan false line text in string_next opened line s.last s.bytes s.rest
-role_next opened line b text letter = let s = word_scan (b ∷ text) in word_next opened line s.0 s.1 (number_of s.0)
+role_next opened line b text letter = let s = word_scan (b ∷ text) in word_next opened line s.0 s.1 (integer_of s.0)
 role_next opened line b text foreign = stops (Some (bad_byte, line))
 role_next opened line b text (opener bracket) = cond (nat_lt (length opened) depth_limit)
     (goes (record { bracket = bracket; line = line } ∷ opened) (opens bracket line ∷ []) line text) (stops (Some (too_deep, line)))
@@ -181,7 +181,7 @@ goes_first : {text bytes rest : List ℕ} → Word text bytes rest → (bytes �
 goes_first (Word.ends h) = inl refl
 goes_first (Word.letter h part) = inr h
 
-by_word : (opened : List OpenBracket) (line b : ℕ) (text bytes rest : List ℕ) → Word (b ∷ text) (b ∷ bytes) rest → next opened line (b ∷ text) ≡ word_next opened line (b ∷ bytes) rest (number_of (b ∷ bytes))
+by_word : (opened : List OpenBracket) (line b : ℕ) (text bytes rest : List ℕ) → Word (b ∷ text) (b ∷ bytes) rest → next opened line (b ∷ text) ≡ word_next opened line (b ∷ bytes) rest (integer_of (b ∷ bytes))
 by_word opened line b text bytes rest word = elim (goes_first word) [
   | inl e ↦ absurd (cc)
   | inr h ↦ let parts = and_parts (is_letter b) (not (begins_comment (b ∷ text))) h in
@@ -261,7 +261,7 @@ is_comment_at opened line b (c ∷ text) h = let both = and_parts (b == 47) (c =
     let scan = is_comment line text in
     rw (eqb-true b 47 both.0, eqb-true c 42 both.1) (is_comment_next opened line _ text _ scan.0 scan.1)
 
-is_word_next : (opened : List OpenBracket) (line b : ℕ) (text bytes rest : List ℕ) (value : Option ℤ) → Word (b ∷ text) (b ∷ bytes) rest → number_of (b ∷ bytes) ≡ value
+is_word_next : (opened : List OpenBracket) (line b : ℕ) (text bytes rest : List ℕ) (value : Option ℤ) → Word (b ∷ text) (b ∷ bytes) rest → integer_of (b ∷ bytes) ≡ value
     → IsNext opened line (b ∷ text) (word_next opened line (b ∷ bytes) rest value)
 is_word_next opened line b text bytes rest None w e = (Step.word w e, refl)
 is_word_next opened line b text bytes rest (Some value) w e = elim (cases_Bool (is_in_range value)) [ inl h ↦ rw h (Step.numeral w e h, refl) | inr h ↦ rw h (Faulty.large_number w e h) ]

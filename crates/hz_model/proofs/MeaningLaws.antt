@@ -5,7 +5,7 @@ use Rattle.hz_model.specs.Alternatives.{Alternative, taking, Expression, named, 
 use Rattle.std.specs.Option.{option_map, option_map_or}
 use Rattle.hz_model.specs.Lines.{place_of}
 use Rattle.hz_model.specs.Straight.{unit_alternatives}
-use Rattle.hz_model.specs.Meanings.{Meaning, unit, reservation, alternatives_of_meaning, Expands, Mentions, MentionsIn, Reaches, Unwinds, IsClosed}
+use Rattle.hz_model.specs.Meanings.{Meaning, unit, reservation, alternatives_of_meaning, Expands, Mentions, MentionsIn, Reaches, Unwinds, Alts, IsClosed}
 use Rattle.hz_model.proofs.ExpressionLaws.{some_alternatives}
 
 module _ {U : Type 0} where
@@ -97,6 +97,16 @@ module _ {U : Type 0} where
         by_meaning each (Some (unit u)) e is = rw (right name, e) (omega arith)
         by_meaning each (Some (reservation x)) e is = rw (right name, e) (some_alternatives known x (written.expressions name x e)
             (λ used h. let below = unwinds.falls name used x e h in each used (omega arith) (written.names name used x e h)))
+
+module _ {U : Type 0} where
+  -- an expression's alternatives in a description, by the names' own
+  pub some_alts : (defined : List ℕ → Option (Meaning U)) → Unwinds defined → (e : Expression) → (alternatives : List (Alternative U)) × Alts defined e alternatives
+  some_alts defined unwinds e = (alternatives_of (assigned defined unwinds) e, record { unwinds = unwinds; known = assigned defined unwinds; right = assigned_right defined unwinds; these = refl })
+
+  pub one_alts : (defined : List ℕ → Option (Meaning U)) (e : Expression) (xs ys : List (Alternative U)) → Alts defined e xs → Alts defined e ys → xs ≡ ys
+  one_alts defined e xs ys a b =
+      let same = alternatives_same a.known b.known e (λ name _. one_assignment defined a.unwinds a.known b.known a.right b.right name) in
+      a.these ∙ (same ∙ sym b.these)
 
 pub straight_right : (units : List (List ℕ)) → Expands (λ name. option_map unit (place_of name units)) (unit_alternatives units)
 straight_right units name = by_place (place_of name units)

@@ -9,7 +9,7 @@ use Rattle.std.proofs.lemmas.List.Elements.{Contains-append_left, Contains-appen
 use Rattle.hz_model.specs.Pairs.{Pair, placed}
 use Rattle.hz_model.specs.Sets.{SetKind, exclusion, presence, final_presence, absence, final_absence, Statement, Holds, HoldsSome, HoldsPattern, AllowsIn, Fits}
 use Rattle.hz_model.specs.Alternatives.{Alternative}
-use Rattle.hz_model.specs.Replay.{Treatment, first_fit, any_fit, Machine, Event, issue, advance, State, start, alternatives_at, chosen, pairs_at, FitsAt, MayTake, Step, Run, Accepted, FirstRefused}
+use Rattle.hz_model.specs.Replay.{Treatment, first_fit, any_fit, Machine, Event, issue, advance, State, start, alternatives_at, chosen, pairs_at, FitsAt, MayTake, Step, Plays, Accepted, FirstRefused}
 use Rattle.hz_model.specs.Plays.{Tells, has, holds, holds_pattern, asks, allows, fits_added, taken, next, plays, accepts}
 use Rattle.hz_model.proofs.Elements.{Contains-nil, Contains-head, Contains-tail, Contains-cons_cases, Contains-map, Contains-from_map}
 use Rattle.hz_model.proofs.ReplayLaws.{runs_from_accepted, accepted_from_runs}
@@ -261,13 +261,13 @@ module _ {U : Type 0} (same : U → U → Bool) (tells : Tells same) (m : Machin
       let pairs = pairs_of k i a.0 a.1 in
       rw (is, pairs) (Contains-map (issued s) (taken m.treatment (fit s) (alternatives_at m k)) a.0 there)
 
-  pub plays_run : (t : List Event) (s q : State U) → Contains (plays same m s t) q → Run m s t q
+  pub plays_run : (t : List Event) (s q : State U) → Contains (plays same m s t) q → Plays m s t q
   plays_run [] s q h = ⊎_elim sym (λ there. absurd (Contains-nil q there)) (Contains-cons_cases _ q [] h)
   plays_run (e ∷ t) s q h =
       let found = flat_contains (λ p. plays same m p t) (next same m s e) q h in
       (found.0, next_step s e found.0 found.1, plays_run t found.0 q found.2)
 
-  pub run_plays : (t : List Event) (s q : State U) → Run m s t q → Contains (plays same m s t) q
+  pub run_plays : (t : List Event) (s q : State U) → Plays m s t q → Contains (plays same m s t) q
   run_plays [] s q h = rw h (Contains-head _ [])
   run_plays (e ∷ t) s q (middle, step, run) = contains_flat (λ p. plays same m p t) (next same m s e) middle q (step_next s e middle step) (run_plays t middle q run)
 

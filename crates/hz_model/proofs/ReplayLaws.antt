@@ -1,21 +1,21 @@
 use Rattle.std.proofs.Common.{◌≡◌, ℕ, suc, ◌+◌, ◌<◌, List, [], ◌∷◌, ◌++◌, length, drop, refl, sym, ap, ◌∙◌, subst, append_assoc, slice_index, arith, zero-add, add-zero}
 use Rattle.std.proofs.lemmas.List.{append-nil, drop_more, length-append}
 use Rattle.hz_model.specs.Pairs.{Pair, placed}
-use Rattle.hz_model.specs.Replay.{Machine, Event, issue, advance, State, Step, Run, Runs, MayTake, IsChoice, Accepted, start, calendar, chosen, left_by, issues_of, cycles_of}
+use Rattle.hz_model.specs.Replay.{Machine, Event, issue, advance, State, Step, Plays, IsPlayable, MayTake, IsChoice, Accepted, start, calendar, chosen, left_by, issues_of, cycles_of}
 
 -- a run through two lists of events passes a state between them
-pub run_split : {U : Type 0} (m : Machine U) (old new : State U) (xs ys : List Event) → Run m old (xs ++ ys) new → (middle : State U) × Run m old xs middle × Run m middle ys new
+pub run_split : {U : Type 0} (m : Machine U) (old new : State U) (xs ys : List Event) → Plays m old (xs ++ ys) new → (middle : State U) × Plays m old xs middle × Plays m middle ys new
 run_split m old new [] ys r = (old, refl, r)
 run_split m old new (e ∷ xs) ys r =
     let later = run_split m r.0 new xs ys r.2 in
     (later.0, (r.0, r.1, later.1), later.2)
 
-pub run_join : {U : Type 0} (m : Machine U) (old middle new : State U) (xs ys : List Event) → Run m old xs middle → Run m middle ys new → Run m old (xs ++ ys) new
-run_join {U} m old middle new [] ys first second = subst (λ (s : State U). Run m s ys new) first second
+pub run_join : {U : Type 0} (m : Machine U) (old middle new : State U) (xs ys : List Event) → Plays m old xs middle → Plays m middle ys new → Plays m old (xs ++ ys) new
+run_join {U} m old middle new [] ys first second = subst (λ (s : State U). Plays m s ys new) first second
 run_join m old middle new (e ∷ xs) ys first second = (first.0, first.1, run_join m first.0 middle new xs ys first.2 second)
 
 -- one more step
-pub run_more : {U : Type 0} (m : Machine U) (old middle new : State U) (xs : List Event) (e : Event) → Run m old xs middle → Step m middle e new → Run m old (xs ++ e ∷ []) new
+pub run_more : {U : Type 0} (m : Machine U) (old middle new : State U) (xs : List Event) (e : Event) → Plays m old xs middle → Step m middle e new → Plays m old (xs ++ e ∷ []) new
 run_more m old middle new xs e run step = run_join m old middle new xs (e ∷ []) run (new, step, refl)
 
 -- counts of events side by side
@@ -63,10 +63,10 @@ left_by_issue m done k choices within =
     rw (time, pairs, here, first) refl
 
 -- what is accepted can be run, to what the choices leave
-run_through : {U : Type 0} (m : Machine U) (t : List Event) (choices : List ℕ) → IsChoice m t choices → (done todo : List Event) → t ≡ done ++ todo → Run m start done (left_by m done choices) → Run m start t (left_by m t choices)
+run_through : {U : Type 0} (m : Machine U) (t : List Event) (choices : List ℕ) → IsChoice m t choices → (done todo : List Event) → t ≡ done ++ todo → Plays m start done (left_by m done choices) → Plays m start t (left_by m t choices)
 run_through m t choices is done [] all run =
     let same : done ≡ t = sym (all ∙ append-nil done) in
-    subst (λ (d : List Event). Run m start d (left_by m d choices)) same run
+    subst (λ (d : List Event). Plays m start d (left_by m d choices)) same run
 run_through m t choices is done (advance n ∷ todo) all run =
     run_through m t choices is (done ++ advance n ∷ []) todo (all ∙ sym (append_assoc done (advance n ∷ []) todo))
     (run_more m start (left_by m done choices) (left_by m (done ++ advance n ∷ []) choices) done (advance n) run (left_by_advance m done n choices))
@@ -137,7 +137,7 @@ after_issue : {U : Type 0} (m : Machine U) (s : State U) (k i : ℕ) (t : List E
 after_issue m s k i t may (choices, is) = (i ∷ choices, record { each = ap suc is.each; may = may_now m s k i t choices may is })
 
 -- the choices of a run
-choices_of : {U : Type 0} (m : Machine U) (s new : State U) (t : List Event) → Run m s t new → HasChoices m s t
+choices_of : {U : Type 0} (m : Machine U) (s new : State U) (t : List Event) → Plays m s t new → HasChoices m s t
 choices_of m s new [] run = ([], record { each = refl; may = λ before after k e. absurd (none_last before after k e) })
 choices_of {U} m s new (advance n ∷ t) (middle, step, run) =
     after_advance m s n t (subst (λ (q : State U). HasChoices m q t) step (choices_of m middle new t run))
@@ -145,10 +145,10 @@ choices_of {U} m s new (issue k ∷ t) (middle, (i, may, step), run) =
     after_issue m s k i t may (subst (λ (q : State U). HasChoices m q t) step (choices_of m middle new t run))
 
 -- the two readings of acceptance agree
-pub runs_from_accepted : {U : Type 0} (m : Machine U) (t : List Event) → Accepted m t → Runs m t
+pub runs_from_accepted : {U : Type 0} (m : Machine U) (t : List Event) → Accepted m t → IsPlayable m t
 runs_from_accepted m t (choices, is) = (left_by m t choices, run_through m t choices is [] t refl refl)
 
-pub accepted_from_runs : {U : Type 0} (m : Machine U) (t : List Event) → Runs m t → Accepted m t
+pub accepted_from_runs : {U : Type 0} (m : Machine U) (t : List Event) → IsPlayable m t → Accepted m t
 accepted_from_runs {U} m t (new, run) =
     let found = choices_of m start new t run in (
       found.0,

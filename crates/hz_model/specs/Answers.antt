@@ -1,3 +1,4 @@
+-- What the program answers: this profile, docs/FORMATS.md, 'Answers'.
 use Rattle.std.specs.Prelude.{◌≡◌, ℕ, ◌+◌, List, Option, Some, MatchOption, MatchBool, length, nat_lt, ◌⊎◌, slice_get}
 use Rattle.hz_model.specs.Limits.{description_limit, trace_limit}
 use Rattle.hz_model.specs.Words.{Order, replay, order_of}
@@ -54,6 +55,7 @@ AnswersReplay held description trace =
     Traces d trace traced (λ events.
     Replays (machine_of d) events))))
 
+-- what an order answers: one case for each command
 abbrev pub AnswersOrder : Held → Order → ℕ → List ℕ → Type 0
 AnswersOrder held (replay description trace) = AnswersReplay held description trace
 

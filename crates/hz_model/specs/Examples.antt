@@ -3,7 +3,7 @@
 -- docs/RULES.md.
 use Rattle.std.specs.Prelude.{ℕ, List, [], ◌∷◌, codes}
 use Rattle.hz_model.specs.Alternatives.{Expression, Parts, named, nothing, sequence, one_of, all_of, repeat, none, more, alternatives_of}
-use Rattle.hz_model.specs.Sets.{Statement, exclusion, presence, absence}
+use Rattle.hz_model.specs.Sets.{Statement, excludes, presence, absence}
 use Rattle.hz_model.specs.Replay.{Class, Machine, Treatment, first_fit}
 use Rattle.hz_model.specs.Straight.{unit_alternatives}
 
@@ -106,7 +106,7 @@ abbrev pub excluded_later : Machine ℕ
 excluded_later = record {
   classes = class later_units (codes "m") (sequence (two (named (codes "d")) (named (codes "f1"))))
       ∷ class later_units (codes "n") (sequence (two (named (codes "e")) (named (codes "f2")))) ∷ [];
-  statements = record { kind = exclusion; units = 2 ∷ []; patterns = (3 ∷ []) ∷ [] } ∷ [];
+  statements = excludes (2 ∷ []) (3 ∷ []) ∷ [];
   treatment = first_fit;
 }
 

@@ -1,3 +1,4 @@
+-- To prove with, nothing to believe: no other definition uses it.
 -- A front of a text that is read: the brackets that are open, each with the forms before it, and the forms behind them.
 use Rattle.std.specs.Prelude.{ℕ, List, [], ◌∷◌, ◌++◌, map}
 use Rattle.hz_model.specs.Trees.{Tree, Trees, list, vector, none, more}

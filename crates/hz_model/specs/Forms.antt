@@ -1,4 +1,5 @@
--- The forms of a machine description's text: lists, vectors, strings, atoms, numbers and comments.
+-- The forms of a machine description's text: lists, vectors, strings, atoms, numbers and comments. GCC Internals,
+-- 'Machine Descriptions'; the bytes and the faults are this profile's, docs/FORMATS.md.
 use Rattle.std.specs.Prelude.{◌≡◌, ℕ, ◌+◌, ◌^◌, Bool, true, false, ◌&&◌, ◌||◌, ◌==◌, not, nat_lt, nat_le, if◌then◌else◌, List, [], ◌∷◌, ◌++◌, length, ℤ, pos, negsuc, neg_ℤ, IsTrue, IsFalse}
 use Rattle.std.specs.Prelude.{Option, Some, None}
 use Rattle.std.specs.List.{list_all}
@@ -38,6 +39,7 @@ abbrev mutual
 abbrev pub depth_limit : ℕ
 depth_limit = 64
 
+-- the same kind of bracket
 abbrev pub same_bracket : Bracket → Bracket → Bool
 same_bracket round round = true
 same_bracket square square = true
@@ -80,6 +82,7 @@ is_mark b = b == 40 || b == 41 || b == 91 || b == 93 || b == 123 || b == 125 || 
 abbrev pub is_letter : ℕ → Bool
 is_letter b = nat_le 33 b && nat_le b 126 && not (is_mark b)
 
+-- what a byte outside strings and comments is for
 abbrev pub role : ℕ → Role
 role b = if is_letter b then letter
     else if is_blank b then blank
@@ -123,9 +126,9 @@ abbrev pub is_digits : List ℕ → Bool
 is_digits bytes = not (length bytes == 0) && list_all is_digit bytes
 
 -- the number that a word is: `-`, if any, and digits; any other word is an atom
-abbrev pub number_of : List ℕ → Option ℤ
-number_of [] = None
-number_of (b ∷ bytes) = if b == 45 && is_digits bytes then Some (neg_ℤ (pos (digits_value 10 bytes)))
+abbrev pub integer_of : List ℕ → Option ℤ
+integer_of [] = None
+integer_of (b ∷ bytes) = if b == 45 && is_digits bytes then Some (neg_ℤ (pos (digits_value 10 bytes)))
     else if is_digits (b ∷ bytes) then Some (pos (digits_value 10 (b ∷ bytes)))
     else None
 
@@ -173,9 +176,9 @@ pub data Step (line : ℕ) : (text : List ℕ) (tokens : List Token) (last : ℕ
   opening : {b : ℕ} {bracket : Bracket} {rest : List ℕ} → role b ≡ opener bracket
       → Step line (b ∷ rest) (opens bracket line ∷ []) line rest
   closing : {b : ℕ} {bracket : Bracket} {rest : List ℕ} → role b ≡ closer bracket → Step line (b ∷ rest) (closes bracket ∷ []) line rest
-  word : {b : ℕ} {text bytes rest : List ℕ} → Word (b ∷ text) (b ∷ bytes) rest → number_of (b ∷ bytes) ≡ None
+  word : {b : ℕ} {text bytes rest : List ℕ} → Word (b ∷ text) (b ∷ bytes) rest → integer_of (b ∷ bytes) ≡ None
       → Step line (b ∷ text) (leaf (atom line (b ∷ bytes)) ∷ []) line rest
-  numeral : {b : ℕ} {text bytes rest : List ℕ} {value : ℤ} → Word (b ∷ text) (b ∷ bytes) rest → number_of (b ∷ bytes) ≡ Some value
+  numeral : {b : ℕ} {text bytes rest : List ℕ} {value : ℤ} → Word (b ∷ text) (b ∷ bytes) rest → integer_of (b ∷ bytes) ≡ Some value
       → IsTrue (is_in_range value) → Step line (b ∷ text) (leaf (number line value) ∷ []) line rest
   string : {b : ℕ} {text bytes rest : List ℕ} {last : ℕ} → role b ≡ quote → Inside line text bytes last (34 ∷ rest)
       → Step line (b ∷ text) (leaf (quoted line bytes) ∷ []) last rest
@@ -212,7 +215,7 @@ pub data Faulty (opened : List OpenBracket) (line : ℕ) : (text : List ℕ) (fa
   foreign_byte : {b : ℕ} {rest : List ℕ} → role b ≡ foreign → Faulty opened line (b ∷ rest) bad_byte line
   foreign_in_string : {b c last : ℕ} {text bytes rest : List ℕ} → role b ≡ quote → Inside line text bytes last (c ∷ rest)
       → IsFalse (is_string_byte c) → Faulty opened line (b ∷ text) bad_byte last
-  large_number : {b : ℕ} {text bytes rest : List ℕ} {value : ℤ} → Word (b ∷ text) (b ∷ bytes) rest → number_of (b ∷ bytes) ≡ Some value
+  large_number : {b : ℕ} {text bytes rest : List ℕ} {value : ℤ} → Word (b ∷ text) (b ∷ bytes) rest → integer_of (b ∷ bytes) ≡ Some value
       → IsFalse (is_in_range value) → Faulty opened line (b ∷ text) number_too_large line
 
 -- The text is read up to a rest, with certain brackets open, and the rest begins with what is wrong.

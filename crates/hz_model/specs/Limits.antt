@@ -1,3 +1,4 @@
+-- The limits of this profile: docs/RULES.md, 'Limits'.
 use Rattle.std.specs.Prelude.{ℕ}
 
 -- units of one automaton

@@ -1,3 +1,4 @@
+-- Lines, names between commas and decimal numbers: this profile, docs/FORMATS.md.
 use Rattle.std.specs.Prelude.{ℕ, ◌+◌, ◌-◌, ◌*◌, ◌==◌, List, [], ◌∷◌, Option, Some, None, if◌then◌else◌, length, take, drop, map}
 use Rattle.std.specs.Char.{is_ascii_digit, is_ascii_whitespace}
 use Rattle.std.specs.List.{onto_first, slice_split, list_all, prefix_len, suffix_len, position}

@@ -40,10 +40,18 @@ pub data Reaches {U : Type 0} (defined : List ℕ → Option (Meaning U)) : (fro
   mentions : {from to : List ℕ} {expression : Expression} → defined from ≡ Some (reservation expression) → Mentions expression to → Reaches defined from to
   through : {from middle to : List ℕ} → Reaches defined from middle → Reaches defined middle to → Reaches defined from to
 
--- No reservation reaches itself: some rank of names falls from each reservation to the names in its expression.
+-- Some rank of names falls from each reservation to the names in its expression. In a description, whose names are
+-- finitely many, this is that no reservation reaches itself.
 pub record Unwinds {U : Type 0} (defined : List ℕ → Option (Meaning U)) : Type 0 where
   pub rank : List ℕ → ℕ
   pub falls : (name other : List ℕ) (expression : Expression) → defined name ≡ Some (reservation expression) → Mentions expression other → rank other < rank name
+
+-- The alternatives of an expression in a description, where each name in it can be unwound.
+pub record Alts {U : Type 0} (defined : List ℕ → Option (Meaning U)) (e : Expression) (alternatives : List (Alternative U)) : Type 0 where
+  pub unwinds : Unwinds defined
+  pub known : List ℕ → List (Alternative U)
+  pub right : Expands defined known
+  pub these : alternatives ≡ alternatives_of known e
 
 -- every expression can be written, and the names in it stand for something
 pub record IsClosed {U : Type 0} (defined : List ℕ → Option (Meaning U)) : Type 0 where

@@ -1,3 +1,4 @@
+-- Names of units, reservations and classes: this profile, docs/RULES.md.
 use Rattle.std.specs.Prelude.{ℕ, Bool, List, [], ◌∷◌, ◌&&◌, ◌||◌, ◌==◌, not, nat_le, false}
 use Rattle.std.specs.List.{list_all}
 

@@ -42,6 +42,7 @@ abbrev pub of_class : {U : Type 0} → Option (Class U) → List (Alternative U)
 of_class None = []
 of_class (Some c) = c.alternatives
 
+-- the alternatives of the class of this number
 abbrev pub alternatives_at : {U : Type 0} → Machine U → ℕ → List (Alternative U)
 alternatives_at m k = of_class (slice_get m.classes k)
 
@@ -90,6 +91,10 @@ pub record IsChoice {U : Type 0} (m : Machine U) (t : List Event) (choices : Lis
   pub each : length choices ≡ issues_of t
   pub may : (before after : List Event) (k : ℕ) → t ≡ before ++ issue k ∷ after → MayTake m (left_by m before choices) k (slice_index choices (issues_of before))
 
+-- The choice of the first treatment: each issue takes the first alternative that fits in its turn.
+abbrev pub ChoiceFirst : {U : Type 0} → Machine U → List Event → List ℕ → Type 0
+ChoiceFirst m t choices = IsChoice (record m { treatment = first_fit }) t choices
+
 -- some choices make every issue fit in its turn
 abbrev pub Accepted : {U : Type 0} → Machine U → List Event → Type 0
 Accepted m t = (choices : List ℕ) × IsChoice m t choices
@@ -106,10 +111,10 @@ Step m old (advance n) new = new ≡ record { reserved = old.reserved; now = n +
 Step m old (issue k) new = (i : ℕ) × MayTake m old k i × (new ≡ record { reserved = old.reserved ++ placed old.now (chosen m k i); now = old.now })
 
 -- events from one state to another
-abbrev pub Run : {U : Type 0} → Machine U → State U → List Event → State U → Type 0
-Run m old [] new = new ≡ old
-Run {U} m old (e ∷ t) new = (middle : State U) × Step m old e middle × Run m middle t new
+abbrev pub Plays : {U : Type 0} → Machine U → State U → List Event → State U → Type 0
+Plays m old [] new = new ≡ old
+Plays {U} m old (e ∷ t) new = (middle : State U) × Step m old e middle × Plays m middle t new
 
 -- events that can be run from the start
-abbrev pub Runs : {U : Type 0} → Machine U → List Event → Type 0
-Runs {U} m t = (s : State U) × Run m start t s
+abbrev pub IsPlayable : {U : Type 0} → Machine U → List Event → Type 0
+IsPlayable {U} m t = (s : State U) × Plays m start t s

@@ -1,6 +1,6 @@
 -- The five set statements. GCC Internals, 'Specifying processor pipeline description'; the cycles and states that they
 -- look at are this profile's, docs/RULES.md.
-use Rattle.std.specs.Prelude.{◌≡◌, ℕ, List, ◌++◌}
+use Rattle.std.specs.Prelude.{◌≡◌, ℕ, List, [], ◌∷◌, ◌++◌, map}
 use Rattle.std.specs.List.{Contains}
 use Rattle.hz_model.specs.Pairs.{Pair, placed}
 
@@ -12,11 +12,15 @@ pub data SetKind : Type 0 where
   absence : SetKind
   final_absence : SetKind
 
--- A set statement: units, and patterns of units. In an exclusion each unit of the second string is a pattern.
+-- A set statement: units, and patterns of units.
 pub record Statement (U : Type 0) : Type 0 where
   pub kind : SetKind
   pub units : List U
   pub patterns : List (List U)
+
+-- an exclusion of the units of two strings: each unit of the second is a pattern by itself
+abbrev pub excludes : {U : Type 0} → List U → List U → Statement U
+excludes units others = record { kind = exclusion; units = units; patterns = map (λ u. u ∷ []) others }
 
 -- the units that pairs hold in a cycle
 abbrev pub Holds : {U : Type 0} → List (Pair U) → ℕ → U → Type 0

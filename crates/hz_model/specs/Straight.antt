@@ -1,3 +1,4 @@
+-- Straight descriptions and their traces, which are what is built today: this profile, docs/FORMATS.md.
 use Rattle.std.specs.Prelude.{◌≡◌, ℕ, ◌==◌, pos, Bool, false, List, [], ◌∷◌, ◌++◌, Option, Some, None, if◌then◌else◌, nat_lt, nat_le, ◌||◌, ◌&&◌, not, codes, length, map, take, drop, is_some, option_and_then, ◌≤◌}
 use Rattle.std.specs.List.{list_all}
 use Rattle.std.specs.Option.{option_map, option_map_or}
@@ -17,15 +18,19 @@ pub record Description : Type 0 where
   pub units : List (List ℕ)
   pub classes : List (Class ℕ)
 
+-- no unit and no class
 abbrev pub nothing_defined : Description
 nothing_defined = record { units = []; classes = [] }
 
+-- the name is `nothing`, which no unit has
 abbrev pub is_nothing : List ℕ → Bool
 is_nothing name = bytes_eq name (codes "nothing")
 
+-- the name is one of these
 abbrev pub is_among : List ℕ → List (List ℕ) → Bool
 is_among name names = is_some (place_of name names)
 
+-- the names of the classes in their order
 abbrev pub class_names : Description → List (List ℕ)
 class_names d = map (λ c. c.name) d.classes
 
@@ -41,13 +46,15 @@ abbrev pub units_with : List (List ℕ) → List (List ℕ) → Option (List (Li
 units_with units [] = Some units
 units_with units (name ∷ names) = option_and_then (λ more. units_with more names) (unit_with units name)
 
--- what a name means: the one alternative of a unit
+-- what a name means: the one alternative of a unit, and none for any other name
 abbrev pub unit_alternatives : List (List ℕ) → List ℕ → List (Alternative ℕ)
 unit_alternatives units name = option_map_or (λ u. taking u ∷ []) (place_of name units) []
 
+-- what a piece stands for
 abbrev pub piece_expression : List ℕ → Expression
 piece_expression piece = if is_nothing piece then expression.nothing else expression.named piece
 
+-- pieces as parts of a sequence
 abbrev pub piece_parts : List (List ℕ) → Parts
 piece_parts [] = expression.none
 piece_parts (piece ∷ pieces) = expression.more (piece_expression piece) (piece_parts pieces)
@@ -109,20 +116,22 @@ class_operands (form.more name (form.more latency (form.more condition (form.mor
     else None
 class_operands _ = None
 
--- what these operands add
+-- what these operands of units add
 abbrev pub with_cpu_unit : Description → Trees → Option Description
 with_cpu_unit d operands =
     option_and_then (λ names. option_map (λ units. record d { units = units }) (units_with d.units (separated names))) (unit_operand operands)
 
+-- what these operands of a class add
 abbrev pub with_insn_reservation : Description → Trees → Option Description
 with_insn_reservation d operands = option_and_then (λ o. with_class d o.0 (separated o.1)) (class_operands operands)
 
--- what a form adds, by the word that it begins with
+-- what operands add, by the word before them
 abbrev pub with_operands : Description → List ℕ → Trees → Option Description
 with_operands d word operands =
     if bytes_eq word (codes "define_cpu_unit") then with_cpu_unit d operands
     else (if bytes_eq word (codes "define_insn_reservation") then with_insn_reservation d operands else None)
 
+-- what a form adds
 abbrev pub with_form : Description → Tree → Option Description
 with_form d form = option_and_then (λ h. with_operands d h.0 h.1) (headed form)
 
@@ -145,6 +154,7 @@ event_of classes line =
     if bytes_eq (take 6 line) (codes "issue ") then option_map issue (place_of (drop 6 line) classes)
     else (if bytes_eq (take 8 line) (codes "advance ") then option_map advance (number_of (drop 8 line)) else None)
 
+-- the events of lines, one of each
 abbrev pub events_of : List (List ℕ) → List (List ℕ) → Option (List Event)
 events_of classes [] = Some []
 events_of classes (line ∷ lines) = option_and_then (λ e. option_map (λ es. e ∷ es) (events_of classes lines)) (event_of classes line)

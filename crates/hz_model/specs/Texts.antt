@@ -1,3 +1,4 @@
+-- The texts of answers: this profile, docs/FORMATS.md, 'Answers'.
 use Rattle.std.specs.Prelude.{ℕ, List, [], ◌∷◌, codes, decimal}
 use Rattle.std.specs.List.{concat}
 

@@ -1,3 +1,4 @@
+-- Forms as data. GCC Internals, 'Machine Descriptions'; this profile's forms are in docs/FORMATS.md.
 use Rattle.std.specs.Prelude.{ℕ, ℤ, List}
 
 -- A form of a text: what it is, and the line where it begins. An atom that spells a number is the number.

@@ -1,3 +1,4 @@
+-- The words of the command line: this profile, docs/FORMATS.md, 'Words'.
 use Rattle.std.specs.Prelude.{ℕ, ◌==◌, Bool, false, List, [], ◌∷◌, Option, Some, None, ◌||◌, ◌&&◌, not, codes, if◌then◌else◌}
 use Rattle.std.specs.Str.{bytes_eq}
 
@@ -5,7 +6,7 @@ use Rattle.std.specs.Str.{bytes_eq}
 pub data Order : Type 0 where
   replay : (description trace : List ℕ) → Order
 
--- an option, which no command takes
+-- the word begins with `-`
 abbrev pub begins_with_dash : List ℕ → Bool
 begins_with_dash [] = false
 begins_with_dash (b ∷ bs) = b == 45

@@ -3,7 +3,7 @@
 ghost use Rattle.std.specs.Prelude.{◌≡◌, ℕ, ◌+◌, ◌↔◌, ◌⊎◌, Bool, Contains, List, ◌∷◌, ◌++◌, take, Some, slice_get};
 ghost use Rattle.std.specs.Bool.{Decides};
 ghost use Rattle.hz_model.specs.Plays.{Tells, plays, accepts};
-ghost use Rattle.hz_model.specs.Replay.{Machine, Event, issue, advance, State, Run, Runs, first_fit, IsChoice, Accepted, FirstRefused};
+ghost use Rattle.hz_model.specs.Replay.{Machine, Event, issue, advance, State, Plays, IsPlayable, first_fit, ChoiceFirst, IsChoice, Accepted, FirstRefused};
 
 /// Where a list of events is accepted, each of its prefixes is.
 pub fn prefixes_are_accepted<U>()
@@ -22,7 +22,7 @@ pub fn first_refused_is_an_issue<U>()
 /// `advance a` and then `advance b` are `advance (a + b)`, for acceptance and for each state that a run leaves.
 pub fn advances_add_up<U>()
     ensures acceptance { (m : Machine U) (a b : ℕ) (xs ys : List Event) → Accepted m (xs ++ advance a ∷ advance b ∷ ys) ↔ Accepted m (xs ++ advance (a + b) ∷ ys) }
-    ensures states { (m : Machine U) (a b : ℕ) (t : List Event) (old new : State U) → Run m old (advance a ∷ advance b ∷ t) new ↔ Run m old (advance (a + b) ∷ t) new }
+    ensures states { (m : Machine U) (a b : ℕ) (t : List Event) (old new : State U) → Plays m old (advance a ∷ advance b ∷ t) new ↔ Plays m old (advance (a + b) ∷ t) new }
 {}
 
 /// Events that are all moved by n cycles are accepted as before: only differences of cycles count.
@@ -33,15 +33,20 @@ pub fn only_differences_of_cycles_count<U>()
 
 /// Acceptance by choices is acceptance by runs.
 pub fn accepted_where_a_run_is<U>()
-    ensures { (m : Machine U) (t : List Event) → Accepted m t ↔ Runs m t }
+    ensures { (m : Machine U) (t : List Event) → Accepted m t ↔ IsPlayable m t }
 {}
 
 /// Where a test tells units apart, the states that events can leave are computed, acceptance is decided, and what is not
 /// accepted has a first refused event.
 pub fn acceptance_is_computed<U>()
-    ensures states { (same : U → U → Bool) → Tells same → (m : Machine U) (t : List Event) (old new : State U) → Contains (plays same m old t) new ↔ Run m old t new }
+    ensures states { (same : U → U → Bool) → Tells same → (m : Machine U) (t : List Event) (old new : State U) → Contains (plays same m old t) new ↔ Plays m old t new }
     ensures decided { (same : U → U → Bool) → Tells same → (m : Machine U) (t : List Event) → Decides (accepts same m t) (Accepted m t) }
     ensures each { (same : U → U → Bool) → Tells same → (m : Machine U) (t : List Event) → Accepted m t ⊎ ((i : ℕ) × FirstRefused m t i) }
+{}
+
+/// In the first treatment what is accepted is accepted by its choice.
+pub fn accepted_by_the_first_choice<U>()
+    ensures { (m : Machine U) → m.treatment ≡ first_fit → (t : List Event) → Accepted m t ↔ ((choices : List ℕ) × ChoiceFirst m t choices) }
 {}
 
 /// In the first treatment at most one list of choices accepts a list of events.

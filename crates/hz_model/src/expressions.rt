@@ -6,7 +6,7 @@ ghost use Rattle.hz_model.specs.Expressions.{is_expression, repeated, product_of
 ghost use Rattle.std.specs.Option.{option_map};
 ghost use Rattle.hz_model.specs.Lines.{place_of};
 ghost use Rattle.hz_model.specs.Straight.{unit_alternatives};
-ghost use Rattle.hz_model.specs.Meanings.{Meaning, unit, Expands, Mentions, Reaches, Unwinds, IsClosed};
+ghost use Rattle.hz_model.specs.Meanings.{Meaning, unit, Expands, Alts, Mentions, Reaches, Unwinds, IsClosed};
 
 /// `e * n` has the alternatives of the sequence of n copies of e.
 pub fn repeats_are_sequences<U>()
@@ -29,7 +29,7 @@ pub fn counts_of_alternatives<U>()
     ensures repeats { (known : List ℕ → List (Alternative U)) (part : Expression) (n : ℕ) → length (alternatives_of known (repeat_of part n)) ≡ length (alternatives_of known part) ^ n }
 {}
 
-/// Choices are ordered with the leftmost part most significant.
+/// Choices are ordered with the leftmost of two parts most significant; a sequence of more is such parts nested.
 pub fn choices_are_ordered<A>()
     ensures { (join : A → A → A) (xs ys : List A) (i j : ℕ) (d : A) → i < length xs → j < length ys → slice_index_or (each_choice join xs ys) (i * length ys + j) d ≡ join (slice_index_or xs i d) (slice_index_or ys j d) }
 {}
@@ -45,6 +45,12 @@ pub fn alternatives_are_never_empty<U>()
 pub fn names_have_one_meaning<U>()
     ensures some { (defined : List ℕ → Option (Meaning U)) → Unwinds defined → (known : List ℕ → List (Alternative U)) × Expands defined known }
     ensures one { (defined : List ℕ → Option (Meaning U)) → Unwinds defined → (known other : List ℕ → List (Alternative U)) → Expands defined known → Expands defined other → (name : List ℕ) → known name ≡ other name }
+{}
+
+/// In a description where no reservation reaches itself, every expression has its alternatives, and no others.
+pub fn expressions_have_one_meaning<U>()
+    ensures some { (defined : List ℕ → Option (Meaning U)) → Unwinds defined → (e : Expression) → (alternatives : List (Alternative U)) × Alts defined e alternatives }
+    ensures one { (defined : List ℕ → Option (Meaning U)) (e : Expression) (xs ys : List (Alternative U)) → Alts defined e xs → Alts defined e ys → xs ≡ ys }
 {}
 
 /// A rank that falls from each reservation to the names in its expression keeps each from reaching itself.

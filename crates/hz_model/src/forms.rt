@@ -4,12 +4,12 @@ ghost use Rattle.std.specs.Prelude.{◌≡◌, ◌⊎◌, ℕ, List};
 ghost use Rattle.hz_model.specs.Trees.{Trees};
 ghost use Rattle.hz_model.specs.Forms.{Reads, FormFault, FaultAt};
 
-/// One text has one list of forms.
+/// A text has at most one list of forms.
 pub fn one_list_of_forms()
     ensures { (text : List ℕ) (a b : Trees) → Reads text a → Reads text b → a ≡ b }
 {}
 
-/// One text has one fault, at one line.
+/// A text has at most one fault, at one line.
 pub fn one_fault_of_forms()
     ensures { (text : List ℕ) (f g : FormFault) (m n : ℕ) → FaultAt text f m → FaultAt text g n → (f ≡ g) × (m ≡ n) }
 {}

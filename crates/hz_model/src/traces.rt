@@ -8,13 +8,13 @@ ghost use Rattle.hz_model.specs.Replay.{Event};
 ghost use Rattle.hz_model.specs.Straight.{StraightTrace};
 ghost use Rattle.hz_model.specs.Traces.{Trace, TraceFault, TraceFaultAt, event_lines};
 
-/// One trace text has one list of events, and each of them one line.
+/// A trace text has at most one list of events, and each event has one line.
 pub fn one_list_of_events()
     ensures events { (classes : List (List ℕ)) (text : List ℕ) (a b : List Event) → Trace classes text a → Trace classes text b → a ≡ b }
     ensures lines { (classes : List (List ℕ)) (text : List ℕ) (events : List Event) → Trace classes text events → length (event_lines classes 1 (lines_of text)) ≡ length events }
 {}
 
-/// One text has one fault, at one line.
+/// A trace text has at most one fault, at one line.
 pub fn one_fault_of_traces()
     ensures { (classes : List (List ℕ)) (text : List ℕ) (f g : TraceFault) (m n : ℕ) → TraceFaultAt classes text f m → TraceFaultAt classes text g n → (f ≡ g) × (m ≡ n) }
 {}

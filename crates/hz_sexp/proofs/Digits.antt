@@ -10,7 +10,7 @@ use Rattle.std.proofs.lemmas.Bool.{and_parts, leb-true, cases_Bool, eqb-true, le
 use Rattle.std.proofs.lemmas.Int.Digits.{digits_value_more}
 use Rattle.std.proofs.lemmas.Str.{digit_value_digit}
 use Rattle.std.proofs.lemmas.Str.Parse.{digits_value-take-le}
-use Rattle.hz_model.specs.Forms.{is_digit, is_digits, number_of, is_in_range}
+use Rattle.hz_model.specs.Forms.{is_digit, is_digits, integer_of, is_in_range}
 
 digit_at : (bytes : List ℕ) (k : ℕ) → IsTrue (list_all is_digit bytes) → k < length bytes → IsTrue (is_digit (get_or bytes k 0))
 digit_at [] k all h = absurd (omega arith)
@@ -40,11 +40,11 @@ value_more bytes k all h =
     }
 
 -- a word of a minus and digits
-pub minus_value : (bytes : List ℕ) → IsTrue (is_digits bytes) → number_of (45 ∷ bytes) ≡ Some (neg_ℤ (pos (digits_value 10 bytes)))
+pub minus_value : (bytes : List ℕ) → IsTrue (is_digits bytes) → integer_of (45 ∷ bytes) ≡ Some (neg_ℤ (pos (digits_value 10 bytes)))
 minus_value bytes h = rw h refl
 
 -- a word of digits
-pub plain_value : (word : List ℕ) → IsTrue (is_digits word) → number_of word ≡ Some (pos (digits_value 10 word))
+pub plain_value : (word : List ℕ) → IsTrue (is_digits word) → integer_of word ≡ Some (pos (digits_value 10 word))
 plain_value [] h = absurd (cc)
 plain_value (b ∷ bytes) h = elim (cases_Bool (b == 45)) [
   | inl e ↦ let P : ℕ → Type 0 = λ n. IsTrue (is_digit n) in

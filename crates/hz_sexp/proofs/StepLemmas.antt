@@ -3,7 +3,7 @@ use Rattle.std.proofs.Common.{◌≡◌, ℕ, List, [], ◌∷◌, drop, refl, S
 use Rattle.std.specs.Prelude.{IsTrue, IsFalse, ℤ, ◌==◌}
 use Rattle.std.proofs.lemmas.Bool.{and_parts, eqb-true}
 use Rattle.hz_model.specs.Trees.{atom, number}
-use Rattle.hz_model.specs.Forms.{leaf, begins_comment, goes_on, Word, Comment, number_of, is_in_range, Step, Faulty, unclosed, number_too_large, role, quote, Inside}
+use Rattle.hz_model.specs.Forms.{leaf, begins_comment, goes_on, Word, Comment, integer_of, is_in_range, Step, Faulty, unclosed, number_too_large, role, quote, Inside}
 use Rattle.hz_sexp.specs.declared.fault.SexpFault.{SexpFault}
 use Rattle.hz_sexp.specs.Faults.{Tells}
 use Rattle.hz_sexp.specs.Steps.{IsWrong, IsWrongInString}
@@ -20,16 +20,16 @@ comment_step line last text rest h part = rw (comment_front text h) (Step.commen
 pub comment_open : (line last : ℕ) (text : List ℕ) → IsTrue (begins_comment text) → Comment line (drop 2 text) last [] → IsWrong line text unclosed line
 comment_open line last text h part = λ opened. rw (comment_front text h) (Faulty.open_comment part)
 
-pub atom_step : (line : ℕ) {text bytes rest : List ℕ} → IsTrue (goes_on text) → Word text bytes rest → number_of bytes ≡ None → Step line text (leaf (atom line bytes) ∷ []) line rest
+pub atom_step : (line : ℕ) {text bytes rest : List ℕ} → IsTrue (goes_on text) → Word text bytes rest → integer_of bytes ≡ None → Step line text (leaf (atom line bytes) ∷ []) line rest
 atom_step line on (Word.ends h) e = absurd (cc)
 atom_step line on (Word.letter h w) e = Step.word (Word.letter h w) e
 
-pub number_step : (line : ℕ) {text bytes rest : List ℕ} (value : ℤ) → IsTrue (goes_on text) → Word text bytes rest → number_of bytes ≡ Some value → IsTrue (is_in_range value)
+pub number_step : (line : ℕ) {text bytes rest : List ℕ} (value : ℤ) → IsTrue (goes_on text) → Word text bytes rest → integer_of bytes ≡ Some value → IsTrue (is_in_range value)
     → Step line text (leaf (number line value) ∷ []) line rest
 number_step line value on (Word.ends h) e r = absurd (cc)
 number_step line value on (Word.letter h w) e r = Step.numeral (Word.letter h w) e r
 
-pub large_number : (line : ℕ) {text bytes rest : List ℕ} (value : ℤ) → IsTrue (goes_on text) → Word text bytes rest → number_of bytes ≡ Some value → IsFalse (is_in_range value)
+pub large_number : (line : ℕ) {text bytes rest : List ℕ} (value : ℤ) → IsTrue (goes_on text) → Word text bytes rest → integer_of bytes ≡ Some value → IsFalse (is_in_range value)
     → IsWrong line text number_too_large line
 large_number line value on (Word.ends h) e r = absurd (cc)
 large_number line value on (Word.letter h w) e r = λ opened. Faulty.large_number (Word.letter h w) e r

@@ -5,13 +5,13 @@ use Rattle.hz_sexp.specs.declared.string.Part.{Part}
 use Rattle.hz_sexp.specs.declared.string.Part.TheVariants.{End, Byte, Nothing}
 use Rattle.hz_sexp.specs.declared.word.Spelled.{Spelled}
 use Rattle.hz_sexp.specs.declared.word.Spelled.TheVariants.{Other, Number, TooLarge}
-use Rattle.hz_model.specs.Forms.{OpenBracket, role, quote, number_of, is_in_range, Inside, Comment, Step, Token, line_after, FormFault, Faulty}
+use Rattle.hz_model.specs.Forms.{OpenBracket, role, quote, integer_of, is_in_range, Inside, Comment, Step, Token, line_after, FormFault, Faulty}
 
 -- what a word is
 abbrev pub IsSpelled : List ℕ → Spelled → Type 0
-IsSpelled word Other = number_of word ≡ None
-IsSpelled word (Number value) = (number_of word ≡ Some value) × IsTrue (is_in_range value)
-IsSpelled word TooLarge = (value : ℤ) × (number_of word ≡ Some value) × IsFalse (is_in_range value)
+IsSpelled word Other = integer_of word ≡ None
+IsSpelled word (Number value) = (integer_of word ≡ Some value) × IsTrue (is_in_range value)
+IsSpelled word TooLarge = (value : ℤ) × (integer_of word ≡ Some value) × IsFalse (is_in_range value)
 
 -- the next part of a string, from a line and a text on
 abbrev pub IsPart : ℕ → List ℕ → Part → Type 0

@@ -5,7 +5,7 @@ use Rattle.std.specs.Option.{option_map}
 use Rattle.hz_model.proofs.ReplayLaws.{issues_of-append, cycles_of-append, run_more, run_split, accepted_from_runs, runs_from_accepted}
 use Rattle.hz_model.specs.Pairs.{Pair}
 use Rattle.hz_model.specs.Replay as model
-use Rattle.hz_model.specs.Replay.{Machine, State, Step, Run, Runs, start, issues_of, cycles_of}
+use Rattle.hz_model.specs.Replay.{Machine, State, Step, Plays, IsPlayable, start, issues_of, cycles_of}
 use Rattle.hz_tool.specs.declared.trace.Event.{Event}
 use Rattle.hz_tool.specs.declared.trace.Event.TheVariants.{Issue}
 use Rattle.hz_tool.specs.Replay.{IsFuture, PlaysTo, Follows}
@@ -56,7 +56,7 @@ follows_more m done e old new follows plays =
     }
 
 -- an event that can't be played ends the run
-pub follows_refused : (m : Machine ℕ) (done : List model.Event) (e : model.Event) (old : List (Pair ℕ)) → Follows m done old → ((s : State ℕ) → IsFuture old s → (s' : State ℕ) → Step m s e s' → ⊥) → Runs m (done ++ e ∷ []) → ⊥
+pub follows_refused : (m : Machine ℕ) (done : List model.Event) (e : model.Event) (old : List (Pair ℕ)) → Follows m done old → ((s : State ℕ) → IsFuture old s → (s' : State ℕ) → Step m s e s' → ⊥) → IsPlayable m (done ++ e ∷ []) → ⊥
 follows_refused m done e old follows refuses (after, through) =
     let (middle, before, (last, one, same)) = run_split m start after done (e ∷ []) through in
     refuses middle (follows.future middle before) last one

@@ -2,7 +2,7 @@ use Rattle.std.specs.Prelude.{◌≡◌, ℕ, ◌+◌, ◌<◌, ◌↔◌, List,
 use Rattle.std.specs.List.{Contains}
 use Rattle.hz_model.specs.Pairs.{Pair}
 use Rattle.hz_model.specs.Alternatives.{Alternative}
-use Rattle.hz_model.specs.Replay.{Machine, State, Step, Run, Runs, start, alternatives_at}
+use Rattle.hz_model.specs.Replay.{Machine, State, Step, Plays, IsPlayable, start, alternatives_at}
 use Rattle.hz_model.specs.Replay as model
 use Rattle.hz_tool.specs.declared.replay.Outcome.{Outcome}
 use Rattle.hz_tool.specs.declared.replay.Outcome.TheVariants.{Accepted, Refused}
@@ -32,17 +32,17 @@ pub record PlaysTo (m : Machine ℕ) (s : State ℕ) (e : model.Event) (grid : L
   pub future : (s' : State ℕ) → Step m s e s' → IsFuture grid s'
 
 -- whether the event can be played, and what it then leaves
-abbrev pub Plays : Machine ℕ → State ℕ → model.Event → Bool → List (Pair ℕ) → Type 0
-Plays m s e fits grid = MatchBool fits (PlaysTo m s e grid) ((s' : State ℕ) → Step m s e s' → ⊥)
+abbrev pub PlaysEvent : Machine ℕ → State ℕ → model.Event → Bool → List (Pair ℕ) → Type 0
+PlaysEvent m s e fits grid = MatchBool fits (PlaysTo m s e grid) ((s' : State ℕ) → Step m s e s' → ⊥)
 
 -- the same from every state of which the old grid is the future
 abbrev pub PlaysFrom : List (List (Pair ℕ)) → List (Pair ℕ) → model.Event → Bool → List (Pair ℕ) → Type 0
-PlaysFrom grids old e fits new = (m : Machine ℕ) → AreGridsOf grids m → (s : State ℕ) → IsFuture old s → Plays m s e fits new
+PlaysFrom grids old e fits new = (m : Machine ℕ) → AreGridsOf grids m → (s : State ℕ) → IsFuture old s → PlaysEvent m s e fits new
 
 -- the events can be run, and wherever they lead the grid is the future
 pub record Follows (m : Machine ℕ) (done : List model.Event) (grid : List (Pair ℕ)) : Type 0 where
-  pub runs : Runs m done
-  pub future : (s : State ℕ) → Run m start done s → IsFuture grid s
+  pub runs : IsPlayable m done
+  pub future : (s : State ℕ) → Plays m start done s → IsFuture grid s
 
 -- what a replay of events answers
 abbrev pub IsOutcome : Machine ℕ → List model.Event → Outcome → Type 0
