@@ -14,3 +14,5 @@ pub mod FormsNext
 pub mod FormsLaws
 pub mod FormsFront
 pub mod AnswerLaws
+pub mod EventLaws
+pub mod AnswerTotal

@@ -6,7 +6,7 @@ use Rattle.hz_model.specs.Replay.{Machine, Event, Accepted, FirstRefused}
 use Rattle.hz_model.specs.Plays.{Tells, accepts}
 use Rattle.hz_model.proofs.PlayLaws.{accepts_decides}
 
-numbers_tell : Tells ◌==◌
+pub numbers_tell : Tells ◌==◌
 numbers_tell u v = (eqb-true u v, eq-eqb u v)
 
 pub accepted : (m : Machine ℕ) (t : List Event) → IsTrue (accepts ◌==◌ m t) → Accepted m t

@@ -37,6 +37,11 @@ cycles_of [] = 0
 cycles_of (issue k ∷ t) = cycles_of t
 cycles_of (advance n ∷ t) = n + cycles_of t
 
+-- the class of an issue is one of so many
+abbrev pub IsOfClass : ℕ → Event → Type 0
+IsOfClass count (issue k) = k < count
+IsOfClass count (advance n) = Unit {0}
+
 -- the alternatives of a class, none where there is no such class
 abbrev pub of_class : {U : Type 0} → Option (Class U) → List (Alternative U)
 of_class None = []

@@ -9,6 +9,11 @@ pub fn one_answer()
     ensures { (words : List (List ℕ)) (held : Held) (s s' : ℕ) (t t' : List ℕ) → Answer words held s t → Answer words held s' t' → (s ≡ s') × (t ≡ t') }
 {}
 
+/// All words have an answer, whatever is held: with `one_answer`, exactly one.
+pub fn some_answer()
+    ensures { (words : List (List ℕ)) (held : Held) → (status : ℕ) × (text : List ℕ) × Answer words held status text }
+{}
+
 /// A text is one straight description at most.
 pub fn one_straight_description()
     ensures { (text : List ℕ) (d e : Description) → Straight text d → Straight text e → d ≡ e }

@@ -49,7 +49,3 @@ abbrev pub IsOutcome : Machine ℕ → List model.Event → Outcome → Type 0
 IsOutcome m events (Accepted issues cycles) = model.Accepted m events × (issues ≡ model.issues_of events) × (cycles ≡ model.cycles_of events)
 IsOutcome m events (Refused event class) = model.FirstRefused m events event × (slice_get events event ≡ Some (model.issue class))
 
--- each issue is of one of so many classes
-abbrev pub IsOfClass : ℕ → model.Event → Type 0
-IsOfClass count (model.issue class) = class < count
-IsOfClass count (model.advance cycles) = Unit {0}

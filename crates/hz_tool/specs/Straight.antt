@@ -10,7 +10,8 @@ use Rattle.hz_tool.specs.declared.straight.Description.{Description}
 use Rattle.hz_tool.specs.declared.early.Early.{Early}
 use Rattle.hz_tool.specs.declared.early.Early.TheVariants.{NotBuilt, NoMemory}
 use Rattle.hz_tool.specs.Names.{names_in}
-use Rattle.hz_tool.specs.Replay.{AreGridsOf, IsOfClass}
+use Rattle.hz_tool.specs.Replay.{AreGridsOf}
+use Rattle.hz_model.specs.Replay.{IsOfClass}
 
 -- the pair of a piece at a cycle, none for `nothing`
 abbrev pub piece_pair : List (List ℕ) → ℕ → List ℕ → List (ℕ × ℕ)

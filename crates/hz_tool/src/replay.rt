@@ -6,7 +6,8 @@ ghost use Rattle.hz_model.specs.Replay.{Machine, issue, issues_of, cycles_of};
 ghost use Rattle.hz_grid.specs.Grids.{Meets, IsUnion, IsAdvanced};
 ghost use Rattle.hz_tool.specs.Trace.{event as event_lem, events_in, issues_in, cycles_in};
 ghost use Rattle.hz_tool.specs.Decisions.{IsWithin};
-ghost use Rattle.hz_tool.specs.Replay.{AreGridsOf, IsAdvancedBy, PlaysFrom, IsOutcome, IsOfClass};
+ghost use Rattle.hz_tool.specs.Replay.{AreGridsOf, IsAdvancedBy, PlaysFrom, IsOutcome};
+ghost use Rattle.hz_model.specs.Replay.{IsOfClass};
 
 use super::trace::Event;
 use hz_grid::{Grid, NoMemory};

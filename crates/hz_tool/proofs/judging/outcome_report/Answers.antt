@@ -2,7 +2,7 @@ use Rattle.std.proofs.Common.{◌≡◌, ℕ, List, Some, slice_get, inr, refl, 
 use Rattle.hz_model.specs.Straight.{machine_of}
 use Rattle.hz_tool.specs.Replay.{IsOutcome}
 use Rattle.hz_tool.specs.Trace.{events_in}
-use Rattle.hz_tool.proofs.AnswerLemmas.{issue_named}
+use Rattle.hz_model.proofs.EventLaws.{issue_named}
 use Rattle.hz_tool.proofs.judging.outcome_report.Goals as goal
 
 pub returns-in-Ok-clause-answer : goal.returns-in-Ok-clause-answer

@@ -6,7 +6,8 @@ use Rattle.hz_model.specs.Pairs.{Pair}
 use Rattle.hz_grid.specs.Grids.{Meets, IsUnion}
 use Rattle.hz_tool.specs.declared.trace.Event.{Event}
 use Rattle.hz_tool.specs.Trace.{event as event_lem}
-use Rattle.hz_tool.specs.Replay.{PlaysFrom, IsOfClass}
+use Rattle.hz_tool.specs.Replay.{PlaysFrom}
+use Rattle.hz_model.specs.Replay.{IsOfClass}
 use Rattle.hz_tool.proofs.ReplayLemmas.{plays_advance, plays_issue, plays_no_issue}
 use Rattle.hz_tool.proofs.replay.play.Goals as goal
 

@@ -4,7 +4,8 @@ use Rattle.std.proofs.lemmas.List.{length-map, get_or-map}
 use Rattle.hz_model.specs.Replay as model
 use Rattle.hz_tool.specs.declared.trace.Event.TheVariants.{Issue}
 use Rattle.hz_tool.specs.Trace.{event, events_in}
-use Rattle.hz_tool.specs.Replay.{IsOfClass, PlaysFrom, Follows}
+use Rattle.hz_tool.specs.Replay.{PlaysFrom, Follows}
+use Rattle.hz_model.specs.Replay.{IsOfClass}
 use Rattle.hz_tool.proofs.EventLemmas.{event_at, events_more, follows_more, first_refused, all_played, event_there}
 use Rattle.hz_tool.proofs.replay.replay.Goals as goal
 
