@@ -1,7 +1,6 @@
 -- There is an answer to all words, whatever is held.
-use Rattle.std.proofs.Common.{◌≡◌, ℕ, ◌+◌, ◌<◌, ◌≤◌, ◌⊎◌, ⊎_elim, inl, inr, Bool, true, false, List, [], length, All, Option, Some, None, MatchOption, MatchBool, nat_lt, get_or, slice_get, refl, sym, ap, ◌∙◌, subst, arith}
+use Rattle.std.proofs.Common.{◌≡◌, ℕ, ◌+◌, ◌<◌, ◌≤◌, ⊎_elim, inl, inr, true, false, List, [], length, All, Option, Some, None, MatchOption, MatchBool, nat_lt, get_or, slice_get, refl, sym, ap, ◌∙◌, subst, arith}
 use Rattle.std.proofs.lemmas.Bool.{cases_lt}
-use Rattle.std.proofs.lemmas.List.{length-map}
 use Rattle.std.proofs.lemmas.List.Elements.{All-get_or}
 use Rattle.std.proofs.lemmas.Option.{none-some, same_Some, slice_get-get_or, slice_get_within, get_or_from_slice_get}
 use Rattle.hz_model.proofs.EventLaws.{issue_named, events_known}
@@ -12,10 +11,10 @@ use Rattle.hz_model.proofs.PlayLaws.{accepted_or_first_refused}
 use Rattle.hz_model.proofs.Rows.{numbers_tell}
 use Rattle.std.specs.Prelude.{◌==◌}
 use Rattle.hz_model.specs.Answers.{Held, Says, Opens, Describes, Traces, Replays, IsIssueOf, AnswersOrder, Answer}
-use Rattle.hz_model.specs.Forms.{Reads, FormFault, FaultAt}
+use Rattle.hz_model.specs.Forms.{Reads}
 use Rattle.hz_model.specs.Limits.{description_limit, trace_limit, advance_limit}
 use Rattle.hz_model.specs.Lines.{lines_of}
-use Rattle.hz_model.specs.Replay.{Accepted, FirstRefused, Event, issue, cycles_of, issues_of, IsOfClass}
+use Rattle.hz_model.specs.Replay.{FirstRefused, Event, issue, cycles_of, issues_of, IsOfClass}
 use Rattle.hz_model.specs.Straight.{Description, Straight, StraightTrace, machine_of, class_names, with_forms, nothing_defined, events_of}
 use Rattle.hz_model.specs.Texts.{file_line, limit_line, usage_line, refused_line, accepted_line, not_built_line}
 use Rattle.hz_model.specs.Trees.{Trees}

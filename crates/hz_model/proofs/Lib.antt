@@ -6,6 +6,7 @@ pub mod FitLaws
 pub mod MeaningLaws
 pub mod LineLaws
 pub mod ReplayLaws
+pub mod SameLaws
 pub mod PlayLaws
 pub mod Rows
 pub mod TraceLaws

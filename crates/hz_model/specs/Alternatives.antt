@@ -1,13 +1,18 @@
 -- Expressions and their alternatives. GCC Internals, 'Specifying processor pipeline description', on `,` `|` `+` `*`
 -- and `nothing`.
-use Rattle.std.specs.Prelude.{ℕ, zero, suc, ◌+◌, max, List, [], ◌∷◌, ◌++◌, map}
+use Rattle.std.specs.Prelude.{◌≡◌, ℕ, zero, suc, ◌+◌, max, List, [], ◌∷◌, ◌++◌, map}
 use Rattle.std.specs.List.{flat_map}
-use Rattle.hz_model.specs.Pairs.{Pair, placed}
+use Rattle.hz_model.specs.Pairs.{Pair, SamePairs, placed}
 
 -- One way to reserve: its pairs, and for how many cycles it runs.
 pub record Alternative (U : Type 0) : Type 0 where
   pub pairs : List (Pair U)
   pub cycles : ℕ
+
+-- the same alternative: the same set of pairs, for as many cycles
+pub record SameAs {U : Type 0} (a b : Alternative U) : Type 0 where
+  pub pairs : SamePairs a.pairs b.pairs
+  pub cycles : a.cycles ≡ b.cycles
 
 -- A reservation expression. A name stands for a unit or for a reservation.
 mutual

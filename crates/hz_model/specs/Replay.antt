@@ -1,6 +1,6 @@
 -- Acceptance of events. GCC Internals, 'Specifying processor pipeline description', on `|` and on `ndfa`.
 use Rattle.std.specs.Prelude.{◌≡◌, ℕ, zero, suc, ◌+◌, ◌<◌, List, [], ◌∷◌, ◌++◌, Option, Some, None, length, take, slice_get, slice_index}
-use Rattle.hz_model.specs.Pairs.{Pair, placed}
+use Rattle.hz_model.specs.Pairs.{Pair, SamePairs, placed}
 use Rattle.hz_model.specs.Alternatives.{Alternative}
 use Rattle.hz_model.specs.Sets.{Statement, Fits}
 
@@ -59,6 +59,13 @@ pairs_at (Some a) = a.pairs
 -- the pairs of the class's alternative of this number
 abbrev pub chosen : {U : Type 0} → Machine U → ℕ → ℕ → List (Pair U)
 chosen m k i = pairs_at (slice_get (alternatives_at m k) i)
+
+-- The same statements and treatment, as many alternatives of each class, and in each the same set of pairs.
+pub record SameMachine {U : Type 0} (m o : Machine U) : Type 0 where
+  pub statements : m.statements ≡ o.statements
+  pub treatment : m.treatment ≡ o.treatment
+  pub numbers : (k : ℕ) → length (alternatives_at m k) ≡ length (alternatives_at o k)
+  pub pairs : (k i : ℕ) → SamePairs (chosen m k i) (chosen o k i)
 
 -- What stands reserved, in absolute cycles, and the present cycle.
 pub record State (U : Type 0) : Type 0 where

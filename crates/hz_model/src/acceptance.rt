@@ -3,7 +3,7 @@
 ghost use Rattle.std.specs.Prelude.{◌≡◌, ℕ, ◌+◌, ◌↔◌, ◌⊎◌, Bool, Contains, List, ◌∷◌, ◌++◌, take, Some, slice_get};
 ghost use Rattle.std.specs.Bool.{Decides};
 ghost use Rattle.hz_model.specs.Plays.{Tells, plays, accepts};
-ghost use Rattle.hz_model.specs.Replay.{Machine, Event, issue, advance, State, Plays, IsPlayable, first_fit, ChoiceFirst, IsChoice, Accepted, FirstRefused};
+ghost use Rattle.hz_model.specs.Replay.{Machine, SameMachine, Event, issue, advance, State, Plays, IsPlayable, first_fit, ChoiceFirst, IsChoice, Accepted, FirstRefused};
 
 /// Where a list of events is accepted, each of its prefixes is.
 pub fn prefixes_are_accepted<U>()
@@ -52,4 +52,10 @@ pub fn accepted_by_the_first_choice<U>()
 /// In the first treatment at most one list of choices accepts a list of events.
 pub fn one_choice_in_the_first_treatment<U>()
     ensures { (m : Machine U) → m.treatment ≡ first_fit → (t : List Event) (p q : List ℕ) → IsChoice m t p → IsChoice m t q → p ≡ q }
+{}
+
+/// An alternative is a set of pairs: how its pairs are listed, and whether one is listed twice, changes nothing.
+pub fn alternatives_are_sets<U>()
+    ensures acceptance { (m o : Machine U) → SameMachine m o → (t : List Event) → Accepted m t ↔ Accepted o t }
+    ensures refused { (m o : Machine U) → SameMachine m o → (t : List Event) (i : ℕ) → FirstRefused m t i ↔ FirstRefused o t i }
 {}

@@ -1,7 +1,7 @@
 //! Laws of expressions, of their alternatives and of the names in them, for any units.
 
 ghost use Rattle.std.specs.Prelude.{◌≡◌, ℕ, ◌+◌, ◌*◌, ◌<◌, ◌^◌, slice_index_or, List, length, Option, IsTrue, IsSome};
-ghost use Rattle.hz_model.specs.Alternatives.{Alternative, Expression, Parts, none, more, sequence, one_of, all_of, repeat as repeat_of, alternatives_of, each_choice};
+ghost use Rattle.hz_model.specs.Alternatives.{Alternative, SameAs, beside, Expression, Parts, none, more, sequence, one_of, all_of, repeat as repeat_of, alternatives_of, each_choice};
 ghost use Rattle.hz_model.specs.Expressions.{is_expression, repeated, product_of_counts, sum_of_counts};
 ghost use Rattle.std.specs.Option.{option_map};
 ghost use Rattle.hz_model.specs.Lines.{place_of};
@@ -27,6 +27,12 @@ pub fn counts_of_alternatives<U>()
     ensures together { (known : List ℕ → List (Alternative U)) (parts : Parts) → length (alternatives_of known (all_of parts)) ≡ product_of_counts known parts }
     ensures any { (known : List ℕ → List (Alternative U)) (parts : Parts) → length (alternatives_of known (one_of parts)) ≡ sum_of_counts known parts }
     ensures repeats { (known : List ℕ → List (Alternative U)) (part : Expression) (n : ℕ) → length (alternatives_of known (repeat_of part n)) ≡ length (alternatives_of known part) ^ n }
+{}
+
+/// Alternatives side by side are in no order, and one beside itself is that one: their pairs are sets.
+pub fn side_by_side_is_in_no_order<U>()
+    ensures swapped { (a b : Alternative U) → SameAs (beside a b) (beside b a) }
+    ensures itself { (a : Alternative U) → SameAs (beside a a) a }
 {}
 
 /// Choices are ordered with the leftmost of two parts most significant; a sequence of more is such parts nested.
