@@ -1,14 +1,8 @@
-use Rattle.std.proofs.Common.{◌≡◌, ℕ, ◌<◌, inl, true, false, cond, nat_lt, List, [], ◌∷◌, length, All, Option, Some, None, codes, take, drop, slice_get, option_and_then, refl, sym, ap, ◌∙◌, subst, arith}
-use Rattle.std.proofs.lemmas.Bool.{ltb-true}
+use Rattle.std.proofs.Common.{◌≡◌, ℕ, inl, List, length, All, sym, ap, ◌∙◌, subst}
 use Rattle.std.proofs.lemmas.List.{length-map}
-use Rattle.std.proofs.lemmas.List.Elements.{All-nil, All-cons}
-use Rattle.std.proofs.lemmas.Option.{none-some, same_Some, cond_some, slice_get-map}
-use Rattle.std.specs.List.{position_or_len}
-use Rattle.std.specs.Option.{option_map}
-use Rattle.std.specs.Str.{bytes_eq}
-use Rattle.hz_model.specs.Answers.{IsIssueOf, Replays}
-use Rattle.hz_model.specs.Lines.{place_of, number_of, lines_of}
-use Rattle.hz_model.specs.Replay.{Class, Event, issue, advance, IsOfClass}
+use Rattle.hz_model.specs.Answers.{Replays}
+use Rattle.hz_model.specs.Lines.{lines_of}
+use Rattle.hz_model.specs.Replay.{Event, IsOfClass}
 use Rattle.hz_model.specs.Straight as model
 use Rattle.hz_model.specs.Straight.{event_of, events_of, machine_of, class_names, StraightTrace}
 use Rattle.hz_tool.specs.Decisions.{Agrees, Judges}

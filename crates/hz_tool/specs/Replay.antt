@@ -48,4 +48,3 @@ pub record Follows (m : Machine ℕ) (done : List model.Event) (grid : List (Pai
 abbrev pub IsOutcome : Machine ℕ → List model.Event → Outcome → Type 0
 IsOutcome m events (Accepted issues cycles) = model.Accepted m events × (issues ≡ model.issues_of events) × (cycles ≡ model.cycles_of events)
 IsOutcome m events (Refused event class) = model.FirstRefused m events event × (slice_get events event ≡ Some (model.issue class))
-
