@@ -4,3 +4,7 @@ pub mod ReplayLaws
 pub mod FormsNext
 pub mod FormsLaws
 pub mod FormsFront
+pub mod ExpressionsRest
+pub mod ExpressionsEnd
+pub mod ExpressionsFront
+pub mod ExpressionsLaws

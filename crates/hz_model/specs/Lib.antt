@@ -4,6 +4,8 @@ pub mod Pairs
 pub mod Trees
 pub mod FormFronts
 pub mod Forms
+pub mod Expressions
+pub mod ExpressionSteps
 pub mod Alternatives
 pub mod Sets
 pub mod Replay
