@@ -1,10 +1,10 @@
 -- The tokens that were read so far and what is held of them; each text has one expression or one fault.
-use Rattle.std.proofs.Common.{◌≡◌, ℕ, Bool, true, false, ◌++◌, List, [], ◌∷◌, length, refl, sym, ap, ◌∙◌, subst, arith, Option, Some, None, append_assoc}
+use Rattle.std.proofs.Common.{Ok, ◌≡◌, ℕ, false, ◌++◌, List, [], ◌∷◌, length, refl, sym, ap, ◌∙◌, subst, arith, Option, Some, None, append_assoc}
 use Rattle.std.specs.Option.{option_map}
 use Rattle.std.proofs.lemmas.List.Sums.{fold_push}
 use Rattle.hz_model.specs.Alternatives.{Expression}
-use Rattle.hz_model.specs.Expressions.{Token, word, mark, star, opens, closes, depth, depth_after, ends_in_star, is_star, limit_fault, KeepsLimits, IsWhole, Begins, IsSound}
-use Rattle.hz_model.specs.ExpressionSteps.{Open, Last, nothing_yet, element, starred, repeated, State, start, step, step_part}
+use Rattle.hz_model.specs.Expressions.{Token, word, mark, star, opens, closes, depth, depth_after, ends_in_star, is_star, limit_fault, limit_past, ExpressionFault, KeepsLimits, IsWhole, Begins, IsSound}
+use Rattle.hz_model.specs.ExpressionSteps.{is_starred, judged, take, Open, Last, nothing_yet, element, starred, repeated, State, start, step, step_part}
 use Rattle.hz_model.specs.Lines.{number_of}
 use Rattle.hz_model.proofs.ExpressionsRest.{Completes, CompletesAfter, opened, spelled, numbered, back, forth}
 use Rattle.hz_model.proofs.ExpressionsEnd.{can_end}
@@ -29,10 +29,6 @@ meets (z ∷ a) x xs (w ∷ b) y ys e = let head : z ≡ w = cc in go (meets a x
 -- a token and those behind it
 pub behind : (front : List Token) (token : Token) (rest : List Token) → (front ++ token ∷ []) ++ rest ≡ front ++ token ∷ rest
 behind front token rest = append_assoc front (token ∷ []) rest
-
-abbrev pub is_starred : Last → Bool
-is_starred (starred value) = true
-is_starred _ = false
 
 -- how a step counts parentheses and stars
 abbrev pub Counts : ℕ → Token → Option State → Type 0
@@ -116,3 +112,16 @@ begins_taken front s token rest whole leads h = forth s token rest whole (leads.
 
 pub refused_begins : (front : List Token) (s : State) (token : Token) → Leads front s → step s token ≡ None → Begins (front ++ token ∷ []) → ⊥
 refused_begins front s token leads e b = subst (λ o. CompletesAfter o b.0 b.1) e (begins_taken front s token b.0 b.1 leads (rw (behind front token b.0) at b.2))
+
+-- what is passed at a token, by what is held
+pub limit_held : (front : List Token) (s : State) (token : Token) → Leads front s → limit_fault front token ≡ limit_past (length s.outer) (is_starred s.last) token
+limit_held front s token leads = rw (leads.deep, leads.starred) refl
+
+-- a token that is taken leads on
+pub take_leads : (front : List Token) (s after : State) (token : Token) → Leads front s → take s token ≡ Ok after → Leads (front ++ token ∷ []) after
+take_leads front s after token leads e = go (step s token) refl _ (limit_held front s token leads) e
+  where
+    go : (o : Option State) → step s token ≡ o → (f : Option ExpressionFault) → limit_fault front token ≡ f → judged o f ≡ Ok after → Leads (front ++ token ∷ []) after
+    go None p f q h = absurd (cc)
+    go (Some t) p (Some f) q h = absurd (cc)
+    go (Some t) p None q h = step_leads front s after token leads (cc) q

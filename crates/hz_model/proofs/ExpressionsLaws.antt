@@ -3,10 +3,10 @@ use Rattle.std.proofs.Common.{◌≡◌, ℕ, ◌++◌, List, [], ◌∷◌, len
 use Rattle.std.proofs.lemmas.List.{append-nil}
 use Rattle.hz_model.specs.Alternatives.{Expression}
 use Rattle.hz_model.specs.Expressions.{Token, place, tokens, limit_fault, KeepsLimits, IsWhole, Begins, IsSound, Reads, ExpressionFault, unexpected, no_token, FaultAt}
-use Rattle.hz_model.specs.ExpressionSteps.{State, start, step, finish}
+use Rattle.hz_model.specs.ExpressionSteps.{take, judged, State, start, step, finish}
 use Rattle.hz_model.proofs.ExpressionsRest.{CompletesAfter}
 use Rattle.hz_model.proofs.ExpressionsEnd.{ended, finished}
-use Rattle.hz_model.proofs.ExpressionsFront.{behind, Leads, start_leads, step_leads, leads_sound, taken_begins, begins_taken, refused_begins}
+use Rattle.hz_model.proofs.ExpressionsFront.{behind, limit_held, Leads, start_leads, step_leads, leads_sound, taken_begins, begins_taken, refused_begins}
 
 abbrev pub Outcome : Type 0
 Outcome = Result Expression (ExpressionFault × ℕ)
@@ -123,8 +123,8 @@ pub expression_or_fault : (text : List ℕ) (value : Expression) (fault : Expres
 expression_or_fault text value fault at p q = let clash : ◌≡◌ {A = Outcome} (Ok value) (Err (fault, at)) = sym (read_is text value p) ∙ fault_is q in absurd (cc)
 
 -- an expression or a fault
-abbrev pub Judged : List ℕ → Type 0
-Judged text = ((value : Expression) × Reads text value) ⊎ ((fault : ExpressionFault) × (at : ℕ) × FaultAt text fault at)
+abbrev pub Decided : List ℕ → Type 0
+Decided text = ((value : Expression) × Reads text value) ⊎ ((fault : ExpressionFault) × (at : ℕ) × FaultAt text fault at)
 
 -- at the end of a text: what is held is the expression
 pub read_end : (text : List ℕ) (front : List Token) (s : State) (value : Expression) → tokens text ≡ front → Leads front s → finish s ≡ Some value → Reads text value
@@ -144,22 +144,32 @@ pub passes : (text : List ℕ) (front rest : List Token) (token : Token) (s afte
     → limit_fault front token ≡ Some fault → FaultAt text fault (place token)
 passes text front rest token s after fault e leads f now = FaultAt.past_limit front token rest e (leads_sound front s leads) (taken_begins front s after token leads f) now
 
-judged_end : (text : List ℕ) (front : List Token) (s : State) → tokens text ≡ front → Leads front s → (value : Option Expression) → finish s ≡ value → Judged text
-judged_end text [] s e leads value f = inr (no_token, 0, FaultAt.without_token e)
-judged_end text (token ∷ front) s e leads None f = inr (unexpected, length text, cut_short text token front s e leads f)
-judged_end text (token ∷ front) s e leads (Some value) f = inl (value, read_end text (token ∷ front) s value e leads f)
+-- a token that is not taken is what is wrong
+pub take_wrong : (text : List ℕ) (front rest : List Token) (token : Token) (s : State) (fault : ExpressionFault) → tokens text ≡ front ++ token ∷ rest → Leads front s → take s token ≡ Err fault
+    → FaultAt text fault (place token)
+take_wrong text front rest token s fault e leads h = go (step s token) refl _ (limit_held front s token leads) h
+  where
+    go : (o : Option State) → step s token ≡ o → (f : Option ExpressionFault) → limit_fault front token ≡ f → judged o f ≡ Err fault → FaultAt text fault (place token)
+    go None p f q h = let same : unexpected ≡ fault = cc in rw (← same) (stops text front rest token s e leads p)
+    go (Some t) p (Some f) q h = let same : f ≡ fault = cc in rw (← same) (passes text front rest token s t f e leads p q)
+    go (Some t) p None q h = absurd (cc)
 
-judged_at : (text : List ℕ) (front rest : List Token) (token : Token) (s : State) → tokens text ≡ front ++ token ∷ rest → Leads front s → ((after : State) → Leads (front ++ token ∷ []) after → Judged text)
-    → (after : Option State) → step s token ≡ after → (fault : Option ExpressionFault) → limit_fault front token ≡ fault → Judged text
-judged_at text front rest token s e leads on None f fault now = inr (unexpected, place token, stops text front rest token s e leads f)
-judged_at text front rest token s e leads on (Some after) f (Some fault) now = inr (fault, place token, passes text front rest token s after fault e leads f now)
-judged_at text front rest token s e leads on (Some after) f None now = on after (step_leads front s after token leads f now)
+decided_end : (text : List ℕ) (front : List Token) (s : State) → tokens text ≡ front → Leads front s → (value : Option Expression) → finish s ≡ value → Decided text
+decided_end text [] s e leads value f = inr (no_token, 0, FaultAt.without_token e)
+decided_end text (token ∷ front) s e leads None f = inr (unexpected, length text, cut_short text token front s e leads f)
+decided_end text (token ∷ front) s e leads (Some value) f = inl (value, read_end text (token ∷ front) s value e leads f)
 
-judged : (text : List ℕ) (front rest : List Token) (s : State) → tokens text ≡ front ++ rest → Leads front s → Judged text
-judged text front [] s e leads = judged_end text front s (e ∙ append-nil front) leads (finish s) refl
-judged text front (token ∷ rest) s e leads = judged_at text front rest token s e leads (λ after now. judged text (front ++ token ∷ []) rest after (e ∙ sym (behind front token rest)) now)
+decided_at : (text : List ℕ) (front rest : List Token) (token : Token) (s : State) → tokens text ≡ front ++ token ∷ rest → Leads front s → ((after : State) → Leads (front ++ token ∷ []) after → Decided text)
+    → (after : Option State) → step s token ≡ after → (fault : Option ExpressionFault) → limit_fault front token ≡ fault → Decided text
+decided_at text front rest token s e leads on None f fault now = inr (unexpected, place token, stops text front rest token s e leads f)
+decided_at text front rest token s e leads on (Some after) f (Some fault) now = inr (fault, place token, passes text front rest token s after fault e leads f now)
+decided_at text front rest token s e leads on (Some after) f None now = on after (step_leads front s after token leads f now)
+
+decided : (text : List ℕ) (front rest : List Token) (s : State) → tokens text ≡ front ++ rest → Leads front s → Decided text
+decided text front [] s e leads = decided_end text front s (e ∙ append-nil front) leads (finish s) refl
+decided text front (token ∷ rest) s e leads = decided_at text front rest token s e leads (λ after now. decided text (front ++ token ∷ []) rest after (e ∙ sym (behind front token rest)) now)
     (step s token) refl (limit_fault front token) refl
 
 -- Every text has an expression or a fault.
-pub every_text : (text : List ℕ) → Judged text
-every_text text = judged text [] (tokens text) start refl start_leads
+pub every_text : (text : List ℕ) → Decided text
+every_text text = decided text [] (tokens text) start refl start_leads

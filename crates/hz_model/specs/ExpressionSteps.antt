@@ -1,8 +1,8 @@
 -- Reading the tokens of an expression one by one: what is held of those that were read.
-use Rattle.std.specs.Prelude.{◌++◌, List, [], ◌∷◌, Option, Some, None}
+use Rattle.std.specs.Prelude.{Bool, true, false, length, Result, Ok, Err, ◌++◌, List, [], ◌∷◌, Option, Some, None}
 use Rattle.std.specs.Option.{option_map}
 use Rattle.hz_model.specs.Alternatives.{Expression, repeat}
-use Rattle.hz_model.specs.Expressions.{Mark, comma, bar, plus, Token, word, mark, star, opens, closes, element_of, joined_by}
+use Rattle.hz_model.specs.Expressions.{ExpressionFault, unexpected, limit_past, Mark, comma, bar, plus, Token, word, mark, star, opens, closes, element_of, joined_by}
 use Rattle.hz_model.specs.Lines.{number_of}
 
 -- The parts before the last one, of the sequence, of its last choice, and of that one's last part.
@@ -92,3 +92,17 @@ finish_last inner outer _ = None
 -- the expression that was read, if it ends here
 abbrev pub finish : State → Option Expression
 finish s = finish_last s.inner s.outer s.last
+
+abbrev pub is_starred : Last → Bool
+is_starred (starred value) = true
+is_starred _ = false
+
+-- what comes of a token: what is held after it, or what is wrong
+abbrev pub judged : Option State → Option ExpressionFault → Result State ExpressionFault
+judged None fault = Err unexpected
+judged (Some after) (Some fault) = Err fault
+judged (Some after) None = Ok after
+
+-- the same, by the state and the token
+abbrev pub take : State → Token → Result State ExpressionFault
+take s token = judged (step s token) (limit_past (length s.outer) (is_starred s.last) token)

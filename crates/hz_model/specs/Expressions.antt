@@ -144,11 +144,15 @@ abbrev pub number_fault : Option ℕ → Option ExpressionFault
 number_fault None = None
 number_fault (Some number) = if number == 0 then Some repeat_zero else if nat_le number repeat_limit then None else Some number_too_large
 
+-- what a token passes where so many parentheses are open, and behind a `*` or not
+abbrev pub limit_past : ℕ → Bool → Token → Option ExpressionFault
+limit_past deep starred (opens at) = if nat_lt deep parentheses_limit then None else Some too_deep
+limit_past deep starred (word at bytes) = if starred then number_fault (number_of bytes) else None
+limit_past deep starred _ = None
+
 -- what a token passes behind a front that it continues: the depth of parentheses, or the range of a repeat's number
 abbrev pub limit_fault : List Token → Token → Option ExpressionFault
-limit_fault front (opens at) = if nat_lt (depth front) parentheses_limit then None else Some too_deep
-limit_fault front (word at bytes) = if ends_in_star front then number_fault (number_of bytes) else None
-limit_fault front _ = None
+limit_fault front token = limit_past (depth front) (ends_in_star front) token
 
 -- no token passes a limit
 abbrev pub KeepsLimits : List Token → Type 0
