@@ -14,3 +14,6 @@ pub use fault::ExprFault;
 pub use lists::{NamesFault, parse_names};
 pub use names::{Name, NoMemory};
 pub use reader::parse_expr;
+
+#[cfg(test)]
+mod tests;
