@@ -7,6 +7,7 @@ use Rattle.hz_model.specs.Expressions.{Token, word, mark, star, opens, closes, d
 use Rattle.hz_model.specs.ExpressionSteps.{is_starred, judged, take, Open, Last, nothing_yet, element, starred, repeated, State, start, step, step_part}
 use Rattle.hz_model.specs.Lines.{number_of}
 use Rattle.hz_model.proofs.ExpressionsRest.{Completes, CompletesAfter, opened, spelled, numbered, back, forth}
+use Rattle.hz_model.proofs.ExpressionsFormed.{StateFormed, formed_step}
 use Rattle.hz_model.proofs.ExpressionsEnd.{can_end}
 
 -- where two lists are one: the elements that follow two fronts are the same, or one front is within the other
@@ -63,6 +64,7 @@ pub record Leads (front : List Token) (s : State) : Type 0 where
   pub deep : depth front ≡ length s.outer
   pub starred : ends_in_star front ≡ is_starred s.last
   pub limits : KeepsLimits front
+  pub formed : StateFormed s
 
 no_limits : KeepsLimits []
 no_limits [] token rest e = absurd (cc)
@@ -75,6 +77,7 @@ start_leads = record {
   deep = refl;
   starred = refl;
   limits = no_limits;
+  formed = record { inner = record { sequence = refl; choices = refl; together = refl }; outer = tt; last = tt };
 }
 
 push_limits : (front : List Token) (token : Token) → KeepsLimits front → limit_fault front token ≡ None → KeepsLimits (front ++ token ∷ [])
@@ -86,6 +89,10 @@ push_limits front token keeps now f t rest e = go (meets front token [] f t rest
     go (Meets.earlier (m ∷ mid) p q) = absurd (cc)
     go (Meets.later mid p q) = keeps f t mid p
 
+-- what is passed at a token, by what is held
+pub limit_held : (front : List Token) (s : State) (token : Token) → Leads front s → limit_fault front token ≡ limit_past (length s.outer) (is_starred s.last) token
+limit_held front s token leads = rw (leads.deep, leads.starred) refl
+
 -- a step that is taken leads on
 pub step_leads : (front : List Token) (s after : State) (token : Token) → Leads front s → step s token ≡ Some after → limit_fault front token ≡ None → Leads (front ++ token ∷ []) after
 step_leads front s after token leads e now =
@@ -96,6 +103,7 @@ step_leads front s after token leads e now =
       deep = fold_push depth_after 0 front token ∙ (ap (λ n. depth_after n token) leads.deep ∙ counts.0);
       starred = fold_push (λ _ t. is_star t) false front token ∙ counts.1;
       limits = push_limits front token leads.limits now;
+      formed = formed_step s token after leads.formed (sym (limit_held front s token leads) ∙ now) e;
     }
 
 -- what is held can be ended, so it was the beginning of an expression
@@ -112,10 +120,6 @@ begins_taken front s token rest whole leads h = forth s token rest whole (leads.
 
 pub refused_begins : (front : List Token) (s : State) (token : Token) → Leads front s → step s token ≡ None → Begins (front ++ token ∷ []) → ⊥
 refused_begins front s token leads e b = subst (λ o. CompletesAfter o b.0 b.1) e (begins_taken front s token b.0 b.1 leads (rw (behind front token b.0) at b.2))
-
--- what is passed at a token, by what is held
-pub limit_held : (front : List Token) (s : State) (token : Token) → Leads front s → limit_fault front token ≡ limit_past (length s.outer) (is_starred s.last) token
-limit_held front s token leads = rw (leads.deep, leads.starred) refl
 
 -- a token that is taken leads on
 pub take_leads : (front : List Token) (s after : State) (token : Token) → Leads front s → take s token ≡ Ok after → Leads (front ++ token ∷ []) after

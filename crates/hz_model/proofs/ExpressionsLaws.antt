@@ -1,11 +1,12 @@
 -- Each text has one expression or one fault, and not both: the reading of all tokens gives the one that it has.
-use Rattle.std.proofs.Common.{◌≡◌, ℕ, ◌++◌, List, [], ◌∷◌, length, refl, sym, ap, ◌∙◌, Option, Some, None, Ok, Err, Result, ◌⊎◌, inl, inr, append_assoc}
+use Rattle.std.proofs.Common.{true, ◌≡◌, ℕ, ◌++◌, List, [], ◌∷◌, length, refl, sym, ap, ◌∙◌, Option, Some, None, Ok, Err, Result, ◌⊎◌, inl, inr, append_assoc}
 use Rattle.std.proofs.lemmas.List.{append-nil}
 use Rattle.hz_model.specs.Alternatives.{Expression}
-use Rattle.hz_model.specs.Expressions.{Token, place, tokens, limit_fault, KeepsLimits, IsWhole, Begins, IsSound, Reads, ExpressionFault, unexpected, no_token, FaultAt}
+use Rattle.hz_model.specs.Expressions.{is_well_formed, Token, place, tokens, limit_fault, KeepsLimits, IsWhole, Begins, IsSound, Reads, ExpressionFault, unexpected, no_token, FaultAt}
 use Rattle.hz_model.specs.ExpressionSteps.{take, judged, State, start, step, finish}
 use Rattle.hz_model.proofs.ExpressionsRest.{CompletesAfter}
 use Rattle.hz_model.proofs.ExpressionsEnd.{ended, finished}
+use Rattle.hz_model.proofs.ExpressionsFormed.{formed_finish}
 use Rattle.hz_model.proofs.ExpressionsFront.{behind, limit_held, Leads, start_leads, step_leads, leads_sound, taken_begins, begins_taken, refused_begins}
 
 abbrev pub Outcome : Type 0
@@ -67,6 +68,14 @@ read_first text value (token ∷ all) e whole limits =
     let same : tokens text ≡ (token ∷ all) ++ [] = e ∙ sym (append-nil (token ∷ all)) in
     let w = walk_front text (token ∷ all) [] same sound in
     outcome_front text (token ∷ all) [] same w ∙ ap (λ o. outcome_end (length text) (token ∷ all) o) (ended w.state value (w.leads.to [] value (rw (append-nil (token ∷ all)) whole)))
+
+-- What is read is well formed.
+pub well_formed : (text : List ℕ) (value : Expression) → Reads text value → is_well_formed value ≡ true
+well_formed text value r =
+    let all = tokens text in
+    let sound : IsSound all = record { begins = ([], value, rw (append-nil all) r.whole); limits = r.limits } in
+    let w = walk_front text all [] (sym (append-nil all)) sound in
+    formed_finish w.state value w.leads.formed (ended w.state value (w.leads.to [] value (rw (append-nil all) r.whole)))
 
 -- an expression is the outcome
 pub read_is : (text : List ℕ) (value : Expression) → Reads text value → outcome_of text ≡ Ok value

@@ -6,5 +6,6 @@ pub mod FormsLaws
 pub mod FormsFront
 pub mod ExpressionsRest
 pub mod ExpressionsEnd
+pub mod ExpressionsFormed
 pub mod ExpressionsFront
 pub mod ExpressionsLaws

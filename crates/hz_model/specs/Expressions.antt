@@ -1,5 +1,5 @@
 -- The texts of reservation expressions: their tokens, what the tokens spell, and what can be wrong.
-use Rattle.std.specs.Prelude.{◌≡◌, ℕ, ◌+◌, ◌-◌, Bool, true, false, ◌==◌, nat_lt, nat_le, if◌then◌else◌, List, [], ◌∷◌, ◌++◌, length, take, Option, Some, None, codes}
+use Rattle.std.specs.Prelude.{◌≡◌, ℕ, ◌+◌, ◌-◌, Bool, true, false, ◌&&◌, ◌==◌, nat_lt, nat_le, if◌then◌else◌, List, [], ◌∷◌, ◌++◌, length, take, Option, Some, None, codes}
 use Rattle.std.specs.Char.{is_ascii_whitespace}
 use Rattle.std.specs.List.{fold, prefix_len}
 use Rattle.std.specs.Str.{bytes_eq}
@@ -72,6 +72,29 @@ abbrev pub joined_by : Mark → List Expression → Expression
 joined_by kind (part ∷ []) = part
 joined_by kind parts = joined_parts kind (parts_of parts)
 
+-- the greatest number of a repeat
+abbrev pub repeat_limit : ℕ
+repeat_limit = 65535
+
+-- two parts or more
+abbrev pub are_several : Parts → Bool
+are_several (more first (more second others)) = true
+are_several _ = false
+
+-- at every depth a list has two parts or more, and the number of a repeat is in its range
+abbrev mutual
+  pub is_well_formed : Expression → Bool
+  is_well_formed (named name) = true
+  is_well_formed nothing = true
+  is_well_formed (sequence parts) = are_several parts && are_well_formed parts
+  is_well_formed (one_of parts) = are_several parts && are_well_formed parts
+  is_well_formed (all_of parts) = are_several parts && are_well_formed parts
+  is_well_formed (repeat part times) = is_well_formed part && nat_le 1 times && nat_le times repeat_limit
+
+  pub are_well_formed : Parts → Bool
+  are_well_formed none = true
+  are_well_formed (more first others) = is_well_formed first && are_well_formed others
+
 -- How tight a part of an expression is held: an element, an element that may be repeated, or parts with a mark between them.
 pub data Level : Type 0 where
   element repeated : Level
@@ -116,10 +139,6 @@ pub data ExpressionFault : Type 0 where
 -- how deep parentheses may nest
 abbrev pub parentheses_limit : ℕ
 parentheses_limit = 64
-
--- the greatest number of a repeat
-abbrev pub repeat_limit : ℕ
-repeat_limit = 65535
 
 -- how many parentheses are open behind a token
 abbrev pub depth_after : ℕ → Token → ℕ

@@ -1,8 +1,8 @@
 //! Laws of the texts of expressions.
 
-ghost use Rattle.std.specs.Prelude.{◌≡◌, ◌⊎◌, ℕ, List};
+ghost use Rattle.std.specs.Prelude.{IsTrue, ◌≡◌, ◌⊎◌, ℕ, List};
 ghost use Rattle.hz_model.specs.Alternatives.{Expression};
-ghost use Rattle.hz_model.specs.Expressions.{Reads, ExpressionFault, FaultAt};
+ghost use Rattle.hz_model.specs.Expressions.{Reads, is_well_formed, ExpressionFault, FaultAt};
 
 /// One text has one expression.
 pub fn one_expression()
@@ -17,6 +17,11 @@ pub fn one_fault_of_expressions()
 /// No text has both an expression and a fault.
 pub fn expression_or_fault()
     ensures { (text : List ℕ) (value : Expression) (fault : ExpressionFault) (at : ℕ) → Reads text value → FaultAt text fault at → ⊥ }
+{}
+
+/// What a text spells is well formed.
+pub fn expressions_are_well_formed()
+    ensures { (text : List ℕ) (value : Expression) → Reads text value → IsTrue (is_well_formed value) }
 {}
 
 /// Every text has an expression or a fault.

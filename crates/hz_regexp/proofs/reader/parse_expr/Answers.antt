@@ -1,7 +1,8 @@
-use Rattle.std.proofs.Common.{length, ◌≡◌, ◌∙◌, Some, None, sym}
+use Rattle.std.proofs.Common.{true, length, ◌≡◌, ◌∙◌, Some, None, sym}
 use Rattle.std.proofs.lemmas.Result.{err_from_is_err_and, IfOk-weaker, IfErr-weaker}
-use Rattle.hz_model.specs.Expressions.{Reads, FaultAt, unexpected}
+use Rattle.hz_model.specs.Expressions.{is_well_formed, Reads, FaultAt, unexpected}
 use Rattle.hz_model.specs.ExpressionSteps.{finish}
+use Rattle.hz_model.proofs.ExpressionsLaws.{well_formed}
 use Rattle.hz_regexp.specs.Faults.{Tells}
 use Rattle.hz_regexp.specs.Shape.{expression}
 use Rattle.hz_regexp.specs.State.{state_of}
@@ -33,6 +34,11 @@ pub returns-clause-reads : goal.returns-clause-reads
 returns-clause-reads c =
     IfOk-weaker c.finish.result (λ expr. finish (state_of c.loop-token.reader) ≡ Some (expression expr)) (λ expr. Reads c.args.text.now (expression expr))
     (λ expr e. read_all c.args.text.now (state_of c.loop-token.reader) _ (expression expr) c.loop-token.invariant c.in_default-next_token.ensures.token e) c.finish.ensures.ok
+
+pub returns-clause-formed : goal.returns-clause-formed
+returns-clause-formed c =
+    IfOk-weaker c.finish.result (λ expr. finish (state_of c.loop-token.reader) ≡ Some (expression expr)) (λ expr. is_well_formed (expression expr) ≡ true)
+    (λ expr e. well_formed c.args.text.now (expression expr) (read_all c.args.text.now (state_of c.loop-token.reader) _ (expression expr) c.loop-token.invariant c.in_default-next_token.ensures.token e)) c.finish.ensures.ok
 
 pub returns-clause-faults : goal.returns-clause-faults
 returns-clause-faults c =
