@@ -77,6 +77,27 @@ abbrev pub CompletesAfter : Option State → List Token → Expression → Type 
 CompletesAfter None tokens whole = ⊥
 CompletesAfter (Some s) tokens whole = Completes s tokens whole
 
+enclosing : {o : Open} {part value : Expression} {tokens behind_all behind_choice rest : List Token} {together choices sequence : List Expression}
+    → Further plus tokens together behind_all → Further bar behind_all choices behind_choice → Further comma behind_choice sequence rest
+    → joined_by comma (o.sequence ++ joined_by bar (o.choices ++ joined_by plus (o.together ++ part ∷ together) ∷ choices) ∷ sequence) ≡ value → Encloses o part tokens value rest
+enclosing {behind_all = behind_all} {behind_choice} {together = together} {choices} {sequence} all choice several e = record {
+  together = together;
+  choices = choices;
+  sequence = sequence;
+  behind_all = behind_all;
+  behind_choice = behind_choice;
+  is_all = all;
+  is_choice = choice;
+  is_sequence = several;
+  is = e;
+}
+
+ending : {o : Open} {Ends : Expression → List Token → Type 0} {part value : Expression} {tokens rest : List Token} → Encloses o part tokens value rest → Ends value rest → PartEnds o Ends part tokens
+ending {value = value} {rest = rest} e h = record { value = value; rest = rest; encloses = e; ends = h }
+
+first_ends : {o : Open} {Ends : Expression → List Token → Type 0} {part : Expression} {tokens left : List Token} → Spells grammar.repeated tokens part left → PartEnds o Ends part left → FirstEnds o Ends tokens
+first_ends {part = part} {left = left} spells h = record { part = part; left = left; spells = spells; ends = h }
+
 -- an expression by its first part
 pub record Opened (tokens : List Token) (value : Expression) (rest : List Token) : Type 0 where
   pub part : Expression
@@ -85,22 +106,7 @@ pub record Opened (tokens : List Token) (value : Expression) (rest : List Token)
   pub encloses : Encloses unopened part left value rest
 
 pub opened : {tokens rest : List Token} {value : Expression} → Spells (joined comma) tokens value rest → Opened tokens value rest
-opened (Spells.parts {others = behind_choice} {values = sequence} (Spells.parts {others = behind_all} {values = choices} (Spells.parts {others = left} {first = part} {values = together} spells all) choice) several) = record {
-  part = part;
-  left = left;
-  spells = spells;
-  encloses = record {
-    together = together;
-    choices = choices;
-    sequence = sequence;
-    behind_all = behind_all;
-    behind_choice = behind_choice;
-    is_all = all;
-    is_choice = choice;
-    is_sequence = several;
-    is = refl;
-  };
-}
+opened (Spells.parts (Spells.parts (Spells.parts {others = left} {first = part} spells all) choice) several) = record { part = part; left = left; spells = spells; encloses = enclosing all choice several refl }
 
 pub spelled : {tokens left rest : List Token} {part value : Expression} → Spells grammar.repeated tokens part left → Encloses unopened part left value rest → Spells (joined comma) tokens value rest
 spelled {tokens} {rest = rest} spells e = subst (λ v. Spells (joined comma) tokens v rest) e.is (Spells.parts (Spells.parts (Spells.parts spells e.is_all) e.is_choice) e.is_sequence)
@@ -111,7 +117,7 @@ repeated_is spells (Repeat.times e) = Spells.times spells e
 
 -- a part with nothing of its parentheses behind it
 pub alone : (o : Open) (part : Expression) (tokens : List Token) → Encloses o part tokens (sequence_with o part) tokens
-alone o part tokens = record { together = []; choices = []; sequence = []; behind_all = tokens; behind_choice = tokens; is_all = Further.ends; is_choice = Further.ends; is_sequence = Further.ends; is = refl }
+alone o part tokens = enclosing Further.ends Further.ends Further.ends refl
 
 -- Backwards: what completes the state behind a token completes, with the token, the state before it.
 back_first : (inner : Open) (outer : List Open) (token : Token) (tokens : List Token) (whole : Expression) → CompletesAfter (step_first inner outer token) tokens whole
@@ -126,64 +132,16 @@ back_first inner outer token tokens whole h = absurd h
 
 back_mark : (inner : Open) (outer : List Open) (part : Expression) (at : ℕ) (kind : Mark) (tokens : List Token) (whole : Expression) → FirstEnds (before kind inner part) (EndsIn whole outer) tokens
     → PartEnds inner (EndsIn whole outer) part (mark at kind ∷ tokens)
-back_mark inner outer part at plus tokens whole h = let e = h.ends.encloses in record {
-  value = h.ends.value;
-  rest = h.ends.rest;
-  encloses = record {
-    together = h.part ∷ e.together;
-    choices = e.choices;
-    sequence = e.sequence;
-    behind_all = e.behind_all;
-    behind_choice = e.behind_choice;
-    is_all = Further.next h.spells e.is_all;
-    is_choice = e.is_choice;
-    is_sequence = e.is_sequence;
-    is = rw append_assoc at e.is;
-  };
-  ends = h.ends.ends;
-}
-back_mark inner outer part at bar tokens whole h = let e = h.ends.encloses in record {
-  value = h.ends.value;
-  rest = h.ends.rest;
-  encloses = record {
-    together = [];
-    choices = joined_by plus (h.part ∷ e.together) ∷ e.choices;
-    sequence = e.sequence;
-    behind_all = mark at bar ∷ tokens;
-    behind_choice = e.behind_choice;
-    is_all = Further.ends;
-    is_choice = Further.next (Spells.parts h.spells e.is_all) e.is_choice;
-    is_sequence = e.is_sequence;
-    is = rw append_assoc at e.is;
-  };
-  ends = h.ends.ends;
-}
-back_mark inner outer part at comma tokens whole h = let e = h.ends.encloses in record {
-  value = h.ends.value;
-  rest = h.ends.rest;
-  encloses = record {
-    together = [];
-    choices = [];
-    sequence = joined_by bar (joined_by plus (h.part ∷ e.together) ∷ e.choices) ∷ e.sequence;
-    behind_all = mark at comma ∷ tokens;
-    behind_choice = mark at comma ∷ tokens;
-    is_all = Further.ends;
-    is_choice = Further.ends;
-    is_sequence = Further.next (Spells.parts (Spells.parts h.spells e.is_all) e.is_choice) e.is_sequence;
-    is = rw append_assoc at e.is;
-  };
-  ends = h.ends.ends;
-}
+back_mark inner outer part at plus tokens whole h = let e = h.ends.encloses in ending (enclosing (Further.next h.spells e.is_all) e.is_choice e.is_sequence (rw append_assoc at e.is)) h.ends.ends
+back_mark inner outer part at bar tokens whole h = let e = h.ends.encloses in
+    ending (enclosing Further.ends (Further.next (Spells.parts h.spells e.is_all) e.is_choice) e.is_sequence (rw append_assoc at e.is)) h.ends.ends
+back_mark inner outer part at comma tokens whole h = let e = h.ends.encloses in
+    ending (enclosing Further.ends Further.ends (Further.next (Spells.parts (Spells.parts h.spells e.is_all) e.is_choice) e.is_sequence) (rw append_assoc at e.is)) h.ends.ends
 
 back_part : (inner : Open) (outer : List Open) (part : Expression) (token : Token) (tokens : List Token) (whole : Expression) → CompletesAfter (step_part inner outer part token) tokens whole
     → PartEnds inner (EndsIn whole outer) part (token ∷ tokens)
 back_part inner outer part (mark at kind) tokens whole h = back_mark inner outer part at kind tokens whole h
-back_part inner (o ∷ outer) part (closes at) tokens whole h = record {
-  value = sequence_with inner part;
-  rest = closes at ∷ tokens;
-  encloses = alone inner part (closes at ∷ tokens);
-  ends = record { at = at; left = tokens; is = refl; ends = h };
-}
+back_part inner (o ∷ outer) part (closes at) tokens whole h = ending (alone inner part (closes at ∷ tokens)) (record { at = at; left = tokens; is = refl; ends = h })
 back_part inner outer part token tokens whole h = absurd h
 
 back_element : (inner : Open) (outer : List Open) (value : Expression) (token : Token) (tokens : List Token) (whole : Expression) → CompletesAfter (step_element inner outer value token) tokens whole
@@ -239,23 +197,6 @@ forth_first : (inner : Open) (outer : List Open) (token : Token) (tokens : List 
     → CompletesAfter (step_first inner outer token) tokens whole
 forth_first inner outer token tokens whole h = forth_spelled inner outer whole h.spells h.ends
 
--- behind a mark: what stands there is the first of the further parts
-mark_plus : (inner : Open) (part : Expression) {tokens left rest behind_all behind_choice : List Token} {first value : Expression} {together choices sequence : List Expression}
-    → Spells grammar.repeated tokens first left → Further plus left together behind_all → Further bar behind_all choices behind_choice → Further comma behind_choice sequence rest
-    → joined_by comma (inner.sequence ++ joined_by bar (inner.choices ++ joined_by plus (inner.together ++ part ∷ first ∷ together) ∷ choices) ∷ sequence) ≡ value
-    → Encloses (before plus inner part) first left value rest
-mark_plus inner part {behind_all = behind_all} {behind_choice} {first = first} {together = together} {choices} {sequence} spells all choice several e = record {
-  together = together;
-  choices = choices;
-  sequence = sequence;
-  behind_all = behind_all;
-  behind_choice = behind_choice;
-  is_all = all;
-  is_choice = choice;
-  is_sequence = several;
-  is = rw append_assoc e;
-}
-
 closed_outer : (inner : Open) (outer : List Open) (part : Expression) (token : Token) (tokens : List Token) (whole value : Expression) → sequence_with inner part ≡ value → EndsIn whole outer value (token ∷ tokens)
     → CompletesAfter (step_part inner outer part token) tokens whole
 closed_outer inner [] part token tokens whole value e h = absurd (cc)
@@ -269,50 +210,9 @@ forth_further : (inner : Open) (outer : List Open) (part : Expression) {token : 
     → Further plus (token ∷ tokens) together behind_all → Further bar behind_all choices behind_choice → Further comma behind_choice sequence rest
     → joined_by comma (inner.sequence ++ joined_by bar (inner.choices ++ joined_by plus (inner.together ++ part ∷ together) ∷ choices) ∷ sequence) ≡ value
     → EndsIn whole outer value rest → CompletesAfter (step_part inner outer part token) tokens whole
-forth_further inner outer part {rest = rest} whole value (Further.next {others = left} {value = first} spells all) choice several e h =
-    record { part = first; left = left; spells = spells; ends = record { value = value; rest = rest; encloses = mark_plus inner part spells all choice several e; ends = h } }
-forth_further inner outer part {behind_choice = behind_choice} {rest = rest} {sequence = sequence} whole value Further.ends (Further.next {values = choices} (Spells.parts {others = left} {first = first} {values = together} spells all) choice) several e h = record {
-  part = first;
-  left = left;
-  spells = spells;
-  ends = record {
-    value = value;
-    rest = rest;
-    encloses = record {
-      together = together;
-      choices = choices;
-      sequence = sequence;
-      behind_all = _;
-      behind_choice = behind_choice;
-      is_all = all;
-      is_choice = choice;
-      is_sequence = several;
-      is = rw append_assoc e;
-    };
-    ends = h;
-  };
-}
-forth_further inner outer part {rest = rest} whole value Further.ends Further.ends (Further.next {values = sequence} (Spells.parts {others = behind_choice} {values = choices} (Spells.parts {others = left} {first = first} {values = together} spells all) choice) several) e h = record {
-  part = first;
-  left = left;
-  spells = spells;
-  ends = record {
-    value = value;
-    rest = rest;
-    encloses = record {
-      together = together;
-      choices = choices;
-      sequence = sequence;
-      behind_all = _;
-      behind_choice = _;
-      is_all = all;
-      is_choice = choice;
-      is_sequence = several;
-      is = rw append_assoc e;
-    };
-    ends = h;
-  };
-}
+forth_further inner outer part whole value (Further.next spells all) choice several e h = first_ends spells (ending (enclosing all choice several (rw append_assoc e)) h)
+forth_further inner outer part whole value Further.ends (Further.next (Spells.parts spells all) choice) several e h = first_ends spells (ending (enclosing all choice several (rw append_assoc e)) h)
+forth_further inner outer part whole value Further.ends Further.ends (Further.next (Spells.parts (Spells.parts spells all) choice) several) e h = first_ends spells (ending (enclosing all choice several (rw append_assoc e)) h)
 forth_further inner outer part {token} {tokens} whole value Further.ends Further.ends Further.ends e h = closed_outer inner outer part token tokens whole value e h
 
 forth_part : (inner : Open) (outer : List Open) (part : Expression) (token : Token) (tokens : List Token) (whole : Expression) → PartEnds inner (EndsIn whole outer) part (token ∷ tokens)

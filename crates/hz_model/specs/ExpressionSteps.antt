@@ -28,6 +28,7 @@ pub record State : Type 0 where
   pub outer : List Open
   pub last : Last
 
+-- nothing is read
 abbrev pub start : State
 start = record { inner = unopened; outer = []; last = nothing_yet }
 
@@ -69,6 +70,7 @@ abbrev pub step_star : Open → List Open → Expression → Token → Option St
 step_star inner outer value (word at bytes) = option_map (λ number. record { inner = inner; outer = outer; last = repeated (repeat value number) }) (number_of bytes)
 step_star inner outer value _ = None
 
+-- a token behind the last ones
 abbrev pub step_last : Open → List Open → Last → Token → Option State
 step_last inner outer nothing_yet token = step_first inner outer token
 step_last inner outer (element value) token = step_element inner outer value token
@@ -84,6 +86,7 @@ abbrev pub finish_part : Open → List Open → Expression → Option Expression
 finish_part inner [] value = Some (sequence_with inner value)
 finish_part inner (outer ∷ others) value = None
 
+-- the expression at the end behind the last tokens
 abbrev pub finish_last : Open → List Open → Last → Option Expression
 finish_last inner outer (element value) = finish_part inner outer value
 finish_last inner outer (repeated value) = finish_part inner outer value
@@ -93,6 +96,7 @@ finish_last inner outer _ = None
 abbrev pub finish : State → Option Expression
 finish s = finish_last s.inner s.outer s.last
 
+-- the last token is a `*`
 abbrev pub is_starred : Last → Bool
 is_starred (starred value) = true
 is_starred _ = false

@@ -58,10 +58,12 @@ tokens text = tokens_from false 0 text
 abbrev pub element_of : List ℕ → Expression
 element_of bytes = if bytes_eq bytes (codes "nothing") then nothing else named bytes
 
+-- the parts in their order
 abbrev pub parts_of : List Expression → Parts
 parts_of [] = none
 parts_of (first ∷ others) = more first (parts_of others)
 
+-- the expression of parts that stand between marks of a kind
 abbrev pub joined_parts : Mark → Parts → Expression
 joined_parts comma parts = sequence parts
 joined_parts bar parts = one_of parts
@@ -106,7 +108,8 @@ below comma = joined bar
 below bar = joined plus
 below plus = repeated
 
--- Tokens begin with the spelling of an expression, and the rest is left.
+-- Tokens begin with the spelling of an expression, and the rest is left: a name; an expression in parentheses;
+-- an element; an element, `*` and digits; a part with any number of further ones behind it.
 mutual
   pub data Spells : (level : Level) (tokens : List Token) (value : Expression) (rest : List Token) → Type 0 where
     name : {at : ℕ} {bytes : List ℕ} {rest : List Token} → Spells element (word at bytes ∷ rest) (element_of bytes) rest
@@ -150,6 +153,7 @@ depth_after deep _ = deep
 abbrev pub depth : List Token → ℕ
 depth front = fold depth_after 0 front
 
+-- the token is a `*`
 abbrev pub is_star : Token → Bool
 is_star (star at) = true
 is_star _ = false

@@ -19,5 +19,6 @@ expression_step (Expr-F.Repeat part times) = repeat part.value times
 abbrev pub expression : Expr → Expression
 expression = fold-Expr Expression expression_step
 
+-- the expressions of parts
 abbrev pub expressions : List Expr → List Expression
 expressions parts = map expression parts

@@ -18,6 +18,7 @@ use Rattle.hz_model.specs.ExpressionSteps as steps
 abbrev pub opens_in : List Level → List Open
 opens_in outer = map open_of (reverse outer)
 
+-- the last tokens
 abbrev pub last_of : Last → steps.Last
 last_of code.NothingYet = nothing_yet
 last_of (code.Element value) = element (expression value)
@@ -28,6 +29,7 @@ last_of (code.Repeated value) = repeated (expression value)
 abbrev pub state_with : Levels → steps.Last → State
 state_with levels last = record { inner = open_of levels.inner; outer = opens_in levels.outer.items; last = last }
 
+-- what the reader holds
 abbrev pub state_of : Reader → State
 state_of reader = state_with reader.levels (last_of reader.last)
 

@@ -8,6 +8,7 @@ use Rattle.hz_model.specs.Expressions.{word, mark, star, opens, closes, foreign,
 use Rattle.hz_model.specs.Expressions as model
 use Rattle.hz_model.specs.Names.{is_name}
 
+-- a mark
 abbrev pub mark_of : Mark → model.Mark
 mark_of Comma = comma
 mark_of Bar = bar
