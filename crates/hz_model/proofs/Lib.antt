@@ -4,8 +4,8 @@ pub mod ReplayLaws
 pub mod FormsNext
 pub mod FormsLaws
 pub mod FormsFront
-pub mod ExpressionsRest
-pub mod ExpressionsEnd
-pub mod ExpressionsFormed
-pub mod ExpressionsFront
-pub mod ExpressionsLaws
+pub mod ExpressionTextsRest
+pub mod ExpressionTextsEnd
+pub mod ExpressionTextsFormed
+pub mod ExpressionTextsFront
+pub mod ExpressionTextsLaws

@@ -2,7 +2,7 @@
 use Rattle.std.specs.Prelude.{Bool, true, false, length, Result, Ok, Err, ◌++◌, List, [], ◌∷◌, Option, Some, None}
 use Rattle.std.specs.Option.{option_map}
 use Rattle.hz_model.specs.Alternatives.{Expression, repeat}
-use Rattle.hz_model.specs.Expressions.{ExpressionFault, unexpected, limit_past, Mark, comma, bar, plus, Token, word, mark, star, opens, closes, element_of, joined_by}
+use Rattle.hz_model.specs.ExpressionTexts.{ExpressionFault, unexpected, limit_past, Mark, comma, bar, plus, Token, word, mark, star, opens, closes, element_of, joined_by}
 use Rattle.hz_model.specs.Lines.{number_of}
 
 -- The parts before the last one, of the sequence, of its last choice, and of that one's last part.

@@ -4,7 +4,7 @@ pub mod Pairs
 pub mod Trees
 pub mod FormFronts
 pub mod Forms
-pub mod Expressions
+pub mod ExpressionTexts
 pub mod ExpressionSteps
 pub mod Alternatives
 pub mod Sets

@@ -1,5 +1,5 @@
 //! What a pipeline description means: the definitions that contracts cite, and their laws.
 #![tactic(auto)]
 
-pub mod expressions;
+pub mod expression_texts;
 pub mod forms;

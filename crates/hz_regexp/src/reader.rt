@@ -1,7 +1,7 @@
 //! The reader of expressions.
 
 ghost use Rattle.std.specs.Prelude.{◌≡◌, ◌<◌, ◌^◌, length, IsTrue, IfOk, IfErr, Some, None};
-ghost use Rattle.hz_model.specs.Expressions.{Reads, FaultAt, unexpected, element_of, is_well_formed};
+ghost use Rattle.hz_model.specs.ExpressionTexts.{Reads, FaultAt, unexpected, element_of, is_well_formed};
 ghost use Rattle.hz_model.specs.ExpressionSteps as steps;
 ghost use Rattle.hz_regexp.specs.Faults.{Tells};
 ghost use Rattle.hz_regexp.specs.Shape.{expression};

@@ -1,8 +1,8 @@
 use Rattle.std.proofs.Common.{true, length, ◌≡◌, ◌∙◌, Some, None, sym}
 use Rattle.std.proofs.lemmas.Result.{err_from_is_err_and, IfOk-weaker, IfErr-weaker}
-use Rattle.hz_model.specs.Expressions.{is_well_formed, Reads, FaultAt, unexpected}
+use Rattle.hz_model.specs.ExpressionTexts.{is_well_formed, Reads, FaultAt, unexpected}
 use Rattle.hz_model.specs.ExpressionSteps.{finish}
-use Rattle.hz_model.proofs.ExpressionsLaws.{well_formed}
+use Rattle.hz_model.proofs.ExpressionTextsLaws.{well_formed}
 use Rattle.hz_regexp.specs.Faults.{Tells}
 use Rattle.hz_regexp.specs.Shape.{expression}
 use Rattle.hz_regexp.specs.State.{state_of}

@@ -8,10 +8,10 @@ use Rattle.std.specs.Prelude.{codes}
 use Rattle.std.proofs.lemmas.Bool.{cases_Bool, and_parts}
 use Rattle.std.proofs.lemmas.Bool.Decides.{nat_tests}
 use Rattle.hz_model.specs.Alternatives.{Expression, named, nothing}
-use Rattle.hz_model.specs.Expressions.{Mark, comma, bar, plus, Token, word, mark, star, opens, closes, element_of, joined_by, parts_of, is_well_formed, are_well_formed, limit_past, number_fault}
+use Rattle.hz_model.specs.ExpressionTexts.{Mark, comma, bar, plus, Token, word, mark, star, opens, closes, element_of, joined_by, parts_of, is_well_formed, are_well_formed, limit_past, number_fault}
 use Rattle.hz_model.specs.ExpressionSteps.{Open, Last, nothing_yet, element, starred, repeated, State, is_starred, before, step, step_part, finish, finish_part, finish_last, sequence_with, choice_with, all_with}
 use Rattle.hz_model.specs.Lines.{number_of}
-use Rattle.hz_model.proofs.ExpressionsRest.{numbered}
+use Rattle.hz_model.proofs.ExpressionTextsRest.{numbered}
 
 abbrev AreFormed : List Expression → Type 0
 AreFormed values = list_all is_well_formed values ≡ true

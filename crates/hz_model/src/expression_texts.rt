@@ -2,7 +2,7 @@
 
 ghost use Rattle.std.specs.Prelude.{IsTrue, ◌≡◌, ◌⊎◌, ℕ, List};
 ghost use Rattle.hz_model.specs.Alternatives.{Expression};
-ghost use Rattle.hz_model.specs.Expressions.{Reads, is_well_formed, ExpressionFault, FaultAt};
+ghost use Rattle.hz_model.specs.ExpressionTexts.{Reads, is_well_formed, ExpressionFault, FaultAt};
 
 /// One text has one expression.
 pub fn one_expression()

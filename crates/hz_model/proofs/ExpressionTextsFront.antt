@@ -3,12 +3,12 @@ use Rattle.std.proofs.Common.{Ok, ◌≡◌, ℕ, false, ◌++◌, List, [], ◌
 use Rattle.std.specs.Option.{option_map}
 use Rattle.std.proofs.lemmas.List.Sums.{fold_push}
 use Rattle.hz_model.specs.Alternatives.{Expression}
-use Rattle.hz_model.specs.Expressions.{Token, word, mark, star, opens, closes, depth, depth_after, ends_in_star, is_star, limit_fault, limit_past, ExpressionFault, KeepsLimits, IsWhole, Begins, IsSound}
+use Rattle.hz_model.specs.ExpressionTexts.{Token, word, mark, star, opens, closes, depth, depth_after, ends_in_star, is_star, limit_fault, limit_past, ExpressionFault, KeepsLimits, IsWhole, Begins, IsSound}
 use Rattle.hz_model.specs.ExpressionSteps.{is_starred, judged, take, Open, Last, nothing_yet, element, starred, repeated, State, start, step, step_part}
 use Rattle.hz_model.specs.Lines.{number_of}
-use Rattle.hz_model.proofs.ExpressionsRest.{Completes, CompletesAfter, opened, spelled, numbered, back, forth}
-use Rattle.hz_model.proofs.ExpressionsFormed.{StateFormed, formed_step}
-use Rattle.hz_model.proofs.ExpressionsEnd.{can_end}
+use Rattle.hz_model.proofs.ExpressionTextsRest.{Completes, CompletesAfter, opened, spelled, numbered, back, forth}
+use Rattle.hz_model.proofs.ExpressionTextsFormed.{StateFormed, formed_step}
+use Rattle.hz_model.proofs.ExpressionTextsEnd.{can_end}
 
 -- where two lists are one: the elements that follow two fronts are the same, or one front is within the other
 pub data Meets {A : Type 0} (a : List A) (x : A) (xs : List A) (b : List A) (y : A) (ys : List A) : Type 0 where

@@ -1,10 +1,10 @@
 -- The end of an expression: what is held there, that it is one, and that what was read so far can always be ended.
 use Rattle.std.proofs.Common.{◌≡◌, ◌++◌, List, [], ◌∷◌, refl, ap, ◌∙◌, Some}
 use Rattle.hz_model.specs.Alternatives.{Expression, repeat}
-use Rattle.hz_model.specs.Expressions.{comma, bar, plus, Token, word, closes, joined_by, Spells, Further}
-use Rattle.hz_model.specs.Expressions as grammar
+use Rattle.hz_model.specs.ExpressionTexts.{comma, bar, plus, Token, word, closes, joined_by, Spells, Further}
+use Rattle.hz_model.specs.ExpressionTexts as grammar
 use Rattle.hz_model.specs.ExpressionSteps.{Open, Last, nothing_yet, element, starred, repeated, State, sequence_with, finish, finish_part, finish_last}
-use Rattle.hz_model.proofs.ExpressionsRest.{Repeat, PartEnds, ElementEnds, EndsIn, LastEnds, Completes, alone}
+use Rattle.hz_model.proofs.ExpressionTextsRest.{Repeat, PartEnds, ElementEnds, EndsIn, LastEnds, Completes, alone}
 
 no_element : {value : Expression} {left : List Token} → Spells grammar.element [] value left → ⊥
 no_element h = elim h [ ]

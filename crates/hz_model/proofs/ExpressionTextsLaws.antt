@@ -2,12 +2,12 @@
 use Rattle.std.proofs.Common.{true, ◌≡◌, ℕ, ◌++◌, List, [], ◌∷◌, length, refl, sym, ap, ◌∙◌, Option, Some, None, Ok, Err, Result, ◌⊎◌, inl, inr, append_assoc}
 use Rattle.std.proofs.lemmas.List.{append-nil}
 use Rattle.hz_model.specs.Alternatives.{Expression}
-use Rattle.hz_model.specs.Expressions.{is_well_formed, Token, place, tokens, limit_fault, KeepsLimits, IsWhole, Begins, IsSound, Reads, ExpressionFault, unexpected, no_token, FaultAt}
+use Rattle.hz_model.specs.ExpressionTexts.{is_well_formed, Token, place, tokens, limit_fault, KeepsLimits, IsWhole, Begins, IsSound, Reads, ExpressionFault, unexpected, no_token, FaultAt}
 use Rattle.hz_model.specs.ExpressionSteps.{take, judged, State, start, step, finish}
-use Rattle.hz_model.proofs.ExpressionsRest.{CompletesAfter}
-use Rattle.hz_model.proofs.ExpressionsEnd.{ended, finished}
-use Rattle.hz_model.proofs.ExpressionsFormed.{formed_finish}
-use Rattle.hz_model.proofs.ExpressionsFront.{behind, limit_held, Leads, start_leads, step_leads, leads_sound, taken_begins, begins_taken, refused_begins}
+use Rattle.hz_model.proofs.ExpressionTextsRest.{CompletesAfter}
+use Rattle.hz_model.proofs.ExpressionTextsEnd.{ended, finished}
+use Rattle.hz_model.proofs.ExpressionTextsFormed.{formed_finish}
+use Rattle.hz_model.proofs.ExpressionTextsFront.{behind, limit_held, Leads, start_leads, step_leads, leads_sound, taken_begins, begins_taken, refused_begins}
 
 abbrev pub Outcome : Type 0
 Outcome = Result Expression (ExpressionFault × ℕ)

@@ -2,8 +2,8 @@
 use Rattle.std.proofs.Common.{◌≡◌, ℕ, ◌++◌, List, [], ◌∷◌, refl, sym, subst, Option, Some, None, append_assoc}
 use Rattle.std.specs.Option.{option_map}
 use Rattle.hz_model.specs.Alternatives.{Expression, repeat}
-use Rattle.hz_model.specs.Expressions.{Mark, comma, bar, plus, Token, word, mark, star, opens, closes, foreign, element_of, joined_by, Level, joined, Spells, Further, IsWhole}
-use Rattle.hz_model.specs.Expressions as grammar
+use Rattle.hz_model.specs.ExpressionTexts.{Mark, comma, bar, plus, Token, word, mark, star, opens, closes, foreign, element_of, joined_by, Level, joined, Spells, Further, IsWhole}
+use Rattle.hz_model.specs.ExpressionTexts as grammar
 use Rattle.hz_model.specs.ExpressionSteps.{Open, unopened, Last, nothing_yet, element, starred, repeated, State, sequence_with, before, step_first, step_part, step_element, step_star, step}
 use Rattle.hz_model.specs.Lines.{number_of}
 
