@@ -17,3 +17,8 @@ pub mod FormsFront
 pub mod AnswerLaws
 pub mod EventLaws
 pub mod AnswerTotal
+pub mod ExpressionTextsRest
+pub mod ExpressionTextsEnd
+pub mod ExpressionTextsFormed
+pub mod ExpressionTextsFront
+pub mod ExpressionTextsLaws

@@ -4,6 +4,8 @@ pub mod Pairs
 pub mod Trees
 pub mod FormFronts
 pub mod Forms
+pub mod ExpressionTexts
+pub mod ExpressionSteps
 pub mod Alternatives
 pub mod Expressions
 pub mod Meanings

@@ -5,5 +5,6 @@ pub mod acceptance;
 pub mod answers;
 pub mod examples;
 pub mod expressions;
+pub mod expression_texts;
 pub mod forms;
 pub mod traces;

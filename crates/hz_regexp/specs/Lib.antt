@@ -1,0 +1,6 @@
+pub mod Named
+pub mod Shape
+pub mod Tokens
+pub mod Levels
+pub mod Faults
+pub mod State

@@ -1,0 +1,46 @@
+//! What can be wrong with the text of an expression.
+
+ghost use Rattle.std.specs.Prelude.{◌≡◌};
+ghost use Rattle.hz_regexp.specs.declared.fault.ExprFault.TheVariants.{NoMemory as no_memory};
+
+use std::alloc::{AllocError, AllocFailed};
+use thiserror::Error;
+
+/// What is wrong with the text of an expression, and where: a byte's place, counted from 0.
+#[derive(Clone, Copy, Debug, PartialEq, Eq, Error)]
+pub enum ExprFault {
+    /// The first token that continues no expression; at the end of the text its length.
+    #[error("byte {at}: this continues no expression")]
+    Unexpected { at: u32 },
+    /// There is no token at all; the place is 0.
+    #[error("byte {at}: no expression")]
+    Empty { at: u32 },
+    /// A repeat's number is 0: the place of the number.
+    #[error("byte {at}: repeated 0 times")]
+    RepeatZero { at: u32 },
+    /// An open parenthesis at the depth of 65.
+    #[error("byte {at}: nested too deep")]
+    TooDeep { at: u32 },
+    /// A repeat's number is above 65,535: the place of the number.
+    #[error("byte {at}: the number is too large")]
+    NumberTooLarge { at: u32 },
+    /// Memory ran out.
+    #[error("out of memory")]
+    NoMemory,
+}
+
+impl From<AllocError> for ExprFault {
+    ghost from_gives = { λ _ e. e ≡ no_memory };
+
+    fn from(_error: AllocError) -> ExprFault {
+        ExprFault::NoMemory
+    }
+}
+
+impl<T: Drop> From<AllocFailed<T>> for ExprFault {
+    ghost from_gives = { λ _ e. e ≡ no_memory };
+
+    fn from(_error: AllocFailed<T>) -> ExprFault {
+        ExprFault::NoMemory
+    }
+}
