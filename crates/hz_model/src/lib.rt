@@ -4,7 +4,7 @@
 pub mod acceptance;
 pub mod answers;
 pub mod examples;
-pub mod expressions;
 pub mod expression_texts;
+pub mod expressions;
 pub mod forms;
 pub mod traces;
