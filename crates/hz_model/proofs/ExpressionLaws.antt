@@ -1,12 +1,12 @@
 -- Repeats as sequences, and how many alternatives expressions have.
 use Rattle.std.proofs.Common.{◌≡◌, ℕ, zero, suc, ◌+◌, ◌*◌, ◌^◌, ◌<◌, List, [], ◌∷◌, map, length, get_or, refl, sym, ap, ◌∙◌, arith, max, add-zero, length-append, inl, inr}
-use Rattle.std.specs.Prelude.{IsTrue, ◌&&◌, nat_le}
+use Rattle.std.specs.Prelude.{IsTrue, ◌&&◌}
 use Rattle.std.proofs.lemmas.Bool.{and_parts}
 use Rattle.std.proofs.lemmas.List.{append-nil, length-map, get_or-map, get_or_append_left, get_or-append-add}
 use Rattle.hz_model.specs.Alternatives.{Alternative, Expression, named, nothing, sequence, one_of, all_of, repeat, Parts, none, more, alternatives_of, in_sequence, any_of, together, each_choice, followed_by, beside, copies, empty}
 use Rattle.std.proofs.Math.Nat.{pow-succ', pow-zero, mul-pos}
 use Rattle.hz_model.specs.Meanings.{Mentions, MentionsIn}
-use Rattle.hz_model.specs.Expressions.{how_many, is_expression, are_expressions, repeated, product_of_counts, sum_of_counts}
+use Rattle.hz_model.specs.Expressions.{are_several, is_expression, are_expressions, repeated, product_of_counts, sum_of_counts}
 
 pub length-each_choice : {A : Type 0} (join : A → A → A) (xs ys : List A) → length (each_choice join xs ys) ≡ length xs * length ys
 length-each_choice join [] ys = omega arith
@@ -68,10 +68,10 @@ module _ {U : Type 0} (known : List ℕ → List (Alternative U)) where
     some_alternatives (sequence parts) is have = some_sequence parts (and_parts _ _ is).1 have
     some_alternatives (one_of none) is have = absurd (cc)
     some_alternatives (one_of (more first others)) is have =
-        let here : 0 < length (alternatives_of known first) = some_alternatives first (and_parts (is_expression first) (are_expressions others) (and_parts (nat_le 2 (suc (how_many others))) (is_expression first && are_expressions others) is).1).0 (λ name h. have name (inl h)) in
+        let here : 0 < length (alternatives_of known first) = some_alternatives first (and_parts (is_expression first) (are_expressions others) (and_parts (are_several (more first others)) (is_expression first && are_expressions others) is).1).0 (λ name h. have name (inl h)) in
         omega (arith, length-append (alternatives_of known first) (any_of known others))
     some_alternatives (all_of parts) is have = some_together parts (and_parts _ _ is).1 have
-    some_alternatives (repeat part times) is have = some_copies times (alternatives_of known part) (some_alternatives part (and_parts _ _ is).1 have)
+    some_alternatives (repeat part times) is have = some_copies times (alternatives_of known part) (some_alternatives part (and_parts _ _ (and_parts _ _ is).0).0 have)
 
     some_sequence : (parts : Parts) → IsTrue (are_expressions parts) → HaveSome (MentionsIn parts) → 0 < length (in_sequence known parts)
     some_sequence none is have = omega arith

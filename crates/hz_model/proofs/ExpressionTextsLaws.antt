@@ -2,7 +2,8 @@
 use Rattle.std.proofs.Common.{true, ◌≡◌, ℕ, ◌++◌, List, [], ◌∷◌, length, refl, sym, ap, ◌∙◌, Option, Some, None, Ok, Err, Result, ◌⊎◌, inl, inr, append_assoc}
 use Rattle.std.proofs.lemmas.List.{append-nil}
 use Rattle.hz_model.specs.Alternatives.{Expression}
-use Rattle.hz_model.specs.ExpressionTexts.{is_well_formed, Token, place, tokens, limit_fault, KeepsLimits, IsWhole, Begins, IsSound, Reads, ExpressionFault, unexpected, no_token, FaultAt}
+use Rattle.hz_model.specs.ExpressionTexts.{Token, place, tokens, limit_fault, KeepsLimits, IsWhole, Begins, IsSound, Reads, ExpressionFault, unexpected, no_token, FaultAt}
+use Rattle.hz_model.specs.Expressions.{is_expression}
 use Rattle.hz_model.specs.ExpressionSteps.{take, judged, State, start, step, finish}
 use Rattle.hz_model.proofs.ExpressionTextsRest.{CompletesAfter}
 use Rattle.hz_model.proofs.ExpressionTextsEnd.{ended, finished}
@@ -70,7 +71,7 @@ read_first text value (token ∷ all) e whole limits =
     outcome_front text (token ∷ all) [] same w ∙ ap (λ o. outcome_end (length text) (token ∷ all) o) (ended w.state value (w.leads.to [] value (rw (append-nil (token ∷ all)) whole)))
 
 -- What is read is well formed.
-pub well_formed : (text : List ℕ) (value : Expression) → Reads text value → is_well_formed value ≡ true
+pub well_formed : (text : List ℕ) (value : Expression) → Reads text value → is_expression value ≡ true
 well_formed text value r =
     let all = tokens text in
     let sound : IsSound all = record { begins = ([], value, rw (append-nil all) r.whole); limits = r.limits } in

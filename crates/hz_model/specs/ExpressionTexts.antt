@@ -1,10 +1,12 @@
--- The texts of reservation expressions: their tokens, what the tokens spell, and what can be wrong.
-use Rattle.std.specs.Prelude.{◌≡◌, ℕ, ◌+◌, ◌-◌, Bool, true, false, ◌&&◌, ◌==◌, nat_lt, nat_le, if◌then◌else◌, List, [], ◌∷◌, ◌++◌, length, take, Option, Some, None, codes}
+-- The texts of reservation expressions: their tokens, what the tokens spell, and what can be wrong. GCC Internals,
+-- 'Specifying processor pipeline description', on regular expressions; the faults are this profile's, docs/RULES.md.
+use Rattle.std.specs.Prelude.{◌≡◌, ℕ, ◌+◌, ◌-◌, Bool, true, false, ◌==◌, nat_lt, nat_le, if◌then◌else◌, List, [], ◌∷◌, ◌++◌, length, take, Option, Some, None, codes}
 use Rattle.std.specs.Char.{is_ascii_whitespace}
 use Rattle.std.specs.List.{fold, prefix_len}
 use Rattle.std.specs.Str.{bytes_eq}
 use Rattle.hz_model.specs.Alternatives.{Expression, named, nothing, sequence, one_of, all_of, repeat, Parts, none, more}
 use Rattle.hz_model.specs.Lines.{number_of}
+use Rattle.hz_model.specs.Limits.{repeat_limit}
 use Rattle.hz_model.specs.Names.{is_name_byte}
 
 -- `,` `|` `+`: the marks that join parts
@@ -73,29 +75,6 @@ joined_parts plus parts = all_of parts
 abbrev pub joined_by : Mark → List Expression → Expression
 joined_by kind (part ∷ []) = part
 joined_by kind parts = joined_parts kind (parts_of parts)
-
--- the greatest number of a repeat
-abbrev pub repeat_limit : ℕ
-repeat_limit = 65535
-
--- two parts or more
-abbrev pub are_several : Parts → Bool
-are_several (more first (more second others)) = true
-are_several _ = false
-
--- at every depth a list has two parts or more, and the number of a repeat is in its range
-abbrev mutual
-  pub is_well_formed : Expression → Bool
-  is_well_formed (named name) = true
-  is_well_formed nothing = true
-  is_well_formed (sequence parts) = are_several parts && are_well_formed parts
-  is_well_formed (one_of parts) = are_several parts && are_well_formed parts
-  is_well_formed (all_of parts) = are_several parts && are_well_formed parts
-  is_well_formed (repeat part times) = is_well_formed part && nat_le 1 times && nat_le times repeat_limit
-
-  pub are_well_formed : Parts → Bool
-  are_well_formed none = true
-  are_well_formed (more first others) = is_well_formed first && are_well_formed others
 
 -- How tight a part of an expression is held: an element, an element that may be repeated, or parts with a mark between them.
 pub data Level : Type 0 where

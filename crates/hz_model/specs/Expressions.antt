@@ -1,23 +1,23 @@
 -- Expressions that can be written, and how many alternatives they have. GCC Internals, 'Specifying processor pipeline
 -- description', on the regular expressions of `define_reservation` and `define_insn_reservation`.
-use Rattle.std.specs.Prelude.{ℕ, zero, suc, ◌+◌, ◌*◌, Bool, true, ◌&&◌, nat_le, List, length}
+use Rattle.std.specs.Prelude.{ℕ, zero, suc, ◌+◌, ◌*◌, Bool, true, false, ◌&&◌, nat_le, List, length}
 use Rattle.hz_model.specs.Limits.{repeat_limit}
 use Rattle.hz_model.specs.Alternatives.{Alternative, Expression, named, nothing, sequence, one_of, all_of, repeat, Parts, none, more, alternatives_of}
 
--- how many parts there are
-abbrev pub how_many : Parts → ℕ
-how_many none = zero
-how_many (more first others) = suc (how_many others)
+-- two parts or more
+abbrev pub are_several : Parts → Bool
+are_several (more first (more second others)) = true
+are_several _ = false
 
 -- An expression that can be written: marks stand between two parts or more, and a number after `*` is in its range.
 abbrev mutual
   pub is_expression : Expression → Bool
   is_expression (named name) = true
   is_expression nothing = true
-  is_expression (sequence parts) = nat_le 2 (how_many parts) && are_expressions parts
-  is_expression (one_of parts) = nat_le 2 (how_many parts) && are_expressions parts
-  is_expression (all_of parts) = nat_le 2 (how_many parts) && are_expressions parts
-  is_expression (repeat part times) = nat_le 1 times && nat_le times repeat_limit && is_expression part
+  is_expression (sequence parts) = are_several parts && are_expressions parts
+  is_expression (one_of parts) = are_several parts && are_expressions parts
+  is_expression (all_of parts) = are_several parts && are_expressions parts
+  is_expression (repeat part times) = is_expression part && nat_le 1 times && nat_le times repeat_limit
 
   -- each part can be written
   pub are_expressions : Parts → Bool

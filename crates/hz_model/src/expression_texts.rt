@@ -2,7 +2,8 @@
 
 ghost use Rattle.std.specs.Prelude.{IsTrue, ◌≡◌, ◌⊎◌, ℕ, List};
 ghost use Rattle.hz_model.specs.Alternatives.{Expression};
-ghost use Rattle.hz_model.specs.ExpressionTexts.{Reads, is_well_formed, ExpressionFault, FaultAt};
+ghost use Rattle.hz_model.specs.ExpressionTexts.{Reads, ExpressionFault, FaultAt};
+ghost use Rattle.hz_model.specs.Expressions.{is_expression};
 
 /// One text has one expression.
 pub fn one_expression()
@@ -21,7 +22,7 @@ pub fn expression_or_fault()
 
 /// What a text spells is well formed.
 pub fn expressions_are_well_formed()
-    ensures { (text : List ℕ) (value : Expression) → Reads text value → IsTrue (is_well_formed value) }
+    ensures { (text : List ℕ) (value : Expression) → Reads text value → IsTrue (is_expression value) }
 {}
 
 /// Every text has an expression or a fault.

@@ -1,7 +1,8 @@
 //! The reader of expressions.
 
 ghost use Rattle.std.specs.Prelude.{◌≡◌, ◌<◌, ◌^◌, length, IsTrue, IfOk, IfErr, Some, None};
-ghost use Rattle.hz_model.specs.ExpressionTexts.{Reads, FaultAt, unexpected, element_of, is_well_formed};
+ghost use Rattle.hz_model.specs.ExpressionTexts.{Reads, FaultAt, unexpected, element_of};
+ghost use Rattle.hz_model.specs.Expressions.{is_expression};
 ghost use Rattle.hz_model.specs.ExpressionSteps as steps;
 ghost use Rattle.hz_regexp.specs.Faults.{Tells};
 ghost use Rattle.hz_regexp.specs.Shape.{expression};
@@ -195,7 +196,7 @@ impl Reader {
 pub fn parse_expr(alloc: Global, text: &[u8]) -> Result<Expr, ExprFault>
     requires { length text.now < 2 ^ 32 }
     ensures reads { IfOk result (λ expr. Reads text.now (expression expr)) }
-    ensures formed { IfOk result (λ expr. IsTrue (is_well_formed (expression expr))) }
+    ensures formed { IfOk result (λ expr. IsTrue (is_expression (expression expr))) }
     ensures faults { IfErr result (Tells (FaultAt text.now)) }
 {
     let Some((token, at, mut place)) = Place::start(text).next_token() else {

@@ -1,6 +1,7 @@
 use Rattle.std.proofs.Common.{true, length, ◌≡◌, ◌∙◌, Some, None, sym}
 use Rattle.std.proofs.lemmas.Result.{err_from_is_err_and, IfOk-weaker, IfErr-weaker}
-use Rattle.hz_model.specs.ExpressionTexts.{is_well_formed, Reads, FaultAt, unexpected}
+use Rattle.hz_model.specs.ExpressionTexts.{Reads, FaultAt, unexpected}
+use Rattle.hz_model.specs.Expressions.{is_expression}
 use Rattle.hz_model.specs.ExpressionSteps.{finish}
 use Rattle.hz_model.proofs.ExpressionTextsLaws.{well_formed}
 use Rattle.hz_regexp.specs.Faults.{Tells}
@@ -37,7 +38,7 @@ returns-clause-reads c =
 
 pub returns-clause-formed : goal.returns-clause-formed
 returns-clause-formed c =
-    IfOk-weaker c.finish.result (λ expr. finish (state_of c.loop-token.reader) ≡ Some (expression expr)) (λ expr. is_well_formed (expression expr) ≡ true)
+    IfOk-weaker c.finish.result (λ expr. finish (state_of c.loop-token.reader) ≡ Some (expression expr)) (λ expr. is_expression (expression expr) ≡ true)
     (λ expr e. well_formed c.args.text.now (expression expr) (read_all c.args.text.now (state_of c.loop-token.reader) _ (expression expr) c.loop-token.invariant c.in_default-next_token.ensures.token e)) c.finish.ensures.ok
 
 pub returns-clause-faults : goal.returns-clause-faults
