@@ -7,17 +7,7 @@ data=bench/data
 mkdir -p "$data"
 : > "$data/empty"
 
-least() {
-    best=
-    for _ in 1 2 3 4 5; do
-        from=$(date +%s%N)
-        "$@" > /dev/null
-        to=$(date +%s%N)
-        time=$((to - from))
-        if [ -z "$best" ] || [ "$time" -lt "$best" ]; then best=$time; fi
-    done
-    echo "$best"
-}
+. bench/least.sh
 
 # make KIND BYTES: the text
 make_text() {

@@ -6,18 +6,7 @@ data=bench/data
 mkdir -p "$data"
 machine=examples/memory_pipe/machine.md
 
-# least COMMAND..: the least time of five runs, in nanoseconds
-least() {
-    best=
-    for _ in 1 2 3 4 5; do
-        from=$(date +%s%N)
-        "$@" > /dev/null
-        to=$(date +%s%N)
-        time=$((to - from))
-        if [ -z "$best" ] || [ "$time" -lt "$best" ]; then best=$time; fi
-    done
-    echo "$best"
-}
+. bench/least.sh
 
 before=
 echo "events bytes ns_an_event ratio_to_wc doubling peak_kB"
