@@ -26,6 +26,9 @@ examples: bin/hz
 bench: bin/hz
 	@sh bench/replay/run.sh bin/hz
 	@sh bench/forms/run.sh bin/hz
+	@sh bench/description/run.sh bin/hz
+	@sh bench/alternatives/run.sh bin/hz
+	@sh bench/check/run.sh bin/hz
 
 install: bin/hz
 	@install -d "$(DESTDIR)$(PREFIX)/bin"

@@ -23,7 +23,15 @@ expect() {
 
 usage='usage: hz replay DESC TRACE'
 printf '(define_cpu_unit "a")\n(define_insn_reservation "x" 1 (const_int 1) "nothing,a")\n' > d
-printf '(define_cpu_unit "a,b")\n(define_insn_reservation "x" 1 (const_int 1) "a|b")\n' > alternation
+printf '(define_automaton "m,n")\n(define_cpu_unit "a" "m")\n(define_cpu_unit "b" "n")\n' > two_automata
+printf '(define_cpu_unit "a,b")\n(automata_option "ndfa")\n(define_insn_reservation "x" 1 (const_int 1) "a|b")\n' > ndfa
+printf '(define_cpu_unit "a' > unclosed
+printf '; a comment\n(define_cpu_unit "a,")\n' > shape
+printf '(define_cpu_unit "u")\n(define_insn_reservation "x" 1 (const_int 1)\n  "u,,u")\n' > comma
+printf '(define_cpu_unit "u")\n(define_reservation "r" "u, v")\n' > name
+printf '(define_reservation "r" "s")\n(define_reservation "s" "r")\n' > circle
+printf '(define_cpu_unit "u")\n(define_insn_reservation "x" 1 (const_int 1) "(u|u)*13")\n' > alternatives
+printf '(define_cpu_unit "u")\n(define_insn_reservation "x" 1 (const_int 1) "(u|u)*65535")\n' > most
 printf 'issue x\nadvance 1\nissue x\n' > t
 printf 'issue x\nissue x\n' > twice
 printf 'issue z\n' > unknown
@@ -38,13 +46,21 @@ expect 0 'accepted 0 issues 0 cycles' replay d empty
 expect 0 'accepted 0 issues 0 cycles' replay empty empty
 expect 0 'accepted 0 issues 0 cycles' replay longest empty
 expect 1 'refused line 2 x' replay d twice
-expect 2 'fault alternation NotBuilt' replay alternation t
+expect 2 'fault two_automata NotBuilt' replay two_automata t
+expect 2 'fault ndfa NotBuilt' replay ndfa t
+expect 2 'fault unclosed line 1 Unclosed' replay unclosed t
+expect 2 'fault shape line 2 BadShape' replay shape t
+expect 2 'fault comma line 2 BadExpression Unexpected 2' replay comma t
+expect 2 'fault name line 2 UnknownName v' replay name t
+expect 2 'fault circle line 1 CircularReservation r' replay circle t
+expect 3 'limit alternatives line 2 Alternatives x' replay alternatives t
+expect 3 'limit most line 2 Alternatives x' replay most t
 expect 2 'fault unknown NotBuilt' replay d unknown
 expect 2 'fault t NotBuilt' replay empty t
 expect 3 'limit long bytes' replay long t
 expect 3 'limit long bytes' replay long missing
 expect 3 'limit long_trace bytes' replay d long_trace
-expect 3 'limit long_trace bytes' replay alternation long_trace
+expect 3 'limit long_trace bytes' replay ndfa long_trace
 expect 4 "$usage"
 expect 4 "$usage" replay d
 expect 4 "$usage" replay d t more

@@ -1,27 +1,44 @@
 #!/bin/sh
-# Times `hz replay` on traces of 1, 2 and 4 million events beside `wc -w` on the same file: the least of five runs each.
+# Times `hz replay` on traces of 1, 2 and 4 million events beside `wc -w` on the same file: of a machine without
+# alternatives, and of the superscalar one. The least of five runs each.
 hz=$1
 cd "$(dirname "$0")/../.." || exit 2
 data=bench/data
 mkdir -p "$data"
-machine=examples/memory_pipe/machine.md
-
 . bench/least.sh
 
-before=
-echo "events bytes ns_an_event ratio_to_wc doubling peak_kB"
-for millions in 1 2 4; do
-    events=$((millions * 1000000))
-    trace=$data/trace_$millions
-    [ -f "$trace" ] || awk -v n="$events" 'BEGIN { for (i = 0; i < n; i++) print (i % 3 == 0) ? "issue load" : (i % 3 == 1) ? "issue store" : "advance 1" }' > "$trace"
-    bytes=$(wc -c < "$trace")
-    time=$(least "$hz" replay "$machine" "$trace")
-    words=$(least wc -w "$trace")
-    peak=-
-    if [ -x /usr/bin/time ]; then
-        peak=$( { /usr/bin/time -f %M "$hz" replay "$machine" "$trace" > /dev/null; } 2>&1 | tail -n 1)
-    fi
-    awk -v e="$events" -v b="$bytes" -v t="$time" -v w="$words" -v p="${before:-0}" -v k="$peak" \
-        'BEGIN { printf "%d %d %.1f %.2f %s %s\n", e, b, t / e, t / w, p ? sprintf("%.2f", t / p) : "-", k }'
-    before=$time
+# make_trace MACHINE EVENTS: a trace that is accepted; on the superscalar machine ten cycles and what they issue, again
+# and again
+make_trace() {
+    case $1 in
+        memory_pipe) awk -v n="$2" 'BEGIN { for (i = 0; i < n; i++) print (i % 3 == 0) ? "issue load" : (i % 3 == 1) ? "issue store" : "advance 1" }' ;;
+        superscalar) awk -v n="$2" 'BEGIN {
+            split("div s - s f - s f - s f - s f - s f - s - s f - s - s -", turn, " ")
+            text["div"] = "issue div"; text["s"] = "issue simple"; text["f"] = "issue float"; text["-"] = "advance 1"
+            for (size = 1; size in turn; size++);
+            for (i = 0; i < n; i++) print text[turn[i % (size - 1) + 1]]
+        }' ;;
+    esac
+}
+
+echo "machine events bytes ns_an_event ratio_to_wc doubling peak_kB"
+for kind in memory_pipe superscalar; do
+    machine=examples/$kind/machine.md
+    before=
+    for millions in 1 2 4; do
+        events=$((millions * 1000000))
+        trace=$data/trace_${kind}_$millions
+        [ -f "$trace" ] || make_trace "$kind" "$events" > "$trace"
+        "$hz" replay "$machine" "$trace" | grep -q '^accepted' || { echo "$trace is not accepted"; exit 1; }
+        bytes=$(wc -c < "$trace")
+        time=$(least "$hz" replay "$machine" "$trace")
+        words=$(least wc -w "$trace")
+        peak=-
+        if [ -x /usr/bin/time ]; then
+            peak=$( { /usr/bin/time -f %M "$hz" replay "$machine" "$trace" > /dev/null; } 2>&1 | tail -n 1)
+        fi
+        awk -v m="$kind" -v e="$events" -v b="$bytes" -v t="$time" -v w="$words" -v p="${before:-0}" -v k="$peak" \
+            'BEGIN { printf "%s %d %d %.1f %.2f %s %s\n", m, e, b, t / e, t / w, p ? sprintf("%.2f", t / p) : "-", k }'
+        before=$time
+    done
 done

@@ -1,4 +1,3 @@
-pub mod Ascending
 pub mod Pairs
 pub mod Steps
 pub mod Units

@@ -15,7 +15,7 @@ use Rattle.hz_grid.specs.Grids.{Holds, Precedes, IsGrid, HasSamePairs, pair_eq, 
 use Rattle.hz_grid.specs.Stored.{IsSet, units_of, row_pairs, pairs_from, IsRows}
 use Rattle.hz_grid.proofs.Units.{HasUnit-zero, same_from_units}
 use Rattle.hz_model.proofs.Elements.{Contains-nil, Contains-filter, Contains-from_filter, Contains-map, Contains-from_map, Contains-range, Contains-from_range}
-use Rattle.hz_grid.proofs.Ascending.{AllPairs-append, AllPairs-map, AllPairs-range, same_from_ascending}
+use Rattle.hz_model.proofs.Ascending.{AllPairs-append, AllPairs-map, AllPairs-range, same_from_ascending}
 
 -- ---- the units of one row
 

@@ -76,6 +76,16 @@ impl Grid {
         })
     }
 
+    /// An equal grid.
+    pub fn copy(&self, alloc: Global) -> Result<Grid, NoMemory>
+        ensures grid { IfOk result IsGrid }
+        ensures same { IfOk result (λ grid. grid ≡ self.now) }
+    {
+        Ok(Grid {
+            rows: Vec::from_slice(alloc, &self.rows)?,
+        })
+    }
+
     /// Goes one cycle on: the pairs of cycle 0 are dropped, and the others' cycles are lowered by one.
     /// It takes no memory.
     pub fn advance(&mut self)

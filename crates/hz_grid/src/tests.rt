@@ -48,6 +48,7 @@ fn join(
     assert!(rt; !second.meets(&first));
     assert!(rt; !first.meets(&second));
     assert!(rt; first.with(alloc, &second)? == union);
+    assert!(rt; union.copy(alloc)? == union);
     assert!(rt; union.length() == first.length().max(second.length()));
     Ok(())
 }

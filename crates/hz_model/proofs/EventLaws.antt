@@ -8,16 +8,19 @@ use Rattle.std.specs.Option.{option_map}
 use Rattle.std.specs.Str.{bytes_eq}
 use Rattle.hz_model.specs.Answers.{IsIssueOf}
 use Rattle.hz_model.specs.Lines.{place_of, number_of}
-use Rattle.hz_model.specs.Replay.{Class, Event, issue, advance, IsOfClass}
-use Rattle.hz_model.specs.Straight.{Description, event_of, events_of, machine_of, class_names}
+use Rattle.hz_model.specs.CheckFaults.{Known}
+use Rattle.hz_model.specs.Descriptions.{Description, ClassItem}
+use Rattle.hz_model.specs.Machines.{class_names, class_of, machine_with}
+use Rattle.hz_model.specs.Replay.{Event, issue, advance, IsOfClass}
+use Rattle.hz_model.specs.StraightTraces.{event_of, events_of}
 
 -- an issue is of the class of its number
-pub issue_named : (of : Description) (e : Option Event) (k : ℕ) (name : List ℕ) → e ≡ Some (issue k) → slice_get (class_names of) k ≡ Some name → IsIssueOf (machine_of of) e name
-issue_named of e k name is there = found (slice_get of.classes k) refl
+pub issue_named : (d : Description) (known : Known) (e : Option Event) (k : ℕ) (name : List ℕ) → e ≡ Some (issue k) → slice_get (class_names d) k ≡ Some name → IsIssueOf (machine_with d known) e name
+issue_named d known e k name is there = found (slice_get d.classes k) refl
   where
-    found : (o : Option (Class ℕ)) → slice_get of.classes k ≡ o → IsIssueOf (machine_of of) e name
-    found None none = absurd (none-some name (sym (slice_get-map (λ (c : Class ℕ). c.name) of.classes k ∙ ap (option_map (λ c. c.name)) none) ∙ there))
-    found (Some c) some = (k, c, is, some, same_Some _ _ (sym (slice_get-map (λ (c : Class ℕ). c.name) of.classes k ∙ ap (option_map (λ c. c.name)) some) ∙ there))
+    found : (o : Option ClassItem) → slice_get d.classes k ≡ o → IsIssueOf (machine_with d known) e name
+    found None none = absurd (none-some name (sym (slice_get-map (λ (c : ClassItem). c.name) d.classes k ∙ ap (option_map (λ c. c.name)) none) ∙ there))
+    found (Some c) some = (k, class_of known c, is, slice_get-map (class_of known) d.classes k ∙ ap (option_map (class_of known)) some, same_Some _ _ (sym (slice_get-map (λ (c : ClassItem). c.name) d.classes k ∙ ap (option_map (λ c. c.name)) some) ∙ there))
 
 -- the place of a name is within the names
 place_within : (name : List ℕ) (names : List (List ℕ)) (k : ℕ) → place_of name names ≡ Some k → k < length names

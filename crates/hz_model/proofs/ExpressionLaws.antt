@@ -23,8 +23,22 @@ ordered_choices join (x ∷ xs) ys (suc i) j d h k =
     let at : suc i * length ys + j ≡ length (map (join x) ys) + (i * length ys + j) = omega (arith, length-map ys (join x)) in
     rw at (get_or-append-add (map (join x) ys) (each_choice join xs ys) (i * length ys + j) d ∙ ordered_choices join xs ys i j d (omega arith) k)
 
-positive_product : (a b : ℕ) → 0 < a → 0 < b → 0 < a * b
+pub positive_product : (a b : ℕ) → 0 < a → 0 < b → 0 < a * b
 positive_product a b h k = mul-pos h k
+
+module _ {U : Type 0} where
+  pub count_copies : (n : ℕ) (xs : List (Alternative U)) → length (copies n xs) ≡ length xs ^ n
+  count_copies zero xs = sym (pow-zero (length xs))
+  count_copies (suc n) xs = length-each_choice followed_by xs (copies n xs) ∙ (ap (λ (k : ℕ). length xs * k) (count_copies n xs) ∙ sym (pow-succ' (length xs) n))
+
+  -- an alternative followed by nothing, or beside nothing
+  pub one_followed : (xs : List (Alternative U)) → each_choice followed_by xs (empty ∷ []) ≡ xs
+  one_followed [] = refl
+  one_followed (x ∷ xs) = rw (append-nil x.pairs, add-zero x.cycles, one_followed xs) refl
+
+  pub one_beside : (xs : List (Alternative U)) → each_choice beside xs (empty ∷ []) ≡ xs
+  one_beside [] = refl
+  one_beside (x ∷ xs) = let most : max x.cycles 0 ≡ x.cycles = omega arith in rw (append-nil x.pairs, most, one_beside xs) refl
 
 module _ {U : Type 0} (known : List ℕ → List (Alternative U)) where
   -- a repeat is the sequence of its copies
@@ -48,14 +62,13 @@ module _ {U : Type 0} (known : List ℕ → List (Alternative U)) where
   count_any (more first others) = omega (arith, length-append (alternatives_of known first) (any_of known others), count_any others)
 
   pub count_repeat : (part : Expression) (n : ℕ) → length (copies n (alternatives_of known part)) ≡ length (alternatives_of known part) ^ n
-  count_repeat part zero = sym (pow-zero (length (alternatives_of known part)))
-  count_repeat part (suc n) = length-each_choice followed_by (alternatives_of known part) (copies n (alternatives_of known part)) ∙ (ap (λ (k : ℕ). length (alternatives_of known part) * k) (count_repeat part n) ∙ sym (pow-succ' (length (alternatives_of known part)) n))
+  count_repeat part n = count_copies n (alternatives_of known part)
 
   -- the names in an expression have alternatives
   abbrev HaveSome : (List ℕ → Type 0) → Type 0
   HaveSome names = (name : List ℕ) → names name → 0 < length (known name)
 
-  some_copies : (n : ℕ) (xs : List (Alternative U)) → 0 < length xs → 0 < length (copies n xs)
+  pub some_copies : (n : ℕ) (xs : List (Alternative U)) → 0 < length xs → 0 < length (copies n xs)
   some_copies zero xs h = omega arith
   some_copies (suc n) xs h =
       let product = positive_product _ _ h (some_copies n xs h) in
@@ -73,28 +86,19 @@ module _ {U : Type 0} (known : List ℕ → List (Alternative U)) where
     some_alternatives (all_of parts) is have = some_together parts (and_parts _ _ is).1 have
     some_alternatives (repeat part times) is have = some_copies times (alternatives_of known part) (some_alternatives part (and_parts _ _ (and_parts _ _ is).0).0 have)
 
-    some_sequence : (parts : Parts) → IsTrue (are_expressions parts) → HaveSome (MentionsIn parts) → 0 < length (in_sequence known parts)
+    pub some_sequence : (parts : Parts) → IsTrue (are_expressions parts) → HaveSome (MentionsIn parts) → 0 < length (in_sequence known parts)
     some_sequence none is have = omega arith
     some_sequence (more first others) is have =
         let each = and_parts _ _ is in
         let product = positive_product _ _ (some_alternatives first each.0 (λ name h. have name (inl h))) (some_sequence others each.1 (λ name h. have name (inr h))) in
         omega (arith, length-each_choice followed_by (alternatives_of known first) (in_sequence known others))
 
-    some_together : (parts : Parts) → IsTrue (are_expressions parts) → HaveSome (MentionsIn parts) → 0 < length (together known parts)
+    pub some_together : (parts : Parts) → IsTrue (are_expressions parts) → HaveSome (MentionsIn parts) → 0 < length (together known parts)
     some_together none is have = omega arith
     some_together (more first others) is have =
         let each = and_parts _ _ is in
         let product = positive_product _ _ (some_alternatives first each.0 (λ name h. have name (inl h))) (some_together others each.1 (λ name h. have name (inr h))) in
         omega (arith, length-each_choice beside (alternatives_of known first) (together known others))
-
-  -- an alternative followed by nothing, or beside nothing
-  one_followed : (xs : List (Alternative U)) → each_choice followed_by xs (empty ∷ []) ≡ xs
-  one_followed [] = refl
-  one_followed (x ∷ xs) = rw (append-nil x.pairs, add-zero x.cycles, one_followed xs) refl
-
-  one_beside : (xs : List (Alternative U)) → each_choice beside xs (empty ∷ []) ≡ xs
-  one_beside [] = refl
-  one_beside (x ∷ xs) = let most : max x.cycles 0 ≡ x.cycles = omega arith in rw (append-nil x.pairs, most, one_beside xs) refl
 
   pub one_in_sequence : (part : Expression) → alternatives_of known (sequence (more part none)) ≡ alternatives_of known part
   one_in_sequence part = one_followed (alternatives_of known part)

@@ -7,7 +7,7 @@ use Rattle.hz_model.specs.Pairs.{Pair, later, placed}
 use Rattle.hz_model.specs.Sets.{Statement, Holds, HoldsSome, HoldsPattern, AllowsIn, Fits}
 use Rattle.hz_model.proofs.Elements.{Contains-map, Contains-from_map}
 
-iff_back : (A B : Type 0) → A ↔ B → B ↔ A
+pub iff_back : (A B : Type 0) → A ↔ B → B ↔ A
 iff_back A B h = (h.1, h.0)
 
 module _ {U : Type 0} where
@@ -36,10 +36,10 @@ module _ {U : Type 0} where
     finally_absent = λ _ h _. none h.0 (within h.0 h.2);
   }
 
-  some_with : (units : List U) (old new : U → Type 0) → ((u : U) → old u → new u) → HoldsSome units old → HoldsSome units new
+  pub some_with : (units : List U) (old new : U → Type 0) → ((u : U) → old u → new u) → HoldsSome units old → HoldsSome units new
   some_with units old new into h = (h.0, h.1, into h.0 h.2)
 
-  pattern_with : (patterns : List (List U)) (old new : U → Type 0) → ((u : U) → old u → new u) → HoldsPattern patterns old → HoldsPattern patterns new
+  pub pattern_with : (patterns : List (List U)) (old new : U → Type 0) → ((u : U) → old u → new u) → HoldsPattern patterns old → HoldsPattern patterns new
   pattern_with patterns old new into h = (h.0, h.1, λ u is. into u (h.2 u is))
 
   -- a statement depends on which units are held
@@ -53,10 +53,10 @@ module _ {U : Type 0} where
   }
 
   -- what is held in a cycle is held n cycles later where it is moved
-  holds_moved : (n cycle : ℕ) (pairs : List (Pair U)) (u : U) → Holds pairs cycle u ↔ Holds (placed n pairs) (n + cycle) u
+  pub holds_moved : (n cycle : ℕ) (pairs : List (Pair U)) (u : U) → Holds pairs cycle u ↔ Holds (placed n pairs) (n + cycle) u
   holds_moved n cycle pairs u = (λ h. Contains-map (later n) pairs (record { unit = u; cycle = cycle }) h, λ h. back n pairs (record { unit = u; cycle = cycle }) h)
 
-  holds_none : (n cycle : ℕ) (pairs : List (Pair U)) (u : U) → cycle < n → Holds (placed n pairs) cycle u → ⊥
+  pub holds_none : (n cycle : ℕ) (pairs : List (Pair U)) (u : U) → cycle < n → Holds (placed n pairs) cycle u → ⊥
   holds_none n cycle pairs u early h =
       let found = Contains-from_map (later n) pairs (record { unit = u; cycle = cycle }) h in
       absurd (omega (arith, ap (λ (r : Pair U). r.cycle) found.2))

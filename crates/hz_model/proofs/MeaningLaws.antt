@@ -4,7 +4,7 @@ use Rattle.std.specs.Prelude.{IsSome}
 use Rattle.hz_model.specs.Alternatives.{Alternative, taking, Expression, named, nothing, sequence, one_of, all_of, repeat, Parts, none, more, alternatives_of, in_sequence, any_of, together, each_choice, followed_by, beside, copies}
 use Rattle.std.specs.Option.{option_map, option_map_or}
 use Rattle.hz_model.specs.Lines.{place_of}
-use Rattle.hz_model.specs.Straight.{unit_alternatives}
+use Rattle.hz_model.specs.Examples.{unit_alternatives}
 use Rattle.hz_model.specs.Meanings.{Meaning, unit, reservation, alternatives_of_meaning, Expands, Mentions, MentionsIn, Reaches, Unwinds, Alts, IsClosed}
 use Rattle.hz_model.proofs.ExpressionLaws.{some_alternatives}
 
@@ -108,8 +108,8 @@ module _ {U : Type 0} where
       let same = alternatives_same a.known b.known e (λ name _. one_assignment defined a.unwinds a.known b.known a.right b.right name) in
       a.these ∙ (same ∙ sym b.these)
 
-pub straight_right : (units : List (List ℕ)) → Expands (λ name. option_map unit (place_of name units)) (unit_alternatives units)
-straight_right units name = by_place (place_of name units)
+pub units_right : (units : List (List ℕ)) → Expands (λ name. option_map unit (place_of name units)) (unit_alternatives units)
+units_right units name = by_place (place_of name units)
   where
     by_place : (o : Option ℕ) → option_map_or (λ (u : ℕ). taking u ∷ []) o [] ≡ alternatives_of_meaning (unit_alternatives units) (option_map unit o)
     by_place None = refl

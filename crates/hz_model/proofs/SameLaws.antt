@@ -11,7 +11,7 @@ use Rattle.hz_model.proofs.Elements.{Contains-map, Contains-from_map}
 use Rattle.hz_model.proofs.FitLaws.{allows_same}
 
 module _ {U : Type 0} where
-  same_back : (xs ys : List (Pair U)) → SamePairs xs ys → SamePairs ys xs
+  pub same_back : (xs ys : List (Pair U)) → SamePairs xs ys → SamePairs ys xs
   same_back xs ys h = λ p. ((h p).1, (h p).0)
 
   append_into : (xs ys xs' ys' : List (Pair U)) → SamePairs xs xs' → SamePairs ys ys' → (p : Pair U) → Contains (xs ++ ys) p → Contains (xs' ++ ys') p
@@ -20,7 +20,7 @@ module _ {U : Type 0} where
       (λ (r : Contains ys p). Contains-append_right xs' ys' p ((k p).0 r))
       (Contains-append_cases xs ys p c)
 
-  same_append : (xs ys xs' ys' : List (Pair U)) → SamePairs xs xs' → SamePairs ys ys' → SamePairs (xs ++ ys) (xs' ++ ys')
+  pub same_append : (xs ys xs' ys' : List (Pair U)) → SamePairs xs xs' → SamePairs ys ys' → SamePairs (xs ++ ys) (xs' ++ ys')
   same_append xs ys xs' ys' h k = λ p. (append_into xs ys xs' ys' h k p, append_into xs' ys' xs ys (same_back xs xs' h) (same_back ys ys' k) p)
 
   placed_into : (n : ℕ) (xs ys : List (Pair U)) → SamePairs xs ys → (p : Pair U) → Contains (placed n xs) p → Contains (placed n ys) p
@@ -28,7 +28,7 @@ module _ {U : Type 0} where
       let found = Contains-from_map (later n) xs p c in
       subst (λ (q : Pair U). Contains (placed n ys) q) found.2 (Contains-map (later n) ys found.0 ((h found.0).0 found.1))
 
-  same_placed : (n : ℕ) (xs ys : List (Pair U)) → SamePairs xs ys → SamePairs (placed n xs) (placed n ys)
+  pub same_placed : (n : ℕ) (xs ys : List (Pair U)) → SamePairs xs ys → SamePairs (placed n xs) (placed n ys)
   same_placed n xs ys h = λ p. (placed_into n xs ys h p, placed_into n ys xs (same_back xs ys h) p)
 
   -- fitting depends on the sets of pairs
@@ -42,7 +42,7 @@ module _ {U : Type 0} where
             (λ u. there (record { unit = u; cycle = cycle })) (λ u. added (record { unit = u; cycle = cycle })) (λ u. all (record { unit = u; cycle = cycle })) (h.allowed s is cycle);
       }
 
-  append_swapped : (xs ys : List (Pair U)) (p : Pair U) → Contains (xs ++ ys) p → Contains (ys ++ xs) p
+  pub append_swapped : (xs ys : List (Pair U)) (p : Pair U) → Contains (xs ++ ys) p → Contains (ys ++ xs) p
   append_swapped xs ys p c = ⊎_elim (Contains-append_right ys xs p) (Contains-append_left ys xs p) (Contains-append_cases xs ys p c)
 
   -- side by side, alternatives are in no order, and one beside itself is that one

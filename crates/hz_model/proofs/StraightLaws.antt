@@ -17,7 +17,7 @@ use Rattle.std.proofs.Math.Nat.{sub-zero}
 use Rattle.hz_model.specs.Names.{is_name, is_name_byte, is_separator}
 use Rattle.hz_model.specs.Lines.{lines_of, number_of, number_from, place_of}
 use Rattle.hz_model.specs.Replay.{Event, issue, advance}
-use Rattle.hz_model.specs.Straight.{event_of, events_of, StraightTrace}
+use Rattle.hz_model.specs.StraightTraces.{event_of, events_of, StraightTrace}
 use Rattle.hz_model.specs.Traces.{is_margin, is_gap, says, line_says, says_content, without_margin, says_issue, says_advance, Say, Trace, event_lines}
 
 -- bytes of which none is blank

@@ -2,10 +2,11 @@
 -- superscalar example of GCC Internals, 'Specifying processor pipeline description'; the others are this profile's,
 -- docs/RULES.md.
 use Rattle.std.specs.Prelude.{ℕ, List, [], ◌∷◌, codes}
-use Rattle.hz_model.specs.Alternatives.{Expression, Parts, named, nothing, sequence, one_of, all_of, repeat, none, more, alternatives_of}
+use Rattle.std.specs.Option.{option_map_or}
+use Rattle.hz_model.specs.Alternatives.{Expression, Parts, named, nothing, sequence, one_of, all_of, repeat, none, more, Alternative, alternatives_of, taking}
 use Rattle.hz_model.specs.Sets.{Statement, excludes, presence, absence}
 use Rattle.hz_model.specs.Replay.{Class, Machine, Treatment, first_fit}
-use Rattle.hz_model.specs.Straight.{unit_alternatives}
+use Rattle.hz_model.specs.Lines.{place_of}
 
 -- two parts
 abbrev pub two : Expression → Expression → Parts
@@ -14,6 +15,10 @@ two a b = more a (more b none)
 -- three parts
 abbrev pub three : Expression → Expression → Expression → Parts
 three a b c = more a (two b c)
+
+-- what the names of units stand for, and no other name: the one alternative of the unit of that number
+abbrev pub unit_alternatives : List (List ℕ) → List ℕ → List (Alternative ℕ)
+unit_alternatives units name = option_map_or (λ u. taking u ∷ []) (place_of name units) []
 
 -- a class whose expression is over these units
 abbrev pub class : List (List ℕ) → List ℕ → Expression → Class ℕ

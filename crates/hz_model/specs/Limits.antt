@@ -12,11 +12,23 @@ cycle_limit = 256
 abbrev pub class_limit : ℕ
 class_limit = 1024
 
+-- automata of a description
+abbrev pub automaton_limit : ℕ
+automaton_limit = 16
+
+-- alternatives of a class or of a reservation
+abbrev pub alternative_limit : ℕ
+alternative_limit = 4096
+
+-- the cycles and pairs of alternatives together
+abbrev pub size_limit : ℕ
+size_limit = 2097152
+
 -- the greatest number after `*`
 abbrev pub repeat_limit : ℕ
 repeat_limit = 65535
 
--- the greatest latency
+-- the greatest latency and the greatest number of a bypass
 abbrev pub latency_limit : ℕ
 latency_limit = 1000
 

@@ -1,5 +1,5 @@
 -- The texts of answers: this profile, docs/FORMATS.md, 'Answers'.
-use Rattle.std.specs.Prelude.{ℕ, List, [], ◌∷◌, codes, decimal}
+use Rattle.std.specs.Prelude.{ℕ, List, [], ◌∷◌, ◌++◌, codes, decimal}
 use Rattle.std.specs.List.{concat}
 
 -- The texts that the program writes, each one line. A file goes by the word that names it.
@@ -8,6 +8,14 @@ accepted_line issues cycles = concat (codes "accepted " ∷ decimal issues ∷ c
 
 abbrev pub refused_line : ℕ → List ℕ → List ℕ
 refused_line line class = concat (codes "refused line " ∷ decimal line ∷ codes " " ∷ class ∷ codes "\n" ∷ [])
+
+-- a fault of a text: its line, and what it is, in pieces
+abbrev pub fault_line : List ℕ → ℕ → List (List ℕ) → List ℕ
+fault_line file line what = concat (codes "fault " ∷ file ∷ codes " line " ∷ decimal line ∷ codes " " ∷ (what ++ codes "\n" ∷ []))
+
+-- a limit of a description: the line of what passes it, which limit, and its name
+abbrev pub passed_line : List ℕ → ℕ → List ℕ → List ℕ → List ℕ
+passed_line file line what name = concat (codes "limit " ∷ file ∷ codes " line " ∷ decimal line ∷ codes " " ∷ what ∷ codes " " ∷ name ∷ codes "\n" ∷ [])
 
 abbrev pub not_built_line : List ℕ → List ℕ
 not_built_line file = concat (codes "fault " ∷ file ∷ codes " NotBuilt\n" ∷ [])

@@ -2,7 +2,6 @@
 
 ghost use Rattle.std.specs.Prelude.{◌≡◌, ℕ, List};
 ghost use Rattle.hz_model.specs.Answers.{Held, Answer};
-ghost use Rattle.hz_model.specs.Straight.{Description, Straight};
 
 /// The words and what is held have one answer at most: one status and one text.
 pub fn one_answer()
@@ -12,9 +11,4 @@ pub fn one_answer()
 /// All words have an answer, whatever is held: with `one_answer`, exactly one.
 pub fn some_answer()
     ensures { (words : List (List ℕ)) (held : Held) → (status : ℕ) × (text : List ℕ) × Answer words held status text }
-{}
-
-/// A text is one straight description at most.
-pub fn one_straight_description()
-    ensures { (text : List ℕ) (d e : Description) → Straight text d → Straight text e → d ≡ e }
 {}

@@ -5,7 +5,7 @@ ghost use Rattle.hz_model.specs.Alternatives.{Alternative, SameAs, beside, Expre
 ghost use Rattle.hz_model.specs.Expressions.{is_expression, repeated, product_of_counts, sum_of_counts};
 ghost use Rattle.std.specs.Option.{option_map};
 ghost use Rattle.hz_model.specs.Lines.{place_of};
-ghost use Rattle.hz_model.specs.Straight.{unit_alternatives};
+ghost use Rattle.hz_model.specs.Examples.{unit_alternatives};
 ghost use Rattle.hz_model.specs.Meanings.{Meaning, unit, Expands, Alts, Mentions, Reaches, Unwinds, IsClosed};
 
 /// `e * n` has the alternatives of the sequence of n copies of e.
@@ -64,7 +64,7 @@ pub fn ranks_keep_from_circles<U>()
     ensures { (defined : List ℕ → Option (Meaning U)) → Unwinds defined → (name : List ℕ) → Reaches defined name name → ⊥ }
 {}
 
-/// The names of units alone have the alternatives that straight descriptions give them.
-pub fn straight_names_are_right()
+/// The names of units alone have the alternatives that the worked examples give them.
+pub fn names_of_units_are_right()
     ensures { (units : List (List ℕ)) → Expands (λ name. option_map unit (place_of name units)) (unit_alternatives units) }
 {}

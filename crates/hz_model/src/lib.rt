@@ -3,8 +3,14 @@
 
 pub mod acceptance;
 pub mod answers;
+pub mod automata;
+pub mod checks;
+pub mod descriptions;
 pub mod examples;
 pub mod expression_texts;
 pub mod expressions;
+pub mod fitting;
 pub mod forms;
+pub mod machines;
+pub mod mentions;
 pub mod traces;

@@ -5,7 +5,7 @@ ghost use Rattle.std.specs.List.{range_with_len};
 ghost use Rattle.hz_model.specs.Names.{is_name};
 ghost use Rattle.hz_model.specs.Lines.{lines_of};
 ghost use Rattle.hz_model.specs.Replay.{Event};
-ghost use Rattle.hz_model.specs.Straight.{StraightTrace};
+ghost use Rattle.hz_model.specs.StraightTraces.{StraightTrace};
 ghost use Rattle.hz_model.specs.Traces.{Trace, TraceFault, TraceFaultAt, event_lines};
 
 /// A trace text has at most one list of events, and each event has one line.

@@ -8,7 +8,9 @@ use Rattle.hz_model.specs.Replay as model
 use Rattle.hz_model.specs.Replay.{Machine, State, Step, Plays, IsPlayable, start, issues_of, cycles_of}
 use Rattle.hz_tool.specs.declared.trace.Event.{Event}
 use Rattle.hz_tool.specs.declared.trace.Event.TheVariants.{Issue}
-use Rattle.hz_tool.specs.Replay.{IsFuture, PlaysTo, Follows}
+use Rattle.hz_model.specs.Fitting.{IsFuture, IsUnbroken}
+use Rattle.hz_model.proofs.FittingLaws.{unbroken_run}
+use Rattle.hz_tool.specs.Replay.{PlaysTo, Follows}
 use Rattle.hz_tool.specs.Trace.{event, events_in, issues_in, cycles_in}
 
 -- the event at a place of the program's list
@@ -44,25 +46,25 @@ one_issue (model.issue k) = omega arith
 one_issue (model.advance n) = omega arith
 
 -- one more event is played
-pub follows_more : (m : Machine ℕ) (done : List model.Event) (e : model.Event) (old new : List (Pair ℕ)) → Follows m done old → ((s : State ℕ) → IsFuture old s → PlaysTo m s e new) → Follows m (done ++ e ∷ []) new
+pub follows_more : (m : Machine ℕ) (done : List model.Event) (e : model.Event) (old new : List (Pair ℕ)) → Follows m done old → ((s : State ℕ) → IsFuture old s → IsUnbroken m.statements s.reserved → PlaysTo m s e new) → Follows m (done ++ e ∷ []) new
 follows_more m done e old new follows plays =
     let (s, run) = follows.runs in
-    let (s', step) = (plays s (follows.future s run)).can in
+    let (s', step) = (plays s (follows.future s run) (unbroken_run m done s run)).can in
     record {
       runs = (s', run_more m start s s' done e run step);
       future = λ after through.
           let (middle, before, (last, one, same)) = run_split m start after done (e ∷ []) through in
-          subst (IsFuture new) (sym same) ((plays middle (follows.future middle before)).future last one);
+          subst (IsFuture new) (sym same) ((plays middle (follows.future middle before) (unbroken_run m done middle before)).future last one);
     }
 
 -- an event that can't be played ends the run
-pub follows_refused : (m : Machine ℕ) (done : List model.Event) (e : model.Event) (old : List (Pair ℕ)) → Follows m done old → ((s : State ℕ) → IsFuture old s → (s' : State ℕ) → Step m s e s' → ⊥) → IsPlayable m (done ++ e ∷ []) → ⊥
+pub follows_refused : (m : Machine ℕ) (done : List model.Event) (e : model.Event) (old : List (Pair ℕ)) → Follows m done old → ((s : State ℕ) → IsFuture old s → IsUnbroken m.statements s.reserved → (s' : State ℕ) → Step m s e s' → ⊥) → IsPlayable m (done ++ e ∷ []) → ⊥
 follows_refused m done e old follows refuses (after, through) =
     let (middle, before, (last, one, same)) = run_split m start after done (e ∷ []) through in
-    refuses middle (follows.future middle before) last one
+    refuses middle (follows.future middle before) (unbroken_run m done middle before) last one
 
 -- the first event that can't be played is the first refused
-pub first_refused : (m : Machine ℕ) (es : List Event) (i : ℕ) (grid : List (Pair ℕ)) → i < length es → Follows m (events_in (take i es)) grid → ((s : State ℕ) → IsFuture grid s → (s' : State ℕ) → Step m s (event_at es i) s' → ⊥) → model.FirstRefused m (events_in es) i
+pub first_refused : (m : Machine ℕ) (es : List Event) (i : ℕ) (grid : List (Pair ℕ)) → i < length es → Follows m (events_in (take i es)) grid → ((s : State ℕ) → IsFuture grid s → IsUnbroken m.statements s.reserved → (s' : State ℕ) → Step m s (event_at es i) s' → ⊥) → model.FirstRefused m (events_in es) i
 first_refused m es i grid inside follows refuses =
     let long = length-map es event in
     record {

@@ -1,27 +1,123 @@
-use Rattle.std.proofs.Common.{◌≡◌, ℕ, List, Some, None, false, sym, ◌∙◌, subst}
-use Rattle.std.proofs.lemmas.Option.{none-some}
-use Rattle.hz_model.proofs.FormsLaws.{one_reading, forms_or_fault}
-use Rattle.hz_model.specs.Forms.{Reads, FaultAt}
-use Rattle.hz_model.specs.Straight as model
+-- The reports of the phases of judging a description are what is to be answered.
+use Rattle.std.proofs.Common.{◌≡◌, ℕ, List, [], ◌∷◌, inl, inr, MatchOption, codes, decimal, refl, sym, ap, ◌∙◌}
+use Rattle.hz_check.specs.Faults.{limit_of}
+use Rattle.hz_model.specs.Answers.{Next, HasForms, Describes, Checks}
+use Rattle.hz_model.specs.CheckFaults.{Known, IsSound, limit}
+use Rattle.hz_model.specs.DescriptionForms.{DescriptionFault}
+use Rattle.hz_model.specs.DescriptionForms as description_forms
+use Rattle.hz_model.specs.Descriptions.{Description}
+use Rattle.hz_model.specs.FaultTexts.{form_word, expression_word, description_words, check_line, check_status}
+use Rattle.hz_model.specs.FaultTexts as texts
+use Rattle.hz_model.specs.Forms.{FormFault}
+use Rattle.hz_model.specs.Forms as forms
+use Rattle.hz_model.specs.Sites.{Site}
+use Rattle.hz_model.specs.Texts.{fault_line, passed_line}
 use Rattle.hz_model.specs.Trees.{Trees}
-use Rattle.hz_tool.specs.Decisions.{is_no_memory}
-use Rattle.std.proofs.lemmas.Bool.{false≢true}
-use Rattle.hz_sexp.specs.Faults.{Tells}
-use Rattle.hz_sexp.specs.declared.fault.SexpFault.{SexpFault}
-use Rattle.hz_sexp.specs.declared.fault.SexpFault.TheVariants.{Unclosed, Stray, BadEscape, TooDeep, BadByte, NumberTooLarge, NoMemory}
+use Rattle.hz_tool.proofs.AnswerLemmas.{agrees_weaker}
+use Rattle.hz_tool.specs.Decisions.{Agrees, IsFormsReport, IsDescriptionReport, IsCheckReport}
+use Rattle.hz_tool.specs.Kinds.{kind_word, form_fault, description_fault, expression_fault, named_fault, named_word}
+use Rattle.hz_tool.specs.Kinds as kinds
+use Rattle.hz_tool.specs.declared.kind.Kind.{Kind}
+use Rattle.hz_tool.specs.declared.kind.Kind.TheVariants as kind
+use Rattle.hz_tool.specs.declared.kind.ExpressionKind.{ExpressionKind}
+use Rattle.hz_tool.specs.declared.kind.ExpressionKind.TheVariants as expression
+use Rattle.hz_tool.specs.declared.kind.NamedKind.{NamedKind}
+use Rattle.hz_tool.specs.declared.kind.NamedKind.TheVariants as named
+use Rattle.hz_tool.specs.declared.report.Report.{Report}
+use Rattle.hz_tool.specs.declared.report.Report.TheVariants.{Fault, Expression, Named, Passed, Memory}
 
--- forms that make no description
-pub not_described : (text : List ℕ) (forms : Trees) → Reads text forms → model.with_forms model.nothing_defined forms ≡ None → (d : model.Description) → model.Straight text d → ⊥
-not_described text forms reads none d (others, reads', makes) =
-    let same = one_reading text others forms reads' reads in
-    none-some d (sym none ∙ subst (λ fs. model.with_forms model.nothing_defined fs ≡ Some d) same makes)
+-- what is said of the fault that a kind tells holds of one with the kind's word
+form_said : (k : Kind) (P : FormFault → Type 0) → MatchOption (form_fault k) ⊥ P → (fault : FormFault) × P fault × (kind_word k ≡ form_word fault)
+form_said kind.Unclosed P h = (forms.unclosed, h, refl)
+form_said kind.Stray P h = (forms.stray, h, refl)
+form_said kind.BadEscape P h = (forms.bad_escape, h, refl)
+form_said kind.TooDeep P h = (forms.too_deep, h, refl)
+form_said kind.BadByte P h = (forms.bad_byte, h, refl)
+form_said kind.NumberTooLarge P h = (forms.number_too_large, h, refl)
+form_said _ P h = absurd h
 
--- a text with a fault is no description
-pub fault_described : (text : List ℕ) (fault : SexpFault) → Tells (FaultAt text) fault → is_no_memory fault ≡ false → (d : model.Description) → model.Straight text d → ⊥
-fault_described text (Unclosed line) told other d (forms, reads, makes) = forms_or_fault text forms _ line reads told
-fault_described text (Stray line) told other d (forms, reads, makes) = forms_or_fault text forms _ line reads told
-fault_described text (BadEscape line) told other d (forms, reads, makes) = forms_or_fault text forms _ line reads told
-fault_described text (TooDeep line) told other d (forms, reads, makes) = forms_or_fault text forms _ line reads told
-fault_described text (BadByte line) told other d (forms, reads, makes) = forms_or_fault text forms _ line reads told
-fault_described text (NumberTooLarge line) told other d (forms, reads, makes) = forms_or_fault text forms _ line reads told
-fault_described text NoMemory told other d straight = false≢true (sym other)
+description_said : (k : Kind) (P : DescriptionFault → Type 0) → MatchOption (description_fault k) ⊥ P → (fault : DescriptionFault) × P fault × (kind_word k ∷ [] ≡ description_words fault)
+description_said kind.UnknownForm P h = (description_forms.unknown_form, h, refl)
+description_said kind.BadShape P h = (description_forms.bad_shape, h, refl)
+description_said kind.BadCondition P h = (description_forms.bad_condition, h, refl)
+description_said kind.UnknownOption P h = (description_forms.unknown_option, h, refl)
+description_said kind.LatencyLimit P h = (description_forms.latency_limit, h, refl)
+description_said kind.UnknownGuard P h = (description_forms.unknown_guard, h, refl)
+description_said _ P h = absurd h
+
+expression_said : (k : ExpressionKind) → kinds.expression_word k ≡ expression_word (expression_fault k)
+expression_said expression.Unexpected = refl
+expression_said expression.Empty = refl
+expression_said expression.RepeatZero = refl
+expression_said expression.TooDeep = refl
+expression_said expression.NumberTooLarge = refl
+
+named_said : (k : NamedKind) (name : List ℕ) (site : Site) → check_line name (named_fault k) site ≡ texts.named_line name (named_word k) site
+named_said named.TwiceDefined name site = refl
+named_said named.ReservedName name site = refl
+named_said named.UnknownName name site = refl
+named_said named.UnknownAutomaton name site = refl
+named_said named.UnitNeedsAutomaton name site = refl
+named_said named.CircularReservation name site = refl
+named_said named.SelfExclusion name site = refl
+named_said named.SetAcrossAutomata name site = refl
+named_said named.BypassTwice name site = refl
+
+named_status : (k : NamedKind) → check_status (named_fault k) ≡ 2
+named_status named.TwiceDefined = refl
+named_status named.ReservedName = refl
+named_status named.UnknownName = refl
+named_status named.UnknownAutomaton = refl
+named_status named.UnitNeedsAutomaton = refl
+named_status named.CircularReservation = refl
+named_status named.SelfExclusion = refl
+named_status named.SetAcrossAutomata = refl
+named_status named.BypassTwice = refl
+
+-- a text's first fault is told
+pub forms_refused : (name text : List ℕ) (next : Next Trees) (report : Report) → IsFormsReport name text report → Agrees (HasForms name text next) report
+forms_refused name text next (Fault file line k) (same, wrong) =
+    let said = form_said k (λ fault. forms.FaultAt text fault line) wrong in
+    inr (said.0, line, said.1, (refl, ap (λ (f : List ℕ). fault_line f line (kind_word k ∷ [])) same ∙ ap (λ (w : List ℕ). fault_line name line (w ∷ [])) said.2))
+forms_refused name text next Memory h = tt
+forms_refused name text next _ h = absurd h
+
+-- the first fault of a form is told
+pub description_refused : (name : List ℕ) (read : Trees) (next : Next Description) (report : Report) → IsDescriptionReport name read report → Agrees (Describes name read next) report
+description_refused name read next (Fault file line k) (same, wrong) =
+    let said = description_said k (λ fault. description_forms.FaultAt read fault line) wrong in
+    inr (said.0, line, said.1, (refl, ap (λ (f : List ℕ). fault_line f line (kind_word k ∷ [])) same ∙ ap (fault_line name line) said.2))
+description_refused name read next (Expression file line k at) (same, wrong) =
+    inr (
+      description_forms.bad_expression (expression_fault k) at,
+      line,
+      wrong,
+      (
+        refl,
+        ap (λ (f : List ℕ). fault_line f line (codes "BadExpression " ∷ kinds.expression_word k ∷ codes " " ∷ decimal at ∷ [])) same
+            ∙ ap (λ (w : List ℕ). fault_line name line (codes "BadExpression " ∷ w ∷ codes " " ∷ decimal at ∷ [])) (expression_said k),
+      ),
+    )
+description_refused name read next Memory h = tt
+description_refused name read next _ h = absurd h
+
+-- the fault of a description is told
+pub check_refused : (name : List ℕ) (d : Description) (next : Next Known) (report : Report) → IsCheckReport name d report → Agrees (Checks name d next) report
+check_refused name d next (Named file line k at) (same, (form, wrong)) =
+    let site : Site = record { line = line; form = form; name = at } in
+    inr (named_fault k, site, wrong, (sym (named_status k), ap (λ (f : List ℕ). texts.named_line f (named_word k) site) same ∙ sym (named_said k name site)))
+check_refused name d next (Passed file line what at) (same, (form, wrong)) =
+    let site : Site = record { line = line; form = form; name = at } in
+    inr (limit (limit_of what), site, wrong, (refl, ap (λ (f : List ℕ). passed_line f line (texts.limit_word (limit_of what)) at) same))
+check_refused name d next Memory h = tt
+check_refused name d next _ h = absurd h
+
+-- a phase that does not refuse leads on
+pub forms_on : (name text : List ℕ) (read : Trees) (next : Next Trees) (report : Report) → forms.Reads text read → Agrees (next read) report → Agrees (HasForms name text next) report
+forms_on name text read next report is = agrees_weaker (next read) (HasForms name text next) (λ s t a. inl (read, is, a)) report
+
+pub description_on : (name : List ℕ) (read : Trees) (d : Description) (next : Next Description) (report : Report) → description_forms.Reads read d → Agrees (next d) report → Agrees (Describes name read next) report
+description_on name read d next report is = agrees_weaker (next d) (Describes name read next) (λ s t a. inl (d, is, a)) report
+
+pub check_on : (name : List ℕ) (d : Description) (known : Known) (next : Next Known) (report : Report) → IsSound d known → Agrees (next known) report → Agrees (Checks name d next) report
+check_on name d known next report is = agrees_weaker (next known) (Checks name d next) (λ s t a. inl (known, is, a)) report

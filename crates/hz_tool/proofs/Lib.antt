@@ -1,11 +1,9 @@
+pub mod AnswerLemmas
+pub mod CheckedLemmas
 pub mod EventLemmas
-pub mod FormLemmas
+pub mod JudgeLemmas
 pub mod NameLemmas
 pub mod ReplayLemmas
-pub mod StandsLemmas
-pub mod StraightLemmas
+pub mod RunLemmas
 pub mod TraceLemmas
 pub mod WritingLemmas
-pub mod JudgeLemmas
-pub mod AnswerLemmas
-pub mod RunLemmas

@@ -1,11 +1,17 @@
-use Rattle.std.proofs.Common.{◌≡◌, ℕ, ◌+◌, ◌<◌, ◌⊎◌, inl, inr, ⊎_elim, ◌↔◌, true, false, List, [], ◌∷◌, ◌++◌, length, get_or, Contains, slice_get, refl, sym, ap, ◌∙◌, subst, arith}
+use Rattle.std.proofs.Common.{◌≡◌, ℕ, ◌+◌, ◌<◌, ◌≤◌, ◌⊎◌, inl, inr, ⊎_elim, ◌↔◌, true, false, List, [], ◌++◌, length, get_or, Contains, slice_get, refl, sym, ap, ◌∙◌, subst, arith}
+use Rattle.std.proofs.lemmas.Bool.{cases_lt}
+use Rattle.std.proofs.lemmas.List.{length-map}
 use Rattle.std.proofs.lemmas.List.Elements.{Contains-append_left, Contains-append_right, Contains-append_cases}
-use Rattle.hz_model.proofs.Elements.{Contains-nil, Contains-map, Contains-from_map}
+use Rattle.std.proofs.lemmas.Option.{slice_get-get_or}
+use Rattle.hz_model.proofs.Elements.{Contains-map, Contains-from_map}
+use Rattle.hz_model.proofs.FittingLaws.{future_fits}
+use Rattle.hz_model.proofs.RestrictLaws.{at_number}
+use Rattle.hz_model.specs.Fitting.{IsFuture, IsUnbroken}
 use Rattle.hz_model.specs.Pairs.{Pair, later, placed}
 use Rattle.hz_model.specs.Alternatives.{Alternative}
 use Rattle.hz_model.specs.Sets.{Statement, Fits}
-use Rattle.hz_model.specs.Replay.{Machine, State, issue, advance, Step, alternatives_at, chosen, pairs_at}
-use Rattle.hz_tool.specs.Replay.{IsGridOf, IsFuture, IsAdvancedBy, PlaysFrom}
+use Rattle.hz_model.specs.Replay.{Machine, State, issue, advance, Step, MayTake, FitsAt, alternatives_at, chosen}
+use Rattle.hz_tool.specs.Replay.{Lists, AreListsOf, NoneFits, FirstFits, Takes, IsAdvancedBy, PlaysFrom}
 
 -- pairs that are placed are those pairs, later
 pub placed_has : (n unit cycle : ℕ) (pairs : List (Pair ℕ)) → Contains pairs (record { unit = unit; cycle = cycle }) → Contains (placed n pairs) (record { unit = unit; cycle = n + cycle })
@@ -32,64 +38,19 @@ future_advanced grid grid' s n future moved = record {
 }
 
 -- after an issue the union of both grids is the future
-pub future_taken : (grid added grid' : List (Pair ℕ)) (alternatives : List (Alternative ℕ)) (s : State ℕ) (is : IsGridOf added alternatives) → IsFuture grid s → ((p : Pair ℕ) → Contains grid' p ↔ (Contains grid p ⊎ Contains added p)) → IsFuture grid' (record { reserved = s.reserved ++ placed s.now is.alternative.pairs; now = s.now })
-future_taken grid added grid' alternatives s is future union = record {
+pub future_taken : (grid added grid' : List (Pair ℕ)) (s : State ℕ) → IsFuture grid s → ((p : Pair ℕ) → Contains grid' p ↔ (Contains grid p ⊎ Contains added p)) → IsFuture grid' (record { reserved = s.reserved ++ placed s.now added; now = s.now })
+future_taken grid added grid' s future union = record {
   pairs = λ unit cycle. (
     λ h. ⊎_elim
-        (λ g. Contains-append_left s.reserved (placed s.now is.alternative.pairs) _ ((future.pairs unit cycle).0 g))
-        (λ a. Contains-append_right s.reserved (placed s.now is.alternative.pairs) _ (placed_has s.now unit cycle is.alternative.pairs ((is.pairs _).0 a)))
+        (λ g. Contains-append_left s.reserved (placed s.now added) _ ((future.pairs unit cycle).0 g))
+        (λ a. Contains-append_right s.reserved (placed s.now added) _ (placed_has s.now unit cycle added a))
         ((union _).0 h),
     λ h. (union _).1 (⊎_elim
         (λ r. inl ((future.pairs unit cycle).1 r))
-        (λ p. inr ((is.pairs _).1 (placed_was s.now unit cycle is.alternative.pairs p)))
-        (Contains-append_cases s.reserved (placed s.now is.alternative.pairs) _ h)),
+        (λ p. inr (placed_was s.now unit cycle added p))
+        (Contains-append_cases s.reserved (placed s.now added) _ h)),
   );
 }
-
--- where no pair is in both grids the alternative fits
-pub fits_apart : (grid added : List (Pair ℕ)) (alternatives : List (Alternative ℕ)) (s : State ℕ) (is : IsGridOf added alternatives) → IsFuture grid s → ((p : Pair ℕ) → Contains grid p → Contains added p → ⊥) → Fits [] s.reserved is.alternative.pairs s.now
-fits_apart grid added alternatives s is future apart = record {
-  apart = λ p old new.
-      let found = Contains-from_map (later s.now) is.alternative.pairs p new in
-      apart found.0 ((future.pairs found.0.unit found.0.cycle).1 (subst (Contains s.reserved) (sym found.2) old)) ((is.pairs found.0).1 found.1);
-  allowed = λ statement h. absurd (Contains-nil statement h);
-}
-
--- and only there
-pub apart_fits : (grid added : List (Pair ℕ)) (alternatives : List (Alternative ℕ)) (s : State ℕ) (is : IsGridOf added alternatives) → IsFuture grid s → Fits [] s.reserved is.alternative.pairs s.now → (p : Pair ℕ) → Contains grid p → Contains added p → ⊥
-apart_fits grid added alternatives s is future fits p old new =
-    fits.apart (later s.now p) ((future.pairs p.unit p.cycle).0 old) (placed_has s.now p.unit p.cycle is.alternative.pairs ((is.pairs p).0 new))
-
--- the class has the one alternative
-chosen_only : (m : Machine ℕ) (k : ℕ) (a : Alternative ℕ) → alternatives_at m k ≡ a ∷ [] → chosen m k 0 ≡ a.pairs
-chosen_only m k a only = ap (λ (options : List (Alternative ℕ)). pairs_at (slice_get options 0)) only
-
--- an issue that fits can be run
-pub step_taken : (m : Machine ℕ) (s : State ℕ) (k : ℕ) (added : List (Pair ℕ)) (is : IsGridOf added (alternatives_at m k)) → m.statements ≡ [] → Fits [] s.reserved is.alternative.pairs s.now → Step m s (issue k) (record { reserved = s.reserved ++ placed s.now is.alternative.pairs; now = s.now })
-step_taken m s k added is free fits =
-    let pairs = chosen_only m k is.alternative is.only in (
-      0,
-      record {
-        fits = (
-          subst (λ (options : List (Alternative ℕ)). 0 < length options) (sym is.only) (omega arith),
-          subst (λ (ss : List (Statement ℕ)). Fits ss s.reserved (chosen m k 0) s.now) (sym free)
-              (subst (λ (ps : List (Pair ℕ)). Fits [] s.reserved ps s.now) (sym pairs) fits),
-        );
-        first = λ e j below. absurd (omega arith);
-      },
-      ap (λ (ps : List (Pair ℕ)). record { reserved = s.reserved ++ placed s.now ps; now = s.now }) (sym pairs),
-    )
-
--- an issue that is run takes the one alternative, which fits
-pub step_takes : (m : Machine ℕ) (s s' : State ℕ) (k : ℕ) (added : List (Pair ℕ)) (is : IsGridOf added (alternatives_at m k)) → m.statements ≡ [] → Step m s (issue k) s' → Fits [] s.reserved is.alternative.pairs s.now × (s' ≡ record { reserved = s.reserved ++ placed s.now is.alternative.pairs; now = s.now })
-step_takes m s s' k added is free (i, may, after) =
-    let within : i < 1 = subst (λ (options : List (Alternative ℕ)). i < length options) is.only may.fits.0 in
-    let first : i ≡ 0 = omega arith in
-    let pairs : chosen m k i ≡ is.alternative.pairs = ap (chosen m k) first ∙ chosen_only m k is.alternative is.only in (
-      subst (λ (ps : List (Pair ℕ)). Fits [] s.reserved ps s.now) pairs
-          (subst (λ (ss : List (Statement ℕ)). Fits ss s.reserved (chosen m k i) s.now) free may.fits.1),
-      after ∙ ap (λ (ps : List (Pair ℕ)). record { reserved = s.reserved ++ placed s.now ps; now = s.now }) pairs,
-    )
 
 -- no cycle changes nothing, and one more goes on
 pub advanced_none : (grid : List (Pair ℕ)) → IsAdvancedBy 0 grid grid
@@ -108,24 +69,82 @@ advanced_more n first middle last some one unit cycle =
     (λ h. there.0 (here.0 h), λ h. here.1 (there.1 h))
 
 -- advances can always be played
-pub plays_advance : (grids : List (List (Pair ℕ))) (n : ℕ) (old new : List (Pair ℕ)) → IsAdvancedBy n old new → PlaysFrom grids old (advance n) true new
-plays_advance grids n old new moved m are s future = record {
+pub plays_advance : (rules : List (Statement ℕ)) (lists : Lists) (n : ℕ) (old new : List (Pair ℕ)) → IsAdvancedBy n old new → PlaysFrom rules lists old (advance n) true new
+plays_advance rules lists n old new moved m are s future unbroken = record {
   can = (record { reserved = s.reserved; now = n + s.now }, refl);
   future = λ s' step. subst (IsFuture new) (sym step) (future_advanced old new s n future moved);
 }
 
--- an issue whose pairs are free can be played
-pub plays_issue : (grids : List (List (Pair ℕ))) (k : ℕ) (old new : List (Pair ℕ)) → k < length grids → ((p : Pair ℕ) → Contains new p ↔ (Contains old p ⊎ Contains (get_or grids k []) p)) → ((p : Pair ℕ) → Contains old p → Contains (get_or grids k []) p → ⊥) → PlaysFrom grids old (issue k) true new
-plays_issue grids k old new within union apart m are s future =
-    let is = are.classes k within in
-    let after = future_taken old (get_or grids k []) new (alternatives_at m k) s is future union in
-    record {
-      can = (_, step_taken m s k (get_or grids k []) is are.free (fits_apart old (get_or grids k []) (alternatives_at m k) s is future apart));
-      future = λ s' step. subst (IsFuture new) (sym (step_takes m s s' k (get_or grids k []) is are.free step).1) after;
-    }
+-- A class's list and the machine's alternatives at a state of which the present grid is the future.
+module _ (rules : List (Statement ℕ)) (lists : Lists) (m : Machine ℕ) (are : AreListsOf rules lists m) (present : List (Pair ℕ)) (s : State ℕ) (future : IsFuture present s) (unbroken : IsUnbroken m.statements s.reserved) (k : ℕ) (within : k < length lists) where
+  abbrev grids : List (List (Pair ℕ))
+  grids = get_or lists k []
 
--- and no other
-pub plays_no_issue : (grids : List (List (Pair ℕ))) (k : ℕ) (old new : List (Pair ℕ)) → k < length grids → (p : Pair ℕ) → Contains old p → Contains (get_or grids k []) p → PlaysFrom grids old (issue k) false new
-plays_no_issue grids k old new within p here there m are s future s' step =
-    let is = are.classes k within in
-    apart_fits old (get_or grids k []) (alternatives_at m k) s is future (step_takes m s s' k (get_or grids k []) is are.free step).0 p here there
+  -- as many alternatives as grids, each with the pairs of its grid
+  as_many : length grids ≡ length (alternatives_at m k)
+  as_many = ap length (sym (are.classes k within)) ∙ length-map (alternatives_at m k) (λ (a : Alternative ℕ). a.pairs)
+
+  same_pairs : (i : ℕ) → i < length grids → chosen m k i ≡ get_or grids i []
+  same_pairs i low = at_number m s k i (get_or grids i []) (ap (λ (ls : List (List (Pair ℕ))). slice_get ls i) (are.classes k within) ∙ slice_get-get_or grids i [] low)
+
+  -- a grid fits the present exactly where its alternative fits the state
+  fits_there : (i : ℕ) → i < length grids → Fits rules present (get_or grids i []) 0 → FitsAt m s k i
+  fits_there i low fits = (
+    omega (arith, as_many),
+    subst (λ (ps : List (Pair ℕ)). Fits m.statements s.reserved ps s.now) (sym (same_pairs i low))
+        ((future_fits m.statements present (get_or grids i []) s future unbroken).0 ((are.statements present (get_or grids i []) 0).0 fits)),
+  )
+
+  fits_here : (i : ℕ) → i < length grids → FitsAt m s k i → Fits rules present (get_or grids i []) 0
+  fits_here i low h = (are.statements present (get_or grids i []) 0).1 ((future_fits m.statements present (get_or grids i []) s future unbroken).1
+      (subst (λ (ps : List (Pair ℕ)). Fits m.statements s.reserved ps s.now) (same_pairs i low) h.1))
+
+  -- the first grid that fits is what an issue may take
+  may_take : (i : ℕ) → FirstFits rules present grids i → MayTake m s k i
+  may_take i is = record {
+    fits = fits_there i is.within is.fits;
+    first = λ _ j below fits. let low = is.within in is.first j below (fits_here j (omega arith) fits);
+  }
+
+  -- and nothing else
+  takes_first : (i j : ℕ) → FirstFits rules present grids i → MayTake m s k j → j ≡ i
+  takes_first i j is may =
+      let low = is.within in
+      let inside : j < length grids = omega (arith, (may.fits).0, as_many) in
+      ⊎_elim
+      (λ (below : j < i). absurd (is.first j below (fits_here j inside may.fits)))
+      (λ (above : i ≤ j). ⊎_elim
+      (λ (below : i < j). absurd (may.first are.first i below (fits_there i is.within is.fits)))
+      (λ (past : j ≤ i). omega arith)
+      (cases_lt i j))
+      (cases_lt j i)
+
+  step_first : (i : ℕ) → FirstFits rules present grids i → Step m s (issue k) (record { reserved = s.reserved ++ placed s.now (get_or grids i []); now = s.now })
+  step_first i is = (i, may_take i is, ap (λ (ps : List (Pair ℕ)). record { reserved = s.reserved ++ placed s.now ps; now = s.now }) (sym (same_pairs i is.within)))
+
+  step_only : (i : ℕ) (s' : State ℕ) → FirstFits rules present grids i → Step m s (issue k) s' → s' ≡ record { reserved = s.reserved ++ placed s.now (get_or grids i []); now = s.now }
+  step_only i s' is (j, may, after) =
+      after ∙ ap (λ (ps : List (Pair ℕ)). record { reserved = s.reserved ++ placed s.now ps; now = s.now }) (ap (chosen m k) (takes_first i j is may) ∙ same_pairs i is.within)
+
+  step_none : (s' : State ℕ) → NoneFits rules present grids → Step m s (issue k) s' → ⊥
+  step_none s' none (j, may, after) =
+      let inside : j < length grids = omega (arith, (may.fits).0, as_many) in
+      none j inside (fits_here j inside may.fits)
+
+-- an issue takes the first grid that fits
+pub plays_issue : (rules : List (Statement ℕ)) (lists : Lists) (k : ℕ) (old new : List (Pair ℕ)) → k < length lists → Takes rules old (get_or lists k []) new → PlaysFrom rules lists old (issue k) true new
+plays_issue rules lists k old new within takes m are s future unbroken = record {
+  can = (_, step_first rules lists m are old s future unbroken k within takes.number takes.first);
+  future = λ s' step. subst (IsFuture new) (sym (step_only rules lists m are old s future unbroken k within takes.number s' takes.first step))
+      (future_taken old (get_or (get_or lists k []) takes.number []) new s future takes.union);
+}
+
+-- and is refused where none does
+pub plays_no_issue : (rules : List (Statement ℕ)) (lists : Lists) (k : ℕ) (old new : List (Pair ℕ)) → k < length lists → NoneFits rules old (get_or lists k []) → PlaysFrom rules lists old (issue k) false new
+plays_no_issue rules lists k old new within none m are s future unbroken s' step = step_none rules lists m are old s future unbroken k within s' none step
+
+-- what fits the present grid has no pair of it
+pub apart_now : (rules : List (Statement ℕ)) (present grid : List (Pair ℕ)) → Fits rules present grid 0 → (p : Pair ℕ) → Contains present p → Contains grid p → ⊥
+apart_now rules present grid fits p there here =
+    let same : 0 + p.cycle ≡ p.cycle = omega arith in
+    fits.apart p there (subst (λ (c : ℕ). Contains (placed 0 grid) (record { unit = p.unit; cycle = c })) same (placed_has 0 p.unit p.cycle grid here))

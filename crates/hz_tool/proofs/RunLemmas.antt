@@ -1,13 +1,13 @@
 use Rattle.std.proofs.Common.{◌≡◌, ℕ, ◌<◌, ◌≤◌, ◌⊎◌, inl, inr, Bool, List, length, Option, Some, nat_lt, MatchBool, MatchOption, refl, sym, subst, arith}
 use Rattle.std.proofs.lemmas.Bool.{le-ltb}
-use Rattle.hz_model.specs.Answers.{Held, Next, Opens, Answer, AnswersReplay, Says}
+use Rattle.hz_model.specs.Answers.{Held, Next, Opens, Answer, Judges, AnswersReplay, Says}
 use Rattle.hz_model.specs.Limits.{description_limit, trace_limit}
 use Rattle.hz_model.specs.Texts.{file_line, limit_line}
-use Rattle.hz_tool.specs.Decisions.{Agrees, Judges, CountsReport, NamesFile, IsFileWord}
-use Rattle.hz_tool.specs.Endings.{SaysFile, MayWrite}
+use Rattle.hz_tool.specs.Decisions.{Agrees, CountsReport, NamesFile, IsFileWord}
+use Rattle.hz_tool.specs.Endings.{IsAppended, SaysFile, Completes, MayWrite}
 use Rattle.hz_tool.specs.Reports.{text_of, status_of}
 use Rattle.hz_tool.specs.declared.report.Report.{Report}
-use Rattle.hz_tool.specs.declared.report.Report.TheVariants.{Accepted, Refused, NotBuilt, Long, Usage, Memory, File}
+use Rattle.hz_tool.specs.declared.report.Report.TheVariants.{Memory, File}
 use Rattle.hz_tool.proofs.AnswerLemmas.{agrees_weaker}
 use Rattle.hz_model.proofs.AnswerLaws.{answer_single}
 
@@ -27,30 +27,26 @@ answers_replay held description trace described traced report found short found'
 
 -- status 6 is that of a file's line
 pub says_file : (words : List (List ℕ)) (report : Report) → status_of report ≡ 6 → NamesFile (IsFileWord words) report → SaysFile words (text_of report)
-says_file words (Accepted issues cycles) e h = absurd (omega arith)
-says_file words (Refused line class) e h = absurd (omega arith)
-says_file words (NotBuilt file) e h = absurd (omega arith)
-says_file words (Long file) e h = absurd (omega arith)
-says_file words Usage e h = absurd (omega arith)
-says_file words Memory e h = absurd (omega arith)
 says_file words (File file) e h = record { name = file.now; word = h; line = refl }
+says_file words _ e h = absurd (omega arith)
 
 -- the text of a report is one that may be written
 pub may_write : (words : List (List ℕ)) (held : Held) (old new : ℕ) (steady : Type 0) (report : Report) → CountsReport old new report → NamesFile (IsFileWord words) report → ((new ≡ old) ⊎ steady → Agrees (Answer words held) report) → MayWrite words held (old < new) (text_of report)
-may_write words held old new steady (Accepted issues cycles) same file answer = inl (0, answer (inl same))
-may_write words held old new steady (Refused line class) same file answer = inl (1, answer (inl same))
-may_write words held old new steady (NotBuilt name) same file answer = inl (2, answer (inl same))
-may_write words held old new steady (Long name) same file answer = inl (3, answer (inl same))
-may_write words held old new steady Usage same file answer = inl (4, answer (inl same))
 may_write words held old new steady Memory same file answer = inr (inl refl)
 may_write words held old new steady (File name) more file answer = inr (inr (omega arith, record { name = name.now; word = file; line = refl }))
+may_write words held old new steady _ same file answer = inl (_, answer (inl same))
 
 -- the status of a report that is an answer
 pub status_exact : (words : List (List ℕ)) (held : Held) (report : Report) → Agrees (Answer words held) report → (status : ℕ) (text : List ℕ) → Answer words held status text → (status_of report ≡ status) ⊎ (status_of report ≡ 5)
-status_exact words held (Accepted issues cycles) h status text a = inl (answer_single words held _ _ _ _ h a).0
-status_exact words held (Refused line class) h status text a = inl (answer_single words held _ _ _ _ h a).0
-status_exact words held (NotBuilt file) h status text a = inl (answer_single words held _ _ _ _ h a).0
-status_exact words held (Long file) h status text a = inl (answer_single words held _ _ _ _ h a).0
-status_exact words held Usage h status text a = inl (answer_single words held _ _ _ _ h a).0
 status_exact words held Memory h status text a = inr refl
-status_exact words held (File file) h status text a = inl (answer_single words held _ _ _ _ h a).0
+status_exact words held _ h status text a = inl (answer_single words held _ _ _ _ h a).0
+
+-- a failed file is an answer of status 6
+pub file_answer : (answer : ℕ → List ℕ → Type 0) (old new : ℕ) (report : Report) → CountsReport old new report → old < new → Agrees answer report → (text : List ℕ) × answer 6 text
+file_answer answer old new (File file) counts more h = (_, h)
+file_answer answer old new _ counts more h = absurd (omega arith)
+
+-- what is written of a report is an answer, or memory ran out
+pub completes : (words : List (List ℕ)) (held : Held) (report : Report) (old new : Option (List ℕ)) → Agrees (Answer words held) report → IsAppended old new (text_of report) → Completes words held (status_of report) old new
+completes words held Memory old new h appended = inl refl
+completes words held _ old new h appended = inr (_, h, appended)

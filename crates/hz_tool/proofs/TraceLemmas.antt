@@ -6,7 +6,7 @@ use Rattle.hz_model.specs.Lines.{lines_of}
 use Rattle.hz_model.specs.Replay as model
 use Rattle.hz_model.specs.Replay.{cycles_of}
 use Rattle.hz_model.proofs.ReplayLaws.{cycles_of-append}
-use Rattle.hz_model.specs.Straight.{event_of, events_of, StraightTrace}
+use Rattle.hz_model.specs.StraightTraces.{event_of, events_of, StraightTrace}
 use Rattle.hz_tool.specs.Trace.{capped, capped_event, cycles_in}
 
 pub cycles_of_push : (xs : List model.Event) (e : model.Event) → cycles_of (xs ++ e ∷ []) ≡ cycles_of xs + cycles_in e

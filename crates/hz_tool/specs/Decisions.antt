@@ -1,56 +1,51 @@
-use Rattle.std.specs.Prelude.{◌≡◌, ◌⊎◌, ℕ, ◌+◌, ◌<◌, ⊤, List, Option, Some, None, length, Result, MatchResult, MatchOption, Bool, true, false}
+-- What is decided before anything is written.
+use Rattle.std.specs.Prelude.{◌≡◌, ◌⊎◌, ℕ, ◌+◌, ◌<◌, ⊤, List, Option, Some, None, length, Result, MatchResult, MatchOption, MatchBool, Bool, true, false}
 use Rattle.std.specs.declared.alloc.Global.{Global}
 use Rattle.std.specs.declared.vec.Vec.{Vec}
-use Rattle.hz_model.specs.Answers.{Held, Describes, Traces, Replays}
-use Rattle.hz_model.specs.Straight.{machine_of}
+use Rattle.hz_check.specs.Faults.{limit_of, IsToldAt}
+use Rattle.hz_mdread.specs.Faults.{TellsExpression}
+use Rattle.hz_regexp.specs.declared.fault.ExprFault.{ExprFault}
+use Rattle.hz_regexp.specs.declared.fault.ExprFault.TheVariants as expr
+use Rattle.hz_tool.specs.declared.kind.ExpressionKind.{ExpressionKind}
+use Rattle.hz_model.specs.Answers.{Held}
+use Rattle.hz_model.specs.CheckFaults.{limit}
+use Rattle.hz_model.specs.DescriptionForms as description_forms
+use Rattle.hz_model.specs.Descriptions.{Description}
+use Rattle.hz_model.specs.Forms as forms
+use Rattle.hz_model.specs.Trees.{Trees}
 use Rattle.hz_model.specs.Words.{Order, replay, order_of}
-use Rattle.hz_sexp.specs.declared.fault.SexpFault.{SexpFault}
-use Rattle.hz_sexp.specs.declared.fault.SexpFault.TheVariants as fault
-use Rattle.hz_tool.specs.Reports.{text_of}
-use Rattle.hz_tool.specs.declared.replay.Outcome.{Outcome}
-use Rattle.hz_tool.specs.declared.replay.Outcome.TheVariants as outcome
+use Rattle.hz_tool.specs.Kinds.{form_fault, description_fault, expression_fault, named_fault}
+use Rattle.hz_tool.specs.Reports.{status_of, text_of}
 use Rattle.hz_tool.specs.declared.report.Report.{Report}
-use Rattle.hz_tool.specs.declared.report.Report.TheVariants.{Accepted, Refused, NotBuilt, Long, Usage, Memory, File}
+use Rattle.hz_tool.specs.declared.report.Report.TheVariants.{Fault, Expression, Named, Passed, NotBuilt, Long, Usage, Memory, File}
+
+-- the report is that memory ran out
+abbrev pub is_memory : Report → Bool
+is_memory Memory = true
+is_memory _ = false
+
+-- the report is that a file could not be read
+abbrev pub is_file : Report → Bool
+is_file (File file) = true
+is_file _ = false
 
 -- a report is what is to be answered; want of memory may come in its place
 abbrev pub Agrees : (ℕ → List ℕ → Type 0) → Report → Type 0
-Agrees answer (Accepted issues cycles) = answer 0 (text_of (Accepted issues cycles))
-Agrees answer (Refused line class) = answer 1 (text_of (Refused line class))
-Agrees answer (NotBuilt file) = answer 2 (text_of (NotBuilt file))
-Agrees answer (Long file) = answer 3 (text_of (Long file))
-Agrees answer Usage = answer 4 (text_of Usage)
-Agrees answer Memory = ⊤
-Agrees answer (File file) = answer 6 (text_of (File file))
+Agrees answer report = MatchBool (is_memory report) ⊤ (answer (status_of report) (text_of report))
 
 -- a report that a file could not be read comes with one more fault, and any other with none
 abbrev pub CountsReport : ℕ → ℕ → Report → Type 0
-CountsReport old new (Accepted issues cycles) = new ≡ old
-CountsReport old new (Refused line class) = new ≡ old
-CountsReport old new (NotBuilt file) = new ≡ old
-CountsReport old new (Long file) = new ≡ old
-CountsReport old new Usage = new ≡ old
-CountsReport old new Memory = new ≡ old
-CountsReport old new (File file) = new ≡ old + 1
+CountsReport old new report = MatchBool (is_file report) (new ≡ old + 1) (new ≡ old)
 
 -- the file of a report that it could not be read is one of these
 abbrev pub NamesFile : (List ℕ → Type 0) → Report → Type 0
-NamesFile names (Accepted issues cycles) = ⊤
-NamesFile names (Refused line class) = ⊤
-NamesFile names (NotBuilt file) = ⊤
-NamesFile names (Long file) = ⊤
-NamesFile names Usage = ⊤
-NamesFile names Memory = ⊤
 NamesFile names (File file) = names file.now
+NamesFile names _ = ⊤
 
 -- the report is not of the words
 abbrev pub IsOfOrder : Report → Type 0
-IsOfOrder (Accepted issues cycles) = ⊤
-IsOfOrder (Refused line class) = ⊤
-IsOfOrder (NotBuilt file) = ⊤
-IsOfOrder (Long file) = ⊤
 IsOfOrder Usage = ⊥
-IsOfOrder Memory = ⊤
-IsOfOrder (File file) = ⊤
+IsOfOrder _ = ⊤
 
 -- the file words of an order
 abbrev pub IsFileOf : Order → List ℕ → Type 0
@@ -83,34 +78,42 @@ WhyNotRead held name most _ = ⊤
 abbrev pub TellsFile : Held → List ℕ → ℕ → Result (Vec ℕ Global) Report → Type 0
 TellsFile held name most result = MatchResult result (λ bytes. held name ≡ Some bytes.items) (WhyNotRead held name most)
 
--- a report of judging a text: it is not built, or memory ran out
-abbrev pub IsJudgement : List ℕ → Type 0 → Report → Type 0
-IsJudgement name wrong (NotBuilt file) = (file.now ≡ name) × wrong
-IsJudgement name wrong Memory = ⊤
-IsJudgement name wrong _ = ⊥
+-- a report of the forms of a text: its first fault, or memory ran out
+abbrev pub IsFormsReport : List ℕ → List ℕ → Report → Type 0
+IsFormsReport name text (Fault file line kind) = (file.now ≡ name) × MatchOption (form_fault kind) ⊥ (λ fault. forms.FaultAt text fault line)
+IsFormsReport name text Memory = ⊤
+IsFormsReport name text _ = ⊥
 
--- what a replay's outcome must lie within: the events and the classes
-abbrev pub IsWithin : ℕ → ℕ → Outcome → Type 0
-IsWithin events classes (outcome.Accepted issues cycles) = ⊤
-IsWithin events classes (outcome.Refused event class) = (event < events) × (class < classes)
+-- the fault of an expression by its kind and place, none for want of memory
+abbrev pub IsExpressionKind : ExprFault → Option (ExpressionKind × ℕ) → Type 0
+IsExpressionKind fault found = MatchOption found (fault ≡ expr.NoMemory) (λ k. TellsExpression (λ kind at. (kind ≡ expression_fault k.0) × (at ≡ k.1)) fault)
 
--- the fault is want of memory
-abbrev pub is_no_memory : SexpFault → Bool
-is_no_memory fault.NoMemory = true
-is_no_memory _ = false
+-- a report of the description that forms say: the first fault of a form, or memory ran out
+abbrev pub IsDescriptionReport : List ℕ → Trees → Report → Type 0
+IsDescriptionReport name read (Fault file line kind) = (file.now ≡ name) × MatchOption (description_fault kind) ⊥ (λ fault. description_forms.FaultAt read fault line)
+IsDescriptionReport name read (Expression file line kind at) = (file.now ≡ name) × description_forms.FaultAt read (description_forms.bad_expression (expression_fault kind) at) line
+IsDescriptionReport name read Memory = ⊤
+IsDescriptionReport name read _ = ⊥
 
--- what judging both texts and replaying answers
-abbrev pub Judges : List ℕ → List ℕ → List ℕ → List ℕ → ℕ → List ℕ → Type 0
-Judges description described trace traced =
-    Describes description described (λ d. Traces d trace traced (λ events. Replays (machine_of d) events))
+-- a report of a description that is checked: the fault that is told, or memory ran out
+abbrev pub IsCheckReport : List ℕ → Description → Report → Type 0
+IsCheckReport name d (Named file line kind at) = (file.now ≡ name) × IsToldAt d (named_fault kind) line at
+IsCheckReport name d (Passed file line what at) = (file.now ≡ name) × IsToldAt d (limit (limit_of what)) line at
+IsCheckReport name d Memory = ⊤
+IsCheckReport name d _ = ⊥
+
+-- a report of judging a trace: it is not built, or memory ran out
+abbrev pub IsTraceReport : List ℕ → Type 0 → Report → Type 0
+IsTraceReport name wrong (NotBuilt file) = (file.now ≡ name) × wrong
+IsTraceReport name wrong Memory = ⊤
+IsTraceReport name wrong _ = ⊥
 
 -- a report of texts that were judged
 abbrev pub IsJudged : Report → Type 0
-IsJudged (Accepted issues cycles) = ⊤
-IsJudged (Refused line class) = ⊤
-IsJudged (NotBuilt file) = ⊤
-IsJudged Memory = ⊤
-IsJudged _ = ⊥
+IsJudged (Long file) = ⊥
+IsJudged Usage = ⊥
+IsJudged (File file) = ⊥
+IsJudged _ = ⊤
 
 -- the report is the usage line exactly where the words are no order
 abbrev pub ReportsWords : Option Order → Report → Type 0

@@ -1,26 +1,45 @@
-use Rattle.std.specs.Prelude.{◌≡◌, ℕ, ◌+◌, ◌<◌, ◌↔◌, List, [], ◌∷◌, slice_index_or, slice_get, length, Bool, MatchBool, Some}
+-- The replay by one grid of the present and planned cycles.
+use Rattle.std.specs.Prelude.{◌≡◌, ℕ, ◌+◌, ◌<◌, ◌↔◌, List, [], map, slice_index_or, slice_get, length, Bool, MatchBool, Some, ⊤}
 use Rattle.std.specs.List.{Contains}
+use Rattle.std.specs.Borrow.{Bor}
 use Rattle.hz_model.specs.Pairs.{Pair}
-use Rattle.hz_model.specs.Alternatives.{Alternative}
-use Rattle.hz_model.specs.Replay.{Machine, State, Step, Plays, IsPlayable, start, alternatives_at}
+use Rattle.hz_model.specs.Fitting.{IsFuture, IsUnbroken, AskTheSame}
+use Rattle.hz_model.specs.Replay.{Machine, State, Step, Plays, IsPlayable, start, alternatives_at, first_fit}
 use Rattle.hz_model.specs.Replay as model
+use Rattle.hz_model.specs.Sets.{Statement, Fits}
+use Rattle.hz_grid.specs.Grids.{IsUnion}
 use Rattle.hz_tool.specs.declared.replay.Outcome.{Outcome}
 use Rattle.hz_tool.specs.declared.replay.Outcome.TheVariants.{Accepted, Refused}
 
--- the one alternative is this grid's pairs
-pub record IsGridOf (grid : List (Pair ℕ)) (alternatives : List (Alternative ℕ)) : Type 0 where
-  pub alternative : Alternative ℕ
-  pub only : alternatives ≡ alternative ∷ []
-  pub pairs : (p : Pair ℕ) → Contains grid p ↔ Contains alternative.pairs p
+-- Grids, as lists of pairs: those of each class, by its number
+abbrev pub Lists : Type 0
+Lists = List (List (List (Pair ℕ)))
 
--- grids stand for the classes of a machine with no set statements
-pub record AreGridsOf (grids : List (List (Pair ℕ))) (m : Machine ℕ) : Type 0 where
-  pub free : m.statements ≡ []
-  pub classes : (k : ℕ) → k < length grids → IsGridOf (slice_index_or grids k []) (alternatives_at m k)
+-- the lists that are borrowed
+abbrev pub lists_in : List (Bor (List (List (Pair ℕ)))) → Lists
+lists_in lists = map (λ list. list.now) lists
 
--- the grid is what stands reserved at the present cycle or later, with cycles counted from the present one
-pub record IsFuture (grid : List (Pair ℕ)) (s : State ℕ) : Type 0 where
-  pub pairs : (unit cycle : ℕ) → Contains grid (record { unit = unit; cycle = cycle }) ↔ Contains s.reserved (record { unit = unit; cycle = s.now + cycle })
+-- The lists of grids are those of a machine's classes in the first treatment, and the statements are the machine's.
+pub record AreListsOf (rules : List (Statement ℕ)) (lists : Lists) (m : Machine ℕ) : Type 0 where
+  pub statements : AskTheSame rules m.statements
+  pub first : m.treatment ≡ first_fit
+  pub classes : (k : ℕ) → k < length lists → map (λ a. a.pairs) (alternatives_at m k) ≡ slice_index_or lists k []
+
+-- no grid of the list fits
+abbrev pub NoneFits : List (Statement ℕ) → List (Pair ℕ) → List (List (Pair ℕ)) → Type 0
+NoneFits rules present grids = (j : ℕ) → j < length grids → Fits rules present (slice_index_or grids j []) 0 → ⊥
+
+-- the grid of this number is the first of the list that fits
+pub record FirstFits (rules : List (Statement ℕ)) (present : List (Pair ℕ)) (grids : List (List (Pair ℕ))) (i : ℕ) : Type 0 where
+  pub within : i < length grids
+  pub fits : Fits rules present (slice_index_or grids i []) 0
+  pub first : (j : ℕ) → j < i → Fits rules present (slice_index_or grids j []) 0 → ⊥
+
+-- the first grid that fits is taken
+pub record Takes (rules : List (Statement ℕ)) (present : List (Pair ℕ)) (grids : List (List (Pair ℕ))) (new : List (Pair ℕ)) : Type 0 where
+  pub number : ℕ
+  pub first : FirstFits rules present grids number
+  pub union : IsUnion present (slice_index_or grids number []) new
 
 -- the new grid has the pairs that stand so many cycles later in the old one
 abbrev pub IsAdvancedBy : ℕ → List (Pair ℕ) → List (Pair ℕ) → Type 0
@@ -35,9 +54,10 @@ pub record PlaysTo (m : Machine ℕ) (s : State ℕ) (e : model.Event) (grid : L
 abbrev pub PlaysEvent : Machine ℕ → State ℕ → model.Event → Bool → List (Pair ℕ) → Type 0
 PlaysEvent m s e fits grid = MatchBool fits (PlaysTo m s e grid) ((s' : State ℕ) → Step m s e s' → ⊥)
 
--- the same from every state of which the old grid is the future
-abbrev pub PlaysFrom : List (List (Pair ℕ)) → List (Pair ℕ) → model.Event → Bool → List (Pair ℕ) → Type 0
-PlaysFrom grids old e fits new = (m : Machine ℕ) → AreGridsOf grids m → (s : State ℕ) → IsFuture old s → PlaysEvent m s e fits new
+-- the same from every state of which the old grid is the future, where no exclusion is broken
+abbrev pub PlaysFrom : List (Statement ℕ) → Lists → List (Pair ℕ) → model.Event → Bool → List (Pair ℕ) → Type 0
+PlaysFrom rules lists old e fits new =
+    (m : Machine ℕ) → AreListsOf rules lists m → (s : State ℕ) → IsFuture old s → IsUnbroken m.statements s.reserved → PlaysEvent m s e fits new
 
 -- the events can be run, and wherever they lead the grid is the future
 pub record Follows (m : Machine ℕ) (done : List model.Event) (grid : List (Pair ℕ)) : Type 0 where
@@ -45,6 +65,11 @@ pub record Follows (m : Machine ℕ) (done : List model.Event) (grid : List (Pai
   pub future : (s : State ℕ) → Plays m start done s → IsFuture grid s
 
 -- what a replay of events answers
-abbrev pub IsOutcome : Machine ℕ → List model.Event → Outcome → Type 0
+abbrev pub IsOutcome : {U : Type 0} → Machine U → List model.Event → Outcome → Type 0
 IsOutcome m events (Accepted issues cycles) = model.Accepted m events × (issues ≡ model.issues_of events) × (cycles ≡ model.cycles_of events)
 IsOutcome m events (Refused event class) = model.FirstRefused m events event × (slice_get events event ≡ Some (model.issue class))
+
+-- what a replay's outcome must lie within: the events and the classes
+abbrev pub IsWithin : ℕ → ℕ → Outcome → Type 0
+IsWithin events classes (Accepted issues cycles) = ⊤
+IsWithin events classes (Refused event class) = (event < events) × (class < classes)

@@ -1,143 +1,181 @@
-//! The texts judged, and the replay of the trace.
+//! The texts judged, one phase after the other; the first that refuses gives the report.
 
-ghost use Rattle.std.specs.Prelude.{◌≡◌, ◌^◌, ◌<◌, ◌≤◌, IfOk, IfErr, length, slice_get, Some};
-ghost use Rattle.hz_model.specs.Answers.{Replays};
+ghost use Rattle.std.specs.Prelude.{◌≡◌, ◌^◌, ◌<◌, ◌≤◌, IfOk, IfErr, IsTrue, length};
+ghost use Rattle.hz_model.specs.DescriptionForms as description_forms;
+ghost use Rattle.hz_model.specs.DescriptionShape.{IsWellFormed};
+ghost use Rattle.hz_model.specs.Forms as forms;
 ghost use Rattle.hz_model.specs.Limits.{class_limit};
-ghost use Rattle.hz_model.specs.Straight as model;
-ghost use Rattle.hz_tool.specs.Decisions.{Agrees, IsJudgement, IsJudged, IsWithin, Judges, is_no_memory};
-ghost use Rattle.hz_tool.specs.Replay.{IsOutcome};
+ghost use Rattle.hz_model.specs.StraightTraces.{StraightTrace};
+ghost use Rattle.hz_check.specs.Checked.{IsCheckedOf, IsWithinLimits};
+ghost use Rattle.hz_mdread.specs.Shape.{description};
+ghost use Rattle.hz_sexp.specs.Shape.{trees};
+ghost use Rattle.hz_tool.specs.Decisions.{IsFormsReport, IsExpressionKind, IsDescriptionReport, IsCheckReport, IsTraceReport};
 ghost use Rattle.hz_tool.specs.Names.{names_in};
-ghost use Rattle.hz_tool.specs.Straight.{Stands, IsTraceOf};
 ghost use Rattle.hz_tool.specs.Trace.{events_in, IsNoTrace};
 ghost use Rattle.indexmap.specs.IndexSet.{index_set_len};
 
 use super::early::Early;
-use super::replay::{Outcome, replay};
+use super::kind::{ExpressionKind, Kind, NamedKind};
 use super::report::Report;
-use super::straight::{Description, describe};
 use super::trace::{Event, read_trace};
-use super::words::ReplayOrder;
-use hz_sexp::{SexpFault, read_forms};
+use hz_check::{CheckFault, Checked, check};
+use hz_mdread::{Description, MdFault, read_description};
+use hz_regexp::{ExprFault, Name};
+use hz_sexp::{Form, SexpFault, read_forms};
 use indexmap::IndexSet;
-use std::alloc::{AllocError, Global};
+use std::alloc::Global;
 
-/// Whether reading stopped for want of memory.
-fn is_no_memory(fault: &SexpFault) -> bool
-    ensures { result ≡ is_no_memory fault.now }
+/// The forms of a text, or the report of its first fault.
+pub fn judge_forms<'a>(alloc: Global, file: &'a str, text: &[u8]) -> Result<Vec<Form>, Report<'a>>
+    requires { length text.now < 2 ^ 32 }
+    ensures ok { IfOk result (λ read. forms.Reads text.now (trees read.items)) }
+    ensures err { IfErr result (IsFormsReport file.entry.now text.now) }
+{
+    let (line, kind) = match read_forms(alloc, text) {
+        Ok(read) => return Ok(read),
+        Err(SexpFault::Unclosed { line }) => (line, Kind::Unclosed),
+        Err(SexpFault::Stray { line }) => (line, Kind::Stray),
+        Err(SexpFault::BadEscape { line }) => (line, Kind::BadEscape),
+        Err(SexpFault::TooDeep { line }) => (line, Kind::TooDeep),
+        Err(SexpFault::BadByte { line }) => (line, Kind::BadByte),
+        Err(SexpFault::NumberTooLarge { line }) => (line, Kind::NumberTooLarge),
+        Err(SexpFault::NoMemory) => return Err(Report::Memory),
+    };
+    Err(Report::Fault { file, line, kind })
+}
+
+/// What is wrong with an expression, and at which byte of its string. None for want of memory.
+fn expression_kind(fault: ExprFault) -> Option<(ExpressionKind, u32)>
+    ensures { IsExpressionKind fault result }
 {
     match fault {
-        SexpFault::NoMemory => true,
-        _ => false,
+        ExprFault::Unexpected { at } => Some((ExpressionKind::Unexpected, at)),
+        ExprFault::Empty { at } => Some((ExpressionKind::Empty, at)),
+        ExprFault::RepeatZero { at } => Some((ExpressionKind::RepeatZero, at)),
+        ExprFault::TooDeep { at } => Some((ExpressionKind::TooDeep, at)),
+        ExprFault::NumberTooLarge { at } => Some((ExpressionKind::NumberTooLarge, at)),
+        ExprFault::NoMemory => None,
     }
 }
 
-/// The description that a text is, or the report that it is not built.
+/// The description that forms say, or the report of the first fault of a form.
 pub fn judge_description<'a>(
     alloc: Global,
-    name: &'a str,
-    text: &[u8],
+    file: &'a str,
+    read: &[Form],
 ) -> Result<Description, Report<'a>>
-    requires { length text.now < 2 ^ 32 }
-    ensures ok { IfOk result (λ d. (of : model.Description) × model.Straight text.now of × Stands d of) }
-    ensures err { IfErr result (IsJudgement name.entry.now ((d : model.Description) → model.Straight text.now d → ⊥)) }
+    requires count { description_forms.form_count (trees read.now) < 2 ^ 32 }
+    requires strings { IsTrue (description_forms.strings_below (2 ^ 32) (trees read.now)) }
+    ensures ok { IfOk result (λ d. description_forms.Reads (trees read.now) (description d)) }
+    ensures formed { IfOk result (λ d. IsWellFormed (description d)) }
+    ensures err { IfErr result (IsDescriptionReport file.entry.now (trees read.now)) }
 {
-    match read_forms(alloc, text) {
-        Ok(forms) => match describe(alloc, forms.as_slice()) {
-            Ok(description) => Ok(description),
-            Err(Early::NotBuilt) => Err(Report::NotBuilt { file: name }),
-            Err(Early::NoMemory) => Err(Report::Memory),
-        },
-        Err(fault) => {
-            if is_no_memory(&fault) {
-                Err(Report::Memory)
-            } else {
-                Err(Report::NotBuilt { file: name })
+    let (line, kind) = match read_description(alloc, read) {
+        Ok(description) => return Ok(description),
+        Err(MdFault::UnknownForm { line }) => (line, Kind::UnknownForm),
+        Err(MdFault::BadShape { line }) => (line, Kind::BadShape),
+        Err(MdFault::BadCondition { line }) => (line, Kind::BadCondition),
+        Err(MdFault::UnknownOption { line }) => (line, Kind::UnknownOption),
+        Err(MdFault::LatencyLimit { line }) => (line, Kind::LatencyLimit),
+        Err(MdFault::UnknownGuard { line }) => (line, Kind::UnknownGuard),
+        Err(MdFault::BadExpression { line, fault }) => match expression_kind(fault) {
+            Some((kind, at)) => {
+                return Err(Report::Expression {
+                    file,
+                    line,
+                    kind,
+                    at,
+                });
             }
+            None => return Err(Report::Memory),
+        },
+        Err(MdFault::NoMemory) => return Err(Report::Memory),
+    };
+    Err(Report::Fault { file, line, kind })
+}
+
+/// The report of a fault of a name.
+fn named<'a>(file: &'a str, kind: NamedKind, line: u32, name: Name) -> Report<'a>
+    ensures { result ≡ Report.Named file.entry line kind name }
+{
+    Report::Named {
+        file,
+        line,
+        kind,
+        name,
+    }
+}
+
+/// The description without a fault, or the report of the fault that is told.
+pub fn judge_check<'a>(
+    alloc: Global,
+    file: &'a str,
+    described: Description,
+) -> Result<Checked, Report<'a>>
+    requires { IsWellFormed (description described) }
+    ensures ok { IfOk result (IsCheckedOf (description described)) }
+    ensures within { IfOk result IsWithinLimits }
+    ensures err { IfErr result (IsCheckReport file.entry.now (description described)) }
+{
+    match check(alloc, described) {
+        Ok(checked) => Ok(checked),
+        Err(CheckFault::TwiceDefined { line, name }) => {
+            Err(named(file, NamedKind::TwiceDefined, line, name))
         }
+        Err(CheckFault::ReservedName { line, name }) => {
+            Err(named(file, NamedKind::ReservedName, line, name))
+        }
+        Err(CheckFault::UnknownName { line, name }) => {
+            Err(named(file, NamedKind::UnknownName, line, name))
+        }
+        Err(CheckFault::UnknownAutomaton { line, name }) => {
+            Err(named(file, NamedKind::UnknownAutomaton, line, name))
+        }
+        Err(CheckFault::UnitNeedsAutomaton { line, name }) => {
+            Err(named(file, NamedKind::UnitNeedsAutomaton, line, name))
+        }
+        Err(CheckFault::CircularReservation { line, name }) => {
+            Err(named(file, NamedKind::CircularReservation, line, name))
+        }
+        Err(CheckFault::SelfExclusion { line, name }) => {
+            Err(named(file, NamedKind::SelfExclusion, line, name))
+        }
+        Err(CheckFault::SetAcrossAutomata { line, name }) => {
+            Err(named(file, NamedKind::SetAcrossAutomata, line, name))
+        }
+        Err(CheckFault::BypassTwice { line, name }) => {
+            Err(named(file, NamedKind::BypassTwice, line, name))
+        }
+        Err(
+            CheckFault::Limit {
+                what: limit,
+                line,
+                name,
+            },
+        ) => Err(Report::Passed {
+            file,
+            line,
+            limit,
+            name,
+        }),
+        Err(CheckFault::NoMemory) => Err(Report::Memory),
     }
 }
 
 /// The events that a text is, or the report that it is not built.
 pub fn judge_trace<'a>(
     alloc: Global,
-    name: &'a str,
+    file: &'a str,
     classes: &IndexSet<Vec<u8>>,
     text: &[u8],
 ) -> Result<Vec<Event>, Report<'a>>
     requires { index_set_len classes.now ≤ class_limit }
-    ensures ok { IfOk result (λ events. model.StraightTrace (names_in classes.now.keys) text.now (events_in events.items)) }
-    ensures err { IfErr result (IsJudgement name.entry.now (IsNoTrace (names_in classes.now.keys) text.now)) }
+    ensures ok { IfOk result (λ events. StraightTrace (names_in classes.now.keys) text.now (events_in events.items)) }
+    ensures err { IfErr result (IsTraceReport file.entry.now (IsNoTrace (names_in classes.now.keys) text.now)) }
 {
     match read_trace(alloc, classes, text) {
         Ok(events) => Ok(events),
-        Err(Early::NotBuilt) => Err(Report::NotBuilt { file: name }),
+        Err(Early::NotBuilt) => Err(Report::NotBuilt { file }),
         Err(Early::NoMemory) => Err(Report::Memory),
-    }
-}
-
-/// A copy of the name of a class.
-fn class_name(alloc: Global, names: &IndexSet<Vec<u8>>, class: u32) -> Result<Vec<u8>, AllocError>
-    requires { class < index_set_len names.now }
-    ensures { IfOk result (λ name. slice_get (names_in names.now.keys) class ≡ Some name.items) }
-{
-    match names.get_index(class as usize) {
-        Some(name) => Vec::from_slice(alloc, name.as_slice()),
-        None => unreachable!(),
-    }
-}
-
-/// The report of a replay's outcome.
-fn outcome_report<'a>(
-    alloc: Global,
-    names: &IndexSet<Vec<u8>>,
-    events: &[Event],
-    outcome: Outcome,
-) -> Report<'a>
-    requires { IsWithin (length events.now) (index_set_len names.now) outcome }
-    ensures kind { IsJudged result }
-    ensures answer { (of : model.Description) → names_in names.now.keys ≡ model.class_names of → IsOutcome (model.machine_of of) (events_in events.now) outcome → Agrees (Replays (model.machine_of of) (events_in events.now)) result }
-{
-    match outcome {
-        Outcome::Accepted { issues, cycles } => Report::Accepted { issues, cycles },
-        Outcome::Refused { event, class } => match class_name(alloc, names, class) {
-            Ok(class) => Report::Refused {
-                line: event as u64 + 1,
-                class,
-            },
-            Err(_) => Report::Memory,
-        },
-    }
-}
-
-/// The report of the replay of events.
-fn replay_report<'a>(alloc: Global, description: &Description, events: &[Event]) -> Report<'a>
-    requires { IsTraceOf description.now (events_in events.now) }
-    ensures kind { IsJudged result }
-    ensures answer { (of : model.Description) → Stands description.now of → Agrees (Replays (model.machine_of of) (events_in events.now)) result }
-{
-    match replay(alloc, description.grids.as_slice(), events) {
-        Ok(outcome) => outcome_report(alloc, &description.names, events, outcome),
-        Err(_) => Report::Memory,
-    }
-}
-
-/// The report of both texts, the description judged first.
-pub fn judge<'a>(
-    alloc: Global,
-    order: ReplayOrder<'a>,
-    description: &[u8],
-    trace: &[u8],
-) -> Report<'a>
-    requires { length description.now < 2 ^ 32 }
-    ensures kind { IsJudged result }
-    ensures answer { Agrees (Judges order.entry.description.now description.now order.entry.trace.now trace.now) result }
-{
-    let described = match judge_description(alloc, order.description, description) {
-        Ok(described) => described,
-        Err(report) => return report,
-    };
-    match judge_trace(alloc, order.trace, &described.names, trace) {
-        Ok(events) => replay_report(alloc, &described, events.as_slice()),
-        Err(report) => report,
     }
 }

@@ -1,16 +1,16 @@
 //! The replay of events by one grid of the present and planned cycles.
 
-ghost use Rattle.std.specs.Prelude.{◌≡◌, ℕ, ◌+◌, ◌<◌, ◌≤◌, ◌⊎◌, length, List, [], ◌∷◌, All, IfOk, OnOk, MatchOption, IfSome, is_none};
+ghost use Rattle.std.specs.Prelude.{◌≡◌, ℕ, ◌+◌, ◌<◌, ◌≤◌, ◌⊎◌, length, List, [], ◌∷◌, All, IfOk, OnOk, MatchOption, IfSome, IsSome, is_none};
 ghost use Rattle.hz_model.specs.Limits.{advance_limit};
 ghost use Rattle.hz_model.specs.Replay.{Machine, issue, issues_of, cycles_of};
-ghost use Rattle.hz_grid.specs.Grids.{Meets, IsUnion, IsAdvanced};
+ghost use Rattle.hz_grid.specs.Grids.{IsAdvanced};
 ghost use Rattle.hz_tool.specs.Trace.{event as event_lem, events_in, issues_in, cycles_in};
-ghost use Rattle.hz_tool.specs.Decisions.{IsWithin};
-ghost use Rattle.hz_tool.specs.Replay.{AreGridsOf, IsAdvancedBy, PlaysFrom, IsOutcome};
+ghost use Rattle.hz_tool.specs.Replay.{lists_in, AreListsOf, NoneFits, FirstFits, Takes, IsAdvancedBy, PlaysFrom, IsOutcome, IsWithin};
 ghost use Rattle.hz_model.specs.Replay.{IsOfClass};
 
 use super::trace::Event;
 use hz_grid::{Grid, NoMemory};
+use hz_unitsets::Rules;
 use std::alloc::Global;
 
 /// What a replay answers.
@@ -31,33 +31,52 @@ fn advance_by(present: &mut Grid, cycles: u32)
     }
 }
 
-/// The grid with the pairs of both, None where they meet.
-fn joined(alloc: Global, present: &Grid, added: &Grid) -> Result<Option<Grid>, NoMemory>
-    ensures { IfOk result (λ grid. MatchOption grid (Meets present.now added.now) (λ union. IsUnion present.now added.now union × (Meets present.now added.now → ⊥))) }
+/// The number of the first grid that fits the present and planned cycles.
+fn first_fit(rules: &Rules, present: &Grid, grids: &[Grid]) -> Option<usize>
+    ensures { MatchOption result (NoneFits rules.now present.now grids.now) (FirstFits rules.now present.now grids.now) }
 {
-    if present.meets(added) {
-        return Ok(None);
+    for (number, grid) in grids.iter().enumerate() {
+        if rules.fits(present, grid) {
+            return Some(number);
+        }
     }
-    Ok(Some(present.with(alloc, added)?))
+    None
+}
+
+/// The grid with the pairs of the first of these that fits, None where none does.
+fn taken(
+    alloc: Global,
+    rules: &Rules,
+    present: &Grid,
+    grids: &[Grid],
+) -> Result<Option<Grid>, NoMemory>
+    ensures { IfOk result (λ grid. MatchOption grid (NoneFits rules.now present.now grids.now) (Takes rules.now present.now grids.now)) }
+{
+    match first_fit(rules, present, grids) {
+        Some(number) => Ok(Some(present.with(alloc, &grids[number])?)),
+        None => Ok(None),
+    }
 }
 
 /// Plays one event on the grid of the present and planned cycles. None where it fits, else the class whose issue does not.
 fn play(
     alloc: Global,
-    grids: &[Grid],
+    rules: &Rules,
+    lists: &[&[Grid]],
     present: &mut Grid,
     event: Event,
 ) -> Result<Option<u32>, NoMemory>
-    requires { IsOfClass (length grids.now) (event_lem event) }
-    ensures played { IfOk result (λ refused. PlaysFrom grids.now present.old (event_lem event) (is_none refused) present.new) }
+    requires { IsOfClass (length lists.now) (event_lem event) }
+    ensures played { IfOk result (λ refused. PlaysFrom rules.now (lists_in lists.now) present.old (event_lem event) (is_none refused) present.new) }
     ensures class { IfOk result (λ refused. IfSome refused (λ k. event_lem event ≡ issue k)) }
+    ensures kept { IfOk result (λ refused. IsSome refused → present.new ≡ present.old) }
 {
     match event {
         Event::Advance(cycles) => {
             advance_by(present, cycles);
             Ok(None)
         }
-        Event::Issue(class) => match joined(alloc, present, &grids[class as usize])? {
+        Event::Issue(class) => match taken(alloc, rules, present, lists[class as usize])? {
             Some(grid) => {
                 *present = grid;
                 Ok(None)
@@ -110,17 +129,22 @@ fn cycle_count(events: &[Event]) -> u64
     count
 }
 
-/// Replays events from the empty calendar, where the grids are those of the classes by number. The answer is right for
-/// each machine that the grids stand for.
-pub fn replay(alloc: Global, grids: &[Grid], events: &[Event]) -> Result<Outcome, NoMemory>
-    requires classes { All (IsOfClass (length grids.now)) (events_in events.now) }
+/// Replays events from the empty calendar: each issue takes the first grid of its class's list that fits under the
+/// rules. The answer is right for each machine whose lists and statements these are.
+pub fn replay(
+    alloc: Global,
+    rules: &Rules,
+    lists: &[&[Grid]],
+    events: &[Event],
+) -> Result<Outcome, NoMemory>
+    requires classes { All (IsOfClass (length lists.now)) (events_in events.now) }
     requires short { cycles_of (events_in events.now) ≤ advance_limit }
-    ensures right { IfOk result (λ outcome. (m : Machine ℕ) → AreGridsOf grids.now m → IsOutcome m (events_in events.now) outcome) }
-    ensures within { IfOk result (IsWithin (length events.now) (length grids.now)) }
+    ensures right { IfOk result (λ outcome. (m : Machine ℕ) → AreListsOf rules.now (lists_in lists.now) m → IsOutcome m (events_in events.now) outcome) }
+    ensures within { IfOk result (IsWithin (length events.now) (length lists.now)) }
 {
     let mut present = Grid::empty(alloc);
     for (place, event) in events.iter().enumerate() {
-        if let Some(class) = play(alloc, grids, &mut present, *event)? {
+        if let Some(class) = play(alloc, rules, lists, &mut present, *event)? {
             return Ok(Outcome::Refused {
                 event: place,
                 class,

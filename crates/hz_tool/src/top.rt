@@ -9,7 +9,7 @@ ghost use Rattle.hz_tool.specs.Decisions.{Agrees, CountsReport, NamesFile, IsOfO
 ghost use Rattle.hz_tool.specs.Endings.{IsAppended, AppendsFile, Completes, IsCutShort};
 ghost use Rattle.hz_tool.specs.Words.{words_in};
 
-use super::judging::judge;
+use super::phases::judge;
 use super::read::read_file;
 use super::report::Report;
 use super::words::{ReplayOrder, order_of};
@@ -38,7 +38,7 @@ fn decide_replay<'a, F: Files>(alloc: Global, order: ReplayOrder<'a>, files: &mu
         Ok(trace) => trace,
         Err(report) => return report,
     };
-    judge(alloc, order, description.as_slice(), trace.as_slice())
+    judge(alloc, &order, description.as_slice(), trace.as_slice())
 }
 
 /// The report of the words.

@@ -4,7 +4,7 @@ use Rattle.std.proofs.lemmas.List.{length-map, get_or-map}
 use Rattle.hz_model.specs.Replay as model
 use Rattle.hz_tool.specs.declared.trace.Event.TheVariants.{Issue}
 use Rattle.hz_tool.specs.Trace.{event, events_in}
-use Rattle.hz_tool.specs.Replay.{PlaysFrom, Follows}
+use Rattle.hz_tool.specs.Replay.{lists_in, PlaysFrom, Follows}
 use Rattle.hz_model.specs.Replay.{IsOfClass}
 use Rattle.hz_tool.proofs.EventLemmas.{event_at, events_more, follows_more, first_refused, all_played, event_there}
 use Rattle.hz_tool.proofs.replay.replay.Goals as goal
@@ -15,14 +15,14 @@ play-requires c =
     let i = c.loop-place.place in
     let inside : i < length es = omega arith in
     let long = length-map es event in
-    subst (IsOfClass (length c.args.grids.now)) (get_or-map event es i (Issue 0) (model.issue 0) inside) (All-get_or (IsOfClass (length c.args.grids.now)) (events_in es) i (model.issue 0) (omega arith) c.requires.classes)
+    subst (IsOfClass (length c.args.lists.now)) (get_or-map event es i (Issue 0) (model.issue 0) inside) (All-get_or (IsOfClass (length c.args.lists.now)) (events_in es) i (model.issue 0) (omega arith) c.requires.classes)
 
 pub returns-in-Some-clause-right : goal.returns-in-Some-clause-right
 returns-in-Some-clause-right c = λ m are.
     let es = c.args.events.now in
     let i = c.loop-place.place in
     let inside : i < length es = omega arith in
-    let refused = subst (λ (o : Option ℕ). PlaysFrom c.args.grids.now c.loop-place.present (event_at es i) (is_none o) c.play.new.present) c.in-Some.is c.in_ok-class.ensures.played in
+    let refused = subst (λ (o : Option ℕ). PlaysFrom c.args.rules.now (lists_in c.args.lists.now) c.loop-place.present (event_at es i) (is_none o) c.play.new.present) c.in-Some.is c.in_ok-class.ensures.played in
     let class = subst (λ (o : Option ℕ). IfSome o (λ k. event_at es i ≡ model.issue k)) c.in-Some.is c.in_ok-class.ensures.class in (
       first_refused m es i c.loop-place.present inside (c.loop-place.invariant m are) (refused m are),
       event_there es i inside ∙ ap Some class,
@@ -33,7 +33,7 @@ loop-place-preserved c = λ m are.
     let es = c.args.events.now in
     let i = c.loop-place.place in
     let inside : i < length es = omega arith in
-    let played = subst (λ (o : Option ℕ). PlaysFrom c.args.grids.now c.loop-place.present (event_at es i) (is_none o) c.play.new.present) c.in_default.is c.in_ok-class.ensures.played in
+    let played = subst (λ (o : Option ℕ). PlaysFrom c.args.rules.now (lists_in c.args.lists.now) c.loop-place.present (event_at es i) (is_none o) c.play.new.present) c.in_default.is c.in_ok-class.ensures.played in
     subst (λ (t : List model.Event). Follows m t c.play.new.present) (sym (events_more es i inside))
     (follows_more m (events_in (take i es)) (event_at es i) c.loop-place.present c.play.new.present (c.loop-place.invariant m are) (played m are))
 
@@ -51,5 +51,5 @@ returns-in-Some-clause-within c =
     let inside : i < length es = omega arith in
     let long = length-map es event in
     let class = subst (λ (o : Option ℕ). IfSome o (λ k. event_at es i ≡ model.issue k)) c.in-Some.is c.in_ok-class.ensures.class in
-    let known = subst (IsOfClass (length c.args.grids.now)) (get_or-map event es i (Issue 0) (model.issue 0) inside) (All-get_or (IsOfClass (length c.args.grids.now)) (events_in es) i (model.issue 0) (omega arith) c.requires.classes) in
-    (inside, subst (IsOfClass (length c.args.grids.now)) class known)
+    let known = subst (IsOfClass (length c.args.lists.now)) (get_or-map event es i (Issue 0) (model.issue 0) inside) (All-get_or (IsOfClass (length c.args.lists.now)) (events_in es) i (model.issue 0) (omega arith) c.requires.classes) in
+    (inside, subst (IsOfClass (length c.args.lists.now)) class known)

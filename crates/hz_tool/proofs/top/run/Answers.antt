@@ -1,5 +1,7 @@
-use Rattle.std.proofs.Common.{◌≡◌, ◌⊎◌, ℕ, sym, subst, ◌∙◌}
-use Rattle.hz_tool.proofs.RunLemmas.{says_file, may_write, status_exact}
+use Rattle.std.proofs.Common.{◌≡◌, ◌⊎◌, ℕ, inr, sym, subst, ◌∙◌}
+use Rattle.hz_model.specs.Answers.{Answer}
+use Rattle.hz_tool.proofs.RunLemmas.{says_file, may_write, status_exact, file_answer, completes}
+use Rattle.hz_tool.specs.Endings.{Completes}
 use Rattle.hz_tool.specs.Words.{words_in}
 use Rattle.hz_tool.proofs.top.run.Goals as goal
 
@@ -24,3 +26,16 @@ returns-clause-cut g c = λ held told seven. record {
 pub returns-in-Ok-clause-exact : goal.returns-in-Ok-clause-exact
 returns-in-Ok-clause-exact g c = λ held told same which status text a.
     subst (λ (n : ℕ). (n ≡ status) ⊎ (n ≡ 5)) (sym c.status.ensures) (status_exact (words_in c.args.words.now) held c.decide-report.result (c.decide-report.ensures.answer held told which) status text a)
+
+pub returns-in-Ok-clause-lacks : goal.returns-in-Ok-clause-lacks
+returns-in-Ok-clause-lacks g c = λ held told steady more.
+    file_answer (Answer (words_in c.args.words.now) held) (g.F.Files.faults c.args.files.now) _ c.decide-report.result c.decide-report.ensures.counts more (c.decide-report.ensures.answer held told (inr steady))
+
+pub returns-in-Ok-clause-complete : goal.returns-in-Ok-clause-complete
+returns-in-Ok-clause-complete g c = λ held told same which.
+    subst (λ (n : ℕ). Completes (words_in c.args.words.now) held n (g.S.Sink.written c.args.out.now) (g.S.Sink.written c.write.new.out)) (sym c.status.ensures)
+    (completes (words_in c.args.words.now) held c.decide-report.result _ _ (c.decide-report.ensures.answer held told which) c.in-Ok.ensures.appended)
+
+pub returns-clause-lacks : goal.returns-clause-lacks
+returns-clause-lacks g c = λ held told steady more.
+    file_answer (Answer (words_in c.args.words.now) held) (g.F.Files.faults c.args.files.now) _ c.decide-report.result c.decide-report.ensures.counts more (c.decide-report.ensures.answer held told (inr steady))

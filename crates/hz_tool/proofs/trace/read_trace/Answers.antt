@@ -5,7 +5,7 @@ use Rattle.hz_model.specs.Lines.{lines_of}
 use Rattle.hz_model.specs.Replay as model
 use Rattle.hz_model.specs.Limits.{advance_limit}
 use Rattle.hz_model.specs.Replay.{cycles_of}
-use Rattle.hz_model.specs.Straight.{event_of, events_of}
+use Rattle.hz_model.specs.StraightTraces.{event_of, events_of}
 use Rattle.hz_tool.specs.Names.{names_in}
 use Rattle.hz_tool.specs.Trace.{event, events_in, cycles_in}
 use Rattle.hz_tool.proofs.TraceLemmas.{event_whole, told_step, too_far, cycles_of_push}

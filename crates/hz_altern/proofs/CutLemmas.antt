@@ -1,0 +1,113 @@
+-- Alternatives cut down to an automaton, as lists and as grids.
+use Rattle.std.proofs.Common.{◌≡◌, ℕ, ◌+◌, ◌<◌, ◌⊎◌, nat_lt, Bool, true, false, cond, ◌&&◌, ◌||◌, ◌==◌, not, List, [], ◌∷◌, ◌++◌, length, map, filter, take, get_or, All, Contains, refl, sym, ap, ◌∙◌, subst, arith}
+use Rattle.std.specs.List.{AllPairs, list_any}
+use Rattle.std.specs.Cmp.Lexicographic.{pointwise}
+use Rattle.std.specs.declared.alloc.Global.{Global}
+use Rattle.std.specs.declared.vec.Vec.{Vec}
+use Rattle.std.proofs.lemmas.Bool.{eqb-true}
+use Rattle.std.proofs.lemmas.Bool.Decides.{nat_tests}
+use Rattle.std.proofs.lemmas.List.{map-append, take_more}
+use Rattle.std.proofs.lemmas.List.Elements.{All-filter, All-map, filter_passes}
+use Rattle.std.proofs.lemmas.List.Kept.{AllPairs-filter}
+use Rattle.hz_grid.specs.Grids.{IsGrid, HoldsJust, Precedes as PrecedesInside}
+use Rattle.hz_grid.proofs.Pairs.{same_grids}
+use Rattle.hz_altern.specs.declared.alternative.Alt.{Alt}
+use Rattle.hz_altern.specs.Cuts.{within_pair, within_pairs, cuts_of}
+use Rattle.hz_altern.specs.Shapes.{alternative_of, alternatives}
+use Rattle.hz_model.specs.Pairs.{Pair}
+use Rattle.hz_model.specs.Alternatives.{Alternative}
+use Rattle.hz_model.specs.AlternativeLists.{IsAscending, IsCuttable}
+use Rattle.hz_model.specs.Automata.{UnitPlace, is_of, inside, cut, list_in, same_pair}
+use Rattle.hz_model.proofs.Ascending.{AllPairs-map}
+use Rattle.hz_model.proofs.AscendingLaws.{Precedes, pair_at, ascending_itself}
+use Rattle.hz_model.proofs.Elements.{Contains-map, Contains-from_map}
+use Rattle.hz_model.proofs.ListInLaws.{list_in-push}
+
+before_numbers : (a x b y c z : ℕ) → (nat_lt a x || (a == x && (nat_lt b y || (b == y && nat_lt c z)))) ≡ true → b ≡ y → (a < x) ⊎ ((a ≡ x) × (c < z))
+before_numbers a x b y c z h e = grind (arith, nat_tests)
+
+pair_back : (q : ℕ × ℕ) (p : Pair ℕ) → within_pair q ≡ p → q ≡ (p.unit, p.cycle)
+pair_back q p e = ap (λ (r : Pair ℕ). (r.unit, r.cycle)) e
+
+-- ---- the pairs of an automaton
+
+module _ (automaton : ℕ) (ps : List (Pair UnitPlace)) where
+  abbrev those : List (Pair UnitPlace)
+  those = filter (is_of automaton) ps
+
+  -- before another pair, and both of the automaton
+  record Both (p q : Pair UnitPlace) : Type 0 where
+    before : Precedes p q
+    first : p.unit.automaton ≡ automaton
+    second : q.unit.automaton ≡ automaton
+
+  both_pairs : IsAscending ps → AllPairs Both those
+  both_pairs up i j d lt within =
+      let passes = filter_passes (is_of automaton) ps in
+      let inside_i : i < length those = omega arith in
+      record {
+        before = AllPairs-filter Precedes (is_of automaton) ps up i j d lt within;
+        first = eqb-true _ _ (passes i d inside_i);
+        second = eqb-true _ _ (passes j d within);
+      }
+
+  before_inside : (p q : Pair UnitPlace) → Both p q → PrecedesInside (inside p) (inside q)
+  before_inside p q both = before_numbers p.cycle q.cycle p.unit.automaton q.unit.automaton p.unit.unit q.unit.unit both.before (both.first ∙ sym both.second)
+
+  -- the pairs that are cut out are a grid
+  pub cut_grid : IsAscending ps → All (λ p. p.unit.unit < 128) ps → All (λ p. p.cycle < 256) ps → IsGrid (map inside those)
+  cut_grid up units cycles = record {
+    ascending = AllPairs-map Both PrecedesInside inside before_inside (pair_at 0 0 0) those (both_pairs up);
+    units = All-map (λ q. q.unit < 128) inside those (All-filter (is_of automaton) (λ p. p.unit.unit < 128) ps units);
+    cycles = All-map (λ q. q.cycle < 256) inside those (All-filter (is_of automaton) (λ p. p.cycle < 256) ps cycles);
+  }
+
+-- a grid of pairs that are a grid is that grid
+pub grid_is : (pairs : List (ℕ × ℕ)) (grid : List (Pair ℕ)) → IsGrid (within_pairs pairs) → IsGrid grid → HoldsJust pairs grid → grid ≡ within_pairs pairs
+grid_is pairs grid those is just = same_grids grid (within_pairs pairs) is those (λ p. (
+  λ h. Contains-map within_pair pairs (p.unit, p.cycle) ((just p.unit p.cycle).0 h),
+  λ h.
+      let from = Contains-from_map within_pair pairs p h in
+      (just p.unit p.cycle).1 (subst (λ (q : ℕ × ℕ). Contains pairs q) (pair_back from.0 p from.2) from.1),
+))
+
+-- the cut of an alternative, where its pairs ascend
+pub cut_is : (automaton : ℕ) (a : Alternative UnitPlace) → IsCuttable a → cut automaton a.pairs ≡ map inside (filter (is_of automaton) a.pairs)
+cut_is automaton a is = ap (λ ps. map inside (filter (is_of automaton) ps)) (ascending_itself a.pairs is.ascending)
+
+-- ---- lists of cuts
+
+pub list_in_more : (automaton : ℕ) (alts : List Alt) (i : ℕ) (item : Alt) → i < length alts → item ≡ get_or alts i item →
+    list_in automaton (alternatives (take (i + 1) alts)) ≡ cond (list_any (pointwise same_pair (cut automaton (alternative_of item).pairs)) (list_in automaton (alternatives (take i alts)))) (list_in automaton (alternatives (take i alts))) (list_in automaton (alternatives (take i alts)) ++ cut automaton (alternative_of item).pairs ∷ [])
+list_in_more automaton alts i item h is =
+    let more : alternatives (take (i + 1) alts) ≡ alternatives (take i alts) ++ alternative_of item ∷ [] =
+    ap alternatives (take_more alts i item h) ∙ (map-append alternative_of (take i alts) (get_or alts i item ∷ []) ∙ ap (λ x. alternatives (take i alts) ++ alternative_of x ∷ []) (sym is)) in
+    ap (list_in automaton) more ∙ list_in-push automaton (alternatives (take i alts)) (alternative_of item)
+
+-- ---- the set of what was seen
+
+pointwise-map : (xs ys : List (ℕ × ℕ)) → pointwise same_pair (within_pairs xs) (within_pairs ys) ≡ pointwise (λ p q. p.0 == q.0 && p.1 == q.1) xs ys
+pointwise-map [] [] = refl
+pointwise-map [] (y ∷ ys) = refl
+pointwise-map (x ∷ xs) [] = refl
+pointwise-map (x ∷ xs) (y ∷ ys) = ap (λ t. (x.0 == y.0 && x.1 == y.1) && t) (pointwise-map xs ys)
+
+pub list_any-cuts : (xs : List (ℕ × ℕ)) (keys : List (Vec (ℕ × ℕ) Global)) → list_any (pointwise same_pair (within_pairs xs)) (cuts_of keys) ≡ list_any (λ k. pointwise (λ p q. p.0 == q.0 && p.1 == q.1) xs k.items) keys
+list_any-cuts xs [] = refl
+list_any-cuts xs (k ∷ keys) = ap (λ t. t || list_any (pointwise same_pair (within_pairs xs)) (cuts_of keys)) (pointwise-map xs k.items) ∙ ap (λ t. pointwise (λ p q. p.0 == q.0 && p.1 == q.1) xs k.items || t) (list_any-cuts xs keys)
+
+-- pairs that are cut out of an alternative are a grid
+pub taken_grid : (automaton : ℕ) (a : Alternative UnitPlace) (pairs : List (ℕ × ℕ)) → IsCuttable a → within_pairs pairs ≡ map inside (filter (is_of automaton) a.pairs) → IsGrid (within_pairs pairs)
+taken_grid automaton a pairs is e = subst IsGrid (sym e) (cut_grid automaton a.pairs is.ascending is.units is.cycles)
+
+cond_not : {A : Type 0} (t : Bool) (x y : A) → cond (not t) x y ≡ cond t y x
+cond_not true x y = refl
+cond_not false x y = refl
+
+-- One more alternative: what was seen, and the grids, become the list with its cut.
+pub cut_joins : (items next seen seen' grids grids' : List (List (Pair ℕ))) (y taken grid : List (Pair ℕ)) (new : Bool) →
+    next ≡ cond (list_any (pointwise same_pair y) items) items (items ++ y ∷ []) → taken ≡ y → grid ≡ y → seen ≡ items → grids ≡ items →
+    new ≡ not (list_any (pointwise same_pair taken) seen) → seen' ≡ cond new (seen ++ taken ∷ []) seen → grids' ≡ cond new (grids ++ grid ∷ []) grids → (grids' ≡ next) × (seen' ≡ next)
+cut_joins items next seen seen' grids grids' y taken grid new is e f g h fresh after made =
+    let turned = cond_not (list_any (pointwise same_pair y) items) (items ++ y ∷ []) items in
+    (cc, cc)

@@ -1,0 +1,72 @@
+-- Which limit alternatives pass, and what is answered for them.
+use Rattle.std.proofs.Common.{◌≡◌, ◌<◌, ◌≤◌, min, List, [], ◌∷◌, length, map, All, Some, None, Err, refl, ap, arith}
+use Rattle.std.proofs.lemmas.Bool.{lt-ltb, le-ltb}
+use Rattle.std.proofs.lemmas.List.{length-map}
+use Rattle.std.proofs.lemmas.List.Sums.{sum_by-append}
+use Rattle.hz_altern.specs.declared.fault.AlternFault.{AlternFault}
+use Rattle.hz_altern.specs.declared.fault.AlternFault.TheVariants.{AlternativesLimit, CyclesLimit, SizeLimit, NoMemory}
+use Rattle.hz_altern.specs.declared.measure.Extent.{Extent}
+use Rattle.hz_altern.specs.Answers.{total_weight, Refuses, Expands}
+use Rattle.hz_altern.specs.Extents.{told}
+use Rattle.hz_altern.proofs.KnownLemmas.{all_listed}
+use Rattle.hz_altern.proofs.Lengths.{length_within}
+use Rattle.hz_altern.proofs.Weights.{weight-cons}
+use Rattle.hz_altern.proofs.HalfLemmas.{greatest-listed}
+use Rattle.hz_model.specs.Alternatives.{Alternative}
+use Rattle.hz_model.specs.AlternativeLists.{extent_of, excess_of, too_many, too_long, too_large, greatest_length, IsPlaced, AreSound}
+use Rattle.hz_model.specs.Automata.{UnitPlace, listed, size_of, total_size}
+
+-- listed alternatives are as large as they count
+pub total_listed : (all : List (Alternative UnitPlace)) → total_weight (map listed all) ≡ total_size all
+total_listed [] = refl
+total_listed (x ∷ xs) = omega (arith, weight-cons (listed x) (map listed xs), sum_by-append size_of (x ∷ []) xs, total_listed xs)
+
+-- what an extent tells of alternatives
+module _ (all : List (Alternative UnitPlace)) (extent : Extent) (is : told extent ≡ extent_of all) where
+  count_is : extent.count ≡ min (length all) 4097
+  count_is = ap (λ e. e.count) is
+
+  longest_is : extent.longest ≡ min (greatest_length all) 257
+  longest_is = ap (λ e. e.longest) is
+
+  pub many : 4096 < extent.count → excess_of all ≡ Some too_many
+  many h =
+      let over : 4096 < length all = omega (arith, count_is) in
+      rw (lt-ltb 4096 (length all) over) refl
+
+  pub few : extent.count ≤ 4096 → length all ≤ 4096
+  few h = omega (arith, count_is)
+
+  pub short : extent.longest ≤ 256 → greatest_length all ≤ 256
+  short h = omega (arith, longest_is)
+
+  pub long : extent.count ≤ 4096 → 256 < extent.longest → excess_of all ≡ Some too_long
+  long h k =
+      let over : 256 < greatest_length all = omega (arith, longest_is) in
+      rw (le-ltb 4096 (length all) (few h), lt-ltb 256 (greatest_length all) over) refl
+
+-- alternatives that are few and short
+module _ (all : List (Alternative UnitPlace)) (few_all : length all ≤ 4096) (short_all : greatest_length all ≤ 256) where
+  large : 2097152 < total_size all → excess_of all ≡ Some too_large
+  large h = rw (le-ltb 4096 (length all) few_all, le-ltb 256 (greatest_length all) short_all, lt-ltb 2097152 (total_size all) h) refl
+
+  pub within : total_weight (map listed all) ≤ 2097152 → excess_of all ≡ None
+  within h =
+      let size : total_size all ≤ 2097152 = omega (arith, total_listed all) in
+      rw (le-ltb 4096 (length all) few_all, le-ltb 256 (greatest_length all) short_all, le-ltb 2097152 (total_size all) size) refl
+
+  pub refused : (fault : AlternFault) → Refuses (map listed all) fault → Expands all (Err fault)
+  refused AlternativesLimit never = absurd never
+  refused CyclesLimit never = absurd never
+  refused SizeLimit over = large (omega (arith, total_listed all))
+  refused NoMemory free = tt
+
+  pub sound : 0 < length all → All IsPlaced all → AreSound (map listed all)
+  sound some placed = record {
+    some = simp length-map some;
+    few = simp length-map few_all;
+    each = λ k d lt.
+        let is = all_listed all placed k d lt in
+        let cycles : greatest_length (map listed all) ≤ 256 = omega (arith, greatest-listed all) in
+        record { placed = is.placed; short = length_within 256 (map listed all) cycles k d lt; ascending = is.ascending };
+  }

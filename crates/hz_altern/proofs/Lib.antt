@@ -1,0 +1,16 @@
+pub mod Lengths
+pub mod Cutting
+pub mod TableLemmas
+pub mod Nodes
+pub mod PartLemmas
+pub mod ExtentLemmas
+pub mod Shapes
+pub mod MergeLemmas
+pub mod ListLemmas
+pub mod Weights
+pub mod ChoiceWeights
+pub mod ListedLemmas
+pub mod KnownLemmas
+pub mod HalfLemmas
+pub mod ExpandLemmas
+pub mod CutLemmas

@@ -1,0 +1,220 @@
+//! The alternatives of an expression.
+
+ghost use Rattle.std.specs.Prelude.{◌≡◌, ◌<◌, ◌≤◌, ◌++◌, [], ◌∷◌, All, IsTrue, IfOk, IfErr, OnOk, length, map};
+ghost use Rattle.hz_altern.specs.Answers.{Expands, Refuses};
+ghost use Rattle.hz_altern.specs.Joinings.{IsListed, joined_by, joined_parts, listed_lists};
+ghost use Rattle.hz_altern.specs.Shapes.{alternative_of, alternatives};
+ghost use Rattle.hz_altern.specs.Tables.{alternatives_in, known_alternatives, is_held};
+ghost use Rattle.hz_model.specs.Alternatives.{alternatives_of, each_choice, copies, idle};
+ghost use Rattle.hz_model.specs.AlternativeLists.{AreSound, greatest_length};
+ghost use Rattle.hz_model.specs.Automata.{listed};
+ghost use Rattle.hz_model.specs.Expressions.{is_expression, are_expressions};
+ghost use Rattle.hz_model.specs.ExpressionTexts.{parts_of};
+ghost use Rattle.hz_model.specs.Limits.{cycle_limit};
+ghost use Rattle.hz_model.specs.NamesIn.{all_names, all_names_in};
+ghost use Rattle.hz_regexp.specs.Shape.{expression, expressions};
+
+use crate::alternative::Alt;
+use crate::counting::measured;
+use crate::fault::AlternFault;
+use crate::joining::{Joining, joined};
+use crate::known::Known;
+use crate::listing::Listing;
+use crate::mark::Mark;
+use crate::measure::{ALTERNATIVE_LIMIT, CYCLE_LIMIT};
+use hz_regexp::Expr;
+use std::alloc::Global;
+
+/// Lists copies of alternatives.
+fn copied(alloc: Global, alts: &[Alt]) -> Result<Listing, AlternFault>
+    ensures ok { IfOk result (λ listing. listing ≡ alternatives alts.now) }
+    ensures err { IfErr result (Refuses (alternatives alts.now)) }
+{
+    let mut listing = Listing::new(alloc);
+    for alt in alts {
+        listing.push(alt.copy(alloc)?)?;
+    }
+    Ok(listing)
+}
+
+/// One alternative of one cycle without a pair.
+fn idle(alloc: Global) -> Result<Listing, AlternFault>
+    ensures ok { IfOk result (λ listing. listing ≡ idle ∷ []) }
+    ensures err { IfErr result (Refuses (idle ∷ [])) }
+{
+    let mut listing = Listing::new(alloc);
+    let pairs = Vec::new(alloc);
+    listing.push(Alt { pairs, length: 1 })?;
+    Ok(listing)
+}
+
+/// Adds an alternative joined with each of others.
+fn push_choices(
+    alloc: Global,
+    joining: Joining,
+    first: &Alt,
+    seconds: &[Alt],
+    listing: &mut Listing,
+) -> Result<(), AlternFault>
+    requires first { IsListed (alternative_of first.now) }
+    requires seconds { All IsListed (alternatives seconds.now) }
+    requires short { greatest_length (map (joined_by joining (alternative_of first.now)) (alternatives seconds.now)) ≤ cycle_limit }
+    ensures ok { OnOk result (listing.new ≡ listing.old ++ map (joined_by joining (alternative_of first.now)) (alternatives seconds.now)) }
+    ensures err { IfErr result (Refuses (listing.old ++ map (joined_by joining (alternative_of first.now)) (alternatives seconds.now))) }
+{
+    for second in seconds {
+        listing.push(joined(alloc, joining, first, second)?)?;
+    }
+    Ok(())
+}
+
+/// One alternative for each choice of one of each list, the first most significant.
+fn choices(
+    alloc: Global,
+    joining: Joining,
+    firsts: &[Alt],
+    seconds: &[Alt],
+) -> Result<Listing, AlternFault>
+    requires firsts { All IsListed (alternatives firsts.now) }
+    requires seconds { All IsListed (alternatives seconds.now) }
+    requires short { greatest_length (each_choice (joined_by joining) (alternatives firsts.now) (alternatives seconds.now)) ≤ cycle_limit }
+    ensures ok { IfOk result (λ listing. listing ≡ each_choice (joined_by joining) (alternatives firsts.now) (alternatives seconds.now)) }
+    ensures err { IfErr result (Refuses (each_choice (joined_by joining) (alternatives firsts.now) (alternatives seconds.now))) }
+{
+    let mut listing = Listing::new(alloc);
+    for first in firsts {
+        push_choices(alloc, joining, first, seconds, &mut listing)?;
+    }
+    Ok(listing)
+}
+
+/// The alternatives of two lists one after the other.
+fn in_sequence(alloc: Global, first: &Listing, second: &Listing) -> Result<Listing, AlternFault>
+    requires first { All IsListed first.now }
+    requires second { All IsListed second.now }
+    requires short { greatest_length (each_choice (joined_by Joining.InSequence) first.now second.now) ≤ cycle_limit }
+    ensures ok { IfOk result (λ listing. listing ≡ each_choice (joined_by Joining.InSequence) first.now second.now) }
+    ensures err { IfErr result (Refuses (each_choice (joined_by Joining.InSequence) first.now second.now)) }
+{
+    choices(
+        alloc,
+        Joining::InSequence,
+        first.as_slice(),
+        second.as_slice(),
+    )
+}
+
+/// The alternatives of so many copies one after another, each of which chooses by itself. The number is halved until one
+/// is left, so that no pair is copied much more often than it stands in the answer.
+fn copies(alloc: Global, once: &Listing, times: u32) -> Result<Listing, AlternFault>
+    requires some { 0 < length once.now }
+    requires times { 1 ≤ times }
+    requires each { All IsListed once.now }
+    requires short { greatest_length (copies times once.now) ≤ cycle_limit }
+    ensures ok { IfOk result (λ listing. listing ≡ copies times once.now) }
+    ensures err { IfErr result (Refuses (copies times once.now)) }
+{
+    if times == 1 {
+        return copied(alloc, once.as_slice());
+    }
+    let half = copies(alloc, once, times / 2)?;
+    let even = in_sequence(alloc, &half, &half)?;
+    if times % 2 == 0 {
+        return Ok(even);
+    }
+    in_sequence(alloc, &even, once)
+}
+
+/// The alternatives of two lists with a mark between them.
+fn joined_lists(
+    alloc: Global,
+    mark: Mark,
+    first: Listing,
+    second: Listing,
+) -> Result<Listing, AlternFault>
+    requires first { All IsListed first }
+    requires second { All IsListed second }
+    requires short { greatest_length (listed_lists mark first second) ≤ cycle_limit }
+    ensures ok { IfOk result (λ listing. listing ≡ listed_lists mark first second) }
+    ensures err { IfErr result (Refuses (listed_lists mark first second)) }
+{
+    match mark {
+        Mark::Comma => in_sequence(alloc, &first, &second),
+        Mark::Bar => first.with(second),
+        Mark::Plus => choices(
+            alloc,
+            Joining::Together,
+            first.as_slice(),
+            second.as_slice(),
+        ),
+    }
+}
+
+/// The alternatives of an expression, of which none is too long.
+#[cycle(listing)]
+fn listing(alloc: Global, expr: &Expr, known: &Known) -> Result<Listing, AlternFault>
+    requires formed { IsTrue (is_expression (expression expr.now)) }
+    requires known { IsTrue (all_names (is_held (alternatives_in known.now)) (expression expr.now)) }
+    requires short { greatest_length (alternatives_of (known_alternatives known.now) (expression expr.now)) ≤ cycle_limit }
+    ensures ok { IfOk result (λ listing. listing ≡ map listed (alternatives_of (known_alternatives known.now) (expression expr.now))) }
+    ensures err { IfErr result (Refuses (map listed (alternatives_of (known_alternatives known.now) (expression expr.now)))) }
+{
+    match expr {
+        Expr::Named(name) => match known.find(name) {
+            Some(entry) => copied(alloc, &entry.alts),
+            None => unreachable!(),
+        },
+        Expr::Nothing => idle(alloc),
+        Expr::Seq(parts) => listing_parts(alloc, parts, Mark::Comma, known),
+        Expr::Oneof(parts) => listing_parts(alloc, parts, Mark::Bar, known),
+        Expr::Allof(parts) => listing_parts(alloc, parts, Mark::Plus, known),
+        Expr::Repeat(part, times) => {
+            let once = listing(alloc, part, known)?;
+            copies(alloc, &once, *times)
+        }
+    }
+}
+
+/// The alternatives of parts with a mark between them, of which none is too long. Parts are joined by halves, so that
+/// none is copied once for each of the others.
+#[cycle(listing)]
+fn listing_parts(
+    alloc: Global,
+    parts: &[Expr],
+    mark: Mark,
+    known: &Known,
+) -> Result<Listing, AlternFault>
+    requires some { 0 < length parts.now }
+    requires formed { IsTrue (are_expressions (parts_of (expressions parts.now))) }
+    requires known { IsTrue (all_names_in (is_held (alternatives_in known.now)) (parts_of (expressions parts.now))) }
+    requires short { greatest_length (joined_parts mark (known_alternatives known.now) (parts_of (expressions parts.now))) ≤ cycle_limit }
+    ensures ok { IfOk result (λ listing. listing ≡ map listed (joined_parts mark (known_alternatives known.now) (parts_of (expressions parts.now)))) }
+    ensures err { IfErr result (Refuses (map listed (joined_parts mark (known_alternatives known.now) (parts_of (expressions parts.now))))) }
+{
+    let middle = parts.len() / 2;
+    if middle == 0 {
+        return listing(alloc, &parts[0], known);
+    }
+    let (front, back) = parts.split_at(middle);
+    let first = listing_parts(alloc, front, mark, known)?;
+    let second = listing_parts(alloc, back, mark, known)?;
+    joined_lists(alloc, mark, first, second)
+}
+
+/// The alternatives of a well-formed expression in their order, where each name in it is known. Choices are ordered with
+/// the leftmost part most significant, and equal alternatives stand each time. They are counted before they are made.
+pub fn expand(alloc: Global, expr: &Expr, known: &Known) -> Result<Vec<Alt>, AlternFault>
+    requires formed { IsTrue (is_expression (expression expr.now)) }
+    requires known { IsTrue (all_names (is_held (alternatives_in known.now)) (expression expr.now)) }
+    ensures answer { Expands (alternatives_of (known_alternatives known.now) (expression expr.now)) result }
+    ensures sound { IfOk result (λ alts. AreSound (alternatives alts.items)) }
+{
+    let extent = measured(expr, known);
+    if extent.count > ALTERNATIVE_LIMIT {
+        return Err(AlternFault::AlternativesLimit);
+    }
+    if extent.longest > CYCLE_LIMIT {
+        return Err(AlternFault::CyclesLimit);
+    }
+    Ok(listing(alloc, expr, known)?.into_alts())
+}

@@ -1,0 +1,28 @@
+//! The alternatives of reservation expressions: how many and how long they are, all of them in their order, and those of
+//! one automaton as grids.
+#![tactic(auto)]
+
+mod alternative;
+mod counting;
+mod expanding;
+mod extents;
+mod fault;
+mod joining;
+mod known;
+mod listing;
+mod mark;
+mod measure;
+mod merging;
+mod projecting;
+
+pub use alternative::{Alt, Pair};
+pub use counting::extent;
+pub use expanding::expand;
+pub use extents::Extents;
+pub use fault::{AlternFault, NoMemory};
+pub use known::Known;
+pub use measure::Extent;
+pub use projecting::project;
+
+#[cfg(test)]
+mod tests;

@@ -1,0 +1,96 @@
+//! Lists of alternatives that stay within the limit of their size.
+
+use crate::alternative::Alt;
+use crate::fault::AlternFault;
+use std::alloc::Global;
+use std::marker::Model;
+
+/// So many cycles and pairs may all alternatives have together.
+pub const SIZE_LIMIT: usize = 2_097_152;
+
+/// Alternatives that have no more than `SIZE_LIMIT` cycles and pairs together.
+#[derive(Drop)]
+pub struct Listing {
+    alts: Vec<Alt>,
+    size: usize,
+}
+
+impl Model for Listing {
+    ghost use Rattle.std.specs.Prelude.{◌≡◌, ◌≤◌, List};
+    ghost use Rattle.hz_altern.specs.Shapes.{alternatives};
+    ghost use Rattle.hz_altern.specs.Answers.{total_weight};
+    ghost use Rattle.hz_model.specs.Alternatives.{Alternative};
+    ghost use Rattle.hz_model.specs.Automata.{UnitPlace};
+    ghost use Rattle.hz_model.specs.Limits.{size_limit};
+
+    ghost Value = { List (Alternative UnitPlace) };
+
+    ghost view = { λ listing. alternatives listing.alts.items };
+
+    ghost invariant = { λ listing. (listing.size ≡ total_weight (alternatives listing.alts.items)) × (listing.size ≤ size_limit) };
+}
+
+impl Listing {
+    ghost use Rattle.std.specs.Prelude.{◌≡◌, ◌≤◌, ◌++◌, ◌∷◌, [], List, IfOk, IfErr, OnOk};
+    ghost use Rattle.hz_altern.specs.Shapes.{alternatives, alternative_of};
+    ghost use Rattle.hz_altern.specs.Answers.{Refuses, total_weight};
+    ghost use Rattle.hz_model.specs.Limits.{size_limit};
+
+    /// No alternative.
+    pub fn new(alloc: Global) -> Listing
+        ensures { result ≡ [] }
+    {
+        Listing {
+            alts: Vec::new(alloc),
+            size: 0,
+        }
+    }
+
+    /// Adds an alternative at the end, where all together are not too large.
+    pub fn push(&mut self, alt: Alt) -> Result<(), AlternFault>
+        ensures ok { OnOk result (self.new ≡ self.old ++ alternative_of alt ∷ []) }
+        ensures err { IfErr result (Refuses (self.old ++ alternative_of alt ∷ [])) }
+    {
+        let size = self.size + alt.length as usize + alt.pairs.len();
+        if size > SIZE_LIMIT {
+            return Err(AlternFault::SizeLimit);
+        }
+        self.alts.push(alt)?;
+        self.size = size;
+        Ok(())
+    }
+
+    /// The alternatives, and behind them others, where all together are not too large.
+    pub fn with(self, others: Listing) -> Result<Listing, AlternFault>
+        ensures ok { IfOk result (λ listing. listing ≡ self ++ others) }
+        ensures err { IfErr result (Refuses (self ++ others)) }
+    {
+        let Listing { mut alts, size } = self;
+        let Listing {
+            alts: mut behind,
+            size: more,
+        } = others;
+        let size = size + more;
+        if size > SIZE_LIMIT {
+            return Err(AlternFault::SizeLimit);
+        }
+        alts.append(&mut behind)?;
+        Ok(Listing { alts, size })
+    }
+
+    /// The alternatives, without taking memory.
+    pub fn as_slice(&self) -> &[Alt]
+        ensures { alternatives result.now ≡ self.now }
+    {
+        self.alts.as_slice()
+    }
+
+    /// The alternatives.
+    pub fn into_alts(self) -> Vec<Alt>
+        ensures alts { alternatives result.items ≡ self }
+        ensures small { total_weight self ≤ size_limit }
+    {
+        let Listing { alts, size: _ } = self;
+        alts
+    }
+}

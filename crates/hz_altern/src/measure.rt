@@ -1,0 +1,66 @@
+//! How many alternatives there are, and how long the longest is.
+
+ghost use Rattle.std.specs.Prelude.{◌≤◌};
+
+use crate::mark::Mark;
+
+/// So many alternatives may be told apart from more.
+pub const ALTERNATIVE_LIMIT: u32 = 4096;
+
+/// An alternative of so many cycles may be told apart from longer ones.
+pub const CYCLE_LIMIT: u32 = 256;
+
+/// How many alternatives there are, 4,097 for any number above 4,096, and for how many cycles the longest runs, 257 for
+/// any number above 256.
+#[derive(Clone, Copy, Debug, PartialEq, Eq)]
+pub struct Extent {
+    pub count: u32,
+    pub longest: u32,
+    ghost some: { 1 ≤ count },
+    ghost few: { count ≤ 4097 },
+    ghost runs: { 1 ≤ longest },
+    ghost short: { longest ≤ 257 },
+}
+
+impl Extent {
+    ghost use Rattle.std.specs.Prelude.{◌≡◌, ◌≤◌, List};
+    ghost use Rattle.hz_altern.specs.Extents.{told, cut_extent, joined_extents, repeated_extent};
+    ghost use Rattle.hz_altern.specs.Shapes.{alternatives};
+    ghost use Rattle.hz_model.specs.AlternativeLists.{AreSound, extent_of};
+
+    /// The extent of so many alternatives, of which the longest runs for so many cycles.
+    pub fn cut(count: u32, longest: u32) -> Extent
+        requires some { 1 ≤ count }
+        requires runs { 1 ≤ longest }
+        ensures { told result ≡ cut_extent count longest }
+    {
+        Extent {
+            count: count.min(ALTERNATIVE_LIMIT + 1),
+            longest: longest.min(CYCLE_LIMIT + 1),
+        }
+    }
+
+    /// The extent of two parts with a mark between them.
+    pub fn joined(self, mark: Mark, other: Extent) -> Extent
+        ensures { told result ≡ joined_extents mark (told self) (told other) }
+    {
+        let choices = self.count * other.count;
+        let longest = self.longest.max(other.longest);
+        match mark {
+            Mark::Comma => Extent::cut(choices, self.longest + other.longest),
+            Mark::Bar => Extent::cut(self.count + other.count, longest),
+            Mark::Plus => Extent::cut(choices, longest),
+        }
+    }
+
+    /// The extent of so many copies one after another.
+    pub fn repeated(self, times: u32) -> Extent
+        requires { 1 ≤ times }
+        ensures { told result ≡ repeated_extent times (told self) }
+    {
+        Extent::cut(
+            self.count.saturating_pow(times),
+            self.longest.saturating_mul(times),
+        )
+    }
+}

@@ -1,0 +1,61 @@
+//! The union of pairs that ascend.
+
+ghost use Rattle.std.specs.Prelude.{◌≡◌, ◌++◌, [], IfOk, IfSome, IfNone};
+ghost use Rattle.hz_altern.specs.Merging.{IsLeast};
+ghost use Rattle.hz_altern.specs.Shapes.{pair_of, pairs_of};
+ghost use Rattle.hz_model.specs.Automata.{precedes, ascending};
+ghost use Rattle.hz_model.specs.AlternativeLists.{IsAscending};
+
+use crate::alternative::Pair;
+use crate::fault::NoMemory;
+use std::alloc::Global;
+
+impl Pair {
+    /// Whether the pair stands before another: by cycle, then by automaton, then by unit.
+    fn precedes(self, other: Pair) -> bool
+        ensures { result ≡ precedes (pair_of self) (pair_of other) }
+    {
+        self.cycle < other.cycle
+            || (self.cycle == other.cycle
+                && (self.automaton < other.automaton
+                    || (self.automaton == other.automaton && self.unit < other.unit)))
+    }
+}
+
+/// The pairs of two lists that ascend, as one such list.
+pub fn united(alloc: Global, first: &[Pair], second: &[Pair]) -> Result<Vec<Pair>, NoMemory>
+    requires first { IsAscending (pairs_of first.now) }
+    requires second { IsAscending (pairs_of second.now) }
+    ensures { IfOk result (λ pairs. pairs_of pairs.items ≡ ascending (pairs_of first.now ++ pairs_of second.now)) }
+{
+    let mut pairs = Vec::new(alloc);
+    let mut rest = (first, second);
+    while let Some((pair, next)) = least(rest.0, rest.1) {
+        pairs.push(pair)?;
+        rest = next;
+    }
+    Ok(pairs)
+}
+
+/// The first pair of two lists that ascend, and what is left of both behind it.
+fn least<'a>(first: &'a [Pair], second: &'a [Pair]) -> Option<(Pair, (&'a [Pair], &'a [Pair]))>
+    requires first { IsAscending (pairs_of first.now) }
+    requires second { IsAscending (pairs_of second.now) }
+    ensures some { IfSome result (λ r. IsLeast (pairs_of first.now) (pairs_of second.now) (pair_of r.0) (pairs_of r.1.0.now) (pairs_of r.1.1.now)) }
+    ensures none { IfNone result (pairs_of first.now ++ pairs_of second.now ≡ []) }
+{
+    match (first.split_first(), second.split_first()) {
+        (None, None) => None,
+        (Some((one, ones)), None) => Some((*one, (ones, second))),
+        (None, Some((other, others))) => Some((*other, (first, others))),
+        (Some((one, ones)), Some((other, others))) => {
+            if one.precedes(*other) {
+                Some((*one, (ones, second)))
+            } else if other.precedes(*one) {
+                Some((*other, (first, others)))
+            } else {
+                Some((*one, (ones, others)))
+            }
+        }
+    }
+}

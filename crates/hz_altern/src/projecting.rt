@@ -1,0 +1,64 @@
+//! Alternatives cut down to one automaton.
+
+ghost use Rattle.std.specs.Prelude.{◌≡◌, ◌++◌, ◌∷◌, [], All, IfOk, not, filter, map, if◌then◌else◌};
+ghost use Rattle.std.specs.Cmp.Lexicographic.{pointwise};
+ghost use Rattle.std.specs.List.{list_any};
+ghost use Rattle.hz_altern.specs.Cuts.{within_pairs, cuts_of};
+ghost use Rattle.hz_altern.specs.Shapes.{alternative_of, alternatives, pairs_of};
+ghost use Rattle.hz_model.specs.AlternativeLists.{IsCuttable};
+ghost use Rattle.hz_model.specs.Automata.{cut, inside, is_of, list_in, same_pair};
+
+use crate::alternative::{Alt, Pair};
+use crate::fault::NoMemory;
+use hz_grid::Grid;
+use indexmap::IndexSet;
+use std::alloc::Global;
+
+/// The unit and the cycle of each pair of the automaton.
+fn within(alloc: Global, pairs: &[Pair], automaton: u8) -> Result<Vec<(u8, u16)>, NoMemory>
+    ensures { IfOk result (λ within. within_pairs within.items ≡ map inside (filter (is_of automaton) (pairs_of pairs.now))) }
+{
+    let mut within = Vec::new(alloc);
+    for pair in pairs {
+        if pair.automaton == automaton {
+            within.push((pair.unit, pair.cycle))?;
+        }
+    }
+    Ok(within)
+}
+
+/// What an alternative takes of the units of an automaton, as pairs and as a grid.
+fn cut(alloc: Global, alt: &Alt, automaton: u8) -> Result<(Vec<(u8, u16)>, Grid), NoMemory>
+    requires { IsCuttable (alternative_of alt.now) }
+    ensures pairs { IfOk result (λ taken. within_pairs taken.0.items ≡ cut automaton (alternative_of alt.now).pairs) }
+    ensures grid { IfOk result (λ taken. taken.1 ≡ cut automaton (alternative_of alt.now).pairs) }
+{
+    let pairs = within(alloc, &alt.pairs, automaton)?;
+    let grid = Grid::of(alloc, &pairs)?;
+    Ok((pairs, grid))
+}
+
+/// Adds pairs that are not among those that were seen, and says whether they were new.
+fn is_new(seen: &mut IndexSet<Vec<(u8, u16)>>, pairs: Vec<(u8, u16)>) -> Result<bool, NoMemory>
+    ensures new { IfOk result (λ new. new ≡ not (list_any (pointwise same_pair (within_pairs pairs.items)) (cuts_of seen.old.keys))) }
+    ensures seen { IfOk result (λ new. cuts_of seen.new.keys ≡ (if new then cuts_of seen.old.keys ++ within_pairs pairs.items ∷ [] else cuts_of seen.old.keys)) }
+{
+    let new = seen.insert(pairs)?;
+    Ok(new)
+}
+
+/// What sound alternatives take of the units of an automaton, in their order, each later equal grid dropped.
+pub fn project(alloc: Global, alts: &[Alt], automaton: u8) -> Result<Vec<Grid>, NoMemory>
+    requires { All IsCuttable (alternatives alts.now) }
+    ensures { IfOk result (λ grids. grids.items ≡ list_in automaton (alternatives alts.now)) }
+{
+    let mut seen = IndexSet::new(alloc);
+    let mut grids = Vec::new(alloc);
+    for alt in alts {
+        let (pairs, grid) = cut(alloc, alt, automaton)?;
+        if is_new(&mut seen, pairs)? {
+            grids.push(grid)?;
+        }
+    }
+    Ok(grids)
+}

@@ -1,0 +1,17 @@
+pub mod BypassSteps
+pub mod Earliest
+pub mod FirstOf
+pub mod Homes
+pub mod InOrder
+pub mod KnownNames
+pub mod NameLists
+pub mod NumberSteps
+pub mod PlaceSteps
+pub mod Next
+pub mod Repeated
+pub mod RowSteps
+pub mod TableSteps
+pub mod ToldSteps
+pub mod CheckSteps
+pub mod ClassLists
+pub mod PartSteps

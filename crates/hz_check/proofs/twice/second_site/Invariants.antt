@@ -1,0 +1,11 @@
+use Rattle.std.proofs.Common.{◌≡◌, map, drop}
+use Rattle.hz_check.specs.ByName.{is_held}
+use Rattle.hz_check.specs.Sites.{told}
+use Rattle.hz_check.specs.Twice.{is_given, repeated_by, unseen}
+use Rattle.hz_model.specs.Sites.{earlier, earliest}
+use Rattle.hz_check.proofs.twice.second_site.Given as goal
+
+abbrev pub invariant-loop-item : goal.invariant-loop-item
+invariant-loop-item g l =
+    earlier (told l.first) (earliest (repeated_by (is_given l.others) (is_held l.seen) (map g.T.Defines.site (drop l.item-index l.items))))
+    ≡ earliest (repeated_by (is_given l.others) unseen (map g.T.Defines.site l.items))

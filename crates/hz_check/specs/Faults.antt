@@ -1,0 +1,62 @@
+-- What the code tells, as what the definitions speak of.
+use Rattle.std.specs.Prelude.{◌≡◌, ℕ, List, ⊤}
+use Rattle.hz_check.specs.declared.fault.LimitName.{LimitName}
+use Rattle.hz_check.specs.declared.fault.LimitName.TheVariants.{Automata, Units, Classes, Alternatives, Cycles, Size}
+use Rattle.hz_check.specs.declared.fault.CheckFault.{CheckFault}
+use Rattle.hz_check.specs.declared.fault.CheckFault.TheVariants.{TwiceDefined, ReservedName, UnknownName, UnknownAutomaton, UnitNeedsAutomaton, CircularReservation, SelfExclusion, SetAcrossAutomata, Limit, BypassTwice, NoMemory}
+use Rattle.hz_check.specs.declared.told.Wrong.{Wrong}
+use Rattle.hz_check.specs.declared.told.Wrong.TheVariants as wrong
+use Rattle.hz_check.specs.declared.told.Told.{Told}
+use Rattle.hz_unfold.specs.Places.{site_of}
+use Rattle.hz_model.specs.CheckFaults as model
+use Rattle.hz_model.specs.Descriptions.{Description}
+
+-- the name of a limit
+abbrev pub limit_of : LimitName → model.LimitName
+limit_of Automata = model.automata
+limit_of Units = model.units
+limit_of Classes = model.classes
+limit_of Alternatives = model.alternatives
+limit_of Cycles = model.cycles
+limit_of Size = model.size
+
+-- what is said of a fault with its line and its name holds of this one; want of memory says nothing
+abbrev pub Tells : (model.CheckFault → ℕ → List ℕ → Type 0) → CheckFault → Type 0
+Tells P (TwiceDefined line name) = P model.twice_defined line name
+Tells P (ReservedName line name) = P model.reserved_name line name
+Tells P (UnknownName line name) = P model.unknown_name line name
+Tells P (UnknownAutomaton line name) = P model.unknown_automaton line name
+Tells P (UnitNeedsAutomaton line name) = P model.unit_needs_automaton line name
+Tells P (CircularReservation line name) = P model.circular_reservation line name
+Tells P (SelfExclusion line name) = P model.self_exclusion line name
+Tells P (SetAcrossAutomata line name) = P model.set_across_automata line name
+Tells P (Limit what line name) = P (model.limit (limit_of what)) line name
+Tells P (BypassTwice line name) = P model.bypass_twice line name
+Tells P NoMemory = ⊤
+
+-- the fault is told of the description, in a form of this line and at this name
+abbrev pub IsToldAt : Description → model.CheckFault → ℕ → List ℕ → Type 0
+IsToldAt d fault line name = (form : ℕ) × model.CheckFaultAt d fault (record { line = line; form = form; name = name })
+
+-- what is wrong
+abbrev pub wrong_of : Wrong → model.CheckFault
+wrong_of wrong.TwiceDefined = model.twice_defined
+wrong_of wrong.ReservedName = model.reserved_name
+wrong_of wrong.UnknownName = model.unknown_name
+wrong_of wrong.UnknownAutomaton = model.unknown_automaton
+wrong_of wrong.UnitNeedsAutomaton = model.unit_needs_automaton
+wrong_of wrong.CircularReservation = model.circular_reservation
+wrong_of wrong.SelfExclusion = model.self_exclusion
+wrong_of wrong.SetAcrossAutomata = model.set_across_automata
+wrong_of (wrong.Limit what) = model.limit (limit_of what)
+wrong_of wrong.BypassTwice = model.bypass_twice
+
+-- what is wrong, and where
+abbrev pub told_of : Told → model.Told
+told_of t = record { fault = wrong_of t.wrong; site = site_of t.site }
+
+-- the fault with its line and its name is this one
+pub record IsToldHere (told : model.Told) (fault : model.CheckFault) (line : ℕ) (name : List ℕ) : Type 0 where
+  pub same_fault : fault ≡ told.fault
+  pub same_line : line ≡ told.site.line
+  pub same_name : name ≡ told.site.name

@@ -1,0 +1,13 @@
+pub mod Sites
+pub mod ByName
+pub mod Names
+pub mod Twice
+pub mod Unknown
+pub mod Units
+pub mod Faults
+pub mod Bypasses
+pub mod Assembly
+pub mod Checked
+pub mod Checking
+pub mod Classes
+pub mod Parts

@@ -1,0 +1,23 @@
+-- What is made of a description without a fault while it is still whole.
+use Rattle.std.specs.Prelude.{◌≡◌, map, All}
+use Rattle.hz_altern.specs.Shapes.{alternatives}
+use Rattle.hz_check.specs.declared.parts.Parts.{Parts}
+use Rattle.hz_check.specs.Checked.{automaton_of, bypass_of}
+use Rattle.hz_expand.specs.Shape.{lists_of}
+use Rattle.hz_model.specs.AlternativeLists.{AreSound}
+use Rattle.hz_model.specs.Alternatives.{alternatives_of}
+use Rattle.hz_model.specs.Automata.{listed}
+use Rattle.hz_model.specs.CheckFaults.{Known, IsSound}
+use Rattle.hz_model.specs.CheckedParts.{automata_of, bypass_parts}
+use Rattle.hz_model.specs.Descriptions.{Description}
+use Rattle.hz_unitsets.specs.SetRules.{IsInRange}
+
+-- the description has no fault, and these are its automata, its bypasses and the alternatives of its classes
+pub record IsPartsOf (d : Description) (parts : Parts) : Type 0 where
+  pub known : Known
+  pub sound : IsSound d known
+  pub automata : map automaton_of parts.automata.items ≡ automata_of d
+  pub bypasses : map bypass_of parts.bypasses.items ≡ map (bypass_parts d) d.bypasses
+  pub lists : lists_of parts.lists.items ≡ map (λ c. map listed (alternatives_of known c.expression)) d.classes
+  pub each : All (λ list. AreSound (alternatives list.items)) parts.lists.items
+  pub sets : All (λ a. All IsInRange a.sets.items) parts.automata.items

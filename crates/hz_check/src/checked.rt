@@ -1,0 +1,56 @@
+//! What a description without a fault gives.
+
+use hz_grid::Grid;
+use hz_mdread::{Condition, Options};
+use hz_regexp::Name;
+use hz_unitsets::SetRule;
+
+/// A description without a fault: all names are numbers, and each class has its grids.
+#[derive(Drop)]
+pub struct Checked {
+    /// 1 to 16 automata, in the order of the file. Where none is defined there is one, which is written `-`.
+    pub automata: Vec<CheckedAutomaton>,
+    /// At most 1,024 classes of different names, in the order of the file.
+    pub classes: Vec<CheckedClass>,
+    /// The bypasses, in the order of the file. No two give one pair of classes different numbers.
+    pub bypasses: Vec<CheckedBypass>,
+    /// The attributes with their values, in the order of the file.
+    pub attributes: Vec<(Name, Vec<Name>)>,
+    /// The default of each attribute.
+    pub defaults: Vec<(Name, Name)>,
+    pub options: Options,
+}
+
+/// An automaton.
+#[derive(Drop)]
+pub struct CheckedAutomaton {
+    pub name: Name,
+    /// At most 128 units, by their numbers.
+    pub units: Vec<Name>,
+    /// The sets on its units.
+    pub sets: Vec<SetRule>,
+}
+
+/// An instruction class.
+#[derive(Drop)]
+pub struct CheckedClass {
+    pub name: Name,
+    /// The line of its form, counted from 1.
+    pub line: u32,
+    /// In cycles, at most 1,000.
+    pub latency: u32,
+    pub condition: Condition,
+    /// For each automaton its alternatives cut down to the automaton's units, in order, each later equal one dropped.
+    pub lists: Vec<Vec<Grid>>,
+}
+
+/// A bypass. The classes are told by their numbers.
+#[derive(Debug, PartialEq, Eq, Drop)]
+pub struct CheckedBypass {
+    /// The latency between them, in cycles, at most 1,000.
+    pub number: u32,
+    /// The producing classes.
+    pub outs: Vec<u32>,
+    /// The consuming classes.
+    pub ins: Vec<u32>,
+}

@@ -1,0 +1,56 @@
+//! The check of a description.
+
+ghost use Rattle.std.specs.Prelude.{IfOk, IfErr};
+ghost use Rattle.hz_mdread.specs.Shape.{description};
+ghost use Rattle.hz_check.specs.Checked.{IsCheckedOf, IsWithinLimits};
+ghost use Rattle.hz_check.specs.Faults.{Tells, IsToldAt};
+ghost use Rattle.hz_check.specs.Parts.{IsPartsOf};
+ghost use Rattle.hz_model.specs.DescriptionShape.{IsWellFormed};
+
+use crate::assembly::attributes;
+use crate::checked::Checked;
+use crate::classes::checked_classes;
+use crate::fault::CheckFault;
+use crate::parts::{Parts, parts_of};
+use hz_mdread::Description;
+use hz_regexp::NoMemory;
+use std::alloc::Global;
+
+/// A description without a fault, put together from its parts.
+fn assembled(alloc: Global, desc: Description, parts: Parts) -> Result<Checked, NoMemory>
+    requires formed { IsWellFormed (description desc) }
+    requires parts { IsPartsOf (description desc) parts }
+    ensures ok { IfOk result (IsCheckedOf (description desc)) }
+    ensures within { IfOk result IsWithinLimits }
+{
+    let count = parts.automata.len();
+    let classes = checked_classes(alloc, desc.classes, &parts.lists, count)?;
+    let attributes = attributes(alloc, desc.attributes)?;
+    Ok(Checked {
+        automata: parts.automata,
+        classes,
+        bypasses: parts.bypasses,
+        attributes: attributes.values,
+        defaults: attributes.defaults,
+        options: desc.options,
+    })
+}
+
+/// Checks a description: its names, reservations, sets, limits and bypasses, and what it gives where it has no fault. The
+/// first fault in the order of `CheckFault` is told, at the first form where it stands and with the leftmost name there.
+/// This profile, docs/RULES.md, 'Faults of a description'.
+pub fn check(alloc: Global, desc: Description) -> Result<Checked, CheckFault>
+    requires { IsWellFormed (description desc) }
+    ensures ok { IfOk result (IsCheckedOf (description desc)) }
+    ensures within { IfOk result IsWithinLimits }
+    ensures faults { IfErr result (Tells (IsToldAt (description desc))) }
+{
+    let parts = match parts_of(alloc, &desc) {
+        Ok(parts) => parts,
+        Err(fault) => return Err(fault),
+    };
+    match assembled(alloc, desc, parts) {
+        Ok(checked) => Ok(checked),
+        Err(_) => Err(CheckFault::NoMemory),
+    }
+}

@@ -1,0 +1,62 @@
+//! What is made of a description without a fault while it is still whole.
+
+ghost use Rattle.std.specs.Prelude.{IfOk, IfErr};
+ghost use Rattle.hz_mdread.specs.Shape.{description};
+ghost use Rattle.hz_check.specs.Faults.{Tells, IsToldAt};
+ghost use Rattle.hz_check.specs.Parts.{IsPartsOf};
+ghost use Rattle.hz_model.specs.DescriptionShape.{IsWellFormed};
+
+use crate::assembly::{automata, bypasses};
+use crate::bypasses::second_number;
+use crate::checked::{CheckedAutomaton, CheckedBypass};
+use crate::expansion::expanded;
+use crate::fault::CheckFault;
+use crate::placed::placed_sets;
+use crate::steps::{named, ordered, placed};
+use crate::told::{Wrong, refused};
+use hz_altern::Alt;
+use hz_mdread::Description;
+use std::alloc::Global;
+
+/// The automata, the bypasses, and for each class its alternatives.
+#[derive(Drop)]
+pub(crate) struct Parts {
+    pub automata: Vec<CheckedAutomaton>,
+    pub bypasses: Vec<CheckedBypass>,
+    pub lists: Vec<Vec<Alt>>,
+}
+
+/// The parts of a description without a fault, or the fault that is told.
+pub(crate) fn parts_of(alloc: Global, desc: &Description) -> Result<Parts, CheckFault>
+    requires formed { IsWellFormed (description desc.now) }
+    ensures ok { IfOk result (IsPartsOf (description desc.now)) }
+    ensures err { IfErr result (Tells (IsToldAt (description desc.now))) }
+{
+    let names = match named(alloc, desc) {
+        Ok(names) => names,
+        Err(fault) => return Err(fault),
+    };
+    let order = match ordered(alloc, desc) {
+        Ok(order) => order,
+        Err(fault) => return Err(fault),
+    };
+    let places = match placed(alloc, &names, &order.numbers) {
+        Ok(places) => places,
+        Err(fault) => return Err(fault),
+    };
+    let lists = match expanded(alloc, desc, &places, &order.numbers) {
+        Ok(lists) => lists,
+        Err(fault) => return Err(fault),
+    };
+    if let Some(site) = second_number(alloc, &names)? {
+        return Err(refused(Wrong::BypassTwice, site));
+    }
+    let sets = placed_sets(alloc, &names, &places)?;
+    let automata = automata(alloc, &names, &sets)?;
+    let bypasses = bypasses(alloc, &names)?;
+    Ok(Parts {
+        automata,
+        bypasses,
+        lists,
+    })
+}

@@ -1,0 +1,118 @@
+//! Units of set statements.
+
+ghost use Rattle.std.specs.Prelude.{◌≡◌, ◌<◌, IfOk, All, filter, not, vec_len, ℕ};
+ghost use Rattle.std.specs.List.{flat_map};
+ghost use Rattle.std.specs.Option.{option_copied};
+ghost use Rattle.hz_mdread.specs.Shape.{description, set_item};
+ghost use Rattle.hz_check.specs.Names.{IsJust};
+ghost use Rattle.hz_check.specs.Sites.{told};
+ghost use Rattle.hz_check.specs.Unknown.{first_of};
+ghost use Rattle.hz_model.specs.CheckFaults.{sites_of, units_of_patterns, self_excluded, self_exclusions, home, same_home, strangers, names_of_set, sets_across_automata};
+ghost use Rattle.hz_model.specs.Sites.{earliest, is_among};
+
+use crate::by_name::ByName;
+use crate::names::Names;
+use crate::site::{Site, earlier, site_in};
+use crate::tables::{add, first_held};
+use hz_mdread::{Description, SetForm, SetItem};
+use hz_regexp::{Name, NoMemory};
+use std::alloc::Global;
+
+/// The names in patterns.
+fn names_in(alloc: Global, patterns: &[Vec<Name>]) -> Result<ByName<'_, ()>, NoMemory>
+    ensures { IfOk result (λ table. IsJust table (flat_map (λ pattern. pattern.items) patterns.now)) }
+{
+    let mut table = ByName::new(alloc);
+    for pattern in patterns {
+        add(&mut table, pattern)?;
+    }
+    Ok(table)
+}
+
+/// Where a unit of the set is in a pattern too.
+fn unit_in_patterns(alloc: Global, set: &SetItem) -> Result<Option<Site<'_>>, NoMemory>
+    ensures { IfOk result (λ site. told site ≡ earliest (sites_of set.now.line set.now.form (filter (λ name. is_among name (units_of_patterns (set_item set.now))) set.now.units.items))) }
+{
+    let others = names_in(alloc, &set.patterns)?;
+    let unit = first_held(&others, &set.units);
+    Ok(site_in(set.line, set.form, unit))
+}
+
+/// Where an exclusion excludes a unit from itself.
+fn self_excluded(alloc: Global, set: &SetItem) -> Result<Option<Site<'_>>, NoMemory>
+    ensures { IfOk result (λ site. told site ≡ earliest (self_excluded (set_item set.now))) }
+{
+    match set.kind {
+        SetForm::Exclusion => unit_in_patterns(alloc, set),
+        _ => Ok(None),
+    }
+}
+
+/// Where some exclusion excludes a unit from itself.
+pub(crate) fn self_exclusion(
+    alloc: Global,
+    desc: &Description,
+) -> Result<Option<Site<'_>>, NoMemory>
+    ensures { IfOk result (λ site. told site ≡ earliest (self_exclusions (description desc.now))) }
+{
+    let mut first = None;
+    for set in &desc.sets {
+        first = earlier(first, self_excluded(alloc, set)?);
+    }
+    Ok(first)
+}
+
+/// The first unit with another automaton than this.
+fn stranger<'a>(names: &Names<'a>, automaton: Option<usize>, units: &'a [Name]) -> Option<&'a Name>
+    ensures { option_copied result ≡ first_of (filter (λ name. not (same_home (home (description names.now.desc.now) name) automaton)) units.now) }
+{
+    for unit in units {
+        if names.home(unit) != automaton {
+            return Some(unit);
+        }
+    }
+    None
+}
+
+/// The first unit in patterns with another automaton than this.
+fn stranger_in<'a>(
+    names: &Names<'a>,
+    automaton: Option<usize>,
+    patterns: &'a [Vec<Name>],
+) -> Option<&'a Name>
+    ensures { option_copied result ≡ first_of (filter (λ name. not (same_home (home (description names.now.desc.now) name) automaton)) (flat_map (λ pattern. pattern.items) patterns.now)) }
+{
+    for pattern in patterns {
+        if let Some(unit) = stranger(names, automaton, pattern) {
+            return Some(unit);
+        }
+    }
+    None
+}
+
+/// Where a unit of the set has another automaton than its first unit.
+fn stranger_of<'a>(names: &Names<'a>, set: &'a SetItem) -> Option<Site<'a>>
+    requires { 0 < vec_len set.now.units }
+    ensures { told result ≡ earliest (sites_of set.now.line set.now.form (strangers (description names.now.desc.now) (names_of_set (set_item set.now)))) }
+{
+    let automaton = names.home(&set.units[0]);
+    let unit = stranger(names, automaton, &set.units).or(stranger_in(
+        names,
+        automaton,
+        &set.patterns,
+    ));
+    site_in(set.line, set.form, unit)
+}
+
+/// Where some set has units of two automata.
+pub(crate) fn set_across_automata<'a>(names: &Names<'a>) -> Option<Site<'a>>
+    requires { All (λ set. 0 < vec_len set.units) names.now.desc.now.sets.items }
+    ensures { told result ≡ earliest (sets_across_automata (description names.now.desc.now)) }
+{
+    let desc = names.desc;
+    let mut first = None;
+    for set in &desc.sets {
+        first = earlier(first, stranger_of(names, set));
+    }
+    first
+}

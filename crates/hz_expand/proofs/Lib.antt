@@ -1,0 +1,9 @@
+pub mod Names
+pub mod Holding
+pub mod Ordered
+pub mod Unwinding
+pub mod ListedNames
+pub mod Counting
+pub mod Pasts
+pub mod Classes
+pub mod Sizes

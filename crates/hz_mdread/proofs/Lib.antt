@@ -1,0 +1,9 @@
+pub mod OperandLemmas
+pub mod ListLemmas
+pub mod ConditionLemmas
+pub mod ConditionViews
+pub mod TestLemmas
+pub mod ReadingLemmas
+pub mod PatternLemmas
+pub mod FormLemmas
+pub mod ReaderLemmas

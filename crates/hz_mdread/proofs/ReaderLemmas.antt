@@ -1,0 +1,69 @@
+-- Forms one after another.
+use Rattle.std.proofs.Common.{◌≡◌, ℕ, ◌+◌, ◌<◌, ◌≤◌, List, [], ◌∷◌, length, get_or, drop, Result, Ok, Err, refl, sym, ap, ◌∙◌, arith}
+use Rattle.std.proofs.lemmas.List.{drop_more, drop_all}
+use Rattle.hz_sexp.specs.declared.form.Form.{Form, out-Form}
+use Rattle.hz_sexp.specs.Shape.{tree, trees}
+use Rattle.hz_regexp.specs.declared.fault.ExprFault.{ExprFault}
+use Rattle.hz_regexp.specs.declared.fault.ExprFault.TheVariants.{Unexpected, Empty, RepeatZero, TooDeep, NumberTooLarge, NoMemory}
+use Rattle.hz_model.specs.ExpressionTexts.{ExpressionFault}
+use Rattle.hz_model.specs.Trees.{Tree, Trees, more}
+use Rattle.hz_model.specs.Descriptions.{Description, no_items}
+use Rattle.hz_model.specs.DescriptionShape.{IsWellFormed}
+use Rattle.hz_model.specs.DescriptionForms.{DescriptionFault, bad_expression, Addition, form_says, with_addition, forms_say, form_count, Reads, FaultAt}
+use Rattle.hz_model.proofs.DescriptionFormedAll.{well_formed}
+use Rattle.hz_mdread.specs.declared.fault.Wrong.{Wrong}
+use Rattle.hz_mdread.specs.declared.fault.Wrong.TheVariants as wrong
+use Rattle.hz_mdread.specs.Faults.{Tells, TellsOf, TellsExpression, fault_at}
+use Rattle.hz_mdread.specs.Reading.{reading}
+use Rattle.hz_mdread.proofs.FormLemmas.{line_is}
+use Rattle.hz_mdread.proofs.ReadingLemmas.{reading_is}
+
+-- there are as many trees as forms
+pub count_is : (forms : List Form) → form_count (trees forms) ≡ length forms
+count_is [] = refl
+count_is (form ∷ forms) = let h = count_is forms in omega (arith, h)
+
+forms_from : (forms : List Form) (i : ℕ) (form : Form) → i < length forms → form ≡ get_or forms i form → trees (drop i forms) ≡ more (tree form) (trees (drop (i + 1) forms))
+forms_from forms i form inside is = ap trees (drop_more forms i form inside ∙ ap (λ f. f ∷ drop (i + 1) forms) (sym is))
+
+module _ (forms : List Form) (i : ℕ) (form : Form) (d : Description) (inside : i < length forms) (is : form ≡ get_or forms i form) where
+  -- one more form
+  pub form_more : (added : Addition) → form_says reading i (tree form) ≡ Ok added → forms_say reading i d (trees (drop i forms)) ≡ forms_say reading (i + 1) (with_addition d added) (trees (drop (i + 1) forms))
+  form_more added e = rw (forms_from forms i form inside is, e) refl
+
+  -- one that is wrong
+  pub form_wrong : (fault : DescriptionFault) → form_says reading i (tree form) ≡ Err fault → forms_say reading i d (trees (drop i forms)) ≡ Err (fault, (out-Form form).line)
+  form_wrong fault e = rw (forms_from forms i form inside is, e, line_is form) refl
+
+tells_expression : {P Q : ExpressionFault → ℕ → Type 0} → (fault : ExprFault) → TellsExpression Q fault → ((kind : ExpressionFault) (at : ℕ) → Q kind at → P kind at) → TellsExpression P fault
+tells_expression (Unexpected at) h weaker = weaker _ at h
+tells_expression (Empty at) h weaker = weaker _ at h
+tells_expression (RepeatZero at) h weaker = weaker _ at h
+tells_expression (TooDeep at) h weaker = weaker _ at h
+tells_expression (NumberTooLarge at) h weaker = weaker _ at h
+tells_expression NoMemory h weaker = h
+
+-- what is wrong with a form is told at its line
+pub tells_at : (P : DescriptionFault → ℕ → Type 0) (Q : DescriptionFault → Type 0) (line : ℕ) → ((fault : DescriptionFault) → Q fault → P fault line) → (w : Wrong) → TellsOf Q w → Tells P (fault_at line w)
+tells_at P Q line weaker wrong.UnknownForm h = weaker _ h
+tells_at P Q line weaker wrong.BadShape h = weaker _ h
+tells_at P Q line weaker wrong.BadCondition h = weaker _ h
+tells_at P Q line weaker wrong.UnknownOption h = weaker _ h
+tells_at P Q line weaker wrong.LatencyLimit h = weaker _ h
+tells_at P Q line weaker (wrong.BadExpression fault) h = tells_expression {P = λ kind at. P (bad_expression kind at) line} {Q = λ kind at. Q (bad_expression kind at)} fault h (λ kind at k. weaker (bad_expression kind at) k)
+tells_at P Q line weaker wrong.UnknownGuard h = weaker _ h
+tells_at P Q line weaker wrong.NoMemory h = h
+
+-- the description that all forms say
+pub all_read : (forms : List Form) (i : ℕ) (d : Description) → length forms ≤ i → forms_say reading i d (trees (drop i forms)) ≡ forms_say reading 0 no_items (trees forms) → Reads (trees forms) d
+all_read forms i d past h = record { read = reading; reading = reading_is; says = sym h ∙ rw (drop_all i forms past) refl }
+
+pub read_formed : (forms : List Form) (d : Description) → Reads (trees forms) d → IsWellFormed d
+read_formed forms d r = (well_formed (trees forms) d r).0
+
+-- the first fault of the forms
+pub fault_read : (forms : List Form) (i : ℕ) (form : Form) (d : Description) (line : ℕ) (w : Wrong) → i < length forms → form ≡ get_or forms i form → (out-Form form).line ≡ line
+    → forms_say reading i d (trees (drop i forms)) ≡ forms_say reading 0 no_items (trees forms) → TellsOf (λ fault. form_says reading i (tree form) ≡ Err fault) w → Tells (FaultAt (trees forms)) (fault_at line w)
+fault_read forms i form d line w inside is at h =
+    tells_at (FaultAt (trees forms)) (λ fault. form_says reading i (tree form) ≡ Err fault) line
+    (λ fault e. record { read = reading; reading = reading_is; says = sym h ∙ (form_wrong forms i form d inside is fault e ∙ ap (λ (n : ℕ). Err (fault, n)) at) }) w

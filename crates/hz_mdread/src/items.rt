@@ -1,0 +1,95 @@
+//! What the forms of a description define. Each item has the line of its form, counted from 1, and
+//! the number of its form in the file, counted from 0.
+
+use crate::condition::Condition;
+use hz_regexp::{Expr, Name};
+
+/// `define_automaton`: one item for each name.
+#[derive(Debug, Drop)]
+pub struct AutomatonItem {
+    pub line: u32,
+    pub form: u32,
+    pub name: Name,
+}
+
+/// `define_cpu_unit`: one item for each name, with its automaton if one is named.
+#[derive(Debug, Drop)]
+pub struct UnitItem {
+    pub line: u32,
+    pub form: u32,
+    pub name: Name,
+    pub automaton: Option<Name>,
+}
+
+/// `define_reservation`.
+#[derive(Debug, Drop)]
+pub struct ReservationItem {
+    pub line: u32,
+    pub form: u32,
+    pub name: Name,
+    pub expr: Expr,
+}
+
+/// `define_insn_reservation`. The latency is in cycles, 0 to 1,000.
+#[derive(Debug, Drop)]
+pub struct ClassItem {
+    pub line: u32,
+    pub form: u32,
+    pub name: Name,
+    pub latency: u32,
+    pub condition: Condition,
+    pub expr: Expr,
+}
+
+/// `define_bypass`. The number is a latency in cycles, 0 to 1,000.
+#[derive(Debug, Drop)]
+pub struct BypassItem {
+    pub line: u32,
+    pub form: u32,
+    pub number: u32,
+    pub outs: Vec<Name>,
+    pub ins: Vec<Name>,
+}
+
+/// The five set forms.
+#[derive(Clone, Copy, Debug, PartialEq, Eq)]
+pub enum SetForm {
+    Exclusion,
+    Presence,
+    FinalPresence,
+    Absence,
+    FinalAbsence,
+}
+
+/// A set form. Of an exclusion each unit of the second string is a pattern by itself.
+#[derive(Debug, Drop)]
+pub struct SetItem {
+    pub line: u32,
+    pub form: u32,
+    pub kind: SetForm,
+    pub units: Vec<Name>,
+    pub patterns: Vec<Vec<Name>>,
+}
+
+/// `define_attr`, with the default in `fallback`.
+#[derive(Debug, Drop)]
+pub struct AttrItem {
+    pub line: u32,
+    pub form: u32,
+    pub name: Name,
+    pub values: Vec<Name>,
+    pub fallback: Name,
+}
+
+/// What one form adds to a description.
+#[derive(Debug, Drop)]
+pub enum Addition {
+    Automata(Vec<AutomatonItem>),
+    Units(Vec<UnitItem>),
+    Reservation(ReservationItem),
+    Class(ClassItem),
+    Bypass(BypassItem),
+    Set(SetItem),
+    Options(crate::options::Options),
+    Attribute(AttrItem),
+}

@@ -1,0 +1,205 @@
+-- The names and the lists of checked classes.
+use Rattle.std.proofs.Common.{◌≡◌, ◌≢◌, ℕ, ◌<◌, List, [], ◌∷◌, length, take, map, get_or, Option, Some, None, refl, sym, ap, ◌∙◌, subst, arith, suc, cond, nat_eq, nat_lt, codes, true, false, Bool, All, slice_get, IsTrue, ⊎_elim, inl, inr, MatchBool}
+use Rattle.std.specs.List.{AllPairs}
+use Rattle.std.specs.Str.{bytes_eq}
+use Rattle.std.proofs.lemmas.List.{length-map, length-take, get_or-take, get_or-map}
+use Rattle.std.proofs.lemmas.List.Quantifiers.{position-Some}
+use Rattle.std.proofs.lemmas.Slice.Eq.{bytes_eq-Decides}
+use Rattle.hz_model.specs.Lines.{place_of}
+use Rattle.hz_model.specs.Automata.{UnitPlace, list_in}
+use Rattle.hz_model.specs.CheckedParts.{ClassParts, automaton_names, automaton_count, automata_from, statements_in, class_parts}
+use Rattle.hz_model.specs.Alternatives.{Alternative, alternatives_of}
+use Rattle.hz_model.specs.Answers.{Says, is_built, Traces, Replays, ReplaysDescription}
+use Rattle.hz_model.specs.CheckFaults.{Known}
+use Rattle.hz_model.specs.Lines.{lines_of}
+use Rattle.hz_model.specs.StraightTraces.{StraightTrace}
+use Rattle.hz_model.specs.Texts.{not_built_line}
+use Rattle.hz_model.proofs.EventLaws.{events_known}
+use Rattle.hz_model.proofs.MachineLaws.{machine_of_one}
+use Rattle.hz_tool.proofs.AnswerLemmas.{agrees_weaker}
+use Rattle.hz_tool.specs.Decisions.{Agrees, IsTraceReport}
+use Rattle.hz_tool.specs.Trace.{IsNoTrace}
+use Rattle.hz_tool.specs.declared.report.Report.{Report}
+use Rattle.hz_tool.specs.declared.report.Report.TheVariants as report
+use Rattle.hz_model.specs.Pairs.{Pair}
+use Rattle.std.proofs.Math.Dec.{eqb-suc-zero}
+use Rattle.std.proofs.Math.Path.{fun_ext}
+use Rattle.std.proofs.lemmas.Bool.{cases_Bool, and_parts, ltb-true}
+use Rattle.std.proofs.lemmas.List.Elements.{All-nil, All-cons}
+use Rattle.std.proofs.lemmas.Option.{slice_get-map, get_or_from_slice_get, unwrap_or-slice_get}
+use Rattle.std.specs.Option.{option_map}
+use Rattle.std.specs.Prelude.{◌↔◌, unwrap_or}
+use Rattle.hz_model.specs.Machines as model
+use Rattle.hz_model.specs.Sets.{Statement, Fits}
+use Rattle.std.specs.List.{range_with_len}
+use Rattle.std.specs.Prelude.{◌&&◌, not}
+use Rattle.std.proofs.lemmas.List.FromFn.{length-range_with_len, get_or-range_with_len}
+use Rattle.hz_check.specs.declared.checked.Checked.{Checked}
+use Rattle.hz_check.specs.declared.checked.CheckedClass.{CheckedClass}
+use Rattle.hz_check.specs.Checked.{IsCheckedOf, IsWithinLimits, automaton_of, class_of}
+use Rattle.hz_model.specs.Descriptions.{Description, AutomatonItem, ClassItem, Options}
+use Rattle.hz_model.specs.Machines.{class_names, class_in, machine_with, restricted, IsOf}
+use Rattle.hz_model.specs.Replay.{Machine, Class, Event, alternatives_at, of_class, first_fit, any_fit, IsOfClass}
+use Rattle.hz_model.proofs.RestrictLaws.{pairs_back, accepted_restricted, refused_restricted}
+use Rattle.hz_tool.specs.Checked.{statements_of_first, first_statements, first_list, HasList, IsReplayable}
+use Rattle.hz_tool.specs.Replay.{AreListsOf, IsOutcome}
+use Rattle.hz_tool.specs.declared.replay.Outcome.{Outcome}
+use Rattle.hz_tool.specs.declared.replay.Outcome.TheVariants.{Accepted, Refused}
+
+-- of different names each is new behind those before it
+pub new_name : (names : List (List ℕ)) (i : ℕ) → AllPairs (λ a b. a ≢ b) names → i < length names → place_of (get_or names i []) (take i names) ≡ None
+new_name names i distinct within = by_place (place_of (get_or names i []) (take i names)) refl
+  where
+    by_place : (o : Option ℕ) → place_of (get_or names i []) (take i names) ≡ o → o ≡ None
+    by_place None e = refl
+    by_place (Some j) e =
+        let found = position-Some (bytes_eq (get_or names i [])) (take i names) j [] e in
+        let low : j < i = omega (arith, found.0, length-take i names) in
+        let same = (bytes_eq-Decides (get_or names i []) (get_or (take i names) j [])).0 found.1 in
+        absurd (distinct j i [] low within (sym (same ∙ get_or-take i names j [] low)))
+
+-- the name of a class stands at its number
+pub name_at : {A : Type 0} (f : A → List ℕ) (classes : List A) (i : ℕ) (d : A) → i < length classes → f (get_or classes i d) ≡ get_or (map f classes) i []
+name_at f classes i d within = sym (get_or-map f classes i d [] within)
+
+-- what a replay of the restriction to the only automaton answers is the answer
+pub outcome_whole : (m : Machine UnitPlace) → IsOf 0 m → (events : List Event) (outcome : Outcome) → IsOutcome (restricted 0 m) events outcome → IsOutcome m events outcome
+outcome_whole m is events (Accepted issues cycles) h = ((accepted_restricted 0 m is events).1 h.0, h.1, h.2)
+outcome_whole m is events (Refused event class) h = ((refused_restricted 0 m is events event).1 h.0, h.1)
+
+map_twice : {A B C : Type 0} (f : B → C) (g : A → B) (xs : List A) → map f (map g xs) ≡ map (λ x. f (g x)) xs
+map_twice f g [] = refl
+map_twice f g (x ∷ xs) = ap (λ (ys : List _). f (g x) ∷ ys) (map_twice f g xs)
+
+-- what holds of each item that is made holds of all of them
+all_map : {A B : Type 0} (f : A → B) (P : B → Type 0) → ((x : A) → P (f x)) → (xs : List A) → All P (map f xs)
+all_map f P each [] = All-nil P
+all_map f P each (x ∷ xs) = All-cons P (f x) (map f xs) (each x) (all_map f P each xs)
+
+-- there is an automaton
+module _ (d : Description) where
+  first_automaton : (automata : List AutomatonItem) → statements_of_first (automata_from d 0 (cond (nat_eq (length automata) 0) (codes "-" ∷ []) (map (λ a. a.name) automata))) ≡ statements_in d 0
+  first_automaton [] = refl
+  first_automaton (a ∷ automata) = rw (eqb-suc-zero (length automata)) refl
+
+  automata_from_count : (n : ℕ) (names : List (List ℕ)) → length (automata_from d n names) ≡ length names
+  automata_from_count n [] = refl
+  automata_from_count n (name ∷ names) = ap suc (automata_from_count (suc n) names)
+
+  names_count : (automata : List AutomatonItem) → nat_lt (length (cond (nat_eq (length automata) 0) (codes "-" ∷ []) (map (λ a. a.name) automata))) 2 ≡ nat_lt (length automata) 2
+  names_count [] = refl
+  names_count (a ∷ automata) = rw (eqb-suc-zero (length automata), length-map automata (λ (b : AutomatonItem). b.name)) refl
+
+  some_name : (automata : List AutomatonItem) → 0 < length (cond (nat_eq (length automata) 0) (codes "-" ∷ []) (map (λ a. a.name) automata))
+  some_name [] = omega arith
+  some_name (a ∷ automata) = rw (eqb-suc-zero (length automata)) (omega arith)
+
+module _ (d : Description) (checked : Checked) (is : IsCheckedOf d checked) where
+  -- as many automata as names
+  automata_count : length checked.automata.items ≡ length (automaton_names d)
+  automata_count = sym (length-map checked.automata.items automaton_of) ∙ (ap length is.automata ∙ automata_from_count d 0 (automaton_names d))
+
+  -- what is held is built where the description is
+  pub built_same : (nat_lt (length checked.automata.items) 2 && not checked.options.ndfa) ≡ is_built d
+  built_same =
+      ap (λ (n : ℕ). nat_lt n 2 && not checked.options.ndfa) automata_count
+      ∙ (ap (λ (b : Bool). b && not checked.options.ndfa) (names_count d d.automata) ∙ ap (λ (o : Options). nat_lt (length d.automata) 2 && not o.ndfa) is.options)
+
+  -- the classes have the names of the description's
+  pub names_same : map (λ (c : CheckedClass). c.name) checked.classes.items ≡ class_names d
+  names_same =
+      sym (map_twice (λ (p : ClassParts). p.name) class_of checked.classes.items)
+      ∙ (ap (map (λ (p : ClassParts). p.name)) is.classes ∙ map_twice (λ (p : ClassParts). p.name) (class_parts d is.known) d.classes)
+
+  -- the list of a class in the first automaton
+  abbrev first_of : ClassParts → List (List (Pair ℕ))
+  first_of p = get_or p.lists 0 []
+
+  first_of_parts : (c : ClassItem) → first_of (class_parts d is.known c) ≡ list_in 0 (alternatives_of is.known c.expression)
+  first_of_parts c =
+      let some = some_name d d.automata in
+      get_or-map (λ (automaton : ℕ). list_in automaton (alternatives_of is.known c.expression)) (range_with_len 0 (automaton_count d)) 0 0 [] (omega (arith, some, length-range_with_len 0 (automaton_count d)))
+      ∙ ap (λ (a : ℕ). list_in a (alternatives_of is.known c.expression)) (get_or-range_with_len 0 (automaton_count d) 0 0 some)
+
+  lists_same : map first_list checked.classes.items ≡ map (λ (c : ClassItem). list_in 0 (alternatives_of is.known c.expression)) d.classes
+  lists_same =
+      sym (map_twice first_of class_of checked.classes.items)
+      ∙ (ap (map first_of) is.classes ∙ (map_twice first_of (class_parts d is.known) d.classes
+      ∙ ap (λ (f : ClassItem → List (List (Pair ℕ))). map f d.classes) (fun_ext first_of_parts)))
+
+  -- each class has a list
+  pub have_lists : All HasList checked.classes.items
+  have_lists k other within =
+      let some = some_name d d.automata in
+      let each = all_map (class_parts d is.known) (λ p. 0 < length p.lists) (λ c. omega (arith, some, length-map (range_with_len 0 (automaton_count d)) (λ (automaton : ℕ). list_in automaton (alternatives_of is.known c.expression)), length-range_with_len 0 (automaton_count d))) d.classes in
+      let there = subst (All (λ p. 0 < length p.lists)) (sym is.classes) each k (class_of other) (omega (arith, within, length-map checked.classes.items class_of)) in
+      let here = subst (λ (p : ClassParts). 0 < length p.lists) (get_or-map class_of checked.classes.items k other (class_of other) within) there in
+      omega (arith, here, length-map (get_or checked.classes.items k other).lists.items (λ list. list.items))
+
+  statements_same : first_statements checked ≡ statements_in d 0
+  statements_same = ap statements_of_first is.automata ∙ first_automaton d d.automata
+
+  -- they are the lists and statements of the restriction
+  pub lists_of_restriction : IsTrue (is_built d) → AreListsOf (first_statements checked) (map first_list checked.classes.items) (restricted 0 (machine_with d is.known))
+  lists_of_restriction built = record {
+    statements = λ source pairs now. subst (λ (ss : List (Statement ℕ)). Fits (first_statements checked) source pairs now ↔ Fits ss source pairs now) statements_same (λ h. h, λ h. h);
+    first = ⊎_elim
+        (λ (h : d.options.ndfa ≡ true). let only = (and_parts (nat_lt (length d.automata) 2) (not d.options.ndfa) built).1 in let other = ap not h in absurd (cc))
+        (λ (h : d.options.ndfa ≡ false). ap (λ (b : Bool). cond b any_fit first_fit) h)
+        (cases_Bool d.options.ndfa);
+    classes = λ k within. by_class k within (slice_get d.classes k) refl;
+  }
+    where
+      by_class : (k : ℕ) → k < length (map first_list checked.classes.items) → (o : Option ClassItem) → slice_get d.classes k ≡ o
+          → map (λ (a : Alternative ℕ). a.pairs) (alternatives_at (restricted 0 (machine_with d is.known)) k) ≡ get_or (map first_list checked.classes.items) k []
+      by_class k within None e =
+          let list : ClassItem → List (List (Pair ℕ)) = λ b. list_in 0 (alternatives_of is.known b.expression) in
+          let there : slice_get (map (class_in 0) (map (model.class_of is.known) d.classes)) k ≡ None =
+          slice_get-map (class_in 0) (map (model.class_of is.known) d.classes) k ∙ ap (option_map (class_in 0)) (slice_get-map (model.class_of is.known) d.classes k ∙ ap (option_map (model.class_of is.known)) e) in
+          ap (λ (o : Option (Class ℕ)). map (λ (a : Alternative ℕ). a.pairs) (of_class o)) there
+          ∙ sym (ap (λ (ls : List (List (List (Pair ℕ)))). get_or ls k []) lists_same ∙ (sym (unwrap_or-slice_get (map list d.classes) k []) ∙ ap (λ (o : Option (List (List (Pair ℕ)))). unwrap_or o []) (slice_get-map list d.classes k ∙ ap (option_map list) e)))
+      by_class k within (Some c) e =
+          let there : slice_get (map (class_in 0) (map (model.class_of is.known) d.classes)) k ≡ Some (class_in 0 (model.class_of is.known c)) =
+          slice_get-map (class_in 0) (map (model.class_of is.known) d.classes) k ∙ ap (option_map (class_in 0)) (slice_get-map (model.class_of is.known) d.classes k ∙ ap (option_map (model.class_of is.known)) e) in
+          let here : get_or (map first_list checked.classes.items) k [] ≡ list_in 0 (alternatives_of is.known c.expression) =
+          ap (λ (ls : List (List (List (Pair ℕ)))). get_or ls k []) lists_same
+          ∙ get_or_from_slice_get (map (λ (b : ClassItem). list_in 0 (alternatives_of is.known b.expression)) d.classes) k (list_in 0 (alternatives_of is.known c.expression)) []
+          (slice_get-map (λ (b : ClassItem). list_in 0 (alternatives_of is.known b.expression)) d.classes k ∙ ap (option_map (λ (b : ClassItem). list_in 0 (alternatives_of is.known b.expression))) e) in
+          ap (λ (o : Option (Class ℕ)). map (λ (a : Alternative ℕ). a.pairs) (of_class o)) there ∙ (pairs_back (list_in 0 (alternatives_of is.known c.expression)) ∙ sym here)
+
+-- what the replay relies on holds of each checked description
+pub replayable : (d : Description) (checked : Checked) → IsCheckedOf d checked → IsWithinLimits checked → IsReplayable checked
+replayable d checked is limits =
+    let some = some_name d d.automata in
+    record { automata = omega (arith, some, automata_count d checked is); lists = have_lists d checked is; limits = limits }
+
+-- a machine of fewer than two automata has one
+pub one_automaton : (d : Description) (checked : Checked) (is : IsCheckedOf d checked) → IsTrue (is_built d) → IsOf 0 (machine_with d is.known)
+one_automaton d checked is built =
+    let few = ltb-true (length d.automata) 2 (and_parts (nat_lt (length d.automata) 2) (not d.options.ndfa) built).0 in
+    machine_of_one d (machine_with d is.known) (omega arith) (record { known = is.known; right = (is.sound.unfolded).right; machine = refl })
+
+-- a trace that is not built is told so
+pub trace_refused : (d : Description) (name text : List ℕ) (next : List Event → ℕ → List ℕ → Type 0) (report : Report) → IsTraceReport name (IsNoTrace (class_names d) text) report → Agrees (Traces d name text next) report
+trace_refused d name text next (report.NotBuilt file) (same, wrong) = inr (wrong, (refl, ap not_built_line same))
+trace_refused d name text next report.Memory h = tt
+trace_refused d name text next _ h = absurd h
+
+-- the events of a trace, replayed
+pub trace_replayed : (d : Description) (name text : List ℕ) (events : List Event) (next : List Event → ℕ → List ℕ → Type 0) (report : Report) → StraightTrace (class_names d) text events → Agrees (next events) report → Agrees (Traces d name text next) report
+trace_replayed d name text events next report is h = agrees_weaker (next events) (Traces d name text next) (λ s t a. inl (events, is, a)) report h
+
+-- the events of a trace are of its classes
+pub trace_of : (names : List (List ℕ)) (text : List ℕ) (events : List Event) → StraightTrace names text events → All (IsOfClass (length names)) events
+trace_of names text events is = events_known names (lines_of text) events is.lines
+
+-- a description that is built is replayed
+pub replays_built : (description trace traced : List ℕ) (d : Description) (known : Known) (report : Report) → is_built d ≡ true → Agrees (Traces d trace traced (Replays (machine_with d known))) report → Agrees (ReplaysDescription description trace traced d known) report
+replays_built description trace traced d known report built h =
+    agrees_weaker (Traces d trace traced (Replays (machine_with d known))) (ReplaysDescription description trace traced d known)
+    (λ s t a. subst (λ (b : Bool). MatchBool b (Traces d trace traced (Replays (machine_with d known)) s t) (Says 2 (not_built_line description) s t)) (sym built) a) report h
+
+-- a description that is not built is told so
+pub not_built : (description trace traced : List ℕ) (d : Description) (known : Known) → is_built d ≡ false → ReplaysDescription description trace traced d known 2 (not_built_line description)
+not_built description trace traced d known other =
+    subst (λ (b : Bool). MatchBool b (Traces d trace traced (Replays (machine_with d known)) 2 (not_built_line description)) (Says 2 (not_built_line description) 2 (not_built_line description))) (sym other) (refl, refl)

@@ -1,0 +1,14 @@
+use Rattle.std.proofs.Common.{◌≡◌, true, sym, ◌∙◌}
+use Rattle.hz_model.specs.Answers.{is_built}
+use Rattle.hz_tool.proofs.CheckedLemmas.{built_same, not_built, replays_built}
+use Rattle.hz_tool.proofs.checked.replay_report.Goals as goal
+
+pub returns-then-not-is_built-clause-answer : goal.returns-then-not-is_built-clause-answer
+returns-then-not-is_built-clause-answer c = λ d is.
+    not_built c.args.order.now.description.now c.args.order.now.trace.now c.args.trace.now d is.known (sym (built_same d c.args.checked.now is) ∙ (sym c.is_built.ensures ∙ c.if-not-is_built.true))
+
+pub returns-in-Ok-clause-answer : goal.returns-in-Ok-clause-answer
+returns-in-Ok-clause-answer c = λ d is.
+    let built : is_built d ≡ true = sym (built_same d c.args.checked.now is) ∙ (sym c.is_built.ensures ∙ c.if-not-is_built.false) in
+    replays_built c.args.order.now.description.now c.args.order.now.trace.now c.args.trace.now d is.known c.trace_report.result built
+    (c.trace_report.ensures.answer d is built)

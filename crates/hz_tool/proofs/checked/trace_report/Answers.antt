@@ -1,0 +1,41 @@
+use Rattle.std.proofs.Common.{◌≡◌, ℕ, List, length, All, sym, ap, ◌∙◌, subst}
+use Rattle.std.proofs.lemmas.List.{length-map}
+use Rattle.hz_model.specs.Answers.{Replays}
+use Rattle.hz_model.specs.Replay.{IsOfClass}
+use Rattle.hz_tool.specs.Checked.{IsTraceOf}
+use Rattle.hz_tool.specs.Replay.{IsOutcome}
+use Rattle.hz_tool.specs.declared.trace.Event.{Event}
+use Rattle.hz_model.specs.Machines.{machine_with, restricted}
+use Rattle.hz_model.specs.StraightTraces.{StraightTrace}
+use Rattle.hz_tool.specs.Decisions.{Agrees, IsTraceReport}
+use Rattle.hz_tool.specs.Names.{names_in}
+use Rattle.hz_tool.specs.Trace.{events_in, IsNoTrace}
+use Rattle.hz_tool.proofs.CheckedLemmas.{names_same, trace_refused, trace_replayed, trace_of, outcome_whole, one_automaton, lists_of_restriction}
+use Rattle.hz_tool.proofs.checked.trace_report.Goals as goal
+
+pub returns-in-Err-clause-answer : goal.returns-in-Err-clause-answer
+returns-in-Err-clause-answer c = λ d is built.
+    let names = c.requires.names ∙ names_same d c.args.checked.now is in
+    trace_refused d c.args.file.now c.args.trace.now (Replays (machine_with d is.known)) c.in-Err.report
+    (subst (λ (ns : List (List ℕ)). IsTraceReport c.args.file.now (IsNoTrace ns c.args.trace.now) c.in-Err.report) names c.in-Err.ensures.err)
+
+pub replay_checked-requires-clause-trace : goal.replay_checked-requires-clause-trace
+replay_checked-requires-clause-trace c =
+    let straight = c.in-Ok.ensures.ok in
+    let count : length (names_in c.args.names.now.keys) ≡ length c.args.checked.now.classes.items = ap length c.requires.names ∙ length-map c.args.checked.now.classes.items (λ class. class.name) in
+    subst (λ (es : List Event). IsTraceOf c.args.checked.now (events_in es)) (sym c.deref.ensures.value) (record {
+      classes = subst (λ (n : ℕ). All (IsOfClass n) (events_in c.in-Ok.events.items)) count (trace_of (names_in c.args.names.now.keys) c.args.trace.now (events_in c.in-Ok.events.items) straight);
+      short = straight.short;
+    })
+
+pub returns-in-Ok-replay_checked-clause-answer : goal.returns-in-Ok-replay_checked-clause-answer
+returns-in-Ok-replay_checked-clause-answer c = λ d is built.
+    let names = c.requires.names ∙ names_same d c.args.checked.now is in
+    let straight = subst (λ (ns : List (List ℕ)). StraightTrace ns c.args.trace.now (events_in c.in-Ok.events.items)) names c.in-Ok.ensures.ok in
+    let m = machine_with d is.known in
+    let same = c.deref-in-Ok-replay_checked.ensures.value in
+    let right = c.in-Ok-replay_checked.ensures.right (restricted 0 m) (lists_of_restriction d c.args.checked.now is built) in
+    let outcome = outcome_whole m (one_automaton d c.args.checked.now is built) (events_in c.deref.result.now) c.in-Ok-replay_checked.outcome right in
+    let here = subst (λ (es : List Event). IsOutcome m (events_in es) c.in-Ok-replay_checked.outcome) (c.deref.ensures.value ∙ sym same) outcome in
+    trace_replayed d c.args.file.now c.args.trace.now (events_in c.in-Ok.events.items) (Replays m) c.outcome_report.result straight
+    (subst (λ (es : List Event). Agrees (Replays m (events_in es)) c.outcome_report.result) same (c.outcome_report.ensures.answer d is.known names here))

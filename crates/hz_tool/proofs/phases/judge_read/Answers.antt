@@ -1,0 +1,13 @@
+use Rattle.hz_mdread.specs.Shape.{description}
+use Rattle.hz_model.specs.Answers.{JudgesDescription}
+use Rattle.hz_sexp.specs.Shape.{trees}
+use Rattle.hz_tool.proofs.JudgeLemmas.{description_on, description_refused}
+use Rattle.hz_tool.proofs.phases.judge_read.Goals as goal
+
+pub returns-in-Ok-clause-answer : goal.returns-in-Ok-clause-answer
+returns-in-Ok-clause-answer c =
+    description_on c.args.order.now.description.now (trees c.args.read.now) (description c.in-Ok.described) (JudgesDescription c.args.order.now.description.now c.args.order.now.trace.now c.args.trace.now) c.judge_described.result c.in-Ok.ensures.ok c.judge_described.ensures.answer
+
+pub returns-in-Err-clause-answer : goal.returns-in-Err-clause-answer
+returns-in-Err-clause-answer c =
+    description_refused c.args.order.now.description.now (trees c.args.read.now) (JudgesDescription c.args.order.now.description.now c.args.order.now.trace.now c.args.trace.now) c.in-Err.report c.in-Err.ensures.err

@@ -1,0 +1,64 @@
+//! The phases of judging both texts, in their order: forms, description, check, trace and replay.
+
+ghost use Rattle.std.specs.Prelude.{◌<◌, ◌^◌, IsTrue, length};
+ghost use Rattle.hz_mdread.specs.Shape.{description};
+ghost use Rattle.hz_model.specs.Answers.{Judges, JudgesDescription, JudgesForms};
+ghost use Rattle.hz_model.specs.DescriptionForms as description_forms;
+ghost use Rattle.hz_model.specs.DescriptionShape.{IsWellFormed};
+ghost use Rattle.hz_sexp.specs.Shape.{trees};
+ghost use Rattle.hz_tool.specs.Decisions.{Agrees, IsJudged};
+
+use super::checked::replay_report;
+use super::judging::{judge_check, judge_description, judge_forms};
+use super::report::Report;
+use super::words::ReplayOrder;
+use hz_mdread::Description;
+use hz_sexp::Form;
+use std::alloc::Global;
+
+/// The report of a description that is read.
+fn judge_described<'a>(
+    alloc: Global,
+    order: &ReplayOrder<'a>,
+    described: Description,
+    trace: &[u8],
+) -> Report<'a>
+    requires { IsWellFormed (description described) }
+    ensures kind { IsJudged result }
+    ensures answer { Agrees (JudgesDescription order.now.description.now order.now.trace.now trace.now (description described)) result }
+{
+    match judge_check(alloc, order.description, described) {
+        Ok(checked) => replay_report(alloc, order, &checked, trace),
+        Err(report) => report,
+    }
+}
+
+/// The report of forms that are read.
+fn judge_read<'a>(alloc: Global, order: &ReplayOrder<'a>, read: &[Form], trace: &[u8]) -> Report<'a>
+    requires count { description_forms.form_count (trees read.now) < 2 ^ 32 }
+    requires strings { IsTrue (description_forms.strings_below (2 ^ 32) (trees read.now)) }
+    ensures kind { IsJudged result }
+    ensures answer { Agrees (JudgesForms order.now.description.now order.now.trace.now trace.now (trees read.now)) result }
+{
+    match judge_description(alloc, order.description, read) {
+        Ok(described) => judge_described(alloc, order, described, trace),
+        Err(report) => report,
+    }
+}
+
+/// The report of both texts, the description judged first.
+pub fn judge<'a>(
+    alloc: Global,
+    order: &ReplayOrder<'a>,
+    described: &[u8],
+    trace: &[u8],
+) -> Report<'a>
+    requires { length described.now < 2 ^ 32 }
+    ensures kind { IsJudged result }
+    ensures answer { Agrees (Judges order.now.description.now described.now order.now.trace.now trace.now) result }
+{
+    match judge_forms(alloc, order.description, described) {
+        Ok(read) => judge_read(alloc, order, &read, trace),
+        Err(report) => report,
+    }
+}

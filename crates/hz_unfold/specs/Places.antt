@@ -1,0 +1,7 @@
+-- Places in a file, as the definitions have them.
+use Rattle.hz_model.specs.Sites as model
+use Rattle.hz_unfold.specs.declared.site.Site.{Site}
+
+-- a site
+abbrev pub site_of : Site → model.Site
+site_of s = record { line = s.line; form = s.form; name = s.name.now }

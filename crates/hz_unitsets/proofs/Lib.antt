@@ -1,0 +1,3 @@
+pub mod Cycles
+pub mod InOrder
+pub mod RowUnits

@@ -1,0 +1,2 @@
+pub mod SetRules
+pub mod RowRules

@@ -1,0 +1,11 @@
+//! The five set statements as rules over grids: whether what an issue adds fits what stands reserved.
+#![tactic(auto)]
+
+mod row_rules;
+mod set_rules;
+
+pub use row_rules::{NoMemory, Rules};
+pub use set_rules::{SetKind, SetRule};
+
+#[cfg(test)]
+mod tests;
