@@ -1,5 +1,5 @@
 -- Alternatives cut down to an automaton, as lists and as grids.
-use Rattle.std.proofs.Common.{◌≡◌, ℕ, ◌+◌, ◌<◌, ◌⊎◌, nat_lt, Bool, true, false, cond, ◌&&◌, ◌||◌, ◌==◌, not, List, [], ◌∷◌, ◌++◌, length, map, filter, take, get_or, All, Contains, refl, sym, ap, ◌∙◌, subst, arith}
+use Rattle.std.proofs.Common.{◌≡◌, ◌↔◌, ℕ, ◌+◌, ◌<◌, ◌⊎◌, nat_lt, Bool, true, false, cond, ◌&&◌, ◌||◌, ◌==◌, not, List, [], ◌∷◌, ◌++◌, length, map, filter, take, get_or, All, Contains, refl, sym, ap, ◌∙◌, subst, arith}
 use Rattle.std.specs.List.{AllPairs, list_any}
 use Rattle.std.specs.Cmp.Lexicographic.{pointwise}
 use Rattle.std.specs.declared.alloc.Global.{Global}
@@ -7,20 +7,21 @@ use Rattle.std.specs.declared.vec.Vec.{Vec}
 use Rattle.std.proofs.lemmas.Bool.{eqb-true}
 use Rattle.std.proofs.lemmas.Bool.Decides.{nat_tests}
 use Rattle.std.proofs.lemmas.List.{map-append, take_more}
-use Rattle.std.proofs.lemmas.List.Elements.{All-filter, All-map, filter_passes}
+use Rattle.std.proofs.lemmas.List.Elements.{All-filter, All-map, All-contains, Contains-get_or, filter_passes}
 use Rattle.std.proofs.lemmas.List.Kept.{AllPairs-filter}
 use Rattle.hz_grid.specs.Grids.{IsGrid, HoldsJust, Precedes as PrecedesInside}
-use Rattle.hz_grid.proofs.Pairs.{same_grids}
+use Rattle.hz_grid.proofs.Pairs.{Precedes_asymmetric, same_grids}
 use Rattle.hz_altern.specs.declared.alternative.Alt.{Alt}
 use Rattle.hz_altern.specs.Cuts.{within_pair, within_pairs, cuts_of}
 use Rattle.hz_altern.specs.Shapes.{alternative_of, alternatives}
 use Rattle.hz_model.specs.Pairs.{Pair}
 use Rattle.hz_model.specs.Alternatives.{Alternative}
-use Rattle.hz_model.specs.AlternativeLists.{IsAscending, IsCuttable}
-use Rattle.hz_model.specs.Automata.{UnitPlace, is_of, inside, cut, list_in, same_pair}
-use Rattle.hz_model.proofs.Ascending.{AllPairs-map}
-use Rattle.hz_model.proofs.AscendingLaws.{Precedes, pair_at, ascending_itself}
-use Rattle.hz_model.proofs.Elements.{Contains-map, Contains-from_map}
+use Rattle.hz_model.specs.AlternativeLists.{IsAscending}
+use Rattle.hz_model.specs.Automata.{UnitPlace, ascending, is_of, inside, cut, list_in, same_pair}
+use Rattle.hz_model.proofs.Ascending.{AllPairs-map, same_from_ascending}
+use Rattle.hz_model.proofs.AscendingLaws.{Precedes, pair_at, IsAscending-ascending, Contains-ascending, Contains-from_ascending}
+use Rattle.hz_model.proofs.Elements.{Contains-map, Contains-from_map, Contains-filter, Contains-from_filter}
+use Rattle.hz_model.proofs.PlacedLaws.{All-ascending}
 use Rattle.hz_model.proofs.ListInLaws.{list_in-push}
 
 before_numbers : (a x b y c z : ℕ) → (nat_lt a x || (a == x && (nat_lt b y || (b == y && nat_lt c z)))) ≡ true → b ≡ y → (a < x) ⊎ ((a ≡ x) × (c < z))
@@ -62,18 +63,51 @@ module _ (automaton : ℕ) (ps : List (Pair UnitPlace)) where
     cycles = All-map (λ q. q.cycle < 256) inside those (All-filter (is_of automaton) (λ p. p.cycle < 256) ps cycles);
   }
 
--- a grid of pairs that are a grid is that grid
-pub grid_is : (pairs : List (ℕ × ℕ)) (grid : List (Pair ℕ)) → IsGrid (within_pairs pairs) → IsGrid grid → HoldsJust pairs grid → grid ≡ within_pairs pairs
-grid_is pairs grid those is just = same_grids grid (within_pairs pairs) is those (λ p. (
-  λ h. Contains-map within_pair pairs (p.unit, p.cycle) ((just p.unit p.cycle).0 h),
-  λ h.
-      let from = Contains-from_map within_pair pairs p h in
-      (just p.unit p.cycle).1 (subst (λ (q : ℕ × ℕ). Contains pairs q) (pair_back from.0 p from.2) from.1),
-))
+-- The cut of pairs, which may stand in any order and several times.
+module _ (automaton : ℕ) (ps : List (Pair UnitPlace)) (units : All (λ p. p.unit.unit < 128) ps) (cycles : All (λ p. p.cycle < 256) ps) where
+  pub cut_is_grid : IsGrid (cut automaton ps)
+  cut_is_grid = cut_grid automaton (ascending ps) (IsAscending-ascending ps) (All-ascending (λ p. p.unit.unit < 128) ps units) (All-ascending (λ p. p.cycle < 256) ps cycles)
 
--- the cut of an alternative, where its pairs ascend
-pub cut_is : (automaton : ℕ) (a : Alternative UnitPlace) → IsCuttable a → cut automaton a.pairs ≡ map inside (filter (is_of automaton) a.pairs)
-cut_is automaton a is = ap (λ ps. map inside (filter (is_of automaton) ps)) (ascending_itself a.pairs is.ascending)
+  -- it has the pairs of the automaton's units
+  in_cut : (p : Pair ℕ) → Contains (map inside (filter (is_of automaton) ps)) p → Contains (cut automaton ps) p
+  in_cut p there =
+      let from = Contains-from_map inside (those automaton ps) p there in
+      let kept = Contains-from_filter (is_of automaton) from.0 ps from.1 in
+      subst (λ (q : Pair ℕ). Contains (cut automaton ps) q) from.2
+      (Contains-map inside (those automaton (ascending ps)) from.0 (Contains-filter (is_of automaton) from.0 kept.1 (ascending ps) (Contains-ascending from.0 ps kept.0)))
+
+  from_cut : (p : Pair ℕ) → Contains (cut automaton ps) p → Contains (map inside (filter (is_of automaton) ps)) p
+  from_cut p there =
+      let from = Contains-from_map inside (those automaton (ascending ps)) p there in
+      let kept = Contains-from_filter (is_of automaton) from.0 (ascending ps) from.1 in
+      subst (λ (q : Pair ℕ). Contains (map inside (those automaton ps)) q) from.2
+      (Contains-map inside (those automaton ps) from.0 (Contains-filter (is_of automaton) from.0 kept.1 ps (Contains-from_ascending from.0 ps kept.0)))
+
+  -- a grid of those pairs is the cut
+  module _ (found pairs : List (ℕ × ℕ)) (taken : within_pairs found ≡ map inside (filter (is_of automaton) ps)) (same : (pair : ℕ × ℕ) → Contains pairs pair ↔ Contains found pair) where
+    in_found : (p : Pair ℕ) → Contains (cut automaton ps) p → Contains pairs (p.unit, p.cycle)
+    in_found p there =
+        let from = Contains-from_map within_pair found p (subst (λ (qs : List (Pair ℕ)). Contains qs p) (sym taken) (from_cut p there)) in
+        (same (p.unit, p.cycle)).1 (subst (λ (q : ℕ × ℕ). Contains found q) (pair_back from.0 p from.2) from.1)
+
+    from_found : (p : Pair ℕ) → Contains pairs (p.unit, p.cycle) → Contains (cut automaton ps) p
+    from_found p there = in_cut p (subst (λ (qs : List (Pair ℕ)). Contains qs p) taken (Contains-map within_pair found (p.unit, p.cycle) ((same (p.unit, p.cycle)).0 there)))
+
+    pub grid_is : (grid : List (Pair ℕ)) → IsGrid grid → HoldsJust pairs grid → grid ≡ cut automaton ps
+    grid_is grid is just = same_grids grid (cut automaton ps) is cut_is_grid (λ p. (
+      λ h. from_found p ((just p.unit p.cycle).0 h),
+      λ h. (just p.unit p.cycle).1 (in_found p h),
+    ))
+
+    -- what holds of each pair of the cut holds of the pairs
+    pub each_found : (P : Pair ℕ → Type 0) → All P (cut automaton ps) → All (λ pair. P (within_pair pair)) pairs
+    each_found P each = λ k d within. All-contains P (cut automaton ps) (within_pair (get_or pairs k d)) each (from_found (within_pair (get_or pairs k d)) (Contains-get_or pairs k d within))
+
+    -- the same pairs in order are the cut
+    pub pairs_are : AllPairs PrecedesInside (within_pairs pairs) → within_pairs pairs ≡ cut automaton ps
+    pairs_are up = same_from_ascending PrecedesInside Precedes_asymmetric (within_pairs pairs) (cut automaton ps) up (cut_is_grid.ascending)
+        (λ p h. let from = Contains-from_map within_pair pairs p h in from_found p (subst (λ (q : ℕ × ℕ). Contains pairs q) (pair_back from.0 p from.2) from.1))
+        (λ p h. Contains-map within_pair pairs (p.unit, p.cycle) (in_found p h))
 
 -- ---- lists of cuts
 
@@ -95,10 +129,6 @@ pointwise-map (x ∷ xs) (y ∷ ys) = ap (λ t. (x.0 == y.0 && x.1 == y.1) && t)
 pub list_any-cuts : (xs : List (ℕ × ℕ)) (keys : List (Vec (ℕ × ℕ) Global)) → list_any (pointwise same_pair (within_pairs xs)) (cuts_of keys) ≡ list_any (λ k. pointwise (λ p q. p.0 == q.0 && p.1 == q.1) xs k.items) keys
 list_any-cuts xs [] = refl
 list_any-cuts xs (k ∷ keys) = ap (λ t. t || list_any (pointwise same_pair (within_pairs xs)) (cuts_of keys)) (pointwise-map xs k.items) ∙ ap (λ t. pointwise (λ p q. p.0 == q.0 && p.1 == q.1) xs k.items || t) (list_any-cuts xs keys)
-
--- pairs that are cut out of an alternative are a grid
-pub taken_grid : (automaton : ℕ) (a : Alternative UnitPlace) (pairs : List (ℕ × ℕ)) → IsCuttable a → within_pairs pairs ≡ map inside (filter (is_of automaton) a.pairs) → IsGrid (within_pairs pairs)
-taken_grid automaton a pairs is e = subst IsGrid (sym e) (cut_grid automaton a.pairs is.ascending is.units is.cycles)
 
 cond_not : {A : Type 0} (t : Bool) (x y : A) → cond (not t) x y ≡ cond t y x
 cond_not true x y = refl

@@ -2,6 +2,7 @@ pub mod Lengths
 pub mod Cutting
 pub mod TableLemmas
 pub mod Nodes
+pub mod OrderLemmas
 pub mod PartLemmas
 pub mod ExtentLemmas
 pub mod Shapes

@@ -29,7 +29,7 @@ impl Extent {
     ghost use Rattle.hz_model.specs.AlternativeLists.{AreSound, extent_of};
 
     /// The extent of so many alternatives, of which the longest runs for so many cycles.
-    pub fn cut(count: u32, longest: u32) -> Extent
+    pub(crate) fn cut(count: u32, longest: u32) -> Extent
         requires some { 1 ≤ count }
         requires runs { 1 ≤ longest }
         ensures { told result ≡ cut_extent count longest }
@@ -41,7 +41,7 @@ impl Extent {
     }
 
     /// The extent of two parts with a mark between them.
-    pub fn joined(self, mark: Mark, other: Extent) -> Extent
+    pub(crate) fn joined(self, mark: Mark, other: Extent) -> Extent
         ensures { told result ≡ joined_extents mark (told self) (told other) }
     {
         let choices = self.count * other.count;
@@ -54,7 +54,7 @@ impl Extent {
     }
 
     /// The extent of so many copies one after another.
-    pub fn repeated(self, times: u32) -> Extent
+    pub(crate) fn repeated(self, times: u32) -> Extent
         requires { 1 ≤ times }
         ensures { told result ≡ repeated_extent times (told self) }
     {

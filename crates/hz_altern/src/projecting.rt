@@ -1,8 +1,9 @@
 //! Alternatives cut down to one automaton.
 
-ghost use Rattle.std.specs.Prelude.{◌≡◌, ◌++◌, ◌∷◌, [], All, IfOk, not, filter, map, if◌then◌else◌};
+ghost use Rattle.std.specs.Prelude.{◌≡◌, ◌↔◌, ◌++◌, ◌∷◌, ℕ, [], All, Contains, IfOk, not, filter, map, if◌then◌else◌};
 ghost use Rattle.std.specs.Cmp.Lexicographic.{pointwise};
-ghost use Rattle.std.specs.List.{list_any};
+ghost use Rattle.std.specs.List.{list_any, AllPairs};
+ghost use Rattle.hz_grid.specs.Grids.{Precedes};
 ghost use Rattle.hz_altern.specs.Cuts.{within_pairs, cuts_of};
 ghost use Rattle.hz_altern.specs.Shapes.{alternative_of, alternatives, pairs_of};
 ghost use Rattle.hz_model.specs.AlternativeLists.{IsCuttable};
@@ -27,13 +28,23 @@ fn within(alloc: Global, pairs: &[Pair], automaton: u8) -> Result<Vec<(u8, u16)>
     Ok(within)
 }
 
+/// Puts pairs of a unit and a cycle in the order of cycles and then of units, each once.
+fn put_in_order(pairs: &mut Vec<(u8, u16)>)
+    ensures ascending { AllPairs Precedes (within_pairs pairs.new.items) }
+    ensures same { (pair : ℕ × ℕ) → Contains pairs.new.items pair ↔ Contains pairs.old.items pair }
+{
+    pairs.sort_unstable_by_key(|pair| (pair.1, pair.0));
+    pairs.dedup();
+}
+
 /// What an alternative takes of the units of an automaton, as pairs and as a grid.
 fn cut(alloc: Global, alt: &Alt, automaton: u8) -> Result<(Vec<(u8, u16)>, Grid), NoMemory>
     requires { IsCuttable (alternative_of alt.now) }
     ensures pairs { IfOk result (λ taken. within_pairs taken.0.items ≡ cut automaton (alternative_of alt.now).pairs) }
     ensures grid { IfOk result (λ taken. taken.1 ≡ cut automaton (alternative_of alt.now).pairs) }
 {
-    let pairs = within(alloc, &alt.pairs, automaton)?;
+    let mut pairs = within(alloc, &alt.pairs, automaton)?;
+    put_in_order(&mut pairs);
     let grid = Grid::of(alloc, &pairs)?;
     Ok((pairs, grid))
 }
@@ -47,7 +58,7 @@ fn is_new(seen: &mut IndexSet<Vec<(u8, u16)>>, pairs: Vec<(u8, u16)>) -> Result<
     Ok(new)
 }
 
-/// What sound alternatives take of the units of an automaton, in their order, each later equal grid dropped.
+/// What alternatives take of the units of an automaton, in their order, each later equal grid dropped.
 pub fn project(alloc: Global, alts: &[Alt], automaton: u8) -> Result<Vec<Grid>, NoMemory>
     requires { All IsCuttable (alternatives alts.now) }
     ensures { IfOk result (λ grids. grids.items ≡ list_in automaton (alternatives alts.now)) }

@@ -268,3 +268,28 @@ fn alternatives_have_these_grids(rt: HostRuntime) -> Result<(), Fail> {
     }
     Ok(())
 }
+
+#[test]
+fn pairs_in_any_order_are_one_grid(rt: HostRuntime) -> Result<(), Fail> {
+    let alloc = rt.alloc();
+    let early = Pair {
+        automaton: 0,
+        unit: 1,
+        cycle: 0,
+    };
+    let late = Pair {
+        automaton: 0,
+        unit: 0,
+        cycle: 2,
+    };
+    let mut alts = Vec::new(alloc);
+    for pairs in [[early, late, early], [late, early, late]] {
+        alts.push(Alt {
+            pairs: Vec::from_slice(alloc, &pairs)?,
+            length: 3,
+        })?;
+    }
+    let grids = project(alloc, &alts, 0)?;
+    assert!(rt; show_grids(alloc, &grids, 0)?.as_slice() == b"b0a2/".as_slice());
+    Ok(())
+}

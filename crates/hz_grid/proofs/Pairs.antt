@@ -112,7 +112,7 @@ IsGrid-pairs_from rows is = record {
 
 -- ---- equal grids
 
-Precedes_asymmetric : (p q : Pair ℕ) → Precedes p q → Precedes q p → ⊥
+pub Precedes_asymmetric : (p q : Pair ℕ) → Precedes p q → Precedes q p → ⊥
 Precedes_asymmetric p q (inl a) (inl b) = omega arith
 Precedes_asymmetric p q (inl a) (inr b) = omega arith
 Precedes_asymmetric p q (inr a) (inl b) = omega arith

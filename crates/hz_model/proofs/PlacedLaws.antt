@@ -105,7 +105,7 @@ placed_any = every_any IsPlaced idle_placed followed_placed beside_placed
 pub placed_together : (known : List ℕ → List (Alternative UnitPlace)) (parts : Parts) → IsSome parts → IsTrue (are_expressions parts) → ((name : List ℕ) → MentionsIn parts name → All IsPlaced (known name)) → All IsPlaced (together known parts)
 placed_together = every_together IsPlaced idle_placed followed_placed beside_placed
 
-All-ascending : (P : Pair UnitPlace → Type 0) (ps : List (Pair UnitPlace)) → All P ps → All P (ascending ps)
+pub All-ascending : (P : Pair UnitPlace → Type 0) (ps : List (Pair UnitPlace)) → All P ps → All P (ascending ps)
 All-ascending P ps each k d lt = All-contains P ps _ each (Contains-from_ascending _ ps (Contains-get_or (ascending ps) k d lt))
 
 -- an alternative that is listed the one way is one that a description can have, too
@@ -125,7 +125,6 @@ sound_cut alternatives are k d lt =
     record {
       units = is.placed.units;
       cycles = λ i e within. let low = is.placed.within i e within in omega arith;
-      ascending = is.ascending;
     }
 
 -- ---- names

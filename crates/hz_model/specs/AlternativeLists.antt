@@ -56,9 +56,7 @@ pub record AreSound (alternatives : List (Alternative UnitPlace)) : Type 0 where
   pub few : length alternatives ≤ alternative_limit
   pub each : All IsSound alternatives
 
--- an alternative that can be cut down to grids: its units and cycles are some that a grid can have, and it is listed the
--- one way
+-- an alternative that can be cut down to grids: its units and cycles are some that a grid can have
 pub record IsCuttable (a : Alternative UnitPlace) : Type 0 where
   pub units : All (λ p. p.unit.unit < unit_limit) a.pairs
   pub cycles : All (λ p. p.cycle < cycle_limit) a.pairs
-  pub ascending : IsAscending a.pairs

@@ -1,4 +1,4 @@
--- What can be wrong with a description that is read, and which fault is told. This profile, docs/RULES.md, 'Named faults'.
+-- What can be wrong with a description that is read, and which fault is told. This profile, docs/RULES.md, 'Faults of a description'.
 use Rattle.std.specs.Prelude.{◌≡◌, ℕ, ◌+◌, Bool, false, true, ◌&&◌, ◌||◌, ◌==◌, not, nat_lt, List, [], ◌∷◌, ◌++◌, map, filter, length, drop, All, codes, Option, Some, None, option_and_then, is_none, if◌then◌else◌, IsTrue, IsFalse}
 use Rattle.std.specs.Option.{option_map}
 use Rattle.std.specs.List.{list_any, flat_map, filter_map}
