@@ -35,9 +35,6 @@ IsListed-followed a b is_a is_b =
     let same : listed (followed_by a b) ≡ followed_by a b = listed_followed a b is_a.placed.within ∙ (ap (λ x. followed_by x (listed b)) (listed_itself a is_a) ∙ ap (followed_by a) (listed_itself b is_b)) in
     subst IsListed same (IsListed-listed (followed_by a b) (followed_placed a b is_a.placed is_b.placed))
 
-IsListed-beside : (a b : Alternative UnitPlace) → IsListed a → IsListed b → IsListed (joined_by Together a b)
-IsListed-beside a b is_a is_b = IsListed-listed (beside a b) (beside_placed a b is_a.placed is_b.placed)
-
 -- ---- copies
 
 pub listed_copies : (n : ℕ) (xs : List (Alternative UnitPlace)) → 1 ≤ n → All IsListed xs → All IsListed (copies n xs)

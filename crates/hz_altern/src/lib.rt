@@ -21,7 +21,8 @@ pub use expanding::expand;
 pub use extents::Extents;
 pub use fault::{AlternFault, NoMemory};
 pub use known::Known;
-pub use measure::Extent;
+pub use listing::SIZE_LIMIT;
+pub use measure::{ALTERNATIVE_LIMIT, CYCLE_LIMIT, Extent};
 pub use projecting::project;
 
 #[cfg(test)]

@@ -5,7 +5,7 @@ use crate::fault::AlternFault;
 use std::alloc::Global;
 use std::marker::Model;
 
-/// So many cycles and pairs may all alternatives have together.
+/// So many cycles and pairs may alternatives have together. This profile, docs/RULES.md, 'Limits'.
 pub const SIZE_LIMIT: usize = 2_097_152;
 
 /// Alternatives that have no more than `SIZE_LIMIT` cycles and pairs together.

@@ -3,12 +3,13 @@
 ghost use Rattle.std.specs.Prelude.{◌≤◌};
 
 use crate::mark::Mark;
+use hz_grid::CYCLES;
 
-/// So many alternatives may be told apart from more.
+/// So many alternatives may a reservation or class have. This profile, docs/RULES.md, 'Limits'.
 pub const ALTERNATIVE_LIMIT: u32 = 4096;
 
-/// An alternative of so many cycles may be told apart from longer ones.
-pub const CYCLE_LIMIT: u32 = 256;
+/// For so many cycles may an alternative run. This profile, docs/RULES.md, 'Limits'.
+pub const CYCLE_LIMIT: u32 = CYCLES as u32;
 
 /// How many alternatives there are, 4,097 for any number above 4,096, and for how many cycles the longest runs, 257 for
 /// any number above 256.

@@ -282,13 +282,15 @@ fn pairs_in_any_order_are_one_grid(rt: HostRuntime) -> Result<(), Fail> {
         unit: 0,
         cycle: 2,
     };
-    let mut alts = Vec::new(alloc);
-    for pairs in [[early, late, early], [late, early, late]] {
-        alts.push(Alt {
-            pairs: Vec::from_slice(alloc, &pairs)?,
-            length: 3,
-        })?;
-    }
+    let first = Alt {
+        pairs: Vec::from_slice(alloc, &[early, late, early])?,
+        length: 3,
+    };
+    let second = Alt {
+        pairs: Vec::from_slice(alloc, &[late, early, late])?,
+        length: 3,
+    };
+    let alts = vec![in alloc; first, second]?;
     let grids = project(alloc, &alts, 0)?;
     assert!(rt; show_grids(alloc, &grids, 0)?.as_slice() == b"b0a2/".as_slice());
     Ok(())

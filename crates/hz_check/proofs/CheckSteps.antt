@@ -87,20 +87,6 @@ few_classes d none =
     let same : length (class_sites d) ≡ length d.classes = length-map d.classes (λ c. record { line = c.line; form = c.form; name = c.name }) in
     omega (arith, less, same)
 
-has_names : (names : List (List ℕ)) → IsTrue (are_names names) → 0 < length names
-has_names [] h = absurd (cc)
-has_names (n ∷ names) h = omega arith
-
--- a set has units
-pub has_units : (kinds : List FormKind) (stored : List SetItem) (k : ℕ) (s : SetItem) → All (IsSet kinds) (map set_item stored) → k < length stored → 0 < vec_len (slice_index_or stored k s).units
-has_units kinds stored k s all within =
-    let same = length-map stored set_item in
-    let here = all k (set_item s) (omega (arith, same, within)) in
-    let v = (slice_index_or stored k s).units in
-    let same_len = v.ok in
-    let some : 0 < length v.items = has_names v.items (subst (λ (item : model_items.SetItem). IsTrue (are_names item.units)) (get_or-map set_item stored k s (set_item s) within) here.units) in
-    omega (arith, same_len, some)
-
 -- the faults behind the limits of automata, units and classes, in their order
 abbrev pub last_faults : Description → Known → List Reserving → List Standing
 last_faults d known order = record { fault = limit alternatives; sites = past_limit d known order alternatives }

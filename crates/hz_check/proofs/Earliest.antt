@@ -56,25 +56,6 @@ told_of_items {A} sites item slice xs told e is = record {
   is = is ∙ (ap (λ (ys : List A). earliest (flat_map (λ x. sites (item x)) ys)) e ∙ ap earliest (sym (flat_map-map sites item xs)));
 }
 
-earliest-filter_map : {A : Type 0} (f : A → Option Site) (x : A) (xs : List A) → earliest (filter_map f (x ∷ xs)) ≡ earlier (f x) (earliest (filter_map f xs))
-earliest-filter_map f x xs = one (f x) (filter_map f xs)
-  where
-    one : (o : Option Site) (rest : List Site) → earliest (cons_option o rest) ≡ earlier o (earliest rest)
-    one None rest = refl
-    one (Some s) rest = refl
-
--- a loop that keeps the earliest of what each item may have: one item more
-pub chosen_next : {A : Type 0} (f : A → Option Site) (first here next all : Option Site) (items : List A) (i : ℕ) (item : A)
-    → item ≡ get_or items i item → i < length items → here ≡ f item → next ≡ earlier first here
-    → earlier first (earliest (filter_map f (drop i items))) ≡ all
-    → earlier next (earliest (filter_map f (drop (i + 1) items))) ≡ all
-chosen_next {A} f first here next all items i item is lt told_here told_next kept =
-    let rest : List Site = filter_map f (drop (i + 1) items) in
-    ap (λ (o : Option Site). earlier o (earliest rest)) (told_next ∙ ap (earlier first) told_here)
-    ∙ (earlier-earlier first (f item) (earliest rest)
-    ∙ (ap (earlier first) (sym (earliest-filter_map f item (drop (i + 1) items)))
-    ∙ (ap (λ (xs : List A). earlier first (earliest (filter_map f xs))) (sym (drop_next items i item is lt)) ∙ kept)))
-
 filter_map-map : {A B C : Type 0} (f : B → Option C) (g : A → B) (xs : List A) → filter_map f (map g xs) ≡ filter_map (λ x. f (g x)) xs
 filter_map-map f g [] = refl
 filter_map-map f g (x ∷ xs) = ap (cons_option (f (g x))) (filter_map-map f g xs)

@@ -1,7 +1,8 @@
 -- The first of several names.
-use Rattle.std.proofs.Common.{◌≡◌, ℕ, List, [], ◌∷◌, ◌++◌, Option, Some, None, ◌<◌, ◌+◌, length, drop, get_or, Bool, true, false, Bor, cond, filter, refl, sym, ap, ◌∙◌, arith, subst}
+use Rattle.std.proofs.Common.{◌≡◌, ℕ, List, [], ◌∷◌, ◌++◌, Option, Some, None, slice_get, ◌<◌, ◌+◌, length, drop, get_or, Bool, true, false, Bor, cond, filter, refl, sym, ap, ◌∙◌, arith, subst}
 use Rattle.std.proofs.lemmas.Bool.Decides.{nat_tests}
 use Rattle.std.proofs.lemmas.List.Elements.{filter-append}
+use Rattle.std.specs.List.{flat_map}
 use Rattle.std.specs.Option.{option_map, option_or, option_copied}
 use Rattle.std.specs.Bool.{then_some}
 use Rattle.hz_check.specs.Unknown.{first_of}
@@ -24,8 +25,12 @@ earliest-sites_of line form [] = refl
 earliest-sites_of line form (name ∷ names) =
     ap (earlier (Some (record { line = line; form = form; name = name }))) (earliest-sites_of line form names) ∙ same_form line form name (first_of names)
 
+pub first_is : (names : List (List ℕ)) → slice_get names 0 ≡ first_of names
+first_is [] = refl
+first_is (name ∷ names) = refl
+
 -- what is found first in front is found first
-in_front : (names others : List (List ℕ)) (name : List ℕ) → Some name ≡ first_of names → Some name ≡ first_of (names ++ others)
+pub in_front : (names others : List (List ℕ)) (name : List ℕ) → Some name ≡ first_of names → Some name ≡ first_of (names ++ others)
 in_front [] others name e = absurd (cc)
 in_front (n ∷ names) others name e = e
 
@@ -39,7 +44,7 @@ first_here {A} p names_of here items i item name is lt parts found kept =
     ∙ (ap (λ (ns : List (List ℕ)). first_of (filter p ns)) (sym parts)
     ∙ (ap (λ (xs : List A). first_of (filter p (names_of xs))) (sym (drop_next items i item is lt)) ∙ kept)))
 
-none_first : (names others : List (List ℕ)) → None ≡ first_of names → first_of others ≡ first_of (names ++ others)
+pub none_first : (names others : List (List ℕ)) → None ≡ first_of names → first_of others ≡ first_of (names ++ others)
 none_first [] others e = refl
 none_first (n ∷ names) others e = absurd (cc)
 
@@ -52,6 +57,17 @@ none_here {A} p names_of here items i item all is lt parts none kept =
     ∙ (ap first_of (sym (filter-append p here (names_of (drop (i + 1) items))))
     ∙ (ap (λ (ns : List (List ℕ)). first_of (filter p ns)) (sym parts)
     ∙ (ap (λ (xs : List A). first_of (filter p (names_of xs))) (sym (drop_next items i item is lt)) ∙ kept)))
+
+-- a loop that stops at the first item with a name: its first name is that of all
+module _ {A : Type 0} (f : A → List (List ℕ)) (items : List A) (i : ℕ) (item : A) (is : item ≡ get_or items i item) (lt : i < length items) where
+  behind : (o : Option (List ℕ)) → first_of (flat_map f (drop i items)) ≡ o → first_of (f item ++ flat_map f (drop (i + 1) items)) ≡ o
+  behind o kept = ap (λ (xs : List A). first_of (flat_map f xs)) (sym (drop_next items i item is lt)) ∙ kept
+
+  pub first_found : (name : List ℕ) → Some name ≡ first_of (f item) → first_of (flat_map f (drop i items)) ≡ first_of (flat_map f items) → Some name ≡ first_of (flat_map f items)
+  first_found name found kept = in_front (f item) (flat_map f (drop (i + 1) items)) name found ∙ behind (first_of (flat_map f items)) kept
+
+  pub none_found : (all : Option (List ℕ)) → None ≡ first_of (f item) → first_of (flat_map f (drop i items)) ≡ all → first_of (flat_map f (drop (i + 1) items)) ≡ all
+  none_found all none kept = none_first (f item) (flat_map f (drop (i + 1) items)) none ∙ behind all kept
 
 -- the first that passes of two lists
 pub first_of_both : (p : List ℕ → Bool) (xs ys : List (List ℕ)) → first_of (filter p (xs ++ ys)) ≡ option_or (first_of (filter p xs)) (first_of (filter p ys))

@@ -4,6 +4,7 @@ use Rattle.std.proofs.lemmas.Bool.Decides.{nat_tests}
 use Rattle.std.specs.List.{position}
 use Rattle.std.specs.Option.{option_map}
 use Rattle.std.specs.Str.{bytes_eq}
+use Rattle.hz_check.specs.Unknown.{first_of}
 use Rattle.hz_check.proofs.NameLists.{position-cons}
 use Rattle.hz_model.specs.Automata.{UnitPlace}
 use Rattle.hz_model.specs.CheckFaults.{home, same_home, strangers}
@@ -42,12 +43,18 @@ same_home_itself None = refl
 same_home_itself (Some n) = grind (arith, nat_tests)
 
 -- the strangers are those of all names
-pub strangers-of : (d : Description) (first : List ℕ) (names others : List (List ℕ)) → first ≡ get_or names 0 first → 0 < length names → filter (λ name. not (same_home (home d name) (home d first))) (names ++ others) ≡ strangers d (names ++ others)
-strangers-of d first [] others is some = absurd (omega arith)
-strangers-of d first (n ∷ names) others is some =
+pub strangers-of : (d : Description) (first : List ℕ) (names : List (List ℕ)) → Some first ≡ first_of names → filter (λ name. not (same_home (home d name) (home d first))) names ≡ strangers d names
+strangers-of d first [] is = absurd (cc)
+strangers-of d first (n ∷ names) is =
+    let same : first ≡ n = cc in
     let own : not (same_home (home d n) (home d n)) ≡ false = ap not (same_home_itself (home d n)) in
-    ap (λ (m : List ℕ). filter (λ name. not (same_home (home d name) (home d m))) (n ∷ names ++ others)) is
-    ∙ ap (λ (b : Bool). cond b (n ∷ filter (λ name. not (same_home (home d name) (home d n))) (names ++ others)) (filter (λ name. not (same_home (home d name) (home d n))) (names ++ others))) own
+    ap (λ (m : List ℕ). filter (λ name. not (same_home (home d name) (home d m))) (n ∷ names)) same
+    ∙ ap (λ (b : Bool). cond b (n ∷ filter (λ name. not (same_home (home d name) (home d n))) names) (filter (λ name. not (same_home (home d name) (home d n))) names)) own
+
+-- no names have no strangers
+pub no_strangers : (d : Description) (names : List (List ℕ)) → None ≡ first_of names → strangers d names ≡ []
+no_strangers d [] is = refl
+no_strangers d (n ∷ names) is = absurd (cc)
 
 at_more : {A : Type 0} (b : Bool) (x : A) (xs : List A) (o : Option ℕ) (rest : Option A) → rest ≡ option_and_then (slice_get xs) o → cond b (Some x) rest ≡ option_and_then (slice_get (x ∷ xs)) (cond b (Some 0) (option_map suc o))
 at_more true x xs o rest e = refl

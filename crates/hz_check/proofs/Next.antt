@@ -64,9 +64,6 @@ push_before {B} {C} view old new y z rest pushed made =
     ∙ (ap (λ (ws : List C). ws ++ rest) (map-append view old (y ∷ []))
     ∙ (append_assoc (map view old) (view y ∷ []) rest ∙ ap (λ (w : C). map view old ++ (w ∷ rest)) made))
 
-pub range_more : {A : Type 0} (f : ℕ → A) (a n : ℕ) → a < n → map f (range_with_len a (n - a)) ≡ f a ∷ map f (range_with_len (a + 1) (n - (a + 1)))
-range_more f a n lt = let e : n - a ≡ suc (n - (a + 1)) = omega arith in ap (λ (m : ℕ). map f (range_with_len a m)) e
-
 -- one item more is taken
 pub taken_more : {A B : Type 0} (f : A → B) (xs : List A) (i : ℕ) (x : A) → x ≡ get_or xs i x → i < length xs → map f (take (i + 1) xs) ≡ map f (take i xs) ++ f x ∷ []
 taken_more {A} f xs i x is lt =

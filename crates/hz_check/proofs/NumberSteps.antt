@@ -52,10 +52,6 @@ none_passes p (y ∷ xs) x none h = ⊎_elim
 
 -- Names of classes by their numbers.
 module _ (d : Description) where
-  -- all of them are names of classes
-  pub AreClasses : List (List ℕ) → Type 0
-  AreClasses names = filter (λ name. not (is_class d name)) names ≡ []
-
   -- a name with its number, before names of classes
   pub record FrontOf (name : List ℕ) (names : List (List ℕ)) : Type 0 where
     pub number : ℕ

@@ -17,21 +17,6 @@ row_at rows o row lt is =
     get_or_from_slice_get (rows_of rows) o row.items []
     (slice_get-map (λ (r : Vec (Option ℕ) Global). r.items) rows o ∙ ap (option_map (λ (r : Vec (Option ℕ) Global). r.items)) (slice_get_read rows (length rows) o row refl lt is))
 
--- one more row without a number
-pub none_push : (rows : List (List (Option ℕ))) → ((o : ℕ) → get_or rows o [] ≡ []) → (o : ℕ) → get_or (rows ++ [] ∷ []) o [] ≡ []
-none_push [] h zero = refl
-none_push [] h (suc o) = refl
-none_push (row ∷ rows) h zero = h zero
-none_push (row ∷ rows) h (suc o) = none_push rows (λ p. h (suc p)) o
-
--- places without a number at the end of a row
-pub given_resized : (row : List (Option ℕ)) (n i : ℕ) → given_in (row ++ replicate n None) i ≡ given_in row i
-given_resized [] zero i = refl
-given_resized [] (suc n) zero = refl
-given_resized [] (suc n) (suc i) = given_resized [] n i
-given_resized (x ∷ row) n zero = refl
-given_resized (x ∷ row) n (suc i) = given_resized row n i
-
 -- what does not pass may be left out
 left_out : (p : ℕ → Bool) (kept rest : List ℕ) (x : ℕ) → p x ≡ false → filter p (kept ++ x ∷ rest) ≡ filter p (kept ++ rest)
 left_out p [] rest x fails = ap (λ (b : Bool). cond b (x ∷ filter p rest) (filter p rest)) fails

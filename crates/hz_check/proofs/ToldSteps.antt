@@ -11,10 +11,6 @@ pub map-or : (a b : Option StoredTold) → option_map told_of (option_or a b) �
 map-or None b = refl
 map-or (Some x) b = refl
 
-pub or-or : (a b c : Option Told) → option_or (option_or a b) c ≡ option_or a (option_or b c)
-or-or None b c = refl
-or-or (Some x) b c = refl
-
 pub told_at-or : (fault : CheckFault) (site : Option Site) (rest : Option Told) → option_or (told_at fault site None) rest ≡ told_at fault site rest
 told_at-or fault None rest = refl
 told_at-or fault (Some s) rest = refl

@@ -1,7 +1,7 @@
 -- What is known between the steps of the check.
 use Rattle.std.specs.Prelude.{◌≡◌, ℕ, List, None, drop}
 use Rattle.hz_model.specs.CheckFaults.{first_told, faults_of_names, self_exclusions, sets_across_automata, automaton_sites, class_sites, past_units}
-use Rattle.hz_model.specs.DescriptionShape.{IsWellFormed}
+use Rattle.hz_model.specs.DescriptionShape.{IsCheckable}
 use Rattle.hz_model.specs.Descriptions.{Description}
 use Rattle.hz_model.specs.Limits.{automaton_limit, class_limit}
 use Rattle.hz_model.specs.Machines.{unit_places}
@@ -11,7 +11,7 @@ use Rattle.hz_unfold.specs.Orders.{IsOrder}
 -- the names are right, and reservations and classes have this counting order
 pub record IsOrdered (d : Description) (order : List ℕ) : Type 0 where
   pub named : first_told (faults_of_names d) ≡ None
-  pub formed : IsWellFormed d
+  pub formed : IsCheckable d
   pub ordered : IsOrder d order
 
 -- the sets are right, and the limits of automata, units and classes are kept

@@ -7,6 +7,7 @@ pub mod Units
 pub mod Faults
 pub mod Bypasses
 pub mod Assembly
+pub mod Shape
 pub mod Checked
 pub mod Checking
 pub mod Classes

@@ -2,7 +2,7 @@
 use Rattle.std.specs.Prelude.{◌≡◌, map, All}
 use Rattle.hz_altern.specs.Shapes.{alternatives}
 use Rattle.hz_check.specs.declared.parts.Parts.{Parts}
-use Rattle.hz_check.specs.Checked.{automaton_of, bypass_of}
+use Rattle.hz_check.specs.Shape.{automaton_of, bypass_of}
 use Rattle.hz_expand.specs.Shape.{lists_of}
 use Rattle.hz_model.specs.AlternativeLists.{AreSound}
 use Rattle.hz_model.specs.Alternatives.{alternatives_of}
@@ -10,7 +10,6 @@ use Rattle.hz_model.specs.Automata.{listed}
 use Rattle.hz_model.specs.CheckFaults.{Known, IsSound}
 use Rattle.hz_model.specs.CheckedParts.{automata_of, bypass_parts}
 use Rattle.hz_model.specs.Descriptions.{Description}
-use Rattle.hz_unitsets.specs.SetRules.{IsInRange}
 
 -- the description has no fault, and these are its automata, its bypasses and the alternatives of its classes
 pub record IsPartsOf (d : Description) (parts : Parts) : Type 0 where
@@ -20,4 +19,3 @@ pub record IsPartsOf (d : Description) (parts : Parts) : Type 0 where
   pub bypasses : map bypass_of parts.bypasses.items ≡ map (bypass_parts d) d.bypasses
   pub lists : lists_of parts.lists.items ≡ map (λ c. map listed (alternatives_of known c.expression)) d.classes
   pub each : All (λ list. AreSound (alternatives list.items)) parts.lists.items
-  pub sets : All (λ a. All IsInRange a.sets.items) parts.automata.items

@@ -1,17 +1,12 @@
 //! What a description without a fault gives, put together.
 
-ghost use Rattle.std.specs.Prelude.{◌≡◌, ◌<◌, ◌≤◌, ◌==◌, ℕ, All, IfOk, codes, length, map, vec_len};
-ghost use Rattle.std.specs.List.{range_with_len};
-ghost use Rattle.hz_altern.specs.Shapes.{alternatives};
-ghost use Rattle.hz_mdread.specs.Shape.{description, class_item, bypass_item};
+ghost use Rattle.std.specs.Prelude.{◌≡◌, ◌<◌, ◌≤◌, All, IfOk, codes, length, map};
+ghost use Rattle.hz_mdread.specs.Shape.{description, bypass_item};
 ghost use Rattle.hz_check.specs.Assembly.{placed_statement, IsPlaced};
-ghost use Rattle.hz_check.specs.Checked.{automaton_of, class_of, bypass_of, attribute_of};
-ghost use Rattle.hz_model.specs.AlternativeLists.{IsCuttable};
-ghost use Rattle.hz_model.specs.Automata.{list_in};
+ghost use Rattle.hz_check.specs.Shape.{automaton_of, bypass_of, attribute_of};
 ghost use Rattle.hz_model.specs.CheckedParts.{units_in, automaton_parts, automata_from, automata_of, bypass_parts, class_numbers};
 ghost use Rattle.hz_model.specs.Limits as limits;
 ghost use Rattle.hz_model.specs.Machines.{statement_of};
-ghost use Rattle.hz_unitsets.specs.SetRules.{IsInRange};
 
 use crate::bypasses::class_numbers;
 use crate::checked::{CheckedAutomaton, CheckedBypass};
@@ -47,8 +42,7 @@ fn automaton<'a>(
     requires few { number < limits.automaton_limit }
     requires sets { map placed_statement sets.now ≡ map (statement_of (description names.now.desc.now)) (description names.now.desc.now).sets }
     requires placed { All IsPlaced sets.now }
-    ensures parts { IfOk result (λ a. automaton_of a ≡ automaton_parts (description names.now.desc.now) number name) }
-    ensures within { IfOk result (λ a. All IsInRange a.sets.items) }
+    ensures { IfOk result (λ a. automaton_of a ≡ automaton_parts (description names.now.desc.now) number name) }
 {
     let units = units_in(alloc, names, number)?;
     let sets = rules(alloc, sets, number as u32)?;
@@ -74,8 +68,7 @@ fn defined_automata<'a>(
     requires few { length (description names.now.desc.now).automata ≤ limits.automaton_limit }
     requires sets { map placed_statement sets.now ≡ map (statement_of (description names.now.desc.now)) (description names.now.desc.now).sets }
     requires placed { All IsPlaced sets.now }
-    ensures parts { IfOk result (λ automata. map automaton_of automata.items ≡ automata_from (description names.now.desc.now) 0 (map (λ a. a.name) (description names.now.desc.now).automata)) }
-    ensures within { IfOk result (λ automata. All (λ a. All IsInRange a.sets.items) automata.items) }
+    ensures { IfOk result (λ automata. map automaton_of automata.items ≡ automata_from (description names.now.desc.now) 0 (map (λ a. a.name) (description names.now.desc.now).automata)) }
 {
     let desc = names.desc;
     let mut automata = Vec::new(alloc);
@@ -96,8 +89,7 @@ pub(crate) fn automata<'a>(
     requires few { length (description names.now.desc.now).automata ≤ limits.automaton_limit }
     requires sets { map placed_statement sets.now ≡ map (statement_of (description names.now.desc.now)) (description names.now.desc.now).sets }
     requires placed { All IsPlaced sets.now }
-    ensures parts { IfOk result (λ automata. map automaton_of automata.items ≡ automata_of (description names.now.desc.now)) }
-    ensures within { IfOk result (λ automata. All (λ a. All IsInRange a.sets.items) automata.items) }
+    ensures { IfOk result (λ automata. map automaton_of automata.items ≡ automata_of (description names.now.desc.now)) }
 {
     if !names.desc.automata.is_empty() {
         return defined_automata(alloc, names, sets);

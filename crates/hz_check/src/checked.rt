@@ -1,5 +1,10 @@
 //! What a description without a fault gives.
 
+ghost use Rattle.std.specs.Prelude.{map};
+ghost use Rattle.hz_check.specs.Shape.{automaton_of, class_of, bypass_of, attribute_of};
+ghost use Rattle.hz_model.specs.CheckedShape.{IsKept};
+ghost use Rattle.std.proofs.Props.{props};
+
 use hz_grid::Grid;
 use hz_mdread::{Condition, Options};
 use hz_regexp::Name;
@@ -19,6 +24,7 @@ pub struct Checked {
     /// The default of each attribute.
     pub defaults: Vec<(Name, Name)>,
     pub options: Options,
+    ghost kept: { IsKept (map automaton_of automata.items) (map class_of classes.items) (map bypass_of bypasses.items) (map attribute_of attributes.items) } by { Prim.hlevel props },
 }
 
 /// An automaton.

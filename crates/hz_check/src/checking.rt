@@ -2,10 +2,10 @@
 
 ghost use Rattle.std.specs.Prelude.{IfOk, IfErr};
 ghost use Rattle.hz_mdread.specs.Shape.{description};
-ghost use Rattle.hz_check.specs.Checked.{IsCheckedOf, IsWithinLimits};
+ghost use Rattle.hz_check.specs.Checked.{IsCheckedOf};
 ghost use Rattle.hz_check.specs.Faults.{Tells, IsToldAt};
 ghost use Rattle.hz_check.specs.Parts.{IsPartsOf};
-ghost use Rattle.hz_model.specs.DescriptionShape.{IsWellFormed};
+ghost use Rattle.hz_model.specs.DescriptionShape.{IsCheckable};
 
 use crate::assembly::attributes;
 use crate::checked::Checked;
@@ -18,10 +18,9 @@ use std::alloc::Global;
 
 /// A description without a fault, put together from its parts.
 fn assembled(alloc: Global, desc: Description, parts: Parts) -> Result<Checked, NoMemory>
-    requires formed { IsWellFormed (description desc) }
+    requires formed { IsCheckable (description desc) }
     requires parts { IsPartsOf (description desc) parts }
-    ensures ok { IfOk result (IsCheckedOf (description desc)) }
-    ensures within { IfOk result IsWithinLimits }
+    ensures { IfOk result (IsCheckedOf (description desc)) }
 {
     let count = parts.automata.len();
     let classes = checked_classes(alloc, desc.classes, &parts.lists, count)?;
@@ -40,9 +39,8 @@ fn assembled(alloc: Global, desc: Description, parts: Parts) -> Result<Checked, 
 /// first fault in the order of `CheckFault` is told, at the first form where it stands and with the leftmost name there.
 /// This profile, docs/RULES.md, 'Faults of a description'.
 pub fn check(alloc: Global, desc: Description) -> Result<Checked, CheckFault>
-    requires { IsWellFormed (description desc) }
+    requires { IsCheckable (description desc) }
     ensures ok { IfOk result (IsCheckedOf (description desc)) }
-    ensures within { IfOk result IsWithinLimits }
     ensures faults { IfErr result (Tells (IsToldAt (description desc))) }
 {
     let parts = match parts_of(alloc, &desc) {

@@ -3,7 +3,7 @@
 ghost use Rattle.std.specs.Prelude.{◌≡◌, ◌≤◌, IfOk, All, length, map, vec_len};
 ghost use Rattle.hz_altern.specs.Shapes.{alternatives};
 ghost use Rattle.hz_mdread.specs.Shape.{class_item};
-ghost use Rattle.hz_check.specs.Checked.{class_of};
+ghost use Rattle.hz_check.specs.Shape.{class_of};
 ghost use Rattle.hz_check.specs.Classes.{lists_in, class_with, classes_with};
 ghost use Rattle.hz_model.specs.AlternativeLists.{IsCuttable};
 ghost use Rattle.hz_model.specs.Alternatives.{alternatives_of};

@@ -4,7 +4,7 @@ ghost use Rattle.std.specs.Prelude.{IfOk, IfErr};
 ghost use Rattle.hz_mdread.specs.Shape.{description};
 ghost use Rattle.hz_check.specs.Faults.{Tells, IsToldAt};
 ghost use Rattle.hz_check.specs.Parts.{IsPartsOf};
-ghost use Rattle.hz_model.specs.DescriptionShape.{IsWellFormed};
+ghost use Rattle.hz_model.specs.DescriptionShape.{IsCheckable};
 
 use crate::assembly::{automata, bypasses};
 use crate::bypasses::second_number;
@@ -28,7 +28,7 @@ pub(crate) struct Parts {
 
 /// The parts of a description without a fault, or the fault that is told.
 pub(crate) fn parts_of(alloc: Global, desc: &Description) -> Result<Parts, CheckFault>
-    requires formed { IsWellFormed (description desc.now) }
+    requires formed { IsCheckable (description desc.now) }
     ensures ok { IfOk result (IsPartsOf (description desc.now)) }
     ensures err { IfErr result (Tells (IsToldAt (description desc.now))) }
 {

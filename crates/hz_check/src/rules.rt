@@ -1,13 +1,12 @@
 //! The set statements of one automaton as rules.
 
-ghost use Rattle.std.specs.Prelude.{◌≡◌, ◌<◌, ◌==◌, All, IfOk, map, filter};
+ghost use Rattle.std.specs.Prelude.{◌≡◌, ◌==◌, All, IfOk, map, filter};
 ghost use Rattle.std.specs.List.{list_all};
 ghost use Rattle.hz_check.specs.Assembly.{placed_statement, IsPlaced};
 ghost use Rattle.hz_check.specs.Units.{IsWithin};
 ghost use Rattle.hz_expand.specs.Shape.{place_of};
-ghost use Rattle.hz_model.specs.Limits.{unit_limit};
 ghost use Rattle.hz_model.specs.Machines.{inside_statement, is_inside, unit_numbers};
-ghost use Rattle.hz_unitsets.specs.SetRules.{statement_of, statements_of, IsInRange};
+ghost use Rattle.hz_unitsets.specs.SetRules.{statement_of, statements_of};
 
 use crate::placed::PlacedSet;
 use hz_expand::UnitPlace;
@@ -22,18 +21,24 @@ fn all_of(units: &[UnitPlace], automaton: u32) -> bool
     units.iter().all(|unit| unit.automaton == automaton)
 }
 
+/// Whether all units of patterns are of the automaton.
+fn all_of_patterns(patterns: &[Vec<UnitPlace>], automaton: u32) -> bool
+    ensures { result ≡ list_all (λ pattern. list_all (λ unit. unit.automaton == automaton) pattern.items) patterns.now }
+{
+    patterns.iter().all(|pattern| all_of(pattern, automaton))
+}
+
 /// Whether all units of a statement are of the automaton.
 fn is_inside(set: &PlacedSet, automaton: u32) -> bool
     ensures { result ≡ is_inside automaton (placed_statement set.now) }
 {
-    all_of(&set.units, automaton)
+    all_of(&set.units, automaton) && all_of_patterns(&set.patterns, automaton)
 }
 
 /// The numbers of units in their automata.
 fn numbers(alloc: Global, places: &[UnitPlace]) -> Result<Vec<u8>, NoMemory>
     requires { All IsWithin places.now }
-    ensures numbers { IfOk result (λ numbers. numbers.items ≡ unit_numbers (map place_of places.now)) }
-    ensures within { IfOk result (λ numbers. All (λ unit. unit < unit_limit) numbers.items) }
+    ensures { IfOk result (λ numbers. numbers.items ≡ unit_numbers (map place_of places.now)) }
 {
     let mut numbers = Vec::new(alloc);
     for place in places {
@@ -45,8 +50,7 @@ fn numbers(alloc: Global, places: &[UnitPlace]) -> Result<Vec<u8>, NoMemory>
 /// The numbers of the units of patterns.
 fn numbers_of(alloc: Global, patterns: &[Vec<UnitPlace>]) -> Result<Vec<Vec<u8>>, NoMemory>
     requires { All (λ pattern. All IsWithin pattern.items) patterns.now }
-    ensures numbers { IfOk result (λ found. map (λ p. p.items) found.items ≡ map (λ p. unit_numbers (map place_of p.items)) patterns.now) }
-    ensures within { IfOk result (λ found. All (λ p. All (λ unit. unit < unit_limit) p.items) found.items) }
+    ensures { IfOk result (λ found. map (λ p. p.items) found.items ≡ map (λ p. unit_numbers (map place_of p.items)) patterns.now) }
 {
     let mut found = Vec::new(alloc);
     for pattern in patterns {
@@ -59,8 +63,7 @@ fn numbers_of(alloc: Global, patterns: &[Vec<UnitPlace>]) -> Result<Vec<Vec<u8>>
 /// The statement by the numbers of its units alone.
 fn rule(alloc: Global, set: &PlacedSet) -> Result<SetRule, NoMemory>
     requires { IsPlaced set.now }
-    ensures statement { IfOk result (λ rule. statement_of rule ≡ inside_statement (placed_statement set.now)) }
-    ensures within { IfOk result IsInRange }
+    ensures { IfOk result (λ rule. statement_of rule ≡ inside_statement (placed_statement set.now)) }
 {
     let kind = set.kind;
     let units = numbers(alloc, &set.units)?;
@@ -79,8 +82,7 @@ pub(crate) fn rules(
     automaton: u32,
 ) -> Result<Vec<SetRule>, NoMemory>
     requires { All IsPlaced sets.now }
-    ensures statements { IfOk result (λ rules. statements_of rules.items ≡ map inside_statement (filter (is_inside automaton) (map placed_statement sets.now))) }
-    ensures within { IfOk result (λ rules. All IsInRange rules.items) }
+    ensures { IfOk result (λ rules. statements_of rules.items ≡ map inside_statement (filter (is_inside automaton) (map placed_statement sets.now))) }
 {
     let mut rules = Vec::new(alloc);
     for set in sets {

@@ -1,6 +1,6 @@
 //! Units of set statements.
 
-ghost use Rattle.std.specs.Prelude.{◌≡◌, ◌<◌, IfOk, All, filter, not, vec_len, ℕ};
+ghost use Rattle.std.specs.Prelude.{◌≡◌, IfOk, filter, not};
 ghost use Rattle.std.specs.List.{flat_map};
 ghost use Rattle.std.specs.Option.{option_copied};
 ghost use Rattle.hz_mdread.specs.Shape.{description, set_item};
@@ -90,12 +90,30 @@ fn stranger_in<'a>(
     None
 }
 
+/// The first unit in patterns.
+fn first_in(patterns: &[Vec<Name>]) -> Option<&Name>
+    ensures { option_copied result ≡ first_of (flat_map (λ pattern. pattern.items) patterns.now) }
+{
+    for pattern in patterns {
+        if let Some(unit) = pattern.first() {
+            return Some(unit);
+        }
+    }
+    None
+}
+
+/// The first unit of a set.
+fn first_unit(set: &SetItem) -> Option<&Name>
+    ensures { option_copied result ≡ first_of (names_of_set (set_item set.now)) }
+{
+    set.units.first().or(first_in(&set.patterns))
+}
+
 /// Where a unit of the set has another automaton than its first unit.
 fn stranger_of<'a>(names: &Names<'a>, set: &'a SetItem) -> Option<Site<'a>>
-    requires { 0 < vec_len set.now.units }
     ensures { told result ≡ earliest (sites_of set.now.line set.now.form (strangers (description names.now.desc.now) (names_of_set (set_item set.now)))) }
 {
-    let automaton = names.home(&set.units[0]);
+    let automaton = names.home(first_unit(set)?);
     let unit = stranger(names, automaton, &set.units).or(stranger_in(
         names,
         automaton,
@@ -106,7 +124,6 @@ fn stranger_of<'a>(names: &Names<'a>, set: &'a SetItem) -> Option<Site<'a>>
 
 /// Where some set has units of two automata.
 pub(crate) fn set_across_automata<'a>(names: &Names<'a>) -> Option<Site<'a>>
-    requires { All (λ set. 0 < vec_len set.units) names.now.desc.now.sets.items }
     ensures { told result ≡ earliest (sets_across_automata (description names.now.desc.now)) }
 {
     let desc = names.desc;

@@ -6,7 +6,7 @@ ghost use Rattle.hz_check.specs.Checking.{IsOrdered, AreWithin};
 ghost use Rattle.hz_check.specs.Faults.{Tells, IsToldAt};
 ghost use Rattle.hz_check.specs.Units.{ArePlaces};
 ghost use Rattle.hz_model.specs.CheckFaults.{faults_of_names, first_told};
-ghost use Rattle.hz_model.specs.DescriptionShape.{IsWellFormed};
+ghost use Rattle.hz_model.specs.DescriptionShape.{IsCheckable};
 
 use crate::fault::{CheckFault, LimitName};
 use crate::limits::{past_automaton, past_class};
@@ -37,7 +37,7 @@ pub(crate) fn named<'a>(alloc: Global, desc: &'a Description) -> Result<Names<'a
 /// The counting order, where no reservation reaches itself.
 pub(crate) fn ordered(alloc: Global, desc: &Description) -> Result<Order, CheckFault>
     requires named { first_told (faults_of_names (description desc.now)) ≡ None }
-    requires formed { IsWellFormed (description desc.now) }
+    requires formed { IsCheckable (description desc.now) }
     ensures order { IfOk result (λ order. IsOrdered (description desc.now) order.numbers.items) }
     ensures err { IfErr result (Tells (IsToldAt (description desc.now))) }
 {

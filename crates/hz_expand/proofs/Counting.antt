@@ -15,7 +15,7 @@ use Rattle.hz_model.specs.AlternativeLists.{Extent, extent_of}
 use Rattle.hz_model.specs.Automata.{UnitPlace, listed}
 use Rattle.hz_model.specs.CheckFaults.{Known, Reserving, first_told, faults_of_names}
 use Rattle.hz_model.specs.Descriptions.{Description, UnitItem}
-use Rattle.hz_model.specs.DescriptionShape.{IsWellFormed}
+use Rattle.hz_model.specs.DescriptionShape.{IsCheckable}
 use Rattle.hz_model.specs.Expressions.{is_expression}
 use Rattle.hz_model.specs.Machines.{IsKnown}
 use Rattle.hz_model.specs.Meanings.{Mentions}
@@ -34,7 +34,7 @@ stored_at {A} f slice items i x same lt is = ap (λ (xs : List A). slice_get (ma
 pub at_read : (order : List ℕ) (i : ℕ) → i < length order → At order i (get_or order i 0)
 at_read order i lt = slice_get-get_or order i 0 lt
 
-module _ {A : Type 0} (P : List ℕ → A → Type 0) (d : Description) (told : first_told (faults_of_names d) ≡ None) (formed : IsWellFormed d) where
+module _ {A : Type 0} (P : List ℕ → A → Type 0) (d : Description) (told : first_told (faults_of_names d) ≡ None) (formed : IsCheckable d) where
   unit_at : (i : ℕ) (u : UnitItem) → slice_get d.units i ≡ Some u → slice_get (unit_names d) i ≡ Some u.name
   unit_at i u there = slice_get-map (λ (u : UnitItem). u.name) d.units i ∙ ap (option_map (λ (u : UnitItem). u.name)) there
 
@@ -129,7 +129,7 @@ module _ {A : Type 0} (P : List ℕ → A → Type 0) (d : Description) (told : 
           (λ other k. behind_class d told formed order ordered i number other at (past_there class) k)
           (λ other k. behind_kept d told formed order ordered i number other at k) h
 
-module _ (d : Description) (told : first_told (faults_of_names d) ≡ None) (formed : IsWellFormed d) (order : List ℕ) (ordered : IsOrder d order) (i number : ℕ) (at : At order i number) (q : Reserving) (is : q ≡ reserving d number) where
+module _ (d : Description) (told : first_told (faults_of_names d) ≡ None) (formed : IsCheckable d) (order : List ℕ) (ordered : IsOrder d order) (i number : ℕ) (at : At order i number) (q : Reserving) (is : q ≡ reserving d number) where
   -- the extent that is counted is that of the reservation's name
   pub extent_there : (table : List ℕ → Option Extent) (x : Extent) → Holds (HasExtent d) (IsBehind d (take i order)) table → q.is_class ≡ false
       → ((known : Known) → AreRight table known q.expression → x ≡ extent_of (alternatives_of known q.expression)) → HasExtent d (q.site).name x

@@ -10,7 +10,7 @@ use Rattle.hz_model.specs.AlternativeLists.{Extent, extent_of}
 use Rattle.hz_model.specs.Automata.{UnitPlace, listed}
 use Rattle.hz_model.specs.CheckFaults.{Known, first_told, faults_of_names}
 use Rattle.hz_model.specs.Descriptions.{Description, UnitItem, ReservationItem}
-use Rattle.hz_model.specs.DescriptionShape.{IsWellFormed}
+use Rattle.hz_model.specs.DescriptionShape.{IsCheckable}
 use Rattle.hz_model.specs.Machines.{at_name, place_behind, places_behind, unit_places, unit_or_reservation, reservation_named, meaning, IsKnown}
 use Rattle.hz_model.specs.Meanings.{unit, reservation, alternatives_of_meaning}
 use Rattle.hz_model.proofs.Elements.{Contains-head, Contains-tail}
@@ -47,7 +47,7 @@ place_there d before [] i u is = absurd (cc)
 place_there d before (v ∷ units) zero u is = (place_behind d before v, refl)
 place_there d before (v ∷ units) (suc i) u is = place_there d (before ++ v ∷ []) units i u is
 
-module _ (d : Description) (told : first_told (faults_of_names d) ≡ None) (formed : IsWellFormed d) where
+module _ (d : Description) (told : first_told (faults_of_names d) ≡ None) (formed : IsCheckable d) where
   named : AreNamed d
   named = are_named d told formed
 

@@ -10,7 +10,7 @@ use Rattle.hz_expand.specs.Tables.{unit_names, reservation_names, IsBehind}
 use Rattle.hz_expand.proofs.Names.{no_unit_named}
 use Rattle.hz_model.specs.CheckFaults.{Reserving, reserving_reservation, reserving_class, reservations_of, classes_of, first_told, faults_of_names, names_in, is_unit, is_reservable}
 use Rattle.hz_model.specs.Descriptions.{Description, ReservationItem, ClassItem}
-use Rattle.hz_model.specs.DescriptionShape.{IsWellFormed, IsReservation, IsClass}
+use Rattle.hz_model.specs.DescriptionShape.{IsCheckable, IsCheckableReservation, IsCheckableClass}
 use Rattle.hz_model.specs.Expressions.{is_expression}
 use Rattle.hz_model.specs.Meanings.{Mentions}
 use Rattle.hz_model.specs.Sites.{is_among}
@@ -94,7 +94,7 @@ module _ (d : Description) where
           let found = Contains-from_map reserving_class d.classes (get_or (classes_of d) (number - length (reservations_of d)) nothing_reserved) (Contains-get_or (classes_of d) (number - length (reservations_of d)) nothing_reserved at) in
           inr (record { item = found.0; there = found.1; is = here ∙ sym found.2; past = ge })
 
-module _ (d : Description) (told : first_told (faults_of_names d) ≡ None) (formed : IsWellFormed d) (order : List ℕ) (ordered : IsOrder d order) where
+module _ (d : Description) (told : first_told (faults_of_names d) ≡ None) (formed : IsCheckable d) (order : List ℕ) (ordered : IsOrder d order) where
   named : AreNamed d
   named = are_named d told formed
 
@@ -114,10 +114,10 @@ module _ (d : Description) (told : first_told (faults_of_names d) ≡ None) (for
   written r there = ⊎_elim
       (λ (k : Contains (reservations_of d) r).
       let found = Contains-from_map reserving_reservation d.reservations r k in
-      subst (λ (q : Reserving). IsTrue (is_expression q.expression)) found.2 (All-contains (IsReservation formed.kinds) d.reservations found.0 formed.reservations found.1).expression)
+      subst (λ (q : Reserving). IsTrue (is_expression q.expression)) found.2 (All-contains (IsCheckableReservation formed.kinds) d.reservations found.0 formed.reservations found.1).expression)
       (λ (k : Contains (classes_of d) r).
       let found = Contains-from_map reserving_class d.classes r k in
-      subst (λ (q : Reserving). IsTrue (is_expression q.expression)) found.2 (All-contains (IsClass formed.kinds) d.classes found.0 formed.classes found.1).expression)
+      subst (λ (q : Reserving). IsTrue (is_expression q.expression)) found.2 (All-contains (IsCheckableClass formed.kinds) d.classes found.0 formed.classes found.1).expression)
       (Contains-append_cases (reservations_of d) (classes_of d) r there)
 
   -- a name is that of a unit, or of the reservation of a number

@@ -17,7 +17,7 @@ use Rattle.hz_model.specs.AlternativeLists.{Extent, extent_of, greatest_length}
 use Rattle.hz_model.specs.Automata.{UnitPlace}
 use Rattle.hz_model.specs.CheckFaults.{Known, Reserving, first_told, faults_of_names, has_too_many, has_too_long, alternatives_in, reservations_of, classes_of}
 use Rattle.hz_model.specs.Descriptions.{Description}
-use Rattle.hz_model.specs.DescriptionShape.{IsWellFormed}
+use Rattle.hz_model.specs.DescriptionShape.{IsCheckable}
 use Rattle.hz_model.specs.Machines.{IsKnown}
 use Rattle.hz_model.specs.Sites.{Site, earlier, earliest}
 use Rattle.hz_model.proofs.Elements.{Contains-head, Contains-tail}
@@ -58,10 +58,6 @@ right_tail : (table : List ℕ → Option Extent) (known : Known) (q : Reserving
 right_tail table known q items right = record { each = λ r h. right.each r (Contains-tail q r items h) }
 
 module _ (table : List ℕ → Option Extent) (items : List Reserving) (old : PastExtents) where
-  pub tells_none : (i : ℕ) → length items ≤ i → TellsBehind table (drop i items) old old
-  tells_none i le = subst (λ (xs : List Reserving). TellsBehind table xs old old) (sym (drop_all i items le))
-      (record { many = λ known right behind is. is; long = λ known right behind is. is })
-
   pub tells_more : (i : ℕ) (q : Reserving) (e : Extent) (now next : PastExtents) → 0 < i → i ≤ length items → q ≡ get_or items (i - 1) q
       → ((known : Known) → AreRight table known q.expression → e ≡ extent_of (alternatives_of known q.expression))
       → told next.alternatives ≡ earlier (cond (nat_lt 4096 e.count) (Some q.site) None) (told now.alternatives)
@@ -84,7 +80,7 @@ module _ (table : List ℕ → Option Extent) (items : List Reserving) (old : Pa
 
 -- all of a description
 
-module _ (d : Description) (told_names : first_told (faults_of_names d) ≡ None) (formed : IsWellFormed d) (order : List ℕ) (ordered : IsOrder d order)
+module _ (d : Description) (told_names : first_told (faults_of_names d) ≡ None) (formed : IsCheckable d) (order : List ℕ) (ordered : IsOrder d order)
     (table : List ℕ → Option Extent) (h : Holds (HasExtent d) (IsBehind d order) table) where
   pub countable : (items : List Reserving) → ((r : Reserving) → Contains items r → Contains (all_of d) r) → AreCountable table items
   countable items inside = record {

@@ -29,7 +29,7 @@ use Rattle.hz_model.specs.AlternativeLists.{AreSound, greatest_length}
 use Rattle.hz_model.specs.Automata.{UnitPlace, listed, total_size}
 use Rattle.hz_model.specs.CheckFaults.{Known, Reserving, reserving_class, reservations_of, classes_of, alternatives_in, has_too_many, has_too_long, sites_where, past_size, first_told, faults_of_names}
 use Rattle.hz_model.specs.Descriptions.{Description}
-use Rattle.hz_model.specs.DescriptionShape.{IsWellFormed}
+use Rattle.hz_model.specs.DescriptionShape.{IsCheckable}
 use Rattle.hz_model.specs.Limits.{size_limit}
 use Rattle.hz_model.specs.Machines.{IsKnown}
 use Rattle.hz_model.specs.Sites.{Site, earliest}
@@ -57,9 +57,6 @@ weigh_within alts i =
     let both = ap total_weight (map-append alternative_of (take i alts) (drop i alts)) in
     let sum = weight-append (alternatives (take i alts)) (alternatives (drop i alts)) in
     omega arith
-
-pub weigh_none : (alts : List Alt) (i : ℕ) → length alts ≤ i → total_weight (alternatives (drop i alts)) ≡ 0
-weigh_none alts i le = ap (λ (xs : List Alt). total_weight (alternatives xs)) (drop_all i alts le)
 
 -- ---- which reservations and classes are within the limits
 
@@ -102,7 +99,7 @@ pub record Progress (d : Description) (order : List ℕ) (i : ℕ) (s : Expansio
   pub lists : (known : Known) → IsKnown d known → lists_of s.lists.items ≡ listed_lists known (classes_among (reservings d (take i order)))
   pub sound : All (λ list. AreSound (alternatives list.items)) s.lists.items
 
-module _ (d : Description) (told : first_told (faults_of_names d) ≡ None) (formed : IsWellFormed d) (order : List ℕ) (ordered : IsOrder d order) where
+module _ (d : Description) (told : first_told (faults_of_names d) ≡ None) (formed : IsCheckable d) (order : List ℕ) (ordered : IsOrder d order) where
   pub none_expanded : (s : Expansion) → Holds (HasAlternatives d) (Contains (unit_names d)) (table_of s.known) → s.size ≡ 0 → s.lists.items ≡ [] → Progress d order 0 s
   none_expanded s h size lists = record {
     holds = none_behind (HasAlternatives d) d told formed order ordered (table_of s.known) h;

@@ -9,7 +9,7 @@ use Rattle.hz_model.specs.Alternatives.{Expression}
 use Rattle.hz_model.specs.Automata.{UnitPlace}
 use Rattle.hz_model.specs.CheckFaults.{Known, Reserving, reserving_reservation, reservations_of, classes_of, first_told, faults_of_names, names_in, IsUnfolded}
 use Rattle.hz_model.specs.Descriptions.{Description, ReservationItem}
-use Rattle.hz_model.specs.DescriptionShape.{IsWellFormed}
+use Rattle.hz_model.specs.DescriptionShape.{IsCheckable}
 use Rattle.hz_model.specs.Machines.{unit_place, reservation_named, unit_or_reservation, meaning, IsKnown}
 use Rattle.hz_model.specs.Meanings.{reservation, Mentions, Unwinds}
 use Rattle.hz_model.proofs.CircleLaws.{named_there}
@@ -30,7 +30,7 @@ at_place [] j k h = absurd (cc)
 at_place (x ∷ xs) zero k h = let same : x ≡ k = cc in subst (λ (p : ℕ). At (x ∷ xs) p k) (sym (cond-true (eqb x k) 0 (suc (place_in k xs)) (eq-eqb x k same))) h
 at_place (x ∷ xs) (suc j) k h = cond_both (eqb x k) 0 (suc (place_in k xs)) (λ (p : ℕ). At (x ∷ xs) p k) (λ e. ap Some (eqb-true x k e)) (λ _. at_place xs j k h)
 
-module _ (d : Description) (told : first_told (faults_of_names d) ≡ None) (formed : IsWellFormed d) (order : List ℕ) (ordered : IsOrder d order) where
+module _ (d : Description) (told : first_told (faults_of_names d) ≡ None) (formed : IsCheckable d) (order : List ℕ) (ordered : IsOrder d order) where
   place_is : (j k : ℕ) → At order j k → place_in k order ≡ j
   place_is j k at = ordered.once.same (place_in k order) j k (at_place order j k at) at
 

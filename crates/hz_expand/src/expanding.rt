@@ -9,7 +9,7 @@ ghost use Rattle.hz_expand.specs.Shape.{place_of};
 ghost use Rattle.hz_expand.specs.Tables.{HasAlternatives, Holds, IsBehind, unit_names};
 ghost use Rattle.hz_mdread.specs.Shape.{description};
 ghost use Rattle.hz_model.specs.CheckFaults.{faults_of_names, first_told};
-ghost use Rattle.hz_model.specs.DescriptionShape.{IsWellFormed};
+ghost use Rattle.hz_model.specs.DescriptionShape.{IsCheckable};
 ghost use Rattle.hz_model.specs.Limits.{automaton_limit, unit_limit};
 ghost use Rattle.hz_model.specs.Machines.{unit_places};
 ghost use Rattle.hz_unfold.specs.Orders.{IsOrder, reservings};
@@ -26,7 +26,7 @@ use std::alloc::Global;
 /// The alternatives of all units, where their places are given in the order of the file.
 fn known_units(alloc: Global, desc: &Description, places: &[UnitPlace]) -> Result<Known, NoMemory>
     requires named { first_told (faults_of_names (description desc.now)) ≡ None }
-    requires formed { IsWellFormed (description desc.now) }
+    requires formed { IsCheckable (description desc.now) }
     requires places { map place_of places.now ≡ unit_places (description desc.now) }
     requires automata { All (λ place. place.automaton < automaton_limit) places.now }
     requires units { All (λ place. place.unit < unit_limit) places.now }
@@ -48,7 +48,7 @@ fn expand_behind<'a>(
     order: &[usize],
 ) -> Result<Vec<Vec<Alt>>, Unexpanded<'a>>
     requires named { first_told (faults_of_names (description desc.now)) ≡ None }
-    requires formed { IsWellFormed (description desc.now) }
+    requires formed { IsCheckable (description desc.now) }
     requires order { IsOrder (description desc.now) order.now }
     requires extents { AreWithinExtents (description desc.now) (reservings (description desc.now) order.now) }
     requires known { Holds (HasAlternatives (description desc.now)) (Contains (unit_names (description desc.now))) (alternatives_in known) }
@@ -82,7 +82,7 @@ pub fn expand_all<'a>(
     order: &[usize],
 ) -> Result<Vec<Vec<Alt>>, Unexpanded<'a>>
     requires named { first_told (faults_of_names (description desc.now)) ≡ None }
-    requires formed { IsWellFormed (description desc.now) }
+    requires formed { IsCheckable (description desc.now) }
     requires order { IsOrder (description desc.now) order.now }
     requires extents { AreWithinExtents (description desc.now) (reservings (description desc.now) order.now) }
     requires places { map place_of places.now ≡ unit_places (description desc.now) }

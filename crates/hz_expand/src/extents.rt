@@ -8,24 +8,18 @@ ghost use Rattle.hz_expand.specs.Shape.{told};
 ghost use Rattle.hz_expand.specs.Tables.{HasExtent, Holds, IsBehind, unit_names};
 ghost use Rattle.hz_mdread.specs.Shape.{description};
 ghost use Rattle.hz_model.specs.CheckFaults.{faults_of_names, first_told};
-ghost use Rattle.hz_model.specs.DescriptionShape.{IsWellFormed};
+ghost use Rattle.hz_model.specs.DescriptionShape.{IsCheckable};
 ghost use Rattle.hz_model.specs.Limits.{alternative_limit, cycle_limit};
 ghost use Rattle.hz_model.specs.Sites.{earlier as earlier_site};
 ghost use Rattle.hz_unfold.specs.Orders.{IsOrder, all_of, reservings};
 ghost use Rattle.hz_unfold.specs.Places.{site_of};
 
 use crate::reserving::{Reserves, Reserving, reserving_at};
-use hz_altern::{Extent, Extents, extent};
+use hz_altern::{ALTERNATIVE_LIMIT, CYCLE_LIMIT, Extent, Extents, extent};
 use hz_mdread::Description;
 use hz_regexp::NoMemory;
 use hz_unfold::{Site, earlier};
 use std::alloc::Global;
-
-/// So many alternatives may a reservation or class have.
-const ALTERNATIVE_LIMIT: u32 = 4096;
-
-/// So many cycles may an alternative run.
-const CYCLE_LIMIT: u32 = 256;
 
 /// The earliest reservation or class of the file that passes each of two limits.
 #[derive(Clone, Copy, Debug)]
@@ -80,7 +74,7 @@ fn past_among<'a, T: Reserves>(
 /// The extents of all units.
 fn unit_extents(alloc: Global, desc: &Description) -> Result<Extents, NoMemory>
     requires named { first_told (faults_of_names (description desc.now)) ≡ None }
-    requires formed { IsWellFormed (description desc.now) }
+    requires formed { IsCheckable (description desc.now) }
     ensures { IfOk result (λ extents. Holds (HasExtent (description desc.now)) (Contains (unit_names (description desc.now))) (extent_in extents)) }
 {
     let mut extents = Extents::new(alloc);
@@ -101,7 +95,7 @@ fn add_reservations(
     extents: &mut Extents,
 ) -> Result<(), NoMemory>
     requires named { first_told (faults_of_names (description desc.now)) ≡ None }
-    requires formed { IsWellFormed (description desc.now) }
+    requires formed { IsCheckable (description desc.now) }
     requires order { IsOrder (description desc.now) order.now }
     requires units { Holds (HasExtent (description desc.now)) (Contains (unit_names (description desc.now))) (extent_in extents.old) }
     ensures { OnOk result (Holds (HasExtent (description desc.now)) (IsBehind (description desc.now) order.now) (extent_in extents.new)) }
@@ -125,7 +119,7 @@ pub fn past_extents<'a>(
     order: &[usize],
 ) -> Result<PastExtents<'a>, NoMemory>
     requires named { first_told (faults_of_names (description desc.now)) ≡ None }
-    requires formed { IsWellFormed (description desc.now) }
+    requires formed { IsCheckable (description desc.now) }
     requires order { IsOrder (description desc.now) order.now }
     ensures { IfOk result (ArePast (description desc.now) (reservings (description desc.now) order.now)) }
 {

@@ -6,12 +6,12 @@ ghost use Rattle.hz_expand.specs.Shape.{told};
 ghost use Rattle.hz_expand.specs.declared.extents.PastExtents.{PastExtents};
 ghost use Rattle.hz_model.specs.CheckFaults.{IsUnfolded, Known, Reserving, faults_of_names, first_told};
 ghost use Rattle.hz_model.specs.Descriptions.{Description};
-ghost use Rattle.hz_model.specs.DescriptionShape.{IsWellFormed};
+ghost use Rattle.hz_model.specs.DescriptionShape.{IsCheckable};
 ghost use Rattle.hz_unfold.specs.Orders.{IsOrder, reservings};
 
 /// Where reservations and classes have such an order, each name has its alternatives, and no reservation reaches itself.
 pub fn ordered_names_are_known()
-    ensures { (d : Description) (order : List ℕ) → IsWellFormed d → first_told (faults_of_names d) ≡ None → IsOrder d order → (known : Known) × IsUnfolded d known (reservings d order) }
+    ensures { (d : Description) (order : List ℕ) → IsCheckable d → first_told (faults_of_names d) ≡ None → IsOrder d order → (known : Known) × IsUnfolded d known (reservings d order) }
 {}
 
 /// Where no site is told, neither limit is passed.

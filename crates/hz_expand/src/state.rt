@@ -15,12 +15,9 @@ ghost use Rattle.hz_expand.specs.Answers.{Makes};
 
 use crate::fault::Unexpanded;
 use crate::reserving::Reserving;
-use hz_altern::{Alt, AlternFault, Known, expand};
+use hz_altern::{Alt, AlternFault, Known, SIZE_LIMIT, expand};
 use hz_regexp::{Expr, NoMemory};
 use std::alloc::Global;
-
-/// So many cycles and pairs may all alternatives have together.
-const SIZE_LIMIT: usize = 2_097_152;
 
 /// What is known of the names that came, the sizes of all that came together, and the alternatives of the classes.
 #[derive(Drop)]

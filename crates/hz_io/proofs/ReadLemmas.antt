@@ -11,10 +11,6 @@ pub record HasReadFront (unread : List ℕ) (rest : Option (List ℕ)) (bytes : 
   pub parts : unread ≡ bytes ++ left
   pub rest_is : rest ≡ Some left
 
--- before the first read
-pub front_none : (unread : List ℕ) (rest : Option (List ℕ)) → rest ≡ Some unread → HasReadFront unread rest []
-front_none unread rest e = record { left = unread; parts = refl; rest_is = e }
-
 -- one read more
 pub front_more : {unread : List ℕ} {rest rest' : Option (List ℕ)} {bytes into into' : List ℕ} {count : ℕ} → HasReadFront unread rest bytes → HasRead rest rest' into into' count → HasReadFront unread rest' (bytes ++ take count into')
 front_more {unread} {rest} {rest'} {bytes} {into} {into'} {count} f h =

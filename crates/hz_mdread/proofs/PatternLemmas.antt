@@ -24,10 +24,6 @@ pub not_empty : (part : List ℕ) → (length part == 0) ≡ false → is_empty 
 not_empty [] h = h
 not_empty (b ∷ part) h = refl
 
--- an empty part is no word
-pub part_skipped : (parts : List (Bor (List ℕ))) (i : ℕ) (d : Bor (List ℕ)) → i < length parts → is_empty (get_or parts i d).now ≡ true → filled (now_all (drop i parts)) ≡ filled (now_all (drop (i + 1) parts))
-part_skipped parts i d inside e = rw (drop_more parts i d inside, e) refl
-
 -- another is one
 pub part_taken : (parts : List (Bor (List ℕ))) (i : ℕ) (d : Bor (List ℕ)) → i < length parts → is_empty (get_or parts i d).now ≡ false → filled (now_all (drop i parts)) ≡ (get_or parts i d).now ∷ filled (now_all (drop (i + 1) parts))
 part_taken parts i d inside e = rw (drop_more parts i d inside, e) refl
@@ -54,11 +50,6 @@ names_fail before word rest all is e = rw (← is, go before) refl
     go : (before : List (List ℕ)) → are_names (before ++ word ∷ rest) ≡ false
     go [] = all_fail is_name [] word rest (no_name word e)
     go (first ∷ before) = all_fail is_name (first ∷ before) word rest (no_name word e)
-
--- one name or more are a pattern
-pub names_kept : (names : List (List ℕ)) → 0 < length names → list_all is_name names ≡ true → kept (are_names names) names ≡ Some names
-names_kept [] some all = absurd (omega arith)
-names_kept (name ∷ names) some all = rw all refl
 
 no_pattern : (names : List (List ℕ)) → kept (are_names names) names ≡ None → are_names names ≡ false
 no_pattern names e = go (are_names names) e

@@ -27,10 +27,6 @@ forms_from : (forms : List Form) (i : ℕ) (form : Form) → i < length forms �
 forms_from forms i form inside is = ap trees (drop_more forms i form inside ∙ ap (λ f. f ∷ drop (i + 1) forms) (sym is))
 
 module _ (forms : List Form) (i : ℕ) (form : Form) (d : Description) (inside : i < length forms) (is : form ≡ get_or forms i form) where
-  -- one more form
-  pub form_more : (added : Addition) → form_says reading i (tree form) ≡ Ok added → forms_say reading i d (trees (drop i forms)) ≡ forms_say reading (i + 1) (with_addition d added) (trees (drop (i + 1) forms))
-  form_more added e = rw (forms_from forms i form inside is, e) refl
-
   -- one that is wrong
   pub form_wrong : (fault : DescriptionFault) → form_says reading i (tree form) ≡ Err fault → forms_say reading i d (trees (drop i forms)) ≡ Err (fault, (out-Form form).line)
   form_wrong fault e = rw (forms_from forms i form inside is, e, line_is form) refl

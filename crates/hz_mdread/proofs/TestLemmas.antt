@@ -39,11 +39,6 @@ place_size [] i form inside is = absurd (omega arith)
 place_size (first ∷ forms) zero form inside is = let same = ap (λ (f : Form). size (tree f)) is in omega (arith, same)
 place_size (first ∷ forms) (suc i) form inside is = let h = place_size forms i form (omega arith) is in omega arith
 
--- a form without a word is no condition
-pub headless_condition : (form : Tree) → headed form ≡ None → condition_in form ≡ None
-headless_condition (list line (more (atom at w) os)) h = absurd (cc)
-headless_condition _ h = refl
-
 -- what the word of a condition says
 pub headed_condition : (form : Tree) (word : List ℕ) (operands : Trees) → headed form ≡ Some (word, operands)
     → condition_in form ≡ cond (bytes_eq word (codes "const_int")) (constant_in operands) (cond (bytes_eq word (codes "eq_attr")) (test_in operands) (option_and_then (joined word) (conditions_in operands)))

@@ -7,6 +7,7 @@ use Rattle.hz_model.proofs.EventLaws.{issue_named, events_known}
 use Rattle.hz_model.proofs.FormsFront.{every_text}
 use Rattle.hz_model.proofs.DescriptionLaws.{every_list}
 use Rattle.hz_model.proofs.DescriptionFormedAll.{well_formed}
+use Rattle.hz_model.proofs.CheckableLaws.{can_be_checked}
 use Rattle.hz_model.proofs.CheckTotal.{sound_or_fault}
 use Rattle.hz_model.proofs.AcceptanceLaws.{refused_issue}
 use Rattle.hz_model.proofs.PlayLaws.{accepted_or_first_refused}
@@ -84,7 +85,7 @@ checks_one name d next formed one = ⊎_elim
     (λ (sound : (known : Known) × IsSound d known). wider (next sound.0) _ (λ s t h. inl (sound.0, sound.1, h)) (one sound.0))
     (λ (wrong : (fault : CheckFault) × (site : _) × CheckFaultAt d fault site).
     wider (Says (check_status wrong.0) (check_line name wrong.0 wrong.1)) _ (λ s t h. inr (wrong.0, wrong.1, wrong.2, h)) (says_one (check_status wrong.0) (check_line name wrong.0 wrong.1)))
-    (sound_or_fault d formed)
+    (sound_or_fault d (can_be_checked d formed))
 
 describes_one : (name : List ℕ) (read : Trees) (next : Next Description) → ((d : Description) → IsWellFormed d → HasOne (next d)) → HasOne (Describes name read next)
 describes_one name read next one = ⊎_elim

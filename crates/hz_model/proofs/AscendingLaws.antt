@@ -96,10 +96,6 @@ Contains-from_with_pair p x (q ∷ qs) =
     (Contains-cons_cases q x (with_pair p qs) h))
     (λ _ h. inr h)
 
--- each pair of a list stands behind p
-abbrev All-behind : Pair UnitPlace → List (Pair UnitPlace) → Type 0
-All-behind p qs = All (Precedes p) qs
-
 All-from_contains : (P : Pair UnitPlace → Type 0) (qs : List (Pair UnitPlace)) → ((x : Pair UnitPlace) → Contains qs x → P x) → All P qs
 All-from_contains P qs each k d within = each _ (Contains-get_or qs k d within)
 

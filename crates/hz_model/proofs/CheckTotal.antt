@@ -12,7 +12,7 @@ use Rattle.hz_model.specs.Alternatives.{Expression}
 use Rattle.hz_model.specs.Automata.{UnitPlace}
 use Rattle.hz_model.specs.CheckFaults.{Known, Told, Standing, CheckFault, twice_defined, circular_reservation, CheckFaultAt, IsSound, IsUnfolded, IsCountingOrder, IsFirst, IsCircular, Reserving, first_told, told_at, faults_of_names, faults_of_meanings, automaton_sites, unit_sites, reservation_sites, reservation_site, class_sites, attribute_sites, repeated_values, second_definitions}
 use Rattle.hz_model.specs.Descriptions.{Description, UnitItem, ReservationItem}
-use Rattle.hz_model.specs.DescriptionShape.{FormKind, define_cpu_unit, define_reservation, IsWellFormed, IsUnit, IsReservation}
+use Rattle.hz_model.specs.DescriptionShape.{FormKind, define_cpu_unit, define_reservation, IsCheckable, IsForm, IsCheckableReservation}
 use Rattle.hz_model.specs.Machines.{at_name, unit_place, unit_places, reservation_named, unit_or_reservation, meaning, IsKnown}
 use Rattle.hz_model.specs.Meanings.{reservation, Reaches}
 use Rattle.hz_model.specs.Sites.{Site, is_among, earliest, is_preceded, repeated}
@@ -108,7 +108,7 @@ module _ (d : Description) where
       let found = named_reservation (unit_place d name) (reservation_named d name) e is in
       found_among name names d.reservations found.0 found.1
 
-  module _ (formed : IsWellFormed d) (defined : first_told (faults_of_names d) ≡ None) where
+  module _ (formed : IsCheckable d) (defined : first_told (faults_of_names d) ≡ None) where
     no_second : (repeated (reservation_sites d) [] (unit_sites d) ≡ []) × (repeated (unit_sites d) [] (reservation_sites d) ≡ [])
     no_second = parts_empty (repeated [] [] (automaton_sites d)) (repeated (reservation_sites d) [] (unit_sites d)) (repeated (unit_sites d) [] (reservation_sites d))
         (repeated [] [] (class_sites d)) (repeated [] [] (attribute_sites d)) (flat_map repeated_values d.attributes)
@@ -117,8 +117,8 @@ module _ (d : Description) where
     not_both : (u : UnitItem) (r : ReservationItem) → Contains d.units u → Contains d.reservations r → u.name ≡ r.name → ⊥
     not_both u r a b same =
         let kinds = formed.kinds in
-        let u_form = (All-contains (IsUnit kinds) d.units u formed.units a).form in
-        let r_form = (All-contains (IsReservation kinds) d.reservations r formed.reservations b).form in
+        let u_form = All-contains (λ (i : UnitItem). IsForm kinds i.form define_cpu_unit) d.units u formed.units a in
+        let r_form = (All-contains (IsCheckableReservation kinds) d.reservations r formed.reservations b).form in
         let u_there = Contains-map unit_site d.units u a in
         let r_there = Contains-map reservation_site d.reservations r b in
         ⊎_elim
@@ -158,7 +158,7 @@ module _ (d : Description) where
         let order = some_order d falling apart (suc (length names)) (λ name. let low = rank_low (meaning d) names listed no_circle name in omega arith) in
         judged (assigned (meaning d) falling) (record { unwinds = falling; expands = assigned_right (meaning d) falling }) order.0 order.1
 
-  pub sound_or_fault : IsWellFormed d → Judged d
+  pub sound_or_fault : IsCheckable d → Judged d
   sound_or_fault formed = by_names (first_told (faults_of_names d)) refl
     where
       by_names : (o : Option Told) → first_told (faults_of_names d) ≡ o → Judged d

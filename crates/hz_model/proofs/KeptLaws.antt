@@ -1,5 +1,5 @@
 -- What holds of the parts of every description without a fault.
-use Rattle.std.proofs.Common.{◌≡◌, ◌≢◌, ℕ, zero, suc, ◌+◌, ◌<◌, ◌≤◌, ◌⊎◌, inl, inr, ⊎_elim, Bool, true, false, List, [], ◌∷◌, ◌++◌, length, map, filter, drop, Contains, All, Option, Some, None, get_or, refl, sym, ap, ◌∙◌, subst, arith}
+use Rattle.std.proofs.Common.{◌≡◌, ◌≢◌, ℕ, zero, suc, ◌+◌, ◌<◌, ◌≤◌, ◌⊎◌, inl, inr, ⊎_elim, Bool, true, false, List, [], ◌∷◌, ◌++◌, length, map, filter, drop, Contains, All, Option, Some, None, get_or, slice_get, refl, sym, ap, ◌∙◌, subst, arith}
 use Rattle.std.specs.Cmp.Lexicographic.{pointwise}
 use Rattle.std.specs.List.{flat_map, filter_map, range_with_len, position, position_or_len, AllPairs, list_any, list_all, cons_option, AllZip}
 use Rattle.std.specs.Option.{option_map, IsSome}
@@ -13,7 +13,7 @@ use Rattle.std.proofs.lemmas.List.Folds.{list_any_at}
 use Rattle.std.proofs.lemmas.List.FromFn.{length-map-range_with_len}
 use Rattle.std.proofs.lemmas.List.Kept.{AllPairs-cons, AllPairs-filter}
 use Rattle.std.proofs.lemmas.List.Quantifiers.{position-Some}
-use Rattle.std.proofs.lemmas.List.Sums.{length-filter, count_by-le-length}
+use Rattle.std.proofs.lemmas.List.Sums.{AllPass-from_list_all, length-filter, count_by-le-length}
 use Rattle.std.proofs.lemmas.Option.{none-some}
 use Rattle.std.proofs.lemmas.Simd.{map-map}
 use Rattle.std.proofs.lemmas.Slice.Eq.{bytes_eq-Decides}
@@ -22,16 +22,17 @@ use Rattle.hz_model.specs.Automata.{cut, ascending, is_of, inside, without_repea
 use Rattle.hz_model.specs.CheckFaults.{same_home, home, strangers, names_of_set, units_of_patterns, has_too_long, reserving_class, classes_of, reservations_of, Reserving, names_in, is_unit, is_reservable, unknown_in_expression, unknown_in_condition, is_class, names_of_bypass, has_too_many, Known, Told, Standing, CheckFault, IsSound, first_told, told_at, faults_of_names, faults_of_meanings, automaton_sites, unit_sites, reservation_sites, class_sites, attribute_sites, repeated_values, past_units, differs, renumbered, renumbered_behind, sites_of}
 use Rattle.hz_model.specs.CheckedParts.{statements_in, class_numbers, AutomatonParts, ClassParts, BypassParts, automaton_names, automaton_count, units_in, automaton_parts, automata_from, automata_of, lists_of, class_parts, bypass_parts, attributes_of}
 use Rattle.hz_model.specs.CheckedShape.{IsKept}
-use Rattle.hz_model.specs.DescriptionShape.{IsSet, IsReservation, are_names, IsWellFormed, IsClass, IsBypass}
+use Rattle.hz_model.specs.DescriptionShape.{IsCheckableReservation, IsCheckable, IsCheckableClass, IsCheckableBypass}
 use Rattle.hz_model.specs.Descriptions.{SetItem, ReservationItem, Description, AutomatonItem, UnitItem, ClassItem, BypassItem, AttributeItem}
 use Rattle.hz_model.specs.Expressions.{is_expression}
 use Rattle.hz_model.specs.Limits.{cycle_limit, alternative_limit, automaton_limit, unit_limit, class_limit, latency_limit}
 use Rattle.hz_model.specs.Lines.{place_of}
-use Rattle.hz_model.specs.Machines.{unit_place, places_of, statement_of, inside_statement, is_inside, unit_numbers, reservation_named, unit_or_reservation, meaning, IsKnown, at_name, class_names, automaton_number, automaton_numbers, place_behind, places_behind, unit_places}
+use Rattle.hz_model.specs.Machines.{unit_place, places_of, statement_of, inside_statement, are_inside, is_inside, unit_numbers, reservation_named, unit_or_reservation, meaning, IsKnown, at_name, class_names, automaton_number, automaton_numbers, place_behind, places_behind, unit_places}
 use Rattle.hz_model.specs.Meanings.{Meaning, reservation, Mentions, alternatives_of_meaning, IsClosed}
 use Rattle.hz_model.specs.Pairs.{Pair, placed, later}
 use Rattle.hz_model.specs.Sets.{Statement}
 use Rattle.hz_model.specs.Sites.{Site, is_among, earliest, is_preceded, repeated}
+use Rattle.hz_model.proofs.Ascending.{AllPairs-head, AllPairs-tail, AllPairs-append}
 use Rattle.hz_model.proofs.AscendingLaws.{Contains-from_ascending}
 use Rattle.hz_model.proofs.CheckTotal.{front_empty, back_empty}
 use Rattle.hz_model.proofs.EarliestLaws.{no_site}
@@ -136,18 +137,6 @@ all_from P xs each = λ k d within. each (get_or xs k d) (Contains-get_or xs k d
 
 -- pairs of items
 module _ {A : Type 0} (R : A → A → Type 0) where
-  pairs_head : (x : A) (xs : List A) → AllPairs R (x ∷ xs) → All (R x) xs
-  pairs_head x xs h = λ k d within. h 0 (suc k) d (omega arith) (omega arith)
-
-  pairs_tail : (x : A) (xs : List A) → AllPairs R (x ∷ xs) → AllPairs R xs
-  pairs_tail x xs h = λ i j d low within. h (suc i) (suc j) d (omega arith) (omega arith)
-
-  pairs_append : (xs ys : List A) → AllPairs R xs → AllPairs R ys → ((x y : A) → Contains xs x → Contains ys y → R x y) → AllPairs R (xs ++ ys)
-  pairs_append [] ys a b cross = b
-  pairs_append (x ∷ xs) ys a b cross = AllPairs-cons R x (xs ++ ys)
-      (All-append (R x) xs ys (pairs_head x xs a) (all_from (R x) ys (λ y there. cross x y (Contains-head x xs) there)))
-      (pairs_append xs ys (pairs_tail x xs a) b (λ z y there here. cross z y (Contains-tail x z xs there) here))
-
   pairs_map : {B : Type 0} (f : B → A) (xs : List B) → AllPairs (λ x y. R (f x) (f y)) xs → AllPairs R (map f xs)
   pairs_map f [] h = λ i j d low within. absurd (omega arith)
   pairs_map f (x ∷ xs) h = AllPairs-cons R (f x) (map f xs)
@@ -166,11 +155,11 @@ one_item f [] x y h a b same = absurd (Contains-nil x a)
 one_item f (z ∷ zs) x y h a b same = ⊎_elim
     (λ (e : z ≡ x). ⊎_elim
     (λ (e' : z ≡ y). sym e ∙ e')
-    (λ (k : Contains zs y). absurd (All-contains (λ b. f z ≢ f b) zs y (pairs_head (λ a b. f a ≢ f b) z zs h) k (ap f e ∙ same)))
+    (λ (k : Contains zs y). absurd (All-contains (λ b. f z ≢ f b) zs y (AllPairs-head (λ a b. f a ≢ f b) z zs h) k (ap f e ∙ same)))
     (Contains-cons_cases z y zs b))
     (λ (j : Contains zs x). ⊎_elim
-    (λ (e' : z ≡ y). absurd (All-contains (λ b. f z ≢ f b) zs x (pairs_head (λ a b. f a ≢ f b) z zs h) j (ap f e' ∙ sym same)))
-    (λ (k : Contains zs y). one_item f zs x y (pairs_tail (λ a b. f a ≢ f b) z zs h) j k same)
+    (λ (e' : z ≡ y). absurd (All-contains (λ b. f z ≢ f b) zs x (AllPairs-head (λ a b. f a ≢ f b) z zs h) j (ap f e' ∙ sym same)))
+    (λ (k : Contains zs y). one_item f zs x y (AllPairs-tail (λ a b. f a ≢ f b) z zs h) j k same)
     (Contains-cons_cases z y zs b))
     (Contains-cons_cases z x zs a)
 
@@ -191,6 +180,9 @@ none_passes f p xs x none there passes = Contains-nil (f x) (subst (λ (ss : Lis
 -- two bypasses of one pair of classes have one number
 abbrev Agree : BypassItem → BypassItem → Type 0
 Agree a b = (out «in» : List ℕ) → Contains a.outs out → Contains a.ins «in» → Contains b.outs out → Contains b.ins «in» → a.number ≡ b.number
+
+each_passes : {A : Type 0} (p : A → Bool) (xs : List A) (x : A) → list_all p xs ≡ true → Contains xs x → p x ≡ true
+each_passes p xs x passes there = All-contains (λ x. p x ≡ true) xs x (AllPass-from_list_all p xs passes) there
 
 any_of : {A : Type 0} (p : A → Bool) (xs : List A) (x : A) → Contains xs x → p x ≡ true → list_any p xs ≡ true
 any_of {A = A} p xs x there passes = list_any_at p xs there.0 x there.1 (subst (λ (y : A). p y ≡ true) (sym there.2) passes)
@@ -240,12 +232,13 @@ flat_empty f (y ∷ xs) x e there = ⊎_elim
     (λ (k : Contains xs x). flat_empty f xs x (back_empty (f y) (flat_map f xs) e) k)
     (Contains-cons_cases y x xs there)
 
-flat_has : {A B : Type 0} (f : A → List B) (xs : List A) (x : A) (y : B) → Contains xs x → Contains (f x) y → Contains (flat_map f xs) y
-flat_has f [] x y there here = absurd (Contains-nil x there)
-flat_has f (z ∷ xs) x y there here = ⊎_elim
-    (λ (same : z ≡ x). Contains-append_left (f z) (flat_map f xs) y (subst (λ w. Contains (f w) y) (sym same) here))
-    (λ (k : Contains xs x). Contains-append_right (f z) (flat_map f xs) y (flat_has f xs x y k here))
-    (Contains-cons_cases z x xs there)
+-- what holds of items at one place
+zip_at : {A B : Type 0} (R : A → B → Type 0) (e : A) (xs : List A) (ys : List B) → AllZip R xs ys → (n : ℕ) (y : B) → slice_get ys n ≡ Some y → R (get_or xs n e) y
+zip_at R e [] [] h n y is = absurd (cc)
+zip_at R e [] (z ∷ ys) h n y is = absurd h
+zip_at R e (x ∷ xs) [] h n y is = absurd h
+zip_at R e (x ∷ xs) (z ∷ ys) h zero y is = let same : z ≡ y = cc in subst (R x) same h.0
+zip_at R e (x ∷ xs) (z ∷ ys) h (suc n) y is = zip_at R e xs ys h.1 n y is
 
 -- an alternative that runs for some cycle and lies within its cycles
 record IsRun (a : Alternative UnitPlace) : Type 0 where
@@ -390,7 +383,7 @@ module _ (d : Description) where
 
   units_apart : AllPairs Apart d.units → (n : ℕ) (names : List (List ℕ)) → AllPairs (λ a b. a ≢ b) (flat_map (λ a. a.units) (automata_from d n names))
   units_apart apart n [] = λ i j e low within. absurd (omega arith)
-  units_apart apart n (first ∷ names) = pairs_append (λ a b. a ≢ b) (units_in d n) (flat_map (λ a. a.units) (automata_from d (suc n) names))
+  units_apart apart n (first ∷ names) = AllPairs-append (λ a b. a ≢ b) (units_in d n) (flat_map (λ a. a.units) (automata_from d (suc n) names))
       (pairs_map (λ a b. a ≢ b) (λ (u : UnitItem). u.name) (filter (is_in n) d.units) (AllPairs-filter Apart (is_in n) d.units apart))
       (units_apart apart (suc n) names)
       (λ a b there here same.
@@ -427,54 +420,35 @@ module _ (d : Description) where
       let long = length-map (filter (is_in p.automaton) d.units) (λ (u : UnitItem). u.name) in
       omega arith
 
-  -- where a set's names have one automaton, it is that of its units
-  in_automaton : (n line form : ℕ) (units rest : List (List ℕ)) → IsTrue (are_names units) → sites_of line form (strangers d (units ++ rest)) ≡ [] → list_all (λ u. u.automaton == n) (places_of d units) ≡ true
-      → (name : List ℕ) → Contains (units ++ rest) name → (p : UnitPlace) → unit_place d name ≡ Some p → p.automaton ≡ n
-  in_automaton n line form [] rest are none is name there p e = absurd (cc)
-  in_automaton n line form (first ∷ others) rest are none is name there p e = by_first (unit_place d first) refl
-      (⊎_elim
-      (λ (same : first ≡ name). subst (λ (o : Option UnitPlace). same_home (Some p.automaton) (option_map (λ u. u.automaton) o) ≡ true) (sym (ap (unit_place d) same ∙ e)) (eq-eqb p.automaton p.automaton refl))
-      (λ (k : Contains (others ++ rest) name). subst (λ (o : Option UnitPlace). same_home (option_map (λ u. u.automaton) o) (home d first) ≡ true) e
-      (⊎_elim (λ (same : same_home (home d name) (home d first) ≡ true). same)
-      (λ (other : same_home (home d name) (home d first) ≡ false). absurd (none_passes (λ (name : List ℕ). record { line = line; form = form; name = name }) (λ name. not (same_home (home d name) (home d first))) (others ++ rest) name none k (ap not other)))
-      (cases_Bool (same_home (home d name) (home d first)))))
-      (Contains-cons_cases first name (others ++ rest) there))
-    where
-      by_first : (o : Option UnitPlace) → unit_place d first ≡ o → same_home (Some p.automaton) (option_map (λ u. u.automaton) (unit_place d first)) ≡ true → p.automaton ≡ n
-      by_first None e' same = let f = subst (λ (o : Option UnitPlace). same_home (Some p.automaton) (option_map (λ u. u.automaton) o) ≡ true) e' same in absurd (both_ways false refl f)
-      by_first (Some q) e' same =
-          let at = subst (λ (o : Option UnitPlace). same_home (Some p.automaton) (option_map (λ u. u.automaton) o) ≡ true) e' same in
-          let first_in = subst (λ (o : Option UnitPlace). list_all (λ u. u.automaton == n) (cons_option o (places_of d others)) ≡ true) e' is in
-          eqb-true p.automaton q.automaton at ∙ eqb-true q.automaton n (and_parts (q.automaton == n) (list_all (λ u. u.automaton == n) (places_of d others)) first_in).0
-
   abbrev InSet : ℕ → Statement ℕ → Type 0
   InSet n s = All (λ u. u < length (units_in d n)) s.units × All (λ pattern. All (λ u. u < length (units_in d n)) pattern) s.patterns
 
-  numbers_in : (n : ℕ) (names : List (List ℕ)) → ((name : List ℕ) → Contains names name → (p : UnitPlace) → unit_place d name ≡ Some p → p.automaton ≡ n) → All (λ u. u < length (units_in d n)) (unit_numbers (places_of d names))
+  numbers_in : (n : ℕ) (names : List (List ℕ)) → are_inside n (places_of d names) ≡ true → All (λ u. u < length (units_in d n)) (unit_numbers (places_of d names))
   numbers_in n names inside = All-map (λ u. u < length (units_in d n)) (λ (p : UnitPlace). p.unit) (places_of d names)
       (all_from (λ p. p.unit < length (units_in d n)) (places_of d names)
-      (λ p there. let found = from_filter_map (unit_place d) names p there in
-      subst (λ (a : ℕ). p.unit < length (units_in d a)) (inside found.0 found.1 p found.2) (unit_low found.0 p found.2)))
+      (λ p there.
+      let found = from_filter_map (unit_place d) names p there in
+      let same = eqb-true p.automaton n (each_passes (λ (u : UnitPlace). u.automaton == n) (places_of d names) p inside there) in
+      subst (λ (a : ℕ). p.unit < length (units_in d a)) same (unit_low found.0 p found.2)))
 
-  sets_low : ((s : SetItem) → Contains d.sets s → IsTrue (are_names s.units)) → flat_map (λ s. sites_of s.line s.form (strangers d (names_of_set s))) d.sets ≡ [] → (n : ℕ) → All (InSet n) (statements_in d n)
-  sets_low named none n = All-map (InSet n) inside_statement (filter (is_inside n) (map (statement_of d) d.sets))
+  sets_low : (n : ℕ) → All (InSet n) (statements_in d n)
+  sets_low n = All-map (InSet n) inside_statement (filter (is_inside n) (map (statement_of d) d.sets))
       (all_from (λ s. InSet n (inside_statement s)) (filter (is_inside n) (map (statement_of d) d.sets))
       (λ t there.
       let kept = Contains-from_filter (is_inside n) t (map (statement_of d) d.sets) there in
       let found = Contains-from_map (statement_of d) d.sets t kept.0 in
       subst (λ (t : Statement UnitPlace). InSet n (inside_statement t)) found.2
-      (of_set found.0 (in_automaton n ((found.0).line) ((found.0).form) ((found.0).units) (units_of_patterns found.0) (named found.0 found.1)
-      (flat_empty (λ (s : SetItem). sites_of s.line s.form (strangers d (names_of_set s))) d.sets found.0 none found.1)
-      (subst (λ (t : Statement UnitPlace). is_inside n t ≡ true) (sym found.2) kept.1)))))
+      (of_set found.0 (subst (λ (t : Statement UnitPlace). is_inside n t ≡ true) (sym found.2) kept.1))))
     where
-      of_set : (s : SetItem) → ((name : List ℕ) → Contains (names_of_set s) name → (p : UnitPlace) → unit_place d name ≡ Some p → p.automaton ≡ n) → InSet n (inside_statement (statement_of d s))
-      of_set s inside = (
-        numbers_in n s.units (λ name there. inside name (Contains-append_left s.units (units_of_patterns s) name there)),
-        All-map (λ pattern. All (λ u. u < length (units_in d n)) pattern) unit_numbers (map (places_of d) s.patterns)
-            (All-map (λ pattern. All (λ u. u < length (units_in d n)) (unit_numbers pattern)) (places_of d) s.patterns
-            (all_from (λ pattern. All (λ u. u < length (units_in d n)) (unit_numbers (places_of d pattern))) s.patterns
-            (λ pattern there. numbers_in n pattern (λ name here. inside name (Contains-append_right s.units (units_of_patterns s) name (flat_has (λ (pattern : List (List ℕ)). pattern) s.patterns pattern name there here)))))),
-      )
+      of_set : (s : SetItem) → is_inside n (statement_of d s) ≡ true → InSet n (inside_statement (statement_of d s))
+      of_set s inside =
+          let parts = and_parts (are_inside n (places_of d s.units)) (list_all (are_inside n) (map (places_of d) s.patterns)) inside in (
+            numbers_in n s.units parts.0,
+            All-map (λ pattern. All (λ u. u < length (units_in d n)) pattern) unit_numbers (map (places_of d) s.patterns)
+                (All-map (λ pattern. All (λ u. u < length (units_in d n)) (unit_numbers pattern)) (places_of d) s.patterns
+                (all_from (λ pattern. All (λ u. u < length (units_in d n)) (unit_numbers (places_of d pattern))) s.patterns
+                (λ pattern there. numbers_in n pattern (each_passes (are_inside n) (map (places_of d) s.patterns) (places_of d pattern) parts.1 (Contains-map (places_of d) s.patterns pattern there))))),
+          )
 
   -- what holds of what units and reservations have holds of what each name has
   known_of : (known : Known) (is : IsKnown d known) (Q : List (Alternative UnitPlace) → Type 0) → ((name : List ℕ) (u : UnitPlace) → unit_place d name ≡ Some u → Q (taking u ∷ [])) → Q []
@@ -512,6 +486,14 @@ module _ (d : Description) where
   lists_zip R f each n (name ∷ names) =
       (each n name, (let next : suc n ≡ n + 1 = omega arith in subst (λ (m : ℕ). AllZip R (map f (range_with_len m (length names))) (automata_from d (suc n) names)) next (lists_zip R f each (suc n) names)))
 
+  -- a list of grids with units of an automaton and cycles below the limit
+  abbrev IsListOf : List (List (Pair ℕ)) → AutomatonParts → Type 0
+  IsListOf grids a = All (λ grid. All (λ p. (p.unit < length a.units) × (p.cycle < cycle_limit)) grid) grids
+
+  -- the list for each automaton is one
+  abbrev AreGrids : List (List (List (Pair ℕ))) → Type 0
+  AreGrids lists = (n : ℕ) (a : AutomatonParts) → slice_get (automata_of d) n ≡ Some a → IsListOf (get_or lists n []) a
+
   length_places : (before units : List UnitItem) → length (places_behind d before units) ≡ length units
   length_places before [] = refl
   length_places before (u ∷ units) = ap suc (length_places (before ++ u ∷ []) units)
@@ -531,14 +513,14 @@ module _ (d : Description) where
       (λ (other : is_reservable d name ≡ false). absurd (none (Contains-filter (λ n. not (is_reservable d n)) name (ap not other) (names_in e) (listed_from_mentions e name h))))
       (cases_Bool (is_reservable d name)))
 
-  module _ (known : Known) (formed : IsWellFormed d) (sound : IsSound d known) where
+  module _ (known : Known) (formed : IsCheckable d) (sound : IsSound d known) where
     known_placed : (name : List ℕ) → AreAllOf InPlace (known name)
     known_placed name = known_of known ((sound.unfolded).right) (AreAllOf InPlace) taking_place (record { each = λ a h. absurd (Contains-nil a h) })
         (λ r there each. all_alternatives InPlace known r.expression each) (suc ((((sound.unfolded).right).unwinds).rank name)) name (omega arith)
 
     known_run : (name : List ℕ) → All IsRun (known name)
     known_run name = known_of known ((sound.unfolded).right) (All IsRun) (λ name u e. All-cons IsRun (taking u) [] (record { runs = omega arith; within = All-cons (λ p. p.cycle < 1) (record { unit = u; cycle = 0 }) [] (omega arith) (All-nil _) }) (All-nil IsRun)) (All-nil IsRun)
-        (λ r there each. every_alternative IsRun idle_run followed_run beside_run known r.expression ((All-contains (IsReservation formed.kinds) d.reservations r formed.reservations there).expression) each)
+        (λ r there each. every_alternative IsRun idle_run followed_run beside_run known r.expression ((All-contains (IsCheckableReservation formed.kinds) d.reservations r formed.reservations there).expression) each)
         (suc ((((sound.unfolded).right).unwinds).rank name)) name (omega arith)
 
     no_names : All (λ s. s.sites ≡ []) (faults_of_names d)
@@ -573,7 +555,7 @@ module _ (d : Description) where
         let a = from.0 in
         let is = ((all_alternatives InPlace known c.expression (λ name h. known_placed name)).each a from.1).each in
         let run = All-contains IsRun (alternatives_of known c.expression) a
-        (every_alternative IsRun idle_run followed_run beside_run known c.expression ((All-contains (IsClass formed.kinds) d.classes c formed.classes there).expression) (λ name h. known_run name)) from.1 in
+        (every_alternative IsRun idle_run followed_run beside_run known c.expression ((All-contains (IsCheckableClass formed.kinds) d.classes c formed.classes there).expression) (λ name h. known_run name)) from.1 in
         subst (λ (grid : List (Pair ℕ)). All (λ p. (p.unit < length (units_in d n)) × (p.cycle < cycle_limit)) grid) from.2
         (all_from (λ p. (p.unit < length (units_in d n)) × (p.cycle < cycle_limit)) (cut n a.pairs)
         (λ p k.
@@ -603,7 +585,7 @@ module _ (d : Description) where
 
     closed : IsClosed (meaning d)
     closed = record {
-      expressions = λ name e is. let r = reservation_of name e is in subst (λ (e : Expression). IsTrue (is_expression e)) r.2 ((All-contains (IsReservation formed.kinds) d.reservations r.0 formed.reservations r.1).expression);
+      expressions = λ name e is. let r = reservation_of name e is in subst (λ (e : Expression). IsTrue (is_expression e)) r.2 ((All-contains (IsCheckableReservation formed.kinds) d.reservations r.0 formed.reservations r.1).expression);
       names = λ name other e is h. let r = reservation_of name e is in
           reservable e other h (λ there. in_none ((r.0).line) ((r.0).form) (unknown_in_expression d ((r.0).expression)) other
           (flat_empty (λ (r : ReservationItem). sites_of r.line r.form (unknown_in_expression d r.expression)) d.reservations r.0 nothing_unknown.0 r.1)
@@ -611,7 +593,7 @@ module _ (d : Description) where
     }
 
     some_of : (c : ClassItem) → Contains d.classes c → 0 < length (alternatives_of known c.expression)
-    some_of c there = some_alternatives known c.expression ((All-contains (IsClass formed.kinds) d.classes c formed.classes there).expression)
+    some_of c there = some_alternatives known c.expression ((All-contains (IsCheckableClass formed.kinds) d.classes c formed.classes there).expression)
         (λ name h. some_assigned (meaning d) (((sound.unfolded).right).unwinds) known (((sound.unfolded).right).expands) closed (suc ((((sound.unfolded).right).unwinds).rank name)) name (omega arith)
         (reservable c.expression name h (λ k. in_none c.line c.form (unknown_in_condition d c.condition ++ unknown_in_expression d c.expression) name
         (flat_empty (λ (c : ClassItem). sites_of c.line c.form (unknown_in_condition d c.condition ++ unknown_in_expression d c.expression)) d.classes c nothing_unknown.1 there)
@@ -644,7 +626,7 @@ module _ (d : Description) where
       class_count = let less : length (class_sites d) ≤ class_limit = not_more class_limit (class_sites d) (no_meanings 4 none (omega arith)) in let a = length-map d.classes (class_parts d known) in let b = length-map d.classes class_site in omega arith;
       class_names = subst (λ (names : List (List ℕ)). AllPairs (λ a b. a ≢ b) names) (sym (map-map (λ (c : ClassParts). c.name) (class_parts d known) d.classes))
           ((apart class_site [] [] d.classes once.1).1);
-      latencies = All-map (λ c. c.latency ≤ latency_limit) (class_parts d known) d.classes (All-weaker (IsClass formed.kinds) (λ c. c.latency ≤ latency_limit) (λ c h. h.latency) d.classes formed.classes);
+      latencies = All-map (λ c. c.latency ≤ latency_limit) (class_parts d known) d.classes (All-weaker (IsCheckableClass formed.kinds) (λ c. c.latency ≤ latency_limit) (λ c h. h.latency) d.classes formed.classes);
       lists = All-map (λ c. length c.lists ≡ length (automata_of d)) (class_parts d known) d.classes
           (λ k e within. length-map-range_with_len (λ automaton. list_in automaton (alternatives_of known ((get_or d.classes k e).expression))) 0 (automaton_count d) ∙ sym names_of_automata);
       bypass_classes = All-map (λ b. All (λ n. n < length (map (class_parts d known) d.classes)) b.outs × All (λ n. n < length (map (class_parts d known) d.classes)) b.ins) (bypass_parts d) d.bypasses
@@ -653,17 +635,17 @@ module _ (d : Description) where
       one_number = pairs_map SameNumber (bypass_parts d) d.bypasses (λ i j e low within. same_number d (get_or d.bypasses i e) (get_or d.bypasses j e) ((agreed [] d.bypasses (no_meanings 8 none (omega arith))).1 i j e low within));
       unit_names = units_apart (unit_items_apart) 0 (automaton_names d);
       sets = all_automata (λ a. All (λ s. All (λ u. u < length a.units) s.units × All (λ pattern. All (λ u. u < length a.units) pattern) s.patterns) a.statements)
-          (λ n name. sets_low (λ s there. (All-contains (IsSet formed.kinds) d.sets s formed.sets there).units) (no_meanings 1 none (omega arith)) n) 0 (automaton_names d);
-      grids = All-map (λ c. AllZip (λ grids a. All (λ grid. All (λ p. (p.unit < length a.units) × (p.cycle < cycle_limit)) grid) grids) c.lists (automata_of d)) (class_parts d known) d.classes
-          (all_from (λ c. AllZip (λ grids a. All (λ grid. All (λ p. (p.unit < length a.units) × (p.cycle < cycle_limit)) grid) grids) (lists_of d known c) (automata_of d)) d.classes
-          (λ c there. lists_zip (λ grids a. All (λ grid. All (λ p. (p.unit < length a.units) × (p.cycle < cycle_limit)) grid) grids) (λ n. list_in n (alternatives_of known c.expression)) (λ n name. grids_of c there n) 0 (automaton_names d)));
+          (λ n name. sets_low n) 0 (automaton_names d);
+      grids = All-map (λ c. AreGrids c.lists) (class_parts d known) d.classes
+          (all_from (λ c. AreGrids (lists_of d known c)) d.classes
+          (λ c there n a is. zip_at IsListOf [] (lists_of d known c) (automata_of d) (lists_zip IsListOf (λ n. list_in n (alternatives_of known c.expression)) (λ n name. grids_of c there n) 0 (automaton_names d)) n a is));
       alternatives = All-map (λ c. All (λ list. (1 ≤ length list) × (length list ≤ alternative_limit)) c.lists) (class_parts d known) d.classes
           (all_from (λ c. All (λ list. (1 ≤ length list) × (length list ≤ alternative_limit)) (lists_of d known c)) d.classes
           (λ c there. All-map (λ list. (1 ≤ length list) × (length list ≤ alternative_limit)) (λ n. list_in n (alternatives_of known c.expression)) (range_with_len 0 (automaton_count d)) (λ k e within. list_few c there (get_or (range_with_len 0 (automaton_count d)) k e))));
-      bypass_numbers = All-map (λ b. b.number ≤ latency_limit) (bypass_parts d) d.bypasses (All-weaker (IsBypass formed.kinds) (λ b. b.number ≤ latency_limit) (λ b h. h.number) d.bypasses formed.bypasses);
+      bypass_numbers = All-map (λ b. b.number ≤ latency_limit) (bypass_parts d) d.bypasses (All-weaker (IsCheckableBypass formed.kinds) (λ b. b.number ≤ latency_limit) (λ b h. h.number) d.bypasses formed.bypasses);
       attribute_names = subst (λ (names : List (List ℕ)). AllPairs (λ a b. a ≢ b) names) (sym (map-map (λ (a : List ℕ × List (List ℕ)). a.0) (λ (a : AttributeItem). (a.name, a.values)) d.attributes))
           ((apart (λ (a : AttributeItem). record { line = a.line; form = a.form; name = a.name }) [] [] d.attributes once.2).1);
     }
 
-pub parts_kept : (d : Description) (known : Known) → IsWellFormed d → IsSound d known → IsKept (automata_of d) (map (class_parts d known) d.classes) (map (bypass_parts d) d.bypasses) (attributes_of d)
+pub parts_kept : (d : Description) (known : Known) → IsCheckable d → IsSound d known → IsKept (automata_of d) (map (class_parts d known) d.classes) (map (bypass_parts d) d.bypasses) (attributes_of d)
 parts_kept d known formed sound = kept d known formed sound

@@ -28,6 +28,7 @@ pub mod CheckLaws
 pub mod EarliestLaws
 pub mod CircleLaws
 pub mod CountingLaws
+pub mod CheckableLaws
 pub mod CheckTotal
 pub mod KeptLaws
 pub mod AnswerLaws

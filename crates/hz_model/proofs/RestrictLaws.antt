@@ -1,19 +1,21 @@
 -- A machine with the units of one automaton alone accepts as its restriction to that automaton does.
-use Rattle.std.proofs.Common.{◌≡◌, ℕ, ◌+◌, ◌<◌, true, List, [], ◌∷◌, ◌++◌, length, take, map, filter, Contains, Option, Some, None, refl, sym, ap, ◌∙◌, subst, arith, ⊎_elim, slice_get, eq-eqb}
+use Rattle.std.proofs.Common.{◌≡◌, ℕ, ◌+◌, ◌<◌, Bool, true, List, [], ◌∷◌, ◌++◌, length, take, map, filter, Contains, get_or, Option, Some, None, refl, sym, ap, ◌∙◌, subst, arith, ⊎_elim, slice_get, eq-eqb}
 use Rattle.std.specs.Prelude.{◌↔◌, ◌==◌}
 use Rattle.std.specs.List.{list_all}
 use Rattle.std.specs.Option.{option_map}
 use Rattle.std.proofs.lemmas.Option.{slice_get-map, slice_get_within, slice_get-get_or}
 use Rattle.std.proofs.lemmas.List.{length-map, map-append}
 use Rattle.std.specs.Bool.{Decides}
+use Rattle.std.proofs.lemmas.Bool.{and_from}
 use Rattle.std.specs.Cmp.Lexicographic.{pointwise, pointwise_decides}
 use Rattle.std.proofs.lemmas.Bool.Decides.{Decides-and, Decides-eqb}
-use Rattle.std.proofs.lemmas.List.Elements.{Contains-append_left, Contains-append_right, Contains-append_cases}
+use Rattle.std.proofs.lemmas.List.Elements.{Contains-get_or, Contains-append_left, Contains-append_right, Contains-append_cases}
+use Rattle.std.proofs.lemmas.List.Sums.{list_all-from_AllPass}
 use Rattle.hz_model.specs.Pairs.{Pair, later, placed}
 use Rattle.hz_model.specs.Alternatives.{Alternative}
 use Rattle.hz_model.specs.Automata.{UnitPlace, ascending, cut, inside, is_of, list_in, same_pair, without_repeats}
 use Rattle.hz_model.specs.Sets.{Statement, Holds, HoldsSome, HoldsPattern, AllowsIn, Fits}
-use Rattle.hz_model.specs.Machines.{unit_numbers, inside_statement, is_inside, of_pairs, class_in, restricted, IsStatementOf, IsOf}
+use Rattle.hz_model.specs.Machines.{unit_numbers, inside_statement, are_inside, is_inside, of_pairs, class_in, restricted, IsStatementOf, IsOf}
 use Rattle.hz_model.specs.Replay.{Class, Machine, Event, issue, advance, State, start, Step, Plays, FitsAt, MayTake, Accepted, FirstRefused, alternatives_at, of_class, chosen, pairs_at, first_fit}
 use Rattle.hz_model.proofs.Elements.{Contains-nil, Contains-head, Contains-tail, Contains-map, Contains-from_map, Contains-filter, Contains-from_filter}
 use Rattle.hz_model.proofs.AscendingLaws.{same_ascending}
@@ -35,9 +37,6 @@ module _ (automaton : ℕ) where
 
   at_inside : (p : Pair UnitPlace) → p.unit.automaton ≡ automaton → at_pair (inside p) ≡ p
   at_inside p e = ap (λ (a : ℕ). record { unit = record { automaton = a; unit = p.unit.unit }; cycle = p.cycle }) (sym e)
-
-  at_same : (p q : Pair UnitPlace) → p.unit.automaton ≡ automaton → inside p ≡ inside q → q.unit.automaton ≡ automaton → p ≡ q
-  at_same p q a e b = sym (at_inside p a) ∙ (ap at_pair e ∙ at_inside q b)
 
   seen_nil : IsSeen [] []
   seen_nil = record { here = λ p h. absurd (Contains-nil p h); same = λ p. (λ h. absurd (Contains-nil p h), λ h. absurd (Contains-nil (at_pair p) h)) }
@@ -147,9 +146,13 @@ module _ (automaton : ℕ) where
     abbrev restricted_statements : List (Statement ℕ)
     restricted_statements = map inside_statement (filter (is_inside automaton) statements)
 
-    all_inside : (units : List UnitPlace) → ((u : UnitPlace) → Contains units u → u.automaton ≡ automaton) → list_all (λ u. u.automaton == automaton) units ≡ true
-    all_inside [] h = refl
-    all_inside (u ∷ units) h = rw (eq-eqb u.automaton automaton (h u (Contains-head u units))) (all_inside units (λ v k. h v (Contains-tail u v units k)))
+    passes_all : {A : Type 0} (p : A → Bool) (xs : List A) → ((x : A) → Contains xs x → p x ≡ true) → list_all p xs ≡ true
+    passes_all p xs each = list_all-from_AllPass p xs (λ k d within. each (get_or xs k d) (Contains-get_or xs k d within))
+
+    all_inside : (s : Statement UnitPlace) → IsStatementOf automaton s → is_inside automaton s ≡ true
+    all_inside s is = and_from (are_inside automaton s.units) (list_all (are_inside automaton) s.patterns)
+        (passes_all (λ u. u.automaton == automaton) s.units (λ u h. eq-eqb u.automaton automaton (is.units u h)))
+        (passes_all (are_inside automaton) s.patterns (λ pattern there. passes_all (λ u. u.automaton == automaton) pattern (λ u h. eq-eqb u.automaton automaton (is.patterns pattern there u h))))
 
     module _ (all added : List (Pair UnitPlace)) (pairs others : List (Pair ℕ)) (now : ℕ) (first : IsSeen all pairs) (second : IsSeen added others) where
       abbrev placed_seen : IsSeen (placed now added) (placed now others)
@@ -175,7 +178,7 @@ module _ (automaton : ℕ) where
         apart = λ p x y. let there = at_inside p (first.here p x) in
             h.apart (inside p) ((first.same (inside p)).1 (subst (λ (q : Pair UnitPlace). Contains all q) (sym there) x)) ((placed_seen.same (inside p)).1 (subst (λ (q : Pair UnitPlace). Contains (placed now added) q) (sym there) y));
         allowed = λ s is cycle.
-            let kept = Contains-map inside_statement (filter (is_inside automaton) statements) s (Contains-filter (is_inside automaton) s (all_inside s.units ((are s is).units)) statements is) in
+            let kept = Contains-map inside_statement (filter (is_inside automaton) statements) s (Contains-filter (is_inside automaton) s (all_inside s (are s is)) statements is) in
             allows_outside s (are s is) _ _ _ _ _ _
             (λ u. first.same (record { unit = u; cycle = cycle })) (λ u. placed_seen.same (record { unit = u; cycle = cycle })) (λ u. result_seen.same (record { unit = u; cycle = cycle }))
             (h.allowed (inside_statement s) kept cycle);

@@ -1,6 +1,6 @@
 -- What holds of the parts of every description without a fault. Law: `parts_are_kept`.
-use Rattle.std.specs.Prelude.{◌≡◌, ◌≢◌, ℕ, ◌<◌, ◌≤◌, List, length, map, All}
-use Rattle.std.specs.List.{Contains, flat_map, AllPairs, AllZip}
+use Rattle.std.specs.Prelude.{◌≡◌, ◌≢◌, ℕ, ◌<◌, ◌≤◌, List, [], Some, slice_get, slice_index_or, length, map, All}
+use Rattle.std.specs.List.{Contains, flat_map, AllPairs}
 use Rattle.hz_model.specs.CheckedParts.{AutomatonParts, ClassParts, BypassParts}
 use Rattle.hz_model.specs.Limits.{automaton_limit, unit_limit, class_limit, alternative_limit, cycle_limit, latency_limit}
 
@@ -26,7 +26,7 @@ pub record IsKept (automata : List AutomatonParts) (classes : List ClassParts) (
   -- each such list has an alternative, and not too many
   pub alternatives : All (λ c. All (λ list. (1 ≤ length list) × (length list ≤ alternative_limit)) c.lists) classes
   -- the pairs in the list for an automaton have units of it and cycles below the limit
-  pub grids : All (λ c. AllZip (λ grids a. All (λ grid. All (λ p. (p.unit < length a.units) × (p.cycle < cycle_limit)) grid) grids) c.lists automata) classes
+  pub grids : All (λ c. (n : ℕ) (a : AutomatonParts) → slice_get automata n ≡ Some a → All (λ grid. All (λ p. (p.unit < length a.units) × (p.cycle < cycle_limit)) grid) (slice_index_or c.lists n [])) classes
   -- no number of a bypass is too great
   pub bypass_numbers : All (λ b. b.number ≤ latency_limit) bypasses
   -- a bypass names classes by their numbers

@@ -14,8 +14,8 @@ abbrev pub value_of : (given defaults : List (List ℕ × List ℕ)) → List �
 value_of given defaults attribute = option_or (value_in given attribute) (value_in defaults attribute)
 
 -- the value is one of these
-abbrev pub is_among : List (List ℕ) → List ℕ → Bool
-is_among values value = list_any (λ v. bytes_eq v value) values
+abbrev pub is_one_of : List (List ℕ) → List ℕ → Bool
+is_one_of values value = list_any (λ v. bytes_eq v value) values
 
 abbrev pub is_zero : ℤ → Bool
 is_zero (pos n) = n == 0
@@ -25,7 +25,7 @@ is_zero (negsuc n) = false
 abbrev mutual
   pub holds : (List ℕ → Option (List ℕ)) → Condition → Bool
   holds value (constant number) = not (is_zero number)
-  holds value (matches attribute values negated) = option_map_or (λ v. if negated then not (is_among values v) else is_among values v) (value attribute) false
+  holds value (matches attribute values negated) = option_map_or (λ v. if negated then not (is_one_of values v) else is_one_of values v) (value attribute) false
   holds value (negation test) = not (holds value test)
   holds value (conjunction tests) = all_hold value tests
   holds value (disjunction tests) = some_holds value tests

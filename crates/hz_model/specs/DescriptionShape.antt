@@ -1,5 +1,5 @@
 -- What holds of every description that was read: what is a name, an expression or a limited number, which kind of form each
--- item comes from, and the order of the items. Law: `descriptions_are_well_formed`.
+-- item comes from, and the order of the items. Laws: `descriptions_are_well_formed`, `well_formed_descriptions_can_be_checked`.
 use Rattle.std.specs.Prelude.{◌≡◌, ℕ, ◌<◌, ◌≤◌, Bool, true, false, ◌&&◌, List, [], ◌∷◌, Some, slice_get, All, IsTrue}
 use Rattle.std.specs.List.{list_all, AllPairs}
 use Rattle.std.specs.Option.{option_map_or}
@@ -99,6 +99,40 @@ pub record IsWellFormed (d : Description) : Type 0 where
   pub bypasses : All (IsBypass kinds) d.bypasses
   pub sets : All (IsSet kinds) d.sets
   pub attributes : All (IsAttribute kinds) d.attributes
+  pub automata_in_order : AllPairs (λ earlier later. earlier.form ≤ later.form) d.automata
+  pub units_in_order : AllPairs (λ earlier later. earlier.form ≤ later.form) d.units
+  pub reservations_in_order : AllPairs (λ earlier later. earlier.form < later.form) d.reservations
+  pub classes_in_order : AllPairs (λ earlier later. earlier.form < later.form) d.classes
+  pub bypasses_in_order : AllPairs (λ earlier later. earlier.form < later.form) d.bypasses
+  pub sets_in_order : AllPairs (λ earlier later. earlier.form < later.form) d.sets
+  pub attributes_in_order : AllPairs (λ earlier later. earlier.form < later.form) d.attributes
+
+-- What a check of items relies on: that expressions can be written, that numbers are limited, and what kind their forms are.
+module _ (kinds : List FormKind) where
+  pub record IsCheckableReservation (item : ReservationItem) : Type 0 where
+    pub form : IsForm kinds item.form define_reservation
+    pub expression : IsTrue (is_expression item.expression)
+
+  pub record IsCheckableClass (item : ClassItem) : Type 0 where
+    pub form : IsForm kinds item.form define_insn_reservation
+    pub latency : item.latency ≤ limits.latency_limit
+    pub expression : IsTrue (is_expression item.expression)
+
+  pub record IsCheckableBypass (item : BypassItem) : Type 0 where
+    pub form : IsForm kinds item.form define_bypass
+    pub number : item.number ≤ limits.latency_limit
+
+-- A description that can be checked: expressions can be written, numbers are limited, items of two lists have different forms,
+-- and each list is in the order of its forms.
+pub record IsCheckable (d : Description) : Type 0 where
+  pub kinds : List FormKind
+  pub automata : All (λ i. IsForm kinds i.form define_automaton) d.automata
+  pub units : All (λ i. IsForm kinds i.form define_cpu_unit) d.units
+  pub reservations : All (IsCheckableReservation kinds) d.reservations
+  pub classes : All (IsCheckableClass kinds) d.classes
+  pub bypasses : All (IsCheckableBypass kinds) d.bypasses
+  pub sets : All (λ i. IsForm kinds i.form (set_form i.kind)) d.sets
+  pub attributes : All (λ i. IsForm kinds i.form define_attr) d.attributes
   pub automata_in_order : AllPairs (λ earlier later. earlier.form ≤ later.form) d.automata
   pub units_in_order : AllPairs (λ earlier later. earlier.form ≤ later.form) d.units
   pub reservations_in_order : AllPairs (λ earlier later. earlier.form < later.form) d.reservations

@@ -1,6 +1,6 @@
 -- What a description means to a replay: its units by automaton and number, what its names stand for, and its classes.
 -- GCC Internals, 'Specifying processor pipeline description'.
-use Rattle.std.specs.Prelude.{◌≡◌, ℕ, ◌==◌, Bool, List, [], ◌∷◌, ◌++◌, map, filter, count_by, Option, Some, None, unwrap_or, if◌then◌else◌}
+use Rattle.std.specs.Prelude.{◌&&◌, ◌≡◌, ℕ, ◌==◌, Bool, List, [], ◌∷◌, ◌++◌, map, filter, count_by, Option, Some, None, unwrap_or, if◌then◌else◌}
 use Rattle.std.specs.List.{Contains, filter_map, list_all}
 use Rattle.std.specs.Str.{bytes_eq}
 use Rattle.hz_model.specs.Lines.{place_of}
@@ -104,9 +104,13 @@ unit_numbers units = map (λ u. u.unit) units
 abbrev pub inside_statement : Statement UnitPlace → Statement ℕ
 inside_statement s = record { kind = s.kind; units = unit_numbers s.units; patterns = map unit_numbers s.patterns }
 
+-- whether all of these units are of the automaton
+abbrev pub are_inside : ℕ → List UnitPlace → Bool
+are_inside automaton units = list_all (λ u. u.automaton == automaton) units
+
 -- whether all units of a statement are of the automaton
 abbrev pub is_inside : ℕ → Statement UnitPlace → Bool
-is_inside automaton s = list_all (λ u. u.automaton == automaton) s.units
+is_inside automaton s = are_inside automaton s.units && list_all (are_inside automaton) s.patterns
 
 -- an alternative of these pairs; how long it runs changes no acceptance
 abbrev pub of_pairs : List (Pair ℕ) → Alternative ℕ

@@ -5,7 +5,7 @@ ghost use Rattle.hz_model.specs.CheckFaults.{Known, CheckFault, CheckFaultAt, Is
 ghost use Rattle.hz_model.specs.CheckedParts.{automata_of, class_parts, bypass_parts, attributes_of};
 ghost use Rattle.hz_model.specs.CheckedShape.{IsKept};
 ghost use Rattle.hz_model.specs.Descriptions.{Description};
-ghost use Rattle.hz_model.specs.DescriptionShape.{IsWellFormed};
+ghost use Rattle.hz_model.specs.DescriptionShape.{IsCheckable};
 ghost use Rattle.hz_model.specs.Sites.{Site, earliest};
 
 /// A description has at most one fault, at one place.
@@ -25,7 +25,7 @@ pub fn one_assignment_of_sound_descriptions()
 
 /// Every description that can be read is sound or has a fault.
 pub fn every_description_is_sound_or_has_a_fault()
-    ensures { (d : Description) → IsWellFormed d → ((known : Known) × IsSound d known) ⊎ ((fault : CheckFault) × (site : Site) × CheckFaultAt d fault site) }
+    ensures { (d : Description) → IsCheckable d → ((known : Known) × IsSound d known) ⊎ ((fault : CheckFault) × (site : Site) × CheckFaultAt d fault site) }
 {}
 
 /// Of sites, the earliest is the first of those whose form none of the others precedes; there is one where there are sites.
@@ -36,5 +36,5 @@ pub fn earliest_is_the_first_of_the_first_form()
 
 /// The parts of every description without a fault keep the limits and the rules of names.
 pub fn parts_are_kept()
-    ensures { (d : Description) (known : Known) → IsWellFormed d → IsSound d known → IsKept (automata_of d) (map (class_parts d known) d.classes) (map (bypass_parts d) d.bypasses) (attributes_of d) }
+    ensures { (d : Description) (known : Known) → IsCheckable d → IsSound d known → IsKept (automata_of d) (map (class_parts d known) d.classes) (map (bypass_parts d) d.bypasses) (attributes_of d) }
 {}

@@ -5,7 +5,7 @@ ghost use Rattle.hz_model.specs.Trees.{Trees};
 ghost use Rattle.hz_model.specs.Forms as texts;
 ghost use Rattle.hz_model.specs.Descriptions.{Description};
 ghost use Rattle.hz_model.specs.DescriptionForms.{Reads, DescriptionFault, FaultAt, form_count, strings_below};
-ghost use Rattle.hz_model.specs.DescriptionShape.{IsWellFormed};
+ghost use Rattle.hz_model.specs.DescriptionShape.{IsWellFormed, IsCheckable};
 
 /// Forms say at most one description.
 pub fn one_description()
@@ -30,6 +30,11 @@ pub fn description_of_every_list_of_forms()
 /// What forms say is well formed, with the kind of each form of the file.
 pub fn descriptions_are_well_formed()
     ensures { (forms : Trees) (d : Description) → Reads forms d → (formed : IsWellFormed d) × (length formed.kinds ≡ form_count forms) }
+{}
+
+/// What forms say can be checked.
+pub fn well_formed_descriptions_can_be_checked()
+    ensures { (d : Description) → IsWellFormed d → IsCheckable d }
 {}
 
 /// A text shorter than some number has fewer forms than that, and each of its strings is shorter, too.

@@ -80,12 +80,6 @@ leaf_simple (Step.word w e) = refl
 leaf_simple (Step.numeral w e h) = refl
 leaf_simple (Step.string e part) = refl
 
--- a step's token is simple
-pub step_simple : {text rest : List ℕ} {line last : ℕ} (token : code_token.Token) → Step line text (token_of line token ∷ []) last rest → IsSimple token
-step_simple (Open bracket) step = tt
-step_simple (Close bracket) step = tt
-step_simple (Leaf form) step = leaf_simple step
-
 -- a bracket that is open at the end is what is wrong there
 pub open_at_end : (reader : Reader) (line : ℕ) (e : SexpFault) → Tells (IsOpen reader) e → Tells (Faulty (opened_in reader) line []) e
 open_at_end reader line e h = tells_weaker {P = IsOpen reader} {Q = Faulty (opened_in reader) line []} (λ fault place told. rw (told.0, told.4) (Faulty.open_bracket told.3)) e h

@@ -36,7 +36,8 @@ use Rattle.std.specs.Prelude.{◌&&◌, not}
 use Rattle.std.proofs.lemmas.List.FromFn.{length-range_with_len, get_or-range_with_len}
 use Rattle.hz_check.specs.declared.checked.Checked.{Checked}
 use Rattle.hz_check.specs.declared.checked.CheckedClass.{CheckedClass}
-use Rattle.hz_check.specs.Checked.{IsCheckedOf, IsWithinLimits, automaton_of, class_of}
+use Rattle.hz_check.specs.Checked.{IsCheckedOf}
+use Rattle.hz_check.specs.Shape.{automaton_of, class_of}
 use Rattle.hz_model.specs.Descriptions.{Description, AutomatonItem, ClassItem, Options}
 use Rattle.hz_model.specs.Machines.{class_names, class_in, machine_with, restricted, IsOf}
 use Rattle.hz_model.specs.Replay.{Machine, Class, Event, alternatives_at, of_class, first_fit, any_fit, IsOfClass}

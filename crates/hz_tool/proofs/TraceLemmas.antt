@@ -36,12 +36,6 @@ pub told_step : (classes : List (List ℕ)) (text rest others line : List ℕ) (
 told_step classes text rest others line done e told first read =
     shifted done e (events_of classes (lines_of others)) ∙ (ap (option_map (λ es. done ++ es)) (sym (next_event classes rest others line e first read)) ∙ told)
 
--- a line that is no event makes the text no trace
-pub no_event : (classes : List (List ℕ)) (text rest others line : List ℕ) (done : List model.Event) → option_map (λ es. done ++ es) (events_of classes (lines_of rest)) ≡ events_of classes (lines_of text) → lines_of rest ≡ line ∷ lines_of others → event_of classes line ≡ None → (events : List model.Event) → StraightTrace classes text events → ⊥
-no_event classes text rest others line done told first read events is =
-    let nothing : events_of classes (lines_of rest) ≡ None = rw first (rw read refl) in
-    none-some events (ap (option_map (λ es. done ++ es)) (sym nothing) ∙ (told ∙ is.lines))
-
 ends : (done : List model.Event) (e : model.Event) (o : Option (List model.Event)) (events : List model.Event) → option_map (λ es. (done ++ e ∷ []) ++ es) o ≡ Some events → cycles_of done + cycles_in e ≤ cycles_of events
 ends done e None events h = absurd (none-some events h)
 ends done (model.issue k) (Some es) events h =

@@ -2,7 +2,7 @@
 use Rattle.std.specs.Prelude.{ℕ, ◌<◌, ◌≤◌, List, [], ◌∷◌, map, length, slice_index_or, All}
 use Rattle.hz_check.specs.declared.checked.Checked.{Checked}
 use Rattle.hz_check.specs.declared.checked.CheckedClass.{CheckedClass}
-use Rattle.hz_check.specs.Checked.{automaton_of, class_of, IsWithinLimits}
+use Rattle.hz_check.specs.Shape.{automaton_of, class_of}
 use Rattle.hz_model.specs.CheckedParts.{AutomatonParts}
 use Rattle.hz_model.specs.Sets.{Statement}
 use Rattle.hz_model.specs.Limits.{advance_limit}

@@ -2,7 +2,7 @@
 
 ghost use Rattle.std.specs.List.{AllPairs};
 ghost use Rattle.std.specs.Prelude.{◌≡◌, ◌≢◌, ◌+◌, ℕ, ◌<◌, ◌≤◌, ◌&&◌, not, nat_lt, length, map, slice_get, Some, All, IfOk, IsTrue};
-ghost use Rattle.hz_check.specs.Checked.{IsCheckedOf, IsWithinLimits};
+ghost use Rattle.hz_check.specs.Checked.{IsCheckedOf};
 ghost use Rattle.hz_model.specs.Answers.{Replays, Traces, ReplaysDescription};
 ghost use Rattle.hz_model.specs.Descriptions.{Description};
 ghost use Rattle.hz_model.specs.Limits.{advance_limit};

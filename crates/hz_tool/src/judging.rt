@@ -6,7 +6,7 @@ ghost use Rattle.hz_model.specs.DescriptionShape.{IsWellFormed};
 ghost use Rattle.hz_model.specs.Forms as forms;
 ghost use Rattle.hz_model.specs.Limits.{class_limit};
 ghost use Rattle.hz_model.specs.StraightTraces.{StraightTrace};
-ghost use Rattle.hz_check.specs.Checked.{IsCheckedOf, IsWithinLimits};
+ghost use Rattle.hz_check.specs.Checked.{IsCheckedOf};
 ghost use Rattle.hz_mdread.specs.Shape.{description};
 ghost use Rattle.hz_sexp.specs.Shape.{trees};
 ghost use Rattle.hz_tool.specs.Decisions.{IsFormsReport, IsExpressionKind, IsDescriptionReport, IsCheckReport, IsTraceReport};

@@ -12,7 +12,7 @@ use Rattle.hz_model.proofs.Elements.{Contains-nil, Contains-head, Contains-tail,
 use Rattle.hz_model.specs.Alternatives.{Expression}
 use Rattle.hz_model.specs.CheckFaults.{Standing, Told, CheckFault, first_told, told_at, faults_of_names, second_definitions, unknown_names, unit_sites, reservation_sites, reservation_site, names_in, is_unit, is_reservable, unknown_in_expression, sites_of, unknown_in_condition, automaton_sites, class_sites, attribute_sites, repeated_values, is_class, names_of_bypass, names_of_set}
 use Rattle.hz_model.specs.Descriptions.{Description, UnitItem, ReservationItem, ClassItem}
-use Rattle.hz_model.specs.DescriptionShape.{IsWellFormed, IsReservation, IsUnit, FormKind, define_cpu_unit, define_reservation}
+use Rattle.hz_model.specs.DescriptionShape.{IsCheckable, IsCheckableReservation, IsForm, FormKind, define_cpu_unit, define_reservation}
 use Rattle.hz_model.specs.Lines.{place_of}
 use Rattle.hz_model.specs.Sites.{Site, is_among, is_preceded, earlier, earliest, repeated}
 use Rattle.hz_unfold.proofs.FirstNames.{place_from_zero, bytes_eq-self, same_bytes}
@@ -218,7 +218,7 @@ pub record AreNamed (d : Description) : Type 0 where
   pub in_reservations : (r : ReservationItem) → Contains d.reservations r → (name : List ℕ) → Contains (names_in r.expression) name → is_reservable d name ≡ true
   pub in_classes : (c : ClassItem) → Contains d.classes c → (name : List ℕ) → Contains (names_in c.expression) name → is_reservable d name ≡ true
 
-module _ (d : Description) (told : first_told (faults_of_names d) ≡ None) (formed : IsWellFormed d) where
+module _ (d : Description) (told : first_told (faults_of_names d) ≡ None) (formed : IsCheckable d) where
   no_second : second_definitions d ≡ []
   no_second = standing_at (faults_of_names d) told 0 _ refl
 
@@ -251,8 +251,8 @@ module _ (d : Description) (told : first_told (faults_of_names d) ≡ None) (for
       let among_reservations = Contains-map reservation_site d.reservations r.0 r.1 in
       let low = unpreceded_form (reservation_sites d) unit_site (reservation_site r.0) (new_units.free unit_site among_units) among_reservations (r.2 ∙ sym u.2) in
       let high = unpreceded_form (unit_sites d) (reservation_site r.0) unit_site (new_reservations.free (reservation_site r.0) among_reservations) among_units (u.2 ∙ sym r.2) in
-      let unit_form = (All-contains (IsUnit formed.kinds) d.units u.0 formed.units u.1).form in
-      let reservation_form = (All-contains (IsReservation formed.kinds) d.reservations r.0 formed.reservations r.1).form in
+      let unit_form = All-contains (λ (i : UnitItem). IsForm formed.kinds i.form define_cpu_unit) d.units u.0 formed.units u.1 in
+      let reservation_form = (All-contains (IsCheckableReservation formed.kinds) d.reservations r.0 formed.reservations r.1).form in
       let same : (u.0).form ≡ (r.0).form = omega arith in
       let no : Some define_cpu_unit ≡ Some define_reservation = sym unit_form ∙ (ap (slice_get formed.kinds) same ∙ reservation_form) in
       absurd (cc)

@@ -12,9 +12,6 @@ Contains-from_At xs i x h = (i, At_within xs i x h, get_or_from_slice_get xs i x
 pub At_from_Contains : (xs : List ℕ) (x : ℕ) → Contains xs x → (i : ℕ) × At xs i x
 At_from_Contains xs x h = (h.0, slice_get-get_or xs h.0 x h.1 ∙ ap Some h.2)
 
-pub At_same : (xs : List ℕ) (i x y : ℕ) → At xs i x → At xs i y → x ≡ y
-At_same xs i x y h k = let e : Some x ≡ Some y = sym h ∙ k in cc
-
 -- what stands in front keeps its place
 pub At-append : (xs ys : List ℕ) (i x : ℕ) → At xs i x → At (xs ++ ys) i x
 At-append [] ys i x h = absurd (cc)

@@ -7,12 +7,6 @@ use Rattle.hz_model.proofs.Elements.{Contains-nil}
 use Rattle.hz_unfold.specs.Circles.{AddsStarts, IsTurned}
 use Rattle.hz_unfold.specs.Graphs.{ends_in}
 
-pub adds_none : (start : ℕ) (ends : List ℕ) (lists : List (List ℕ)) → AddsStarts start (take 0 ends) lists lists
-adds_none start ends lists = record {
-  size = refl;
-  each = λ from to. (λ h. inl h, λ h. ⊎_elim (λ (old : Contains (ends_in lists to) from). old) (λ (new : (from ≡ start) × Contains [] to). absurd (Contains-nil to new.1)) h);
-}
-
 -- one more end
 module _ (start : ℕ) (ends : List ℕ) (old mid : List (List ℕ)) (i : ℕ) (within : i < length ends) (small : get_or ends i 0 < length mid) (a : AddsStarts start (take i ends) old mid) where
   abbrev end : ℕ
@@ -77,12 +71,6 @@ empty_list n to = ⊎_elim
     (λ (k : to < n). get_or-replicate n to [] [] k)
     (λ (k : n ≤ to). get_or_past (replicate n []) to [] (omega (arith, length-replicate {A = List ℕ} n [])))
     (cases_lt to n)
-
-pub turned_none : (edges : List (List ℕ)) (n : ℕ) → n ≡ length edges → IsTurnedBelow edges (replicate n []) 0
-turned_none edges n e = record {
-  size = length-replicate n [] ∙ e;
-  each = λ from to. (λ h. absurd (Contains-nil from (subst (λ (xs : List ℕ). Contains xs from) (empty_list n to) h)), λ h. absurd (omega (arith, h.0)));
-}
 
 pub turned_more : (edges mid new : List (List ℕ)) (i : ℕ) → IsTurnedBelow edges mid i → AddsStarts i (ends_in edges i) mid new → IsTurnedBelow edges new (i + 1)
 turned_more edges mid new i t a = record {

@@ -10,7 +10,7 @@ use Rattle.hz_unfold.specs.declared.walk.Mark.{Mark}
 use Rattle.hz_unfold.specs.declared.walk.Mark.TheVariants.{New, Open, Done}
 use Rattle.hz_unfold.specs.Graphs.{At, IsOnce, Path, last, onward, Visited, ends, came, comes, Spans, IsWalk, AreInside, ends_in}
 use Rattle.hz_unfold.specs.Walks.{State, mark_of, entered, looked, passed, left, begun, stepped, gone_on}
-use Rattle.hz_unfold.proofs.Places.{At_within, Contains-from_At, At_from_Contains, At_same, At-append, At-last, At-push_cases, once_nil, once_push}
+use Rattle.hz_unfold.proofs.Places.{At_within, Contains-from_At, At_from_Contains, At-append, At-last, At-push_cases, once_nil, once_push}
 use Rattle.hz_unfold.proofs.Paths.{path_join, path_push}
 
 -- the nodes of frames

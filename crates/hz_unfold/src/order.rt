@@ -3,7 +3,7 @@
 ghost use Rattle.std.specs.Prelude.{◌≡◌, ◌+◌, ◌<◌, ◌^◌, IfErr, IfOk, None, OnOk, vec_len};
 ghost use Rattle.hz_mdread.specs.Shape.{description as description_of};
 ghost use Rattle.hz_model.specs.CheckFaults.{faults_of_names, first_told};
-ghost use Rattle.hz_model.specs.DescriptionShape.{IsWellFormed};
+ghost use Rattle.hz_model.specs.DescriptionShape.{IsCheckable};
 ghost use Rattle.hz_model.specs.Machines.{meaning};
 ghost use Rattle.hz_model.specs.Meanings.{Unwinds};
 ghost use Rattle.hz_unfold.specs.Faults.{TellsCircle};
@@ -28,7 +28,7 @@ pub struct Order {
 /// The counting order of a description whose names are right, or the first reservation of the file that reaches itself.
 pub fn counting_order(alloc: Global, description: &Description) -> Result<Order, OrderFault>
     requires named { first_told (faults_of_names (description_of description.now)) ≡ None }
-    requires formed { IsWellFormed (description_of description.now) }
+    requires formed { IsCheckable (description_of description.now) }
     ensures ok { IfOk result (λ order. IsOrder (description_of description.now) order.numbers.items) }
     ensures unwinds { OnOk result (Unwinds (meaning (description_of description.now))) }
     ensures err { IfErr result (TellsCircle (description_of description.now)) }
@@ -38,9 +38,9 @@ pub fn counting_order(alloc: Global, description: &Description) -> Result<Order,
 
 /// The same of any description: what it says holds where the names are right.
 pub(crate) fn order_of(alloc: Global, description: &Description) -> Result<Order, OrderFault>
-    ensures ok { first_told (faults_of_names (description_of description.now)) ≡ None → IsWellFormed (description_of description.now) → IfOk result (λ order. IsOrder (description_of description.now) order.numbers.items) }
-    ensures unwinds { first_told (faults_of_names (description_of description.now)) ≡ None → IsWellFormed (description_of description.now) → OnOk result (Unwinds (meaning (description_of description.now))) }
-    ensures err { first_told (faults_of_names (description_of description.now)) ≡ None → IsWellFormed (description_of description.now) → IfErr result (TellsCircle (description_of description.now)) }
+    ensures ok { first_told (faults_of_names (description_of description.now)) ≡ None → IsCheckable (description_of description.now) → IfOk result (λ order. IsOrder (description_of description.now) order.numbers.items) }
+    ensures unwinds { first_told (faults_of_names (description_of description.now)) ≡ None → IsCheckable (description_of description.now) → OnOk result (Unwinds (meaning (description_of description.now))) }
+    ensures err { first_told (faults_of_names (description_of description.now)) ≡ None → IsCheckable (description_of description.now) → IfErr result (TellsCircle (description_of description.now)) }
 {
     let lists = graph(alloc, description)?;
     let edges = lists.as_slice();

@@ -1,10 +1,8 @@
-use Rattle.std.proofs.Common.{◌++◌, ◌∷◌, ◌+◌, All, map, drop, sym, ap, subst, ◌∙◌, add-one}
-use Rattle.std.proofs.lemmas.List.Elements.{All-push}
+use Rattle.std.proofs.Common.{◌++◌, ◌∷◌, ◌+◌, map, drop, sym, ap, ◌∙◌, add-one}
 use Rattle.hz_mdread.specs.Shape.{description, automaton_item}
-use Rattle.hz_check.specs.Checked.{automaton_of}
+use Rattle.hz_check.specs.Shape.{automaton_of}
 use Rattle.hz_check.proofs.Next.{push_before, drop_next}
 use Rattle.hz_model.specs.CheckedParts.{automata_from, automaton_parts}
-use Rattle.hz_unitsets.specs.SetRules.{IsInRange}
 use Rattle.hz_check.proofs.assembly.defined_automata.Goals as goal
 
 pub loop-number-preserved : goal.loop-number-preserved
@@ -15,9 +13,6 @@ loop-number-preserved c =
     let item = c.item-item.result in
     let made = c.loop-number.automata.items in
     let rest = map (λ a. a.name) (map automaton_item (drop (n + 1) items)) in
-    record {
-      parts = push_before automaton_of made c.push.new.self.items c.in_ok-automaton.automaton (automaton_parts d n item.name) (automata_from d (n + 1) rest) c.in_ok-push.ensures.items (c.in_ok-automaton.ensures.parts ∙ ap (automaton_parts d n) c.in_ok-name.ensures)
-          ∙ (ap (λ m. map automaton_of made ++ (automaton_parts d n item.name ∷ automata_from d m rest)) (add-one n)
-          ∙ (ap (λ xs. map automaton_of made ++ automata_from d n (map (λ a. a.name) (map automaton_item xs))) (sym (drop_next items n item c.item-item.is c.loop-number-test.true)) ∙ c.loop-number.invariant.parts));
-      within = subst (All (λ a. All IsInRange a.sets.items)) (sym c.in_ok-push.ensures.items) (All-push (λ a. All IsInRange a.sets.items) made c.in_ok-automaton.automaton c.loop-number.invariant.within c.in_ok-automaton.ensures.within);
-    }
+    push_before automaton_of made c.push.new.self.items c.in_ok-automaton.automaton (automaton_parts d n item.name) (automata_from d (n + 1) rest) c.in_ok-push.ensures.items (c.in_ok-automaton.ensures ∙ ap (automaton_parts d n) c.in_ok-name.ensures)
+    ∙ (ap (λ m. map automaton_of made ++ (automaton_parts d n item.name ∷ automata_from d m rest)) (add-one n)
+    ∙ (ap (λ xs. map automaton_of made ++ automata_from d n (map (λ a. a.name) (map automaton_item xs))) (sym (drop_next items n item c.item-item.is c.loop-number-test.true)) ∙ c.loop-number.invariant))

@@ -1,15 +1,14 @@
-use Rattle.std.proofs.Common.{◌≡◌, ◌≢◌, ◌≤◌, length, map, refl, sym, ap, ◌∙◌, subst, arith}
+use Rattle.std.proofs.Common.{◌≡◌, length, map, refl, sym, ap, ◌∙◌, arith}
 use Rattle.std.proofs.lemmas.List.{length-map}
-use Rattle.std.specs.List.{AllPairs}
 use Rattle.hz_altern.specs.Shapes.{alternatives}
 use Rattle.hz_mdread.specs.Shape.{description, class_item, attribute_item}
-use Rattle.hz_check.specs.Checked.{automaton_of, class_of}
+use Rattle.hz_check.specs.Shape.{automaton_of, class_of}
 use Rattle.hz_check.proofs.Next.{map-map}
-use Rattle.hz_check.proofs.PartSteps.{length-automata}
+use Rattle.hz_check.proofs.PartSteps.{length-automata, kept_of}
 use Rattle.hz_model.proofs.KeptLaws.{parts_kept}
 use Rattle.hz_model.specs.Alternatives.{alternatives_of}
 use Rattle.hz_model.specs.Automata.{listed}
-use Rattle.hz_model.specs.CheckedParts.{automata_of, automaton_count, class_parts, ClassParts}
+use Rattle.hz_model.specs.CheckedParts.{automata_of, automaton_count, class_parts}
 use Rattle.hz_check.proofs.checking.assembled.Goals as goal
 
 pub checked_classes-requires-clause-few : goal.checked_classes-requires-clause-few
@@ -31,8 +30,24 @@ checked_classes-requires-clause-each c =
     ∙ (length-map (map class_item c.args.desc.classes.items) (λ item. map listed (alternatives_of c.requires.parts.known item.expression))
     ∙ (length-map c.args.desc.classes.items class_item ∙ sym c.args.desc.classes.ok.0))))
 
-pub returns-clause-ok : goal.returns-clause-ok
-returns-clause-ok c =
+pub invariant_of-result : goal.invariant_of-result
+invariant_of-result c =
+    let d = description c.args.desc in
+    let known = c.requires.parts.known in
+    let count = c.len-count.ensures in
+    let stored = c.args.parts.automata.ok.0 in
+    let made = length-map c.args.parts.automata.items automaton_of in
+    let same = ap length c.requires.parts.automata in
+    let names = length-automata d in
+    let counted : automaton_count d ≡ c.len-count.result = omega (arith, count, stored, made, same, names) in
+    record {
+      kept = kept_of d known (parts_kept d known c.requires.formed c.requires.parts.sound) _ _ _ _ c.requires.parts.automata
+          (c.in_ok-classes.ensures d known counted (ap (map (λ list. alternatives list.items)) c.deref.ensures.value ∙ c.requires.parts.lists))
+          c.requires.parts.bypasses (c.in_ok-attributes.ensures.values ∙ sym (map-map (λ a. (a.name, a.values)) attribute_item c.args.desc.attributes.items));
+    }
+
+pub returns : goal.returns
+returns c =
     let d = description c.args.desc in
     let known = c.requires.parts.known in
     let count = c.len-count.ensures in
@@ -52,23 +67,3 @@ returns-clause-ok c =
       options = refl;
     }
 
-pub returns-clause-within : goal.returns-clause-within
-returns-clause-within c =
-    let d = description c.args.desc in
-    let known = c.requires.parts.known in
-    let kept = parts_kept d known c.requires.formed c.requires.parts.sound in
-    let count = c.len-count.ensures in
-    let stored = c.args.parts.automata.ok.0 in
-    let listed_automata = length-map c.args.parts.automata.items automaton_of in
-    let same_automata = ap length c.requires.parts.automata in
-    let names = length-automata d in
-    let counted : automaton_count d ≡ c.len-count.result = omega (arith, count, stored, listed_automata, same_automata, names) in
-    let is = c.in_ok-classes.ensures d known counted (ap (map (λ list. alternatives list.items)) c.deref.ensures.value ∙ c.requires.parts.lists) in
-    let few = kept.class_count in
-    let made = length-map c.in_ok-classes.classes.items class_of in
-    let same = ap length is in
-    record {
-      sets = c.requires.parts.sets;
-      classes = omega (arith, few, made, same);
-      names = subst (AllPairs (λ a b. a ≢ b)) (sym (sym (map-map (λ (p : ClassParts). p.name) class_of c.in_ok-classes.classes.items) ∙ ap (map (λ (p : ClassParts). p.name)) is)) kept.class_names;
-    }

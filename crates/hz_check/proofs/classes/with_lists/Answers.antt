@@ -5,7 +5,7 @@ use Rattle.std.proofs.lemmas.List.{map-append, length_push}
 use Rattle.std.proofs.lemmas.List.Elements.{All-same}
 use Rattle.hz_altern.specs.Shapes.{alternatives}
 use Rattle.hz_mdread.specs.Shape.{class_item}
-use Rattle.hz_check.specs.Checked.{class_of}
+use Rattle.hz_check.specs.Shape.{class_of}
 use Rattle.hz_check.specs.Classes.{class_with, classes_with}
 use Rattle.hz_check.proofs.ClassLists.{classes_next}
 use Rattle.hz_model.specs.AlternativeLists.{IsCuttable}

@@ -47,9 +47,8 @@ returns-clause-ok c =
             (skip (c.in-Ok-expanded.ensures.extents.few all.0 right) (skip (c.in-Ok-expanded.ensures.extents.short all.0 right) (skip (c.in-Ok-expanded.ensures.ok.within all.0 right)
             (skip (ap (λ desc. earliest (second_numbers (description desc))) (sym c.in-Ok.ensures.names) ∙ (sym c.in_ok-site.ensures ∙ ap told c.in_default.is)) (record { is = refl })))))).is;
       };
-      automata = c.in_ok-automata.ensures.parts ∙ ap (λ desc. automata_of (description desc)) c.in-Ok.ensures.names;
+      automata = c.in_ok-automata.ensures ∙ ap (λ desc. automata_of (description desc)) c.in-Ok.ensures.names;
       bypasses = c.in_ok-bypasses.ensures ∙ ap (λ desc. map (bypass_parts (description desc)) (description desc).bypasses) c.in-Ok.ensures.names;
       lists = c.in-Ok-expanded.ensures.ok.each all.0 right;
       each = c.in-Ok-expanded.ensures.ok.sound;
-      sets = c.in_ok-automata.ensures.within;
     }

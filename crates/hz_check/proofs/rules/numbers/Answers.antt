@@ -4,7 +4,7 @@ use Rattle.hz_expand.specs.Shape.{place_of}
 use Rattle.hz_check.proofs.Next.{map-map}
 use Rattle.hz_check.proofs.rules.numbers.Goals as goal
 
-pub returns-clause-numbers : goal.returns-clause-numbers
-returns-clause-numbers c =
-    c.loop-place.invariant.numbers
+pub returns : goal.returns
+returns c =
+    c.loop-place.invariant
     ∙ (ap (map (λ p. p.unit)) (take_all c.loop-place.place-index c.args.places.now c.loop-place-test.false) ∙ sym (map-map (λ u. u.unit) place_of c.args.places.now))

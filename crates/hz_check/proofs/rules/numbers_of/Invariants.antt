@@ -1,11 +1,7 @@
-use Rattle.std.proofs.Common.{◌≡◌, ◌<◌, All, map, take}
+use Rattle.std.proofs.Common.{◌≡◌, map, take}
 use Rattle.hz_expand.specs.Shape.{place_of}
-use Rattle.hz_model.specs.Limits.{unit_limit}
 use Rattle.hz_model.specs.Machines.{unit_numbers}
 use Rattle.hz_check.proofs.rules.numbers_of.Given as goal
 
 abbrev pub invariant-loop-pattern : goal.invariant-loop-pattern
-invariant-loop-pattern l = record {
-  numbers : map (λ p. p.items) l.found.items ≡ map (λ p. unit_numbers (map place_of p.items)) (take l.pattern-index l.patterns);
-  within : All (λ p. All (λ unit. unit < unit_limit) p.items) l.found.items;
-}
+invariant-loop-pattern l = map (λ p. p.items) l.found.items ≡ map (λ p. unit_numbers (map place_of p.items)) (take l.pattern-index l.patterns)

@@ -1,9 +1,8 @@
-use Rattle.std.proofs.Common.{All, sym, subst}
-use Rattle.std.proofs.lemmas.List.Elements.{All-push}
+use Rattle.std.proofs.Common.{sym, subst}
 use Rattle.hz_check.specs.Assembly.{placed_statement, IsPlaced}
 use Rattle.hz_check.proofs.Next.{pass_next, fail_next}
 use Rattle.hz_model.specs.Machines.{inside_statement, is_inside}
-use Rattle.hz_unitsets.specs.SetRules.{statement_of, IsInRange}
+use Rattle.hz_unitsets.specs.SetRules.{statement_of}
 use Rattle.hz_check.proofs.rules.rules.Goals as goal
 use Rattle.hz_check.proofs.rules.rules.Goals.{then-is_inside+in_ok-rule+in_ok-push, else-is_inside}
 
@@ -17,14 +16,8 @@ loop-set-preserved c =
     let old = c.loop-set.rules.items in
     let automaton = c.args.automaton in
     elim c.if-is_inside.branch [
-      | then-is_inside+in_ok-rule+in_ok-push w ↦ rw w.rules-is (record {
-        statements = pass_next statement_of (is_inside automaton) inside_statement placed_statement sets i c.set-item.result old w.push.new.self.items w.in_ok-rule.rule _
-            c.set-item.is c.loop-set-test.true (sym w.if-is_inside.ensures) w.in_ok-rule.ensures.statement w.in_ok-push.ensures.items c.loop-set.invariant.statements;
-        within = subst (All IsInRange) (sym w.in_ok-push.ensures.items) (All-push IsInRange old w.in_ok-rule.rule c.loop-set.invariant.within w.in_ok-rule.ensures.within);
-      })
-      | else-is_inside w ↦ rw w.rules-is (record {
-        statements = fail_next statement_of (is_inside automaton) inside_statement placed_statement sets i c.set-item.result old _
-            c.set-item.is c.loop-set-test.true (sym w.if-is_inside.ensures) c.loop-set.invariant.statements;
-        within = c.loop-set.invariant.within;
-      })
+      | then-is_inside+in_ok-rule+in_ok-push w ↦ rw w.rules-is (pass_next statement_of (is_inside automaton) inside_statement placed_statement sets i c.set-item.result old w.push.new.self.items w.in_ok-rule.rule _
+          c.set-item.is c.loop-set-test.true (sym w.if-is_inside.ensures) w.in_ok-rule.ensures w.in_ok-push.ensures.items c.loop-set.invariant)
+      | else-is_inside w ↦ rw w.rules-is (fail_next statement_of (is_inside automaton) inside_statement placed_statement sets i c.set-item.result old _
+          c.set-item.is c.loop-set-test.true (sym w.if-is_inside.ensures) c.loop-set.invariant)
     ]

@@ -5,7 +5,7 @@ use Rattle.hz_mdread.specs.Shape.{description, automaton_item}
 use Rattle.hz_check.specs.Sites.{told}
 use Rattle.hz_unfold.specs.Places.{site_of}
 use Rattle.hz_check.specs.Units.{ArePlaces, IsPast}
-use Rattle.hz_check.proofs.CheckSteps.{meaning_told, skip, stop, few_automata, has_units}
+use Rattle.hz_check.proofs.CheckSteps.{meaning_told, skip, stop, few_automata}
 use Rattle.hz_model.specs.CheckFaults.{self_exclusion, set_across_automata, limit, automata, units, classes}
 use Rattle.hz_model.specs.Sites.{earliest}
 use Rattle.hz_check.proofs.steps.placed.Goals as goal
@@ -14,9 +14,6 @@ pub returns-in-Some-clause-err : goal.returns-in-Some-clause-err
 returns-in-Some-clause-err c =
     meaning_told (description c.args.names.now.desc.now) c.args.order.now c.requires (record { fault = self_exclusion; site = site_of c.in-Some.site })
     (λ known right. stop (sym c.in_ok-site.ensures ∙ ap told c.in-Some.is)) c.refused.result c.refused.ensures
-
-pub set_across_automata-requires : goal.set_across_automata-requires
-set_across_automata-requires c = λ k s within. has_units c.requires.formed.kinds c.args.names.now.desc.now.sets.items k s c.requires.formed.sets within
 
 pub returns-in-Some-set_across_automata-clause-err : goal.returns-in-Some-set_across_automata-clause-err
 returns-in-Some-set_across_automata-clause-err c =
