@@ -1,5 +1,5 @@
 -- The names and the lists of checked classes.
-use Rattle.std.proofs.Common.{◌≡◌, ◌≢◌, ℕ, ◌<◌, List, [], ◌∷◌, length, take, map, get_or, Option, Some, None, refl, sym, ap, ◌∙◌, subst, arith, suc, cond, nat_eq, nat_lt, codes, true, false, Bool, All, slice_get, IsTrue, ⊎_elim, inl, inr, MatchBool}
+use Rattle.std.proofs.Common.{◌≡◌, ◌≢◌, ℕ, ◌<◌, ◌≤◌, List, [], ◌∷◌, length, take, map, get_or, Option, Some, None, refl, sym, ap, ◌∙◌, subst, arith, suc, cond, nat_eq, nat_lt, codes, true, false, Bool, All, slice_get, IsTrue, ⊎_elim, inl, inr, MatchBool}
 use Rattle.std.specs.List.{AllPairs}
 use Rattle.std.specs.Str.{bytes_eq}
 use Rattle.std.proofs.lemmas.List.{length-map, length-take, get_or-take, get_or-map}
@@ -7,7 +7,7 @@ use Rattle.std.proofs.lemmas.List.Quantifiers.{position-Some}
 use Rattle.std.proofs.lemmas.Slice.Eq.{bytes_eq-Decides}
 use Rattle.hz_model.specs.Lines.{place_of}
 use Rattle.hz_model.specs.Automata.{UnitPlace, list_in}
-use Rattle.hz_model.specs.CheckedParts.{ClassParts, automaton_names, automaton_count, automata_from, statements_in, class_parts}
+use Rattle.hz_model.specs.CheckedParts.{AutomatonParts, ClassParts, automaton_names, automaton_count, automata_from, statements_in, class_parts}
 use Rattle.hz_model.specs.Alternatives.{Alternative, alternatives_of}
 use Rattle.hz_model.specs.Answers.{Says, is_built, Traces, Replays, ReplaysDescription}
 use Rattle.hz_model.specs.CheckFaults.{Known}
@@ -35,14 +35,16 @@ use Rattle.std.specs.List.{range_with_len}
 use Rattle.std.specs.Prelude.{◌&&◌, not}
 use Rattle.std.proofs.lemmas.List.FromFn.{length-range_with_len, get_or-range_with_len}
 use Rattle.hz_check.specs.declared.checked.Checked.{Checked}
+use Rattle.hz_check.specs.declared.checked.CheckedAutomaton.{CheckedAutomaton}
 use Rattle.hz_check.specs.declared.checked.CheckedClass.{CheckedClass}
+use Rattle.hz_unitsets.specs.SetRules.{statement_of, statements_of, IsInRange}
 use Rattle.hz_check.specs.Checked.{IsCheckedOf}
 use Rattle.hz_check.specs.Shape.{automaton_of, class_of}
 use Rattle.hz_model.specs.Descriptions.{Description, AutomatonItem, ClassItem, Options}
 use Rattle.hz_model.specs.Machines.{class_names, class_in, machine_with, restricted, IsOf}
 use Rattle.hz_model.specs.Replay.{Machine, Class, Event, alternatives_at, of_class, first_fit, any_fit, IsOfClass}
 use Rattle.hz_model.proofs.RestrictLaws.{pairs_back, accepted_restricted, refused_restricted}
-use Rattle.hz_tool.specs.Checked.{statements_of_first, first_statements, first_list, HasList, IsReplayable}
+use Rattle.hz_tool.specs.Checked.{statements_of_first, first_statements, first_list, HasList}
 use Rattle.hz_tool.specs.Replay.{AreListsOf, IsOutcome}
 use Rattle.hz_tool.specs.declared.replay.Outcome.{Outcome}
 use Rattle.hz_tool.specs.declared.replay.Outcome.TheVariants.{Accepted, Refused}
@@ -72,12 +74,10 @@ map_twice : {A B C : Type 0} (f : B → C) (g : A → B) (xs : List A) → map f
 map_twice f g [] = refl
 map_twice f g (x ∷ xs) = ap (λ (ys : List _). f (g x) ∷ ys) (map_twice f g xs)
 
--- what holds of each item that is made holds of all of them
-all_map : {A B : Type 0} (f : A → B) (P : B → Type 0) → ((x : A) → P (f x)) → (xs : List A) → All P (map f xs)
-all_map f P each [] = All-nil P
-all_map f P each (x ∷ xs) = All-cons P (f x) (map f xs) (each x) (all_map f P each xs)
+-- the units that a statement names are below a number
+abbrev Names : ℕ → Statement ℕ → Type 0
+Names n s = All (λ u. u < n) s.units × All (λ pattern. All (λ u. u < n) pattern) s.patterns
 
--- there is an automaton
 module _ (d : Description) where
   first_automaton : (automata : List AutomatonItem) → statements_of_first (automata_from d 0 (cond (nat_eq (length automata) 0) (codes "-" ∷ []) (map (λ a. a.name) automata))) ≡ statements_in d 0
   first_automaton [] = refl
@@ -128,15 +128,6 @@ module _ (d : Description) (checked : Checked) (is : IsCheckedOf d checked) wher
       ∙ (ap (map first_of) is.classes ∙ (map_twice first_of (class_parts d is.known) d.classes
       ∙ ap (λ (f : ClassItem → List (List (Pair ℕ))). map f d.classes) (fun_ext first_of_parts)))
 
-  -- each class has a list
-  pub have_lists : All HasList checked.classes.items
-  have_lists k other within =
-      let some = some_name d d.automata in
-      let each = all_map (class_parts d is.known) (λ p. 0 < length p.lists) (λ c. omega (arith, some, length-map (range_with_len 0 (automaton_count d)) (λ (automaton : ℕ). list_in automaton (alternatives_of is.known c.expression)), length-range_with_len 0 (automaton_count d))) d.classes in
-      let there = subst (All (λ p. 0 < length p.lists)) (sym is.classes) each k (class_of other) (omega (arith, within, length-map checked.classes.items class_of)) in
-      let here = subst (λ (p : ClassParts). 0 < length p.lists) (get_or-map class_of checked.classes.items k other (class_of other) within) there in
-      omega (arith, here, length-map (get_or checked.classes.items k other).lists.items (λ list. list.items))
-
   statements_same : first_statements checked ≡ statements_in d 0
   statements_same = ap statements_of_first is.automata ∙ first_automaton d d.automata
 
@@ -168,11 +159,47 @@ module _ (d : Description) (checked : Checked) (is : IsCheckedOf d checked) wher
           (slice_get-map (λ (b : ClassItem). list_in 0 (alternatives_of is.known b.expression)) d.classes k ∙ ap (option_map (λ (b : ClassItem). list_in 0 (alternatives_of is.known b.expression))) e) in
           ap (λ (o : Option (Class ℕ)). map (λ (a : Alternative ℕ). a.pairs) (of_class o)) there ∙ (pairs_back (list_in 0 (alternatives_of is.known c.expression)) ∙ sym here)
 
--- what the replay relies on holds of each checked description
-pub replayable : (d : Description) (checked : Checked) → IsCheckedOf d checked → IsWithinLimits checked → IsReplayable checked
-replayable d checked is limits =
-    let some = some_name d d.automata in
-    record { automata = omega (arith, some, automata_count d checked is); lists = have_lists d checked is; limits = limits }
+-- What every checked description keeps.
+module _ (checked : Checked) where
+  -- its classes have different names
+  pub names_apart : AllPairs (λ a b. a ≢ b) (map (λ (c : CheckedClass). c.name) checked.classes.items)
+  names_apart = subst (AllPairs (λ a b. a ≢ b)) (map_twice (λ (p : ClassParts). p.name) class_of checked.classes.items) checked.kept.class_names
+
+  -- there is an automaton
+  pub some_automaton : 0 < length checked.automata.items
+  some_automaton = let some = checked.kept.some in omega (arith, some, length-map checked.automata.items automaton_of)
+
+  -- each class has a list
+  pub have_lists : All HasList checked.classes.items
+  have_lists k other within =
+      let as_many : ClassParts → Type 0 = λ p. length p.lists ≡ length (map automaton_of checked.automata.items) in
+      let there = checked.kept.lists k (class_of other) (omega (arith, within, length-map checked.classes.items class_of)) in
+      let here : as_many (class_of (get_or checked.classes.items k other)) = subst as_many (get_or-map class_of checked.classes.items k other (class_of other) within) there in
+      let some = checked.kept.some in
+      omega (arith, here, some, length-map (get_or checked.classes.items k other).lists.items (λ list. list.items))
+
+-- the sets of an automaton with few units, whose sets name units of it, are in range
+in_range : (a : CheckedAutomaton) → length a.units.items ≤ 128 → All (Names (length a.units.items)) (statements_of a.sets.items) → All IsInRange a.sets.items
+in_range a few all k d within =
+    let set = get_or a.sets.items k d in
+    let is : Names (length a.units.items) (statement_of set) = subst (Names (length a.units.items)) (get_or-map statement_of a.sets.items k d (statement_of d) within) (all k (statement_of d) (omega (arith, within, length-map a.sets.items statement_of))) in
+    record {
+      units = λ i e low. let below = is.0 i e low in omega (arith, below, few);
+      patterns = λ i e low j f under.
+          let there = is.1 i e.items (omega (arith, low, length-map set.patterns.items (λ p. p.items))) in
+          let below = subst (All (λ u. u < length a.units.items)) (get_or-map (λ p. p.items) set.patterns.items i e e.items low) there j f under in
+          omega (arith, below, few);
+    }
+
+pub first_in_range : (checked : Checked) (first : CheckedAutomaton) → first ≡ get_or checked.automata.items 0 first → All IsInRange first.sets.items
+first_in_range checked first is =
+    let items = checked.automata.items in
+    let some = some_automaton checked in
+    let within : 0 < length (map automaton_of items) = omega (arith, some, length-map items automaton_of) in
+    let same : get_or (map automaton_of items) 0 (automaton_of first) ≡ automaton_of first = get_or-map automaton_of items 0 first (automaton_of first) some ∙ ap automaton_of (sym is) in
+    in_range first
+    (subst (λ (a : AutomatonParts). length a.units ≤ 128) same (checked.kept.units 0 (automaton_of first) within))
+    (subst (λ (a : AutomatonParts). All (Names (length a.units)) a.statements) same (checked.kept.sets 0 (automaton_of first) within))
 
 -- a machine of fewer than two automata has one
 pub one_automaton : (d : Description) (checked : Checked) (is : IsCheckedOf d checked) → IsTrue (is_built d) → IsOf 0 (machine_with d is.known)

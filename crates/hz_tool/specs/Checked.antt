@@ -26,12 +26,6 @@ statements_of_first (first ∷ others) = first.statements
 abbrev pub first_statements : Checked → List (Statement ℕ)
 first_statements checked = statements_of_first (map automaton_of checked.automata.items)
 
--- What the replay relies on: there is an automaton, each class has a list in it, and all keep within the limits.
-pub record IsReplayable (checked : Checked) : Type 0 where
-  pub automata : 0 < length checked.automata.items
-  pub lists : All HasList checked.classes.items
-  pub limits : IsWithinLimits checked
-
 -- events of the classes, with no more advances than a trace may have
 pub record IsTraceOf (checked : Checked) (events : List Event) : Type 0 where
   pub classes : All (IsOfClass (length checked.classes.items)) events

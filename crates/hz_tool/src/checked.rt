@@ -3,16 +3,12 @@
 ghost use Rattle.std.specs.List.{AllPairs};
 ghost use Rattle.std.specs.Prelude.{◌≡◌, ◌≢◌, ◌+◌, ℕ, ◌<◌, ◌≤◌, ◌&&◌, not, nat_lt, length, map, slice_get, Some, All, IfOk, IsTrue};
 ghost use Rattle.hz_check.specs.Checked.{IsCheckedOf};
-ghost use Rattle.hz_model.specs.Answers.{Replays, Traces, ReplaysDescription};
+ghost use Rattle.hz_model.specs.Answers.{is_built, Replays, Traces, ReplaysDescription};
 ghost use Rattle.hz_model.specs.Descriptions.{Description};
-ghost use Rattle.hz_model.specs.Limits.{advance_limit};
-ghost use Rattle.hz_model.specs.Machines.{machine_with};
-ghost use Rattle.hz_model.specs.Replay.{IsOfClass, cycles_of};
-ghost use Rattle.hz_model.specs.Answers.{is_built};
 ghost use Rattle.hz_model.specs.CheckFaults.{Known};
-ghost use Rattle.hz_model.specs.Machines.{class_names};
+ghost use Rattle.hz_model.specs.Machines.{class_names, machine_with};
 ghost use Rattle.hz_model.specs.Replay.{Machine};
-ghost use Rattle.hz_tool.specs.Checked.{first_list, first_statements, HasList, IsReplayable, IsTraceOf};
+ghost use Rattle.hz_tool.specs.Checked.{first_list, first_statements, HasList, IsTraceOf};
 ghost use Rattle.hz_tool.specs.Decisions.{Agrees, IsJudged};
 ghost use Rattle.hz_tool.specs.Names.{names_in};
 ghost use Rattle.hz_tool.specs.Replay.{lists_in, AreListsOf, IsOutcome, IsWithin};
@@ -65,7 +61,6 @@ fn first_lists(alloc: Global, classes: &[CheckedClass]) -> Result<Vec<&[Grid]>, 
 
 /// The sets of the first automaton.
 fn first_sets(checked: &Checked) -> &[SetRule]
-    requires { IsReplayable checked.now }
     ensures statements { statements_of result.now ≡ first_statements checked.now }
     ensures range { All IsInRange result.now }
 {
@@ -78,8 +73,7 @@ fn first_sets(checked: &Checked) -> &[SetRule]
 /// The outcome of events, each of a class of the description: an issue takes the first grid of its class's list in the
 /// first automaton that fits under the automaton's sets.
 fn replay_checked(alloc: Global, checked: &Checked, events: &[Event]) -> Result<Outcome, AllocError>
-    requires replayable { IsReplayable checked.now }
-    requires trace { IsTraceOf checked.now (events_in events.now) }
+    requires { IsTraceOf checked.now (events_in events.now) }
     ensures right { IfOk result (λ outcome. (m : Machine ℕ) → AreListsOf (first_statements checked.now) (map first_list checked.now.classes.items) m → IsOutcome m (events_in events.now) outcome) }
     ensures within { IfOk result (IsWithin (length events.now) (length checked.now.classes.items)) }
 {
@@ -130,8 +124,7 @@ fn trace_report<'a>(
     names: &IndexSet<Vec<u8>>,
     trace: &[u8],
 ) -> Report<'a>
-    requires replayable { IsReplayable checked.now }
-    requires names { names_in names.now.keys ≡ map (λ c. c.name) checked.now.classes.items }
+    requires { names_in names.now.keys ≡ map (λ c. c.name) checked.now.classes.items }
     ensures kind { IsJudged result }
     ensures answer { (d : Description) (is : IsCheckedOf d checked.now) → IsTrue (is_built d) → Agrees (Traces d file.entry.now trace.now (Replays (machine_with d is.known))) result }
 {
@@ -152,7 +145,6 @@ pub fn replay_report<'a>(
     checked: &Checked,
     trace: &[u8],
 ) -> Report<'a>
-    requires { IsReplayable checked.now }
     ensures kind { IsJudged result }
     ensures answer { (d : Description) (is : IsCheckedOf d checked.now) → Agrees (ReplaysDescription order.now.description.now order.now.trace.now trace.now d is.known) result }
 {

@@ -2,7 +2,7 @@
 
 ghost use Rattle.std.specs.Prelude.{◌≡◌, ◌^◌, ◌<◌, ◌≤◌, IfOk, IfErr, IsTrue, length};
 ghost use Rattle.hz_model.specs.DescriptionForms as description_forms;
-ghost use Rattle.hz_model.specs.DescriptionShape.{IsWellFormed};
+ghost use Rattle.hz_model.specs.DescriptionShape.{IsWellFormed, IsCheckable};
 ghost use Rattle.hz_model.specs.Forms as forms;
 ghost use Rattle.hz_model.specs.Limits.{class_limit};
 ghost use Rattle.hz_model.specs.StraightTraces.{StraightTrace};
@@ -112,9 +112,8 @@ pub fn judge_check<'a>(
     file: &'a str,
     described: Description,
 ) -> Result<Checked, Report<'a>>
-    requires { IsWellFormed (description described) }
+    requires { IsCheckable (description described) }
     ensures ok { IfOk result (IsCheckedOf (description described)) }
-    ensures within { IfOk result IsWithinLimits }
     ensures err { IfErr result (IsCheckReport file.entry.now (description described)) }
 {
     match check(alloc, described) {

@@ -4,7 +4,7 @@ ghost use Rattle.std.specs.Prelude.{◌<◌, ◌^◌, IsTrue, length};
 ghost use Rattle.hz_mdread.specs.Shape.{description};
 ghost use Rattle.hz_model.specs.Answers.{Judges, JudgesDescription, JudgesForms};
 ghost use Rattle.hz_model.specs.DescriptionForms as description_forms;
-ghost use Rattle.hz_model.specs.DescriptionShape.{IsWellFormed};
+ghost use Rattle.hz_model.specs.DescriptionShape.{IsCheckable};
 ghost use Rattle.hz_sexp.specs.Shape.{trees};
 ghost use Rattle.hz_tool.specs.Decisions.{Agrees, IsJudged};
 
@@ -23,7 +23,7 @@ fn judge_described<'a>(
     described: Description,
     trace: &[u8],
 ) -> Report<'a>
-    requires { IsWellFormed (description described) }
+    requires { IsCheckable (description described) }
     ensures kind { IsJudged result }
     ensures answer { Agrees (JudgesDescription order.now.description.now order.now.trace.now trace.now (description described)) result }
 {

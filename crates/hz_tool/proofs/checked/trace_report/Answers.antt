@@ -15,14 +15,14 @@ use Rattle.hz_tool.proofs.checked.trace_report.Goals as goal
 
 pub returns-in-Err-clause-answer : goal.returns-in-Err-clause-answer
 returns-in-Err-clause-answer c = λ d is built.
-    let names = c.requires.names ∙ names_same d c.args.checked.now is in
+    let names = c.requires ∙ names_same d c.args.checked.now is in
     trace_refused d c.args.file.now c.args.trace.now (Replays (machine_with d is.known)) c.in-Err.report
     (subst (λ (ns : List (List ℕ)). IsTraceReport c.args.file.now (IsNoTrace ns c.args.trace.now) c.in-Err.report) names c.in-Err.ensures.err)
 
-pub replay_checked-requires-clause-trace : goal.replay_checked-requires-clause-trace
-replay_checked-requires-clause-trace c =
+pub replay_checked-requires : goal.replay_checked-requires
+replay_checked-requires c =
     let straight = c.in-Ok.ensures.ok in
-    let count : length (names_in c.args.names.now.keys) ≡ length c.args.checked.now.classes.items = ap length c.requires.names ∙ length-map c.args.checked.now.classes.items (λ class. class.name) in
+    let count : length (names_in c.args.names.now.keys) ≡ length c.args.checked.now.classes.items = ap length c.requires ∙ length-map c.args.checked.now.classes.items (λ class. class.name) in
     subst (λ (es : List Event). IsTraceOf c.args.checked.now (events_in es)) (sym c.deref.ensures.value) (record {
       classes = subst (λ (n : ℕ). All (IsOfClass n) (events_in c.in-Ok.events.items)) count (trace_of (names_in c.args.names.now.keys) c.args.trace.now (events_in c.in-Ok.events.items) straight);
       short = straight.short;
@@ -30,7 +30,7 @@ replay_checked-requires-clause-trace c =
 
 pub returns-in-Ok-replay_checked-clause-answer : goal.returns-in-Ok-replay_checked-clause-answer
 returns-in-Ok-replay_checked-clause-answer c = λ d is built.
-    let names = c.requires.names ∙ names_same d c.args.checked.now is in
+    let names = c.requires ∙ names_same d c.args.checked.now is in
     let straight = subst (λ (ns : List (List ℕ)). StraightTrace ns c.args.trace.now (events_in c.in-Ok.events.items)) names c.in-Ok.ensures.ok in
     let m = machine_with d is.known in
     let same = c.deref-in-Ok-replay_checked.ensures.value in

@@ -1,11 +1,7 @@
 use Rattle.hz_mdread.specs.Shape.{description}
 use Rattle.hz_model.specs.Answers.{ReplaysDescription}
-use Rattle.hz_tool.proofs.CheckedLemmas as checked
 use Rattle.hz_tool.proofs.JudgeLemmas.{check_on, check_refused}
 use Rattle.hz_tool.proofs.phases.judge_described.Goals as goal
-
-pub replay_report-requires : goal.replay_report-requires
-replay_report-requires c = checked.replayable (description c.args.described) c.in-Ok.checked c.in-Ok.ensures.ok c.in-Ok.ensures.within
 
 pub returns-in-Ok-clause-answer : goal.returns-in-Ok-clause-answer
 returns-in-Ok-clause-answer c =

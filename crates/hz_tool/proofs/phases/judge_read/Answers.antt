@@ -1,4 +1,5 @@
 use Rattle.hz_mdread.specs.Shape.{description}
+use Rattle.hz_model.proofs.CheckableLaws.{can_be_checked}
 use Rattle.hz_model.specs.Answers.{JudgesDescription}
 use Rattle.hz_sexp.specs.Shape.{trees}
 use Rattle.hz_tool.proofs.JudgeLemmas.{description_on, description_refused}
@@ -11,3 +12,6 @@ returns-in-Ok-clause-answer c =
 pub returns-in-Err-clause-answer : goal.returns-in-Err-clause-answer
 returns-in-Err-clause-answer c =
     description_refused c.args.order.now.description.now (trees c.args.read.now) (JudgesDescription c.args.order.now.description.now c.args.order.now.trace.now c.args.trace.now) c.in-Err.report c.in-Err.ensures.err
+
+pub judge_described-requires : goal.judge_described-requires
+judge_described-requires c = can_be_checked (description c.in-Ok.described) c.in-Ok.ensures.formed
