@@ -27,7 +27,7 @@ impl Extents {
         }
     }
 
-    /// Holds the extent for a name that is not held.
+    /// Holds the extent for a name that is not held. `NoMemory` leaves it as it was.
     pub fn add(&mut self, name: &Name, extent: Extent) -> Result<(), NoMemory>
         requires { extent_in self.old name.now ≡ None }
         ensures added { OnOk result (Adds (extent_in self.old) (extent_in self.new) name.now (told extent)) }

@@ -47,7 +47,8 @@ impl Known {
         }
     }
 
-    /// Makes a name known that is not known: it stands for a unit of an automaton, which is taken for one cycle.
+    /// Makes a name known that is not known: it stands for a unit of an automaton, which is taken for one cycle. The
+    /// automaton is below 16 and the unit below 128. `NoMemory` leaves what is known as it was.
     pub fn add_unit(&mut self, name: &Name, automaton: u8, unit: u8) -> Result<(), NoMemory>
         requires new { alternatives_in self.old name.now ≡ None }
         requires automaton { automaton < automaton_limit }
@@ -68,7 +69,8 @@ impl Known {
         self.add_reservation(name, alts)
     }
 
-    /// Makes a name known that is not known: it stands for a reservation with these alternatives.
+    /// Makes a name known that is not known: it stands for a reservation with these alternatives, which are sound: 1 to
+    /// 4,096, each of 1 to 256 cycles with its pairs ascending. `NoMemory` leaves what is known as it was.
     pub fn add_reservation(&mut self, name: &Name, alts: Vec<Alt>) -> Result<(), NoMemory>
         requires new { alternatives_in self.old name.now ≡ None }
         requires sound { AreSound (alternatives alts.items) }

@@ -10,8 +10,7 @@ use Rattle.std.specs.Str.{bytes_eq}
 use Rattle.hz_model.specs.Sites.{Site, is_among, is_preceded, repeated, earlier, earliest}
 use Rattle.std.specs.Bool.{then_some}
 use Rattle.hz_unfold.specs.declared.site.Site as stored
-use Rattle.hz_check.specs.Sites.{told}
-use Rattle.hz_unfold.specs.Places.{site_of}
+use Rattle.hz_unfold.specs.Places.{site_of, told}
 use Rattle.hz_check.specs.declared.by_name.ByName.{ByName}
 use Rattle.hz_check.specs.ByName.{held}
 use Rattle.hz_check.specs.Twice.{is_given, seen_with, repeated_by, unseen}

@@ -1,18 +1,10 @@
 -- What is put together of a description without a fault.
-use Rattle.std.specs.Prelude.{ℕ, List, [], ◌∷◌, map, All}
-use Rattle.std.specs.List.{range_with_len}
-use Rattle.std.specs.declared.alloc.Global.{Global}
-use Rattle.std.specs.declared.vec.Vec.{Vec}
-use Rattle.hz_altern.specs.declared.alternative.Alt.{Alt}
-use Rattle.hz_altern.specs.Shapes.{alternatives}
+use Rattle.std.specs.Prelude.{map, All}
 use Rattle.hz_check.specs.declared.placed.PlacedSet.{PlacedSet}
 use Rattle.hz_check.specs.Units.{IsWithin}
 use Rattle.hz_expand.specs.Shape.{place_of}
 use Rattle.hz_unitsets.specs.SetRules.{kind_of}
-use Rattle.hz_model.specs.Alternatives.{Alternative}
-use Rattle.hz_model.specs.Automata.{UnitPlace, list_in}
-use Rattle.hz_model.specs.CheckedParts.{ClassParts}
-use Rattle.hz_model.specs.Descriptions.{ClassItem}
+use Rattle.hz_model.specs.Automata.{UnitPlace}
 use Rattle.hz_model.specs.Sets.{Statement}
 
 -- a set statement on units by their places

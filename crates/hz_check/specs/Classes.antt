@@ -1,8 +1,6 @@
 -- Classes with their lists, where each has its alternatives beside it.
 use Rattle.std.specs.Prelude.{ℕ, List, [], ◌∷◌, map}
 use Rattle.std.specs.List.{range_with_len}
-use Rattle.hz_altern.specs.declared.alternative.Alt.{Alt}
-use Rattle.hz_altern.specs.Shapes.{alternatives}
 use Rattle.hz_model.specs.Alternatives.{Alternative}
 use Rattle.hz_model.specs.Automata.{UnitPlace, list_in}
 use Rattle.hz_model.specs.CheckedParts.{ClassParts}

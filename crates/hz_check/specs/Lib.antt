@@ -1,4 +1,3 @@
-pub mod Sites
 pub mod ByName
 pub mod Names
 pub mod Twice

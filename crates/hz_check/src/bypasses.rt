@@ -3,7 +3,7 @@
 ghost use Rattle.std.specs.Prelude.{◌≡◌, ◌<◌, ℕ, Bool, All, IfOk, None, filter, vec_len};
 ghost use Rattle.std.specs.List.{AllPairs};
 ghost use Rattle.hz_mdread.specs.Shape.{description};
-ghost use Rattle.hz_check.specs.Sites.{told};
+ghost use Rattle.hz_unfold.specs.Places.{told};
 ghost use Rattle.hz_check.specs.Unknown.{first_of};
 ghost use Rattle.hz_model.specs.CheckFaults.{second_numbers, unknown_names};
 ghost use Rattle.hz_model.specs.CheckedParts.{class_numbers};

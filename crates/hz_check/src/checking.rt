@@ -35,8 +35,9 @@ fn assembled(alloc: Global, desc: Description, parts: Parts) -> Result<Checked, 
     })
 }
 
-/// Checks a description: its names, reservations, sets, limits and bypasses, and what it gives where it has no fault. The
-/// first fault in the order of `CheckFault` is told, at the first form where it stands and with the leftmost name there.
+/// Checks a description: its names, reservations, sets, limits and bypasses, and gives what it keeps where it has no fault.
+/// Expressions are well formed, latencies at most 1,000, and items in the order of their forms. The fault that is told is
+/// the first of `CheckFault`, at the first form where it stands and with the leftmost name there; of limits see there.
 /// This profile, docs/RULES.md, 'Faults of a description'.
 pub fn check(alloc: Global, desc: Description) -> Result<Checked, CheckFault>
     requires { IsCheckable (description desc) }

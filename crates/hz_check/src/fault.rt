@@ -25,7 +25,8 @@ pub enum LimitName {
 }
 
 /// What is wrong with a description: the line of the form, counted from 1, and the name that is wrong there. Of several
-/// faults the first of this list is told, and of one fault the first form and in it the leftmost name.
+/// faults the first of this list is told, and of one fault the first form and in it the leftmost name. Of limits the first
+/// of `LimitName` is told before an earlier form, and for `Size` the first in the counting order.
 #[derive(Debug, Drop, Error)]
 pub enum CheckFault {
     /// The name is defined the second time in its name space, or the value in its attribute.

@@ -3,7 +3,7 @@
 ghost use Rattle.std.specs.Prelude.{◌≡◌, ◌≤◌, map, drop};
 ghost use Rattle.std.specs.List.{AllPairs};
 ghost use Rattle.hz_mdread.specs.Shape.{description};
-ghost use Rattle.hz_check.specs.Sites.{told};
+ghost use Rattle.hz_unfold.specs.Places.{told};
 ghost use Rattle.hz_model.specs.CheckFaults.{automaton_sites, class_sites};
 ghost use Rattle.hz_model.specs.Limits as limits;
 ghost use Rattle.hz_model.specs.Sites.{earliest};

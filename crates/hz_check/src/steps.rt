@@ -51,7 +51,8 @@ pub(crate) fn ordered(alloc: Global, desc: &Description) -> Result<Order, CheckF
     }
 }
 
-/// The places of the units, where the sets are right and there are not too many automata, units and classes.
+/// The places of the units, where the sets are right and there are not too many automata, units and classes. The counting
+/// order shows that no reservation reaches itself; nothing else is asked of it.
 pub(crate) fn placed(
     alloc: Global,
     names: &Names<'_>,

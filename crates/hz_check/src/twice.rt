@@ -3,8 +3,7 @@
 ghost use Rattle.std.specs.Prelude.{◌≡◌, ◌||◌, IfOk, map};
 ghost use Rattle.std.specs.List.{flat_map};
 ghost use Rattle.hz_mdread.specs.Shape.{description, attribute_item};
-ghost use Rattle.hz_check.specs.Sites.{told};
-ghost use Rattle.hz_unfold.specs.Places.{site_of};
+ghost use Rattle.hz_unfold.specs.Places.{site_of, told};
 ghost use Rattle.hz_check.specs.ByName.{is_held};
 ghost use Rattle.hz_check.specs.Twice.{is_given, repeated_by, unseen};
 ghost use Rattle.hz_model.specs.CheckFaults.{second_definitions, repeated_values};

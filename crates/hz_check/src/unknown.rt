@@ -3,7 +3,7 @@
 ghost use Rattle.std.specs.Prelude.{◌≡◌, List, ℕ};
 ghost use Rattle.std.specs.List.{flat_map};
 ghost use Rattle.hz_mdread.specs.Shape.{description};
-ghost use Rattle.hz_check.specs.Sites.{told};
+ghost use Rattle.hz_unfold.specs.Places.{told};
 ghost use Rattle.hz_model.specs.CheckFaults as model;
 ghost use Rattle.hz_model.specs.CheckFaults.{unknown_names};
 ghost use Rattle.hz_model.specs.Descriptions.{Description};

@@ -8,7 +8,7 @@ use Rattle.std.proofs.lemmas.List.Elements.{Contains-append_left, Contains-appen
 use Rattle.hz_altern.specs.Tables.{AreRight}
 use Rattle.hz_expand.specs.declared.extents.PastExtents.{PastExtents}
 use Rattle.hz_expand.specs.Past.{sites_of, AreCountable, AreRightFor, TellsBehind, ArePast}
-use Rattle.hz_expand.specs.Shape.{told}
+use Rattle.hz_unfold.specs.Places.{told}
 use Rattle.hz_expand.specs.Tables.{IsBehind, Holds, HasExtent}
 use Rattle.hz_expand.proofs.Holding.{all_held, right_extents}
 use Rattle.hz_expand.proofs.Ordered.{written, names_in_all}

@@ -3,7 +3,7 @@ use Rattle.std.specs.Prelude.{◌≡◌, ℕ, Bool, List, ◌++◌, map, filter,
 use Rattle.std.specs.List.{Contains}
 use Rattle.hz_altern.specs.Tables.{is_held, AreRight}
 use Rattle.hz_expand.specs.declared.extents.PastExtents.{PastExtents}
-use Rattle.hz_expand.specs.Shape.{told}
+use Rattle.hz_unfold.specs.Places.{told}
 use Rattle.hz_model.specs.AlternativeLists.{Extent}
 use Rattle.hz_model.specs.CheckFaults as check
 use Rattle.hz_model.specs.CheckFaults.{Known, Reserving, past_limit, has_too_many, has_too_long}

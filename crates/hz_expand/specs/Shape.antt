@@ -1,6 +1,5 @@
 -- What the code holds, as the definitions have it.
-use Rattle.std.specs.Prelude.{List, map, Option}
-use Rattle.std.specs.Option.{option_map}
+use Rattle.std.specs.Prelude.{List, map}
 use Rattle.std.specs.declared.alloc.Global.{Global}
 use Rattle.std.specs.declared.vec.Vec.{Vec}
 use Rattle.hz_altern.specs.declared.alternative.Alt.{Alt}
@@ -10,18 +9,12 @@ use Rattle.hz_expand.specs.declared.reserving.Reserving.{Reserving}
 use Rattle.hz_model.specs.Alternatives.{Alternative}
 use Rattle.hz_model.specs.Automata as automata
 use Rattle.hz_model.specs.CheckFaults as model
-use Rattle.hz_model.specs.Sites as sites
 use Rattle.hz_regexp.specs.Shape.{expression}
-use Rattle.hz_unfold.specs.declared.site.Site.{Site}
 use Rattle.hz_unfold.specs.Places.{site_of}
 
 -- a reservation or class
 abbrev pub reserving_of : Reserving → model.Reserving
 reserving_of r = record { site = site_of r.site; expression = expression r.expr.now; is_class = r.is_class }
-
--- the site that is told, if there is one
-abbrev pub told : Option Site → Option sites.Site
-told site = option_map site_of site
 
 -- the place of a unit
 abbrev pub place_of : UnitPlace → automata.UnitPlace

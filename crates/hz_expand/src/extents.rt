@@ -4,7 +4,7 @@ ghost use Rattle.std.specs.Prelude.{◌≡◌, [], IfOk, OnOk, map, nat_lt, if�
 ghost use Rattle.std.specs.List.{Contains};
 ghost use Rattle.hz_altern.specs.Tables.{extent_in};
 ghost use Rattle.hz_expand.specs.Past.{AreCountable, ArePast, TellsBehind};
-ghost use Rattle.hz_expand.specs.Shape.{told};
+ghost use Rattle.hz_unfold.specs.Places.{told};
 ghost use Rattle.hz_expand.specs.Tables.{HasExtent, Holds, IsBehind, unit_names};
 ghost use Rattle.hz_mdread.specs.Shape.{description};
 ghost use Rattle.hz_model.specs.CheckFaults.{faults_of_names, first_told};
@@ -112,7 +112,7 @@ fn add_reservations(
 
 /// The earliest reservation or class of the file with more than 4,096 alternatives, and the earliest with one of more than
 /// 256 cycles. The numbers of the order are places of reservations, and behind them places of classes. Each expression is
-/// counted, and no alternative is made.
+/// counted, and no alternative is made. `NoMemory` where there was none. This profile, docs/RULES.md, 'Limits'.
 pub fn past_extents<'a>(
     alloc: Global,
     desc: &'a Description,

@@ -2,7 +2,7 @@
 
 ghost use Rattle.std.specs.Prelude.{◌≡◌, ℕ, List, None};
 ghost use Rattle.hz_expand.specs.Past.{ArePast, AreWithinExtents};
-ghost use Rattle.hz_expand.specs.Shape.{told};
+ghost use Rattle.hz_unfold.specs.Places.{told};
 ghost use Rattle.hz_expand.specs.declared.extents.PastExtents.{PastExtents};
 ghost use Rattle.hz_model.specs.CheckFaults.{IsUnfolded, Known, Reserving, faults_of_names, first_told};
 ghost use Rattle.hz_model.specs.Descriptions.{Description};

@@ -1,5 +1,5 @@
-//! What the forms of a description define. Each item has the line of its form, counted from 1, and
-//! the number of its form in the file, counted from 0.
+//! What the forms of a description define. GCC Internals, "Specifying processor pipeline description". In each item `line`
+//! is the line of its form, counted from 1, and `form` the number of its form in the file, counted from 0.
 
 use crate::condition::Condition;
 use hz_regexp::{Expr, Name};
@@ -41,7 +41,8 @@ pub struct ClassItem {
     pub expr: Expr,
 }
 
-/// `define_bypass`. The number is a latency in cycles, 0 to 1,000.
+/// `define_bypass`: between each class of `outs`, which produces, and each of `ins`, which consumes, the latency is
+/// `number`, in cycles, 0 to 1,000.
 #[derive(Debug, Drop)]
 pub struct BypassItem {
     pub line: u32,
@@ -54,10 +55,15 @@ pub struct BypassItem {
 /// The five set forms.
 #[derive(Clone, Copy, Debug, PartialEq, Eq)]
 pub enum SetForm {
+    /// `exclusion_set`
     Exclusion,
+    /// `presence_set`
     Presence,
+    /// `final_presence_set`
     FinalPresence,
+    /// `absence_set`
     Absence,
+    /// `final_absence_set`
     FinalAbsence,
 }
 
@@ -71,7 +77,8 @@ pub struct SetItem {
     pub patterns: Vec<Vec<Name>>,
 }
 
-/// `define_attr`, with the default in `fallback`.
+/// `define_attr`: the values that the attribute may have, and its default in `fallback`. GCC Internals, "Defining
+/// Attributes and their Values".
 #[derive(Debug, Drop)]
 pub struct AttrItem {
     pub line: u32,

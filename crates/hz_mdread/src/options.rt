@@ -11,13 +11,18 @@ use crate::patterns::{pieces, trimmed};
 use hz_regexp::NoMemory;
 use std::alloc::Global;
 
-/// Which of the options that have an effect stand in a description. `verbose` is the option `v`.
+/// Which of the options that have an effect stand in a description. GCC Internals, `automata_option`.
 #[derive(Clone, Copy, Debug, PartialEq, Eq)]
 pub struct Options {
+    /// `ndfa`: an issue may take each alternative that fits, and not the first alone.
     pub ndfa: bool,
+    /// `no-minimization`
     pub no_minimization: bool,
+    /// `stats`
     pub stats: bool,
+    /// `v`
     pub verbose: bool,
+    /// `no-comb-vect`
     pub no_comb_vect: bool,
 }
 

@@ -25,7 +25,8 @@ pub struct Order {
     pub numbers: Vec<usize>,
 }
 
-/// The counting order of a description whose names are right, or the first reservation of the file that reaches itself.
+/// The counting order of a description whose names are right, or the first reservation of the file that reaches itself,
+/// or `NoMemory`. This profile, docs/RULES.md, 'Faults of a description'.
 pub fn counting_order(alloc: Global, description: &Description) -> Result<Order, OrderFault>
     requires named { first_told (faults_of_names (description_of description.now)) ≡ None }
     requires formed { IsCheckable (description_of description.now) }

@@ -1,9 +1,8 @@
 //! Names where they stand in a file.
 
 ghost use Rattle.std.specs.Prelude.{◌≡◌};
-ghost use Rattle.std.specs.Option.{option_map};
 ghost use Rattle.hz_model.specs.Sites as model;
-ghost use Rattle.hz_unfold.specs.Places.{site_of};
+ghost use Rattle.hz_unfold.specs.Places.{told};
 
 use hz_regexp::Name;
 
@@ -17,7 +16,7 @@ pub struct Site<'a> {
 
 /// The site of the earlier form, the first one where both stand in one form, and the only one where one is `None`.
 pub fn earlier<'a>(first: Option<Site<'a>>, second: Option<Site<'a>>) -> Option<Site<'a>>
-    ensures { option_map site_of result ≡ model.earlier (option_map site_of first.entry) (option_map site_of second.entry) }
+    ensures { told result ≡ model.earlier (told first.entry) (told second.entry) }
 {
     match (first, second) {
         (Some(one), Some(other)) if other.form < one.form => second,

@@ -40,7 +40,8 @@ struct Rule {
 }
 
 impl Rules {
-    /// The rules of these statements: under them the same pairs fit. The units of each are below `UNITS`.
+    /// The rules of these statements: under them the same pairs fit. The units of each are below `UNITS`. `NoMemory` where
+    /// there was none.
     pub fn build(alloc: Global, sets: &[SetRule]) -> Result<Rules, NoMemory>
         requires { All IsInRange sets.now }
         ensures statements { IfOk result (λ rules. rules ≡ map ordered (statements_of sets.now)) }

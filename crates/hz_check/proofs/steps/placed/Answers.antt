@@ -2,8 +2,7 @@ use Rattle.std.proofs.Common.{◌≡◌, Some, sym, ap, ◌∙◌, subst}
 use Rattle.std.specs.Prelude.{MatchResult, length}
 use Rattle.std.proofs.lemmas.List.{length-map}
 use Rattle.hz_mdread.specs.Shape.{description, automaton_item}
-use Rattle.hz_check.specs.Sites.{told}
-use Rattle.hz_unfold.specs.Places.{site_of}
+use Rattle.hz_unfold.specs.Places.{site_of, told}
 use Rattle.hz_check.specs.Units.{ArePlaces, IsPast}
 use Rattle.hz_check.proofs.CheckSteps.{meaning_told, skip, stop, few_automata}
 use Rattle.hz_model.specs.CheckFaults.{self_exclusion, set_across_automata, limit, automata, units, classes}

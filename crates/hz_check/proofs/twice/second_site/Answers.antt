@@ -1,7 +1,6 @@
 use Rattle.std.proofs.Common.{arith, sym, ap, ◌∙◌, Some, None, cond}
 use Rattle.hz_check.specs.ByName.{is_held}
-use Rattle.hz_check.specs.Sites.{told}
-use Rattle.hz_unfold.specs.Places.{site_of}
+use Rattle.hz_unfold.specs.Places.{site_of, told}
 use Rattle.hz_check.specs.Twice.{is_given}
 use Rattle.hz_check.proofs.Repeated.{repeated_next, told-then_some}
 use Rattle.hz_check.proofs.twice.second_site.Goals as goal

@@ -2,8 +2,7 @@ use Rattle.std.proofs.Common.{◌≡◌, ℕ, List, arith, sym, ap, ◌∙◌, S
 use Rattle.std.proofs.Math.Bool.{or-false}
 use Rattle.std.proofs.lemmas.List.{drop_all}
 use Rattle.hz_check.specs.ByName.{is_held}
-use Rattle.hz_check.specs.Sites.{told}
-use Rattle.hz_unfold.specs.Places.{site_of}
+use Rattle.hz_unfold.specs.Places.{site_of, told}
 use Rattle.hz_check.specs.Twice.{repeated_by}
 use Rattle.hz_model.specs.Sites.{Site, is_preceded, earlier, earliest}
 use Rattle.hz_model.specs.CheckFaults.{sites_of}

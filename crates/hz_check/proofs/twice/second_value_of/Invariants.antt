@@ -1,6 +1,6 @@
 use Rattle.std.proofs.Common.{◌≡◌, drop, []}
 use Rattle.hz_check.specs.ByName.{is_held}
-use Rattle.hz_check.specs.Sites.{told}
+use Rattle.hz_unfold.specs.Places.{told}
 use Rattle.hz_check.specs.Twice.{repeated_by, unseen}
 use Rattle.hz_model.specs.CheckFaults.{sites_of}
 use Rattle.hz_model.specs.Sites.{earlier, earliest, is_preceded}

@@ -1,5 +1,5 @@
 use Rattle.hz_mdread.specs.Shape.{description}
-use Rattle.hz_check.specs.Sites.{told}
+use Rattle.hz_unfold.specs.Places.{told}
 use Rattle.hz_check.proofs.Earliest.{found_next}
 use Rattle.hz_check.proofs.unknown.unknown_site.Goals as goal
 
