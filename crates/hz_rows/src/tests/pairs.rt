@@ -7,7 +7,8 @@ use std::process::Abort;
 use std::test::Fail;
 
 /// The first line: it has no fault, and more than is built.
-const HEAD: &str = "(define_automaton \"m,n\")(define_cpu_unit \"p\" \"m\")(define_cpu_unit \"q,r\" \"n\")(define_attr \"s\" \"g,h\" (const_string \"g\"))(define_insn_reservation \"x\" 1 (const_int 1) \"nothing\")(define_insn_reservation \"z\" 1 (const_int 1) \"nothing\")(define_bypass 1 \"x,z\" \"x\")";
+const HEAD: &str =
+    "(define_automaton \"m,n\")(define_cpu_unit \"p\" \"m\")(define_cpu_unit \"q,r\" \"n\")(define_attr \"s\" \"g,h\" (const_string \"g\"))(define_insn_reservation \"x\" 1 (const_int 1) \"nothing\")(define_insn_reservation \"z\" 1 (const_int 1) \"nothing\")(define_bypass 1 \"x,z\" \"x\")";
 
 /// Nothing behind the form of a line.
 const ALONE: (&str, &str, u32) = ("", "", 0);
@@ -15,12 +16,7 @@ const ALONE: (&str, &str, u32) = ("", "", 0);
 /// The faults in their order, each by a line: a form, what stands behind it so many times with a number from 0 between
 /// the two, and the status, the kind and the name.
 const FAULTS: &[(&str, (&str, &str, u32), u8, &str)] = &[
-    (
-        "(define_cpu_unit \"p\" \"m\")",
-        ALONE,
-        2,
-        "TwiceDefined p",
-    ),
+    ("(define_cpu_unit \"p\" \"m\")", ALONE, 2, "TwiceDefined p"),
     (
         "(define_reservation \"nothing\" \"p\")",
         ALONE,
@@ -46,7 +42,12 @@ const FAULTS: &[(&str, (&str, &str, u32), u8, &str)] = &[
     // with `m` and `n` 17 automata
     ("", ("(define_automaton \"l", "\")", 15), 3, "Automata l14"),
     // with `p` 129 units of `m`
-    ("", ("(define_cpu_unit \"u", "\" \"m\")", 128), 3, "Units u127"),
+    (
+        "",
+        ("(define_cpu_unit \"u", "\" \"m\")", 128),
+        3,
+        "Units u127",
+    ),
     // with `x` and `z` 1,025 classes
     (
         "",
@@ -313,11 +314,7 @@ const LEFTMOST: &[(&str, u8, &str)] = &[
     ("(define_bypass 1 \"x\" \"w,x,y\")", 2, "UnknownName w"),
     ("(define_cpu_unit \"a,b\")", 2, "UnitNeedsAutomaton a"),
     ("(exclusion_set \"r,p,q\" \"q,p\")", 2, "SelfExclusion p"),
-    (
-        "(absence_set \"p,p\" \"p r, q\")",
-        2,
-        "SetAcrossAutomata r",
-    ),
+    ("(absence_set \"p,p\" \"p r, q\")", 2, "SetAcrossAutomata r"),
     (
         "(final_presence_set \"q,r,p\" \"p\")",
         2,
@@ -336,6 +333,54 @@ const LEFTMOST: &[(&str, u8, &str)] = &[
 fn the_leftmost_name_is_told(rt: HostRuntime) -> Result<(), Fail> {
     let alloc = rt.alloc();
     for (form, status, told) in LEFTMOST {
+        tells(&rt, alloc, form, 2, *status, told)?;
+    }
+    Ok(())
+}
+
+/// Forms with two faults, of which the lesser one is told, also where the other stands further left.
+const IN_ONE_FORM: &[(&str, u8, &str)] = &[
+    ("(define_cpu_unit \"nothing,p\" \"m\")", 2, "TwiceDefined p"),
+    ("(define_cpu_unit \"a,a\")", 2, "TwiceDefined a"),
+    (
+        "(define_reservation \"c\" \"c | nothing, (c + w)\")",
+        2,
+        "UnknownName w",
+    ),
+    (
+        "(define_attr \"t\" \"i,i\" (const_string \"j\"))",
+        2,
+        "TwiceDefined i",
+    ),
+    (
+        "(define_cpu_unit \"nothing\" \"k\")",
+        2,
+        "ReservedName nothing",
+    ),
+    (
+        "(define_reservation \"nothing\" \"w\")",
+        2,
+        "ReservedName nothing",
+    ),
+    ("(exclusion_set \"p,q\" \"q,w\")", 2, "UnknownName w"),
+    ("(define_bypass 2 \"x\" \"x,w\")", 2, "UnknownName w"),
+    ("(exclusion_set \"p,q,r\" \"r\")", 2, "SelfExclusion r"),
+    (
+        "(define_reservation \"d\" \"p*256, (p|p)*13\")",
+        3,
+        "Alternatives d",
+    ),
+    (
+        "(define_reservation \"e\" \"p*245, (p|p)*12\")",
+        3,
+        "Cycles e",
+    ),
+];
+
+#[test]
+fn the_lesser_fault_of_a_form_is_told(rt: HostRuntime) -> Result<(), Fail> {
+    let alloc = rt.alloc();
+    for (form, status, told) in IN_ONE_FORM {
         tells(&rt, alloc, form, 2, *status, told)?;
     }
     Ok(())

@@ -5,11 +5,7 @@ use std::test::Fail;
 
 /// Texts with a fault that reading finds, each with its text.
 const READING_ROWS: &[(&[u8], u8, &[u8])] = &[
-    (
-        b"(define_cpu_unit \"u",
-        2,
-        b"fault d line 1 Unclosed\n",
-    ),
+    (b"(define_cpu_unit \"u", 2, b"fault d line 1 Unclosed\n"),
     (b"\n)", 2, b"fault d line 2 Stray\n"),
     (b"\n\n(a \"\\q\")", 2, b"fault d line 3 BadEscape\n"),
     (
