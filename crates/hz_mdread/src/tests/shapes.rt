@@ -335,7 +335,7 @@ fn forms_tell(
     let alloc = rt.alloc();
     let expected = format!(in alloc; "line 3: {told}")?;
     for form in forms {
-        let text = format!(in alloc; "(define_cpu_unit \"q\") ; {form}\n/*\n*/ {form} z")?;
+        let text = format!(in alloc; "(define_cpu_unit \"q\") ; {form}\n/*\n*/ {form}\nz")?;
         let found = outcome(rt, &text)?;
         assert_eq!(rt; found.as_slice(), expected.as_bytes(), "{form}");
     }
