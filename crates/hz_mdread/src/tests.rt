@@ -2,6 +2,8 @@
 
 ghost use Rattle.std.specs.Prelude.{◌<◌, ◌^◌, length};
 
+mod shapes;
+
 use crate::{Condition, Description, MdFault, SetForm, read_description};
 use hz_regexp::{Expr, Name};
 use hz_sexp::read_forms;
@@ -208,7 +210,7 @@ fn reads(rt: &(impl Abort + AllocGlobal), rows: &[(&str, &str)]) -> Result<(), A
 }
 
 /// Each form as it may stand, at its line and by its number.
-const DESCRIPTIONS: [(&str, &str); 22] = [
+const DESCRIPTIONS: [(&str, &str); 24] = [
     ("", ""),
     ("; nothing but\n/* comments */", ""),
     (
@@ -244,6 +246,14 @@ const DESCRIPTIONS: [(&str, &str); 22] = [
         "; bypass 1.0 1000 a|b to c",
     ),
     ("(define_bypass 0 \"a\" \"a\")", "; bypass 1.0 0 a to a"),
+    (
+        "(define_insn_reservation \"c\" 1 (eq_attr \"type\" \"! !a\") \"u\")",
+        "; class 1.0 c 1 type!!a u",
+    ),
+    (
+        "\n(define_bypass 1\"a\"\"b\")(define_cpu_unit\"u\")",
+        "; unit 2.1 u; bypass 2.0 1 a to b",
+    ),
     (
         "(exclusion_set \"u,v\" \"w , x\")",
         "; exclusion 1.0 u|v with w with x",
@@ -283,172 +293,8 @@ fn descriptions_are_read(rt: HostRuntime) -> Result<(), Fail> {
     Ok(reads(&rt, &DESCRIPTIONS)?)
 }
 
-/// What is no form of a description.
-const UNKNOWN_FORMS: [&str; 7] = [
-    "define_automaton",
-    "\"a\"",
-    "5",
-    "()",
-    "[define_automaton \"a\"]",
-    "(\"define_automaton\" \"a\")",
-    "(define_unit \"a\")",
-];
-
-/// Each form with a wrong number or kind of operands, or with a name, list or pattern that is none.
-const SHAPES: [&str; 61] = [
-    "(define_automaton)",
-    "(define_automaton \"a\" \"b\")",
-    "(define_automaton a)",
-    "(define_automaton \"\")",
-    "(define_automaton \"a,\")",
-    "(define_automaton \"a b\")",
-    "(define_cpu_unit)",
-    "(define_cpu_unit \"u\" \"a\" \"b\")",
-    "(define_cpu_unit (u))",
-    "(define_cpu_unit \"u,,v\")",
-    "(define_cpu_unit \"u\" a)",
-    "(define_cpu_unit \"u\" \"a,b\")",
-    "(define_cpu_unit \"u\" \" a\")",
-    "(define_reservation \"r\")",
-    "(define_reservation \"r\" \"u\" \"v\")",
-    "(define_reservation r \"u\")",
-    "(define_reservation \"r \" \"u\")",
-    "(define_reservation \"\" \"u\")",
-    "(define_reservation \"r,s\" \"u\")",
-    "(define_reservation \"r\" u)",
-    "(define_insn_reservation \"c\" 1 (const_int 1))",
-    "(define_insn_reservation \"c\" 1 (const_int 1) \"u\" \"v\")",
-    "(define_insn_reservation 5 1 (const_int 1) \"u\")",
-    "(define_insn_reservation \" c\" 1 (const_int 1) \"u\")",
-    "(define_insn_reservation \"c\" \"1\" (const_int 1) \"u\")",
-    "(define_insn_reservation \"c\" 1 (const_int 1) (u))",
-    "(define_bypass)",
-    "(define_bypass 1 \"a\")",
-    "(define_bypass a \"a\" \"b\")",
-    "(define_bypass 1 \"\" \"b\")",
-    "(define_bypass 1 \"a\" \"b|c\")",
-    "(define_bypass 1 \"a\" b)",
-    "(define_bypass 1 \"a\" \"b\" c)",
-    "(define_bypass 1 \"a\" \"b\" (\"c\") \"d\")",
-    "(exclusion_set \"u\")",
-    "(exclusion_set \"u\" \"v\" \"w\")",
-    "(exclusion_set u \"v\")",
-    "(exclusion_set \"u\" 5)",
-    "(exclusion_set \"u\" \"v w\")",
-    "(exclusion_set \"u\" \"\")",
-    "(presence_set \"u\")",
-    "(presence_set \"u v\" \"w\")",
-    "(presence_set \"u\" \"\")",
-    "(presence_set \"u\" \"v, ,w\")",
-    "(final_presence_set \"u\" \"v\" \"w\")",
-    "(final_presence_set \"u\" \"v+w\")",
-    "(absence_set \"u\" v)",
-    "(absence_set \"u\" \"v,\")",
-    "(final_absence_set)",
-    "(final_absence_set \"\" \"v\")",
-    "(final_absence_set \"u\" \"v (w)\")",
-    "(automata_option)",
-    "(automata_option \"ndfa\" \"v\")",
-    "(automata_option ndfa)",
-    "(define_attr \"a\" \"b\")",
-    "(define_attr \"a\" \"b\" (const_string \"b\") 1)",
-    "(define_attr \"a b\" \"b\" (const_string \"b\"))",
-    "(define_attr \"a\" \"b;c,\" (const_string \"b\"))",
-    "(define_attr \"a\" \"b\" \"b\")",
-    "(define_attr \"a\" \"b\" (const_string \"b,c\"))",
-    "(define_attr \"a\" \"b\" (const_int 1))",
-];
-
-/// Conditions of another shape, and those with a wrong string in them.
-const CONDITIONS: [&str; 26] = [
-    "1",
-    "\"a\"",
-    "[const_int 1]",
-    "()",
-    "(const_int)",
-    "(const_int 1 2)",
-    "(const_int a)",
-    "(const_int \"1\")",
-    "(eq_attr \"a\")",
-    "(eq_attr \"a\" \"b\" \"c\")",
-    "(eq_attr a \"b\")",
-    "(eq_attr \"a\" b)",
-    "(eq_attr \" a\" \"b\")",
-    "(eq_attr \"a,b\" \"c\")",
-    "(eq_attr \"a\" \"\")",
-    "(eq_attr \"a\" \"!\")",
-    "(eq_attr \"a\" \"b,,c\")",
-    "(eq_attr \"a\" \"b c\")",
-    "(not)",
-    "(not (const_int 1) (const_int 1))",
-    "(not 1)",
-    "(and (const_int 1))",
-    "(ior)",
-    "(ior (const_int 1) 1)",
-    "(or (const_int 1) (const_int 1))",
-    "(and (const_int 1) (ior (const_int 0) (not (eq_attr \"a\" \"b|c\"))))",
-];
-
-/// Other faults, and which of two in one text is told.
-const FAULTS: [(&str, &str); 30] = [
-    ("(automata_option \"fast\")", "line 1: no option"),
-    ("(automata_option \"collapse-ndfa\")", "line 1: no option"),
-    ("(automata_option \"\")", "line 1: no option"),
-    ("(automata_option \"ndfa,\")", "line 1: no option"),
-    ("(automata_option \"ndfa v\")", "line 1: no option"),
-    ("(automata_option \"v,NDFA\")", "line 1: no option"),
-    (
-        "(define_insn_reservation \"c\" 1001 (const_int 1) \"u\")",
-        "line 1: the number is not from 0 to 1,000",
-    ),
-    (
-        "(define_insn_reservation \"c\" -1 (const_int 1) \"u\")",
-        "line 1: the number is not from 0 to 1,000",
-    ),
-    (
-        "(define_bypass 1001 \"a\" \"b\")",
-        "line 1: the number is not from 0 to 1,000",
-    ),
-    (
-        "(define_bypass -9223372036854775808 \"a\" \"b\")",
-        "line 1: the number is not from 0 to 1,000",
-    ),
-    (
-        "\n(define_reservation \"r\" \"u,,u\")",
-        "line 2: in the expression, byte 2: this continues no expression",
-    ),
-    (
-        "(define_reservation \"r\" \"u,\")",
-        "line 1: in the expression, byte 2: this continues no expression",
-    ),
-    (
-        "(define_insn_reservation \"x\" 1 (const_int 1) \"nothing*0\")",
-        "line 1: in the expression, byte 8: repeated 0 times",
-    ),
-    (
-        "(define_reservation \"r\" \"\")",
-        "line 1: in the expression, byte 0: no expression",
-    ),
-    (
-        "(define_reservation \"r\" \" u*65536\")",
-        "line 1: in the expression, byte 3: the number is too large",
-    ),
-    (
-        "(define_reservation \"r\" \"a\\\"b\")",
-        "line 1: in the expression, byte 1: this continues no expression",
-    ),
-    (
-        "(define_bypass 1 \"a\" \"b\" \"guard\")",
-        "line 1: an unknown guard",
-    ),
-    (
-        "(define_bypass x \"\" b \"guard\" 5)",
-        "line 1: an unknown guard",
-    ),
-    (
-        "(define_query_cpu_unit \"u\")",
-        "line 1: no form of a description",
-    ),
+/// Which of two faults in one text is told.
+const FAULTS: [(&str, &str); 11] = [
     // In one form the number of operands decides, then the leftmost operand.
     (
         "(define_insn_reservation \"c\" 1001 5 \"u,,\" \"v\")",
@@ -497,39 +343,9 @@ const FAULTS: [(&str, &str); 30] = [
     ),
 ];
 
-/// Asserts that each of these forms has a fault at line 3, behind a good form and a comment.
-fn all_at_line_3(
-    rt: &(impl Abort + AllocGlobal),
-    before: &str,
-    forms: &[&str],
-    after: &str,
-    expected: &str,
-) -> Result<(), AllocError> {
-    let alloc = rt.alloc();
-    for form in forms {
-        let text = format!(in alloc;
-            "(define_cpu_unit \"q\") ; {form}\n/*\n*/ {before}{form}{after} z"
-        )?;
-        let found = outcome(rt, &text)?;
-        assert_eq!(rt; found.as_slice(), expected.as_bytes(), "{form}");
-    }
-    Ok(())
-}
-
 #[test]
-fn faults_are_told(rt: HostRuntime) -> Result<(), Fail> {
-    reads(&rt, &FAULTS)?;
-    all_at_line_3(
-        &rt,
-        "",
-        &UNKNOWN_FORMS,
-        "",
-        "line 3: no form of a description",
-    )?;
-    all_at_line_3(&rt, "", &SHAPES, "", "line 3: wrong operands")?;
-    let class = "(define_insn_reservation \"c\" 1\n";
-    all_at_line_3(&rt, class, &CONDITIONS, "\n\"u\")", "line 3: no condition")?;
-    Ok(())
+fn the_first_wrong_operand_is_told(rt: HostRuntime) -> Result<(), Fail> {
+    Ok(reads(&rt, &FAULTS)?)
 }
 
 /// A pair of names.
