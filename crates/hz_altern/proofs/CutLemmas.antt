@@ -15,7 +15,6 @@ use Rattle.hz_altern.specs.declared.alternative.Alt.{Alt}
 use Rattle.hz_altern.specs.Cuts.{within_pair, within_pairs, cuts_of}
 use Rattle.hz_altern.specs.Shapes.{alternative_of, alternatives}
 use Rattle.hz_model.specs.Pairs.{Pair}
-use Rattle.hz_model.specs.Alternatives.{Alternative}
 use Rattle.hz_model.specs.AlternativeLists.{IsAscending}
 use Rattle.hz_model.specs.Automata.{UnitPlace, ascending, is_of, inside, cut, list_in, same_pair}
 use Rattle.hz_model.proofs.Ascending.{AllPairs-map, same_from_ascending}

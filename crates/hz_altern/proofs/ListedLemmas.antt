@@ -1,25 +1,22 @@
 -- Listed alternatives, and their copies one after another.
 use Rattle.std.proofs.Common.{◌/◌, ◌%◌, ◌≡◌, ℕ, zero, suc, ◌+◌, ◌-◌, ◌<◌, ◌≤◌, List, length, All, sym, ap, ◌∙◌, subst, arith, ⊎_elim}
 use Rattle.std.proofs.lemmas.Bool.{cases_lt}
-use Rattle.std.proofs.lemmas.List.{length-map}
 use Rattle.std.proofs.Math.Nat.{mul-le-mul_left}
-use Rattle.hz_altern.specs.declared.alternative.Alt.{Alt}
-use Rattle.hz_altern.specs.Shapes.{alternatives}
 use Rattle.hz_altern.specs.declared.fault.AlternFault.{AlternFault}
-use Rattle.hz_altern.specs.declared.joining.Joining.TheVariants.{InSequence, Together}
+use Rattle.hz_altern.specs.declared.joining.Joining.TheVariants.{InSequence}
 use Rattle.hz_altern.specs.Answers.{total_weight, Refuses}
 use Rattle.hz_altern.proofs.Weights.{refuses_larger}
 use Rattle.hz_altern.specs.Joinings.{IsListed, joined_by}
 use Rattle.hz_altern.proofs.Lengths.{greatest-copies}
 use Rattle.hz_altern.proofs.ChoiceWeights.{firsts_weigh}
 use Rattle.hz_model.specs.Pairs.{Pair}
-use Rattle.hz_model.specs.Alternatives.{Alternative, each_choice, followed_by, beside, copies}
+use Rattle.hz_model.specs.Alternatives.{Alternative, each_choice, followed_by, copies}
 use Rattle.hz_model.specs.AlternativeLists.{IsPlaced, greatest_length}
 use Rattle.hz_model.specs.Automata.{UnitPlace, listed}
 use Rattle.hz_model.proofs.AscendingLaws.{IsAscending-ascending, ascending_itself}
 use Rattle.hz_model.proofs.ExpressionLaws.{one_followed, some_copies}
 use Rattle.hz_model.proofs.ListedLaws.{All-each_choice, copies-add, listed_followed}
-use Rattle.hz_model.proofs.PlacedLaws.{followed_placed, beside_placed, listed_placed}
+use Rattle.hz_model.proofs.PlacedLaws.{followed_placed, listed_placed}
 
 abbrev whole : List (Pair UnitPlace) → ℕ → Alternative UnitPlace
 whole pairs cycles = record { pairs = pairs; cycles = cycles }

@@ -1,12 +1,12 @@
 -- Pairs of a unit and a cycle in the order of cycles and then of units.
-use Rattle.std.proofs.Common.{Ordering, ◌≡◌, ◌↔◌, ◌<◌, ◌⊎◌, inl, inr, ℕ, Bool, true, false, ◌&&◌, ◌==◌, nat_lt, cond, List, [], ◌∷◌, map, All, Contains, refl, sym, ap, ◌∙◌, subst, arith}
+use Rattle.std.proofs.Common.{Ordering, ◌≡◌, ◌↔◌, ℕ, Bool, true, ◌&&◌, ◌==◌, List, [], ◌∷◌, Contains, sym, subst, arith}
 use Rattle.std.specs.List.{AllPairs, dedup}
 use Rattle.std.specs.List.Retain.{IsFiltered, DiffersFromLast}
 use Rattle.std.specs.List.Sorted.{IsPermutation, IsSorted, IsStrictlySortedBy}
 use Rattle.std.specs.Cmp.{IsTotalOrder, IsEquivalence, nat_eq_equiv, on_equiv, and_equiv}
-use Rattle.std.specs.Ordering.{nat_cmp, ordering_then, then_cmp, on, is_eq, eq_by_cmp}
-use Rattle.std.specs.declared.cmp.Ordering.TheVariants.{Less, Equal, Greater}
-use Rattle.std.proofs.lemmas.Bool.{eqb-true, eqb-false, ltb-true, and_parts, cases_Bool}
+use Rattle.std.specs.Ordering.{nat_cmp, ordering_then, eq_by_cmp}
+use Rattle.std.specs.declared.cmp.Ordering.TheVariants.{Less}
+use Rattle.std.proofs.lemmas.Bool.{eqb-true, and_parts}
 use Rattle.std.proofs.lemmas.Bool.Decides.{nat_tests}
 use Rattle.std.proofs.lemmas.Cmp.{nat_cmp_total, on_total, then_total}
 use Rattle.std.proofs.lemmas.List.Elements.{All-from_recursion}
@@ -15,7 +15,6 @@ use Rattle.std.proofs.lemmas.List.Kept.{AllPairs-cons, Contains-dedup, Contains-
 use Rattle.std.proofs.lemmas.List.Sorted.{Contains-permutation, IsPermutation-sym}
 use Rattle.hz_grid.specs.Grids.{Precedes}
 use Rattle.hz_altern.specs.Cuts.{within_pair, within_pairs}
-use Rattle.hz_model.specs.Pairs.{Pair}
 use Rattle.hz_model.proofs.Ascending.{AllPairs-map}
 
 -- by cycle, then by unit

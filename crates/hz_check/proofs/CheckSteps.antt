@@ -1,8 +1,8 @@
 -- From what a step finds to the fault that is told.
-use Rattle.std.proofs.Common.{◌≡◌, ℕ, ◌<◌, ◌≤◌, List, [], ◌∷◌, length, map, drop, get_or, All, Option, Some, None, refl, sym, ap, ◌∙◌, subst, arith}
+use Rattle.std.proofs.Common.{◌≡◌, ℕ, ◌≤◌, List, [], ◌∷◌, length, drop, get_or, Option, Some, None, refl, sym, ap, ◌∙◌, subst, arith}
 use Rattle.std.specs.Option.{option_map}
-use Rattle.std.specs.Prelude.{IsTrue, IsSomeAnd, slice_get, slice_index_or, vec_len}
-use Rattle.std.proofs.lemmas.List.{length-map, length-drop, get_or-map}
+use Rattle.std.specs.Prelude.{IsSomeAnd, slice_get}
+use Rattle.std.proofs.lemmas.List.{length-map, length-drop}
 use Rattle.std.proofs.lemmas.Option.{slice_get-map, get_or_from_slice_get}
 use Rattle.hz_check.specs.declared.fault.CheckFault.{CheckFault}
 use Rattle.hz_check.specs.declared.fault.CheckFault.TheVariants.{TwiceDefined, ReservedName, UnknownName, UnknownAutomaton, UnitNeedsAutomaton, CircularReservation, SelfExclusion, SetAcrossAutomata, Limit, BypassTwice, NoMemory}
@@ -11,14 +11,11 @@ use Rattle.hz_check.specs.Faults.{Tells, IsToldAt, IsToldHere, limit_of}
 use Rattle.hz_expand.proofs.Unwinding.{unfolded}
 use Rattle.hz_model.specs.CheckFaults as model
 use Rattle.hz_model.specs.CheckFaults.{Standing, Told, Known, first_told, told_at, faults_of_meanings, faults_of_names, CheckFaultAt, of_meanings, of_names, of_circle, IsFirst, IsCircular, Reserving, limit, alternatives, cycles, size, past_limit, second_numbers, reservation_site}
-use Rattle.hz_mdread.specs.declared.items.SetItem.{SetItem}
 use Rattle.hz_mdread.specs.declared.description.Description.{Description as StoredDescription}
 use Rattle.hz_mdread.specs.declared.items.ReservationItem.{ReservationItem as StoredReservation}
-use Rattle.hz_mdread.specs.Shape.{description, reservation_item, set_item}
+use Rattle.hz_mdread.specs.Shape.{description, reservation_item}
 use Rattle.hz_model.proofs.EarliestLaws.{no_site}
 use Rattle.hz_model.specs.CheckFaults.{automaton_sites, class_sites}
-use Rattle.hz_model.specs.DescriptionShape.{FormKind, IsSet, are_names}
-use Rattle.hz_model.specs.Descriptions as model_items
 use Rattle.hz_model.specs.Descriptions.{Description}
 use Rattle.hz_model.specs.Limits.{automaton_limit, class_limit}
 use Rattle.hz_model.specs.Machines.{IsKnown}

@@ -1,15 +1,14 @@
 -- The first of several names.
-use Rattle.std.proofs.Common.{◌≡◌, ℕ, List, [], ◌∷◌, ◌++◌, Option, Some, None, slice_get, ◌<◌, ◌+◌, length, drop, get_or, Bool, true, false, Bor, cond, filter, refl, sym, ap, ◌∙◌, arith, subst}
+use Rattle.std.proofs.Common.{◌≡◌, ℕ, List, [], ◌∷◌, ◌++◌, Option, Some, None, slice_get, ◌<◌, ◌+◌, length, drop, get_or, Bool, true, false, Bor, cond, filter, refl, sym, ap, ◌∙◌, arith}
 use Rattle.std.proofs.lemmas.Bool.Decides.{nat_tests}
 use Rattle.std.proofs.lemmas.List.Elements.{filter-append}
 use Rattle.std.specs.List.{flat_map}
 use Rattle.std.specs.Option.{option_map, option_or, option_copied}
 use Rattle.std.specs.Bool.{then_some}
 use Rattle.hz_check.specs.Unknown.{first_of}
-use Rattle.hz_check.proofs.Earliest.{earlier-none}
 use Rattle.hz_check.proofs.Next.{drop_next}
 use Rattle.hz_model.specs.CheckFaults.{sites_of}
-use Rattle.hz_model.specs.Sites.{Site, earlier, earliest}
+use Rattle.hz_model.specs.Sites.{earlier, earliest}
 
 pub first_of-append : {A : Type 0} (xs ys : List A) → first_of (xs ++ ys) ≡ option_or (first_of xs) (first_of ys)
 first_of-append [] ys = refl

@@ -1,5 +1,5 @@
 -- Items in the order of their forms.
-use Rattle.std.proofs.Common.{◌≡◌, ℕ, zero, suc, ◌<◌, ◌≤◌, ◌+◌, nat_le, nat_lt, List, [], ◌∷◌, map, length, drop, Option, Some, None, Bool, true, false, slice_get, get_or, All, refl, sym, ap, ◌∙◌, subst, arith, cond}
+use Rattle.std.proofs.Common.{◌≡◌, ℕ, zero, suc, ◌≤◌, List, [], ◌∷◌, map, drop, Some, slice_get, All, refl, sym, ap, ◌∙◌, subst, arith}
 use Rattle.std.proofs.lemmas.Bool.Decides.{nat_tests}
 use Rattle.std.proofs.lemmas.List.Elements.{All-cons}
 use Rattle.std.proofs.lemmas.List.Kept.{AllPairs-cons}
@@ -7,7 +7,6 @@ use Rattle.std.proofs.lemmas.Option.{slice_get-map}
 use Rattle.std.specs.List.{AllPairs}
 use Rattle.std.specs.Option.{option_map}
 use Rattle.hz_check.specs.Unknown.{first_of}
-use Rattle.hz_check.proofs.Earliest.{earlier-earlier}
 use Rattle.hz_model.proofs.Ascending.{AllPairs-head, AllPairs-tail}
 use Rattle.hz_model.specs.Sites.{Site, earlier, earliest}
 

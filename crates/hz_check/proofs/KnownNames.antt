@@ -1,6 +1,6 @@
 -- Where no name is unknown.
-use Rattle.std.proofs.Common.{◌≡◌, ℕ, zero, suc, ◌<◌, ◌+◌, List, [], ◌∷◌, ◌++◌, map, length, filter, get_or, Option, Some, None, Bool, true, false, not, nat_le, refl, sym, ap, ◌∙◌, subst, arith, cond, All}
-use Rattle.std.proofs.lemmas.List.{get_or-map, length-map}
+use Rattle.std.proofs.Common.{◌≡◌, ℕ, zero, suc, ◌<◌, List, [], ◌∷◌, ◌++◌, map, length, filter, get_or, Option, Some, None, Bool, true, false, not, nat_le, refl, sym, ap, ◌∙◌, subst, arith, cond, All}
+use Rattle.std.proofs.lemmas.List.{get_or-map}
 use Rattle.std.proofs.lemmas.List.Elements.{filter-append, All-cons}
 use Rattle.std.proofs.lemmas.List.Quantifiers.{position-Some}
 use Rattle.std.proofs.lemmas.Option.{same_Some}
@@ -9,7 +9,7 @@ use Rattle.std.specs.Str.{bytes_eq}
 use Rattle.hz_check.specs.Unknown.{first_of}
 use Rattle.hz_model.specs.CheckFaults.{sites_of, unknown_names, is_class, names_of_bypass, is_unit, names_of_set, unknown_in_expression, unknown_in_condition}
 use Rattle.hz_model.specs.CheckedParts.{class_numbers}
-use Rattle.hz_model.specs.Descriptions.{Description, BypassItem, SetItem}
+use Rattle.hz_model.specs.Descriptions.{Description, BypassItem}
 use Rattle.hz_model.specs.Lines.{place_of}
 use Rattle.hz_model.specs.Machines.{class_names}
 use Rattle.hz_model.specs.Sites.{Site, is_among, earlier, earliest}

@@ -1,6 +1,6 @@
 -- The next item of a list.
-use Rattle.std.proofs.Common.{◌≡◌, ℕ, suc, ◌<◌, ◌≤◌, ◌+◌, ◌-◌, arith, List, [], ◌∷◌, ◌++◌, map, length, take, drop, filter, get_or, Bool, true, false, ◌&&◌, cond, append_assoc, refl, sym, ap, ◌∙◌, add-one}
-use Rattle.std.specs.List.{flat_map, list_all, range_with_len}
+use Rattle.std.proofs.Common.{◌≡◌, ℕ, suc, ◌<◌, ◌≤◌, ◌+◌, List, [], ◌∷◌, ◌++◌, map, length, take, drop, filter, get_or, Bool, true, false, ◌&&◌, cond, append_assoc, refl, sym, ap, ◌∙◌, add-one}
+use Rattle.std.specs.List.{flat_map, list_all}
 use Rattle.std.proofs.lemmas.List.{take_more, take_all, map-append}
 use Rattle.std.proofs.Math.Seq.{drop-cons}
 

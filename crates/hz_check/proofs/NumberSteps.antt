@@ -1,27 +1,17 @@
 -- Classes by their numbers, and the numbers that bypasses give them.
-use Rattle.std.proofs.Common.{◌≡◌, ℕ, zero, suc, ◌<◌, ◌≤◌, ◌+◌, ◌==◌, List, [], ◌∷◌, ◌++◌, map, length, filter, get_or, Option, Some, None, Bool, true, false, ◌||◌, ◌&&◌, not, is_some, slice_get, refl, sym, ap, ◌∙◌, subst, arith, cond, ⊎_elim, All}
+use Rattle.std.proofs.Common.{◌≡◌, ℕ, ◌==◌, List, [], ◌∷◌, filter, get_or, Option, Some, None, Bool, true, false, ◌||◌, not, is_some, refl, sym, ap, ◌∙◌, subst, cond, ⊎_elim}
 use Rattle.std.proofs.lemmas.Bool.{cases_Bool, eqb-true}
-use Rattle.std.proofs.lemmas.Bool.Decides.{nat_tests, same_from_decides, Decides-eqb}
-use Rattle.std.proofs.lemmas.List.Folds.{list_any-append}
 use Rattle.std.proofs.lemmas.List.Quantifiers.{position-Some}
-use Rattle.std.proofs.lemmas.Option.{same_Some}
 use Rattle.std.proofs.lemmas.Slice.Eq.{bytes_eq-Decides}
-use Rattle.std.specs.Bool.{Decides}
 use Rattle.std.specs.List.{list_any, cons_option}
-use Rattle.std.specs.Option.{option_map, MatchOption}
+use Rattle.std.specs.Option.{MatchOption}
 use Rattle.std.specs.Str.{bytes_eq}
-use Rattle.hz_check.specs.Bypasses.{number_at, is_other, HoldsNumbers}
 use Rattle.hz_check.specs.Unknown.{first_of}
-use Rattle.hz_check.proofs.Earliest.{earliest-append, earlier-earlier}
-use Rattle.hz_check.proofs.FirstOf.{earliest-sites_of}
-use Rattle.hz_check.proofs.InOrder.{earlier_one}
-use Rattle.hz_check.proofs.NameLists.{is_among-list_any}
-use Rattle.hz_model.specs.CheckFaults.{sites_of, is_class, differs, renumbered, renumbered_behind}
+use Rattle.hz_model.specs.CheckFaults.{is_class}
 use Rattle.hz_model.specs.CheckedParts.{class_numbers}
-use Rattle.hz_model.specs.Descriptions.{Description, BypassItem}
+use Rattle.hz_model.specs.Descriptions.{Description}
 use Rattle.hz_model.specs.Lines.{place_of}
 use Rattle.hz_model.specs.Machines.{class_names}
-use Rattle.hz_model.specs.Sites.{Site, is_among, earlier, earliest}
 
 -- Lists of numbers.
 

@@ -1,5 +1,5 @@
 -- Tables of names that are filled item by item: what is held, or else stands in what is left, is what all items say.
-use Rattle.std.proofs.Common.{◌≡◌, ℕ, ◌<◌, ◌≤◌, ◌+◌, List, [], ◌∷◌, map, length, drop, get_or, Option, Some, None, is_some, filter, not, Bool, true, false, ◌||◌, refl, sym, ap, ◌∙◌, cond, arith, subst}
+use Rattle.std.proofs.Common.{◌≡◌, ℕ, ◌<◌, ◌≤◌, ◌+◌, List, [], ◌∷◌, map, length, drop, get_or, Option, Some, None, is_some, filter, not, Bool, true, false, ◌||◌, refl, sym, ap, ◌∙◌, cond, subst}
 use Rattle.std.proofs.lemmas.List.{drop_all}
 use Rattle.std.proofs.lemmas.Option.{same_Some}
 use Rattle.std.proofs.lemmas.Iterator.Adapters.{position_from-zero}

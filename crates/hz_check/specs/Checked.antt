@@ -1,5 +1,5 @@
 -- What is held of a description without a fault.
-use Rattle.std.specs.Prelude.{◌≡◌, List, map}
+use Rattle.std.specs.Prelude.{◌≡◌, map}
 use Rattle.hz_check.specs.declared.checked.Checked.{Checked}
 use Rattle.hz_check.specs.Shape.{automaton_of, class_of, bypass_of, attribute_of}
 use Rattle.hz_mdread.specs.Shape.{options as options_of}

@@ -1,9 +1,8 @@
 -- The conditions of `And` and `Ior`.
-use Rattle.std.proofs.Common.{◌≡◌, refl, sym, ap, ◌∙◌, rules}
-use Rattle.hz_mdread.specs.declared.condition.Condition.{Condition}
+use Rattle.std.proofs.Common.{◌≡◌, sym, ap, ◌∙◌}
 use Rattle.hz_mdread.specs.declared.condition.Condition.TheOpen.{Condition-F}
 use Rattle.hz_mdread.specs.declared.condition.Condition.TheVariants.{And, Ior, rolls-And, rolls-Ior}
-use Rattle.hz_mdread.specs.declared.condition.Condition.TheFolds.{fold-Condition, fold-roll-Condition}
+use Rattle.hz_mdread.specs.declared.condition.Condition.TheFolds.{fold-roll-Condition}
 use Rattle.hz_mdread.specs.Shape.{condition, conditions, condition_step}
 use Rattle.hz_model.specs.Descriptions as model
 

@@ -1,17 +1,12 @@
 -- Forms by their words, with their lines and short strings.
-use Rattle.std.proofs.Common.{◌≡◌, ℕ, zero, suc, ◌+◌, ◌<◌, ◌≤◌, Bool, true, false, ◌&&◌, List, [], ◌∷◌, length, get_or, drop, Option, Some, None, Result, Ok, Err, refl, sym, ap, ◌∙◌, arith}
-use Rattle.std.proofs.lemmas.List.{drop_more, drop_all}
-use Rattle.std.proofs.lemmas.Result.{IfOk-weaker, IfErr-weaker}
-use Rattle.std.specs.Option.{ok_or}
+use Rattle.std.proofs.Common.{◌≡◌, ℕ, zero, suc, ◌<◌, Bool, true, false, ◌&&◌, List, [], ◌∷◌, length, get_or, Some, refl, ap, ◌∙◌, arith}
 use Rattle.hz_sexp.specs.declared.form.Form.{Form, out-Form}
-use Rattle.hz_sexp.specs.declared.form.Node.{out-Node}
 use Rattle.hz_sexp.specs.declared.form.Node.TheOpen.{Node-F}
-use Rattle.hz_sexp.specs.declared.form.Node.TheFolds.{fold-Node, fold_out-Form, fold_out-Node}
+use Rattle.hz_sexp.specs.declared.form.Node.TheFolds.{fold_out-Form, fold_out-Node}
 use Rattle.hz_sexp.specs.Shape.{tree, trees, node_step, form_step}
-use Rattle.hz_model.specs.Trees.{Tree, Trees, list, vector, atom, quoted, number, none, more}
-use Rattle.hz_model.specs.Descriptions.{Description}
+use Rattle.hz_model.specs.Trees.{Tree, Trees, list, atom, more}
 use Rattle.hz_model.specs.DescriptionShape.{FormKind}
-use Rattle.hz_model.specs.DescriptionForms.{DescriptionFault, unknown_form, Said, Addition, and_then, headed, kind_of, line_of, form_of_kind, form_says, with_addition, at_line, forms_say, string_below, strings_below, form_count}
+use Rattle.hz_model.specs.DescriptionForms.{Said, headed, kind_of, line_of, form_of_kind, form_says, string_below, strings_below}
 
 line_of_step : (node : Node-F (ℕ → Tree) Tree) (line : ℕ) → line_of (node_step node line) ≡ line
 line_of_step (Node-F.List forms) line = refl

@@ -1,11 +1,11 @@
 -- Lists of names and patterns: there is always a piece.
-use Rattle.std.proofs.Common.{◌≡◌, ℕ, ◌+◌, ◌<◌, ◌≤◌, ◌==◌, Bool, true, false, cond, List, [], ◌∷◌, length, get_or, drop, map, Option, Some, None, refl, sym, ap, ◌∙◌, subst}
+use Rattle.std.proofs.Common.{◌≡◌, ℕ, ◌<◌, ◌≤◌, ◌==◌, Bool, true, false, cond, List, [], ◌∷◌, length, get_or, drop, map, Some, None, refl, ap, ◌∙◌}
 use Rattle.std.specs.Borrow.{Bor}
 use Rattle.std.proofs.lemmas.List.{drop_more, drop_all}
 use Rattle.std.specs.List.{list_all, slice_split, onto_first}
 use Rattle.hz_model.specs.Descriptions.{Options}
-use Rattle.hz_model.specs.DescriptionForms.{names_of, patterns_of, words, kept, with_option, with_options}
-use Rattle.hz_model.specs.DescriptionShape.{are_names, are_patterns}
+use Rattle.hz_model.specs.DescriptionForms.{names_of, kept, with_option, with_options}
+use Rattle.hz_model.specs.DescriptionShape.{are_names}
 use Rattle.hz_model.specs.Lines.{separated, trimmed}
 use Rattle.hz_model.specs.Names.{is_name}
 

@@ -1,7 +1,7 @@
 -- Operands of another number than a form has.
-use Rattle.std.proofs.Common.{◌≡◌, ℕ, zero, suc, ◌<◌, ◌≤◌, true, false, List, [], ◌∷◌, length, get_or, Some, None, Ok, Err, refl, sym, ap, ◌∙◌, arith, rules}
+use Rattle.std.proofs.Common.{◌≡◌, ℕ, ◌≤◌, false, List, [], ◌∷◌, length, None, Err, refl, arith}
 use Rattle.hz_sexp.specs.declared.form.Form.{Form}
-use Rattle.hz_sexp.specs.Shape.{tree, trees}
+use Rattle.hz_sexp.specs.Shape.{trees}
 use Rattle.hz_model.specs.DescriptionForms as model
 use Rattle.hz_model.specs.Sets.{SetKind}
 

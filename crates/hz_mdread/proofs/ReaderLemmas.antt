@@ -1,15 +1,15 @@
 -- Forms one after another.
-use Rattle.std.proofs.Common.{◌≡◌, ℕ, ◌+◌, ◌<◌, ◌≤◌, List, [], ◌∷◌, length, get_or, drop, Result, Ok, Err, refl, sym, ap, ◌∙◌, arith}
+use Rattle.std.proofs.Common.{◌≡◌, ℕ, ◌+◌, ◌<◌, ◌≤◌, List, [], ◌∷◌, length, get_or, drop, Err, refl, sym, ap, ◌∙◌, arith}
 use Rattle.std.proofs.lemmas.List.{drop_more, drop_all}
 use Rattle.hz_sexp.specs.declared.form.Form.{Form, out-Form}
 use Rattle.hz_sexp.specs.Shape.{tree, trees}
 use Rattle.hz_regexp.specs.declared.fault.ExprFault.{ExprFault}
 use Rattle.hz_regexp.specs.declared.fault.ExprFault.TheVariants.{Unexpected, Empty, RepeatZero, TooDeep, NumberTooLarge, NoMemory}
 use Rattle.hz_model.specs.ExpressionTexts.{ExpressionFault}
-use Rattle.hz_model.specs.Trees.{Tree, Trees, more}
+use Rattle.hz_model.specs.Trees.{more}
 use Rattle.hz_model.specs.Descriptions.{Description, no_items}
 use Rattle.hz_model.specs.DescriptionShape.{IsWellFormed}
-use Rattle.hz_model.specs.DescriptionForms.{DescriptionFault, bad_expression, Addition, form_says, with_addition, forms_say, form_count, Reads, FaultAt}
+use Rattle.hz_model.specs.DescriptionForms.{DescriptionFault, bad_expression, form_says, forms_say, form_count, Reads, FaultAt}
 use Rattle.hz_model.proofs.DescriptionFormedAll.{well_formed}
 use Rattle.hz_mdread.specs.declared.fault.Wrong.{Wrong}
 use Rattle.hz_mdread.specs.declared.fault.Wrong.TheVariants as wrong

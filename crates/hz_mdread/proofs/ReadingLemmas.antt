@@ -1,13 +1,11 @@
 -- The reading of expressions, and faults in it.
-use Rattle.std.proofs.Common.{◌≡◌, ℕ, List, Option, Some, None, Result, Ok, Err, refl, sym, ap, ◌∙◌}
-use Rattle.hz_sexp.specs.declared.form.Form.{Form}
-use Rattle.hz_sexp.specs.Shape.{tree}
+use Rattle.std.proofs.Common.{◌≡◌, ℕ, List, Some, Ok, Err, refl}
 use Rattle.hz_regexp.specs.declared.fault.ExprFault.{ExprFault}
 use Rattle.hz_regexp.specs.declared.fault.ExprFault.TheVariants.{Unexpected, Empty, RepeatZero, TooDeep, NumberTooLarge, NoMemory}
 use Rattle.hz_regexp.specs.Faults as regexp
 use Rattle.hz_model.specs.Alternatives.{Expression}
 use Rattle.hz_model.specs.ExpressionTexts.{ExpressionFault, Reads, FaultAt}
-use Rattle.hz_model.specs.DescriptionForms.{DescriptionFault, bad_expression, IsReading, and_then, shaped, expression_of, expression_in, quoted_bytes}
+use Rattle.hz_model.specs.DescriptionForms.{bad_expression, IsReading, expression_in, quoted_bytes}
 use Rattle.hz_model.specs.Trees.{Tree}
 use Rattle.hz_model.proofs.DescriptionLaws.{is_reading}
 use Rattle.hz_model.proofs.ExpressionTextsLaws.{read_is, fault_is}

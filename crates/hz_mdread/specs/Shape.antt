@@ -1,5 +1,5 @@
 -- What the code holds, as what the definitions speak of.
-use Rattle.std.specs.Prelude.{ℕ, List, [], ◌∷◌, map, Option}
+use Rattle.std.specs.Prelude.{List, [], ◌∷◌, map}
 use Rattle.hz_regexp.specs.Shape.{expression}
 use Rattle.hz_mdread.specs.declared.condition.Condition.{Condition}
 use Rattle.hz_mdread.specs.declared.condition.Condition.TheOpen.{Condition-F}

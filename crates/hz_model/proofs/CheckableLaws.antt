@@ -1,5 +1,4 @@
 -- Descriptions that are well formed can be checked.
-use Rattle.std.proofs.Common.{All}
 use Rattle.std.proofs.lemmas.List.Elements.{All-weaker}
 use Rattle.hz_model.specs.Descriptions.{Description}
 use Rattle.hz_model.specs.DescriptionShape.{IsForm, set_form, define_automaton, define_cpu_unit, define_attr, IsAutomaton, IsUnit, IsReservation, IsClass, IsBypass, IsSet, IsAttribute, IsWellFormed, IsCheckableReservation, IsCheckableClass, IsCheckableBypass, IsCheckable}

@@ -1,8 +1,8 @@
 -- What holds of the parts of every description without a fault.
 use Rattle.std.proofs.Common.{◌≡◌, ◌≢◌, ℕ, zero, suc, ◌+◌, ◌<◌, ◌≤◌, ◌⊎◌, inl, inr, ⊎_elim, Bool, true, false, List, [], ◌∷◌, ◌++◌, length, map, filter, drop, Contains, All, Option, Some, None, get_or, slice_get, refl, sym, ap, ◌∙◌, subst, arith}
 use Rattle.std.specs.Cmp.Lexicographic.{pointwise}
-use Rattle.std.specs.List.{flat_map, filter_map, range_with_len, position, position_or_len, AllPairs, list_any, list_all, cons_option, AllZip}
-use Rattle.std.specs.Option.{option_map, IsSome}
+use Rattle.std.specs.List.{flat_map, filter_map, range_with_len, position, position_or_len, AllPairs, list_any, list_all, AllZip}
+use Rattle.std.specs.Option.{IsSome}
 use Rattle.std.specs.Prelude.{nat_lt, ◌||◌, ◌==◌, cond, is_some, not, codes, ◌&&◌, IsTrue, max}
 use Rattle.std.specs.Str.{bytes_eq}
 use Rattle.std.proofs.lemmas.Bool.{cond_both, lt-ltb, ltb-true, eqb-true, eqb-false, both_ways, or_left, eq-eqb, cases_Bool, and_from, and_parts, cases_lt}
@@ -19,7 +19,7 @@ use Rattle.std.proofs.lemmas.Simd.{map-map}
 use Rattle.std.proofs.lemmas.Slice.Eq.{bytes_eq-Decides}
 use Rattle.hz_model.specs.Alternatives.{Alternative, idle, followed_by, beside, taking, Expression, alternatives_of}
 use Rattle.hz_model.specs.Automata.{cut, ascending, is_of, inside, without_repeats, same_pair, UnitPlace, list_in}
-use Rattle.hz_model.specs.CheckFaults.{same_home, home, strangers, names_of_set, units_of_patterns, has_too_long, reserving_class, classes_of, reservations_of, Reserving, names_in, is_unit, is_reservable, unknown_in_expression, unknown_in_condition, is_class, names_of_bypass, has_too_many, Known, Told, Standing, CheckFault, IsSound, first_told, told_at, faults_of_names, faults_of_meanings, automaton_sites, unit_sites, reservation_sites, class_sites, attribute_sites, repeated_values, past_units, differs, renumbered, renumbered_behind, sites_of}
+use Rattle.hz_model.specs.CheckFaults.{names_of_set, has_too_long, reserving_class, classes_of, reservations_of, Reserving, names_in, is_unit, is_reservable, unknown_in_expression, unknown_in_condition, is_class, names_of_bypass, has_too_many, Known, Told, Standing, CheckFault, IsSound, first_told, told_at, faults_of_names, faults_of_meanings, automaton_sites, unit_sites, reservation_sites, class_sites, attribute_sites, repeated_values, past_units, differs, renumbered, renumbered_behind, sites_of}
 use Rattle.hz_model.specs.CheckedParts.{statements_in, class_numbers, AutomatonParts, ClassParts, BypassParts, automaton_names, automaton_count, units_in, automaton_parts, automata_from, automata_of, lists_of, class_parts, bypass_parts, attributes_of}
 use Rattle.hz_model.specs.CheckedShape.{IsKept}
 use Rattle.hz_model.specs.DescriptionShape.{IsCheckableReservation, IsCheckable, IsCheckableClass, IsCheckableBypass}

@@ -17,7 +17,7 @@ use Rattle.hz_model.specs.Automata.{UnitPlace, ascending, cut, inside, is_of, li
 use Rattle.hz_model.specs.Sets.{Statement, Holds, HoldsSome, HoldsPattern, AllowsIn, Fits}
 use Rattle.hz_model.specs.Machines.{unit_numbers, inside_statement, are_inside, is_inside, of_pairs, class_in, restricted, IsStatementOf, IsOf}
 use Rattle.hz_model.specs.Replay.{Class, Machine, Event, issue, advance, State, start, Step, Plays, FitsAt, MayTake, Accepted, FirstRefused, alternatives_at, of_class, chosen, pairs_at, first_fit}
-use Rattle.hz_model.proofs.Elements.{Contains-nil, Contains-head, Contains-tail, Contains-map, Contains-from_map, Contains-filter, Contains-from_filter}
+use Rattle.hz_model.proofs.Elements.{Contains-nil, Contains-head, Contains-map, Contains-from_map, Contains-filter, Contains-from_filter}
 use Rattle.hz_model.proofs.AscendingLaws.{same_ascending}
 use Rattle.hz_model.proofs.FirstPlaces.{numbered, number_behind, in_front, front_number, before_map, still_first, was_first}
 use Rattle.hz_model.proofs.ReplayLaws.{runs_from_accepted, accepted_from_runs}

@@ -16,7 +16,7 @@ use Rattle.hz_sexp.specs.Faults.{Tells}
 use Rattle.hz_sexp.proofs.Parts.{tells_weaker}
 use Rattle.hz_sexp.specs.Kinds.{bracket_of}
 use Rattle.hz_sexp.specs.Shape.{tree, trees}
-use Rattle.hz_sexp.specs.State.{frame_of, frames_in, frames_of, opened_in, token_of, Takes, IsRefused, IsSimple, IsOpen}
+use Rattle.hz_sexp.specs.State.{frame_of, frames_in, frames_of, opened_in, token_of, Takes, IsRefused, IsOpen}
 
 pub frames_in-push : (outer : List code.Frame) (inner : code.Frame) → frames_in (outer ++ inner ∷ []) ≡ frame_of inner ∷ frames_in outer
 frames_in-push outer inner = rw reverse-append refl

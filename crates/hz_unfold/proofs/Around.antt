@@ -1,6 +1,6 @@
 -- Which nodes lead to themselves, by an order that a walk has left them in.
-use Rattle.std.proofs.Common.{◌≡◌, ◌↔◌, ℕ, zero, suc, ◌+◌, ◌<◌, ◌≤◌, ◌⊎◌, inl, inr, ⊎_elim, Bool, true, false, List, [], ◌∷◌, ◌++◌, length, get_or, set, replicate, Contains, Option, Some, None, refl, sym, ap, ◌∙◌, subst, arith, slice_get, get_or-set_same, get_or-set_other, length-set}
-use Rattle.std.proofs.lemmas.Bool.{cases_eq, cases_lt, cases_Bool}
+use Rattle.std.proofs.Common.{◌≡◌, ℕ, zero, suc, ◌<◌, ◌≤◌, ◌⊎◌, inl, inr, ⊎_elim, Bool, true, false, List, [], ◌∷◌, ◌++◌, length, get_or, set, replicate, Contains, Option, Some, None, refl, sym, ap, ◌∙◌, subst, arith, get_or-set_same, get_or-set_other, length-set}
+use Rattle.std.proofs.lemmas.Bool.{cases_eq, cases_lt}
 use Rattle.std.proofs.lemmas.List.{get_or_past, get_or-replicate, length-replicate}
 use Rattle.hz_model.proofs.Elements.{Contains-nil, Contains-head, Contains-tail, Contains-cons_cases}
 use Rattle.hz_unfold.specs.declared.circle.Lead.{Lead}
@@ -9,7 +9,7 @@ use Rattle.hz_unfold.specs.Circles.{Knowledge, IsTurned, IsFirstWith, lead_of, l
 use Rattle.hz_unfold.specs.Graphs.{At, IsOnce, Path, last, onward, Spans, AreInside, ends_in}
 use Rattle.hz_unfold.proofs.Finding.{lead_cases}
 use Rattle.hz_unfold.proofs.Paths.{path_join, path_push}
-use Rattle.hz_unfold.proofs.Places.{At_from_Contains, Contains-from_At, At_within}
+use Rattle.hz_unfold.proofs.Places.{At_from_Contains, Contains-from_At}
 
 -- A node that leads to one that does not stand before it leads to itself.
 module _ (edges : ℕ → List ℕ) (order : List ℕ) (once : IsOnce order) (spans : Spans edges order) (start p : ℕ) (at : At order p start) where

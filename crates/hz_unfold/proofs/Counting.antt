@@ -1,20 +1,20 @@
 -- A walk through the graph of a description is its counting order.
-use Rattle.std.proofs.Common.{◌≡◌, ◌≢◌, ℕ, zero, suc, ◌+◌, ◌-◌, ◌<◌, ◌≤◌, ◌⊎◌, inl, inr, ⊎_elim, Bool, true, false, not, ◌&&◌, cond, List, [], ◌∷◌, ◌++◌, length, map, Contains, Option, Some, None, refl, sym, ap, ◌∙◌, subst, arith, slice_get}
-use Rattle.std.proofs.lemmas.Bool.{cases_Bool, cases_lt, false_from_ne_true}
-use Rattle.std.proofs.lemmas.List.{append_assoc, length-map, map-append, same_from_push}
-use Rattle.std.proofs.lemmas.List.Elements.{Contains-append_left, Contains-append_right, Contains-append_cases, Contains-push_cases}
+use Rattle.std.proofs.Common.{◌≡◌, ℕ, ◌<◌, ◌≤◌, ⊎_elim, Bool, true, false, cond, List, [], ◌∷◌, ◌++◌, Contains, Some, refl, sym, ap, ◌∙◌, subst, arith, slice_get}
+use Rattle.std.proofs.lemmas.Bool.{cases_lt, false_from_ne_true}
+use Rattle.std.proofs.lemmas.List.{length-map, map-append, same_from_push}
+use Rattle.std.proofs.lemmas.List.Elements.{Contains-append_cases, Contains-push_cases}
 use Rattle.std.proofs.lemmas.Option.{slice_get-map}
 use Rattle.std.specs.Option.{option_map}
 use Rattle.hz_model.proofs.Elements.{Contains-nil, Contains-head, Contains-tail, Contains-cons_cases}
 use Rattle.hz_model.specs.CheckFaults.{Reserving, reserving_reservation, reserving_class, reservations_of, classes_of, named_by, has_come, reservation_names, Counted, IsCountingOrder}
 use Rattle.hz_model.specs.CheckFaults as model
-use Rattle.hz_model.specs.Descriptions.{Description, ReservationItem, ClassItem}
+use Rattle.hz_model.specs.Descriptions.{Description, ReservationItem}
 use Rattle.hz_model.specs.Sites.{is_among}
-use Rattle.hz_unfold.specs.Graphs.{At, IsOnce, Visited, ends, came, comes, ends_in}
-use Rattle.hz_unfold.specs.Orders.{all_of, nothing_reserved, reserving, reservings, number_of, numbers_in, Numbered, graph_of, IsOrder}
+use Rattle.hz_unfold.specs.Graphs.{At, IsOnce, Visited, ends, came, comes}
+use Rattle.hz_unfold.specs.Orders.{nothing_reserved, reserving, reservings, Numbered, IsOrder}
 use Rattle.hz_unfold.proofs.DescriptionNodes.{first_count, all_count, counts, reserving_first, reserving_second, reservation_at, class_at, named_by_numbers, edges, edges_at, edges_root, edge_small, file_small, in_file}
 use Rattle.hz_unfold.proofs.Files.{IsOnceFrom, none, one, Stand, stand_all, file_once, file_merged}
-use Rattle.hz_unfold.proofs.NameFacts.{AreApart, AreNamed, reservation_names_of, among_from_Contains, Contains-from_among}
+use Rattle.hz_unfold.proofs.NameFacts.{AreApart, reservation_names_of, among_from_Contains, Contains-from_among}
 use Rattle.hz_unfold.proofs.Places.{At-append, Contains-from_At}
 use Rattle.hz_unfold.proofs.Visits.{visited_all, visited_each, visited_ready, visited_root}
 

@@ -1,5 +1,5 @@
 -- The graph that the code makes of a description.
-use Rattle.std.proofs.Common.{◌≡◌, ℕ, List, [], ◌∷◌, ◌++◌, length, map, Option, Some, None, refl, sym, ap, ◌∙◌, subst}
+use Rattle.std.proofs.Common.{◌≡◌, ℕ, List, [], ◌∷◌, ◌++◌, length, map, Option, refl, sym, ap, ◌∙◌, subst}
 use Rattle.std.specs.List.{filter_map, cons_option}
 use Rattle.std.proofs.lemmas.List.{length-map, map-append}
 use Rattle.hz_mdread.specs.declared.items.ClassItem.{ClassItem}
@@ -8,7 +8,7 @@ use Rattle.hz_mdread.specs.Shape.{class_item, reservation_item}
 use Rattle.hz_model.specs.CheckFaults.{Reserving, names_in, reserving_reservation, reserving_class, reservations_of, classes_of}
 use Rattle.hz_model.specs.Descriptions.{Description}
 use Rattle.hz_regexp.specs.Shape.{expression}
-use Rattle.hz_unfold.specs.Orders.{Numbered, number_of, numbers_in, all_of, reservings_of, class_reservings_of, graph_of, IsGraph}
+use Rattle.hz_unfold.specs.Orders.{Numbered, number_of, numbers_in, reservings_of, class_reservings_of, IsGraph}
 
 pub map-map : {A B C : Type 0} (f : B → C) (g : A → B) (xs : List A) → map f (map g xs) ≡ map (λ x. f (g x)) xs
 map-map f g [] = refl

@@ -1,25 +1,23 @@
 -- The nodes of a description's graph and their edges, as reservations, classes and names.
-use Rattle.std.proofs.Common.{◌≡◌, ◌≢◌, ℕ, zero, suc, ◌+◌, ◌-◌, ◌<◌, ◌≤◌, ◌⊎◌, inl, inr, ⊎_elim, Bool, true, false, List, [], ◌∷◌, ◌++◌, length, get_or, map, Contains, Option, Some, None, refl, sym, ap, ◌∙◌, subst, arith, slice_get}
-use Rattle.std.specs.List.{filter_map, list_any}
+use Rattle.std.proofs.Common.{◌≡◌, ℕ, zero, suc, ◌+◌, ◌-◌, ◌<◌, ◌≤◌, ⊎_elim, false, List, [], ◌∷◌, length, map, Contains, Option, Some, None, refl, sym, ap, ◌∙◌, subst, arith, slice_get}
+use Rattle.std.specs.List.{list_any}
 use Rattle.std.specs.Option.{is_some, option_map}
 use Rattle.std.specs.Str.{bytes_eq}
 use Rattle.std.proofs.lemmas.Bool.{cases_lt}
 use Rattle.std.proofs.lemmas.List.{get_or_at, get_or_append_left, get_or-append_right, get_or-map, get_or_past, length-append, length-map}
-use Rattle.std.proofs.lemmas.Option.{slice_get_within, slice_get-get_or, get_or_from_slice_get, slice_get-map}
-use Rattle.hz_model.proofs.Elements.{Contains-nil, Contains-head, Contains-cons_cases}
+use Rattle.std.proofs.lemmas.Option.{slice_get_within, get_or_from_slice_get, slice_get-map}
+use Rattle.hz_model.proofs.Elements.{Contains-nil}
 use Rattle.hz_model.proofs.MachineLaws.{from_filter_map}
 use Rattle.hz_model.specs.Alternatives.{Expression}
 use Rattle.hz_model.specs.CheckFaults.{Reserving, reserving_reservation, reserving_class, reservations_of, classes_of, names_in, named_by}
 use Rattle.hz_model.specs.Descriptions.{Description, ReservationItem, ClassItem}
-use Rattle.hz_model.specs.Lines.{place_of}
 use Rattle.hz_model.specs.Machines.{reservation_named}
 use Rattle.hz_unfold.specs.Graphs.{AreInside, ends_in}
 use Rattle.hz_unfold.specs.Orders.{all_of, nothing_reserved, reserving, reservings, number_of, numbers_in, Numbered, graph_of}
 use Rattle.hz_unfold.proofs.ByName.{at_place, at_none, map-filter_map}
 use Rattle.hz_unfold.proofs.DescriptionGraph.{filter_map_agree}
 use Rattle.hz_unfold.proofs.Files.{file_number, file_first, file_second}
-use Rattle.hz_unfold.proofs.FirstNames.{place_from_zero}
-use Rattle.hz_unfold.proofs.NameFacts.{AreApart, reservation_names_of, among_any, place_at, place_apart}
+use Rattle.hz_unfold.proofs.NameFacts.{reservation_names_of, among_any, place_at}
 
 module _ (d : Description) where
   -- so many reservations, and so many of both

@@ -1,14 +1,12 @@
 -- What finding nodes keeps, and that it ends.
-use Rattle.std.proofs.Common.{◌≡◌, ◌≢◌, ℕ, zero, suc, ◌+◌, ◌<◌, ◌≤◌, ◌⊎◌, inl, inr, ⊎_elim, Bool, true, false, List, [], ◌∷◌, ◌++◌, length, set, Contains, refl, sym, ap, ◌∙◌, subst, arith, get_or-set_same, get_or-set_other, length-set}
-use Rattle.std.proofs.lemmas.Bool.{cases_eq, cases_lt}
-use Rattle.std.proofs.lemmas.List.{get_or_past, length_push}
-use Rattle.std.proofs.lemmas.List.Elements.{Contains-append_left, Contains-append_right, Contains-push, Contains-push_cases}
+use Rattle.std.proofs.Common.{◌≡◌, ◌≢◌, ℕ, zero, suc, ◌+◌, ◌<◌, ◌⊎◌, inl, inr, ⊎_elim, Bool, true, false, List, [], ◌∷◌, ◌++◌, length, set, Contains, refl, sym, ap, ◌∙◌, subst, arith, get_or-set_same, get_or-set_other, length-set}
+use Rattle.std.proofs.lemmas.Bool.{cases_eq}
+use Rattle.std.proofs.lemmas.List.{length_push}
+use Rattle.std.proofs.lemmas.List.Elements.{Contains-append_left, Contains-push, Contains-push_cases}
 use Rattle.hz_model.proofs.Elements.{Contains-nil, Contains-head, Contains-tail, Contains-cons_cases}
 use Rattle.hz_unfold.specs.declared.circle.Lead.{Lead}
 use Rattle.hz_unfold.specs.declared.circle.Lead.TheVariants.{Nowhere, Straight, Around}
-use Rattle.hz_unfold.specs.Circles.{Knowledge, lead_of, lead_now, is_taken, found_by, found, all_found, IsReady, Takes}
-use Rattle.hz_unfold.specs.Graphs.{Path, last, onward}
-use Rattle.hz_unfold.proofs.Paths.{path_join, path_push}
+use Rattle.hz_unfold.specs.Circles.{Knowledge, lead_of, lead_now, is_taken, found_by, found, all_found}
 
 -- how many nodes lead nowhere
 pub nowhere_count : List Lead → ℕ

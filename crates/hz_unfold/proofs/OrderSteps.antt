@@ -1,20 +1,20 @@
 -- From the graph of a description and a walk through it to the counting order, or to the first reservation on a circle.
-use Rattle.std.proofs.Common.{◌≡◌, ◌↔◌, ℕ, ◌+◌, ◌-◌, ◌<◌, ◌≤◌, ◌⊎◌, inl, inr, ⊎_elim, Bool, true, false, List, [], ◌∷◌, ◌++◌, length, take, Contains, Option, Some, None, refl, sym, ap, ◌∙◌, subst, arith, slice_get}
+use Rattle.std.proofs.Common.{◌≡◌, ◌↔◌, ℕ, ◌+◌, ◌-◌, ◌<◌, ◌≤◌, ⊎_elim, Bool, true, false, List, [], ◌∷◌, ◌++◌, length, take, Contains, Some, None, refl, sym, ap, ◌∙◌, subst, arith, slice_get}
 use Rattle.std.specs.Prelude.{IsSomeAnd}
 use Rattle.std.specs.declared.alloc.Global.{Global}
 use Rattle.std.specs.declared.vec.Vec.{Vec}
 use Rattle.std.proofs.lemmas.Bool.{cases_lt}
 use Rattle.std.proofs.lemmas.List.{take_at, length_push}
-use Rattle.hz_model.specs.CheckFaults.{reservations_of, classes_of, IsCircular, IsFirst}
+use Rattle.hz_model.specs.CheckFaults.{IsCircular, IsFirst}
 use Rattle.hz_model.specs.Descriptions.{Description}
 use Rattle.hz_unfold.specs.Circles.{IsFirstWith}
 use Rattle.hz_unfold.specs.Graphs.{AreInside, ends_in, Path, Visited, IsWalk}
-use Rattle.hz_unfold.specs.Orders.{all_of, graph_of, IsGraph, IsOrder}
+use Rattle.hz_unfold.specs.Orders.{IsGraph, IsOrder}
 use Rattle.hz_unfold.specs.Walks.{lists_of}
 use Rattle.hz_unfold.proofs.Counting.{order_is}
-use Rattle.hz_unfold.proofs.DescriptionNodes.{first_count, all_count, counts, edges, edges_root, graph_count, graph_inside, in_file}
+use Rattle.hz_unfold.proofs.DescriptionNodes.{first_count, all_count, edges, edges_root, graph_count, graph_inside, in_file}
 use Rattle.hz_unfold.proofs.Lists.{length-lists_of}
-use Rattle.hz_unfold.proofs.NameFacts.{AreNamed, AreApart}
+use Rattle.hz_unfold.proofs.NameFacts.{AreNamed}
 use Rattle.hz_unfold.proofs.Places.{At_from_Contains, Contains-from_At}
 use Rattle.hz_unfold.proofs.Reaching.{first_circular, some_circular}
 use Rattle.hz_unfold.proofs.Visits.{visited_root}

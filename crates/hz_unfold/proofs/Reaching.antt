@@ -1,10 +1,8 @@
 -- Paths through the graph of a description are those by which its names lead to others.
-use Rattle.std.proofs.Common.{◌≡◌, ◌≢◌, ℕ, zero, suc, ◌+◌, ◌<◌, ◌≤◌, ◌⊎◌, inl, inr, ⊎_elim, Bool, true, false, cond, List, [], ◌∷◌, ◌++◌, length, take, drop, map, Contains, Option, Some, None, refl, sym, ap, ◌∙◌, subst, arith, slice_get, get_or, eqb}
-use Rattle.std.specs.Prelude.{All, IsSomeAnd}
-use Rattle.std.specs.List.{list_any}
-use Rattle.std.specs.Option.{is_some, option_map}
-use Rattle.std.specs.Str.{bytes_eq}
-use Rattle.std.proofs.lemmas.Bool.{cases_Bool, cases_lt, eq-eqb, ne_eqb, false_from_ne_true}
+use Rattle.std.proofs.Common.{◌≡◌, ℕ, zero, suc, ◌+◌, ◌<◌, ◌≤◌, ◌⊎◌, inl, inr, ⊎_elim, Bool, cond, List, [], ◌∷◌, ◌++◌, take, drop, Contains, Option, Some, None, refl, sym, ap, ◌∙◌, subst, arith, slice_get, get_or, eqb}
+use Rattle.std.specs.Prelude.{IsSomeAnd}
+use Rattle.std.specs.Option.{is_some}
+use Rattle.std.proofs.lemmas.Bool.{cases_lt, eq-eqb, ne_eqb, false_from_ne_true}
 use Rattle.std.proofs.lemmas.List.{drop_more, get_or_past, get_or-take, length-take-le, take-append-drop}
 use Rattle.std.proofs.lemmas.Option.{slice_get_within, slice_get-get_or, get_or_from_slice_get}
 use Rattle.hz_model.proofs.Elements.{Contains-nil}
@@ -13,17 +11,17 @@ use Rattle.hz_model.proofs.MentionLaws.{listed_from_mentions, mentions_from_list
 use Rattle.hz_model.specs.Alternatives.{Expression}
 use Rattle.hz_model.specs.Automata.{UnitPlace}
 use Rattle.hz_model.specs.CheckFaults.{Reserving, reservations_of, classes_of, names_in, IsCircular, IsFirst}
-use Rattle.hz_model.specs.Descriptions.{Description, UnitItem, ReservationItem}
+use Rattle.hz_model.specs.Descriptions.{Description, ReservationItem}
 use Rattle.hz_model.specs.Machines.{meaning, unit_or_reservation, unit_place, unit_places, reservation_named}
-use Rattle.hz_model.specs.Meanings.{Meaning, unit, reservation, Mentions, Reaches, mentions, through, Unwinds}
+use Rattle.hz_model.specs.Meanings.{reservation, Mentions, Reaches, mentions, through, Unwinds}
 use Rattle.hz_model.specs.Sites.{is_among}
 use Rattle.hz_unfold.specs.Circles.{IsFirstWith}
 use Rattle.hz_unfold.specs.Graphs.{At, IsOnce, Path, last, onward}
-use Rattle.hz_unfold.specs.Orders.{all_of, reserving, number_of, numbers_in, Numbered, graph_of, IsOrder}
+use Rattle.hz_unfold.specs.Orders.{reserving, number_of, numbers_in, Numbered, graph_of, IsOrder}
 use Rattle.hz_unfold.proofs.ByName.{at_place, at_none, Contains-filter_map}
 use Rattle.hz_unfold.proofs.Counting.{name_at}
-use Rattle.hz_unfold.proofs.DescriptionNodes.{first_count, all_count, counts, reserving_first, reservation_at, numbered_item, number_small, edges, edges_at, edges_root, edge_small, file_small, graph_count}
-use Rattle.hz_unfold.proofs.NameFacts.{AreApart, AreNamed, reservation_names_of, unit_names_of, among_any, among_from_Contains, Contains-from_among, place_apart}
+use Rattle.hz_unfold.proofs.DescriptionNodes.{first_count, all_count, counts, reserving_first, reservation_at, numbered_item, edges, edges_at, edges_root, edge_small, file_small, graph_count}
+use Rattle.hz_unfold.proofs.NameFacts.{AreNamed, reservation_names_of, unit_names_of, among_any, Contains-from_among, place_apart}
 use Rattle.hz_unfold.proofs.Paths.{path_join}
 use Rattle.hz_unfold.proofs.Places.{At_from_Contains}
 

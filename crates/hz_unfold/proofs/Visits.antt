@@ -1,11 +1,9 @@
 -- What a walk that meets no circle has left, and when.
-use Rattle.std.proofs.Common.{◌≡◌, ◌≢◌, ℕ, zero, suc, ◌+◌, ◌-◌, ◌<◌, ◌≤◌, ◌⊎◌, inl, inr, ⊎_elim, List, [], ◌∷◌, ◌++◌, length, Contains, Some, refl, sym, ap, ◌∙◌, subst, arith, slice_get}
-use Rattle.std.proofs.lemmas.Bool.{cases_lt}
-use Rattle.std.proofs.lemmas.List.{append_assoc, length-append}
-use Rattle.std.proofs.lemmas.List.Elements.{Contains-append_left, Contains-append_right, Contains-append_cases, Contains-push, Contains-push_cases}
+use Rattle.std.proofs.Common.{◌≡◌, ℕ, zero, suc, ◌+◌, ◌<◌, ◌⊎◌, inl, inr, ⊎_elim, List, [], ◌∷◌, ◌++◌, length, Contains, Some, refl, sym, ap, subst, arith}
+use Rattle.std.proofs.lemmas.List.Elements.{Contains-append_left, Contains-append_right, Contains-append_cases, Contains-push_cases}
 use Rattle.hz_model.proofs.Elements.{Contains-nil, Contains-head, Contains-tail, Contains-cons_cases}
 use Rattle.hz_unfold.specs.Graphs.{At, Visited, ends, came, comes}
-use Rattle.hz_unfold.proofs.Places.{At_within, Contains-from_At, At_from_Contains, At-append}
+use Rattle.hz_unfold.proofs.Places.{At_within, At_from_Contains, At-append}
 
 -- a place in joined lists
 pub At-append_cases : (xs ys : List ℕ) (i x : ℕ) → At (xs ++ ys) i x → At xs i x ⊎ ((j : ℕ) × (i ≡ length xs + j) × At ys j x)

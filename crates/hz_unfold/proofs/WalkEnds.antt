@@ -1,10 +1,10 @@
 -- A walk ends: with each step less is left to do.
-use Rattle.std.proofs.Common.{◌≡◌, ℕ, zero, suc, ◌+◌, ◌-◌, ◌<◌, ◌≤◌, List, [], ◌∷◌, ◌++◌, length, set, slice_get, Option, Some, None, refl, sym, ap, ◌∙◌, subst, arith}
+use Rattle.std.proofs.Common.{◌≡◌, ℕ, zero, suc, ◌+◌, ◌-◌, ◌<◌, List, [], ◌∷◌, length, set, slice_get, Option, Some, None, refl, ap, arith}
 use Rattle.hz_unfold.specs.declared.walk.Frame.{Frame}
 use Rattle.hz_unfold.specs.declared.walk.Mark.{Mark}
 use Rattle.hz_unfold.specs.declared.walk.Mark.TheVariants.{New, Open, Done}
 use Rattle.hz_unfold.specs.Graphs.{ends_in, AreInside}
-use Rattle.hz_unfold.specs.Walks.{State, mark_of, entered, looked, passed, left, stepped, gone_on}
+use Rattle.hz_unfold.specs.Walks.{State, mark_of, looked, passed, left, stepped, gone_on}
 use Rattle.hz_unfold.proofs.Walking.{place_within}
 
 -- what a node of so many edges may still cost

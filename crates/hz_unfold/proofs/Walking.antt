@@ -1,17 +1,17 @@
 -- What a walk keeps true.
-use Rattle.std.proofs.Common.{◌≡◌, ◌≢◌, ℕ, zero, suc, ◌+◌, ◌<◌, ◌≤◌, ◌⊎◌, inl, inr, ⊎_elim, Bool, true, false, List, [], ◌∷◌, ◌++◌, length, map, take, drop, set, get_or, replicate, Contains, Option, Some, None, slice_get, refl, sym, ap, ◌∙◌, subst, arith, append_assoc, get_or-set_same, get_or-set_other, length-set}
+use Rattle.std.proofs.Common.{◌≡◌, ◌≢◌, ℕ, ◌+◌, ◌<◌, ◌≤◌, ◌⊎◌, inl, inr, ⊎_elim, Bool, true, false, List, [], ◌∷◌, ◌++◌, length, map, take, drop, set, get_or, replicate, Contains, Option, Some, None, slice_get, refl, sym, ap, ◌∙◌, subst, arith, append_assoc, get_or-set_same, get_or-set_other, length-set}
 use Rattle.std.proofs.lemmas.Bool.{cases_eq, cases_lt}
 use Rattle.std.proofs.lemmas.List.{append-nil, length-replicate, get_or_past, get_or-replicate, take_more, drop_more, take_all, drop_all}
-use Rattle.std.proofs.lemmas.List.Elements.{Contains-append_left, Contains-append_right, Contains-append_cases, Contains-push, Contains-push_cases, Contains-get_or}
+use Rattle.std.proofs.lemmas.List.Elements.{Contains-append_left, Contains-push, Contains-push_cases}
 use Rattle.std.proofs.lemmas.Option.{slice_get_within, get_or_from_slice_get, slice_get-get_or}
 use Rattle.hz_model.proofs.Elements.{Contains-nil, Contains-head, Contains-tail, Contains-cons_cases}
 use Rattle.hz_unfold.specs.declared.walk.Frame.{Frame}
 use Rattle.hz_unfold.specs.declared.walk.Mark.{Mark}
 use Rattle.hz_unfold.specs.declared.walk.Mark.TheVariants.{New, Open, Done}
-use Rattle.hz_unfold.specs.Graphs.{At, IsOnce, Path, last, onward, Visited, ends, came, comes, Spans, IsWalk, AreInside, ends_in}
+use Rattle.hz_unfold.specs.Graphs.{At, IsOnce, Path, last, Visited, ends, came, comes, IsWalk, AreInside, ends_in}
 use Rattle.hz_unfold.specs.Walks.{State, mark_of, entered, looked, passed, left, begun, stepped, gone_on}
-use Rattle.hz_unfold.proofs.Places.{At_within, Contains-from_At, At_from_Contains, At-append, At-last, At-push_cases, once_nil, once_push}
-use Rattle.hz_unfold.proofs.Paths.{path_join, path_push}
+use Rattle.hz_unfold.proofs.Places.{At_within, At_from_Contains, At-append, At-last, At-push_cases, once_nil, once_push}
+use Rattle.hz_unfold.proofs.Paths.{path_push}
 
 -- the nodes of frames
 abbrev pub nodes_of : List Frame → List ℕ

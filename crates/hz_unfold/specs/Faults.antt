@@ -1,5 +1,5 @@
 -- What is told of a description that has no counting order.
-use Rattle.std.specs.Prelude.{⊤, ℕ, slice_get, IsSomeAnd}
+use Rattle.std.specs.Prelude.{⊤, slice_get, IsSomeAnd}
 use Rattle.hz_model.specs.CheckFaults.{IsCircular, IsFirst}
 use Rattle.hz_model.specs.Descriptions.{Description}
 use Rattle.hz_unfold.specs.declared.fault.OrderFault.{OrderFault}

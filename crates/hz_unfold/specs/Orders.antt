@@ -1,6 +1,6 @@
 -- The order in which the reservations and classes of a description count, by numbers: each reservation has its place among
 -- the reservations, and each class its place among the classes behind all reservations.
-use Rattle.std.specs.Prelude.{◌≡◌, ℕ, ◌+◌, ◌<◌, ◌≤◌, Bool, true, false, List, [], ◌∷◌, ◌++◌, length, map, filter, nat_le, nat_lt, slice_index_or, IsTrue, IsFalse, Option, Some, None}
+use Rattle.std.specs.Prelude.{◌≡◌, ℕ, ◌+◌, ◌<◌, Bool, true, false, List, [], ◌∷◌, ◌++◌, length, map, nat_lt, slice_index_or, IsTrue, IsFalse, Option, Some, None}
 use Rattle.std.specs.List.{Contains, filter_map}
 use Rattle.hz_model.specs.Alternatives.{Expression}
 use Rattle.hz_model.specs.Alternatives as expression

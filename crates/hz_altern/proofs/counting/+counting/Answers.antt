@@ -1,4 +1,4 @@
-use Rattle.std.proofs.Common.{◌≡◌, ◌<◌, ◌/◌, length, rules, arith, IsTrue, sym, ap, ◌∙◌, take, drop}
+use Rattle.std.proofs.Common.{◌≡◌, ◌/◌, length, rules, arith, IsTrue, sym, ap, ◌∙◌, take, drop}
 use Rattle.hz_altern.specs.Extents.{told}
 use Rattle.hz_altern.specs.Joinings.{joined_parts}
 use Rattle.hz_model.specs.AlternativeLists.{Extent, extent_of}

@@ -1,9 +1,6 @@
-use Rattle.std.proofs.Common.{◌≡◌, ◌≤◌, sym, ap, ◌∙◌, subst, rules}
-use Rattle.std.specs.Prelude.{IfOk, IfErr}
+use Rattle.std.proofs.Common.{◌∙◌, rules}
 use Rattle.std.proofs.lemmas.Result.{err_from_is_err_and}
-use Rattle.hz_altern.specs.Answers.{Refuses}
 use Rattle.hz_altern.proofs.ListedLemmas.{copies_single, copies_halved}
-use Rattle.hz_model.specs.Alternatives.{copies}
 use Rattle.hz_altern.proofs.expanding.+copies.Goals as goal
 
 pub returns-then-times-eq1-clause-ok : goal.returns-then-times-eq1-clause-ok

@@ -1,8 +1,7 @@
-use Rattle.std.proofs.Common.{◌≡◌, ◌+◌, ◌<◌, ◌≤◌, length, map, Some, All, sym, ap, ◌∙◌, subst, arith, rules}
-use Rattle.std.specs.Prelude.{IsTrue, IfOk, IfErr}
+use Rattle.std.proofs.Common.{◌≡◌, ◌+◌, ◌≤◌, map, Some, All, sym, ap, ◌∙◌, subst, rules}
+use Rattle.std.specs.Prelude.{IsTrue}
 use Rattle.std.proofs.lemmas.Result.{err_from_is_err_and}
 use Rattle.hz_regexp.specs.Shape.{expression}
-use Rattle.hz_altern.specs.Answers.{Refuses}
 use Rattle.hz_altern.specs.Joinings.{IsListed}
 use Rattle.hz_altern.specs.Shapes.{alternatives}
 use Rattle.hz_altern.specs.Tables.{alternatives_in, known_alternatives, is_held}

@@ -1,4 +1,4 @@
-use Rattle.std.proofs.Common.{◌≡◌, ◌<◌, map, filter, sym, ◌∙◌}
+use Rattle.std.proofs.Common.{◌≡◌, ◌<◌, map, filter}
 use Rattle.hz_altern.specs.Cuts.{within_pairs}
 use Rattle.hz_altern.specs.Shapes.{pairs_of}
 use Rattle.hz_altern.proofs.CutLemmas.{cut_is_grid, each_found, grid_is, pairs_are}

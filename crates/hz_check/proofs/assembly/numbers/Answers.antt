@@ -1,4 +1,4 @@
-use Rattle.std.proofs.Common.{◌<◌, All, length, map, arith, sym, ap, subst, ◌∙◌}
+use Rattle.std.proofs.Common.{◌<◌, All, length, arith, sym, subst, ◌∙◌}
 use Rattle.std.proofs.lemmas.List.{length-map}
 use Rattle.hz_mdread.specs.Shape.{description}
 use Rattle.hz_check.proofs.KnownNames.{numbers_below}

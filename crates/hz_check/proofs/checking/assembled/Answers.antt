@@ -2,13 +2,13 @@ use Rattle.std.proofs.Common.{◌≡◌, length, map, refl, sym, ap, ◌∙◌, 
 use Rattle.std.proofs.lemmas.List.{length-map}
 use Rattle.hz_altern.specs.Shapes.{alternatives}
 use Rattle.hz_mdread.specs.Shape.{description, class_item, attribute_item}
-use Rattle.hz_check.specs.Shape.{automaton_of, class_of}
+use Rattle.hz_check.specs.Shape.{automaton_of}
 use Rattle.hz_check.proofs.Next.{map-map}
 use Rattle.hz_check.proofs.PartSteps.{length-automata, kept_of}
 use Rattle.hz_model.proofs.KeptLaws.{parts_kept}
 use Rattle.hz_model.specs.Alternatives.{alternatives_of}
 use Rattle.hz_model.specs.Automata.{listed}
-use Rattle.hz_model.specs.CheckedParts.{automata_of, automaton_count, class_parts}
+use Rattle.hz_model.specs.CheckedParts.{automaton_count}
 use Rattle.hz_check.proofs.checking.assembled.Goals as goal
 
 pub checked_classes-requires-clause-few : goal.checked_classes-requires-clause-few
@@ -66,4 +66,3 @@ returns c =
       defaults = c.in_ok-attributes.ensures.defaults ∙ sym (map-map (λ a. (a.name, a.fallback)) attribute_item c.args.desc.attributes.items);
       options = refl;
     }
-

@@ -1,4 +1,4 @@
-use Rattle.std.proofs.Common.{sym, ap, ◌∙◌}
+use Rattle.std.proofs.Common.{ap, ◌∙◌}
 use Rattle.hz_mdread.specs.Shape.{description}
 use Rattle.hz_check.specs.ByName.{is_held}
 use Rattle.hz_check.specs.Names.{test_by}

@@ -1,4 +1,4 @@
-use Rattle.std.proofs.Common.{◌≡◌, Some, None, sym, ap, ◌∙◌, subst}
+use Rattle.std.proofs.Common.{sym, ap, ◌∙◌, subst}
 use Rattle.hz_mdread.specs.Shape.{description}
 use Rattle.hz_unfold.specs.Places.{site_of, told}
 use Rattle.hz_expand.specs.Answers.{Refuses}

@@ -1,6 +1,5 @@
 use Rattle.std.proofs.Common.{◌≡◌, List, map, sym, ap, ◌∙◌}
 use Rattle.hz_mdread.specs.Shape.{description, set_kind}
-use Rattle.hz_expand.specs.Shape.{place_of}
 use Rattle.hz_check.proofs.Next.{map-map}
 use Rattle.hz_model.specs.Machines.{places_of}
 use Rattle.hz_model.specs.Automata.{UnitPlace}

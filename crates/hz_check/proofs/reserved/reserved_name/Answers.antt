@@ -1,4 +1,4 @@
-use Rattle.std.proofs.Common.{◌==◌, filter, map, codes, sym, ap, ◌∙◌}
+use Rattle.std.proofs.Common.{filter, map, codes, sym, ap, ◌∙◌}
 use Rattle.std.specs.Str.{bytes_eq}
 use Rattle.hz_mdread.specs.Shape.{unit_item, reservation_item}
 use Rattle.hz_check.proofs.Earliest.{IsOf, joined}

@@ -1,7 +1,6 @@
-use Rattle.std.proofs.Common.{◌≡◌, ℕ, List, ◌<◌, ◌==◌, ◌++◌, ◌∷◌, [], Bool, true, filter, drop, get_or, ◌+◌, not, arith, sym, ap, ◌∙◌, append_assoc, All}
+use Rattle.std.proofs.Common.{◌<◌, ◌++◌, ◌∷◌, [], filter, drop, get_or, ◌+◌, arith, sym, ap, ◌∙◌, append_assoc}
 use Rattle.std.proofs.lemmas.Grind.{common_steps}
 use Rattle.std.proofs.lemmas.List.Elements.{All-push}
-use Rattle.std.specs.List.{list_any}
 use Rattle.hz_check.specs.Unknown.{first_of}
 use Rattle.hz_check.proofs.Next.{drop_number}
 use Rattle.hz_check.proofs.RowSteps.{stands_before}

@@ -1,4 +1,4 @@
-use Rattle.std.proofs.Common.{◌<◌, get_or, length, refl, arith}
+use Rattle.std.proofs.Common.{get_or, refl, arith}
 use Rattle.hz_check.proofs.RowSteps.{given_next, row_at}
 use Rattle.hz_check.proofs.rows.give_all.Goals as goal
 

@@ -1,13 +1,12 @@
-use Rattle.std.proofs.Common.{Some, filter, not, sym, ap, ◌∙◌}
+use Rattle.std.proofs.Common.{filter, not, sym, ap, ◌∙◌}
 use Rattle.std.specs.List.{flat_map}
 use Rattle.std.specs.Option.{option_copied}
 use Rattle.hz_mdread.specs.Shape.{description, set_item}
 use Rattle.hz_check.specs.Unknown.{first_of}
 use Rattle.hz_check.proofs.FirstOf.{found_in_both}
-use Rattle.hz_check.proofs.Homes.{strangers-of, no_strangers}
+use Rattle.hz_check.proofs.Homes.{strangers-of}
 use Rattle.hz_check.proofs.Next.{flat_map-map}
-use Rattle.hz_model.specs.CheckFaults.{home, same_home, sites_of, units_of_patterns, names_of_set}
-use Rattle.hz_model.specs.Sites.{earliest}
+use Rattle.hz_model.specs.CheckFaults.{home, same_home, units_of_patterns, names_of_set}
 use Rattle.hz_check.proofs.sets.stranger_of.Goals as goal
 
 pub returns : goal.returns

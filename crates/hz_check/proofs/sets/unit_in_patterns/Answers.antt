@@ -1,11 +1,9 @@
 use Rattle.std.proofs.Common.{filter, sym, ap, ◌∙◌}
 use Rattle.std.proofs.Math.Path.{fun_ext}
 use Rattle.std.specs.List.{flat_map}
-use Rattle.hz_mdread.specs.Shape.{set_item}
 use Rattle.hz_check.specs.ByName.{is_held}
 use Rattle.hz_check.specs.Unknown.{first_of}
 use Rattle.hz_check.proofs.Next.{flat_map-map}
-use Rattle.hz_model.specs.CheckFaults.{units_of_patterns}
 use Rattle.hz_model.specs.Sites.{is_among}
 use Rattle.hz_check.proofs.sets.unit_in_patterns.Goals as goal
 

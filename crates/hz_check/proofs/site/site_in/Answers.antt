@@ -1,7 +1,6 @@
-use Rattle.std.proofs.Common.{◌≡◌, sym, ap, ◌∙◌}
+use Rattle.std.proofs.Common.{sym, ap, ◌∙◌}
 use Rattle.std.specs.Option.{option_map, option_copied}
 use Rattle.hz_check.proofs.FirstOf.{earliest-sites_of}
-use Rattle.hz_model.specs.Sites.{Site}
 use Rattle.hz_check.proofs.site.site_in.Goals as goal
 
 pub returns-in-Some : goal.returns-in-Some

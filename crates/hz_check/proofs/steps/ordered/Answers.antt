@@ -1,5 +1,5 @@
-use Rattle.std.proofs.Common.{◌≡◌, Some, sym, ap, ◌∙◌, subst}
-use Rattle.hz_mdread.specs.Shape.{description, reservation_item}
+use Rattle.std.proofs.Common.{subst}
+use Rattle.hz_mdread.specs.Shape.{description}
 use Rattle.hz_unfold.specs.Places.{site_of}
 use Rattle.hz_unfold.specs.Faults.{TellsCircle}
 use Rattle.hz_check.proofs.CheckSteps.{circle_told}

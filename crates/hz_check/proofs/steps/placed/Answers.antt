@@ -1,7 +1,6 @@
-use Rattle.std.proofs.Common.{◌≡◌, Some, sym, ap, ◌∙◌, subst}
-use Rattle.std.specs.Prelude.{MatchResult, length}
-use Rattle.std.proofs.lemmas.List.{length-map}
-use Rattle.hz_mdread.specs.Shape.{description, automaton_item}
+use Rattle.std.proofs.Common.{sym, ap, ◌∙◌, subst}
+use Rattle.std.specs.Prelude.{MatchResult}
+use Rattle.hz_mdread.specs.Shape.{description}
 use Rattle.hz_unfold.specs.Places.{site_of, told}
 use Rattle.hz_check.specs.Units.{ArePlaces, IsPast}
 use Rattle.hz_check.proofs.CheckSteps.{meaning_told, skip, stop, few_automata}

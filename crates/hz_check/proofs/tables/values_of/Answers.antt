@@ -1,4 +1,4 @@
-use Rattle.std.proofs.Common.{◌≡◌, arith, sym, ap, ◌∙◌}
+use Rattle.std.proofs.Common.{sym, ap, ◌∙◌}
 use Rattle.hz_model.specs.Sites.{is_among}
 use Rattle.hz_check.proofs.TableSteps.{values_put, values_kept}
 use Rattle.hz_check.proofs.tables.values_of.Goals as goal

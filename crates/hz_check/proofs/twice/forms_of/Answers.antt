@@ -1,7 +1,5 @@
-use Rattle.std.proofs.Common.{◌≡◌, ◌||◌, map, drop, ◌+◌, sym, ap, subst, refl, ◌∙◌}
-use Rattle.hz_check.specs.Twice.{is_given}
+use Rattle.std.proofs.Common.{sym}
 use Rattle.hz_unfold.specs.Places.{site_of}
-use Rattle.hz_model.specs.Sites.{is_preceded}
 use Rattle.hz_check.proofs.Repeated.{given_put, given_kept}
 use Rattle.hz_check.proofs.twice.forms_of.Goals as goal
 use Rattle.hz_check.proofs.twice.forms_of.Goals.{then-not-is_given+in_ok-put, else-not-is_given}

@@ -1,4 +1,4 @@
-use Rattle.std.proofs.Common.{arith, sym, ap, ◌∙◌, Some, None, cond}
+use Rattle.std.proofs.Common.{arith, ap, ◌∙◌, Some, None, cond}
 use Rattle.hz_check.specs.ByName.{is_held}
 use Rattle.hz_unfold.specs.Places.{site_of, told}
 use Rattle.hz_check.specs.Twice.{is_given}

@@ -1,8 +1,8 @@
-use Rattle.std.proofs.Common.{◌≡◌, ℕ, List, arith, sym, ap, ◌∙◌, Some, None, cond, refl, [], ◌||◌}
+use Rattle.std.proofs.Common.{ℕ, List, arith, sym, ap, ◌∙◌, Some, None, cond, refl, []}
 use Rattle.std.proofs.Math.Bool.{or-false}
 use Rattle.std.proofs.lemmas.List.{drop_all}
 use Rattle.hz_check.specs.ByName.{is_held}
-use Rattle.hz_unfold.specs.Places.{site_of, told}
+use Rattle.hz_unfold.specs.Places.{told}
 use Rattle.hz_check.specs.Twice.{repeated_by}
 use Rattle.hz_model.specs.Sites.{Site, is_preceded, earlier, earliest}
 use Rattle.hz_model.specs.CheckFaults.{sites_of}

@@ -1,4 +1,4 @@
-use Rattle.std.proofs.Common.{◌≡◌, ◌≤◌, length, Some, sym, ap, ◌∙◌, arith}
+use Rattle.std.proofs.Common.{◌≤◌, length, Some, sym, ap, ◌∙◌, arith}
 use Rattle.std.specs.Str.{bytes_eq}
 use Rattle.hz_mdread.proofs.ConditionLemmas.{and_joined, ior_joined}
 use Rattle.hz_mdread.proofs.ConditionViews.{condition_and, condition_ior}

@@ -1,4 +1,4 @@
-use Rattle.std.proofs.Common.{◌≡◌, None, sym, ap, ◌∙◌, arith}
+use Rattle.std.proofs.Common.{sym, ap, ◌∙◌, arith}
 use Rattle.hz_model.specs.Descriptions.{no_options}
 use Rattle.hz_model.specs.DescriptionForms as model
 use Rattle.hz_mdread.specs.Shape.{options}

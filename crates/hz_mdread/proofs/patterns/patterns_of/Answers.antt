@@ -1,7 +1,7 @@
-use Rattle.std.proofs.Common.{◌≡◌, ℕ, ◌++◌, ◌∷◌, List, [], map, get_or, sym, ap, ◌∙◌, arith}
+use Rattle.std.proofs.Common.{ℕ, ◌∷◌, List, [], map, sym, ap, ◌∙◌, arith}
 use Rattle.std.specs.Borrow.{Bor}
 use Rattle.std.proofs.lemmas.List.{map-append}
-use Rattle.hz_mdread.proofs.PatternLemmas.{words_all, now_all, patterns_fail, pattern_more, patterns_kept}
+use Rattle.hz_mdread.proofs.PatternLemmas.{now_all, patterns_fail, pattern_more, patterns_kept}
 use Rattle.hz_mdread.proofs.patterns.patterns_of.Goals as goal
 use Rattle.hz_model.specs.DescriptionForms.{words}
 

@@ -1,4 +1,4 @@
-use Rattle.std.proofs.Common.{refl, rules, arith}
+use Rattle.std.proofs.Common.{refl, arith}
 use Rattle.hz_mdread.specs.Shape.{description}
 use Rattle.hz_mdread.proofs.FormLemmas.{string_at}
 use Rattle.hz_mdread.proofs.ReaderLemmas.{count_is, all_read, read_formed, fault_read}

@@ -1,12 +1,12 @@
 use Rattle.std.proofs.Common.{◌≡◌, ℕ, ◌+◌, ◌-◌, ◌<◌, ◌≤◌, List, ◌∷◌, ◌++◌, length, get_or, take, drop, subst, sym, ap, ◌∙◌, arith}
 use Rattle.std.specs.declared.alloc.Global.{Global}
 use Rattle.std.specs.declared.vec.Vec.{Vec}
-use Rattle.std.proofs.lemmas.List.{drop_all, drop_more, take-append-drop}
+use Rattle.std.proofs.lemmas.List.{drop_more, take-append-drop}
 use Rattle.std.proofs.lemmas.List.Elements.{Contains-get_or}
 use Rattle.hz_unfold.specs.Circles.{Takes, knowledge_of}
 use Rattle.hz_unfold.specs.Graphs.{AreInside, ends_in}
 use Rattle.hz_unfold.specs.Walks.{lists_of}
-use Rattle.hz_unfold.proofs.Around.{IsKnownOf, known_of_more, known_of_none, first_known, turned_inside}
+use Rattle.hz_unfold.proofs.Around.{IsKnownOf, known_of_more, first_known, turned_inside}
 use Rattle.hz_unfold.proofs.Lists.{length-lists_of}
 use Rattle.hz_unfold.proofs.circle.first_around.Goals as goal
 

@@ -1,4 +1,4 @@
-use Rattle.std.proofs.Common.{◌≡◌, ℕ, ◌+◌, ◌<◌, List, Contains, length, subst, arith}
+use Rattle.std.proofs.Common.{ℕ, List, Contains, subst, arith}
 use Rattle.hz_unfold.specs.Circles.{AddsStarts}
 use Rattle.hz_unfold.specs.Walks.{lists_of}
 use Rattle.hz_unfold.proofs.Lists.{length-lists_of}

@@ -1,9 +1,6 @@
-use Rattle.std.proofs.Common.{◌≡◌, ℕ, ◌+◌, ◌<◌, ◌≤◌, ◌⊎◌, inl, inr, List, [], ◌∷◌, ◌++◌, length, drop, subst, sym, ap, ◌∙◌, arith, slice_get, Some}
-use Rattle.std.proofs.lemmas.List.{append-nil, append_assoc, drop_all, length-map}
-use Rattle.std.proofs.lemmas.Option.{slice_get_within}
-use Rattle.hz_mdread.specs.Shape.{class_item, reservation_item}
-use Rattle.hz_model.specs.CheckFaults.{reserving_reservation, reserving_class}
-use Rattle.hz_unfold.specs.Orders.{Numbered, done, class_reservings_of, reservings_of}
+use Rattle.std.proofs.Common.{ℕ, ◌+◌, ◌<◌, ◌⊎◌, inl, inr, List, [], ◌∷◌, ◌++◌, length, subst, sym, ap, ◌∙◌}
+use Rattle.std.proofs.lemmas.List.{append-nil, append_assoc}
+use Rattle.hz_unfold.specs.Orders.{Numbered, class_reservings_of, reservings_of}
 use Rattle.hz_unfold.proofs.FileOrder.{reservation_comes, class_comes, nothing_rests, comes_first_within, comes_second_within}
 use Rattle.hz_unfold.proofs.graph.file_order.Goals as goal
 use Rattle.hz_unfold.proofs.graph.file_order.Goals.{then-i-reservations, else-i-reservations+then-j-classes}

@@ -1,4 +1,4 @@
-use Rattle.std.proofs.Common.{◌≡◌, ℕ, ◌+◌, ◌-◌, ◌≤◌, List, ◌++◌, length, drop}
+use Rattle.std.proofs.Common.{ℕ, ◌+◌, ◌-◌, ◌≤◌, List, ◌++◌, length, drop}
 use Rattle.hz_unfold.specs.Orders.{Numbered, class_reservings_of, reservings_of}
 use Rattle.hz_unfold.proofs.graph.file_order.Given as goal
 

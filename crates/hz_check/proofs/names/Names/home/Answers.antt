@@ -1,9 +1,9 @@
-use Rattle.std.proofs.Common.{◌≡◌, ◌<◌, map, Some, None, length, slice_get, refl, sym, ap, subst, ◌∙◌, option_and_then}
+use Rattle.std.proofs.Common.{◌≡◌, Some, None, length, slice_get, refl, sym, ap, subst, ◌∙◌}
 use Rattle.std.proofs.lemmas.Bool.{ltb-true}
 use Rattle.std.proofs.lemmas.Option.{slice_get_read, slice_get-map}
 use Rattle.std.specs.Option.{option_map}
 use Rattle.hz_mdread.specs.Shape.{description, unit_item}
-use Rattle.hz_check.proofs.Homes.{home-at, home_at}
+use Rattle.hz_check.proofs.Homes.{home-at}
 use Rattle.hz_model.specs.Machines.{automaton_number}
 use Rattle.hz_check.proofs.names.Names.home.Goals as goal
 

@@ -1,4 +1,4 @@
-use Rattle.std.proofs.Common.{◌≡◌, map, sym, ap, ◌∙◌}
+use Rattle.std.proofs.Common.{map, ap, ◌∙◌}
 use Rattle.hz_mdread.specs.Shape.{automaton_item, unit_item, reservation_item, class_item, attribute_item}
 use Rattle.hz_check.specs.ByName.{held}
 use Rattle.hz_check.specs.Names.{test_of}

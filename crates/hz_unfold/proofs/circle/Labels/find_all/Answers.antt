@@ -1,7 +1,7 @@
-use Rattle.std.proofs.Common.{◌≡◌, ℕ, List, get_or, drop, length, sym, ap, ◌∙◌, ◌+◌, arith}
+use Rattle.std.proofs.Common.{ℕ, List, get_or, drop, length, sym, ap, ◌∙◌, ◌+◌, arith}
 use Rattle.std.proofs.lemmas.List.{drop_more, drop_all}
 use Rattle.std.proofs.lemmas.List.Elements.{Contains-get_or}
-use Rattle.hz_unfold.specs.Circles.{all_found, knowledge_of, found, Knowledge}
+use Rattle.hz_unfold.specs.Circles.{all_found, knowledge_of, Knowledge}
 use Rattle.hz_unfold.proofs.Finding.{found_size, found_taken}
 use Rattle.hz_unfold.proofs.circle.Labels.find_all.Goals as goal
 

@@ -1,4 +1,4 @@
-use Rattle.std.proofs.Common.{◌<◌, ◌≡◌, sym, ◌∙◌, rules, arith}
+use Rattle.std.proofs.Common.{◌≡◌, sym, ◌∙◌, rules, arith}
 use Rattle.std.proofs.lemmas.List.{get_or_read}
 use Rattle.hz_unfold.specs.declared.circle.Lead.TheVariants.{Nowhere, Around}
 use Rattle.hz_unfold.specs.contracts.circle.Lead.{the_type}

@@ -4,7 +4,7 @@ use Rattle.std.proofs.lemmas.List.Elements.{Contains-push}
 use Rattle.hz_unfold.specs.Circles.{Knowledge, Takes, all_found, knowledge_of}
 use Rattle.hz_unfold.specs.Graphs.{ends_in}
 use Rattle.hz_unfold.specs.Walks.{lists_of}
-use Rattle.hz_unfold.proofs.Taking.{IsTaking, pending_work, pending_within, pending_falls, taking_begins, taking_goes_on, taking_ends}
+use Rattle.hz_unfold.proofs.Taking.{IsTaking, pending_work, pending_falls, taking_begins, taking_goes_on, taking_ends}
 use Rattle.hz_unfold.proofs.circle.Labels.take.Goals as goal
 
 pub ends_of-requires : goal.ends_of-requires

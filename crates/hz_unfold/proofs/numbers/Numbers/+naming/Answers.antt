@@ -1,4 +1,4 @@
-use Rattle.std.proofs.Common.{◌≡◌, ◌++◌, ◌∙◌, sym}
+use Rattle.std.proofs.Common.{◌∙◌}
 use Rattle.hz_unfold.specs.Numbers.{number_in}
 use Rattle.hz_unfold.proofs.Naming.{named_all, named_more}
 use Rattle.hz_unfold.proofs.numbers.Numbers.+naming.Goals as goal

@@ -1,11 +1,10 @@
-use Rattle.std.proofs.Common.{◌≡◌, ℕ, ◌-◌, Bool, cond, List, [], Some, None, drop, length, sym, ap, ◌∙◌, arith}
-use Rattle.std.specs.BTreeMap.{get}
+use Rattle.std.proofs.Common.{◌≡◌, ℕ, ◌-◌, cond, List, Some, drop, length, sym, ap, ◌∙◌, arith}
 use Rattle.std.specs.List.{position_from}
 use Rattle.std.specs.Map.{lookup}
 use Rattle.std.specs.Ordering.{nat_cmp, is_eq}
 use Rattle.std.specs.Cmp.Lexicographic.{slice_cmp}
 use Rattle.std.specs.Str.{bytes_eq}
-use Rattle.std.proofs.lemmas.List.{drop_all, length-map}
+use Rattle.std.proofs.lemmas.List.{drop_all}
 use Rattle.hz_mdread.specs.declared.items.ReservationItem.{ReservationItem}
 use Rattle.hz_unfold.proofs.FirstNames.{names_of, length-names_of, place_from_zero, placed_before}
 use Rattle.hz_unfold.proofs.numbers.Numbers.of.Goals as goal

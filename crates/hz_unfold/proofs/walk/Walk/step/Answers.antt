@@ -1,4 +1,4 @@
-use Rattle.std.proofs.Common.{length, sym, arith}
+use Rattle.std.proofs.Common.{sym, arith}
 use Rattle.hz_unfold.specs.Graphs.{ends_in}
 use Rattle.hz_unfold.specs.Walks.{lists_of}
 use Rattle.hz_unfold.proofs.Walking.{place_within}
