@@ -12,7 +12,8 @@ pub struct Pair {
     pub cycle: u16,
 }
 
-/// One way to reserve: its pairs, which ascend by cycle, automaton and unit, and for how many cycles it runs.
+/// One way to reserve: its pairs, and for how many cycles it runs. `expand` gives the pairs each once and ascending by
+/// cycle, automaton and unit.
 #[derive(Debug, PartialEq, Eq, Drop)]
 pub struct Alt {
     pub pairs: Vec<Pair>,

@@ -70,7 +70,8 @@ impl Known {
     }
 
     /// Makes a name known that is not known: it stands for a reservation with these alternatives, which are sound: 1 to
-    /// 4,096, each of 1 to 256 cycles with its pairs ascending. `NoMemory` leaves what is known as it was.
+    /// 4,096, each of 1 to 256 cycles, its pairs ascending, within its cycles, and of units below 128 of automata below 16.
+    /// `NoMemory` leaves what is known as it was.
     pub fn add_reservation(&mut self, name: &Name, alts: Vec<Alt>) -> Result<(), NoMemory>
         requires new { alternatives_in self.old name.now ≡ None }
         requires sound { AreSound (alternatives alts.items) }

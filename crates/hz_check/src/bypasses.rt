@@ -1,6 +1,6 @@
 //! Bypasses by the numbers of classes.
 
-ghost use Rattle.std.specs.Prelude.{◌≡◌, ◌<◌, ℕ, Bool, All, IfOk, None, filter, vec_len};
+ghost use Rattle.std.specs.Prelude.{◌≡◌, ◌<◌, ◌≤◌, ℕ, Bool, All, IfOk, None, filter, vec_len};
 ghost use Rattle.std.specs.List.{AllPairs};
 ghost use Rattle.hz_mdread.specs.Shape.{description};
 ghost use Rattle.hz_unfold.specs.Places.{told};
@@ -52,7 +52,7 @@ pub(crate) fn second_number<'a>(
     names: &Names<'a>,
 ) -> Result<Option<Site<'a>>, NoMemory>
     requires known { earliest (unknown_names (description names.now.desc.now)) ≡ None }
-    requires ordered { AllPairs (λ earlier later. earlier.form < later.form) (description names.now.desc.now).bypasses }
+    requires ordered { AllPairs (λ earlier later. earlier.form ≤ later.form) (description names.now.desc.now).bypasses }
     ensures { IfOk result (λ site. told site ≡ earliest (second_numbers (description names.now.desc.now))) }
 {
     let desc = names.desc;

@@ -24,7 +24,7 @@ pub struct Checked {
     /// The default of each attribute.
     pub defaults: Vec<(Name, Name)>,
     pub options: Options,
-    ghost kept: { IsKept (map automaton_of automata.items) (map class_of classes.items) (map bypass_of bypasses.items) (map attribute_of attributes.items) } by { Prim.hlevel props },
+    pub ghost kept: { IsKept (map automaton_of automata.items) (map class_of classes.items) (map bypass_of bypasses.items) (map attribute_of attributes.items) } by { Prim.hlevel props },
 }
 
 /// An automaton.

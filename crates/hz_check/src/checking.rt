@@ -36,9 +36,9 @@ fn assembled(alloc: Global, desc: Description, parts: Parts) -> Result<Checked, 
 }
 
 /// Checks a description: its names, reservations, sets, limits and bypasses, and gives what it keeps where it has no fault.
-/// Expressions are well formed, latencies at most 1,000, and items in the order of their forms. The fault that is told is
-/// the first of `CheckFault`, at the first form where it stands and with the leftmost name there; of limits see there.
-/// This profile, docs/RULES.md, 'Faults of a description'.
+/// Expressions are well formed, latencies and numbers of bypasses at most 1,000, each list in the order of its forms, and
+/// items of two lists of different forms. The fault that is told is the first of `CheckFault`, at the first form where it
+/// stands and with the leftmost name there; of limits see there. This profile, docs/RULES.md, 'Faults of a description'.
 pub fn check(alloc: Global, desc: Description) -> Result<Checked, CheckFault>
     requires { IsCheckable (description desc) }
     ensures ok { IfOk result (IsCheckedOf (description desc)) }

@@ -20,7 +20,7 @@ use hz_mdread::ClassItem;
 use hz_regexp::NoMemory;
 use std::alloc::Global;
 
-/// What sound alternatives take of each of so many automata.
+/// What alternatives take of each of so many automata.
 fn lists_of(alloc: Global, alts: &[Alt], automata: usize) -> Result<Vec<Vec<Grid>>, NoMemory>
     requires few { automata ≤ automaton_limit }
     requires cuttable { All IsCuttable (alternatives alts.now) }

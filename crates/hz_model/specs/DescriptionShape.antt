@@ -107,7 +107,7 @@ pub record IsWellFormed (d : Description) : Type 0 where
   pub sets_in_order : AllPairs (λ earlier later. earlier.form < later.form) d.sets
   pub attributes_in_order : AllPairs (λ earlier later. earlier.form < later.form) d.attributes
 
--- What a check of items relies on: that expressions can be written, that numbers are limited, and what kind their forms are.
+-- What a check asks of items: that expressions can be written, that numbers are limited, and what kind their forms are.
 module _ (kinds : List FormKind) where
   pub record IsCheckableReservation (item : ReservationItem) : Type 0 where
     pub form : IsForm kinds item.form define_reservation
@@ -131,12 +131,12 @@ pub record IsCheckable (d : Description) : Type 0 where
   pub reservations : All (IsCheckableReservation kinds) d.reservations
   pub classes : All (IsCheckableClass kinds) d.classes
   pub bypasses : All (IsCheckableBypass kinds) d.bypasses
-  pub sets : All (λ i. IsForm kinds i.form (set_form i.kind)) d.sets
+  pub sets : All (λ i. (kind : SetKind) × IsForm kinds i.form (set_form kind)) d.sets
   pub attributes : All (λ i. IsForm kinds i.form define_attr) d.attributes
   pub automata_in_order : AllPairs (λ earlier later. earlier.form ≤ later.form) d.automata
   pub units_in_order : AllPairs (λ earlier later. earlier.form ≤ later.form) d.units
-  pub reservations_in_order : AllPairs (λ earlier later. earlier.form < later.form) d.reservations
-  pub classes_in_order : AllPairs (λ earlier later. earlier.form < later.form) d.classes
-  pub bypasses_in_order : AllPairs (λ earlier later. earlier.form < later.form) d.bypasses
-  pub sets_in_order : AllPairs (λ earlier later. earlier.form < later.form) d.sets
-  pub attributes_in_order : AllPairs (λ earlier later. earlier.form < later.form) d.attributes
+  pub reservations_in_order : AllPairs (λ earlier later. earlier.form ≤ later.form) d.reservations
+  pub classes_in_order : AllPairs (λ earlier later. earlier.form ≤ later.form) d.classes
+  pub bypasses_in_order : AllPairs (λ earlier later. earlier.form ≤ later.form) d.bypasses
+  pub sets_in_order : AllPairs (λ earlier later. earlier.form ≤ later.form) d.sets
+  pub attributes_in_order : AllPairs (λ earlier later. earlier.form ≤ later.form) d.attributes

@@ -23,7 +23,7 @@ pub fn one_assignment_of_sound_descriptions()
     ensures { (d : Description) (known other : Known) → IsSound d known → IsSound d other → known ≡ other }
 {}
 
-/// Every description that can be read is sound or has a fault.
+/// Every description that can be checked is sound or has a fault.
 pub fn every_description_is_sound_or_has_a_fault()
     ensures { (d : Description) → IsCheckable d → ((known : Known) × IsSound d known) ⊎ ((fault : CheckFault) × (site : Site) × CheckFaultAt d fault site) }
 {}

@@ -20,13 +20,13 @@ use Rattle.hz_model.specs.Descriptions.{BypassItem}
 use Rattle.hz_check.proofs.bypasses.second_number.Goals as goal
 
 -- the bypasses that are left are of later forms
-later_forms : (items : List StoredBypass) (i : ℕ) (item : StoredBypass) → item ≡ get_or items i item → i < length items → AllPairs (λ a b. a.form < b.form) (map bypass_item items)
+later_forms : (items : List StoredBypass) (i : ℕ) (item : StoredBypass) → item ≡ get_or items i item → i < length items → AllPairs (λ a b. a.form ≤ b.form) (map bypass_item items)
     → All (λ c. item.form ≤ c.form) (map bypass_item (drop (i + 1) items))
 later_forms items i item is lt ordered =
     let rest : List BypassItem = map bypass_item (drop (i + 1) items) in
-    let here : AllPairs (λ a b. a.form < b.form) (bypass_item item ∷ rest) =
-    subst (λ (bs : List BypassItem). AllPairs (λ a b. a.form < b.form) bs) (drop-map bypass_item i items ∙ ap (map bypass_item) (drop_next items i item is lt)) (AllPairs-drop (λ a b. a.form < b.form) i (map bypass_item items) ordered) in
-    λ k d within. omega (arith, AllPairs-head (λ a b. a.form < b.form) (bypass_item item) rest here k d within)
+    let here : AllPairs (λ a b. a.form ≤ b.form) (bypass_item item ∷ rest) =
+    subst (λ (bs : List BypassItem). AllPairs (λ a b. a.form ≤ b.form) bs) (drop-map bypass_item i items ∙ ap (map bypass_item) (drop_next items i item is lt)) (AllPairs-drop (λ a b. a.form ≤ b.form) i (map bypass_item items) ordered) in
+    λ k d within. omega (arith, AllPairs-head (λ a b. a.form ≤ b.form) (bypass_item item) rest here k d within)
 
 pub index-requires : goal.index-requires
 index-requires c =
@@ -69,7 +69,7 @@ returns-in-Some c =
     let rows = c.loop-bypass.rows.items in
     let known = known_at stored items i item c.deref-bypass-items.ensures.value c.bypass-item.is c.loop-bypass-test.true c.requires.known in
     let found = sym (c.in-Some.ensures ∙ first_same item.number _ rows _ outs _ ins c.deref-in-loop-bypass-2.ensures.value c.deref-in-loop-bypass-3.ensures.value c.deref-in-loop-bypass-4.ensures.value) in
-    let ordered = subst (λ (xs : List StoredBypass). AllPairs (λ a b. a.form < b.form) (map bypass_item xs)) (sym c.deref-bypass-items.ensures.value) c.requires.ordered in
+    let ordered = subst (λ (xs : List StoredBypass). AllPairs (λ a b. a.form ≤ b.form) (map bypass_item xs)) (sym c.deref-bypass-items.ensures.value) c.requires.ordered in
     let within = first_holds (λ o. o < stored.classes.len) _ c.deref-in-loop-bypass-3.result.now out (subst (λ os. All (λ o. o < stored.classes.len) os) (sym c.deref-in-loop-bypass-3.ensures.value) c.in_ok-outs.ensures.within) c.in-Some.ensures in
     ap (λ name. Some (record { line = item.line; form = item.form; name = name })) (sym (class_name stored out c.index.result.now within c.index.ensures))
     ∙ (told_here d (rows_of rows) (map bypass_item (take i items)) (bypass_item item) outs ins c.loop-bypass.invariant.numbers known.0 known.1
