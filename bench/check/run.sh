@@ -2,12 +2,7 @@
 # Times the check of descriptions of 1, 2 and 4 MB: tens of thousands of reservations, attributes and bypasses. The
 # least of five runs of `hz replay` each.
 hz=$1
-cd "$(dirname "$0")/../.." || exit 2
-data=bench/data
-mkdir -p "$data"
-: > "$data/empty"
-
-. bench/least.sh
+. "$(dirname "$0")/../common.sh"
 
 # make_text BYTES: forms of about so many bytes
 make_text() {
@@ -31,7 +26,6 @@ for mega in 1 2 4; do
     bytes=$(wc -c < "$text")
     forms=$(grep -c '^(' "$text")
     time=$(least "$hz" replay "$text" "$data/empty")
-    awk -v b="$bytes" -v f="$forms" -v t="$time" -v p="${before:-0}" \
-        'BEGIN { printf "%d %d %.1f %s\n", b, f, b * 1000 / t, p ? sprintf("%.2f", t / p) : "-" }'
+    echo "$bytes $forms $(rate "$bytes" "$time") $(doubling "$time" "$before")"
     before=$time
 done

@@ -2,12 +2,7 @@
 # Times the reading of descriptions of 1, 2 and 4 MB, of whole forms of each kind, up to a form that is unknown at the
 # end: all is read and nothing is checked. The least of five runs of `hz replay` each.
 hz=$1
-cd "$(dirname "$0")/../.." || exit 2
-data=bench/data
-mkdir -p "$data"
-: > "$data/empty"
-
-. bench/least.sh
+. "$(dirname "$0")/../common.sh"
 
 # make_text KIND BYTES: forms of about so many bytes, and the unknown one
 make_text() {
@@ -32,8 +27,7 @@ for kind in classes names sets; do
         "$hz" replay "$text" "$data/empty" | grep -q 'UnknownForm$' || { echo "$text is not read"; exit 1; }
         bytes=$(wc -c < "$text")
         time=$(least "$hz" replay "$text" "$data/empty")
-        awk -v k="$kind" -v b="$bytes" -v t="$time" -v p="${before:-0}" \
-            'BEGIN { printf "%s %d %.1f %s\n", k, b, b * 1000 / t, p ? sprintf("%.2f", t / p) : "-" }'
+        echo "$kind $bytes $(rate "$bytes" "$time") $(doubling "$time" "$before")"
         before=$time
     done
 done

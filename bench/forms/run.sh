@@ -2,12 +2,7 @@
 # Times the reading of descriptions of 1, 2 and 4 MB: real-looking forms, one atom, one string, comments, and open
 # brackets. The least of five runs of `hz replay` each, whatever it answers.
 hz=$1
-cd "$(dirname "$0")/../.." || exit 2
-data=bench/data
-mkdir -p "$data"
-: > "$data/empty"
-
-. bench/least.sh
+. "$(dirname "$0")/../common.sh"
 
 # make KIND BYTES: the text
 make_text() {
@@ -28,8 +23,7 @@ for kind in forms atom string comments brackets; do
         text=$data/${kind}_$mega
         [ -f "$text" ] || make_text "$kind" "$bytes" > "$text"
         time=$(least "$hz" replay "$text" "$data/empty")
-        awk -v k="$kind" -v b="$bytes" -v t="$time" -v p="${before:-0}" \
-            'BEGIN { printf "%s %d %.0f %s\n", k, b, b * 1000 / t, p ? sprintf("%.2f", t / p) : "-" }'
+        echo "$kind $bytes $(rate "$bytes" "$time") $(doubling "$time" "$before")"
         before=$time
     done
 done

@@ -2,10 +2,7 @@
 # Times `hz replay` on traces of 1, 2 and 4 million events beside `wc -w` on the same file: of a machine without
 # alternatives, and of the superscalar one. The least of five runs each.
 hz=$1
-cd "$(dirname "$0")/../.." || exit 2
-data=bench/data
-mkdir -p "$data"
-. bench/least.sh
+. "$(dirname "$0")/../common.sh"
 
 # make_trace MACHINE EVENTS: a trace that is accepted; on the superscalar machine ten cycles and what they issue, again
 # and again
@@ -37,8 +34,8 @@ for kind in memory_pipe superscalar; do
         if [ -x /usr/bin/time ]; then
             peak=$( { /usr/bin/time -f %M "$hz" replay "$machine" "$trace" > /dev/null; } 2>&1 | tail -n 1)
         fi
-        awk -v m="$kind" -v e="$events" -v b="$bytes" -v t="$time" -v w="$words" -v p="${before:-0}" -v k="$peak" \
-            'BEGIN { printf "%s %d %d %.1f %.2f %s %s\n", m, e, b, t / e, t / w, p ? sprintf("%.2f", t / p) : "-", k }'
+        ratios=$(awk -v e="$events" -v t="$time" -v w="$words" 'BEGIN { printf "%.1f %.2f", t / e, t / w }')
+        echo "$kind $events $bytes $ratios $(doubling "$time" "$before") $peak"
         before=$time
     done
 done
