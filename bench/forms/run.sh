@@ -1,6 +1,6 @@
 #!/bin/sh
-# Times the reading of descriptions of 1, 2 and 4 MB: real-looking forms, one atom, one string, comments, and open
-# brackets. The least of five runs of `hz replay` each, whatever it answers.
+# Times the reading of forms of 1, 2 and 4 MB: real-looking forms, one atom, one string, comments, and open brackets. A
+# bracket at the end stays open, so that only the forms are read. The least of five runs of `hz replay` each.
 hz=$1
 . "$(dirname "$0")/../common.sh"
 
@@ -19,9 +19,9 @@ echo "kind bytes MB_a_second doubling"
 for kind in forms atom string comments brackets; do
     before=
     for mega in 1 2 4; do
-        bytes=$((mega * 1048576))
+        bytes=$((mega * 1048000))
         text=$data/${kind}_$mega
-        [ -f "$text" ] || make_text "$kind" "$bytes" > "$text"
+        [ -f "$text" ] || { make_text "$kind" "$bytes"; printf '\n('; } > "$text"
         time=$(least "$hz" replay "$text" "$data/empty")
         echo "$kind $bytes $(rate "$bytes" "$time") $(doubling "$time" "$before")"
         before=$time
