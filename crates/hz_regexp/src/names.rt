@@ -3,26 +3,28 @@
 ghost use Rattle.std.specs.Prelude.{◌≡◌, ◌↔◌, List, ℕ, IsTrue, IfOk, OnErr};
 ghost use Rattle.hz_model.specs.Names.{is_name, is_name_byte};
 ghost use Rattle.hz_regexp.specs.Named.{name_of};
+ghost use Rattle.std.specs.Rc.{rc_slice_items};
 
 pub use std::alloc::AllocError as NoMemory;
 use std::alloc::Global;
 use std::cmp::Ordering;
 use std::hash::{Hash, Hasher};
 use std::marker::Model;
+use std::rc::RcSlice;
 
 /// A name: one or more printable ASCII bytes other than the blank and the separators
-/// `,` `|` `+` `*` `(` `)` `"`. Contracts see its bytes. Names are ordered by their bytes.
+/// `,` `|` `+` `*` `(` `)` `"`. Contracts see its bytes. Names are ordered by their bytes. Copies share them.
 #[derive(Debug, Drop)]
 pub struct Name {
-    bytes: Vec<u8>,
+    bytes: RcSlice<u8>,
 }
 
 impl Model for Name {
     ghost Value = { List ℕ };
 
-    ghost view = { λ name. name.bytes.items };
+    ghost view = { λ name. rc_slice_items name.bytes };
 
-    ghost invariant = { λ name. IsTrue (is_name name.bytes.items) };
+    ghost invariant = { λ name. IsTrue (is_name (rc_slice_items name.bytes)) };
 }
 
 impl Name {
@@ -43,11 +45,11 @@ impl Name {
         requires { IsTrue (is_name bytes.now) }
         ensures { IfOk result (λ name. name ≡ bytes.now) }
     {
-        let bytes = Vec::from_slice(alloc, bytes)?;
+        let bytes = RcSlice::from_slice(alloc, bytes)?;
         Ok(Name { bytes })
     }
 
-    /// An equal name.
+    /// An equal name, which shares the bytes. It takes no memory; `NoMemory` where a name has no room for one more copy.
     pub fn copy(&self) -> Result<Name, NoMemory>
         ensures { IfOk result (λ name. name ≡ self.now) }
     {
