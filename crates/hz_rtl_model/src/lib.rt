@@ -1,0 +1,2 @@
+//! What blocks mean: values, effects, states, and the state that instructions leave. There is no code.
+#![tactic(auto)]
