@@ -1,0 +1,5 @@
+pub mod StateLimits
+pub mod Tables
+pub mod Apart
+pub mod Orders
+pub mod Machines
