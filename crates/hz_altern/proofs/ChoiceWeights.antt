@@ -10,10 +10,10 @@ use Rattle.hz_altern.specs.Answers.{weight, total_weight}
 use Rattle.hz_altern.specs.Joinings.{IsListed, joined_by, listed_lists}
 use Rattle.hz_altern.proofs.Weights.{weight-append, weight-cons}
 use Rattle.hz_altern.proofs.MergeLemmas.{swapped}
-use Rattle.hz_model.specs.Pairs.{Pair, placed, later}
-use Rattle.hz_model.specs.Alternatives.{Alternative, each_choice}
-use Rattle.hz_model.specs.Automata.{UnitPlace, with_pair, ascending}
-use Rattle.hz_model.proofs.AscendingLaws.{with_pair_cases, ascending_itself}
+use Rattle.hz_base_model.specs.Pairs.{Pair, placed, later}
+use Rattle.hz_altern_model.specs.Alternatives.{Alternative, each_choice}
+use Rattle.hz_altern_model.specs.Automata.{UnitPlace, with_pair, ascending}
+use Rattle.hz_altern_model.proofs.AscendingLaws.{with_pair_cases, ascending_itself}
 
 -- ---- pairs of two lists
 

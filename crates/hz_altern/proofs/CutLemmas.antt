@@ -14,14 +14,14 @@ use Rattle.hz_grid.proofs.Pairs.{Precedes_asymmetric, same_grids}
 use Rattle.hz_altern.specs.declared.alternative.Alt.{Alt}
 use Rattle.hz_altern.specs.Cuts.{within_pair, within_pairs, cuts_of}
 use Rattle.hz_altern.specs.Shapes.{alternative_of, alternatives}
-use Rattle.hz_model.specs.Pairs.{Pair}
-use Rattle.hz_model.specs.AlternativeLists.{IsAscending}
-use Rattle.hz_model.specs.Automata.{UnitPlace, ascending, is_of, inside, cut, list_in, same_pair}
-use Rattle.hz_model.proofs.Ascending.{AllPairs-map, same_from_ascending}
-use Rattle.hz_model.proofs.AscendingLaws.{Precedes, pair_at, IsAscending-ascending, Contains-ascending, Contains-from_ascending}
-use Rattle.hz_model.proofs.Elements.{Contains-map, Contains-from_map, Contains-filter, Contains-from_filter}
-use Rattle.hz_model.proofs.PlacedLaws.{All-ascending}
-use Rattle.hz_model.proofs.ListInLaws.{list_in-push}
+use Rattle.hz_base_model.specs.Pairs.{Pair}
+use Rattle.hz_altern_model.specs.AlternativeLists.{IsAscending}
+use Rattle.hz_altern_model.specs.Automata.{UnitPlace, ascending, is_of, inside, cut, list_in, same_pair}
+use Rattle.hz_base_model.proofs.Ascending.{AllPairs-map, same_from_ascending}
+use Rattle.hz_altern_model.proofs.AscendingLaws.{Precedes, pair_at, IsAscending-ascending, Contains-ascending, Contains-from_ascending}
+use Rattle.hz_base_model.proofs.Elements.{Contains-map, Contains-from_map, Contains-filter, Contains-from_filter}
+use Rattle.hz_altern_model.proofs.PlacedLaws.{All-ascending}
+use Rattle.hz_altern_model.proofs.ListInLaws.{list_in-push}
 
 before_numbers : (a x b y c z : ℕ) → (nat_lt a x || (a == x && (nat_lt b y || (b == y && nat_lt c z)))) ≡ true → b ≡ y → (a < x) ⊎ ((a ≡ x) × (c < z))
 before_numbers a x b y c z h e = grind (arith, nat_tests)

@@ -12,9 +12,9 @@ use Rattle.hz_altern.proofs.KnownLemmas.{all_listed}
 use Rattle.hz_altern.proofs.Lengths.{length_within}
 use Rattle.hz_altern.proofs.Weights.{weight-cons}
 use Rattle.hz_altern.proofs.HalfLemmas.{greatest-listed}
-use Rattle.hz_model.specs.Alternatives.{Alternative}
-use Rattle.hz_model.specs.AlternativeLists.{extent_of, excess_of, too_many, too_long, too_large, greatest_length, IsPlaced, AreSound}
-use Rattle.hz_model.specs.Automata.{UnitPlace, listed, size_of, total_size}
+use Rattle.hz_altern_model.specs.Alternatives.{Alternative}
+use Rattle.hz_altern_model.specs.AlternativeLists.{extent_of, excess_of, too_many, too_long, too_large, greatest_length, IsPlaced, AreSound}
+use Rattle.hz_altern_model.specs.Automata.{UnitPlace, listed, size_of, total_size}
 
 -- listed alternatives are as large as they count
 pub total_listed : (all : List (Alternative UnitPlace)) → total_weight (map listed all) ≡ total_size all

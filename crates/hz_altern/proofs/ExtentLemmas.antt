@@ -14,12 +14,11 @@ use Rattle.hz_altern.specs.Extents.{cut_extent, joined_extents, repeated_extent}
 use Rattle.hz_altern.proofs.Lengths.{greatest-append, greatest-followed, greatest-beside, greatest-copies}
 use Rattle.hz_altern.proofs.Cutting.{cut_product, cut_power, cut_times}
 use Rattle.hz_altern.proofs.PartLemmas.{halves, formed_halves, right_halves, joined_parts-append, some_joined}
-use Rattle.hz_model.specs.Expressions.{is_expression, are_expressions}
-use Rattle.hz_model.specs.ExpressionTexts.{parts_of}
-use Rattle.hz_model.specs.Alternatives.{Alternative, Expression, named, nothing, repeat, alternatives_of, each_choice, followed_by, beside, copies}
-use Rattle.hz_model.specs.AlternativeLists.{Extent, extent_of, greatest_length}
-use Rattle.hz_model.specs.Automata.{UnitPlace}
-use Rattle.hz_model.proofs.ExpressionLaws.{length-each_choice, count_copies, some_alternatives}
+use Rattle.hz_altern_model.specs.Expressions.{is_expression, are_expressions}
+use Rattle.hz_altern_model.specs.Alternatives.{parts_of, Alternative, Expression, named, nothing, repeat, alternatives_of, each_choice, followed_by, beside, copies}
+use Rattle.hz_altern_model.specs.AlternativeLists.{Extent, extent_of, greatest_length}
+use Rattle.hz_altern_model.specs.Automata.{UnitPlace}
+use Rattle.hz_altern_model.proofs.ExpressionLaws.{length-each_choice, count_copies, some_alternatives}
 
 extent_from : (xs : List (Alternative UnitPlace)) (count longest : ℕ) → length xs ≡ count → greatest_length xs ≡ longest → extent_of xs ≡ cut_extent count longest
 extent_from xs count longest e f = ap (λ n. cut_extent n (greatest_length xs)) e ∙ ap (cut_extent count) f

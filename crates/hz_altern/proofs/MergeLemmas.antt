@@ -1,13 +1,13 @@
 -- Two ascending lists of pairs, merged pair by pair.
 use Rattle.std.proofs.Common.{◌≡◌, ⊎_elim, true, cond, List, [], ◌∷◌, ◌++◌, length, All, Contains, refl, sym, ap, ◌∙◌, subst, arith}
 use Rattle.std.proofs.lemmas.List.Elements.{All-contains, All-head, All-nil, Contains-get_or, Contains-append_left, Contains-append_right, Contains-append_cases}
-use Rattle.hz_model.specs.Pairs.{Pair}
-use Rattle.hz_model.specs.Automata.{UnitPlace, precedes, with_pair, ascending}
-use Rattle.hz_model.specs.AlternativeLists.{IsAscending}
-use Rattle.hz_model.proofs.Elements.{Contains-head, Contains-tail, Contains-cons_cases}
-use Rattle.hz_model.proofs.Ascending.{AllPairs-head, AllPairs-tail}
-use Rattle.hz_model.proofs.SameLaws.{append_swapped}
-use Rattle.hz_model.proofs.AscendingLaws.{Precedes, Precedes_transitive, ascending_same, Contains-from_ascending}
+use Rattle.hz_base_model.specs.Pairs.{Pair}
+use Rattle.hz_altern_model.specs.Automata.{UnitPlace, precedes, with_pair, ascending}
+use Rattle.hz_altern_model.specs.AlternativeLists.{IsAscending}
+use Rattle.hz_base_model.proofs.Elements.{Contains-head, Contains-tail, Contains-cons_cases}
+use Rattle.hz_base_model.proofs.Ascending.{AllPairs-head, AllPairs-tail}
+use Rattle.hz_altern_model.proofs.SamePairsLaws.{append_swapped}
+use Rattle.hz_altern_model.proofs.AscendingLaws.{Precedes, Precedes_transitive, ascending_same, Contains-from_ascending}
 use Rattle.hz_altern.specs.Merging.{IsLeast}
 use Rattle.hz_altern.specs.declared.alternative.Pair.{Pair as StoredPair}
 use Rattle.hz_altern.specs.Shapes.{pair_of, pairs_of}

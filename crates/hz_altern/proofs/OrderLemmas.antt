@@ -15,7 +15,7 @@ use Rattle.std.proofs.lemmas.List.Kept.{AllPairs-cons, Contains-dedup, Contains-
 use Rattle.std.proofs.lemmas.List.Sorted.{Contains-permutation, IsPermutation-sym}
 use Rattle.hz_grid.specs.Grids.{Precedes}
 use Rattle.hz_altern.specs.Cuts.{within_pair, within_pairs}
-use Rattle.hz_model.proofs.Ascending.{AllPairs-map}
+use Rattle.hz_base_model.proofs.Ascending.{AllPairs-map}
 
 -- by cycle, then by unit
 abbrev pub by_cycle : ℕ × ℕ → ℕ × ℕ → Ordering

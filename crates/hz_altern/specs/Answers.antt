@@ -6,10 +6,10 @@ use Rattle.hz_altern.specs.declared.alternative.Alt.{Alt}
 use Rattle.hz_altern.specs.declared.fault.AlternFault.{AlternFault}
 use Rattle.hz_altern.specs.declared.fault.AlternFault.TheVariants.{AlternativesLimit, CyclesLimit, SizeLimit, NoMemory}
 use Rattle.hz_altern.specs.Shapes.{alternatives}
-use Rattle.hz_model.specs.Alternatives.{Alternative}
-use Rattle.hz_model.specs.AlternativeLists.{too_many, too_long, too_large, excess_of}
-use Rattle.hz_model.specs.Automata.{UnitPlace, listed}
-use Rattle.hz_model.specs.Limits.{size_limit}
+use Rattle.hz_altern_model.specs.Alternatives.{Alternative}
+use Rattle.hz_altern_model.specs.AlternativeLists.{too_many, too_long, too_large, excess_of}
+use Rattle.hz_altern_model.specs.Automata.{UnitPlace, listed}
+use Rattle.hz_base_model.specs.Limits.{size_limit}
 
 -- What is answered for these alternatives: all of them in their order, each listed the one way, where they pass no limit,
 -- and otherwise the first limit that they pass. Want of memory says nothing.

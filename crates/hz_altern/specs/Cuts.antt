@@ -2,7 +2,7 @@
 use Rattle.std.specs.Prelude.{ℕ, List, map}
 use Rattle.std.specs.declared.alloc.Global.{Global}
 use Rattle.std.specs.declared.vec.Vec.{Vec}
-use Rattle.hz_model.specs.Pairs.{Pair}
+use Rattle.hz_base_model.specs.Pairs.{Pair}
 
 -- a unit and a cycle as a pair
 abbrev pub within_pair : ℕ × ℕ → Pair ℕ

@@ -3,8 +3,8 @@ use Rattle.std.specs.Prelude.{ℕ, ◌+◌, ◌*◌, ◌^◌, min, max}
 use Rattle.hz_altern.specs.declared.measure.Extent.{Extent}
 use Rattle.hz_altern.specs.declared.mark.Mark.{Mark}
 use Rattle.hz_altern.specs.declared.mark.Mark.TheVariants.{Comma, Bar, Plus}
-use Rattle.hz_model.specs.AlternativeLists as model
-use Rattle.hz_model.specs.Limits.{alternative_limit, cycle_limit}
+use Rattle.hz_altern_model.specs.AlternativeLists as model
+use Rattle.hz_base_model.specs.Limits.{alternative_limit, cycle_limit}
 
 -- what an extent says
 abbrev pub told : Extent → model.Extent

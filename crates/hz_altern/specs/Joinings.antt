@@ -1,12 +1,12 @@
 -- What stands between parts, and what it makes of their alternatives.
 use Rattle.std.specs.Prelude.{ℕ, List, ◌++◌}
-use Rattle.hz_model.specs.AlternativeLists.{IsPlaced, IsAscending}
+use Rattle.hz_altern_model.specs.AlternativeLists.{IsPlaced, IsAscending}
 use Rattle.hz_altern.specs.declared.joining.Joining.{Joining}
 use Rattle.hz_altern.specs.declared.joining.Joining.TheVariants.{InSequence, Together}
 use Rattle.hz_altern.specs.declared.mark.Mark.{Mark}
 use Rattle.hz_altern.specs.declared.mark.Mark.TheVariants.{Comma, Bar, Plus}
-use Rattle.hz_model.specs.Alternatives.{Alternative, Parts, followed_by, beside, each_choice, in_sequence, any_of, together}
-use Rattle.hz_model.specs.Automata.{UnitPlace, listed}
+use Rattle.hz_altern_model.specs.Alternatives.{Alternative, Parts, followed_by, beside, each_choice, in_sequence, any_of, together}
+use Rattle.hz_altern_model.specs.Automata.{UnitPlace, listed}
 
 -- two alternatives as one, listed the one way where they are
 abbrev pub joined_by : Joining → Alternative UnitPlace → Alternative UnitPlace → Alternative UnitPlace

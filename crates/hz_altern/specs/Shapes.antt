@@ -2,9 +2,9 @@
 use Rattle.std.specs.Prelude.{List, map}
 use Rattle.hz_altern.specs.declared.alternative.Pair.{Pair as StoredPair}
 use Rattle.hz_altern.specs.declared.alternative.Alt.{Alt}
-use Rattle.hz_model.specs.Pairs.{Pair}
-use Rattle.hz_model.specs.Alternatives.{Alternative}
-use Rattle.hz_model.specs.Automata.{UnitPlace}
+use Rattle.hz_base_model.specs.Pairs.{Pair}
+use Rattle.hz_altern_model.specs.Alternatives.{Alternative}
+use Rattle.hz_altern_model.specs.Automata.{UnitPlace}
 
 -- a pair
 abbrev pub pair_of : StoredPair → Pair UnitPlace

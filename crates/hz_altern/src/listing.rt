@@ -19,9 +19,9 @@ impl Model for Listing {
     ghost use Rattle.std.specs.Prelude.{◌≡◌, ◌≤◌, List};
     ghost use Rattle.hz_altern.specs.Shapes.{alternatives};
     ghost use Rattle.hz_altern.specs.Answers.{total_weight};
-    ghost use Rattle.hz_model.specs.Alternatives.{Alternative};
-    ghost use Rattle.hz_model.specs.Automata.{UnitPlace};
-    ghost use Rattle.hz_model.specs.Limits.{size_limit};
+    ghost use Rattle.hz_altern_model.specs.Alternatives.{Alternative};
+    ghost use Rattle.hz_altern_model.specs.Automata.{UnitPlace};
+    ghost use Rattle.hz_base_model.specs.Limits.{size_limit};
 
     ghost Value = { List (Alternative UnitPlace) };
 
@@ -34,7 +34,7 @@ impl Listing {
     ghost use Rattle.std.specs.Prelude.{◌≡◌, ◌≤◌, ◌++◌, ◌∷◌, [], List, IfOk, IfErr, OnOk};
     ghost use Rattle.hz_altern.specs.Shapes.{alternatives, alternative_of};
     ghost use Rattle.hz_altern.specs.Answers.{Refuses, total_weight};
-    ghost use Rattle.hz_model.specs.Limits.{size_limit};
+    ghost use Rattle.hz_base_model.specs.Limits.{size_limit};
 
     /// No alternative.
     pub fn new(alloc: Global) -> Listing

@@ -27,7 +27,7 @@ impl Extent {
     ghost use Rattle.std.specs.Prelude.{◌≡◌, ◌≤◌, List};
     ghost use Rattle.hz_altern.specs.Extents.{told, cut_extent, joined_extents, repeated_extent};
     ghost use Rattle.hz_altern.specs.Shapes.{alternatives};
-    ghost use Rattle.hz_model.specs.AlternativeLists.{AreSound, extent_of};
+    ghost use Rattle.hz_altern_model.specs.AlternativeLists.{AreSound, extent_of};
 
     /// The extent of so many alternatives, of which the longest runs for so many cycles.
     pub(crate) fn cut(count: u32, longest: u32) -> Extent

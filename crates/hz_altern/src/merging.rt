@@ -3,8 +3,8 @@
 ghost use Rattle.std.specs.Prelude.{◌≡◌, ◌++◌, [], IfOk, IfSome, IfNone};
 ghost use Rattle.hz_altern.specs.Merging.{IsLeast};
 ghost use Rattle.hz_altern.specs.Shapes.{pair_of, pairs_of};
-ghost use Rattle.hz_model.specs.Automata.{precedes, ascending};
-ghost use Rattle.hz_model.specs.AlternativeLists.{IsAscending};
+ghost use Rattle.hz_altern_model.specs.Automata.{precedes, ascending};
+ghost use Rattle.hz_altern_model.specs.AlternativeLists.{IsAscending};
 
 use crate::alternative::Pair;
 use crate::fault::NoMemory;

@@ -6,8 +6,8 @@ ghost use Rattle.std.specs.List.{list_any, AllPairs};
 ghost use Rattle.hz_grid.specs.Grids.{Precedes};
 ghost use Rattle.hz_altern.specs.Cuts.{within_pairs, cuts_of};
 ghost use Rattle.hz_altern.specs.Shapes.{alternative_of, alternatives, pairs_of};
-ghost use Rattle.hz_model.specs.AlternativeLists.{IsCuttable};
-ghost use Rattle.hz_model.specs.Automata.{cut, inside, is_of, list_in, same_pair};
+ghost use Rattle.hz_altern_model.specs.AlternativeLists.{IsCuttable};
+ghost use Rattle.hz_altern_model.specs.Automata.{cut, inside, is_of, list_in, same_pair};
 
 use crate::alternative::{Alt, Pair};
 use crate::fault::NoMemory;

@@ -9,17 +9,16 @@ use Rattle.hz_check.specs.declared.fault.CheckFault.TheVariants.{TwiceDefined, R
 use Rattle.hz_check.specs.Checking.{IsOrdered, AreWithin}
 use Rattle.hz_check.specs.Faults.{Tells, IsToldAt, IsToldHere, limit_of}
 use Rattle.hz_expand.proofs.Unwinding.{unfolded}
-use Rattle.hz_model.specs.CheckFaults as model
-use Rattle.hz_model.specs.CheckFaults.{Standing, Told, Known, first_told, told_at, faults_of_meanings, faults_of_names, CheckFaultAt, of_meanings, of_names, of_circle, IsFirst, IsCircular, Reserving, limit, alternatives, cycles, size, past_limit, second_numbers, reservation_site}
+use Rattle.hz_check_model.specs.CheckFaults as model
+use Rattle.hz_check_model.specs.CheckFaults.{Standing, Told, Known, first_told, told_at, faults_of_meanings, faults_of_names, CheckFaultAt, of_meanings, of_names, of_circle, IsFirst, IsCircular, Reserving, limit, alternatives, cycles, size, past_limit, second_numbers, reservation_site, automaton_sites, class_sites}
 use Rattle.hz_mdread.specs.declared.description.Description.{Description as StoredDescription}
 use Rattle.hz_mdread.specs.declared.items.ReservationItem.{ReservationItem as StoredReservation}
 use Rattle.hz_mdread.specs.Shape.{description, reservation_item}
-use Rattle.hz_model.proofs.EarliestLaws.{no_site}
-use Rattle.hz_model.specs.CheckFaults.{automaton_sites, class_sites}
-use Rattle.hz_model.specs.Descriptions.{Description}
-use Rattle.hz_model.specs.Limits.{automaton_limit, class_limit}
-use Rattle.hz_model.specs.Machines.{IsKnown}
-use Rattle.hz_model.specs.Sites.{Site, earliest}
+use Rattle.hz_check_model.proofs.EarliestLaws.{no_site}
+use Rattle.hz_mdread_model.specs.Descriptions.{Description}
+use Rattle.hz_base_model.specs.Limits.{automaton_limit, class_limit}
+use Rattle.hz_check_model.specs.Places.{IsKnown}
+use Rattle.hz_check_model.specs.Sites.{Site, earliest}
 use Rattle.hz_unfold.specs.Orders.{reservings}
 
 tells_with : (P Q : model.CheckFault → ℕ → List ℕ → Type 0) → ((f : model.CheckFault) (line : ℕ) (name : List ℕ) → P f line name → Q f line name) → (fault : CheckFault) → Tells P fault → Tells Q fault

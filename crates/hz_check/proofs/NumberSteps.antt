@@ -7,11 +7,11 @@ use Rattle.std.specs.List.{list_any, cons_option}
 use Rattle.std.specs.Option.{MatchOption}
 use Rattle.std.specs.Str.{bytes_eq}
 use Rattle.hz_check.specs.Unknown.{first_of}
-use Rattle.hz_model.specs.CheckFaults.{is_class}
-use Rattle.hz_model.specs.CheckedParts.{class_numbers}
-use Rattle.hz_model.specs.Descriptions.{Description}
-use Rattle.hz_model.specs.Lines.{place_of}
-use Rattle.hz_model.specs.Machines.{class_names}
+use Rattle.hz_check_model.specs.CheckFaults.{is_class}
+use Rattle.hz_check_model.specs.CheckedParts.{class_numbers}
+use Rattle.hz_mdread_model.specs.Descriptions.{Description}
+use Rattle.hz_base_model.specs.Lines.{place_of}
+use Rattle.hz_check_model.specs.Places.{class_names}
 
 -- Lists of numbers.
 

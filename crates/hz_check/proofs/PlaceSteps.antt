@@ -16,13 +16,13 @@ use Rattle.hz_expand.specs.Shape.{place_of}
 use Rattle.hz_check.proofs.Earliest.{earlier-earlier}
 use Rattle.hz_check.proofs.InOrder.{AllPairs-drop, earlier_one}
 use Rattle.hz_check.proofs.Next.{drop_next}
-use Rattle.hz_model.proofs.Ascending.{AllPairs-head}
-use Rattle.hz_model.specs.Automata.{UnitPlace}
-use Rattle.hz_model.specs.CheckFaults.{past_units}
-use Rattle.hz_model.specs.Descriptions.{Description, UnitItem}
-use Rattle.hz_model.specs.Machines.{automaton_number, automaton_numbers, place_behind, places_behind}
-use Rattle.hz_model.specs.Sites.{Site, earlier, earliest}
-use Rattle.hz_model.specs.Lines.{place_of as place_in}
+use Rattle.hz_base_model.proofs.Ascending.{AllPairs-head}
+use Rattle.hz_altern_model.specs.Automata.{UnitPlace}
+use Rattle.hz_check_model.specs.CheckFaults.{past_units}
+use Rattle.hz_mdread_model.specs.Descriptions.{Description, UnitItem}
+use Rattle.hz_check_model.specs.Places.{automaton_number, automaton_numbers, place_behind, places_behind}
+use Rattle.hz_check_model.specs.Sites.{Site, earlier, earliest}
+use Rattle.hz_base_model.specs.Lines.{place_of as place_in}
 
 count_push : (p : ℕ → Bool) (xs : List ℕ) (y : ℕ) → count_by p (xs ++ y ∷ []) ≡ count_by p xs + cond (p y) 1 0
 count_push p xs y = sum_by-append (λ x. cond (p x) 1 0) xs (y ∷ []) ∙ omega arith

@@ -7,7 +7,7 @@ use Rattle.std.specs.Map.{update}
 use Rattle.std.specs.Option.{option_map_or}
 use Rattle.std.proofs.Math.Path.{fun_ext}
 use Rattle.std.specs.Str.{bytes_eq}
-use Rattle.hz_model.specs.Sites.{Site, is_among, is_preceded, repeated, earlier, earliest}
+use Rattle.hz_check_model.specs.Sites.{Site, is_among, is_preceded, repeated, earlier, earliest}
 use Rattle.std.specs.Bool.{then_some}
 use Rattle.hz_unfold.specs.declared.site.Site as stored
 use Rattle.hz_unfold.specs.Places.{site_of, told}

@@ -4,8 +4,8 @@ use Rattle.hz_check.specs.declared.placed.PlacedSet.{PlacedSet}
 use Rattle.hz_check.specs.Units.{IsWithin}
 use Rattle.hz_expand.specs.Shape.{place_of}
 use Rattle.hz_unitsets.specs.SetRules.{kind_of}
-use Rattle.hz_model.specs.Automata.{UnitPlace}
-use Rattle.hz_model.specs.Sets.{Statement}
+use Rattle.hz_altern_model.specs.Automata.{UnitPlace}
+use Rattle.hz_altern_model.specs.Sets.{Statement}
 
 -- a set statement on units by their places
 abbrev pub placed_statement : PlacedSet → Statement UnitPlace

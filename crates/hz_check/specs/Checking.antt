@@ -1,11 +1,11 @@
 -- What is known between the steps of the check.
 use Rattle.std.specs.Prelude.{◌≡◌, ℕ, List, None, drop}
-use Rattle.hz_model.specs.CheckFaults.{first_told, faults_of_names, self_exclusions, sets_across_automata, automaton_sites, class_sites, past_units}
-use Rattle.hz_model.specs.DescriptionShape.{IsCheckable}
-use Rattle.hz_model.specs.Descriptions.{Description}
-use Rattle.hz_model.specs.Limits.{automaton_limit, class_limit}
-use Rattle.hz_model.specs.Machines.{unit_places}
-use Rattle.hz_model.specs.Sites.{earliest}
+use Rattle.hz_check_model.specs.CheckFaults.{first_told, faults_of_names, self_exclusions, sets_across_automata, automaton_sites, class_sites, past_units}
+use Rattle.hz_mdread_model.specs.DescriptionShape.{IsCheckable}
+use Rattle.hz_mdread_model.specs.Descriptions.{Description}
+use Rattle.hz_base_model.specs.Limits.{automaton_limit, class_limit}
+use Rattle.hz_check_model.specs.Places.{unit_places}
+use Rattle.hz_check_model.specs.Sites.{earliest}
 use Rattle.hz_unfold.specs.Orders.{IsOrder}
 
 -- the names are right, and reservations and classes have this counting order

@@ -8,8 +8,8 @@ use Rattle.hz_check.specs.declared.told.Wrong.{Wrong}
 use Rattle.hz_check.specs.declared.told.Wrong.TheVariants as wrong
 use Rattle.hz_check.specs.declared.told.Told.{Told}
 use Rattle.hz_unfold.specs.Places.{site_of}
-use Rattle.hz_model.specs.CheckFaults as model
-use Rattle.hz_model.specs.Descriptions.{Description}
+use Rattle.hz_check_model.specs.CheckFaults as model
+use Rattle.hz_mdread_model.specs.Descriptions.{Description}
 
 -- the name of a limit
 abbrev pub limit_of : LimitName → model.LimitName

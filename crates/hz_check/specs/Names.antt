@@ -3,8 +3,8 @@ use Rattle.std.specs.Prelude.{◌≡◌, ℕ, Bool, List, Option}
 use Rattle.std.specs.Option.{option_map}
 use Rattle.hz_check.specs.declared.by_name.ByName.{ByName}
 use Rattle.hz_check.specs.ByName.{held, is_held}
-use Rattle.hz_model.specs.Lines.{place_of}
-use Rattle.hz_model.specs.Sites.{is_among}
+use Rattle.hz_base_model.specs.Lines.{place_of}
+use Rattle.hz_check_model.specs.Sites.{is_among}
 
 -- the first place of each name in the list is held
 abbrev pub IsPlaced : ByName ℕ → List (List ℕ) → Type 0

@@ -2,11 +2,11 @@
 use Rattle.std.specs.Prelude.{◌≡◌, ◌<◌, List, [], map, Some, All}
 use Rattle.hz_expand.specs.declared.places.UnitPlace.{UnitPlace as Place}
 use Rattle.hz_expand.specs.Shape.{place_of}
-use Rattle.hz_model.specs.CheckFaults.{past_units}
-use Rattle.hz_model.specs.Descriptions.{Description}
-use Rattle.hz_model.specs.Limits.{automaton_limit, unit_limit}
-use Rattle.hz_model.specs.Machines.{unit_places}
-use Rattle.hz_model.specs.Sites.{Site, earliest}
+use Rattle.hz_check_model.specs.CheckFaults.{past_units}
+use Rattle.hz_mdread_model.specs.Descriptions.{Description}
+use Rattle.hz_base_model.specs.Limits.{automaton_limit, unit_limit}
+use Rattle.hz_check_model.specs.Places.{unit_places}
+use Rattle.hz_check_model.specs.Sites.{Site, earliest}
 
 -- the unit is one that an automaton may have
 pub record IsWithin (p : Place) : Type 0 where

@@ -3,8 +3,8 @@
 ghost use Rattle.std.specs.Prelude.{◌≡◌, map};
 ghost use Rattle.hz_mdread.specs.Shape.{description, unit_item};
 ghost use Rattle.hz_unfold.specs.Places.{told};
-ghost use Rattle.hz_model.specs.CheckFaults.{unknown_automata, unknown_automaton_of, units_without_automaton, homeless};
-ghost use Rattle.hz_model.specs.Sites.{earliest};
+ghost use Rattle.hz_check_model.specs.CheckFaults.{unknown_automata, unknown_automaton_of, units_without_automaton, homeless};
+ghost use Rattle.hz_check_model.specs.Sites.{earliest};
 
 use crate::named::Defines;
 use crate::names::Names;

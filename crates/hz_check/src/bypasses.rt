@@ -5,9 +5,9 @@ ghost use Rattle.std.specs.List.{AllPairs};
 ghost use Rattle.hz_mdread.specs.Shape.{description};
 ghost use Rattle.hz_unfold.specs.Places.{told};
 ghost use Rattle.hz_check.specs.Unknown.{first_of};
-ghost use Rattle.hz_model.specs.CheckFaults.{second_numbers, unknown_names};
-ghost use Rattle.hz_model.specs.CheckedParts.{class_numbers};
-ghost use Rattle.hz_model.specs.Sites.{earliest};
+ghost use Rattle.hz_check_model.specs.CheckFaults.{second_numbers, unknown_names};
+ghost use Rattle.hz_check_model.specs.CheckedParts.{class_numbers};
+ghost use Rattle.hz_check_model.specs.Sites.{earliest};
 
 use crate::names::Names;
 use crate::rows::{distinct, first_other, give_all, no_rows};

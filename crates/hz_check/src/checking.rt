@@ -5,7 +5,7 @@ ghost use Rattle.hz_mdread.specs.Shape.{description};
 ghost use Rattle.hz_check.specs.Checked.{IsCheckedOf};
 ghost use Rattle.hz_check.specs.Faults.{Tells, IsToldAt};
 ghost use Rattle.hz_check.specs.Parts.{IsPartsOf};
-ghost use Rattle.hz_model.specs.DescriptionShape.{IsCheckable};
+ghost use Rattle.hz_mdread_model.specs.DescriptionShape.{IsCheckable};
 
 use crate::assembly::attributes;
 use crate::checked::Checked;

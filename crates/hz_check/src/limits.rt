@@ -4,9 +4,9 @@ ghost use Rattle.std.specs.Prelude.{◌≡◌, ◌≤◌, map, drop};
 ghost use Rattle.std.specs.List.{AllPairs};
 ghost use Rattle.hz_mdread.specs.Shape.{description};
 ghost use Rattle.hz_unfold.specs.Places.{told};
-ghost use Rattle.hz_model.specs.CheckFaults.{automaton_sites, class_sites};
-ghost use Rattle.hz_model.specs.Limits as limits;
-ghost use Rattle.hz_model.specs.Sites.{earliest};
+ghost use Rattle.hz_check_model.specs.CheckFaults.{automaton_sites, class_sites};
+ghost use Rattle.hz_base_model.specs.Limits as limits;
+ghost use Rattle.hz_check_model.specs.Sites.{earliest};
 
 use crate::named::Defines;
 use crate::site::Site;

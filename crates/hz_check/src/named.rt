@@ -2,7 +2,7 @@
 
 ghost use Rattle.std.specs.Prelude.{◌≡◌};
 ghost use Rattle.hz_unfold.specs.Places.{site_of};
-ghost use Rattle.hz_model.specs.Sites as model;
+ghost use Rattle.hz_check_model.specs.Sites as model;
 
 use crate::site::Site;
 use hz_mdread::{AttrItem, AutomatonItem, ClassItem, ReservationItem, UnitItem};

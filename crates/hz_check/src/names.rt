@@ -4,8 +4,8 @@ ghost use Rattle.std.specs.Prelude.{◌≡◌, map, List, ℕ};
 ghost use Rattle.hz_mdread.specs.Shape.{description};
 ghost use Rattle.hz_check.specs.ByName.{held};
 ghost use Rattle.hz_check.specs.Names.{IsPlaced, test_by, test_of};
-ghost use Rattle.hz_model.specs.CheckFaults.{values_of};
-ghost use Rattle.hz_model.specs.Machines.{class_names};
+ghost use Rattle.hz_check_model.specs.CheckFaults.{values_of};
+ghost use Rattle.hz_check_model.specs.Places.{class_names};
 
 use crate::by_name::ByName;
 use crate::tables::{first_missing, places_of, values_of};
@@ -41,8 +41,8 @@ impl<'a> Names<'a> {
     ghost use Rattle.hz_mdread.specs.Shape.{description};
     ghost use Rattle.hz_check.specs.ByName.{held};
     ghost use Rattle.hz_check.specs.Names.{IsPlaced, test_by, test_of};
-    ghost use Rattle.hz_model.specs.CheckFaults.{is_unit, is_reservable, is_class, values_of, home};
-    ghost use Rattle.hz_model.specs.Machines.{class_names, automaton_number};
+    ghost use Rattle.hz_check_model.specs.CheckFaults.{is_unit, is_reservable, is_class, values_of, home};
+    ghost use Rattle.hz_check_model.specs.Places.{class_names, automaton_number};
 
     /// The names of a description.
     pub fn of(alloc: Global, desc: &'a Description) -> Result<Names<'a>, NoMemory>

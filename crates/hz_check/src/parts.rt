@@ -4,7 +4,7 @@ ghost use Rattle.std.specs.Prelude.{IfOk, IfErr};
 ghost use Rattle.hz_mdread.specs.Shape.{description};
 ghost use Rattle.hz_check.specs.Faults.{Tells, IsToldAt};
 ghost use Rattle.hz_check.specs.Parts.{IsPartsOf};
-ghost use Rattle.hz_model.specs.DescriptionShape.{IsCheckable};
+ghost use Rattle.hz_mdread_model.specs.DescriptionShape.{IsCheckable};
 
 use crate::assembly::{automata, bypasses};
 use crate::bypasses::second_number;

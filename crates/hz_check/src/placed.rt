@@ -6,7 +6,7 @@ ghost use Rattle.hz_mdread.specs.Shape.{description, set_item, set_kind};
 ghost use Rattle.hz_check.specs.Assembly.{placed_statement, IsPlaced};
 ghost use Rattle.hz_check.specs.Units.{IsWithin};
 ghost use Rattle.hz_expand.specs.Shape.{place_of};
-ghost use Rattle.hz_model.specs.Machines.{places_of, statement_of, unit_place, unit_places};
+ghost use Rattle.hz_check_model.specs.Places.{places_of, statement_of, unit_place, unit_places};
 ghost use Rattle.hz_unitsets.specs.SetRules.{kind_of};
 
 use crate::names::Names;

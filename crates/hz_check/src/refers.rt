@@ -7,10 +7,10 @@ ghost use Rattle.hz_check.specs.Unknown.{first_of};
 ghost use Rattle.hz_mdread.specs.Shape.{description, condition, bypass_item, set_item};
 ghost use Rattle.hz_regexp.specs.Shape.{expression};
 ghost use Rattle.hz_unfold.specs.Places.{told};
-ghost use Rattle.hz_model.specs.CheckFaults.{sites_of, is_unit, is_class, unknown_in_expression, unknown_in_condition, names_of_bypass, names_of_set};
-ghost use Rattle.hz_model.specs.Descriptions.{Description};
-ghost use Rattle.hz_model.specs.Sites as sites;
-ghost use Rattle.hz_model.specs.Sites.{earliest, is_among};
+ghost use Rattle.hz_check_model.specs.CheckFaults.{sites_of, is_unit, is_class, unknown_in_expression, unknown_in_condition, names_of_bypass, names_of_set};
+ghost use Rattle.hz_mdread_model.specs.Descriptions.{Description};
+ghost use Rattle.hz_check_model.specs.Sites as sites;
+ghost use Rattle.hz_check_model.specs.Sites.{earliest, is_among};
 
 use crate::conditions::unknown_in_condition;
 use crate::expressions::unknown_in_expression;

@@ -4,8 +4,8 @@ ghost use Rattle.std.specs.Prelude.{◌≡◌, map, filter, codes};
 ghost use Rattle.std.specs.Str.{bytes_eq};
 ghost use Rattle.hz_mdread.specs.Shape.{description};
 ghost use Rattle.hz_unfold.specs.Places.{told};
-ghost use Rattle.hz_model.specs.CheckFaults.{reserved_names};
-ghost use Rattle.hz_model.specs.Sites.{earliest};
+ghost use Rattle.hz_check_model.specs.CheckFaults.{reserved_names};
+ghost use Rattle.hz_check_model.specs.Sites.{earliest};
 
 use crate::named::Defines;
 use crate::site::{Site, earlier};

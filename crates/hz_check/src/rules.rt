@@ -5,7 +5,7 @@ ghost use Rattle.std.specs.List.{list_all};
 ghost use Rattle.hz_check.specs.Assembly.{placed_statement, IsPlaced};
 ghost use Rattle.hz_check.specs.Units.{IsWithin};
 ghost use Rattle.hz_expand.specs.Shape.{place_of};
-ghost use Rattle.hz_model.specs.Machines.{inside_statement, is_inside, unit_numbers};
+ghost use Rattle.hz_altern_model.specs.Inside.{inside_statement, is_inside, unit_numbers};
 ghost use Rattle.hz_unitsets.specs.SetRules.{statement_of, statements_of};
 
 use crate::placed::PlacedSet;

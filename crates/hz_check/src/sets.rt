@@ -7,8 +7,8 @@ ghost use Rattle.hz_mdread.specs.Shape.{description, set_item};
 ghost use Rattle.hz_check.specs.Names.{IsJust};
 ghost use Rattle.hz_unfold.specs.Places.{told};
 ghost use Rattle.hz_check.specs.Unknown.{first_of};
-ghost use Rattle.hz_model.specs.CheckFaults.{sites_of, units_of_patterns, self_excluded, self_exclusions, home, same_home, strangers, names_of_set, sets_across_automata};
-ghost use Rattle.hz_model.specs.Sites.{earliest, is_among};
+ghost use Rattle.hz_check_model.specs.CheckFaults.{sites_of, units_of_patterns, self_excluded, self_exclusions, home, same_home, strangers, names_of_set, sets_across_automata};
+ghost use Rattle.hz_check_model.specs.Sites.{earliest, is_among};
 
 use crate::by_name::ByName;
 use crate::names::Names;

@@ -3,9 +3,9 @@
 ghost use Rattle.std.specs.Prelude.{◌≡◌, List, ℕ};
 ghost use Rattle.std.specs.Option.{option_copied};
 ghost use Rattle.hz_check.specs.Unknown.{first_of};
-ghost use Rattle.hz_model.specs.CheckFaults.{sites_of};
+ghost use Rattle.hz_check_model.specs.CheckFaults.{sites_of};
 ghost use Rattle.hz_unfold.specs.Places.{told};
-ghost use Rattle.hz_model.specs.Sites as model;
+ghost use Rattle.hz_check_model.specs.Sites as model;
 
 use hz_regexp::Name;
 pub(crate) use hz_unfold::{Site, earlier};

@@ -5,8 +5,8 @@ ghost use Rattle.hz_mdread.specs.Shape.{description};
 ghost use Rattle.hz_check.specs.Checking.{IsOrdered, AreWithin};
 ghost use Rattle.hz_check.specs.Faults.{Tells, IsToldAt};
 ghost use Rattle.hz_check.specs.Units.{ArePlaces};
-ghost use Rattle.hz_model.specs.CheckFaults.{faults_of_names, first_told};
-ghost use Rattle.hz_model.specs.DescriptionShape.{IsCheckable};
+ghost use Rattle.hz_check_model.specs.CheckFaults.{faults_of_names, first_told};
+ghost use Rattle.hz_mdread_model.specs.DescriptionShape.{IsCheckable};
 
 use crate::fault::{CheckFault, LimitName};
 use crate::limits::{past_automaton, past_class};

@@ -8,7 +8,7 @@ ghost use Rattle.hz_mdread.specs.Shape.{attribute_item};
 ghost use Rattle.hz_check.specs.ByName.{held, is_held};
 ghost use Rattle.hz_check.specs.Names.{IsPlaced, IsJust, test_by, test_of};
 ghost use Rattle.hz_check.specs.Unknown.{first_of};
-ghost use Rattle.hz_model.specs.CheckFaults as model;
+ghost use Rattle.hz_check_model.specs.CheckFaults as model;
 
 use crate::by_name::ByName;
 use crate::named::Defines;

@@ -6,9 +6,9 @@ ghost use Rattle.hz_mdread.specs.Shape.{description, attribute_item};
 ghost use Rattle.hz_unfold.specs.Places.{site_of, told};
 ghost use Rattle.hz_check.specs.ByName.{is_held};
 ghost use Rattle.hz_check.specs.Twice.{is_given, repeated_by, unseen};
-ghost use Rattle.hz_model.specs.CheckFaults.{second_definitions, repeated_values};
-ghost use Rattle.hz_model.specs.Sites as model;
-ghost use Rattle.hz_model.specs.Sites.{earliest, is_preceded};
+ghost use Rattle.hz_check_model.specs.CheckFaults.{second_definitions, repeated_values};
+ghost use Rattle.hz_check_model.specs.Sites as model;
+ghost use Rattle.hz_check_model.specs.Sites.{earliest, is_preceded};
 
 use crate::by_name::ByName;
 use crate::named::Defines;

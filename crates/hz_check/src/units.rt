@@ -6,7 +6,7 @@ ghost use Rattle.hz_mdread.specs.Shape.{description};
 ghost use Rattle.hz_unfold.specs.Places.{site_of};
 ghost use Rattle.hz_check.specs.Units.{IsPast, ArePlaces};
 ghost use Rattle.hz_expand.specs.Shape.{place_of};
-ghost use Rattle.hz_model.specs.Limits as limits;
+ghost use Rattle.hz_base_model.specs.Limits as limits;
 
 use crate::limits::AUTOMATA;
 use crate::named::Defines;

@@ -4,11 +4,11 @@ ghost use Rattle.std.specs.Prelude.{◌≡◌, List, ℕ};
 ghost use Rattle.std.specs.List.{flat_map};
 ghost use Rattle.hz_mdread.specs.Shape.{description};
 ghost use Rattle.hz_unfold.specs.Places.{told};
-ghost use Rattle.hz_model.specs.CheckFaults as model;
-ghost use Rattle.hz_model.specs.CheckFaults.{unknown_names};
-ghost use Rattle.hz_model.specs.Descriptions.{Description};
-ghost use Rattle.hz_model.specs.Sites as sites;
-ghost use Rattle.hz_model.specs.Sites.{earliest};
+ghost use Rattle.hz_check_model.specs.CheckFaults as model;
+ghost use Rattle.hz_check_model.specs.CheckFaults.{unknown_names};
+ghost use Rattle.hz_mdread_model.specs.Descriptions.{Description};
+ghost use Rattle.hz_check_model.specs.Sites as sites;
+ghost use Rattle.hz_check_model.specs.Sites.{earliest};
 
 use crate::names::Names;
 use crate::refers::Refers;

@@ -10,17 +10,17 @@ use Rattle.hz_expand.specs.Tables.{unit_names, reservation_names, IsBehind, Hold
 use Rattle.hz_expand.proofs.Holding.{holds_more, holds_same, all_held, right_extents, some_of_extents}
 use Rattle.hz_expand.proofs.Names.{name_there, reservation_extent, reservation_list}
 use Rattle.hz_expand.proofs.Ordered.{at_from_take, IsReservationAt, IsClassAt, reservation_or_class, written, in_all, names_before, fresh_name, behind_more, behind_kept, behind_here, behind_class}
-use Rattle.hz_model.specs.Alternatives.{Alternative, Expression, alternatives_of}
-use Rattle.hz_model.specs.AlternativeLists.{Extent, extent_of}
-use Rattle.hz_model.specs.Automata.{UnitPlace, listed}
-use Rattle.hz_model.specs.CheckFaults.{Known, Reserving, first_told, faults_of_names}
-use Rattle.hz_model.specs.Descriptions.{Description, UnitItem}
-use Rattle.hz_model.specs.DescriptionShape.{IsCheckable}
-use Rattle.hz_model.specs.Expressions.{is_expression}
-use Rattle.hz_model.specs.Machines.{IsKnown}
-use Rattle.hz_model.specs.Meanings.{Mentions}
-use Rattle.hz_model.proofs.Elements.{Contains-nil}
-use Rattle.hz_model.specs.NamesIn.{all_names}
+use Rattle.hz_altern_model.specs.Alternatives.{Alternative, Expression, alternatives_of}
+use Rattle.hz_altern_model.specs.AlternativeLists.{Extent, extent_of}
+use Rattle.hz_altern_model.specs.Automata.{UnitPlace, listed}
+use Rattle.hz_check_model.specs.CheckFaults.{Known, Reserving, first_told, faults_of_names}
+use Rattle.hz_mdread_model.specs.Descriptions.{Description, UnitItem}
+use Rattle.hz_mdread_model.specs.DescriptionShape.{IsCheckable}
+use Rattle.hz_altern_model.specs.Expressions.{is_expression}
+use Rattle.hz_check_model.specs.Places.{IsKnown}
+use Rattle.hz_altern_model.specs.Meanings.{Mentions}
+use Rattle.hz_base_model.proofs.Elements.{Contains-nil}
+use Rattle.hz_altern_model.specs.NamesIn.{all_names}
 use Rattle.hz_unfold.specs.Graphs.{At}
 use Rattle.hz_unfold.specs.Orders.{all_of, reserving, IsOrder}
 use Rattle.hz_unfold.proofs.NameFacts.{are_named}

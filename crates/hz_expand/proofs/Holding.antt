@@ -6,18 +6,18 @@ use Rattle.std.proofs.lemmas.Bool.{cases_Bool, both_ways}
 use Rattle.std.proofs.lemmas.Option.{none-some, same_Some}
 use Rattle.hz_altern.specs.Tables.{is_held, Adds, AreRight}
 use Rattle.hz_expand.specs.Tables.{Holds, HasExtent, HasAlternatives}
-use Rattle.hz_model.specs.Alternatives.{Alternative, Expression, alternatives_of}
-use Rattle.hz_model.specs.AlternativeLists.{Extent}
-use Rattle.hz_model.specs.Automata.{UnitPlace, listed}
-use Rattle.hz_model.specs.CheckFaults.{Known}
-use Rattle.hz_model.specs.Descriptions.{Description}
-use Rattle.hz_model.specs.Expressions.{is_expression}
-use Rattle.hz_model.specs.Machines.{IsKnown}
-use Rattle.hz_model.specs.Meanings.{Mentions}
-use Rattle.hz_model.specs.NamesIn.{all_names}
-use Rattle.hz_model.proofs.Elements.{Contains-nil}
-use Rattle.hz_model.proofs.ExpressionLaws.{some_alternatives}
-use Rattle.hz_model.proofs.PlacedLaws.{all_pass}
+use Rattle.hz_altern_model.specs.Alternatives.{Alternative, Expression, alternatives_of}
+use Rattle.hz_altern_model.specs.AlternativeLists.{Extent}
+use Rattle.hz_altern_model.specs.Automata.{UnitPlace, listed}
+use Rattle.hz_check_model.specs.CheckFaults.{Known}
+use Rattle.hz_mdread_model.specs.Descriptions.{Description}
+use Rattle.hz_altern_model.specs.Expressions.{is_expression}
+use Rattle.hz_check_model.specs.Places.{IsKnown}
+use Rattle.hz_altern_model.specs.Meanings.{Mentions}
+use Rattle.hz_altern_model.specs.NamesIn.{all_names}
+use Rattle.hz_base_model.proofs.Elements.{Contains-nil}
+use Rattle.hz_altern_model.proofs.ExpressionLaws.{some_alternatives}
+use Rattle.hz_altern_model.proofs.PlacedLaws.{all_pass}
 use Rattle.hz_unfold.proofs.FirstNames.{bytes_eq-self, same_bytes}
 
 pub same_or_not : (a b : List ℕ) → (a ≡ b) ⊎ (a ≢ b)

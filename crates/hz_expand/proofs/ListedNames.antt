@@ -4,14 +4,14 @@ use Rattle.std.proofs.lemmas.List.{map-append, length-map}
 use Rattle.hz_altern.specs.Answers.{total_weight}
 use Rattle.hz_altern.proofs.ExpandLemmas.{total_listed}
 use Rattle.hz_altern.proofs.HalfLemmas.{greatest-listed}
-use Rattle.hz_model.specs.Alternatives.{Alternative, Expression, named, nothing, sequence, one_of, all_of, repeat, Parts, none, more, alternatives_of, in_sequence, any_of, together, each_choice, followed_by, beside, copies}
-use Rattle.hz_model.specs.AlternativeLists.{greatest_length}
-use Rattle.hz_model.specs.Automata.{UnitPlace, ascending, listed, total_size}
-use Rattle.hz_model.specs.Meanings.{Mentions, MentionsIn}
-use Rattle.hz_model.specs.Pairs.{Pair, placed}
-use Rattle.hz_model.proofs.AscendingLaws.{ascending_itself, IsAscending-ascending, ascending_same, same_ascending}
-use Rattle.hz_model.proofs.ListedLaws.{map-each_choice, listed_beside}
-use Rattle.hz_model.proofs.SameLaws.{same_append, same_placed, same_back}
+use Rattle.hz_altern_model.specs.Alternatives.{Alternative, Expression, named, nothing, sequence, one_of, all_of, repeat, Parts, none, more, alternatives_of, in_sequence, any_of, together, each_choice, followed_by, beside, copies}
+use Rattle.hz_altern_model.specs.AlternativeLists.{greatest_length}
+use Rattle.hz_altern_model.specs.Automata.{UnitPlace, ascending, listed, total_size}
+use Rattle.hz_altern_model.specs.Meanings.{Mentions, MentionsIn}
+use Rattle.hz_base_model.specs.Pairs.{Pair, placed}
+use Rattle.hz_altern_model.proofs.AscendingLaws.{ascending_itself, IsAscending-ascending, ascending_same, same_ascending}
+use Rattle.hz_altern_model.proofs.ListedLaws.{map-each_choice, listed_beside}
+use Rattle.hz_altern_model.proofs.SamePairsLaws.{same_append, same_placed, same_back}
 
 abbrev whole : List (Pair UnitPlace) → ℕ → Alternative UnitPlace
 whole pairs cycles = record { pairs = pairs; cycles = cycles }

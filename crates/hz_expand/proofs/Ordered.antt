@@ -8,14 +8,15 @@ use Rattle.std.proofs.lemmas.List.Elements.{Contains-get_or, Contains-append_lef
 use Rattle.std.proofs.lemmas.Option.{none-some, same_Some, slice_get-get_or, slice_get_within, slice_get_past, get_or_from_slice_get}
 use Rattle.hz_expand.specs.Tables.{unit_names, reservation_names, IsBehind}
 use Rattle.hz_expand.proofs.Names.{no_unit_named}
-use Rattle.hz_model.specs.CheckFaults.{Reserving, reserving_reservation, reserving_class, reservations_of, classes_of, first_told, faults_of_names, names_in, is_unit, is_reservable}
-use Rattle.hz_model.specs.Descriptions.{Description, ReservationItem, ClassItem}
-use Rattle.hz_model.specs.DescriptionShape.{IsCheckable, IsCheckableReservation, IsCheckableClass}
-use Rattle.hz_model.specs.Expressions.{is_expression}
-use Rattle.hz_model.specs.Meanings.{Mentions}
-use Rattle.hz_model.specs.Sites.{is_among}
-use Rattle.hz_model.proofs.CircleLaws.{named_there}
-use Rattle.hz_model.proofs.Elements.{Contains-nil, Contains-head, Contains-tail, Contains-cons_cases, Contains-from_map}
+use Rattle.hz_check_model.specs.CheckFaults.{Reserving, reserving_reservation, reserving_class, reservations_of, classes_of, first_told, faults_of_names, is_unit, is_reservable}
+use Rattle.hz_altern_model.specs.NamesIn.{names_in}
+use Rattle.hz_mdread_model.specs.Descriptions.{Description, ReservationItem, ClassItem}
+use Rattle.hz_mdread_model.specs.DescriptionShape.{IsCheckable, IsCheckableReservation, IsCheckableClass}
+use Rattle.hz_altern_model.specs.Expressions.{is_expression}
+use Rattle.hz_altern_model.specs.Meanings.{Mentions}
+use Rattle.hz_check_model.specs.Sites.{is_among}
+use Rattle.hz_check_model.proofs.CircleLaws.{named_there}
+use Rattle.hz_base_model.proofs.Elements.{Contains-nil, Contains-head, Contains-tail, Contains-cons_cases, Contains-from_map}
 use Rattle.hz_unfold.specs.Graphs.{At}
 use Rattle.hz_unfold.specs.Orders.{all_of, reserving, nothing_reserved, number_of, IsOrder}
 use Rattle.hz_unfold.proofs.NameFacts.{AreNamed, are_named, Contains-from_among, place_apart}

@@ -12,15 +12,15 @@ use Rattle.hz_unfold.specs.Places.{told}
 use Rattle.hz_expand.specs.Tables.{IsBehind, Holds, HasExtent}
 use Rattle.hz_expand.proofs.Holding.{all_held, right_extents}
 use Rattle.hz_expand.proofs.Ordered.{written, names_in_all}
-use Rattle.hz_model.specs.Alternatives.{Alternative, alternatives_of}
-use Rattle.hz_model.specs.AlternativeLists.{Extent, extent_of, greatest_length}
-use Rattle.hz_model.specs.Automata.{UnitPlace}
-use Rattle.hz_model.specs.CheckFaults.{Known, Reserving, first_told, faults_of_names, has_too_many, has_too_long, alternatives_in, reservations_of, classes_of}
-use Rattle.hz_model.specs.Descriptions.{Description}
-use Rattle.hz_model.specs.DescriptionShape.{IsCheckable}
-use Rattle.hz_model.specs.Machines.{IsKnown}
-use Rattle.hz_model.specs.Sites.{Site, earlier, earliest}
-use Rattle.hz_model.proofs.Elements.{Contains-head, Contains-tail}
+use Rattle.hz_altern_model.specs.Alternatives.{Alternative, alternatives_of}
+use Rattle.hz_altern_model.specs.AlternativeLists.{Extent, extent_of, greatest_length}
+use Rattle.hz_altern_model.specs.Automata.{UnitPlace}
+use Rattle.hz_check_model.specs.CheckFaults.{Known, Reserving, first_told, faults_of_names, has_too_many, has_too_long, alternatives_in, reservations_of, classes_of}
+use Rattle.hz_mdread_model.specs.Descriptions.{Description}
+use Rattle.hz_mdread_model.specs.DescriptionShape.{IsCheckable}
+use Rattle.hz_check_model.specs.Places.{IsKnown}
+use Rattle.hz_check_model.specs.Sites.{Site, earlier, earliest}
+use Rattle.hz_base_model.proofs.Elements.{Contains-head, Contains-tail}
 use Rattle.hz_unfold.specs.Orders.{all_of, IsOrder, reservings}
 
 -- what an extent tells

@@ -24,17 +24,17 @@ use Rattle.hz_expand.proofs.ListedNames.{SameListed, listed_twice, alternatives_
 use Rattle.hz_expand.proofs.Ordered.{in_all}
 use Rattle.hz_expand.proofs.Pasts.{some_long, map_twice}
 use Rattle.hz_expand.proofs.Unwinding.{some_known}
-use Rattle.hz_model.specs.Alternatives.{Alternative, alternatives_of}
-use Rattle.hz_model.specs.AlternativeLists.{AreSound, greatest_length}
-use Rattle.hz_model.specs.Automata.{UnitPlace, listed, total_size}
-use Rattle.hz_model.specs.CheckFaults.{Known, Reserving, reserving_class, reservations_of, classes_of, alternatives_in, has_too_many, has_too_long, sites_where, past_size, first_told, faults_of_names}
-use Rattle.hz_model.specs.Descriptions.{Description}
-use Rattle.hz_model.specs.DescriptionShape.{IsCheckable}
-use Rattle.hz_model.specs.Limits.{size_limit}
-use Rattle.hz_model.specs.Machines.{IsKnown}
-use Rattle.hz_model.specs.Sites.{Site, earliest}
-use Rattle.hz_model.proofs.EarliestLaws.{no_site}
-use Rattle.hz_model.proofs.Elements.{Contains-nil, Contains-cons_cases}
+use Rattle.hz_altern_model.specs.Alternatives.{Alternative, alternatives_of}
+use Rattle.hz_altern_model.specs.AlternativeLists.{AreSound, greatest_length}
+use Rattle.hz_altern_model.specs.Automata.{UnitPlace, listed, total_size}
+use Rattle.hz_check_model.specs.CheckFaults.{Known, Reserving, reserving_class, reservations_of, classes_of, alternatives_in, has_too_many, has_too_long, sites_where, past_size, first_told, faults_of_names}
+use Rattle.hz_mdread_model.specs.Descriptions.{Description}
+use Rattle.hz_mdread_model.specs.DescriptionShape.{IsCheckable}
+use Rattle.hz_base_model.specs.Limits.{size_limit}
+use Rattle.hz_check_model.specs.Places.{IsKnown}
+use Rattle.hz_check_model.specs.Sites.{Site, earliest}
+use Rattle.hz_check_model.proofs.EarliestLaws.{no_site}
+use Rattle.hz_base_model.proofs.Elements.{Contains-nil, Contains-cons_cases}
 use Rattle.hz_unfold.specs.Graphs.{At}
 use Rattle.hz_unfold.specs.Orders.{all_of, reserving, reservings, IsOrder}
 use Rattle.hz_unfold.specs.Places.{site_of}

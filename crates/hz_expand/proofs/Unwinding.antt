@@ -5,17 +5,18 @@ use Rattle.std.proofs.lemmas.List.{length-map, length-append}
 use Rattle.std.proofs.lemmas.Option.{same_Some, slice_get-get_or}
 use Rattle.hz_expand.proofs.Names.{name_there}
 use Rattle.hz_expand.proofs.Ordered.{IsReservationAt, IsClassAt, reservation_or_class, number_is, Contains-filter_map}
-use Rattle.hz_model.specs.Alternatives.{Expression}
-use Rattle.hz_model.specs.Automata.{UnitPlace}
-use Rattle.hz_model.specs.CheckFaults.{Known, Reserving, reserving_reservation, reservations_of, classes_of, first_told, faults_of_names, names_in, IsUnfolded}
-use Rattle.hz_model.specs.Descriptions.{Description, ReservationItem}
-use Rattle.hz_model.specs.DescriptionShape.{IsCheckable}
-use Rattle.hz_model.specs.Machines.{unit_place, reservation_named, unit_or_reservation, meaning, IsKnown}
-use Rattle.hz_model.specs.Meanings.{reservation, Mentions, Unwinds}
-use Rattle.hz_model.proofs.CircleLaws.{named_there}
-use Rattle.hz_model.proofs.CountingLaws.{at_name_named}
-use Rattle.hz_model.proofs.MachineLaws.{at_name_in}
-use Rattle.hz_model.proofs.MeaningLaws.{assigned, assigned_right}
+use Rattle.hz_altern_model.specs.Alternatives.{Expression}
+use Rattle.hz_altern_model.specs.Automata.{UnitPlace}
+use Rattle.hz_check_model.specs.CheckFaults.{Known, Reserving, reserving_reservation, reservations_of, classes_of, first_told, faults_of_names, IsUnfolded}
+use Rattle.hz_altern_model.specs.NamesIn.{names_in}
+use Rattle.hz_mdread_model.specs.Descriptions.{Description, ReservationItem}
+use Rattle.hz_mdread_model.specs.DescriptionShape.{IsCheckable}
+use Rattle.hz_check_model.specs.Places.{unit_place, reservation_named, unit_or_reservation, meaning, IsKnown}
+use Rattle.hz_altern_model.specs.Meanings.{reservation, Mentions, Unwinds}
+use Rattle.hz_check_model.proofs.CircleLaws.{named_there}
+use Rattle.hz_check_model.proofs.CountingLaws.{at_name_named}
+use Rattle.hz_check_model.proofs.PlaceLaws.{at_name_in}
+use Rattle.hz_altern_model.proofs.MeaningLaws.{assigned, assigned_right}
 use Rattle.hz_unfold.specs.Graphs.{At}
 use Rattle.hz_unfold.specs.Orders.{all_of, reserving, reservings, number_of, numbers_in, IsOrder}
 use Rattle.hz_unfold.proofs.Places.{At_from_Contains}

@@ -9,14 +9,14 @@ use Rattle.hz_expand.specs.declared.fault.Unexpanded.{Unexpanded}
 use Rattle.hz_expand.specs.declared.fault.Unexpanded.TheVariants.{Size, NoMemory}
 use Rattle.hz_expand.specs.declared.state.Expansion.{Expansion}
 use Rattle.hz_expand.specs.Shape.{lists_of}
-use Rattle.hz_model.specs.Alternatives.{Alternative, alternatives_of}
-use Rattle.hz_model.specs.AlternativeLists.{AreSound}
-use Rattle.hz_model.specs.Automata.{UnitPlace, listed, total_size}
-use Rattle.hz_model.specs.CheckFaults.{Known, Reserving, past_limit, size}
-use Rattle.hz_model.specs.Descriptions.{Description}
-use Rattle.hz_model.specs.Limits.{size_limit}
-use Rattle.hz_model.specs.Machines.{IsKnown}
-use Rattle.hz_model.specs.Sites as model
+use Rattle.hz_altern_model.specs.Alternatives.{Alternative, alternatives_of}
+use Rattle.hz_altern_model.specs.AlternativeLists.{AreSound}
+use Rattle.hz_altern_model.specs.Automata.{UnitPlace, listed, total_size}
+use Rattle.hz_check_model.specs.CheckFaults.{Known, Reserving, past_limit, size}
+use Rattle.hz_mdread_model.specs.Descriptions.{Description}
+use Rattle.hz_base_model.specs.Limits.{size_limit}
+use Rattle.hz_check_model.specs.Places.{IsKnown}
+use Rattle.hz_check_model.specs.Sites as model
 use Rattle.hz_unfold.specs.Places.{site_of}
 
 -- the alternatives of each class, in the order of the file, each listed the one way; and the limit of sizes is not passed

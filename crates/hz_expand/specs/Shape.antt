@@ -6,9 +6,9 @@ use Rattle.hz_altern.specs.declared.alternative.Alt.{Alt}
 use Rattle.hz_altern.specs.Shapes.{alternatives}
 use Rattle.hz_expand.specs.declared.places.UnitPlace.{UnitPlace}
 use Rattle.hz_expand.specs.declared.reserving.Reserving.{Reserving}
-use Rattle.hz_model.specs.Alternatives.{Alternative}
-use Rattle.hz_model.specs.Automata as automata
-use Rattle.hz_model.specs.CheckFaults as model
+use Rattle.hz_altern_model.specs.Alternatives.{Alternative}
+use Rattle.hz_altern_model.specs.Automata as automata
+use Rattle.hz_check_model.specs.CheckFaults as model
 use Rattle.hz_regexp.specs.Shape.{expression}
 use Rattle.hz_unfold.specs.Places.{site_of}
 

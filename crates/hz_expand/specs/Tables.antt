@@ -2,12 +2,12 @@
 use Rattle.std.specs.Prelude.{◌≡◌, ◌⊎◌, ℕ, ◌<◌, List, map, length, Option, Some, None, slice_get, IsTrue}
 use Rattle.std.specs.List.{Contains}
 use Rattle.hz_altern.specs.Tables.{is_held}
-use Rattle.hz_model.specs.Alternatives.{Alternative}
-use Rattle.hz_model.specs.AlternativeLists.{Extent, extent_of}
-use Rattle.hz_model.specs.Automata.{UnitPlace, listed}
-use Rattle.hz_model.specs.CheckFaults.{Known}
-use Rattle.hz_model.specs.Descriptions.{Description}
-use Rattle.hz_model.specs.Machines.{IsKnown}
+use Rattle.hz_altern_model.specs.Alternatives.{Alternative}
+use Rattle.hz_altern_model.specs.AlternativeLists.{Extent, extent_of}
+use Rattle.hz_altern_model.specs.Automata.{UnitPlace, listed}
+use Rattle.hz_check_model.specs.CheckFaults.{Known}
+use Rattle.hz_mdread_model.specs.Descriptions.{Description}
+use Rattle.hz_check_model.specs.Places.{IsKnown}
 
 -- the names of the units, and those of the reservations
 abbrev pub unit_names : Description → List (List ℕ)

@@ -8,10 +8,10 @@ ghost use Rattle.hz_expand.specs.Past.{AreWithinExtents};
 ghost use Rattle.hz_expand.specs.Shape.{place_of};
 ghost use Rattle.hz_expand.specs.Tables.{HasAlternatives, Holds, IsBehind, unit_names};
 ghost use Rattle.hz_mdread.specs.Shape.{description};
-ghost use Rattle.hz_model.specs.CheckFaults.{faults_of_names, first_told};
-ghost use Rattle.hz_model.specs.DescriptionShape.{IsCheckable};
-ghost use Rattle.hz_model.specs.Limits.{automaton_limit, unit_limit};
-ghost use Rattle.hz_model.specs.Machines.{unit_places};
+ghost use Rattle.hz_check_model.specs.CheckFaults.{faults_of_names, first_told};
+ghost use Rattle.hz_mdread_model.specs.DescriptionShape.{IsCheckable};
+ghost use Rattle.hz_base_model.specs.Limits.{automaton_limit, unit_limit};
+ghost use Rattle.hz_check_model.specs.Places.{unit_places};
 ghost use Rattle.hz_unfold.specs.Orders.{IsOrder, reservings};
 
 use crate::fault::Unexpanded;

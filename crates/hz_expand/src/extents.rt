@@ -7,10 +7,10 @@ ghost use Rattle.hz_expand.specs.Past.{AreCountable, ArePast, TellsBehind};
 ghost use Rattle.hz_unfold.specs.Places.{told};
 ghost use Rattle.hz_expand.specs.Tables.{HasExtent, Holds, IsBehind, unit_names};
 ghost use Rattle.hz_mdread.specs.Shape.{description};
-ghost use Rattle.hz_model.specs.CheckFaults.{faults_of_names, first_told};
-ghost use Rattle.hz_model.specs.DescriptionShape.{IsCheckable};
-ghost use Rattle.hz_model.specs.Limits.{alternative_limit, cycle_limit};
-ghost use Rattle.hz_model.specs.Sites.{earlier as earlier_site};
+ghost use Rattle.hz_check_model.specs.CheckFaults.{faults_of_names, first_told};
+ghost use Rattle.hz_mdread_model.specs.DescriptionShape.{IsCheckable};
+ghost use Rattle.hz_base_model.specs.Limits.{alternative_limit, cycle_limit};
+ghost use Rattle.hz_check_model.specs.Sites.{earlier as earlier_site};
 ghost use Rattle.hz_unfold.specs.Orders.{IsOrder, all_of, reservings};
 ghost use Rattle.hz_unfold.specs.Places.{site_of};
 

@@ -4,9 +4,9 @@ ghost use Rattle.std.specs.Prelude.{◌≡◌, ℕ, List, None};
 ghost use Rattle.hz_expand.specs.Past.{ArePast, AreWithinExtents};
 ghost use Rattle.hz_unfold.specs.Places.{told};
 ghost use Rattle.hz_expand.specs.declared.extents.PastExtents.{PastExtents};
-ghost use Rattle.hz_model.specs.CheckFaults.{IsUnfolded, Known, Reserving, faults_of_names, first_told};
-ghost use Rattle.hz_model.specs.Descriptions.{Description};
-ghost use Rattle.hz_model.specs.DescriptionShape.{IsCheckable};
+ghost use Rattle.hz_check_model.specs.CheckFaults.{IsUnfolded, Known, Reserving, faults_of_names, first_told};
+ghost use Rattle.hz_mdread_model.specs.Descriptions.{Description};
+ghost use Rattle.hz_mdread_model.specs.DescriptionShape.{IsCheckable};
 ghost use Rattle.hz_unfold.specs.Orders.{IsOrder, reservings};
 
 /// Where reservations and classes have such an order, each name has its alternatives, and no reservation reaches itself.

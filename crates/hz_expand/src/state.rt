@@ -4,12 +4,12 @@ ghost use Rattle.std.specs.Prelude.{◌≡◌, ◌≤◌, ◌<◌, IsTrue, IfOk,
 ghost use Rattle.hz_altern.specs.Answers.{total_weight};
 ghost use Rattle.hz_altern.specs.Shapes.{alternatives};
 ghost use Rattle.hz_altern.specs.Tables.{alternatives_in, is_held, known_alternatives};
-ghost use Rattle.hz_model.specs.AlternativeLists.{AreSound, greatest_length};
-ghost use Rattle.hz_model.specs.Alternatives.{alternatives_of};
-ghost use Rattle.hz_model.specs.Automata.{listed};
-ghost use Rattle.hz_model.specs.Expressions.{is_expression};
-ghost use Rattle.hz_model.specs.Limits.{alternative_limit, cycle_limit, size_limit};
-ghost use Rattle.hz_model.specs.NamesIn.{all_names};
+ghost use Rattle.hz_altern_model.specs.AlternativeLists.{AreSound, greatest_length};
+ghost use Rattle.hz_altern_model.specs.Alternatives.{alternatives_of};
+ghost use Rattle.hz_altern_model.specs.Automata.{listed};
+ghost use Rattle.hz_altern_model.specs.Expressions.{is_expression};
+ghost use Rattle.hz_base_model.specs.Limits.{alternative_limit, cycle_limit, size_limit};
+ghost use Rattle.hz_altern_model.specs.NamesIn.{all_names};
 ghost use Rattle.hz_regexp.specs.Shape.{expression};
 ghost use Rattle.hz_expand.specs.Answers.{Makes};
 
@@ -63,11 +63,11 @@ impl Expansion {
     ghost use Rattle.hz_altern.specs.Tables.{alternatives_in, is_held, known_alternatives};
     ghost use Rattle.hz_expand.specs.Answers.{Expands, IsTooLarge, Keeps, KeepsSound};
     ghost use Rattle.hz_expand.specs.Shape.{reserving_of};
-    ghost use Rattle.hz_model.specs.AlternativeLists.{AreSound, greatest_length};
-    ghost use Rattle.hz_model.specs.Alternatives.{alternatives_of};
-    ghost use Rattle.hz_model.specs.Expressions.{is_expression};
-    ghost use Rattle.hz_model.specs.Limits.{alternative_limit, cycle_limit, size_limit};
-    ghost use Rattle.hz_model.specs.NamesIn.{all_names};
+    ghost use Rattle.hz_altern_model.specs.AlternativeLists.{AreSound, greatest_length};
+    ghost use Rattle.hz_altern_model.specs.Alternatives.{alternatives_of};
+    ghost use Rattle.hz_altern_model.specs.Expressions.{is_expression};
+    ghost use Rattle.hz_base_model.specs.Limits.{alternative_limit, cycle_limit, size_limit};
+    ghost use Rattle.hz_altern_model.specs.NamesIn.{all_names};
     ghost use Rattle.hz_regexp.specs.Shape.{expression};
 
     /// Keeps the alternatives of a class, or makes them those of the reservation's name.

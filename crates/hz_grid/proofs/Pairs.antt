@@ -3,19 +3,20 @@ use Rattle.std.proofs.Common.{◌≡◌, ℕ, ◌+◌, ◌-◌, ◌<◌, ◌≤�
 use Rattle.std.specs.Bool.{Decides}
 use Rattle.std.specs.List.{range_with_len, AllPairs}
 use Rattle.std.specs.Cmp.Lexicographic.{pointwise}
-use Rattle.std.proofs.lemmas.Bool.{cases_lt, and_parts, and_from, eqb-true, eq-eqb}
+use Rattle.std.proofs.lemmas.Bool.{cases_lt}
 use Rattle.std.proofs.lemmas.Bool.Decides.{same_from_decides, Decides-eqb}
 use Rattle.std.proofs.lemmas.List.{get_or_past, ext_get_or}
 use Rattle.std.proofs.lemmas.List.Elements.{Contains-append_left, Contains-append_right, Contains-append_cases, Contains-get_or}
 use Rattle.std.proofs.lemmas.List.Kept.{AllPairs-filter}
 use Rattle.std.proofs.lemmas.Slice.Eq.{slice_eq-Decides}
-use Rattle.hz_model.specs.Pairs.{Pair}
+use Rattle.hz_base_model.specs.Pairs.{Pair}
 use Rattle.hz_grid.specs.Rows.{has_unit, HasUnit}
-use Rattle.hz_grid.specs.Grids.{Holds, Precedes, IsGrid, HasSamePairs, pair_eq, grid_eq}
+use Rattle.hz_grid.specs.Grids.{Holds, Precedes, IsGrid, HasSamePairs, grid_eq}
+use Rattle.hz_grid.specs.Hashes.{grid_eq-Decides}
 use Rattle.hz_grid.specs.Stored.{IsSet, units_of, row_pairs, pairs_from, IsRows}
 use Rattle.hz_grid.proofs.Units.{HasUnit-zero, same_from_units}
-use Rattle.hz_model.proofs.Elements.{Contains-nil, Contains-filter, Contains-from_filter, Contains-map, Contains-from_map, Contains-range, Contains-from_range}
-use Rattle.hz_model.proofs.Ascending.{AllPairs-append, AllPairs-map, AllPairs-range, same_from_ascending}
+use Rattle.hz_base_model.proofs.Elements.{Contains-nil, Contains-filter, Contains-from_filter, Contains-map, Contains-from_map, Contains-range, Contains-from_range}
+use Rattle.hz_base_model.proofs.Ascending.{AllPairs-append, AllPairs-map, AllPairs-range, same_from_ascending}
 
 -- ---- the units of one row
 
@@ -145,20 +146,6 @@ rows_from_pairs a b is_a is_b e =
       λ h. (Holds-rows b is_b unit cycle).0 (rw e at ((Holds-rows a is_a unit cycle).1 h)),
       λ h. (Holds-rows a is_a unit cycle).0 (rw (← e) at ((Holds-rows b is_b unit cycle).1 h)),
     ))
-
-pair_eq-Decides : (p q : Pair ℕ) → Decides (pair_eq p q) (p ≡ q)
-pair_eq-Decides p q = (
-  λ t.
-      let parts = and_parts _ _ t in
-      let units = eqb-true _ _ parts.0 in
-      let cycles = eqb-true _ _ parts.1 in
-      ap (λ unit. in_cycle p.cycle unit) units ∙ ap (λ cycle. in_cycle cycle q.unit) cycles,
-  λ e. and_from _ _ (eq-eqb _ _ (ap (λ (r : Pair ℕ). r.unit) e)) (eq-eqb _ _ (ap (λ (r : Pair ℕ). r.cycle) e)),
-)
-
--- `==` on grids decides `≡`
-pub grid_eq-Decides : (first second : List (Pair ℕ)) → Decides (grid_eq first second) (first ≡ second)
-grid_eq-Decides first second = slice_eq-Decides pair_eq-Decides first second _ refl
 
 -- grids are equal where their rows are
 pub same_from_rows : (a b : List ℕ) → IsRows a → IsRows b → (r : Bool) → r ≡ pointwise nat_eq a b → IsTrue r ↔ (pairs_from 0 a ≡ pairs_from 0 b)

@@ -7,7 +7,7 @@ use Rattle.hz_grid.specs.Rows.{HasUnit, RowsMeet}
 use Rattle.hz_grid.specs.Grids.{Holds, HoldsJust, Meets, IsUnion, IsAdvanced}
 use Rattle.hz_grid.specs.Stored.{IsSet, pairs_from, IsRows, HasJust, HasSameUnits, GainsUnit, ShareUnit, IsJoined}
 use Rattle.hz_grid.proofs.Units.{HasUnit-zero, some_unit}
-use Rattle.hz_model.proofs.Elements.{Contains-nil}
+use Rattle.hz_base_model.proofs.Elements.{Contains-nil}
 use Rattle.hz_grid.proofs.Pairs.{Holds-rows, row_below}
 
 -- ---- the rows are those of a grid

@@ -1,7 +1,7 @@
 -- How a grid is stored: its rows, one for each cycle from 0 on.
 use Rattle.std.specs.Prelude.{◌≡◌, ◌↔◌, ◌⊎◌, ℕ, ◌+◌, ◌-◌, ◌<◌, ◌≤◌, List, [], ◌∷◌, ◌++◌, map, filter, length, slice_index, Contains}
 use Rattle.std.specs.List.{range_with_len}
-use Rattle.hz_model.specs.Pairs.{Pair}
+use Rattle.hz_base_model.specs.Pairs.{Pair}
 use Rattle.hz_grid.specs.declared.rows.TheConstants.{UNITS}
 use Rattle.hz_grid.specs.declared.grids.TheConstants.{CYCLES}
 use Rattle.hz_grid.specs.Rows.{has_unit, HasUnit}

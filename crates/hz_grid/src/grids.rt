@@ -6,6 +6,7 @@ ghost use Rattle.hz_grid.specs.Stored.{IsRows, HasJust, HasSameUnits, GainsUnit,
 
 use crate::rows::{Row, UNITS};
 use std::alloc::Global;
+use std::hash::{Hash, Hasher};
 use std::marker::Model;
 
 /// No memory was left for the answer.
@@ -23,7 +24,7 @@ pub struct Grid {
 
 impl Model for Grid {
     ghost use Rattle.std.specs.Prelude.{List, ℕ};
-    ghost use Rattle.hz_model.specs.Pairs.{Pair};
+    ghost use Rattle.hz_base_model.specs.Pairs.{Pair};
     ghost use Rattle.hz_grid.specs.Stored.{pairs_from, IsRows};
 
     ghost Value = { List (Pair ℕ) };
@@ -137,6 +138,18 @@ impl Eq for Grid {
     ghost use Rattle.hz_grid.specs.Grids.{grid_eq-laws};
 
     ghost laws = { grid_eq-laws };
+}
+
+impl Hash for Grid {
+    ghost use Rattle.hz_grid.specs.Hashes.{fed_for, same_grids_are_fed_alike};
+
+    ghost hash_input = { fed_for };
+
+    ghost respects_eq = { same_grids_are_fed_alike.fed };
+
+    fn hash<H: Hasher>(&self, state: &mut H) {
+        self.rows.hash(state);
+    }
 }
 
 // Whether some unit is in both in some cycle. What only one of them has rows for is not read.

@@ -9,7 +9,7 @@ use std::marker::Model;
 pub const UNITS: usize = 128;
 
 /// A set of units, each below `UNITS`.
-#[derive(Clone, Copy, PartialEq, Eq, Debug)]
+#[derive(Clone, Copy, PartialEq, Eq, Hash, Debug)]
 pub struct Row {
     units: u128,
 }

@@ -3,11 +3,11 @@ use Rattle.std.proofs.Common.{◌≡◌, ℕ, ◌<◌, ◌≤◌, ◌==◌, Bool
 use Rattle.std.specs.Borrow.{Bor}
 use Rattle.std.proofs.lemmas.List.{drop_more, drop_all}
 use Rattle.std.specs.List.{list_all, slice_split, onto_first}
-use Rattle.hz_model.specs.Descriptions.{Options}
-use Rattle.hz_model.specs.DescriptionForms.{names_of, kept, with_option, with_options}
-use Rattle.hz_model.specs.DescriptionShape.{are_names}
-use Rattle.hz_model.specs.Lines.{separated, trimmed}
-use Rattle.hz_model.specs.Names.{is_name}
+use Rattle.hz_mdread_model.specs.Descriptions.{Options}
+use Rattle.hz_mdread_model.specs.DescriptionForms.{names_of, kept, with_option, with_options}
+use Rattle.hz_mdread_model.specs.DescriptionShape.{are_names}
+use Rattle.hz_base_model.specs.Lines.{separated, trimmed}
+use Rattle.hz_base_model.specs.Names.{is_name}
 
 -- a text has a first part, whatever splits it
 pub some_part : (p : ℕ → Bool) (text : List ℕ) → (first : List ℕ) × (others : List (List ℕ)) × (slice_split p text ≡ first ∷ others)

@@ -4,9 +4,9 @@ use Rattle.std.specs.Borrow.{Bor}
 use Rattle.std.specs.List.{list_all, filter}
 use Rattle.std.proofs.lemmas.List.Folds.{list_all-append}
 use Rattle.std.proofs.lemmas.List.{drop_more, drop_all, append-nil}
-use Rattle.hz_model.specs.DescriptionForms.{is_empty, words, kept, patterns_of}
-use Rattle.hz_model.specs.DescriptionShape.{are_names, are_patterns}
-use Rattle.hz_model.specs.Names.{is_name}
+use Rattle.hz_mdread_model.specs.DescriptionForms.{is_empty, words, kept, patterns_of}
+use Rattle.hz_mdread_model.specs.DescriptionShape.{are_names, are_patterns}
+use Rattle.hz_base_model.specs.Names.{is_name}
 use Rattle.hz_regexp.specs.Named.{name_of}
 use Rattle.hz_mdread.proofs.ListLemmas.{some_part}
 

@@ -6,8 +6,8 @@ use Rattle.hz_mdread.specs.declared.fault.Wrong.{Wrong}
 use Rattle.hz_mdread.specs.declared.fault.Wrong.TheVariants as wrong
 use Rattle.hz_regexp.specs.declared.fault.ExprFault.{ExprFault}
 use Rattle.hz_regexp.specs.declared.fault.ExprFault.TheVariants.{Unexpected, Empty, RepeatZero, TooDeep, NumberTooLarge, NoMemory}
-use Rattle.hz_model.specs.ExpressionTexts.{ExpressionFault, unexpected, no_token, repeat_zero, too_deep, number_too_large}
-use Rattle.hz_model.specs.DescriptionForms.{DescriptionFault, unknown_form, bad_shape, bad_condition, unknown_option, latency_limit, unknown_guard, bad_expression}
+use Rattle.hz_regexp_model.specs.ExpressionTexts.{ExpressionFault, unexpected, no_token, repeat_zero, too_deep, number_too_large}
+use Rattle.hz_mdread_model.specs.DescriptionForms.{DescriptionFault, unknown_form, bad_shape, bad_condition, unknown_option, latency_limit, unknown_guard, bad_expression}
 
 -- what is said of an expression's fault and its place holds of this one, which is not want of memory
 abbrev pub TellsExpression : (ExpressionFault → ℕ → Type 0) → ExprFault → Type 0

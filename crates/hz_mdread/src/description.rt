@@ -1,8 +1,8 @@
 //! What a description holds.
 
 ghost use Rattle.std.specs.Prelude.{◌≡◌, OnOk};
-ghost use Rattle.hz_model.specs.Descriptions.{no_items};
-ghost use Rattle.hz_model.specs.DescriptionForms as model;
+ghost use Rattle.hz_mdread_model.specs.Descriptions.{no_items};
+ghost use Rattle.hz_mdread_model.specs.DescriptionForms as model;
 ghost use Rattle.hz_mdread.specs.Shape.{addition, description};
 
 use crate::items::{

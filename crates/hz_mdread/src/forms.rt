@@ -2,7 +2,7 @@
 
 ghost use Rattle.std.specs.Prelude.{◌≡◌, ◌^◌, map, IfOk, IfErr, IsTrue, Ok, Err};
 ghost use Rattle.std.specs.Option.{option_copied, ok_or};
-ghost use Rattle.hz_model.specs.DescriptionForms as model;
+ghost use Rattle.hz_mdread_model.specs.DescriptionForms as model;
 ghost use Rattle.hz_mdread.specs.Faults.{TellsOf};
 ghost use Rattle.hz_mdread.specs.Reading.{reading};
 ghost use Rattle.hz_mdread.specs.Shape.{addition, automaton_item, condition, unit_item, kind_in, set_kind};

@@ -2,7 +2,7 @@
 
 ghost use Rattle.std.specs.Prelude.{◌≡◌};
 ghost use Rattle.std.specs.Option.{option_map};
-ghost use Rattle.hz_model.specs.DescriptionForms as model;
+ghost use Rattle.hz_mdread_model.specs.DescriptionForms as model;
 ghost use Rattle.hz_mdread.specs.Shape.{kind_in, set_kind};
 
 use crate::items::SetForm;

@@ -2,9 +2,9 @@
 
 ghost use Rattle.std.specs.Prelude.{◌≡◌, IfOk};
 ghost use Rattle.std.specs.Option.{option_map};
-ghost use Rattle.hz_model.specs.Descriptions.{no_options};
-ghost use Rattle.hz_model.specs.DescriptionForms as model;
-ghost use Rattle.hz_model.specs.Lines.{separated};
+ghost use Rattle.hz_mdread_model.specs.Descriptions.{no_options};
+ghost use Rattle.hz_mdread_model.specs.DescriptionForms as model;
+ghost use Rattle.hz_base_model.specs.Lines.{separated};
 ghost use Rattle.hz_mdread.specs.Shape.{options};
 
 use crate::patterns::{pieces, trimmed};

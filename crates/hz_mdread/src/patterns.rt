@@ -4,9 +4,9 @@ ghost use Rattle.std.specs.Prelude.{◌≡◌, ◌==◌, map, IfOk, Some};
 ghost use Rattle.std.specs.Char.{is_ascii_whitespace};
 ghost use Rattle.std.specs.List.{slice_split};
 ghost use Rattle.std.specs.Option.{option_map};
-ghost use Rattle.hz_model.specs.DescriptionForms as model;
-ghost use Rattle.hz_model.specs.DescriptionShape.{are_names, are_patterns};
-ghost use Rattle.hz_model.specs.Lines as lines;
+ghost use Rattle.hz_mdread_model.specs.DescriptionForms as model;
+ghost use Rattle.hz_mdread_model.specs.DescriptionShape.{are_names, are_patterns};
+ghost use Rattle.hz_base_model.specs.Lines as lines;
 
 use hz_regexp::{Name, NoMemory};
 use std::alloc::Global;

@@ -4,12 +4,12 @@ use Rattle.std.specs.Char.{is_ascii_whitespace}
 use Rattle.std.specs.List.{list_all, prefix_len, position_or_len}
 use Rattle.std.proofs.lemmas.Bool.{cases_Bool, ltb-false}
 use Rattle.std.proofs.lemmas.List.{nil_from_length, take_more}
-use Rattle.hz_model.specs.Lines.{number_from}
-use Rattle.hz_model.proofs.LineLaws.{number_from_more}
+use Rattle.hz_base_model.specs.Lines.{number_from}
+use Rattle.hz_base_model.proofs.LineLaws.{number_from_more}
 use Rattle.std.proofs.lemmas.Bool.Decides.{nat_tests}
 use Rattle.std.proofs.lemmas.List.Sums.{prefix_len-le-length}
-use Rattle.hz_model.specs.ExpressionTexts.{word, tokens_from, lone_token}
-use Rattle.hz_model.specs.Names.{is_name, is_name_byte}
+use Rattle.hz_regexp_model.specs.ExpressionTexts.{word, tokens_from, lone_token}
+use Rattle.hz_base_model.specs.Names.{is_name, is_name_byte}
 
 twice_not : (p : ℕ → Bool) (xs : List ℕ) → prefix_len (λ x. not (not (p x))) xs ≡ prefix_len p xs
 twice_not p [] = refl

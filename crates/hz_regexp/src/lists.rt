@@ -2,8 +2,8 @@
 
 ghost use Rattle.std.specs.Prelude.{◌≡◌, ◌==◌, map, IsTrue, IsFalse, IfOk, IsErrOf};
 ghost use Rattle.std.specs.List.{list_all, slice_split};
-ghost use Rattle.hz_model.specs.Lines.{separated, trimmed};
-ghost use Rattle.hz_model.specs.Names.{is_name};
+ghost use Rattle.hz_base_model.specs.Lines.{separated, trimmed};
+ghost use Rattle.hz_base_model.specs.Names.{is_name};
 ghost use Rattle.hz_regexp.specs.declared.lists.NamesFault.TheVariants.{NoMemory as no_memory};
 
 use crate::names::{Name, NoMemory};

@@ -4,9 +4,9 @@ ghost use Rattle.std.specs.Prelude.{◌≡◌, ◌+◌, ◌-◌, ◌*◌, ◌≤
 ghost use Rattle.std.specs.Char.{is_ascii_whitespace};
 ghost use Rattle.std.specs.List.{prefix_len};
 ghost use Rattle.std.specs.Option.{option_map};
-ghost use Rattle.hz_model.specs.ExpressionTexts as model;
-ghost use Rattle.hz_model.specs.Lines.{number_of};
-ghost use Rattle.hz_model.specs.Names as names;
+ghost use Rattle.hz_regexp_model.specs.ExpressionTexts as model;
+ghost use Rattle.hz_base_model.specs.Lines.{number_of};
+ghost use Rattle.hz_base_model.specs.Names as names;
 ghost use Rattle.hz_regexp.specs.Tokens.{IsNamed, token_of, tokens_at};
 
 use crate::names::is_name_byte;

@@ -5,31 +5,30 @@ use Rattle.std.specs.Str.{bytes_eq}
 use Rattle.std.proofs.lemmas.List.{length-map, length-take, get_or-take, get_or-map}
 use Rattle.std.proofs.lemmas.List.Quantifiers.{position-Some}
 use Rattle.std.proofs.lemmas.Slice.Eq.{bytes_eq-Decides}
-use Rattle.hz_model.specs.Lines.{place_of}
-use Rattle.hz_model.specs.Automata.{UnitPlace, list_in}
-use Rattle.hz_model.specs.CheckedParts.{AutomatonParts, ClassParts, automaton_names, automaton_count, automata_from, statements_in, class_parts}
-use Rattle.hz_model.specs.Alternatives.{Alternative, alternatives_of}
-use Rattle.hz_model.specs.Answers.{Says, is_built, Traces, Replays, ReplaysDescription}
-use Rattle.hz_model.specs.CheckFaults.{Known}
-use Rattle.hz_model.specs.Lines.{lines_of}
-use Rattle.hz_model.specs.StraightTraces.{StraightTrace}
-use Rattle.hz_model.specs.Texts.{not_built_line}
-use Rattle.hz_model.proofs.EventLaws.{events_known}
-use Rattle.hz_model.proofs.MachineLaws.{machine_of_one}
+use Rattle.hz_base_model.specs.Lines.{place_of, lines_of}
+use Rattle.hz_altern_model.specs.Automata.{UnitPlace, list_in}
+use Rattle.hz_check_model.specs.CheckedParts.{AutomatonParts, ClassParts, automaton_names, automaton_count, automata_from, statements_in, class_parts}
+use Rattle.hz_altern_model.specs.Alternatives.{Alternative, alternatives_of}
+use Rattle.hz_answer_model.specs.Answers.{Says, is_built, Traces, Replays, ReplaysDescription}
+use Rattle.hz_check_model.specs.CheckFaults.{Known}
+use Rattle.hz_trace_model.specs.StraightTraces.{StraightTrace}
+use Rattle.hz_answer_model.specs.Texts.{not_built_line}
+use Rattle.hz_answer_model.proofs.EventLaws.{events_known}
+use Rattle.hz_pipeline_model.proofs.OneAutomaton.{machine_of_one}
 use Rattle.hz_tool.proofs.AnswerLemmas.{agrees_weaker}
 use Rattle.hz_tool.specs.Decisions.{Agrees, IsTraceReport}
 use Rattle.hz_tool.specs.Trace.{IsNoTrace}
 use Rattle.hz_tool.specs.declared.report.Report.{Report}
 use Rattle.hz_tool.specs.declared.report.Report.TheVariants as report
-use Rattle.hz_model.specs.Pairs.{Pair}
+use Rattle.hz_base_model.specs.Pairs.{Pair}
 use Rattle.std.proofs.Math.Dec.{eqb-suc-zero}
 use Rattle.std.proofs.Math.Path.{fun_ext}
 use Rattle.std.proofs.lemmas.Bool.{cases_Bool, and_parts, ltb-true}
 use Rattle.std.proofs.lemmas.Option.{slice_get-map, get_or_from_slice_get, unwrap_or-slice_get}
 use Rattle.std.specs.Option.{option_map}
 use Rattle.std.specs.Prelude.{◌↔◌, unwrap_or}
-use Rattle.hz_model.specs.Machines as model
-use Rattle.hz_model.specs.Sets.{Statement, Fits}
+use Rattle.hz_pipeline_model.specs.Pipelines as model
+use Rattle.hz_altern_model.specs.Sets.{Statement, Fits}
 use Rattle.std.specs.List.{range_with_len}
 use Rattle.std.specs.Prelude.{◌&&◌, not}
 use Rattle.std.proofs.lemmas.List.FromFn.{length-range_with_len, get_or-range_with_len}
@@ -39,10 +38,13 @@ use Rattle.hz_check.specs.declared.checked.CheckedClass.{CheckedClass}
 use Rattle.hz_unitsets.specs.SetRules.{statement_of, statements_of, IsInRange}
 use Rattle.hz_check.specs.Checked.{IsCheckedOf}
 use Rattle.hz_check.specs.Shape.{automaton_of, class_of}
-use Rattle.hz_model.specs.Descriptions.{Description, AutomatonItem, ClassItem, Options}
-use Rattle.hz_model.specs.Machines.{class_names, class_in, machine_with, restricted, IsOf}
-use Rattle.hz_model.specs.Replay.{Machine, Class, Event, alternatives_at, of_class, first_fit, any_fit, IsOfClass}
-use Rattle.hz_model.proofs.RestrictLaws.{pairs_back, accepted_restricted, refused_restricted}
+use Rattle.hz_mdread_model.specs.Descriptions.{Description, AutomatonItem, ClassItem, Options}
+use Rattle.hz_check_model.specs.Places.{class_names}
+use Rattle.hz_acceptance_model.specs.Restricted.{class_in, restricted, IsOf}
+use Rattle.hz_pipeline_model.specs.Pipelines.{pipeline_with}
+use Rattle.hz_acceptance_model.specs.Replay.{Pipeline, Class, alternatives_at, of_class, first_fit, any_fit}
+use Rattle.hz_acceptance_model.specs.Events.{Event, IsOfClass}
+use Rattle.hz_acceptance_model.proofs.RestrictLaws.{pairs_back, accepted_restricted, refused_restricted}
 use Rattle.hz_tool.specs.Checked.{statements_of_first, first_statements, first_list, HasList}
 use Rattle.hz_tool.specs.Replay.{AreListsOf, IsOutcome}
 use Rattle.hz_tool.specs.declared.replay.Outcome.{Outcome}
@@ -65,7 +67,7 @@ pub name_at : {A : Type 0} (f : A → List ℕ) (classes : List A) (i : ℕ) (d 
 name_at f classes i d within = sym (get_or-map f classes i d [] within)
 
 -- what a replay of the restriction to the only automaton answers is the answer
-pub outcome_whole : (m : Machine UnitPlace) → IsOf 0 m → (events : List Event) (outcome : Outcome) → IsOutcome (restricted 0 m) events outcome → IsOutcome m events outcome
+pub outcome_whole : (m : Pipeline UnitPlace) → IsOf 0 m → (events : List Event) (outcome : Outcome) → IsOutcome (restricted 0 m) events outcome → IsOutcome m events outcome
 outcome_whole m is events (Accepted issues cycles) h = ((accepted_restricted 0 m is events).1 h.0, h.1, h.2)
 outcome_whole m is events (Refused event class) h = ((refused_restricted 0 m is events event).1 h.0, h.1)
 
@@ -131,7 +133,7 @@ module _ (d : Description) (checked : Checked) (is : IsCheckedOf d checked) wher
   statements_same = ap statements_of_first is.automata ∙ first_automaton d d.automata
 
   -- they are the lists and statements of the restriction
-  pub lists_of_restriction : IsTrue (is_built d) → AreListsOf (first_statements checked) (map first_list checked.classes.items) (restricted 0 (machine_with d is.known))
+  pub lists_of_restriction : IsTrue (is_built d) → AreListsOf (first_statements checked) (map first_list checked.classes.items) (restricted 0 (pipeline_with d is.known))
   lists_of_restriction built = record {
     statements = λ source pairs now. subst (λ (ss : List (Statement ℕ)). Fits (first_statements checked) source pairs now ↔ Fits ss source pairs now) statements_same (λ h. h, λ h. h);
     first = ⊎_elim
@@ -142,7 +144,7 @@ module _ (d : Description) (checked : Checked) (is : IsCheckedOf d checked) wher
   }
     where
       by_class : (k : ℕ) → k < length (map first_list checked.classes.items) → (o : Option ClassItem) → slice_get d.classes k ≡ o
-          → map (λ (a : Alternative ℕ). a.pairs) (alternatives_at (restricted 0 (machine_with d is.known)) k) ≡ get_or (map first_list checked.classes.items) k []
+          → map (λ (a : Alternative ℕ). a.pairs) (alternatives_at (restricted 0 (pipeline_with d is.known)) k) ≡ get_or (map first_list checked.classes.items) k []
       by_class k within None e =
           let list : ClassItem → List (List (Pair ℕ)) = λ b. list_in 0 (alternatives_of is.known b.expression) in
           let there : slice_get (map (class_in 0) (map (model.class_of is.known) d.classes)) k ≡ None =
@@ -201,10 +203,10 @@ first_in_range checked first is =
     (subst (λ (a : AutomatonParts). All (Names (length a.units)) a.statements) same (checked.kept.sets 0 (automaton_of first) within))
 
 -- a machine of fewer than two automata has one
-pub one_automaton : (d : Description) (checked : Checked) (is : IsCheckedOf d checked) → IsTrue (is_built d) → IsOf 0 (machine_with d is.known)
+pub one_automaton : (d : Description) (checked : Checked) (is : IsCheckedOf d checked) → IsTrue (is_built d) → IsOf 0 (pipeline_with d is.known)
 one_automaton d checked is built =
     let few = ltb-true (length d.automata) 2 (and_parts (nat_lt (length d.automata) 2) (not d.options.ndfa) built).0 in
-    machine_of_one d (machine_with d is.known) (omega arith) (record { known = is.known; right = (is.sound.unfolded).right; machine = refl })
+    machine_of_one d (pipeline_with d is.known) (omega arith) (record { known = is.known; right = (is.sound.unfolded).right; machine = refl })
 
 -- a trace that is not built is told so
 pub trace_refused : (d : Description) (name text : List ℕ) (next : List Event → ℕ → List ℕ → Type 0) (report : Report) → IsTraceReport name (IsNoTrace (class_names d) text) report → Agrees (Traces d name text next) report
@@ -221,12 +223,12 @@ pub trace_of : (names : List (List ℕ)) (text : List ℕ) (events : List Event)
 trace_of names text events is = events_known names (lines_of text) events is.lines
 
 -- a description that is built is replayed
-pub replays_built : (description trace traced : List ℕ) (d : Description) (known : Known) (report : Report) → is_built d ≡ true → Agrees (Traces d trace traced (Replays (machine_with d known))) report → Agrees (ReplaysDescription description trace traced d known) report
+pub replays_built : (description trace traced : List ℕ) (d : Description) (known : Known) (report : Report) → is_built d ≡ true → Agrees (Traces d trace traced (Replays (pipeline_with d known))) report → Agrees (ReplaysDescription description trace traced d known) report
 replays_built description trace traced d known report built h =
-    agrees_weaker (Traces d trace traced (Replays (machine_with d known))) (ReplaysDescription description trace traced d known)
-    (λ s t a. subst (λ (b : Bool). MatchBool b (Traces d trace traced (Replays (machine_with d known)) s t) (Says 2 (not_built_line description) s t)) (sym built) a) report h
+    agrees_weaker (Traces d trace traced (Replays (pipeline_with d known))) (ReplaysDescription description trace traced d known)
+    (λ s t a. subst (λ (b : Bool). MatchBool b (Traces d trace traced (Replays (pipeline_with d known)) s t) (Says 2 (not_built_line description) s t)) (sym built) a) report h
 
 -- a description that is not built is told so
 pub not_built : (description trace traced : List ℕ) (d : Description) (known : Known) → is_built d ≡ false → ReplaysDescription description trace traced d known 2 (not_built_line description)
 not_built description trace traced d known other =
-    subst (λ (b : Bool). MatchBool b (Traces d trace traced (Replays (machine_with d known)) 2 (not_built_line description)) (Says 2 (not_built_line description) 2 (not_built_line description))) (sym other) (refl, refl)
+    subst (λ (b : Bool). MatchBool b (Traces d trace traced (Replays (pipeline_with d known)) 2 (not_built_line description)) (Says 2 (not_built_line description) 2 (not_built_line description))) (sym other) (refl, refl)

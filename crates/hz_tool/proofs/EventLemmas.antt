@@ -2,14 +2,16 @@ use Rattle.std.proofs.Common.{◌≡◌, ℕ, ◌+◌, ◌<◌, ◌≤◌, List,
 use Rattle.std.proofs.lemmas.List.{map_more, length-map, take-append-drop, map-append, take-map, take_all}
 use Rattle.std.proofs.lemmas.Option.{slice_get-get_or, slice_get-map}
 use Rattle.std.specs.Option.{option_map}
-use Rattle.hz_model.proofs.ReplayLaws.{issues_of-append, cycles_of-append, run_more, run_split, accepted_from_runs, runs_from_accepted}
-use Rattle.hz_model.specs.Pairs.{Pair}
-use Rattle.hz_model.specs.Replay as model
-use Rattle.hz_model.specs.Replay.{Machine, State, Step, Plays, IsPlayable, start, issues_of, cycles_of}
+use Rattle.hz_acceptance_model.proofs.ReplayLaws.{issues_of-append, cycles_of-append, run_more, run_split, accepted_from_runs, runs_from_accepted}
+use Rattle.hz_base_model.specs.Pairs.{Pair}
+use Rattle.hz_acceptance_model.specs.Events as model
+use Rattle.hz_acceptance_model.specs.Replay as played
+use Rattle.hz_acceptance_model.specs.Replay.{Pipeline, State, Step, Plays, IsPlayable, start}
+use Rattle.hz_acceptance_model.specs.Events.{issues_of, cycles_of}
 use Rattle.hz_tool.specs.declared.trace.Event.{Event}
 use Rattle.hz_tool.specs.declared.trace.Event.TheVariants.{Issue}
-use Rattle.hz_model.specs.Fitting.{IsFuture, IsUnbroken}
-use Rattle.hz_model.proofs.FittingLaws.{unbroken_run}
+use Rattle.hz_acceptance_model.specs.Fitting.{IsFuture, IsUnbroken}
+use Rattle.hz_acceptance_model.proofs.FittingLaws.{unbroken_run}
 use Rattle.hz_tool.specs.Replay.{PlaysTo, Follows}
 use Rattle.hz_tool.specs.Trace.{event, events_in, issues_in, cycles_in}
 
@@ -46,7 +48,7 @@ one_issue (model.issue k) = omega arith
 one_issue (model.advance n) = omega arith
 
 -- one more event is played
-pub follows_more : (m : Machine ℕ) (done : List model.Event) (e : model.Event) (old new : List (Pair ℕ)) → Follows m done old → ((s : State ℕ) → IsFuture old s → IsUnbroken m.statements s.reserved → PlaysTo m s e new) → Follows m (done ++ e ∷ []) new
+pub follows_more : (m : Pipeline ℕ) (done : List model.Event) (e : model.Event) (old new : List (Pair ℕ)) → Follows m done old → ((s : State ℕ) → IsFuture old s → IsUnbroken m.statements s.reserved → PlaysTo m s e new) → Follows m (done ++ e ∷ []) new
 follows_more m done e old new follows plays =
     let (s, run) = follows.runs in
     let (s', step) = (plays s (follows.future s run) (unbroken_run m done s run)).can in
@@ -58,28 +60,28 @@ follows_more m done e old new follows plays =
     }
 
 -- an event that can't be played ends the run
-pub follows_refused : (m : Machine ℕ) (done : List model.Event) (e : model.Event) (old : List (Pair ℕ)) → Follows m done old → ((s : State ℕ) → IsFuture old s → IsUnbroken m.statements s.reserved → (s' : State ℕ) → Step m s e s' → ⊥) → IsPlayable m (done ++ e ∷ []) → ⊥
+pub follows_refused : (m : Pipeline ℕ) (done : List model.Event) (e : model.Event) (old : List (Pair ℕ)) → Follows m done old → ((s : State ℕ) → IsFuture old s → IsUnbroken m.statements s.reserved → (s' : State ℕ) → Step m s e s' → ⊥) → IsPlayable m (done ++ e ∷ []) → ⊥
 follows_refused m done e old follows refuses (after, through) =
     let (middle, before, (last, one, same)) = run_split m start after done (e ∷ []) through in
     refuses middle (follows.future middle before) (unbroken_run m done middle before) last one
 
 -- the first event that can't be played is the first refused
-pub first_refused : (m : Machine ℕ) (es : List Event) (i : ℕ) (grid : List (Pair ℕ)) → i < length es → Follows m (events_in (take i es)) grid → ((s : State ℕ) → IsFuture grid s → IsUnbroken m.statements s.reserved → (s' : State ℕ) → Step m s (event_at es i) s' → ⊥) → model.FirstRefused m (events_in es) i
+pub first_refused : (m : Pipeline ℕ) (es : List Event) (i : ℕ) (grid : List (Pair ℕ)) → i < length es → Follows m (events_in (take i es)) grid → ((s : State ℕ) → IsFuture grid s → IsUnbroken m.statements s.reserved → (s' : State ℕ) → Step m s (event_at es i) s' → ⊥) → played.FirstRefused m (events_in es) i
 first_refused m es i grid inside follows refuses =
     let long = length-map es event in
     record {
       within = omega arith;
-      before = subst (λ (t : List model.Event). model.Accepted m t) (sym (take-map event i es)) (accepted_from_runs m (events_in (take i es)) follows.runs);
+      before = subst (λ (t : List model.Event). played.Accepted m t) (sym (take-map event i es)) (accepted_from_runs m (events_in (take i es)) follows.runs);
       refused = λ accepted.
           let whole = take-map event (i + 1) es ∙ events_more es i inside in
           follows_refused m (events_in (take i es)) (event_at es i) grid follows refuses
-          (runs_from_accepted m (events_in (take i es) ++ event_at es i ∷ []) (subst (λ (t : List model.Event). model.Accepted m t) whole accepted));
+          (runs_from_accepted m (events_in (take i es) ++ event_at es i ∷ []) (subst (λ (t : List model.Event). played.Accepted m t) whole accepted));
     }
 
 -- where all events were played the list is accepted
-pub all_played : (m : Machine ℕ) (es : List Event) (i : ℕ) (grid : List (Pair ℕ)) → length es ≤ i → Follows m (events_in (take i es)) grid → model.Accepted m (events_in es)
+pub all_played : (m : Pipeline ℕ) (es : List Event) (i : ℕ) (grid : List (Pair ℕ)) → length es ≤ i → Follows m (events_in (take i es)) grid → played.Accepted m (events_in es)
 all_played m es i grid past follows =
-    subst (λ (t : List Event). model.Accepted m (events_in t)) (take_all i es past) (accepted_from_runs m (events_in (take i es)) follows.runs)
+    subst (λ (t : List Event). played.Accepted m (events_in t)) (take_all i es past) (accepted_from_runs m (events_in (take i es)) follows.runs)
 
 pub event_there : (es : List Event) (i : ℕ) → i < length es → slice_get (events_in es) i ≡ Some (event_at es i)
 event_there es i inside =

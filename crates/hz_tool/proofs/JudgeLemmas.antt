@@ -1,18 +1,18 @@
 -- The reports of the phases of judging a description are what is to be answered.
 use Rattle.std.proofs.Common.{◌≡◌, ℕ, List, [], ◌∷◌, inl, inr, MatchOption, codes, decimal, refl, sym, ap, ◌∙◌}
 use Rattle.hz_check.specs.Faults.{limit_of}
-use Rattle.hz_model.specs.Answers.{Next, HasForms, Describes, Checks}
-use Rattle.hz_model.specs.CheckFaults.{Known, IsSound, limit}
-use Rattle.hz_model.specs.DescriptionForms.{DescriptionFault}
-use Rattle.hz_model.specs.DescriptionForms as description_forms
-use Rattle.hz_model.specs.Descriptions.{Description}
-use Rattle.hz_model.specs.FaultTexts.{form_word, expression_word, description_words, check_line, check_status}
-use Rattle.hz_model.specs.FaultTexts as texts
-use Rattle.hz_model.specs.Forms.{FormFault}
-use Rattle.hz_model.specs.Forms as forms
-use Rattle.hz_model.specs.Sites.{Site}
-use Rattle.hz_model.specs.Texts.{fault_line, passed_line}
-use Rattle.hz_model.specs.Trees.{Trees}
+use Rattle.hz_answer_model.specs.Answers.{Next, HasForms, Describes, Checks}
+use Rattle.hz_check_model.specs.CheckFaults.{Known, IsSound, limit}
+use Rattle.hz_mdread_model.specs.DescriptionForms.{DescriptionFault}
+use Rattle.hz_mdread_model.specs.DescriptionForms as description_forms
+use Rattle.hz_mdread_model.specs.Descriptions.{Description}
+use Rattle.hz_answer_model.specs.FaultTexts.{form_word, expression_word, description_words, check_line, check_status}
+use Rattle.hz_answer_model.specs.FaultTexts as texts
+use Rattle.hz_sexp_model.specs.Forms.{FormFault}
+use Rattle.hz_sexp_model.specs.Forms as forms
+use Rattle.hz_check_model.specs.Sites.{Site}
+use Rattle.hz_answer_model.specs.Texts.{fault_line, passed_line}
+use Rattle.hz_sexp_model.specs.Trees.{Trees}
 use Rattle.hz_tool.proofs.AnswerLemmas.{agrees_weaker}
 use Rattle.hz_tool.specs.Decisions.{Agrees, IsFormsReport, IsDescriptionReport, IsCheckReport}
 use Rattle.hz_tool.specs.Kinds.{kind_word, form_fault, description_fault, expression_fault, named_fault, named_word}

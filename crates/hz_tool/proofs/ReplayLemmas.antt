@@ -3,14 +3,15 @@ use Rattle.std.proofs.lemmas.Bool.{cases_lt}
 use Rattle.std.proofs.lemmas.List.{length-map}
 use Rattle.std.proofs.lemmas.List.Elements.{Contains-append_left, Contains-append_right, Contains-append_cases}
 use Rattle.std.proofs.lemmas.Option.{slice_get-get_or}
-use Rattle.hz_model.proofs.Elements.{Contains-map, Contains-from_map}
-use Rattle.hz_model.proofs.FittingLaws.{future_fits}
-use Rattle.hz_model.proofs.RestrictLaws.{at_number}
-use Rattle.hz_model.specs.Fitting.{IsFuture, IsUnbroken}
-use Rattle.hz_model.specs.Pairs.{Pair, later, placed}
-use Rattle.hz_model.specs.Alternatives.{Alternative}
-use Rattle.hz_model.specs.Sets.{Statement, Fits}
-use Rattle.hz_model.specs.Replay.{Machine, State, issue, advance, Step, MayTake, FitsAt, alternatives_at, chosen}
+use Rattle.hz_base_model.proofs.Elements.{Contains-map, Contains-from_map}
+use Rattle.hz_acceptance_model.proofs.FittingLaws.{future_fits}
+use Rattle.hz_acceptance_model.proofs.RestrictLaws.{at_number}
+use Rattle.hz_acceptance_model.specs.Fitting.{IsFuture, IsUnbroken}
+use Rattle.hz_base_model.specs.Pairs.{Pair, later, placed}
+use Rattle.hz_altern_model.specs.Alternatives.{Alternative}
+use Rattle.hz_altern_model.specs.Sets.{Statement, Fits}
+use Rattle.hz_acceptance_model.specs.Replay.{Pipeline, State, Step, MayTake, FitsAt, alternatives_at, chosen}
+use Rattle.hz_acceptance_model.specs.Events.{issue, advance}
 use Rattle.hz_tool.specs.Replay.{Lists, AreListsOf, NoneFits, FirstFits, Takes, IsAdvancedBy, PlaysFrom}
 
 -- pairs that are placed are those pairs, later
@@ -76,7 +77,7 @@ plays_advance rules lists n old new moved m are s future unbroken = record {
 }
 
 -- A class's list and the machine's alternatives at a state of which the present grid is the future.
-module _ (rules : List (Statement ℕ)) (lists : Lists) (m : Machine ℕ) (are : AreListsOf rules lists m) (present : List (Pair ℕ)) (s : State ℕ) (future : IsFuture present s) (unbroken : IsUnbroken m.statements s.reserved) (k : ℕ) (within : k < length lists) where
+module _ (rules : List (Statement ℕ)) (lists : Lists) (m : Pipeline ℕ) (are : AreListsOf rules lists m) (present : List (Pair ℕ)) (s : State ℕ) (future : IsFuture present s) (unbroken : IsUnbroken m.statements s.reserved) (k : ℕ) (within : k < length lists) where
   abbrev grids : List (List (Pair ℕ))
   grids = get_or lists k []
 

@@ -1,15 +1,15 @@
 use Rattle.std.proofs.Common.{◌≡◌, ℕ, ◌<◌, ◌≤◌, ◌⊎◌, inl, inr, Bool, List, length, Option, Some, nat_lt, MatchBool, MatchOption, refl, sym, subst, arith}
 use Rattle.std.proofs.lemmas.Bool.{le-ltb}
-use Rattle.hz_model.specs.Answers.{Held, Next, Opens, Answer, Judges, AnswersReplay, Says}
-use Rattle.hz_model.specs.Limits.{description_limit, trace_limit}
-use Rattle.hz_model.specs.Texts.{file_line, limit_line}
+use Rattle.hz_answer_model.specs.Answers.{Held, Next, Opens, Answer, Judges, AnswersReplay, Says}
+use Rattle.hz_base_model.specs.Limits.{description_limit, trace_limit}
+use Rattle.hz_answer_model.specs.Texts.{file_line, limit_line}
 use Rattle.hz_tool.specs.Decisions.{Agrees, CountsReport, NamesFile, IsFileWord}
 use Rattle.hz_tool.specs.Endings.{IsAppended, SaysFile, Completes, MayWrite}
 use Rattle.hz_tool.specs.Reports.{text_of, status_of}
 use Rattle.hz_tool.specs.declared.report.Report.{Report}
 use Rattle.hz_tool.specs.declared.report.Report.TheVariants.{Memory, File}
 use Rattle.hz_tool.proofs.AnswerLemmas.{agrees_weaker}
-use Rattle.hz_model.proofs.AnswerLaws.{answer_single}
+use Rattle.hz_answer_model.proofs.AnswerLaws.{answer_single}
 
 -- a file that is there and not too long leads on
 pub opens_found : (held : Held) (name : List ℕ) (most : ℕ) (bytes : List ℕ) (next : Next (List ℕ)) (s : ℕ) (t : List ℕ) → held name ≡ Some bytes → length bytes ≤ most → next bytes s t → Opens held name most next s t

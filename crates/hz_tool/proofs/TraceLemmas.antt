@@ -1,12 +1,12 @@
 use Rattle.std.proofs.Common.{◌≡◌, ℕ, ◌+◌, ◌<◌, ◌≤◌, List, [], ◌∷◌, ◌++◌, Option, Some, None, refl, sym, ap, ◌∙◌, arith, append_assoc}
 use Rattle.std.proofs.lemmas.Option.{none-some, same_Some}
 use Rattle.std.specs.Option.{option_map}
-use Rattle.hz_model.specs.Limits.{advance_limit}
-use Rattle.hz_model.specs.Lines.{lines_of}
-use Rattle.hz_model.specs.Replay as model
-use Rattle.hz_model.specs.Replay.{cycles_of}
-use Rattle.hz_model.proofs.ReplayLaws.{cycles_of-append}
-use Rattle.hz_model.specs.StraightTraces.{event_of, events_of, StraightTrace}
+use Rattle.hz_base_model.specs.Limits.{advance_limit}
+use Rattle.hz_base_model.specs.Lines.{lines_of}
+use Rattle.hz_acceptance_model.specs.Events as model
+use Rattle.hz_acceptance_model.specs.Events.{cycles_of}
+use Rattle.hz_acceptance_model.proofs.ReplayLaws.{cycles_of-append}
+use Rattle.hz_trace_model.specs.StraightTraces.{event_of, events_of, StraightTrace}
 use Rattle.hz_tool.specs.Trace.{capped, capped_event, cycles_in}
 
 pub cycles_of_push : (xs : List model.Event) (e : model.Event) → cycles_of (xs ++ e ∷ []) ≡ cycles_of xs + cycles_in e

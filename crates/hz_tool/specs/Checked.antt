@@ -3,11 +3,11 @@ use Rattle.std.specs.Prelude.{ℕ, ◌<◌, ◌≤◌, List, [], ◌∷◌, map,
 use Rattle.hz_check.specs.declared.checked.Checked.{Checked}
 use Rattle.hz_check.specs.declared.checked.CheckedClass.{CheckedClass}
 use Rattle.hz_check.specs.Shape.{automaton_of, class_of}
-use Rattle.hz_model.specs.CheckedParts.{AutomatonParts}
-use Rattle.hz_model.specs.Sets.{Statement}
-use Rattle.hz_model.specs.Limits.{advance_limit}
-use Rattle.hz_model.specs.Pairs.{Pair}
-use Rattle.hz_model.specs.Replay.{Event, IsOfClass, cycles_of}
+use Rattle.hz_check_model.specs.CheckedParts.{AutomatonParts}
+use Rattle.hz_altern_model.specs.Sets.{Statement}
+use Rattle.hz_base_model.specs.Limits.{advance_limit}
+use Rattle.hz_base_model.specs.Pairs.{Pair}
+use Rattle.hz_acceptance_model.specs.Events.{Event, IsOfClass, cycles_of}
 
 -- the class has a list for some automaton
 abbrev pub HasList : CheckedClass → Type 0

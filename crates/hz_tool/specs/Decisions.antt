@@ -7,13 +7,13 @@ use Rattle.hz_mdread.specs.Faults.{TellsExpression}
 use Rattle.hz_regexp.specs.declared.fault.ExprFault.{ExprFault}
 use Rattle.hz_regexp.specs.declared.fault.ExprFault.TheVariants as expr
 use Rattle.hz_tool.specs.declared.kind.ExpressionKind.{ExpressionKind}
-use Rattle.hz_model.specs.Answers.{Held}
-use Rattle.hz_model.specs.CheckFaults.{limit}
-use Rattle.hz_model.specs.DescriptionForms as description_forms
-use Rattle.hz_model.specs.Descriptions.{Description}
-use Rattle.hz_model.specs.Forms as forms
-use Rattle.hz_model.specs.Trees.{Trees}
-use Rattle.hz_model.specs.Words.{Order, replay, order_of}
+use Rattle.hz_answer_model.specs.Answers.{Held}
+use Rattle.hz_check_model.specs.CheckFaults.{limit}
+use Rattle.hz_mdread_model.specs.DescriptionForms as description_forms
+use Rattle.hz_mdread_model.specs.Descriptions.{Description}
+use Rattle.hz_sexp_model.specs.Forms as forms
+use Rattle.hz_sexp_model.specs.Trees.{Trees}
+use Rattle.hz_answer_model.specs.Words.{Order, replay, order_of}
 use Rattle.hz_tool.specs.Kinds.{form_fault, description_fault, expression_fault, named_fault}
 use Rattle.hz_tool.specs.Reports.{status_of, text_of}
 use Rattle.hz_tool.specs.declared.report.Report.{Report}

@@ -6,14 +6,14 @@ use Rattle.hz_tool.specs.declared.kind.ExpressionKind.{ExpressionKind}
 use Rattle.hz_tool.specs.declared.kind.ExpressionKind.TheVariants as expression
 use Rattle.hz_tool.specs.declared.kind.NamedKind.{NamedKind}
 use Rattle.hz_tool.specs.declared.kind.NamedKind.TheVariants as named
-use Rattle.hz_model.specs.CheckFaults.{CheckFault}
-use Rattle.hz_model.specs.CheckFaults as check
-use Rattle.hz_model.specs.DescriptionForms.{DescriptionFault}
-use Rattle.hz_model.specs.DescriptionForms as description
-use Rattle.hz_model.specs.ExpressionTexts.{ExpressionFault}
-use Rattle.hz_model.specs.ExpressionTexts as text
-use Rattle.hz_model.specs.Forms.{FormFault}
-use Rattle.hz_model.specs.Forms as form
+use Rattle.hz_check_model.specs.CheckFaults.{CheckFault}
+use Rattle.hz_check_model.specs.CheckFaults as check
+use Rattle.hz_mdread_model.specs.DescriptionForms.{DescriptionFault}
+use Rattle.hz_mdread_model.specs.DescriptionForms as description
+use Rattle.hz_regexp_model.specs.ExpressionTexts.{ExpressionFault}
+use Rattle.hz_regexp_model.specs.ExpressionTexts as text
+use Rattle.hz_sexp_model.specs.Forms.{FormFault}
+use Rattle.hz_sexp_model.specs.Forms as form
 
 -- the word of a fault of a form
 abbrev pub kind_word : Kind → List ℕ

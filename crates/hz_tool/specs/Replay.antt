@@ -2,11 +2,12 @@
 use Rattle.std.specs.Prelude.{◌≡◌, ℕ, ◌+◌, ◌<◌, ◌↔◌, List, [], map, slice_index_or, slice_get, length, Bool, MatchBool, Some, ⊤}
 use Rattle.std.specs.List.{Contains}
 use Rattle.std.specs.Borrow.{Bor}
-use Rattle.hz_model.specs.Pairs.{Pair}
-use Rattle.hz_model.specs.Fitting.{IsFuture, IsUnbroken, AskTheSame}
-use Rattle.hz_model.specs.Replay.{Machine, State, Step, Plays, IsPlayable, start, alternatives_at, first_fit}
-use Rattle.hz_model.specs.Replay as model
-use Rattle.hz_model.specs.Sets.{Statement, Fits}
+use Rattle.hz_base_model.specs.Pairs.{Pair}
+use Rattle.hz_acceptance_model.specs.Fitting.{IsFuture, IsUnbroken, AskTheSame}
+use Rattle.hz_acceptance_model.specs.Replay.{Pipeline, State, Step, Plays, IsPlayable, start, alternatives_at, first_fit}
+use Rattle.hz_acceptance_model.specs.Events as model
+use Rattle.hz_acceptance_model.specs.Replay as played
+use Rattle.hz_altern_model.specs.Sets.{Statement, Fits}
 use Rattle.hz_grid.specs.Grids.{IsUnion}
 use Rattle.hz_tool.specs.declared.replay.Outcome.{Outcome}
 use Rattle.hz_tool.specs.declared.replay.Outcome.TheVariants.{Accepted, Refused}
@@ -20,7 +21,7 @@ abbrev pub lists_in : List (Bor (List (List (Pair ℕ)))) → Lists
 lists_in lists = map (λ list. list.now) lists
 
 -- The lists of grids are those of a machine's classes in the first treatment, and the statements are the machine's.
-pub record AreListsOf (rules : List (Statement ℕ)) (lists : Lists) (m : Machine ℕ) : Type 0 where
+pub record AreListsOf (rules : List (Statement ℕ)) (lists : Lists) (m : Pipeline ℕ) : Type 0 where
   pub statements : AskTheSame rules m.statements
   pub first : m.treatment ≡ first_fit
   pub classes : (k : ℕ) → k < length lists → map (λ a. a.pairs) (alternatives_at m k) ≡ slice_index_or lists k []
@@ -46,28 +47,28 @@ abbrev pub IsAdvancedBy : ℕ → List (Pair ℕ) → List (Pair ℕ) → Type 0
 IsAdvancedBy cycles old new = (unit cycle : ℕ) → Contains new (record { unit = unit; cycle = cycle }) ↔ Contains old (record { unit = unit; cycle = cycles + cycle })
 
 -- the event can be played, and wherever it leads the grid is the future
-pub record PlaysTo (m : Machine ℕ) (s : State ℕ) (e : model.Event) (grid : List (Pair ℕ)) : Type 0 where
+pub record PlaysTo (m : Pipeline ℕ) (s : State ℕ) (e : model.Event) (grid : List (Pair ℕ)) : Type 0 where
   pub can : (s' : State ℕ) × Step m s e s'
   pub future : (s' : State ℕ) → Step m s e s' → IsFuture grid s'
 
 -- whether the event can be played, and what it then leaves
-abbrev pub PlaysEvent : Machine ℕ → State ℕ → model.Event → Bool → List (Pair ℕ) → Type 0
+abbrev pub PlaysEvent : Pipeline ℕ → State ℕ → model.Event → Bool → List (Pair ℕ) → Type 0
 PlaysEvent m s e fits grid = MatchBool fits (PlaysTo m s e grid) ((s' : State ℕ) → Step m s e s' → ⊥)
 
 -- the same from every state of which the old grid is the future, where no exclusion is broken
 abbrev pub PlaysFrom : List (Statement ℕ) → Lists → List (Pair ℕ) → model.Event → Bool → List (Pair ℕ) → Type 0
 PlaysFrom rules lists old e fits new =
-    (m : Machine ℕ) → AreListsOf rules lists m → (s : State ℕ) → IsFuture old s → IsUnbroken m.statements s.reserved → PlaysEvent m s e fits new
+    (m : Pipeline ℕ) → AreListsOf rules lists m → (s : State ℕ) → IsFuture old s → IsUnbroken m.statements s.reserved → PlaysEvent m s e fits new
 
 -- the events can be run, and wherever they lead the grid is the future
-pub record Follows (m : Machine ℕ) (done : List model.Event) (grid : List (Pair ℕ)) : Type 0 where
+pub record Follows (m : Pipeline ℕ) (done : List model.Event) (grid : List (Pair ℕ)) : Type 0 where
   pub runs : IsPlayable m done
   pub future : (s : State ℕ) → Plays m start done s → IsFuture grid s
 
 -- what a replay of events answers
-abbrev pub IsOutcome : {U : Type 0} → Machine U → List model.Event → Outcome → Type 0
-IsOutcome m events (Accepted issues cycles) = model.Accepted m events × (issues ≡ model.issues_of events) × (cycles ≡ model.cycles_of events)
-IsOutcome m events (Refused event class) = model.FirstRefused m events event × (slice_get events event ≡ Some (model.issue class))
+abbrev pub IsOutcome : {U : Type 0} → Pipeline U → List model.Event → Outcome → Type 0
+IsOutcome m events (Accepted issues cycles) = played.Accepted m events × (issues ≡ model.issues_of events) × (cycles ≡ model.cycles_of events)
+IsOutcome m events (Refused event class) = played.FirstRefused m events event × (slice_get events event ≡ Some (model.issue class))
 
 -- what a replay's outcome must lie within: the events and the classes
 abbrev pub IsWithin : ℕ → ℕ → Outcome → Type 0

@@ -1,7 +1,7 @@
 use Rattle.std.specs.Prelude.{ℕ, List, [], ◌∷◌, codes, decimal}
-use Rattle.hz_model.specs.Texts as model
+use Rattle.hz_answer_model.specs.Texts as model
 use Rattle.hz_check.specs.Faults.{limit_of}
-use Rattle.hz_model.specs.FaultTexts.{limit_word}
+use Rattle.hz_answer_model.specs.FaultTexts.{limit_word}
 use Rattle.hz_tool.specs.Kinds.{kind_word, expression_word, named_word}
 use Rattle.hz_tool.specs.declared.report.Report.{Report}
 use Rattle.hz_tool.specs.declared.report.Report.TheVariants.{Accepted, Refused, Fault, Expression, Named, Passed, NotBuilt, Long, Usage, Memory, File}

@@ -1,7 +1,7 @@
 use Rattle.std.specs.Prelude.{ℕ, ◌+◌, min, List, map}
-use Rattle.hz_model.specs.Limits.{advance_limit}
-use Rattle.hz_model.specs.Replay as model
-use Rattle.hz_model.specs.StraightTraces.{StraightTrace}
+use Rattle.hz_base_model.specs.Limits.{advance_limit}
+use Rattle.hz_acceptance_model.specs.Events as model
+use Rattle.hz_trace_model.specs.StraightTraces.{StraightTrace}
 use Rattle.hz_tool.specs.declared.trace.Event.{Event}
 use Rattle.hz_tool.specs.declared.trace.Event.TheVariants.{Issue, Advance}
 use Rattle.hz_tool.specs.declared.early.Early.{Early}

@@ -3,11 +3,12 @@
 ghost use Rattle.std.specs.List.{AllPairs};
 ghost use Rattle.std.specs.Prelude.{◌≡◌, ◌≢◌, ◌+◌, ℕ, ◌<◌, ◌≤◌, ◌&&◌, not, nat_lt, length, map, slice_get, Some, All, IfOk, IsTrue};
 ghost use Rattle.hz_check.specs.Checked.{IsCheckedOf};
-ghost use Rattle.hz_model.specs.Answers.{is_built, Replays, Traces, ReplaysDescription};
-ghost use Rattle.hz_model.specs.Descriptions.{Description};
-ghost use Rattle.hz_model.specs.CheckFaults.{Known};
-ghost use Rattle.hz_model.specs.Machines.{class_names, machine_with};
-ghost use Rattle.hz_model.specs.Replay.{Machine};
+ghost use Rattle.hz_answer_model.specs.Answers.{is_built, Replays, Traces, ReplaysDescription};
+ghost use Rattle.hz_mdread_model.specs.Descriptions.{Description};
+ghost use Rattle.hz_check_model.specs.CheckFaults.{Known};
+ghost use Rattle.hz_check_model.specs.Places.{class_names};
+ghost use Rattle.hz_pipeline_model.specs.Pipelines.{pipeline_with};
+ghost use Rattle.hz_acceptance_model.specs.Replay.{Pipeline};
 ghost use Rattle.hz_tool.specs.Checked.{first_list, first_statements, HasList, IsTraceOf};
 ghost use Rattle.hz_tool.specs.Decisions.{Agrees, IsJudged};
 ghost use Rattle.hz_tool.specs.Names.{names_in};
@@ -74,7 +75,7 @@ fn first_sets(checked: &Checked) -> &[SetRule]
 /// first automaton that fits under the automaton's sets.
 fn replay_checked(alloc: Global, checked: &Checked, events: &[Event]) -> Result<Outcome, AllocError>
     requires { IsTraceOf checked.now (events_in events.now) }
-    ensures right { IfOk result (λ outcome. (m : Machine ℕ) → AreListsOf (first_statements checked.now) (map first_list checked.now.classes.items) m → IsOutcome m (events_in events.now) outcome) }
+    ensures right { IfOk result (λ outcome. (m : Pipeline ℕ) → AreListsOf (first_statements checked.now) (map first_list checked.now.classes.items) m → IsOutcome m (events_in events.now) outcome) }
     ensures within { IfOk result (IsWithin (length events.now) (length checked.now.classes.items)) }
 {
     let rules = Rules::build(alloc, first_sets(checked))?;
@@ -102,7 +103,7 @@ fn outcome_report<'a>(
 ) -> Report<'a>
     requires { IsWithin (length events.now) (index_set_len names.now) outcome }
     ensures kind { IsJudged result }
-    ensures answer { (d : Description) (known : Known) → names_in names.now.keys ≡ class_names d → IsOutcome (machine_with d known) (events_in events.now) outcome → Agrees (Replays (machine_with d known) (events_in events.now)) result }
+    ensures answer { (d : Description) (known : Known) → names_in names.now.keys ≡ class_names d → IsOutcome (pipeline_with d known) (events_in events.now) outcome → Agrees (Replays (pipeline_with d known) (events_in events.now)) result }
 {
     match outcome {
         Outcome::Accepted { issues, cycles } => Report::Accepted { issues, cycles },
@@ -126,7 +127,7 @@ fn trace_report<'a>(
 ) -> Report<'a>
     requires { names_in names.now.keys ≡ map (λ c. c.name) checked.now.classes.items }
     ensures kind { IsJudged result }
-    ensures answer { (d : Description) (is : IsCheckedOf d checked.now) → IsTrue (is_built d) → Agrees (Traces d file.entry.now trace.now (Replays (machine_with d is.known))) result }
+    ensures answer { (d : Description) (is : IsCheckedOf d checked.now) → IsTrue (is_built d) → Agrees (Traces d file.entry.now trace.now (Replays (pipeline_with d is.known))) result }
 {
     let events = match judge_trace(alloc, file, names, trace) {
         Ok(events) => events,

@@ -1,11 +1,11 @@
 //! The texts judged, one phase after the other; the first that refuses gives the report.
 
 ghost use Rattle.std.specs.Prelude.{◌≡◌, ◌^◌, ◌<◌, ◌≤◌, IfOk, IfErr, IsTrue, length};
-ghost use Rattle.hz_model.specs.DescriptionForms as description_forms;
-ghost use Rattle.hz_model.specs.DescriptionShape.{IsWellFormed, IsCheckable};
-ghost use Rattle.hz_model.specs.Forms as forms;
-ghost use Rattle.hz_model.specs.Limits.{class_limit};
-ghost use Rattle.hz_model.specs.StraightTraces.{StraightTrace};
+ghost use Rattle.hz_mdread_model.specs.DescriptionForms as description_forms;
+ghost use Rattle.hz_mdread_model.specs.DescriptionShape.{IsWellFormed, IsCheckable};
+ghost use Rattle.hz_sexp_model.specs.Forms as forms;
+ghost use Rattle.hz_base_model.specs.Limits.{class_limit};
+ghost use Rattle.hz_trace_model.specs.StraightTraces.{StraightTrace};
 ghost use Rattle.hz_check.specs.Checked.{IsCheckedOf};
 ghost use Rattle.hz_mdread.specs.Shape.{description};
 ghost use Rattle.hz_sexp.specs.Shape.{trees};

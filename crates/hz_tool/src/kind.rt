@@ -2,7 +2,7 @@
 
 ghost use Rattle.std.specs.Prelude.{◌≡◌};
 ghost use Rattle.hz_check.specs.Faults.{limit_of};
-ghost use Rattle.hz_model.specs.FaultTexts.{limit_word};
+ghost use Rattle.hz_answer_model.specs.FaultTexts.{limit_word};
 ghost use Rattle.hz_tool.specs.Kinds.{kind_word, expression_word};
 
 use hz_check::LimitName;

@@ -1,8 +1,8 @@
 //! Names by number: where one stands in a set.
 
 ghost use Rattle.std.specs.Prelude.{◌≡◌, ◌≤◌, ◌+◌, ◌==◌, ◌++◌, ◌∷◌, [], IfOk, OnOk, None, map};
-ghost use Rattle.hz_model.specs.Limits.{class_limit};
-ghost use Rattle.hz_model.specs.Lines as model;
+ghost use Rattle.hz_base_model.specs.Limits.{class_limit};
+ghost use Rattle.hz_base_model.specs.Lines as model;
 ghost use Rattle.hz_tool.specs.Names.{names_in};
 ghost use Rattle.indexmap.specs.IndexSet.{index_set_len};
 

@@ -2,9 +2,9 @@
 
 ghost use Rattle.std.specs.Prelude.{◌<◌, ◌^◌, IsTrue, length};
 ghost use Rattle.hz_mdread.specs.Shape.{description};
-ghost use Rattle.hz_model.specs.Answers.{Judges, JudgesDescription, JudgesForms};
-ghost use Rattle.hz_model.specs.DescriptionForms as description_forms;
-ghost use Rattle.hz_model.specs.DescriptionShape.{IsCheckable};
+ghost use Rattle.hz_answer_model.specs.Answers.{Judges, JudgesDescription, JudgesForms};
+ghost use Rattle.hz_mdread_model.specs.DescriptionForms as description_forms;
+ghost use Rattle.hz_mdread_model.specs.DescriptionShape.{IsCheckable};
 ghost use Rattle.hz_sexp.specs.Shape.{trees};
 ghost use Rattle.hz_tool.specs.Decisions.{Agrees, IsJudged};
 

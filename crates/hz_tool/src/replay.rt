@@ -1,12 +1,12 @@
 //! The replay of events by one grid of the present and planned cycles.
 
 ghost use Rattle.std.specs.Prelude.{◌≡◌, ℕ, ◌+◌, ◌<◌, ◌≤◌, ◌⊎◌, length, List, [], ◌∷◌, All, IfOk, OnOk, MatchOption, IfSome, IsSome, is_none};
-ghost use Rattle.hz_model.specs.Limits.{advance_limit};
-ghost use Rattle.hz_model.specs.Replay.{Machine, issue, issues_of, cycles_of};
+ghost use Rattle.hz_base_model.specs.Limits.{advance_limit};
+ghost use Rattle.hz_acceptance_model.specs.Replay.{Pipeline};
+ghost use Rattle.hz_acceptance_model.specs.Events.{issue, issues_of, cycles_of, IsOfClass};
 ghost use Rattle.hz_grid.specs.Grids.{IsAdvanced};
 ghost use Rattle.hz_tool.specs.Trace.{event as event_lem, events_in, issues_in, cycles_in};
 ghost use Rattle.hz_tool.specs.Replay.{lists_in, AreListsOf, NoneFits, FirstFits, Takes, IsAdvancedBy, PlaysFrom, IsOutcome, IsWithin};
-ghost use Rattle.hz_model.specs.Replay.{IsOfClass};
 
 use super::trace::Event;
 use hz_grid::{Grid, NoMemory};
@@ -139,7 +139,7 @@ pub fn replay(
 ) -> Result<Outcome, NoMemory>
     requires classes { All (IsOfClass (length lists.now)) (events_in events.now) }
     requires short { cycles_of (events_in events.now) ≤ advance_limit }
-    ensures right { IfOk result (λ outcome. (m : Machine ℕ) → AreListsOf rules.now (lists_in lists.now) m → IsOutcome m (events_in events.now) outcome) }
+    ensures right { IfOk result (λ outcome. (m : Pipeline ℕ) → AreListsOf rules.now (lists_in lists.now) m → IsOutcome m (events_in events.now) outcome) }
     ensures within { IfOk result (IsWithin (length events.now) (length lists.now)) }
 {
     let mut present = Grid::empty(alloc);

@@ -3,10 +3,10 @@
 ghost use Rattle.std.specs.Prelude.{◌≡◌, ◌+◌, ◌-◌, ◌^◌, ◌<◌, [], ◌∷◌, codes, decimal, map};
 ghost use Rattle.std.specs.List.{concat};
 ghost use Rattle.hz_io.specs.Sink.{Writes};
-ghost use Rattle.hz_model.specs.Texts as model;
+ghost use Rattle.hz_answer_model.specs.Texts as model;
 ghost use Rattle.hz_tool.specs.Kinds.{kind_word, expression_word, named_word};
 ghost use Rattle.hz_check.specs.Faults.{limit_of};
-ghost use Rattle.hz_model.specs.FaultTexts.{limit_word};
+ghost use Rattle.hz_answer_model.specs.FaultTexts.{limit_word};
 
 use super::kind::{ExpressionKind, Kind, NamedKind, limit_word};
 use hz_check::LimitName;

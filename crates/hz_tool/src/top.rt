@@ -2,9 +2,9 @@
 
 ghost use Rattle.std.specs.Prelude.{◌≡◌, ◌⊎◌, ◌↔◌, ℕ, List, ◌-◌, ◌^◌, ◌<◌, ◌≤◌, None};
 ghost use Rattle.std.specs.Option.{ForSome};
-ghost use Rattle.hz_model.specs.Answers.{Answer, AnswersReplay};
-ghost use Rattle.hz_model.specs.Texts.{usage_line, memory_line};
-ghost use Rattle.hz_model.specs.Words as model;
+ghost use Rattle.hz_answer_model.specs.Answers.{Answer, AnswersReplay};
+ghost use Rattle.hz_answer_model.specs.Texts.{usage_line, memory_line};
+ghost use Rattle.hz_answer_model.specs.Words as model;
 ghost use Rattle.hz_tool.specs.Decisions.{Agrees, CountsReport, NamesFile, IsOfOrder, IsFileOf, IsFileWord, ReportsWords};
 ghost use Rattle.hz_tool.specs.Endings.{IsAppended, AppendsFile, Completes, IsCutShort};
 ghost use Rattle.hz_tool.specs.Words.{words_in};

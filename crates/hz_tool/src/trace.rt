@@ -2,9 +2,9 @@
 
 ghost use Rattle.std.specs.Prelude.{◌≡◌, ℕ, ◌+◌, ◌<◌, ◌≤◌, ◌==◌, length, min, MatchOption, MatchResult, List, ◌∷◌, ◌++◌, position, map};
 ghost use Rattle.std.specs.Option.{option_map};
-ghost use Rattle.hz_model.specs.Lines.{lines_of, number_of};
-ghost use Rattle.hz_model.specs.Limits.{advance_limit, class_limit};
-ghost use Rattle.hz_model.specs.StraightTraces.{event_of, StraightTrace};
+ghost use Rattle.hz_base_model.specs.Lines.{lines_of, number_of};
+ghost use Rattle.hz_base_model.specs.Limits.{advance_limit, class_limit};
+ghost use Rattle.hz_trace_model.specs.StraightTraces.{event_of, StraightTrace};
 ghost use Rattle.hz_tool.specs.Names.{names_in};
 ghost use Rattle.hz_tool.specs.Trace.{event as event_lem, capped, capped_event, cycles_in, events_in, RefusesTrace};
 ghost use Rattle.indexmap.specs.IndexSet.{index_set_len};

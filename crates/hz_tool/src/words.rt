@@ -3,7 +3,7 @@
 ghost use Rattle.std.specs.Prelude.{◌≡◌, map};
 ghost use Rattle.std.specs.Option.{option_map};
 ghost use Rattle.std.specs.String.{string_bytes};
-ghost use Rattle.hz_model.specs.Words as model;
+ghost use Rattle.hz_answer_model.specs.Words as model;
 ghost use Rattle.hz_tool.specs.Words.{words_in};
 
 /// `replay DESC TRACE`: the names of the two files.

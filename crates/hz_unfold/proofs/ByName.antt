@@ -4,9 +4,9 @@ use Rattle.std.specs.List.{position_from, filter_map, cons_option, list_any}
 use Rattle.std.specs.Option.{option_map}
 use Rattle.std.specs.Str.{bytes_eq}
 use Rattle.std.proofs.lemmas.Bool.{or_parts}
-use Rattle.hz_model.proofs.Elements.{Contains-nil, Contains-head, Contains-tail, Contains-cons_cases}
-use Rattle.hz_model.specs.Lines.{place_of}
-use Rattle.hz_model.specs.Machines.{at_name}
+use Rattle.hz_base_model.proofs.Elements.{Contains-nil, Contains-head, Contains-tail, Contains-cons_cases}
+use Rattle.hz_base_model.specs.Lines.{place_of}
+use Rattle.hz_check_model.specs.Places.{at_name}
 use Rattle.hz_unfold.proofs.FirstNames.{place_from_zero}
 
 position_behind : (test : List ℕ → Bool) (i k : ℕ) (names : List (List ℕ)) → position_from test i names ≡ Some k → i ≤ k

@@ -5,11 +5,11 @@ use Rattle.std.proofs.lemmas.List.{length-map, map-append, same_from_push}
 use Rattle.std.proofs.lemmas.List.Elements.{Contains-append_cases, Contains-push_cases}
 use Rattle.std.proofs.lemmas.Option.{slice_get-map}
 use Rattle.std.specs.Option.{option_map}
-use Rattle.hz_model.proofs.Elements.{Contains-nil, Contains-head, Contains-tail, Contains-cons_cases}
-use Rattle.hz_model.specs.CheckFaults.{Reserving, reserving_reservation, reserving_class, reservations_of, classes_of, named_by, has_come, reservation_names, Counted, IsCountingOrder}
-use Rattle.hz_model.specs.CheckFaults as model
-use Rattle.hz_model.specs.Descriptions.{Description, ReservationItem}
-use Rattle.hz_model.specs.Sites.{is_among}
+use Rattle.hz_base_model.proofs.Elements.{Contains-nil, Contains-head, Contains-tail, Contains-cons_cases}
+use Rattle.hz_check_model.specs.CheckFaults.{Reserving, reserving_reservation, reserving_class, reservations_of, classes_of, named_by, has_come, reservation_names, Counted, IsCountingOrder}
+use Rattle.hz_check_model.specs.CheckFaults as model
+use Rattle.hz_mdread_model.specs.Descriptions.{Description, ReservationItem}
+use Rattle.hz_check_model.specs.Sites.{is_among}
 use Rattle.hz_unfold.specs.Graphs.{At, IsOnce, Visited, ends, came, comes}
 use Rattle.hz_unfold.specs.Orders.{nothing_reserved, reserving, reservings, Numbered, IsOrder}
 use Rattle.hz_unfold.proofs.DescriptionNodes.{first_count, all_count, counts, reserving_first, reserving_second, reservation_at, class_at, named_by_numbers, edges, edges_at, edges_root, edge_small, file_small, in_file}

@@ -5,8 +5,9 @@ use Rattle.std.proofs.lemmas.List.{length-map, map-append}
 use Rattle.hz_mdread.specs.declared.items.ClassItem.{ClassItem}
 use Rattle.hz_mdread.specs.declared.items.ReservationItem.{ReservationItem}
 use Rattle.hz_mdread.specs.Shape.{class_item, reservation_item}
-use Rattle.hz_model.specs.CheckFaults.{Reserving, names_in, reserving_reservation, reserving_class, reservations_of, classes_of}
-use Rattle.hz_model.specs.Descriptions.{Description}
+use Rattle.hz_check_model.specs.CheckFaults.{Reserving, reserving_reservation, reserving_class, reservations_of, classes_of}
+use Rattle.hz_altern_model.specs.NamesIn.{names_in}
+use Rattle.hz_mdread_model.specs.Descriptions.{Description}
 use Rattle.hz_regexp.specs.Shape.{expression}
 use Rattle.hz_unfold.specs.Orders.{Numbered, number_of, numbers_in, reservings_of, class_reservings_of, IsGraph}
 

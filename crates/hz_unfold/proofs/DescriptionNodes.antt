@@ -6,12 +6,13 @@ use Rattle.std.specs.Str.{bytes_eq}
 use Rattle.std.proofs.lemmas.Bool.{cases_lt}
 use Rattle.std.proofs.lemmas.List.{get_or_at, get_or_append_left, get_or-append_right, get_or-map, get_or_past, length-append, length-map}
 use Rattle.std.proofs.lemmas.Option.{slice_get_within, get_or_from_slice_get, slice_get-map}
-use Rattle.hz_model.proofs.Elements.{Contains-nil}
-use Rattle.hz_model.proofs.MachineLaws.{from_filter_map}
-use Rattle.hz_model.specs.Alternatives.{Expression}
-use Rattle.hz_model.specs.CheckFaults.{Reserving, reserving_reservation, reserving_class, reservations_of, classes_of, names_in, named_by}
-use Rattle.hz_model.specs.Descriptions.{Description, ReservationItem, ClassItem}
-use Rattle.hz_model.specs.Machines.{reservation_named}
+use Rattle.hz_base_model.proofs.Elements.{Contains-nil}
+use Rattle.hz_check_model.proofs.PlaceLaws.{from_filter_map}
+use Rattle.hz_altern_model.specs.Alternatives.{Expression}
+use Rattle.hz_check_model.specs.CheckFaults.{Reserving, reserving_reservation, reserving_class, reservations_of, classes_of, named_by}
+use Rattle.hz_altern_model.specs.NamesIn.{names_in}
+use Rattle.hz_mdread_model.specs.Descriptions.{Description, ReservationItem, ClassItem}
+use Rattle.hz_check_model.specs.Places.{reservation_named}
 use Rattle.hz_unfold.specs.Graphs.{AreInside, ends_in}
 use Rattle.hz_unfold.specs.Orders.{all_of, nothing_reserved, reserving, reservings, number_of, numbers_in, Numbered, graph_of}
 use Rattle.hz_unfold.proofs.ByName.{at_place, at_none, map-filter_map}

@@ -2,9 +2,9 @@
 use Rattle.std.proofs.Common.{◌≡◌, ◌≢◌, ℕ, suc, ◌+◌, ◌<◌, ◌≤◌, ◌⊎◌, inl, inr, ⊎_elim, List, [], ◌∷◌, ◌++◌, length, get_or, map, Contains, refl, sym, ap, ◌∙◌, subst, arith}
 use Rattle.std.proofs.lemmas.Bool.{cases_eq}
 use Rattle.std.proofs.lemmas.List.{append_assoc, get_or_at, length-append}
-use Rattle.hz_model.proofs.Elements.{Contains-nil, Contains-head, Contains-tail, Contains-cons_cases}
-use Rattle.hz_model.specs.CheckFaults.{Reserving, Merged, no_first, no_second}
-use Rattle.hz_model.specs.CheckFaults as model
+use Rattle.hz_base_model.proofs.Elements.{Contains-nil, Contains-head, Contains-tail, Contains-cons_cases}
+use Rattle.hz_check_model.specs.CheckFaults.{Reserving, Merged, no_first, no_second}
+use Rattle.hz_check_model.specs.CheckFaults as model
 use Rattle.hz_unfold.specs.Orders.{Numbered, done, last_first, last_second, from_first, from_second}
 
 -- numbers from one on stand for these

@@ -3,7 +3,7 @@ use Rattle.std.proofs.Common.{◌≡◌, ◌≢◌, ℕ, zero, suc, ◌+◌, ◌
 use Rattle.std.proofs.lemmas.Bool.{cases_eq}
 use Rattle.std.proofs.lemmas.List.{length_push}
 use Rattle.std.proofs.lemmas.List.Elements.{Contains-append_left, Contains-push, Contains-push_cases}
-use Rattle.hz_model.proofs.Elements.{Contains-nil, Contains-head, Contains-tail, Contains-cons_cases}
+use Rattle.hz_base_model.proofs.Elements.{Contains-nil, Contains-head, Contains-tail, Contains-cons_cases}
 use Rattle.hz_unfold.specs.declared.circle.Lead.{Lead}
 use Rattle.hz_unfold.specs.declared.circle.Lead.TheVariants.{Nowhere, Straight, Around}
 use Rattle.hz_unfold.specs.Circles.{Knowledge, lead_of, lead_now, is_taken, found_by, found, all_found}

@@ -11,7 +11,7 @@ use Rattle.std.proofs.lemmas.Map.Text.{is_eq-slice_cmp}
 use Rattle.std.proofs.lemmas.Slice.Eq.{bytes_eq-Decides}
 use Rattle.hz_mdread.specs.declared.items.ReservationItem.{ReservationItem}
 use Rattle.hz_mdread.specs.Shape.{reservation_item}
-use Rattle.hz_model.specs.Lines.{place_of}
+use Rattle.hz_base_model.specs.Lines.{place_of}
 
 pub bytes_eq-self : (name : List ℕ) → bytes_eq name name ≡ true
 bytes_eq-self name = (bytes_eq-Decides name name).1 refl

@@ -7,13 +7,14 @@ use Rattle.std.proofs.lemmas.Bool.{cases_order, cond_both, or_parts, or_cases, o
 use Rattle.std.proofs.lemmas.List.Elements.{All-contains}
 use Rattle.std.proofs.lemmas.List.Quantifiers.{position-Some}
 use Rattle.std.proofs.lemmas.Option.{slice_get_within, get_or_from_slice_get, slice_get-get_or}
-use Rattle.hz_model.proofs.Elements.{Contains-nil, Contains-head, Contains-tail, Contains-cons_cases, Contains-map, Contains-from_map}
-use Rattle.hz_model.specs.Alternatives.{Expression}
-use Rattle.hz_model.specs.CheckFaults.{Standing, first_told, told_at, faults_of_names, second_definitions, unknown_names, unit_sites, reservation_sites, reservation_site, names_in, is_unit, is_reservable, unknown_in_expression, sites_of, unknown_in_condition, automaton_sites, class_sites, attribute_sites, repeated_values, is_class, names_of_bypass, names_of_set}
-use Rattle.hz_model.specs.Descriptions.{Description, UnitItem, ReservationItem, ClassItem}
-use Rattle.hz_model.specs.DescriptionShape.{IsCheckable, IsCheckableReservation, IsForm, define_cpu_unit, define_reservation}
-use Rattle.hz_model.specs.Lines.{place_of}
-use Rattle.hz_model.specs.Sites.{Site, is_among, is_preceded, earlier, earliest, repeated}
+use Rattle.hz_base_model.proofs.Elements.{Contains-nil, Contains-head, Contains-tail, Contains-cons_cases, Contains-map, Contains-from_map}
+use Rattle.hz_altern_model.specs.Alternatives.{Expression}
+use Rattle.hz_check_model.specs.CheckFaults.{Standing, first_told, told_at, faults_of_names, second_definitions, unknown_names, unit_sites, reservation_sites, reservation_site, is_unit, is_reservable, unknown_in_expression, sites_of, unknown_in_condition, automaton_sites, class_sites, attribute_sites, repeated_values, is_class, names_of_bypass, names_of_set}
+use Rattle.hz_altern_model.specs.NamesIn.{names_in}
+use Rattle.hz_mdread_model.specs.Descriptions.{Description, UnitItem, ReservationItem, ClassItem}
+use Rattle.hz_mdread_model.specs.DescriptionShape.{IsCheckable, IsCheckableReservation, IsForm, define_cpu_unit, define_reservation}
+use Rattle.hz_base_model.specs.Lines.{place_of}
+use Rattle.hz_check_model.specs.Sites.{Site, is_among, is_preceded, earlier, earliest, repeated}
 use Rattle.hz_unfold.proofs.FirstNames.{place_from_zero, bytes_eq-self, same_bytes}
 
 -- no two places have one name

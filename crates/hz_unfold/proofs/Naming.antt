@@ -3,8 +3,8 @@ use Rattle.std.proofs.Common.{◌≡◌, ℕ, ◌+◌, ◌<◌, ◌≤◌, List,
 use Rattle.std.specs.List.{filter_map}
 use Rattle.std.proofs.lemmas.List.{append-nil, append_assoc, drop_all, drop_more}
 use Rattle.std.proofs.lemmas.List.Elements.{filter_map-append}
-use Rattle.hz_model.specs.CheckFaults.{names_in, names_in_parts}
-use Rattle.hz_model.specs.ExpressionTexts.{parts_of}
+use Rattle.hz_altern_model.specs.NamesIn.{names_in, names_in_parts}
+use Rattle.hz_altern_model.specs.Alternatives.{parts_of}
 use Rattle.hz_regexp.specs.declared.expr.Expr.{Expr}
 use Rattle.hz_regexp.specs.Shape.{expression, expressions}
 

@@ -5,8 +5,8 @@ use Rattle.std.specs.declared.alloc.Global.{Global}
 use Rattle.std.specs.declared.vec.Vec.{Vec}
 use Rattle.std.proofs.lemmas.Bool.{cases_lt}
 use Rattle.std.proofs.lemmas.List.{take_at, length_push}
-use Rattle.hz_model.specs.CheckFaults.{IsCircular, IsFirst}
-use Rattle.hz_model.specs.Descriptions.{Description}
+use Rattle.hz_check_model.specs.CheckFaults.{IsCircular, IsFirst}
+use Rattle.hz_mdread_model.specs.Descriptions.{Description}
 use Rattle.hz_unfold.specs.Circles.{IsFirstWith}
 use Rattle.hz_unfold.specs.Graphs.{AreInside, ends_in, Path, Visited, IsWalk}
 use Rattle.hz_unfold.specs.Orders.{IsGraph, IsOrder}

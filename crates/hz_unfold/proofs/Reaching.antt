@@ -5,16 +5,17 @@ use Rattle.std.specs.Option.{is_some}
 use Rattle.std.proofs.lemmas.Bool.{cases_lt, eq-eqb, ne_eqb, false_from_ne_true}
 use Rattle.std.proofs.lemmas.List.{drop_more, get_or_past, get_or-take, length-take-le, take-append-drop}
 use Rattle.std.proofs.lemmas.Option.{slice_get_within, slice_get-get_or, get_or_from_slice_get}
-use Rattle.hz_model.proofs.Elements.{Contains-nil}
-use Rattle.hz_model.proofs.MachineLaws.{from_filter_map}
-use Rattle.hz_model.proofs.MentionLaws.{listed_from_mentions, mentions_from_listed}
-use Rattle.hz_model.specs.Alternatives.{Expression}
-use Rattle.hz_model.specs.Automata.{UnitPlace}
-use Rattle.hz_model.specs.CheckFaults.{Reserving, reservations_of, classes_of, names_in, IsCircular, IsFirst}
-use Rattle.hz_model.specs.Descriptions.{Description, ReservationItem}
-use Rattle.hz_model.specs.Machines.{meaning, unit_or_reservation, unit_place, unit_places, reservation_named}
-use Rattle.hz_model.specs.Meanings.{reservation, Mentions, Reaches, mentions, through, Unwinds}
-use Rattle.hz_model.specs.Sites.{is_among}
+use Rattle.hz_base_model.proofs.Elements.{Contains-nil}
+use Rattle.hz_check_model.proofs.PlaceLaws.{from_filter_map}
+use Rattle.hz_altern_model.proofs.MentionLaws.{listed_from_mentions, mentions_from_listed}
+use Rattle.hz_altern_model.specs.Alternatives.{Expression}
+use Rattle.hz_altern_model.specs.Automata.{UnitPlace}
+use Rattle.hz_check_model.specs.CheckFaults.{Reserving, reservations_of, classes_of, IsCircular, IsFirst}
+use Rattle.hz_altern_model.specs.NamesIn.{names_in}
+use Rattle.hz_mdread_model.specs.Descriptions.{Description, ReservationItem}
+use Rattle.hz_check_model.specs.Places.{meaning, unit_or_reservation, unit_place, unit_places, reservation_named}
+use Rattle.hz_altern_model.specs.Meanings.{reservation, Mentions, Reaches, mentions, through, Unwinds}
+use Rattle.hz_check_model.specs.Sites.{is_among}
 use Rattle.hz_unfold.specs.Circles.{IsFirstWith}
 use Rattle.hz_unfold.specs.Graphs.{At, IsOnce, Path, last, onward}
 use Rattle.hz_unfold.specs.Orders.{reserving, number_of, numbers_in, Numbered, graph_of, IsOrder}

@@ -2,7 +2,7 @@
 use Rattle.std.proofs.Common.{◌≡◌, ℕ, ◌+◌, ◌<◌, ◌⊎◌, inl, inr, ⊎_elim, Bool, true, false, List, [], ◌∷◌, ◌++◌, length, set, Contains, refl, sym, ap, ◌∙◌, subst, arith}
 use Rattle.std.proofs.lemmas.List.{length_push}
 use Rattle.std.proofs.lemmas.List.Elements.{Contains-append_left, Contains-push, Contains-push_cases}
-use Rattle.hz_model.proofs.Elements.{Contains-nil}
+use Rattle.hz_base_model.proofs.Elements.{Contains-nil}
 use Rattle.hz_unfold.specs.declared.circle.Lead.TheVariants.{Nowhere}
 use Rattle.hz_unfold.specs.Circles.{Knowledge, lead_of, lead_now, is_taken, all_found, IsReady, Takes}
 use Rattle.hz_unfold.specs.Graphs.{Path, last, onward}

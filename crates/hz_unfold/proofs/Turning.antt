@@ -3,7 +3,7 @@ use Rattle.std.proofs.Common.{◌≡◌, ◌≢◌, ◌↔◌, ℕ, ◌+◌, ◌
 use Rattle.std.proofs.lemmas.Bool.{cases_eq, cases_lt}
 use Rattle.std.proofs.lemmas.List.{get_or_past, get_or-replicate, length-replicate, take_more}
 use Rattle.std.proofs.lemmas.List.Elements.{Contains-append_left, Contains-push, Contains-push_cases}
-use Rattle.hz_model.proofs.Elements.{Contains-nil}
+use Rattle.hz_base_model.proofs.Elements.{Contains-nil}
 use Rattle.hz_unfold.specs.Circles.{AddsStarts, IsTurned}
 use Rattle.hz_unfold.specs.Graphs.{ends_in}
 

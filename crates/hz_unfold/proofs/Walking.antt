@@ -4,7 +4,7 @@ use Rattle.std.proofs.lemmas.Bool.{cases_eq, cases_lt}
 use Rattle.std.proofs.lemmas.List.{append-nil, length-replicate, get_or_past, get_or-replicate, take_more, drop_more, take_all, drop_all}
 use Rattle.std.proofs.lemmas.List.Elements.{Contains-append_left, Contains-push, Contains-push_cases}
 use Rattle.std.proofs.lemmas.Option.{slice_get_within, get_or_from_slice_get, slice_get-get_or}
-use Rattle.hz_model.proofs.Elements.{Contains-nil, Contains-head, Contains-tail, Contains-cons_cases}
+use Rattle.hz_base_model.proofs.Elements.{Contains-nil, Contains-head, Contains-tail, Contains-cons_cases}
 use Rattle.hz_unfold.specs.declared.walk.Frame.{Frame}
 use Rattle.hz_unfold.specs.declared.walk.Mark.{Mark}
 use Rattle.hz_unfold.specs.declared.walk.Mark.TheVariants.{New, Open, Done}

@@ -1,7 +1,7 @@
 -- What is told of a description that has no counting order.
 use Rattle.std.specs.Prelude.{⊤, slice_get, IsSomeAnd}
-use Rattle.hz_model.specs.CheckFaults.{IsCircular, IsFirst}
-use Rattle.hz_model.specs.Descriptions.{Description}
+use Rattle.hz_check_model.specs.CheckFaults.{IsCircular, IsFirst}
+use Rattle.hz_mdread_model.specs.Descriptions.{Description}
 use Rattle.hz_unfold.specs.declared.fault.OrderFault.{OrderFault}
 use Rattle.hz_unfold.specs.declared.fault.OrderFault.TheVariants.{Circular, NoMemory}
 

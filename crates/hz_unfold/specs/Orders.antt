@@ -2,14 +2,15 @@
 -- the reservations, and each class its place among the classes behind all reservations.
 use Rattle.std.specs.Prelude.{◌≡◌, ℕ, ◌+◌, ◌<◌, Bool, true, false, List, [], ◌∷◌, ◌++◌, length, map, nat_lt, slice_index_or, IsTrue, IsFalse, Option, Some, None}
 use Rattle.std.specs.List.{Contains, filter_map}
-use Rattle.hz_model.specs.Alternatives.{Expression}
-use Rattle.hz_model.specs.Alternatives as expression
+use Rattle.hz_altern_model.specs.Alternatives.{Expression}
+use Rattle.hz_altern_model.specs.Alternatives as expression
 use Rattle.hz_mdread.specs.declared.items.ClassItem.{ClassItem}
 use Rattle.hz_mdread.specs.declared.items.ReservationItem.{ReservationItem}
 use Rattle.hz_mdread.specs.Shape.{class_item, reservation_item}
-use Rattle.hz_model.specs.CheckFaults.{Reserving, reserving_reservation, reserving_class, reservations_of, classes_of, names_in, IsCountingOrder}
-use Rattle.hz_model.specs.Descriptions.{Description}
-use Rattle.hz_model.specs.Lines.{place_of}
+use Rattle.hz_check_model.specs.CheckFaults.{Reserving, reserving_reservation, reserving_class, reservations_of, classes_of, IsCountingOrder}
+use Rattle.hz_altern_model.specs.NamesIn.{names_in}
+use Rattle.hz_mdread_model.specs.Descriptions.{Description}
+use Rattle.hz_base_model.specs.Lines.{place_of}
 use Rattle.hz_unfold.specs.Graphs.{At, IsOnce}
 
 -- reservations, and behind them classes

@@ -1,7 +1,7 @@
 -- Places in a file, as the definitions have them.
 use Rattle.std.specs.Prelude.{Option}
 use Rattle.std.specs.Option.{option_map}
-use Rattle.hz_model.specs.Sites as model
+use Rattle.hz_check_model.specs.Sites as model
 use Rattle.hz_unfold.specs.declared.site.Site.{Site}
 
 -- a site

@@ -3,7 +3,7 @@
 ghost use Rattle.std.specs.Prelude.{◌≡◌, ◌+◌, ◌<◌, ◌^◌, ◌++◌, IfOk, OnOk, length, map, slice_get, vec_len};
 ghost use Rattle.std.specs.List.{filter_map};
 ghost use Rattle.hz_mdread.specs.Shape.{description as description_of};
-ghost use Rattle.hz_model.specs.CheckFaults.{names_in};
+ghost use Rattle.hz_altern_model.specs.NamesIn.{names_in};
 ghost use Rattle.hz_regexp.specs.Shape.{expression};
 ghost use Rattle.hz_unfold.specs.Graphs.{ends_in};
 ghost use Rattle.hz_unfold.specs.Numbers.{number_in};

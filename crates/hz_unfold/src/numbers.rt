@@ -3,9 +3,9 @@
 ghost use Rattle.std.specs.Prelude.{◌≡◌, ◌++◌, ℕ, List, map, IfOk, OnOk};
 ghost use Rattle.std.specs.List.{filter_map};
 ghost use Rattle.hz_mdread.specs.Shape.{reservation_item};
-ghost use Rattle.hz_model.specs.CheckFaults.{names_in, names_in_parts};
-ghost use Rattle.hz_model.specs.ExpressionTexts.{parts_of};
-ghost use Rattle.hz_model.specs.Lines.{place_of};
+ghost use Rattle.hz_altern_model.specs.NamesIn.{names_in, names_in_parts};
+ghost use Rattle.hz_altern_model.specs.Alternatives.{parts_of};
+ghost use Rattle.hz_base_model.specs.Lines.{place_of};
 ghost use Rattle.hz_regexp.specs.Shape.{expression, expressions};
 ghost use Rattle.hz_unfold.specs.Numbers.{number_in};
 

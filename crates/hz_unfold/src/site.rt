@@ -1,7 +1,7 @@
 //! Names where they stand in a file.
 
 ghost use Rattle.std.specs.Prelude.{◌≡◌};
-ghost use Rattle.hz_model.specs.Sites as model;
+ghost use Rattle.hz_check_model.specs.Sites as model;
 ghost use Rattle.hz_unfold.specs.Places.{told};
 
 use hz_regexp::Name;

@@ -2,11 +2,11 @@
 use Rattle.std.proofs.Common.{◌≡◌, ℕ, ◌+◌, ◌<◌, ◌≤◌, ◌↔◌, ◌⊎◌, inl, inr, List, ◌++◌, map, get_or, All, refl, arith, ⊎_elim}
 use Rattle.std.proofs.lemmas.Bool.{cases_lt}
 use Rattle.std.proofs.lemmas.List.Elements.{All-contains, All-map, Contains-get_or, Contains-append_left, Contains-append_right, Contains-append_cases}
-use Rattle.hz_model.specs.Pairs.{Pair, placed}
-use Rattle.hz_model.specs.Sets.{Statement, exclusion, Holds, AllowsIn, Fits}
-use Rattle.hz_model.proofs.Elements.{Contains-map}
-use Rattle.hz_model.proofs.FitLaws.{allows_idle, allows_same, holds_moved, iff_back}
-use Rattle.hz_model.proofs.FittingLaws.{allows_unadded, holds_append}
+use Rattle.hz_base_model.specs.Pairs.{Pair, placed}
+use Rattle.hz_altern_model.specs.Sets.{Statement, exclusion, Holds, AllowsIn, Fits}
+use Rattle.hz_base_model.proofs.Elements.{Contains-map}
+use Rattle.hz_altern_model.proofs.FitLaws.{allows_idle, allows_same, holds_moved, iff_back}
+use Rattle.hz_acceptance_model.proofs.FittingLaws.{allows_unadded, holds_append}
 use Rattle.hz_grid.specs.Rows.{HasUnit}
 use Rattle.hz_grid.specs.Grids.{Meets}
 use Rattle.hz_unitsets.specs.declared.set_rules.SetKind.{SetKind}

@@ -1,8 +1,8 @@
 -- Rules whose units and patterns are rows.
 use Rattle.std.specs.Prelude.{ℕ, ◌<◌, List, map, filter, ◌++◌, All}
 use Rattle.std.specs.List.{range_with_len}
-use Rattle.hz_model.specs.Pairs.{Pair}
-use Rattle.hz_model.specs.Sets.{Statement, Holds, AllowsIn}
+use Rattle.hz_base_model.specs.Pairs.{Pair}
+use Rattle.hz_altern_model.specs.Sets.{Statement, Holds, AllowsIn}
 use Rattle.hz_grid.specs.declared.rows.TheConstants.{UNITS}
 use Rattle.hz_grid.specs.Rows.{has_unit, HasUnit}
 use Rattle.hz_unitsets.specs.declared.row_rules.Rule.{Rule}

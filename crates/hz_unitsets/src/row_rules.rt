@@ -1,8 +1,8 @@
 //! The set statements over rows, which are asked of one row of each grid at a time.
 
 ghost use Rattle.std.specs.Prelude.{◌≡◌, ◌↔◌, ◌<◌, ◌≤◌, ℕ, map, All, IfOk, IsTrue, Contains, ◌++◌};
-ghost use Rattle.hz_model.specs.Sets.{AllowsIn, HoldsSome, HoldsPattern, Fits, Holds};
-ghost use Rattle.hz_model.specs.Fitting.{AskTheSame};
+ghost use Rattle.hz_altern_model.specs.Sets.{AllowsIn, HoldsSome, HoldsPattern, Fits, Holds};
+ghost use Rattle.hz_acceptance_model.specs.Fitting.{AskTheSame};
 ghost use Rattle.hz_grid.specs.Rows.{HasUnit};
 ghost use Rattle.hz_unitsets.specs.SetRules.{statement_of, statements_of, IsInRange, in_order, ordered};
 ghost use Rattle.hz_unitsets.specs.RowRules.{units_in, statement_in, IsRow, IsBounded, AllowsAt, Allows};
@@ -21,7 +21,7 @@ pub struct Rules {
 
 impl Model for Rules {
     ghost use Rattle.std.specs.Prelude.{List, ℕ, map, All};
-    ghost use Rattle.hz_model.specs.Sets.{Statement};
+    ghost use Rattle.hz_altern_model.specs.Sets.{Statement};
     ghost use Rattle.hz_unitsets.specs.RowRules.{statement_in, IsBounded};
 
     ghost Value = { List (Statement ℕ) };

@@ -1,10 +1,10 @@
 use Rattle.std.proofs.Common.{◌≡◌, ◌/◌, length, rules, arith, IsTrue, sym, ap, ◌∙◌, take, drop}
 use Rattle.hz_altern.specs.Extents.{told}
 use Rattle.hz_altern.specs.Joinings.{joined_parts}
-use Rattle.hz_model.specs.AlternativeLists.{Extent, extent_of}
-use Rattle.hz_model.specs.Expressions.{are_expressions}
-use Rattle.hz_model.specs.ExpressionTexts.{parts_of}
-use Rattle.hz_model.specs.NamesIn.{all_names_in}
+use Rattle.hz_altern_model.specs.AlternativeLists.{Extent, extent_of}
+use Rattle.hz_altern_model.specs.Expressions.{are_expressions}
+use Rattle.hz_altern_model.specs.Alternatives.{parts_of, Expression, named, nothing, sequence, one_of, all_of, repeat}
+use Rattle.hz_altern_model.specs.NamesIn.{all_names_in}
 use Rattle.hz_regexp.specs.Shape.{expression, expressions}
 use Rattle.hz_altern.specs.Tables.{is_held}
 use Rattle.hz_altern.proofs.Nodes.{cut_in_two}
@@ -12,7 +12,6 @@ use Rattle.hz_altern.proofs.PartLemmas.{only_one, right_one, joined_parts-one, f
 use Rattle.hz_altern.proofs.ExtentLemmas.{Measures, extent-halves, Says, says_same, says_named, says_nothing, says_repeat, extent_of_both}
 use Rattle.hz_altern.proofs.Shapes.{named_is, nothing_is, seq_is, oneof_is, allof_is, repeat_is}
 use Rattle.std.specs.Option.{option_map}
-use Rattle.hz_model.specs.Alternatives.{Expression, named, nothing, sequence, one_of, all_of, repeat}
 use Rattle.hz_altern.proofs.counting.+counting.Goals as goal
 use Rattle.hz_altern.proofs.counting.+counting.Goals.{measured-in-Named+in-Some, measured-in-Nothing, measured-in-Seq, measured-in-Oneof, measured-in-Allof, measured-in-Repeat}
 

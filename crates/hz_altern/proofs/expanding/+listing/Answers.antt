@@ -9,11 +9,11 @@ use Rattle.hz_altern.proofs.HalfLemmas.{halved, single, repeated}
 use Rattle.hz_altern.proofs.KnownLemmas.{named_listed}
 use Rattle.hz_altern.proofs.Nodes.{nodes, nodes_of_repeat}
 use Rattle.hz_altern.proofs.Shapes.{named_is}
-use Rattle.hz_model.specs.Alternatives.{named, alternatives_of}
-use Rattle.hz_model.specs.AlternativeLists.{greatest_length}
-use Rattle.hz_model.specs.Automata.{listed}
-use Rattle.hz_model.specs.Expressions.{is_expression}
-use Rattle.hz_model.specs.NamesIn.{all_names}
+use Rattle.hz_altern_model.specs.Alternatives.{named, alternatives_of}
+use Rattle.hz_altern_model.specs.AlternativeLists.{greatest_length}
+use Rattle.hz_altern_model.specs.Automata.{listed}
+use Rattle.hz_altern_model.specs.Expressions.{is_expression}
+use Rattle.hz_altern_model.specs.NamesIn.{all_names}
 use Rattle.hz_altern.proofs.expanding.+listing.Goals as goal
 
 pub listing_parts-listing-requires : goal.listing_parts-listing-requires

@@ -1,6 +1,6 @@
 use Rattle.std.proofs.Common.{◌≡◌, ◌++◌, take}
 use Rattle.hz_altern.specs.Shapes.{pairs_of}
-use Rattle.hz_model.specs.Pairs.{placed}
+use Rattle.hz_base_model.specs.Pairs.{placed}
 use Rattle.hz_altern.proofs.joining.continued.Given as goal
 
 -- the first pairs, and those of the second list so far

@@ -1,6 +1,6 @@
 use Rattle.std.proofs.Common.{◌≡◌, true, false, sym}
-use Rattle.hz_model.specs.Automata.{precedes}
-use Rattle.hz_model.proofs.AscendingLaws.{same_from_neither}
+use Rattle.hz_altern_model.specs.Automata.{precedes}
+use Rattle.hz_altern_model.proofs.AscendingLaws.{same_from_neither}
 use Rattle.hz_altern.specs.Merging.{IsLeast}
 use Rattle.hz_altern.specs.Shapes.{pair_of, pairs_of}
 use Rattle.hz_altern.proofs.MergeLemmas.{slice_of_first, slice_of_second, slices, least_one, least_other, least_both}

@@ -1,7 +1,7 @@
 use Rattle.std.proofs.Common.{map}
 use Rattle.hz_mdread.specs.Shape.{description, unit_item}
 use Rattle.hz_check.proofs.Earliest.{chosen_all}
-use Rattle.hz_model.specs.CheckFaults.{unknown_automaton_of}
+use Rattle.hz_check_model.specs.CheckFaults.{unknown_automaton_of}
 use Rattle.hz_check.proofs.automata.unknown_automaton.Goals as goal
 
 pub returns : goal.returns

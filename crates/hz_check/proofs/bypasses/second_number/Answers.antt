@@ -11,12 +11,12 @@ use Rattle.hz_check.proofs.BypassSteps.{told_here, not_here, holds_next}
 use Rattle.hz_check.proofs.InOrder.{AllPairs-drop}
 use Rattle.hz_check.proofs.KnownNames.{known_bypass, first_holds, item_at}
 use Rattle.hz_check.proofs.Next.{drop_next, done_next}
-use Rattle.hz_model.proofs.Ascending.{AllPairs-head}
-use Rattle.hz_model.specs.CheckFaults.{unknown_names, is_class, renumbered_behind}
-use Rattle.hz_model.specs.Machines.{class_names}
-use Rattle.hz_model.specs.Sites.{earliest}
-use Rattle.hz_model.specs.CheckedParts.{class_numbers}
-use Rattle.hz_model.specs.Descriptions.{BypassItem}
+use Rattle.hz_base_model.proofs.Ascending.{AllPairs-head}
+use Rattle.hz_check_model.specs.CheckFaults.{unknown_names, is_class, renumbered_behind}
+use Rattle.hz_check_model.specs.Places.{class_names}
+use Rattle.hz_check_model.specs.Sites.{earliest}
+use Rattle.hz_check_model.specs.CheckedParts.{class_numbers}
+use Rattle.hz_mdread_model.specs.Descriptions.{BypassItem}
 use Rattle.hz_check.proofs.bypasses.second_number.Goals as goal
 
 -- the bypasses that are left are of later forms

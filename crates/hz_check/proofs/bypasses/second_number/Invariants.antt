@@ -1,8 +1,8 @@
 use Rattle.std.proofs.Common.{◌≡◌, map, take, drop, vec_len}
 use Rattle.hz_mdread.specs.Shape.{description, bypass_item}
 use Rattle.hz_check.specs.Bypasses.{rows_of, HoldsNumbers}
-use Rattle.hz_model.specs.CheckFaults.{renumbered_behind, second_numbers}
-use Rattle.hz_model.specs.Sites.{earliest}
+use Rattle.hz_check_model.specs.CheckFaults.{renumbered_behind, second_numbers}
+use Rattle.hz_check_model.specs.Sites.{earliest}
 use Rattle.hz_check.proofs.bypasses.second_number.Given as goal
 
 abbrev pub invariant-loop-bypass : goal.invariant-loop-bypass

@@ -1,7 +1,7 @@
 use Rattle.std.proofs.Common.{◌≡◌, drop}
 use Rattle.hz_mdread.specs.Shape.{description, conditions}
 use Rattle.hz_check.specs.Unknown.{first_of}
-use Rattle.hz_model.specs.CheckFaults.{unknown_in_conditions}
+use Rattle.hz_check_model.specs.CheckFaults.{unknown_in_conditions}
 use Rattle.hz_check.proofs.conditions.+conditions.Given as goal
 
 abbrev pub invariant-unknown_in_tests-loop-test : goal.invariant-unknown_in_tests-loop-test

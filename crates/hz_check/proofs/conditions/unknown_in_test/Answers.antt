@@ -3,7 +3,7 @@ use Rattle.hz_mdread.specs.Shape.{description}
 use Rattle.hz_check.specs.ByName.{is_held}
 use Rattle.hz_check.specs.Names.{test_by}
 use Rattle.hz_check.proofs.TableSteps.{unknown_by}
-use Rattle.hz_model.specs.CheckFaults.{values_of}
+use Rattle.hz_check_model.specs.CheckFaults.{values_of}
 use Rattle.hz_check.proofs.conditions.unknown_in_test.Goals as goal
 
 pub returns-in-Some : goal.returns-in-Some

@@ -3,7 +3,7 @@ use Rattle.hz_mdread.specs.Shape.{description}
 use Rattle.hz_unfold.specs.Places.{site_of, told}
 use Rattle.hz_expand.specs.Answers.{Refuses}
 use Rattle.hz_unfold.specs.Orders.{reservings}
-use Rattle.hz_model.specs.CheckFaults.{limit, alternatives, cycles, size}
+use Rattle.hz_check_model.specs.CheckFaults.{limit, alternatives, cycles, size}
 use Rattle.hz_check.proofs.CheckSteps.{behind_within, skip, stop}
 use Rattle.hz_check.proofs.expansion.expanded.Goals as goal
 

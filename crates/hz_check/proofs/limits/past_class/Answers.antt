@@ -3,8 +3,8 @@ use Rattle.std.specs.List.{AllPairs}
 use Rattle.hz_mdread.specs.Shape.{class_item}
 use Rattle.hz_check.proofs.InOrder.{sites_in_order}
 use Rattle.hz_check.proofs.Next.{map-map}
-use Rattle.hz_model.specs.Limits.{class_limit}
-use Rattle.hz_model.specs.Sites.{earliest}
+use Rattle.hz_base_model.specs.Limits.{class_limit}
+use Rattle.hz_check_model.specs.Sites.{earliest}
 use Rattle.hz_check.proofs.limits.past_class.Goals as goal
 
 pub past-requires : goal.past-requires

@@ -4,9 +4,9 @@ use Rattle.hz_check.specs.Assembly.{IsPlaced}
 use Rattle.hz_check.specs.Checking.{IsOrdered, AreWithin}
 use Rattle.hz_check.proofs.CheckSteps.{behind, behind_within, skip, stop, few_automata, few_classes}
 use Rattle.hz_expand.proofs.Unwinding.{unfolded}
-use Rattle.hz_model.specs.CheckFaults.{bypass_twice, second_numbers}
-use Rattle.hz_model.specs.CheckedParts.{automata_of, bypass_parts}
-use Rattle.hz_model.specs.Sites.{earliest}
+use Rattle.hz_check_model.specs.CheckFaults.{bypass_twice, second_numbers}
+use Rattle.hz_check_model.specs.CheckedParts.{automata_of, bypass_parts}
+use Rattle.hz_check_model.specs.Sites.{earliest}
 use Rattle.hz_unfold.specs.Orders.{reservings}
 use Rattle.hz_unfold.specs.Places.{site_of, told}
 use Rattle.hz_check.proofs.parts.parts_of.Goals as goal

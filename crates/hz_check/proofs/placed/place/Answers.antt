@@ -5,9 +5,9 @@ use Rattle.std.specs.Option.{option_map}
 use Rattle.hz_mdread.specs.Shape.{description}
 use Rattle.hz_expand.specs.Shape.{place_of}
 use Rattle.hz_check.proofs.Homes.{at_name-at}
-use Rattle.hz_model.specs.Descriptions.{Description}
-use Rattle.hz_model.specs.Lines.{place_of as at_place}
-use Rattle.hz_model.specs.Machines.{unit_places, unit_place}
+use Rattle.hz_mdread_model.specs.Descriptions.{Description}
+use Rattle.hz_base_model.specs.Lines.{place_of as at_place}
+use Rattle.hz_check_model.specs.Places.{unit_places, unit_place}
 use Rattle.hz_expand.specs.declared.places.UnitPlace.{UnitPlace as Place}
 use Rattle.hz_check.proofs.placed.place.Goals as goal
 

@@ -3,7 +3,7 @@ use Rattle.std.proofs.lemmas.List.Elements.{All-push}
 use Rattle.hz_mdread.specs.Shape.{description, set_item}
 use Rattle.hz_check.specs.Assembly.{placed_statement, IsPlaced}
 use Rattle.hz_check.proofs.Next.{push_next, push_all}
-use Rattle.hz_model.specs.Machines.{statement_of}
+use Rattle.hz_check_model.specs.Places.{statement_of}
 use Rattle.hz_check.proofs.placed.placed_sets.Goals as goal
 
 pub loop-set-preserved : goal.loop-set-preserved

@@ -1,7 +1,7 @@
 use Rattle.std.proofs.Common.{◌≡◌, All, map, take}
 use Rattle.hz_mdread.specs.Shape.{description, set_item}
 use Rattle.hz_check.specs.Assembly.{placed_statement, IsPlaced}
-use Rattle.hz_model.specs.Machines.{statement_of}
+use Rattle.hz_check_model.specs.Places.{statement_of}
 use Rattle.hz_check.proofs.placed.placed_sets.Given as goal
 
 abbrev pub invariant-loop-set : goal.invariant-loop-set

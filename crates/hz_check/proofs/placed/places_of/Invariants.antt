@@ -2,7 +2,7 @@ use Rattle.std.proofs.Common.{◌≡◌, ◌++◌, All, map, drop}
 use Rattle.hz_mdread.specs.Shape.{description}
 use Rattle.hz_check.specs.Units.{IsWithin}
 use Rattle.hz_expand.specs.Shape.{place_of}
-use Rattle.hz_model.specs.Machines.{places_of}
+use Rattle.hz_check_model.specs.Places.{places_of}
 use Rattle.hz_check.proofs.placed.places_of.Given as goal
 
 abbrev pub invariant-loop-unit : goal.invariant-loop-unit

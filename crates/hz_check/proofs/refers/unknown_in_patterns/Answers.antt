@@ -3,7 +3,7 @@ use Rattle.std.specs.List.{flat_map}
 use Rattle.hz_mdread.specs.Shape.{description}
 use Rattle.hz_check.specs.Unknown.{first_of}
 use Rattle.hz_check.proofs.FirstOf.{first_here}
-use Rattle.hz_model.specs.CheckFaults.{is_unit}
+use Rattle.hz_check_model.specs.CheckFaults.{is_unit}
 use Rattle.hz_check.proofs.refers.unknown_in_patterns.Goals as goal
 
 pub returns-in-Some : goal.returns-in-Some

@@ -3,7 +3,7 @@ use Rattle.std.proofs.Math.Path.{fun_ext}
 use Rattle.std.specs.List.{list_all}
 use Rattle.hz_expand.specs.Shape.{place_of}
 use Rattle.hz_check.proofs.Next.{list_all-map}
-use Rattle.hz_model.specs.Machines.{are_inside}
+use Rattle.hz_altern_model.specs.Inside.{are_inside}
 use Rattle.hz_check.proofs.rules.is_inside.Goals as goal
 
 pub returns-then-all_of : goal.returns-then-all_of

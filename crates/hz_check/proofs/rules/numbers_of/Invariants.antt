@@ -1,6 +1,6 @@
 use Rattle.std.proofs.Common.{◌≡◌, map, take}
 use Rattle.hz_expand.specs.Shape.{place_of}
-use Rattle.hz_model.specs.Machines.{unit_numbers}
+use Rattle.hz_altern_model.specs.Inside.{unit_numbers}
 use Rattle.hz_check.proofs.rules.numbers_of.Given as goal
 
 abbrev pub invariant-loop-pattern : goal.invariant-loop-pattern

@@ -1,8 +1,8 @@
 use Rattle.std.proofs.Common.{◌≡◌, ℕ, List, map, sym, ap, ◌∙◌}
 use Rattle.hz_expand.specs.Shape.{place_of}
 use Rattle.hz_check.proofs.Next.{map-map}
-use Rattle.hz_model.specs.Machines.{unit_numbers}
-use Rattle.hz_model.specs.Sets.{SetKind, Statement}
+use Rattle.hz_altern_model.specs.Inside.{unit_numbers}
+use Rattle.hz_altern_model.specs.Sets.{SetKind, Statement}
 use Rattle.hz_unitsets.specs.SetRules.{kind_of}
 use Rattle.hz_check.proofs.rules.rule.Goals as goal
 

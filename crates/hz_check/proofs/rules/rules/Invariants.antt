@@ -1,6 +1,6 @@
 use Rattle.std.proofs.Common.{◌≡◌, ◌++◌, map, filter, drop}
 use Rattle.hz_check.specs.Assembly.{placed_statement}
-use Rattle.hz_model.specs.Machines.{inside_statement, is_inside}
+use Rattle.hz_altern_model.specs.Inside.{inside_statement, is_inside}
 use Rattle.hz_unitsets.specs.SetRules.{statements_of}
 use Rattle.hz_check.proofs.rules.rules.Given as goal
 

@@ -4,7 +4,7 @@ use Rattle.hz_mdread.specs.Shape.{set_item}
 use Rattle.hz_check.specs.Unknown.{first_of}
 use Rattle.hz_check.proofs.FirstOf.{first_is, found_in_lists}
 use Rattle.hz_check.proofs.Next.{flat_map-map}
-use Rattle.hz_model.specs.CheckFaults.{units_of_patterns}
+use Rattle.hz_check_model.specs.CheckFaults.{units_of_patterns}
 use Rattle.hz_check.proofs.sets.first_unit.Goals as goal
 
 pub returns : goal.returns

@@ -2,8 +2,8 @@ use Rattle.std.proofs.Common.{◌≡◌, drop}
 use Rattle.std.specs.List.{flat_map}
 use Rattle.hz_mdread.specs.Shape.{description, set_item}
 use Rattle.hz_unfold.specs.Places.{told}
-use Rattle.hz_model.specs.CheckFaults.{sites_of, strangers, names_of_set}
-use Rattle.hz_model.specs.Sites.{earlier, earliest}
+use Rattle.hz_check_model.specs.CheckFaults.{sites_of, strangers, names_of_set}
+use Rattle.hz_check_model.specs.Sites.{earlier, earliest}
 use Rattle.hz_check.proofs.sets.set_across_automata.Given as goal
 
 abbrev pub invariant-loop-set : goal.invariant-loop-set

@@ -3,7 +3,7 @@ use Rattle.std.specs.List.{flat_map}
 use Rattle.hz_mdread.specs.Shape.{description}
 use Rattle.hz_check.specs.Unknown.{first_of}
 use Rattle.hz_check.proofs.FirstOf.{first_here, none_here}
-use Rattle.hz_model.specs.CheckFaults.{home, same_home}
+use Rattle.hz_check_model.specs.CheckFaults.{home, same_home}
 use Rattle.hz_check.proofs.sets.stranger_in.Goals as goal
 
 pub returns-in-Some : goal.returns-in-Some

@@ -2,7 +2,7 @@ use Rattle.std.proofs.Common.{◌≡◌, drop, filter, not}
 use Rattle.std.specs.List.{flat_map}
 use Rattle.hz_mdread.specs.Shape.{description}
 use Rattle.hz_check.specs.Unknown.{first_of}
-use Rattle.hz_model.specs.CheckFaults.{home, same_home}
+use Rattle.hz_check_model.specs.CheckFaults.{home, same_home}
 use Rattle.hz_check.proofs.sets.stranger_in.Given as goal
 
 abbrev pub invariant-loop-pattern : goal.invariant-loop-pattern

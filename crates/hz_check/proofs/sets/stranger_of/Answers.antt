@@ -6,7 +6,7 @@ use Rattle.hz_check.specs.Unknown.{first_of}
 use Rattle.hz_check.proofs.FirstOf.{found_in_both}
 use Rattle.hz_check.proofs.Homes.{strangers-of}
 use Rattle.hz_check.proofs.Next.{flat_map-map}
-use Rattle.hz_model.specs.CheckFaults.{home, same_home, units_of_patterns, names_of_set}
+use Rattle.hz_check_model.specs.CheckFaults.{home, same_home, units_of_patterns, names_of_set}
 use Rattle.hz_check.proofs.sets.stranger_of.Goals as goal
 
 pub returns : goal.returns

@@ -4,7 +4,7 @@ use Rattle.std.specs.List.{flat_map}
 use Rattle.hz_check.specs.ByName.{is_held}
 use Rattle.hz_check.specs.Unknown.{first_of}
 use Rattle.hz_check.proofs.Next.{flat_map-map}
-use Rattle.hz_model.specs.Sites.{is_among}
+use Rattle.hz_check_model.specs.Sites.{is_among}
 use Rattle.hz_check.proofs.sets.unit_in_patterns.Goals as goal
 
 pub returns : goal.returns

@@ -4,8 +4,8 @@ use Rattle.hz_mdread.specs.Shape.{description}
 use Rattle.hz_unfold.specs.Places.{site_of, told}
 use Rattle.hz_check.specs.Units.{ArePlaces, IsPast}
 use Rattle.hz_check.proofs.CheckSteps.{meaning_told, skip, stop, few_automata}
-use Rattle.hz_model.specs.CheckFaults.{self_exclusion, set_across_automata, limit, automata, units, classes}
-use Rattle.hz_model.specs.Sites.{earliest}
+use Rattle.hz_check_model.specs.CheckFaults.{self_exclusion, set_across_automata, limit, automata, units, classes}
+use Rattle.hz_check_model.specs.Sites.{earliest}
 use Rattle.hz_check.proofs.steps.placed.Goals as goal
 
 pub returns-in-Some-clause-err : goal.returns-in-Some-clause-err

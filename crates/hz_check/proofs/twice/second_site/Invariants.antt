@@ -2,7 +2,7 @@ use Rattle.std.proofs.Common.{◌≡◌, map, drop}
 use Rattle.hz_check.specs.ByName.{is_held}
 use Rattle.hz_unfold.specs.Places.{told}
 use Rattle.hz_check.specs.Twice.{is_given, repeated_by, unseen}
-use Rattle.hz_model.specs.Sites.{earlier, earliest}
+use Rattle.hz_check_model.specs.Sites.{earlier, earliest}
 use Rattle.hz_check.proofs.twice.second_site.Given as goal
 
 abbrev pub invariant-loop-item : goal.invariant-loop-item

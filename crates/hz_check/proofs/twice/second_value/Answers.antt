@@ -1,6 +1,6 @@
 use Rattle.hz_mdread.specs.Shape.{attribute_item}
 use Rattle.hz_unfold.specs.Places.{told}
-use Rattle.hz_model.specs.CheckFaults.{repeated_values}
+use Rattle.hz_check_model.specs.CheckFaults.{repeated_values}
 use Rattle.hz_check.proofs.Earliest.{found_next}
 use Rattle.hz_check.proofs.twice.second_value.Goals as goal
 

@@ -4,8 +4,8 @@ use Rattle.std.proofs.lemmas.List.{drop_all}
 use Rattle.hz_check.specs.ByName.{is_held}
 use Rattle.hz_unfold.specs.Places.{told}
 use Rattle.hz_check.specs.Twice.{repeated_by}
-use Rattle.hz_model.specs.Sites.{Site, is_preceded, earlier, earliest}
-use Rattle.hz_model.specs.CheckFaults.{sites_of}
+use Rattle.hz_check_model.specs.Sites.{Site, is_preceded, earlier, earliest}
+use Rattle.hz_check_model.specs.CheckFaults.{sites_of}
 use Rattle.hz_check.proofs.Earliest.{earlier-none}
 use Rattle.hz_check.proofs.Repeated.{repeated_next, repeated-by, told-then_some}
 use Rattle.hz_check.proofs.twice.second_value_of.Goals as goal

@@ -2,8 +2,8 @@ use Rattle.std.proofs.Common.{◌≡◌, drop, []}
 use Rattle.hz_check.specs.ByName.{is_held}
 use Rattle.hz_unfold.specs.Places.{told}
 use Rattle.hz_check.specs.Twice.{repeated_by, unseen}
-use Rattle.hz_model.specs.CheckFaults.{sites_of}
-use Rattle.hz_model.specs.Sites.{earlier, earliest, is_preceded}
+use Rattle.hz_check_model.specs.CheckFaults.{sites_of}
+use Rattle.hz_check_model.specs.Sites.{earlier, earliest, is_preceded}
 use Rattle.hz_check.proofs.twice.second_value_of.Given as goal
 
 abbrev pub invariant-loop-name : goal.invariant-loop-name

@@ -5,7 +5,7 @@ use Rattle.std.proofs.Math.ListN.{length-set}
 use Rattle.hz_mdread.specs.Shape.{description, unit_item}
 use Rattle.hz_check.specs.Units.{IsWithin}
 use Rattle.hz_expand.specs.Shape.{place_of}
-use Rattle.hz_model.specs.Machines.{places_behind}
+use Rattle.hz_check_model.specs.Places.{places_behind}
 use Rattle.hz_check.proofs.PlaceSteps.{automaton_below, counts_next, places_next, within_next, past_here}
 use Rattle.hz_check.proofs.units.unit_places.Goals as goal
 

@@ -3,8 +3,8 @@ use Rattle.std.specs.Prelude.{count_by}
 use Rattle.hz_mdread.specs.Shape.{description, unit_item}
 use Rattle.hz_check.specs.Units.{IsWithin}
 use Rattle.hz_expand.specs.Shape.{place_of}
-use Rattle.hz_model.specs.CheckFaults.{past_units}
-use Rattle.hz_model.specs.Machines.{automaton_numbers, places_behind, unit_places}
+use Rattle.hz_check_model.specs.CheckFaults.{past_units}
+use Rattle.hz_check_model.specs.Places.{automaton_numbers, places_behind, unit_places}
 use Rattle.hz_check.proofs.units.unit_places.Given as goal
 
 abbrev pub invariant-loop-unit : goal.invariant-loop-unit

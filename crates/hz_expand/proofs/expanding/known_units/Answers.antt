@@ -7,7 +7,7 @@ use Rattle.hz_expand.specs.Tables.{HasAlternatives}
 use Rattle.hz_expand.proofs.Counting.{stored_at, unit_fresh, unit_more, units_all}
 use Rattle.hz_expand.proofs.Names.{unit_list, unit_places-length}
 use Rattle.hz_mdread.specs.Shape.{description, unit_item}
-use Rattle.hz_model.specs.Alternatives.{taking}
+use Rattle.hz_altern_model.specs.Alternatives.{taking}
 use Rattle.hz_expand.proofs.expanding.known_units.Goals as goal
 
 pub index-requires : goal.index-requires

@@ -3,7 +3,7 @@ use Rattle.std.proofs.lemmas.Bool.Decides.{nat_tests}
 use Rattle.std.proofs.lemmas.Iterator.{YieldsList-from_slice}
 use Rattle.std.proofs.lemmas.Iterator.Search.{all_from_yields_List}
 use Rattle.std.specs.List.{list_all}
-use Rattle.hz_model.specs.Names.{is_name, is_name_byte}
+use Rattle.hz_base_model.specs.Names.{is_name, is_name_byte}
 use Rattle.hz_io.proofs.names.is_name.Goals as goal
 
 all_is_name : (bytes : List ℕ) → (length bytes ≡ 0 → ⊥) → list_all is_name_byte bytes ≡ is_name bytes

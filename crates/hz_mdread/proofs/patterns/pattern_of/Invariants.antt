@@ -1,6 +1,6 @@
 use Rattle.std.proofs.Common.{◌≡◌, ◌++◌, true, drop}
 use Rattle.std.specs.List.{list_all}
-use Rattle.hz_model.specs.Names.{is_name}
+use Rattle.hz_base_model.specs.Names.{is_name}
 use Rattle.hz_mdread.proofs.PatternLemmas.{filled, now_all}
 use Rattle.hz_mdread.proofs.patterns.pattern_of.Given as goal
 

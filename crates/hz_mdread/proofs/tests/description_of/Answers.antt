@@ -1,5 +1,5 @@
 use Rattle.hz_sexp.specs.Shape.{trees}
-use Rattle.hz_model.proofs.FormSizes.{forms_few, strings_short}
+use Rattle.hz_mdread_model.proofs.FormSizes.{forms_few, strings_short}
 use Rattle.hz_mdread.proofs.tests.description_of.Goals as goal
 
 pub read_description-requires-clause-count : goal.read_description-requires-clause-count

@@ -1,7 +1,7 @@
 use Rattle.std.proofs.Common.{◌≡◌, true, map, take}
 use Rattle.std.specs.List.{list_all}
-use Rattle.hz_model.specs.Lines.{trimmed}
-use Rattle.hz_model.specs.Names.{is_name}
+use Rattle.hz_base_model.specs.Lines.{trimmed}
+use Rattle.hz_base_model.specs.Names.{is_name}
 use Rattle.hz_regexp.proofs.lists.parse_names.Given as goal
 
 -- the pieces so far are names, and those that are held

@@ -1,7 +1,7 @@
 use Rattle.std.proofs.Common.{◌∙◌, not, rules, tests}
 use Rattle.std.proofs.lemmas.Iterator.{YieldsList-from_slice}
 use Rattle.std.proofs.lemmas.Iterator.Search.{position_from_yields_List}
-use Rattle.hz_model.specs.Names as names
+use Rattle.hz_base_model.specs.Names as names
 use Rattle.hz_regexp.proofs.Words.{first_failing}
 use Rattle.hz_regexp.proofs.tokens.name_length.Goals as goal
 

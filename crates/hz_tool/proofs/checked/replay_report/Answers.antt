@@ -1,7 +1,7 @@
 use Rattle.std.proofs.Common.{◌≡◌, ◌≢◌, List, map, true, sym, ◌∙◌, subst}
 use Rattle.std.specs.List.{AllPairs}
 use Rattle.hz_check.specs.declared.checked.CheckedClass.{CheckedClass}
-use Rattle.hz_model.specs.Answers.{is_built}
+use Rattle.hz_answer_model.specs.Answers.{is_built}
 use Rattle.hz_tool.proofs.CheckedLemmas.{names_apart, built_same, not_built, replays_built}
 use Rattle.hz_tool.proofs.checked.replay_report.Goals as goal
 

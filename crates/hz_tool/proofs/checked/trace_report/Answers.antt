@@ -1,12 +1,13 @@
 use Rattle.std.proofs.Common.{◌≡◌, ℕ, List, length, All, sym, ap, ◌∙◌, subst}
 use Rattle.std.proofs.lemmas.List.{length-map}
-use Rattle.hz_model.specs.Answers.{Replays}
-use Rattle.hz_model.specs.Replay.{IsOfClass}
+use Rattle.hz_answer_model.specs.Answers.{Replays}
+use Rattle.hz_acceptance_model.specs.Events.{IsOfClass}
 use Rattle.hz_tool.specs.Checked.{IsTraceOf}
 use Rattle.hz_tool.specs.Replay.{IsOutcome}
 use Rattle.hz_tool.specs.declared.trace.Event.{Event}
-use Rattle.hz_model.specs.Machines.{machine_with, restricted}
-use Rattle.hz_model.specs.StraightTraces.{StraightTrace}
+use Rattle.hz_pipeline_model.specs.Pipelines.{pipeline_with}
+use Rattle.hz_acceptance_model.specs.Restricted.{restricted}
+use Rattle.hz_trace_model.specs.StraightTraces.{StraightTrace}
 use Rattle.hz_tool.specs.Decisions.{Agrees, IsTraceReport}
 use Rattle.hz_tool.specs.Names.{names_in}
 use Rattle.hz_tool.specs.Trace.{events_in, IsNoTrace}
@@ -16,7 +17,7 @@ use Rattle.hz_tool.proofs.checked.trace_report.Goals as goal
 pub returns-in-Err-clause-answer : goal.returns-in-Err-clause-answer
 returns-in-Err-clause-answer c = λ d is built.
     let names = c.requires ∙ names_same d c.args.checked.now is in
-    trace_refused d c.args.file.now c.args.trace.now (Replays (machine_with d is.known)) c.in-Err.report
+    trace_refused d c.args.file.now c.args.trace.now (Replays (pipeline_with d is.known)) c.in-Err.report
     (subst (λ (ns : List (List ℕ)). IsTraceReport c.args.file.now (IsNoTrace ns c.args.trace.now) c.in-Err.report) names c.in-Err.ensures.err)
 
 pub replay_checked-requires : goal.replay_checked-requires
@@ -32,7 +33,7 @@ pub returns-in-Ok-replay_checked-clause-answer : goal.returns-in-Ok-replay_check
 returns-in-Ok-replay_checked-clause-answer c = λ d is built.
     let names = c.requires ∙ names_same d c.args.checked.now is in
     let straight = subst (λ (ns : List (List ℕ)). StraightTrace ns c.args.trace.now (events_in c.in-Ok.events.items)) names c.in-Ok.ensures.ok in
-    let m = machine_with d is.known in
+    let m = pipeline_with d is.known in
     let same = c.deref-in-Ok-replay_checked.ensures.value in
     let right = c.in-Ok-replay_checked.ensures.right (restricted 0 m) (lists_of_restriction d c.args.checked.now is built) in
     let outcome = outcome_whole m (one_automaton d c.args.checked.now is built) (events_in c.deref.result.now) c.in-Ok-replay_checked.outcome right in

@@ -1,5 +1,5 @@
 use Rattle.hz_mdread.specs.Shape.{description}
-use Rattle.hz_model.specs.Answers.{ReplaysDescription}
+use Rattle.hz_answer_model.specs.Answers.{ReplaysDescription}
 use Rattle.hz_tool.proofs.JudgeLemmas.{check_on, check_refused}
 use Rattle.hz_tool.proofs.phases.judge_described.Goals as goal
 

@@ -1,6 +1,6 @@
 use Rattle.hz_mdread.specs.Shape.{description}
-use Rattle.hz_model.proofs.CheckableLaws.{can_be_checked}
-use Rattle.hz_model.specs.Answers.{JudgesDescription}
+use Rattle.hz_mdread_model.proofs.CheckableLaws.{can_be_checked}
+use Rattle.hz_answer_model.specs.Answers.{JudgesDescription}
 use Rattle.hz_sexp.specs.Shape.{trees}
 use Rattle.hz_tool.proofs.JudgeLemmas.{description_on, description_refused}
 use Rattle.hz_tool.proofs.phases.judge_read.Goals as goal

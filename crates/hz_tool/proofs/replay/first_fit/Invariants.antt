@@ -1,5 +1,5 @@
 use Rattle.std.proofs.Common.{ℕ, ◌<◌, [], get_or}
-use Rattle.hz_model.specs.Sets.{Fits}
+use Rattle.hz_altern_model.specs.Sets.{Fits}
 use Rattle.hz_tool.proofs.replay.first_fit.Given as goal
 
 -- no grid so far fits

@@ -1,5 +1,5 @@
 use Rattle.std.proofs.Common.{◌≡◌, ◌≤◌, take}
-use Rattle.hz_model.specs.Replay.{issues_of}
+use Rattle.hz_acceptance_model.specs.Events.{issues_of}
 use Rattle.hz_tool.specs.Trace.{events_in}
 use Rattle.hz_tool.proofs.replay.issue_count.Given as goal
 

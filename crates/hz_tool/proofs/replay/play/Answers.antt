@@ -2,8 +2,8 @@ use Rattle.std.proofs.Common.{◌≡◌, ℕ, ◌<◌, List, [], length, get_or,
 use Rattle.std.proofs.lemmas.List.{get_or-map, length-map}
 use Rattle.std.proofs.lemmas.Option.{MatchOption-at_some, MatchOption-at_none}
 use Rattle.std.specs.Borrow.{Bor}
-use Rattle.hz_model.specs.Pairs.{Pair}
-use Rattle.hz_model.specs.Replay.{IsOfClass}
+use Rattle.hz_base_model.specs.Pairs.{Pair}
+use Rattle.hz_acceptance_model.specs.Events.{IsOfClass}
 use Rattle.hz_tool.specs.declared.trace.Event.{Event}
 use Rattle.hz_tool.specs.Trace.{event as event_lem}
 use Rattle.hz_tool.specs.Replay.{PlaysFrom, lists_in, NoneFits, Takes}

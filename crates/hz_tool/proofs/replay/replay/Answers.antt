@@ -1,11 +1,11 @@
 use Rattle.std.proofs.Common.{◌≡◌, ℕ, ◌<◌, List, length, take, Option, is_none, IfSome, Some, ap, sym, ◌∙◌, subst, arith}
 use Rattle.std.proofs.lemmas.List.Elements.{All-get_or}
 use Rattle.std.proofs.lemmas.List.{length-map, get_or-map}
-use Rattle.hz_model.specs.Replay as model
+use Rattle.hz_acceptance_model.specs.Events as model
 use Rattle.hz_tool.specs.declared.trace.Event.TheVariants.{Issue}
 use Rattle.hz_tool.specs.Trace.{event, events_in}
 use Rattle.hz_tool.specs.Replay.{lists_in, PlaysFrom, Follows}
-use Rattle.hz_model.specs.Replay.{IsOfClass}
+use Rattle.hz_acceptance_model.specs.Events.{IsOfClass}
 use Rattle.hz_tool.proofs.EventLemmas.{event_at, events_more, follows_more, first_refused, all_played, event_there}
 use Rattle.hz_tool.proofs.replay.replay.Goals as goal
 

@@ -1,7 +1,7 @@
 use Rattle.std.proofs.Common.{◌≡◌, ℕ, List, [], get_or, sym, subst}
 use Rattle.std.proofs.lemmas.List.{get_or_read}
-use Rattle.hz_model.specs.Pairs.{Pair}
-use Rattle.hz_model.specs.Sets.{Fits}
+use Rattle.hz_base_model.specs.Pairs.{Pair}
+use Rattle.hz_altern_model.specs.Sets.{Fits}
 use Rattle.hz_grid.specs.Grids.{IsUnion}
 use Rattle.hz_tool.proofs.ReplayLemmas.{apart_now}
 use Rattle.hz_tool.proofs.replay.taken.Goals as goal

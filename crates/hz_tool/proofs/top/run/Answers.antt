@@ -1,5 +1,5 @@
 use Rattle.std.proofs.Common.{◌≡◌, ◌⊎◌, ℕ, inr, sym, subst, ◌∙◌}
-use Rattle.hz_model.specs.Answers.{Answer}
+use Rattle.hz_answer_model.specs.Answers.{Answer}
 use Rattle.hz_tool.proofs.RunLemmas.{says_file, may_write, status_exact, file_answer, completes}
 use Rattle.hz_tool.specs.Endings.{Completes}
 use Rattle.hz_tool.specs.Words.{words_in}

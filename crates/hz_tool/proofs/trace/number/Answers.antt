@@ -2,8 +2,8 @@ use Rattle.std.proofs.Common.{◌≡◌, ℕ, ◌+◌, ◌-◌, ◌*◌, ◌<◌
 use Rattle.std.specs.Char.{is_ascii_digit}
 use Rattle.std.proofs.lemmas.List.{take_more}
 use Rattle.std.proofs.lemmas.List.Folds.{list_all_more}
-use Rattle.hz_model.specs.Lines.{number_from}
-use Rattle.hz_model.proofs.LineLaws.{number_from_more}
+use Rattle.hz_base_model.specs.Lines.{number_from}
+use Rattle.hz_base_model.proofs.LineLaws.{number_from_more}
 use Rattle.hz_tool.specs.Trace.{capped}
 use Rattle.hz_tool.proofs.trace.number.Goals as goal
 

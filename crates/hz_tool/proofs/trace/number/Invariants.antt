@@ -1,7 +1,7 @@
 use Rattle.std.proofs.Common.{◌≡◌, true, take}
 use Rattle.std.specs.Char.{is_ascii_digit}
 use Rattle.std.specs.List.{list_all}
-use Rattle.hz_model.specs.Lines.{number_from}
+use Rattle.hz_base_model.specs.Lines.{number_from}
 use Rattle.hz_tool.specs.Trace.{capped}
 use Rattle.hz_tool.proofs.trace.number.Given as goal
 

@@ -1,11 +1,11 @@
 use Rattle.std.proofs.Common.{◌≡◌, ℕ, List, ◌++◌, ◌+◌, ◌<◌, ap, sym, ◌∙◌, subst, arith}
 use Rattle.std.proofs.lemmas.List.{map_push}
 use Rattle.std.specs.Option.{option_map}
-use Rattle.hz_model.specs.Lines.{lines_of}
-use Rattle.hz_model.specs.Replay as model
-use Rattle.hz_model.specs.Limits.{advance_limit}
-use Rattle.hz_model.specs.Replay.{cycles_of}
-use Rattle.hz_model.specs.StraightTraces.{event_of, events_of}
+use Rattle.hz_base_model.specs.Lines.{lines_of}
+use Rattle.hz_acceptance_model.specs.Events as model
+use Rattle.hz_base_model.specs.Limits.{advance_limit}
+use Rattle.hz_acceptance_model.specs.Events.{cycles_of}
+use Rattle.hz_trace_model.specs.StraightTraces.{event_of, events_of}
 use Rattle.hz_tool.specs.Names.{names_in}
 use Rattle.hz_tool.specs.Trace.{event, events_in, cycles_in}
 use Rattle.hz_tool.proofs.TraceLemmas.{event_whole, told_step, too_far, cycles_of_push}

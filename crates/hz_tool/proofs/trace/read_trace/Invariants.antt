@@ -1,9 +1,9 @@
 use Rattle.std.proofs.Common.{◌≡◌, ◌≤◌, ◌++◌, length}
 use Rattle.std.specs.Option.{option_map}
-use Rattle.hz_model.specs.Limits.{advance_limit}
-use Rattle.hz_model.specs.Lines.{lines_of}
-use Rattle.hz_model.specs.Replay.{cycles_of}
-use Rattle.hz_model.specs.StraightTraces.{events_of}
+use Rattle.hz_base_model.specs.Limits.{advance_limit}
+use Rattle.hz_base_model.specs.Lines.{lines_of}
+use Rattle.hz_acceptance_model.specs.Events.{cycles_of}
+use Rattle.hz_trace_model.specs.StraightTraces.{events_of}
 use Rattle.hz_tool.specs.Names.{names_in}
 use Rattle.hz_tool.specs.Trace.{events_in}
 use Rattle.hz_tool.proofs.trace.read_trace.Given as goal

@@ -1,6 +1,6 @@
 use Rattle.std.proofs.Common.{length, sym, ◌∙◌, arith}
 use Rattle.std.proofs.lemmas.List.{take_rest, drop_all}
-use Rattle.hz_model.proofs.LineLaws.{lines_of_at, lines_of_none}
+use Rattle.hz_base_model.proofs.LineLaws.{lines_of_at, lines_of_none}
 use Rattle.hz_tool.proofs.trace.split_line.Goals as goal
 
 pub returns-in-Some-clause-lines : goal.returns-in-Some-clause-lines

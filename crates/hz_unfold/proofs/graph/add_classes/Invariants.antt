@@ -1,6 +1,6 @@
 use Rattle.std.proofs.Common.{◌≡◌, ◌++◌, map, take}
 use Rattle.std.specs.List.{filter_map}
-use Rattle.hz_model.specs.CheckFaults.{names_in}
+use Rattle.hz_altern_model.specs.NamesIn.{names_in}
 use Rattle.hz_regexp.specs.Shape.{expression}
 use Rattle.hz_unfold.specs.Numbers.{number_in}
 use Rattle.hz_unfold.specs.Walks.{lists_of}

@@ -3,9 +3,9 @@ use Rattle.std.proofs.lemmas.List.{map-append}
 use Rattle.hz_mdread.specs.Shape.{description, class_item, reservation_item}
 use Rattle.hz_mdread.specs.declared.items.ClassItem.{ClassItem as StoredClass}
 use Rattle.hz_mdread.specs.declared.items.ReservationItem.{ReservationItem as StoredReservation}
-use Rattle.hz_model.specs.CheckFaults.{names_in}
-use Rattle.hz_model.specs.Descriptions.{ReservationItem}
-use Rattle.hz_model.specs.Lines.{place_of}
+use Rattle.hz_altern_model.specs.NamesIn.{names_in}
+use Rattle.hz_mdread_model.specs.Descriptions.{ReservationItem}
+use Rattle.hz_base_model.specs.Lines.{place_of}
 use Rattle.hz_regexp.specs.Shape.{expression}
 use Rattle.std.specs.declared.alloc.Global.{Global}
 use Rattle.std.specs.declared.vec.Vec.{Vec}

@@ -3,7 +3,7 @@ use Rattle.std.specs.declared.alloc.Global.{Global}
 use Rattle.std.specs.declared.vec.Vec.{Vec}
 use Rattle.std.proofs.lemmas.List.{length-map}
 use Rattle.hz_mdread.specs.Shape.{description, reservation_item}
-use Rattle.hz_model.specs.Descriptions.{Description}
+use Rattle.hz_mdread_model.specs.Descriptions.{Description}
 use Rattle.hz_unfold.specs.Circles.{IsFirstWith}
 use Rattle.hz_unfold.specs.Graphs.{ends_in, IsWalk, Path}
 use Rattle.hz_unfold.specs.Orders.{IsGraph}

@@ -3,7 +3,7 @@ use Rattle.std.specs.List.{list_any}
 use Rattle.std.specs.Str.{bytes_eq}
 use Rattle.hz_check.proofs.FirstOf.{found_alone}
 use Rattle.hz_check.proofs.NameLists.{contains_is_among}
-use Rattle.hz_model.specs.Sites.{is_among}
+use Rattle.hz_check_model.specs.Sites.{is_among}
 use Rattle.hz_check.proofs.refers.AttrItemRefers.unknown.Goals as goal
 
 pub returns : goal.returns

@@ -1,7 +1,7 @@
 use Rattle.std.proofs.Common.{◌+◌, ◌∙◌, drop, sym, ap, arith}
 use Rattle.std.proofs.lemmas.List.Sums.{prefix_len-le-length}
 use Rattle.std.specs.Char.{is_ascii_whitespace}
-use Rattle.hz_model.specs.Names as names
+use Rattle.hz_base_model.specs.Names as names
 use Rattle.hz_regexp.proofs.Words.{no_token, next_lone, next_word, front_named}
 use Rattle.hz_regexp.proofs.tokens.Place.next_token.Goals as goal
 

@@ -1,8 +1,8 @@
 use Rattle.std.proofs.Common.{◌≡◌, ℕ, ◌+◌, ◌<◌, List, [], ◌∷◌, ◌++◌, length, get_or, map, take, sym, ap, ◌∙◌, subst}
 use Rattle.std.proofs.lemmas.List.{take_all, take_more, map_push}
 use Rattle.std.proofs.lemmas.List.Elements.{All-push}
-use Rattle.hz_model.specs.Sets.{Statement}
-use Rattle.hz_model.specs.Fitting.{AskTheSame}
+use Rattle.hz_altern_model.specs.Sets.{Statement}
+use Rattle.hz_acceptance_model.specs.Fitting.{AskTheSame}
 use Rattle.hz_unitsets.specs.declared.set_rules.SetRule.{SetRule}
 use Rattle.hz_unitsets.specs.declared.row_rules.Rule.{Rule}
 use Rattle.hz_unitsets.specs.SetRules.{statement_of, statements_of, IsInRange, ordered}

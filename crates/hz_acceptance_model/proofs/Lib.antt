@@ -1,0 +1,8 @@
+pub mod SameLaws
+pub mod FittingLaws
+pub mod ReplayLaws
+pub mod AcceptanceLaws
+pub mod ChoiceLaws
+pub mod PlayLaws
+pub mod RestrictLaws
+pub mod Rows

@@ -1,0 +1,6 @@
+pub mod Events
+pub mod Replay
+pub mod Fitting
+pub mod Plays
+pub mod Examples
+pub mod Restricted

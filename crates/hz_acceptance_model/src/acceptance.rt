@@ -1,0 +1,62 @@
+//! Laws of acceptance, for both treatments and any units.
+
+ghost use Rattle.std.specs.Prelude.{◌≡◌, ℕ, ◌+◌, ◌↔◌, ◌⊎◌, Bool, Contains, List, ◌∷◌, ◌++◌, take, Some, slice_get};
+ghost use Rattle.std.specs.Bool.{Decides};
+ghost use Rattle.hz_acceptance_model.specs.Plays.{Tells, plays, accepts};
+ghost use Rattle.hz_acceptance_model.specs.Replay.{Pipeline, SamePipeline, State, Plays, IsPlayable, first_fit, ChoiceFirst, IsChoice, Accepted, FirstRefused};
+ghost use Rattle.hz_acceptance_model.specs.Events.{Event, issue, advance};
+
+/// Where a list of events is accepted, each of its prefixes is.
+pub fn prefixes_are_accepted<U>()
+    ensures { (m : Pipeline U) (xs ys : List Event) → Accepted m (xs ++ ys) → Accepted m xs }
+{}
+
+/// The first refused event is an issue, and what precedes it is accepted. There is at most one, and none where all is
+/// accepted.
+pub fn first_refused_is_an_issue<U>()
+    ensures issue { (m : Pipeline U) (t : List Event) (i : ℕ) → FirstRefused m t i → (k : ℕ) × (slice_get t i ≡ Some (issue k)) }
+    ensures before { (m : Pipeline U) (t : List Event) (i : ℕ) → FirstRefused m t i → Accepted m (take i t) }
+    ensures one { (m : Pipeline U) (t : List Event) (i j : ℕ) → FirstRefused m t i → FirstRefused m t j → i ≡ j }
+    ensures none { (m : Pipeline U) (t : List Event) (i : ℕ) → Accepted m t → FirstRefused m t i → ⊥ }
+{}
+
+/// `advance a` and then `advance b` are `advance (a + b)`, for acceptance and for each state that a run leaves.
+pub fn advances_add_up<U>()
+    ensures acceptance { (m : Pipeline U) (a b : ℕ) (xs ys : List Event) → Accepted m (xs ++ advance a ∷ advance b ∷ ys) ↔ Accepted m (xs ++ advance (a + b) ∷ ys) }
+    ensures states { (m : Pipeline U) (a b : ℕ) (t : List Event) (old new : State U) → Plays m old (advance a ∷ advance b ∷ t) new ↔ Plays m old (advance (a + b) ∷ t) new }
+{}
+
+/// Events that are all moved by n cycles are accepted as before: only differences of cycles count.
+pub fn only_differences_of_cycles_count<U>()
+    ensures acceptance { (m : Pipeline U) (n : ℕ) (t : List Event) → Accepted m (advance n ∷ t) ↔ Accepted m t }
+    ensures refused { (m : Pipeline U) (n : ℕ) (t : List Event) (i : ℕ) → FirstRefused m (advance n ∷ t) (i + 1) ↔ FirstRefused m t i }
+{}
+
+/// Acceptance by choices is acceptance by runs.
+pub fn accepted_where_a_run_is<U>()
+    ensures { (m : Pipeline U) (t : List Event) → Accepted m t ↔ IsPlayable m t }
+{}
+
+/// Where a test tells units apart, the states that events can leave are computed, acceptance is decided, and what is not
+/// accepted has a first refused event.
+pub fn acceptance_is_computed<U>()
+    ensures states { (same : U → U → Bool) → Tells same → (m : Pipeline U) (t : List Event) (old new : State U) → Contains (plays same m old t) new ↔ Plays m old t new }
+    ensures decided { (same : U → U → Bool) → Tells same → (m : Pipeline U) (t : List Event) → Decides (accepts same m t) (Accepted m t) }
+    ensures each { (same : U → U → Bool) → Tells same → (m : Pipeline U) (t : List Event) → Accepted m t ⊎ ((i : ℕ) × FirstRefused m t i) }
+{}
+
+/// In the first treatment what is accepted is accepted by its choice.
+pub fn accepted_by_the_first_choice<U>()
+    ensures { (m : Pipeline U) → m.treatment ≡ first_fit → (t : List Event) → Accepted m t ↔ ((choices : List ℕ) × ChoiceFirst m t choices) }
+{}
+
+/// In the first treatment at most one list of choices accepts a list of events.
+pub fn one_choice_in_the_first_treatment<U>()
+    ensures { (m : Pipeline U) → m.treatment ≡ first_fit → (t : List Event) (p q : List ℕ) → IsChoice m t p → IsChoice m t q → p ≡ q }
+{}
+
+/// An alternative is a set of pairs: how its pairs are listed, and whether one is listed twice, changes nothing.
+pub fn alternatives_are_sets<U>()
+    ensures acceptance { (m o : Pipeline U) → SamePipeline m o → (t : List Event) → Accepted m t ↔ Accepted o t }
+    ensures refused { (m o : Pipeline U) → SamePipeline m o → (t : List Event) (i : ℕ) → FirstRefused m t i ↔ FirstRefused o t i }
+{}

@@ -1,0 +1,124 @@
+-- Answers: there is one, and no other.
+use Rattle.std.proofs.Common.{◌≡◌, ℕ, ◌+◌, inl, inr, true, false, Bool, List, [], ◌∷◌, length, Option, Some, None, MatchOption, MatchBool, nat_lt, slice_get, sym, ap, ◌∙◌, subst}
+use Rattle.std.proofs.lemmas.Option.{same_Some}
+use Rattle.hz_sexp_model.proofs.FormsLaws.{one_reading, one_fault, forms_or_fault}
+use Rattle.hz_mdread_model.proofs.DescriptionLaws.{one_description, one_fault_of_descriptions, description_or_fault}
+use Rattle.hz_check_model.proofs.CheckLaws.{fault_one, fault_or_sound, sound_one}
+use Rattle.hz_acceptance_model.proofs.AcceptanceLaws.{one_refused, accepted_or_refused}
+use Rattle.hz_answer_model.specs.Answers.{Held, Says, Next, Opens, HasForms, Describes, Checks, is_built, Traces, Replays, ReplaysDescription, Judges, IsIssueOf, AnswersOrder, Answer}
+use Rattle.hz_check_model.specs.CheckFaults.{CheckFault, Known}
+use Rattle.hz_mdread_model.specs.DescriptionForms.{DescriptionFault}
+use Rattle.hz_mdread_model.specs.Descriptions.{Description}
+use Rattle.hz_answer_model.specs.FaultTexts.{form_word, description_words, check_line, check_status}
+use Rattle.hz_sexp_model.specs.Forms.{FormFault}
+use Rattle.hz_base_model.specs.Limits.{description_limit, trace_limit}
+use Rattle.hz_pipeline_model.specs.Pipelines.{pipeline_with}
+use Rattle.hz_acceptance_model.specs.Replay.{Pipeline, Class}
+use Rattle.hz_acceptance_model.specs.Events.{Event, issue}
+use Rattle.hz_answer_model.specs.Texts.{file_line, limit_line, fault_line, not_built_line, usage_line, refused_line}
+use Rattle.hz_sexp_model.specs.Trees.{Trees}
+use Rattle.hz_answer_model.specs.Words.{Order, replay, order_of}
+
+-- answers that leave no choice
+abbrev pub IsSingle : (ℕ → List ℕ → Type 0) → Type 0
+IsSingle answer = (s s' : ℕ) (t t' : List ℕ) → answer s t → answer s' t' → (s ≡ s') × (t ≡ t')
+
+says_single : (status : ℕ) (text : List ℕ) → IsSingle (Says status text)
+says_single status text s s' t t' a b = (a.0 ∙ sym b.0, a.1 ∙ sym b.1)
+
+-- the same answer, said in two ways
+says_same : (m n : ℕ) (x y : List ℕ) → m ≡ n → x ≡ y → (s s' : ℕ) (t t' : List ℕ) → Says m x s t → Says n y s' t' → (s ≡ s') × (t ≡ t')
+says_same m n x y e f s s' t t' a b = (a.0 ∙ (e ∙ sym b.0), a.1 ∙ (f ∙ sym b.1))
+
+module _ {U : Type 0} (m : Pipeline U) where
+  one_class : (e : Option Event) (a b : List ℕ) → IsIssueOf m e a → IsIssueOf m e b → a ≡ b
+  one_class e a b (k, c, is, there, name) (l, d, is', there', name') =
+      let same : k ≡ l = same_issue_number k l (same_Some _ _ (sym is ∙ is')) in
+      let class = same_Some c d (sym there ∙ (ap (λ (n : ℕ). slice_get m.classes n) same ∙ there')) in
+      sym name ∙ (ap (λ (x : Class U). x.name) class ∙ name')
+    where
+      same_issue_number : (k l : ℕ) → issue k ≡ issue l → k ≡ l
+      same_issue_number k l h = cc
+
+  replays_single : (events : List Event) → IsSingle (Replays m events)
+  replays_single events s s' t t' (inl a) (inl b) = says_single _ _ s s' t t' a.1 b.1
+  replays_single events s s' t t' (inl a) (inr b) = absurd (accepted_or_refused m events b.0 a.0 b.2)
+  replays_single events s s' t t' (inr a) (inl b) = absurd (accepted_or_refused m events a.0 b.0 a.2)
+  replays_single events s s' t t' (inr (i, class, first, named, says)) (inr (j, class', first', named', says')) =
+      let place = one_refused m events i j first first' in
+      let name = one_class (slice_get events i) class class' named (subst (λ (n : ℕ). IsIssueOf m (slice_get events n) class') (sym place) named') in
+      (says.0 ∙ sym says'.0, says.1 ∙ (ap (λ (n : ℕ). refused_line (n + 1) class) place ∙ (ap (refused_line (j + 1)) name ∙ sym says'.1)))
+
+-- a phase leaves no choice where the next leaves none
+traces_single : (d : Description) (name text : List ℕ) (next : Next (List Event)) → ((events : List Event) → IsSingle (next events)) → IsSingle (Traces d name text next)
+traces_single d name text next single s s' t t' (inl (events, is, a)) (inl (events', is', b)) =
+    let same = same_Some events events' (sym is.lines ∙ is'.lines) in
+    single events s s' t t' a (subst (λ (es : List Event). next es s' t') (sym same) b)
+traces_single d name text next single s s' t t' (inl (events, is, a)) (inr (none, b)) = absurd (none events is)
+traces_single d name text next single s s' t t' (inr (none, a)) (inl (events, is, b)) = absurd (none events is)
+traces_single d name text next single s s' t t' (inr (none, a)) (inr (none', b)) = says_single _ _ s s' t t' a b
+
+builds_single : (name : List ℕ) (built : Bool) (next : ℕ → List ℕ → Type 0) → IsSingle next → IsSingle (λ s t. MatchBool built (next s t) (Says 2 (not_built_line name) s t))
+builds_single name true next single = single
+builds_single name false next single = says_single 2 (not_built_line name)
+
+checks_single : (name : List ℕ) (d : Description) (next : Next Known) → ((known : Known) → IsSingle (next known)) → IsSingle (Checks name d next)
+checks_single name d next single s s' t t' (inl (known, sound, a)) (inl (other, also, b)) =
+    let same = sound_one d known other sound also in
+    single known s s' t t' a (subst (λ (k : Known). next k s' t') (sym same) b)
+checks_single name d next single s s' t t' (inl (known, sound, a)) (inr (fault, site, is, b)) = absurd (fault_or_sound d fault site known is sound)
+checks_single name d next single s s' t t' (inr (fault, site, is, a)) (inl (known, sound, b)) = absurd (fault_or_sound d fault site known is sound)
+checks_single name d next single s s' t t' (inr (fault, site, is, a)) (inr (other, place, also, b)) =
+    let same = fault_one d fault other site place is also in
+    says_same _ _ _ _ (ap check_status same.0) (ap (λ (f : CheckFault). check_line name f site) same.0 ∙ ap (check_line name other) same.1) s s' t t' a b
+
+describes_single : (name : List ℕ) (read : Trees) (next : Next Description) → ((d : Description) → IsSingle (next d)) → IsSingle (Describes name read next)
+describes_single name read next single s s' t t' (inl (d, is, a)) (inl (e, also, b)) =
+    let same = one_description read d e is also in
+    single d s s' t t' a (subst (λ (x : Description). next x s' t') (sym same) b)
+describes_single name read next single s s' t t' (inl (d, is, a)) (inr (fault, line, wrong, b)) = absurd (description_or_fault read d fault line is wrong)
+describes_single name read next single s s' t t' (inr (fault, line, wrong, a)) (inl (d, is, b)) = absurd (description_or_fault read d fault line is wrong)
+describes_single name read next single s s' t t' (inr (fault, line, wrong, a)) (inr (other, place, also, b)) =
+    let same = one_fault_of_descriptions read fault other line place wrong also in
+    says_same _ _ _ _ (ap (λ (n : ℕ). 2) same.1) (ap (λ (f : DescriptionFault). fault_line name line (description_words f)) same.0 ∙ ap (λ (n : ℕ). fault_line name n (description_words other)) same.1) s s' t t' a b
+
+forms_single : (name bytes : List ℕ) (next : Next Trees) → ((read : Trees) → IsSingle (next read)) → IsSingle (HasForms name bytes next)
+forms_single name bytes next single s s' t t' (inl (read, is, a)) (inl (other, also, b)) =
+    let same = one_reading bytes read other is also in
+    single read s s' t t' a (subst (λ (x : Trees). next x s' t') (sym same) b)
+forms_single name bytes next single s s' t t' (inl (read, is, a)) (inr (fault, line, wrong, b)) = absurd (forms_or_fault bytes read fault line is wrong)
+forms_single name bytes next single s s' t t' (inr (fault, line, wrong, a)) (inl (read, is, b)) = absurd (forms_or_fault bytes read fault line is wrong)
+forms_single name bytes next single s s' t t' (inr (fault, line, wrong, a)) (inr (other, place, also, b)) =
+    let same = one_fault bytes fault other line place wrong also in
+    says_same _ _ _ _ (ap (λ (n : ℕ). 2) same.1) (ap (λ (f : FormFault). fault_line name line (form_word f ∷ [])) same.0 ∙ ap (λ (n : ℕ). fault_line name n (form_word other ∷ [])) same.1) s s' t t' a b
+
+texts_single : (description described trace traced : List ℕ) → IsSingle (Judges description described trace traced)
+texts_single description described trace traced =
+    forms_single description described _ (λ read.
+    describes_single description read _ (λ d.
+    checks_single description d (ReplaysDescription description trace traced d) (λ known.
+    builds_single description (is_built d) (Traces d trace traced (Replays (pipeline_with d known)))
+    (traces_single d trace traced (Replays (pipeline_with d known)) (replays_single (pipeline_with d known))))))
+
+-- reading a file leaves no choice where what follows leaves none
+opens_single : (o : Option (List ℕ)) (name : List ℕ) (most : ℕ) (next : List ℕ → ℕ → List ℕ → Type 0) → ((bytes : List ℕ) → IsSingle (next bytes)) → IsSingle (λ s t. MatchOption o (Says 6 (file_line name) s t) (λ bytes. MatchBool (nat_lt most (length bytes)) (Says 3 (limit_line name) s t) (next bytes s t)))
+opens_single None name most next single = says_single 6 (file_line name)
+opens_single (Some bytes) name most next single =
+    elim (nat_lt most (length bytes)) as (λ b. IsSingle (λ s t. MatchBool b (Says 3 (limit_line name) s t) (next bytes s t))) [
+      | true ↦ says_single 3 (limit_line name)
+      | false ↦ single bytes
+    ]
+
+order_single : (held : Held) (order : Order) → IsSingle (AnswersOrder held order)
+order_single held (replay description trace) =
+    opens_single (held description) description description_limit (λ described. Opens held trace trace_limit (λ traced. Judges description described trace traced))
+    (λ described. opens_single (held trace) trace trace_limit (λ traced. Judges description described trace traced)
+    (λ traced. texts_single description described trace traced))
+
+-- the words and what is held have one answer at most
+pub answer_single : (words : List (List ℕ)) (held : Held) → IsSingle (Answer words held)
+answer_single words held = by_order (order_of words)
+  where
+    by_order : (o : Option Order) → IsSingle (λ s t. MatchOption o (Says 4 usage_line s t) (λ order. AnswersOrder held order s t))
+    by_order None = says_single 4 usage_line
+    by_order (Some order) = order_single held order

@@ -1,0 +1,133 @@
+-- There is an answer to all words, whatever is held.
+use Rattle.std.proofs.Common.{◌≡◌, ℕ, ◌+◌, ◌<◌, ◌≤◌, ⊎_elim, inl, inr, true, false, Bool, List, [], ◌∷◌, length, All, Option, Some, None, MatchOption, MatchBool, nat_lt, get_or, slice_get, refl, sym, ap, ◌∙◌, subst, arith}
+use Rattle.std.proofs.lemmas.Bool.{cases_lt}
+use Rattle.std.proofs.lemmas.List.Elements.{All-get_or}
+use Rattle.std.proofs.lemmas.Option.{none-some, same_Some, slice_get-get_or, slice_get_within, get_or_from_slice_get}
+use Rattle.hz_answer_model.proofs.EventLaws.{issue_named, events_known}
+use Rattle.hz_sexp_model.proofs.FormsFront.{every_text}
+use Rattle.hz_mdread_model.proofs.DescriptionLaws.{every_list}
+use Rattle.hz_mdread_model.proofs.DescriptionFormedAll.{well_formed}
+use Rattle.hz_mdread_model.proofs.CheckableLaws.{can_be_checked}
+use Rattle.hz_check_model.proofs.CheckTotal.{sound_or_fault}
+use Rattle.hz_acceptance_model.proofs.AcceptanceLaws.{refused_issue}
+use Rattle.hz_acceptance_model.proofs.PlayLaws.{accepted_or_first_refused}
+use Rattle.hz_acceptance_model.proofs.Rows.{same_unit, places_tell}
+use Rattle.hz_answer_model.specs.Answers.{Held, Says, Next, Opens, HasForms, Describes, Checks, is_built, Traces, Replays, ReplaysDescription, Judges, IsIssueOf, AnswersOrder, Answer}
+use Rattle.hz_check_model.specs.CheckFaults.{Known, CheckFault, CheckFaultAt, IsSound}
+use Rattle.hz_mdread_model.specs.DescriptionForms as description_forms
+use Rattle.hz_mdread_model.specs.DescriptionShape.{IsWellFormed}
+use Rattle.hz_mdread_model.specs.Descriptions.{Description}
+use Rattle.hz_answer_model.specs.FaultTexts.{form_word, description_words, check_line, check_status}
+use Rattle.hz_base_model.specs.Limits.{description_limit, trace_limit, advance_limit}
+use Rattle.hz_base_model.specs.Lines.{lines_of}
+use Rattle.hz_check_model.specs.Places.{class_names}
+use Rattle.hz_pipeline_model.specs.Pipelines.{pipeline_with}
+use Rattle.hz_acceptance_model.specs.Replay.{FirstRefused}
+use Rattle.hz_acceptance_model.specs.Events.{Event, issue, cycles_of, issues_of, IsOfClass}
+use Rattle.hz_trace_model.specs.StraightTraces.{StraightTrace, events_of}
+use Rattle.hz_answer_model.specs.Texts.{file_line, limit_line, fault_line, usage_line, refused_line, accepted_line, not_built_line}
+use Rattle.hz_sexp_model.specs.Trees.{Trees}
+use Rattle.hz_answer_model.specs.Words.{Order, replay, order_of}
+
+-- some status and text answer
+abbrev pub HasOne : (ℕ → List ℕ → Type 0) → Type 0
+HasOne answer = (s : ℕ) × (t : List ℕ) × answer s t
+
+says_one : (status : ℕ) (text : List ℕ) → HasOne (Says status text)
+says_one status text = (status, text, (refl, refl))
+
+wider : (narrow wide : ℕ → List ℕ → Type 0) → ((s : ℕ) (t : List ℕ) → narrow s t → wide s t) → HasOne narrow → HasOne wide
+wider narrow wide f h = (h.0, h.1, f h.0 h.1 h.2)
+
+module _ (d : Description) (known : Known) where
+  -- the class of a refused issue has a name
+  refused_class : (events : List Event) → All (IsOfClass (length (class_names d))) events → (i : ℕ) → FirstRefused (pipeline_with d known) events i → (class : List ℕ) × IsIssueOf (pipeline_with d known) (slice_get events i) class
+  refused_class events of_class i h =
+      let found = refused_issue (pipeline_with d known) events i h in
+      let within = slice_get_within events i (issue found.0) found.1 in
+      let is : get_or events i (issue 0) ≡ issue found.0 = get_or_from_slice_get events i (issue found.0) (issue 0) found.1 in
+      let low : found.0 < length (class_names d) = subst (IsOfClass (length (class_names d))) is (All-get_or (IsOfClass (length (class_names d))) events i (issue 0) within of_class) in
+      (get_or (class_names d) found.0 [], issue_named d known (slice_get events i) found.0 (get_or (class_names d) found.0 []) found.1 (slice_get-get_or (class_names d) found.0 [] low))
+
+  replays_one : (events : List Event) → All (IsOfClass (length (class_names d))) events → HasOne (Replays (pipeline_with d known) events)
+  replays_one events of_class = ⊎_elim
+      (λ accepted. wider (Says 0 (accepted_line (issues_of events) (cycles_of events))) _ (λ s t h. inl (accepted, h)) (says_one 0 (accepted_line (issues_of events) (cycles_of events))))
+      (λ refused.
+      let class = refused_class events of_class refused.0 refused.1 in
+      wider (Says 1 (refused_line (refused.0 + 1) class.0)) _ (λ s t h. inr (refused.0, class.0, refused.1, class.1, h)) (says_one 1 (refused_line (refused.0 + 1) class.0)))
+      (accepted_or_first_refused same_unit places_tell (pipeline_with d known) events)
+
+  traces_one : (name text : List ℕ) → HasOne (Traces d name text (Replays (pipeline_with d known)))
+  traces_one name text = by_events (events_of (class_names d) (lines_of text)) refl
+    where
+      none : ((events : List Event) → StraightTrace (class_names d) text events → ⊥) → HasOne (Traces d name text (Replays (pipeline_with d known)))
+      none not_one = wider (Says 2 (not_built_line name)) _ (λ s t h. inr (not_one, h)) (says_one 2 (not_built_line name))
+
+      some : (events : List Event) → StraightTrace (class_names d) text events → HasOne (Traces d name text (Replays (pipeline_with d known)))
+      some events is = wider (Replays (pipeline_with d known) events) _ (λ s t h. inl (events, is, h)) (replays_one events (events_known (class_names d) (lines_of text) events is.lines))
+
+      by_events : (o : Option (List Event)) → events_of (class_names d) (lines_of text) ≡ o → HasOne (Traces d name text (Replays (pipeline_with d known)))
+      by_events None e = none (λ events is. none-some events (sym e ∙ is.lines))
+      by_events (Some events) e = ⊎_elim
+          (λ long. none (λ others is. too_long events others (same_Some events others (sym e ∙ is.lines)) long is.short))
+          (λ short. some events (record { lines = e; short = short }))
+          (cases_lt advance_limit (cycles_of events))
+        where
+          too_long : (events others : List Event) → events ≡ others → advance_limit < cycles_of events → cycles_of others ≤ advance_limit → ⊥
+          too_long events others same long short =
+              let count = ap cycles_of same in
+              absurd (omega arith)
+
+builds_one : (name : List ℕ) (built : Bool) (next : ℕ → List ℕ → Type 0) → HasOne next → HasOne (λ s t. MatchBool built (next s t) (Says 2 (not_built_line name) s t))
+builds_one name true next one = one
+builds_one name false next one = says_one 2 (not_built_line name)
+
+checks_one : (name : List ℕ) (d : Description) (next : Next Known) → IsWellFormed d → ((known : Known) → HasOne (next known)) → HasOne (Checks name d next)
+checks_one name d next formed one = ⊎_elim
+    (λ (sound : (known : Known) × IsSound d known). wider (next sound.0) _ (λ s t h. inl (sound.0, sound.1, h)) (one sound.0))
+    (λ (wrong : (fault : CheckFault) × (site : _) × CheckFaultAt d fault site).
+    wider (Says (check_status wrong.0) (check_line name wrong.0 wrong.1)) _ (λ s t h. inr (wrong.0, wrong.1, wrong.2, h)) (says_one (check_status wrong.0) (check_line name wrong.0 wrong.1)))
+    (sound_or_fault d (can_be_checked d formed))
+
+describes_one : (name : List ℕ) (read : Trees) (next : Next Description) → ((d : Description) → IsWellFormed d → HasOne (next d)) → HasOne (Describes name read next)
+describes_one name read next one = ⊎_elim
+    (λ (said : (d : Description) × description_forms.Reads read d). wider (next said.0) _ (λ s t h. inl (said.0, said.1, h)) (one said.0 (well_formed read said.0 said.1).0))
+    (λ (wrong : (fault : description_forms.DescriptionFault) × (line : ℕ) × description_forms.FaultAt read fault line).
+    wider (Says 2 (fault_line name wrong.1 (description_words wrong.0))) _ (λ s t h. inr (wrong.0, wrong.1, wrong.2, h)) (says_one 2 (fault_line name wrong.1 (description_words wrong.0))))
+    (every_list read)
+
+forms_one : (name bytes : List ℕ) (next : Next Trees) → ((read : Trees) → HasOne (next read)) → HasOne (HasForms name bytes next)
+forms_one name bytes next one = ⊎_elim
+    (λ read. wider (next read.0) _ (λ s t h. inl (read.0, read.1, h)) (one read.0))
+    (λ wrong. wider (Says 2 (fault_line name wrong.1 (form_word wrong.0 ∷ []))) _ (λ s t h. inr (wrong.0, wrong.1, wrong.2, h)) (says_one 2 (fault_line name wrong.1 (form_word wrong.0 ∷ []))))
+    (every_text bytes)
+
+texts_one : (description described trace traced : List ℕ) → HasOne (Judges description described trace traced)
+texts_one description described trace traced =
+    forms_one description described _ (λ read.
+    describes_one description read _ (λ d formed.
+    checks_one description d (ReplaysDescription description trace traced d) formed (λ known.
+    builds_one description (is_built d) (Traces d trace traced (Replays (pipeline_with d known))) (traces_one d known trace traced))))
+
+-- reading a file answers where what follows does
+opens_one : (o : Option (List ℕ)) (name : List ℕ) (most : ℕ) (next : List ℕ → ℕ → List ℕ → Type 0) → ((bytes : List ℕ) → HasOne (next bytes)) → HasOne (λ s t. MatchOption o (Says 6 (file_line name) s t) (λ bytes. MatchBool (nat_lt most (length bytes)) (Says 3 (limit_line name) s t) (next bytes s t)))
+opens_one None name most next one = says_one 6 (file_line name)
+opens_one (Some bytes) name most next one =
+    elim (nat_lt most (length bytes)) as (λ b. HasOne (λ s t. MatchBool b (Says 3 (limit_line name) s t) (next bytes s t))) [
+      | true ↦ says_one 3 (limit_line name)
+      | false ↦ one bytes
+    ]
+
+order_one : (held : Held) (order : Order) → HasOne (AnswersOrder held order)
+order_one held (replay description trace) =
+    opens_one (held description) description description_limit (λ described. Opens held trace trace_limit (λ traced. Judges description described trace traced))
+    (λ described. opens_one (held trace) trace trace_limit (λ traced. Judges description described trace traced)
+    (λ traced. texts_one description described trace traced))
+
+-- all words have an answer, whatever is held
+pub answer_one : (words : List (List ℕ)) (held : Held) → HasOne (Answer words held)
+answer_one words held = by_order (order_of words)
+  where
+    by_order : (o : Option Order) → HasOne (λ s t. MatchOption o (Says 4 usage_line s t) (λ order. AnswersOrder held order s t))
+    by_order None = says_one 4 usage_line
+    by_order (Some order) = order_one held order

@@ -1,0 +1,3 @@
+pub mod AnswerLaws
+pub mod AnswerTotal
+pub mod EventLaws

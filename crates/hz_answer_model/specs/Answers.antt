@@ -1,0 +1,113 @@
+-- What the program answers: this profile, docs/FORMATS.md, 'Answers'.
+use Rattle.std.specs.Prelude.{◌≡◌, ℕ, ◌+◌, List, [], ◌∷◌, Bool, ◌&&◌, not, nat_lt, Option, Some, MatchOption, MatchBool, length, ◌⊎◌, slice_get}
+use Rattle.hz_check_model.specs.CheckFaults.{CheckFault, Known, CheckFaultAt, IsSound}
+use Rattle.hz_mdread_model.specs.DescriptionForms.{DescriptionFault}
+use Rattle.hz_mdread_model.specs.DescriptionForms as description_forms
+use Rattle.hz_mdread_model.specs.Descriptions.{Description}
+use Rattle.hz_answer_model.specs.FaultTexts.{form_word, description_words, check_line, check_status}
+use Rattle.hz_sexp_model.specs.Forms.{FormFault}
+use Rattle.hz_sexp_model.specs.Forms as forms
+use Rattle.hz_base_model.specs.Limits.{description_limit, trace_limit}
+use Rattle.hz_check_model.specs.Places.{class_names}
+use Rattle.hz_pipeline_model.specs.Pipelines.{pipeline_with}
+use Rattle.hz_acceptance_model.specs.Events.{Event, issue, issues_of, cycles_of}
+use Rattle.hz_acceptance_model.specs.Replay.{Pipeline, Class, Accepted, FirstRefused}
+use Rattle.hz_check_model.specs.Sites.{Site}
+use Rattle.hz_trace_model.specs.StraightTraces.{StraightTrace}
+use Rattle.hz_answer_model.specs.Texts.{usage_line, file_line, limit_line, fault_line, not_built_line, accepted_line, refused_line}
+use Rattle.hz_sexp_model.specs.Trees.{Trees}
+use Rattle.hz_answer_model.specs.Words.{Order, replay, order_of}
+
+-- the status and the text
+abbrev pub Says : ℕ → List ℕ → ℕ → List ℕ → Type 0
+Says s t status text = (status ≡ s) × (text ≡ t)
+
+-- what names hold
+abbrev pub Held : Type 0
+Held = List ℕ → Option (List ℕ)
+
+-- what a later phase answers, by its value
+abbrev pub Next : Type 0 → Type 1
+Next A = A → ℕ → List ℕ → Type 0
+
+-- Reading a file of at most so many bytes: where the name is not held it can't be read, and a longer one is refused.
+abbrev pub Opens : Held → List ℕ → ℕ → Next (List ℕ) → ℕ → List ℕ → Type 0
+Opens held name most next status text =
+    MatchOption (held name) (Says 6 (file_line name) status text)
+    (λ bytes. MatchBool (nat_lt most (length bytes)) (Says 3 (limit_line name) status text) (next bytes status text))
+
+-- the forms of a text, or its first fault
+abbrev pub HasForms : List ℕ → List ℕ → Next Trees → ℕ → List ℕ → Type 0
+HasForms name bytes next status text =
+    ((read : Trees) × forms.Reads bytes read × next read status text)
+    ⊎ ((fault : FormFault) × (line : ℕ) × forms.FaultAt bytes fault line × Says 2 (fault_line name line (form_word fault ∷ [])) status text)
+
+-- the description that forms say, or the first fault of a form
+abbrev pub Describes : List ℕ → Trees → Next Description → ℕ → List ℕ → Type 0
+Describes name read next status text =
+    ((d : Description) × description_forms.Reads read d × next d status text)
+    ⊎ ((fault : DescriptionFault) × (line : ℕ) × description_forms.FaultAt read fault line × Says 2 (fault_line name line (description_words fault)) status text)
+
+-- the description is checked: the alternatives of its names, or the fault that is told
+abbrev pub Checks : List ℕ → Description → Next Known → ℕ → List ℕ → Type 0
+Checks name d next status text =
+    ((known : Known) × IsSound d known × next known status text)
+    ⊎ ((fault : CheckFault) × (site : Site) × CheckFaultAt d fault site × Says (check_status fault) (check_line name fault site) status text)
+
+-- what is built: descriptions with fewer than two automata, in the first treatment
+abbrev pub is_built : Description → Bool
+is_built d = nat_lt (length d.automata) 2 && not d.options.ndfa
+
+-- a description that is not built is told so
+abbrev pub Builds : List ℕ → Description → (ℕ → List ℕ → Type 0) → ℕ → List ℕ → Type 0
+Builds name d next status text = MatchBool (is_built d) (next status text) (Says 2 (not_built_line name) status text)
+
+-- the trace is judged: one of another kind is not built
+abbrev pub Traces : Description → List ℕ → List ℕ → Next (List Event) → ℕ → List ℕ → Type 0
+Traces d name bytes next status text =
+    ((events : List Event) × StraightTrace (class_names d) bytes events × next events status text)
+    ⊎ (((events : List Event) → StraightTrace (class_names d) bytes events → ⊥) × Says 2 (not_built_line name) status text)
+
+-- the class that an event issues
+abbrev pub IsIssueOf : {U : Type 0} → Pipeline U → Option Event → List ℕ → Type 0
+IsIssueOf {U} m e name = (k : ℕ) × (c : Class U) × (e ≡ Some (issue k)) × (slice_get m.classes k ≡ Some c) × (c.name ≡ name)
+
+-- the replay: accepted, or refused at the first event that does not fit, which stands on the line after its place
+abbrev pub Replays : {U : Type 0} → Pipeline U → List Event → ℕ → List ℕ → Type 0
+Replays m events status text =
+    (Accepted m events × Says 0 (accepted_line (issues_of events) (cycles_of events)) status text)
+    ⊎ ((i : ℕ) × (class : List ℕ) × FirstRefused m events i × IsIssueOf m (slice_get events i) class × Says 1 (refused_line (i + 1) class) status text)
+
+-- a description whose names have these alternatives is replayed, where it is built
+abbrev pub ReplaysDescription : List ℕ → List ℕ → List ℕ → Description → Known → ℕ → List ℕ → Type 0
+ReplaysDescription description trace traced d known =
+    Builds description d (Traces d trace traced (Replays (pipeline_with d known)))
+
+-- a description that is read is checked, and replayed
+abbrev pub JudgesDescription : List ℕ → List ℕ → List ℕ → Description → ℕ → List ℕ → Type 0
+JudgesDescription description trace traced d = Checks description d (ReplaysDescription description trace traced d)
+
+-- forms that are read are a description, which is judged
+abbrev pub JudgesForms : List ℕ → List ℕ → List ℕ → Trees → ℕ → List ℕ → Type 0
+JudgesForms description trace traced read = Describes description read (JudgesDescription description trace traced)
+
+-- both texts are judged, the description first
+abbrev pub Judges : List ℕ → List ℕ → List ℕ → List ℕ → ℕ → List ℕ → Type 0
+Judges description described trace traced = HasForms description described (JudgesForms description trace traced)
+
+-- all files are read, and then judged in their order
+abbrev pub AnswersReplay : Held → List ℕ → List ℕ → ℕ → List ℕ → Type 0
+AnswersReplay held description trace =
+    Opens held description description_limit (λ described.
+    Opens held trace trace_limit (λ traced.
+    Judges description described trace traced))
+
+-- what an order answers: one case for each command
+abbrev pub AnswersOrder : Held → Order → ℕ → List ℕ → Type 0
+AnswersOrder held (replay description trace) = AnswersReplay held description trace
+
+-- What the program answers to its words over files that hold this, where memory is found and nothing fails but the
+-- opening of a name that is not held. The first phase that refuses decides.
+abbrev pub Answer : List (List ℕ) → Held → ℕ → List ℕ → Type 0
+Answer words held status text =
+    MatchOption (order_of words) (Says 4 usage_line status text) (λ order. AnswersOrder held order status text)

@@ -1,0 +1,70 @@
+-- The texts of faults. This profile, docs/FORMATS.md, 'Answers'.
+use Rattle.std.specs.Prelude.{ℕ, List, [], ◌∷◌, codes, decimal}
+use Rattle.hz_sexp_model.specs.Forms.{FormFault}
+use Rattle.hz_sexp_model.specs.Forms as form
+use Rattle.hz_regexp_model.specs.ExpressionTexts.{ExpressionFault}
+use Rattle.hz_regexp_model.specs.ExpressionTexts as expression
+use Rattle.hz_mdread_model.specs.DescriptionForms.{DescriptionFault}
+use Rattle.hz_mdread_model.specs.DescriptionForms as description
+use Rattle.hz_check_model.specs.CheckFaults.{CheckFault, LimitName}
+use Rattle.hz_check_model.specs.CheckFaults as check
+use Rattle.hz_check_model.specs.Sites.{Site}
+use Rattle.hz_answer_model.specs.Texts.{fault_line, passed_line}
+
+-- the word of a fault of forms
+abbrev pub form_word : FormFault → List ℕ
+form_word form.unclosed = codes "Unclosed"
+form_word form.stray = codes "Stray"
+form_word form.bad_escape = codes "BadEscape"
+form_word form.too_deep = codes "TooDeep"
+form_word form.bad_byte = codes "BadByte"
+form_word form.number_too_large = codes "NumberTooLarge"
+
+-- the word of a fault of an expression
+abbrev pub expression_word : ExpressionFault → List ℕ
+expression_word expression.unexpected = codes "Unexpected"
+expression_word expression.no_token = codes "Empty"
+expression_word expression.repeat_zero = codes "RepeatZero"
+expression_word expression.too_deep = codes "TooDeep"
+expression_word expression.number_too_large = codes "NumberTooLarge"
+
+-- the words of a fault of a description's form; an expression's fault has a word of its own and a byte of its string
+abbrev pub description_words : DescriptionFault → List (List ℕ)
+description_words description.unknown_form = codes "UnknownForm" ∷ []
+description_words description.bad_shape = codes "BadShape" ∷ []
+description_words description.bad_condition = codes "BadCondition" ∷ []
+description_words description.unknown_option = codes "UnknownOption" ∷ []
+description_words description.latency_limit = codes "LatencyLimit" ∷ []
+description_words description.unknown_guard = codes "UnknownGuard" ∷ []
+description_words (description.bad_expression fault at) = codes "BadExpression " ∷ expression_word fault ∷ codes " " ∷ decimal at ∷ []
+
+-- the word of a limit
+abbrev pub limit_word : LimitName → List ℕ
+limit_word check.automata = codes "Automata"
+limit_word check.units = codes "Units"
+limit_word check.classes = codes "Classes"
+limit_word check.alternatives = codes "Alternatives"
+limit_word check.cycles = codes "Cycles"
+limit_word check.size = codes "Size"
+
+-- a fault of names: its word and the name
+abbrev pub named_line : List ℕ → List ℕ → Site → List ℕ
+named_line file word site = fault_line file site.line (word ∷ codes " " ∷ site.name ∷ [])
+
+-- the line of a fault of a description, where it stands
+abbrev pub check_line : List ℕ → CheckFault → Site → List ℕ
+check_line file check.twice_defined site = named_line file (codes "TwiceDefined") site
+check_line file check.reserved_name site = named_line file (codes "ReservedName") site
+check_line file check.unknown_name site = named_line file (codes "UnknownName") site
+check_line file check.unknown_automaton site = named_line file (codes "UnknownAutomaton") site
+check_line file check.unit_needs_automaton site = named_line file (codes "UnitNeedsAutomaton") site
+check_line file check.circular_reservation site = named_line file (codes "CircularReservation") site
+check_line file check.self_exclusion site = named_line file (codes "SelfExclusion") site
+check_line file check.set_across_automata site = named_line file (codes "SetAcrossAutomata") site
+check_line file (check.limit what) site = passed_line file site.line (limit_word what) site.name
+check_line file check.bypass_twice site = named_line file (codes "BypassTwice") site
+
+-- its status
+abbrev pub check_status : CheckFault → ℕ
+check_status (check.limit what) = 3
+check_status _ = 2

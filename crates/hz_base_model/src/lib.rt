@@ -1,0 +1,2 @@
+//! Names, lines, pairs and limits: the definitions that all others stand on.
+#![tactic(auto)]

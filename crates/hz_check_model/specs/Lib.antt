@@ -1,0 +1,5 @@
+pub mod Sites
+pub mod Places
+pub mod CheckFaults
+pub mod CheckedParts
+pub mod CheckedShape

@@ -1,0 +1,5 @@
+pub mod DescriptionLaws
+pub mod DescriptionFormed
+pub mod DescriptionFormedAll
+pub mod FormSizes
+pub mod CheckableLaws

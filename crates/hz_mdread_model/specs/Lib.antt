@@ -1,0 +1,4 @@
+pub mod Descriptions
+pub mod DescriptionShape
+pub mod DescriptionForms
+pub mod Conditions

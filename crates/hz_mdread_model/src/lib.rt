@@ -1,0 +1,4 @@
+//! The grammar of descriptions, and its laws.
+#![tactic(auto)]
+
+pub mod descriptions;

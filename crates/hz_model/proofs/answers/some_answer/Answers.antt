@@ -1,5 +1,0 @@
-use Rattle.hz_model.proofs.AnswerTotal.{answer_one}
-use Rattle.hz_model.proofs.answers.some_answer.Goals as goal
-
-pub returns : goal.returns
-returns c = answer_one

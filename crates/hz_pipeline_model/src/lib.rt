@@ -1,0 +1,4 @@
+//! The pipeline that a description means.
+#![tactic(auto)]
+
+pub mod pipelines;

@@ -1,0 +1,5 @@
+pub mod ExpressionTextsEnd
+pub mod ExpressionTextsFormed
+pub mod ExpressionTextsFront
+pub mod ExpressionTextsLaws
+pub mod ExpressionTextsRest

@@ -1,0 +1,3 @@
+pub mod FormsNext
+pub mod FormsLaws
+pub mod FormsFront

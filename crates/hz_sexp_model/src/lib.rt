@@ -1,0 +1,4 @@
+//! The grammar of forms, and its laws.
+#![tactic(auto)]
+
+pub mod forms;

@@ -1,0 +1,4 @@
+//! The grammar of traces, and its laws.
+#![tactic(auto)]
+
+pub mod traces;
