@@ -68,12 +68,12 @@ place_low {A = A} p (y ∷ ys) x there passes = cond_both (not (p y)) (1 + posit
     (Contains-cons_cases y x ys there))
     (λ _. omega arith)
 
-among : (name : List ℕ) (names : List (List ℕ)) → Contains names name → is_among name names ≡ true
+pub among : (name : List ℕ) (names : List (List ℕ)) → Contains names name → is_among name names ≡ true
 among name names there =
     let low = place_low (bytes_eq name) names name there ((bytes_eq-Decides name name).1 refl) in
     ap (λ (b : Bool). is_some (cond b (Some (position_or_len (bytes_eq name) names)) None)) (lt-ltb (position_or_len (bytes_eq name) names) (length names) low)
 
-from_among : (name : List ℕ) (names : List (List ℕ)) → is_among name names ≡ true → Contains names name
+pub from_among : (name : List ℕ) (names : List (List ℕ)) → is_among name names ≡ true → Contains names name
 from_among name names e = by_place (position (bytes_eq name) names) refl e
   where
     by_place : (o : Option ℕ) → position (bytes_eq name) names ≡ o → is_some o ≡ true → Contains names name
@@ -313,7 +313,7 @@ module _ (d : Description) where
   is_in automaton u = automaton_number d u.automaton == automaton
 
   -- the number of a unit is that of the units of its automaton before it
-  number_of : (before : List UnitItem) (u : UnitItem) → (place_behind d before u).unit ≡ length (filter (is_in (automaton_number d u.automaton)) before)
+  pub number_of : (before : List UnitItem) (u : UnitItem) → (place_behind d before u).unit ≡ length (filter (is_in (automaton_number d u.automaton)) before)
   number_of before u = sym (length-filter (λ a. a == automaton_number d u.automaton) (automaton_numbers d before)) ∙ length_kept (λ v. automaton_number d v.automaton) (λ a. a == automaton_number d u.automaton) before
 
   names_of_automata : length (automata_of d) ≡ automaton_count d

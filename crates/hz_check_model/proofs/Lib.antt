@@ -5,3 +5,4 @@ pub mod CountingLaws
 pub mod KeptLaws
 pub mod PlaceLaws
 pub mod CheckTotal
+pub mod ToldLaws

@@ -3,3 +3,4 @@ pub mod Places
 pub mod CheckFaults
 pub mod CheckedParts
 pub mod CheckedShape
+pub mod ToldPlaces

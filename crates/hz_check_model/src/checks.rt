@@ -1,12 +1,15 @@
 //! Laws of what can be wrong with a description.
 
-ghost use Rattle.std.specs.Prelude.{◌≡◌, ◌≤◌, ◌↔◌, ◌⊎◌, List, [], map, All, Some, None};
-ghost use Rattle.hz_check_model.specs.CheckFaults.{Known, CheckFault, CheckFaultAt, IsSound, IsFirst};
+ghost use Rattle.std.specs.Prelude.{◌≡◌, ◌≤◌, ◌↔◌, ◌⊎◌, List, [], ◌∷◌, ◌++◌, length, slice_get, map, All, Contains, Some, None};
+ghost use Rattle.hz_base_model.specs.Limits.{size_limit};
+ghost use Rattle.hz_check_model.specs.CheckFaults.{Known, Reserving, CheckFault, CheckFaultAt, IsSound, IsFirst, past_units, past_size, second_numbers};
+ghost use Rattle.hz_check_model.specs.Places.{automaton_number, unit_places};
+ghost use Rattle.hz_check_model.specs.ToldPlaces.{ToldBehind, StandsBefore, IsPastUnits, unit_site, units_beside, PassesSize, size_together, TellsSecondNumber};
 ghost use Rattle.hz_check_model.specs.CheckedParts.{automata_of, class_parts, bypass_parts, attributes_of};
 ghost use Rattle.hz_check_model.specs.CheckedShape.{IsKept};
-ghost use Rattle.hz_mdread_model.specs.Descriptions.{Description};
+ghost use Rattle.hz_mdread_model.specs.Descriptions.{Description, UnitItem};
 ghost use Rattle.hz_mdread_model.specs.DescriptionShape.{IsCheckable};
-ghost use Rattle.hz_check_model.specs.Sites.{Site, earliest};
+ghost use Rattle.hz_check_model.specs.Sites.{Site, earliest, repeated};
 
 /// A description has at most one fault, at one place.
 pub fn one_fault_of_checks()
@@ -37,4 +40,33 @@ pub fn earliest_is_the_first_of_the_first_form()
 /// The parts of every description without a fault keep the limits and the rules of names.
 pub fn parts_are_kept()
     ensures { (d : Description) (known : Known) → IsCheckable d → IsSound d known → IsKept (automata_of d) (map (class_parts d known) d.classes) (map (bypass_parts d) d.bypasses) (attributes_of d) }
+{}
+
+/// A name is told to be defined twice exactly where an equal name stands before it in its name space: among the names of
+/// its own list, or of the other list by an earlier form.
+pub fn second_names_are_told()
+    ensures { (others sites : List Site) → ToldBehind (StandsBefore others) (λ s. s) [] sites (repeated others [] sites) }
+{}
+
+/// A unit is told to be past the limit exactly where so many units of its automaton stand before it.
+pub fn units_past_their_limit_are_told()
+    ensures { (d : Description) → ToldBehind (IsPastUnits d) unit_site [] d.units (past_units d.units (unit_places d)) }
+{}
+
+/// A unit's number is the number of the units of its automaton before it.
+pub fn places_count_units_before()
+    ensures { (d : Description) (before after : List UnitItem) (u : UnitItem) → d.units ≡ before ++ u ∷ after → slice_get (unit_places d) (length before) ≡ Some (record { automaton = automaton_number d u.automaton; unit = units_beside d before u }) }
+{}
+
+/// The size is told exactly at the first item with which the sum of sizes passes its limit, where items count in this order;
+/// nowhere where the sum of all does not.
+pub fn size_is_told_where_it_passes()
+    ensures some { (known : Known) (order : List Reserving) (s : Site) → past_size known 0 order ≡ s ∷ [] ↔ PassesSize known order s }
+    ensures none { (known : Known) (order : List Reserving) → past_size known 0 order ≡ [] ↔ (size_together known order ≤ size_limit) }
+{}
+
+/// A producing class is told of a bypass exactly where the bypass gives it, with some consuming class, another number than
+/// an earlier bypass.
+pub fn second_numbers_are_told()
+    ensures { (d : Description) (s : Site) → Contains (second_numbers d) s ↔ TellsSecondNumber d.bypasses s }
 {}

@@ -32,7 +32,7 @@ pub or_ok : {A E : Type 0} (o : Option A) (e : E) (x : A) → ok_or o e ≡ Ok x
 or_ok None e x h = absurd (cc)
 or_ok (Some y) e x h = cc
 
-then_some : {A B : Type 0} (o : Option A) (next : A → Option B) (y : B) → option_and_then next o ≡ Some y → (x : A) × (o ≡ Some x) × (next x ≡ Some y)
+pub then_some : {A B : Type 0} (o : Option A) (next : A → Option B) (y : B) → option_and_then next o ≡ Some y → (x : A) × (o ≡ Some x) × (next x ≡ Some y)
 then_some None next y h = absurd (cc)
 then_some (Some x) next y h = (x, refl, h)
 
@@ -40,7 +40,7 @@ map_some : {A B : Type 0} (o : Option A) (f : A → B) (y : B) → option_map f 
 map_some None f y h = absurd (cc)
 map_some (Some x) f y h = (x, refl, cc)
 
-kept_some : {A : Type 0} (good : Bool) (x y : A) → kept good x ≡ Some y → (good ≡ true) × (x ≡ y)
+pub kept_some : {A : Type 0} (good : Bool) (x y : A) → kept good x ≡ Some y → (good ≡ true) × (x ≡ y)
 kept_some true x y h = (refl, cc)
 kept_some false x y h = absurd (cc)
 

@@ -3,3 +3,5 @@ pub mod DescriptionFormed
 pub mod DescriptionFormedAll
 pub mod FormSizes
 pub mod CheckableLaws
+pub mod AddedLaws
+pub mod OptionLaws

@@ -2,3 +2,4 @@ pub mod Descriptions
 pub mod DescriptionShape
 pub mod DescriptionForms
 pub mod Conditions
+pub mod AddedItems

@@ -1,10 +1,11 @@
 //! Laws of the forms of descriptions.
 
-ghost use Rattle.std.specs.Prelude.{◌≡◌, ◌<◌, ◌⊎◌, ℕ, List, length, IsTrue};
+ghost use Rattle.std.specs.Prelude.{◌≡◌, ◌<◌, ◌⊎◌, ◌↔◌, ℕ, List, length, IsTrue};
 ghost use Rattle.hz_sexp_model.specs.Trees.{Trees};
 ghost use Rattle.hz_sexp_model.specs.Forms as texts;
 ghost use Rattle.hz_mdread_model.specs.Descriptions.{Description};
-ghost use Rattle.hz_mdread_model.specs.DescriptionForms.{Reads, DescriptionFault, FaultAt, form_count, strings_below};
+ghost use Rattle.hz_mdread_model.specs.AddedItems.{Add, HasItems, HasOptions, StandsBehind};
+ghost use Rattle.hz_mdread_model.specs.DescriptionForms.{Reads, Addition, DescriptionFault, FaultAt, form_count, strings_below};
 ghost use Rattle.hz_mdread_model.specs.DescriptionShape.{IsWellFormed, IsCheckable};
 
 /// Forms say at most one description.
@@ -41,4 +42,19 @@ pub fn well_formed_descriptions_can_be_checked()
 pub fn texts_bound_their_forms()
     ensures count { (text : List ℕ) (forms : Trees) (size : ℕ) → texts.Reads text forms → length text < size → form_count forms < size }
     ensures strings { (text : List ℕ) (forms : Trees) (size : ℕ) → texts.Reads text forms → length text < size → IsTrue (strings_below size forms) }
+{}
+
+/// Each list of items of a description is what the forms of its kind add, in the order of the file.
+pub fn items_are_what_forms_add()
+    ensures { (forms : Trees) (d : Description) (r : Reads forms d) → (additions : List Addition) × Add r.read 0 forms additions × HasItems d additions }
+{}
+
+/// An option stands exactly where some form of options has it, wherever that form stands.
+pub fn options_stand_in_forms()
+    ensures { (forms : Trees) (d : Description) → Reads forms d → HasOptions d.options forms }
+{}
+
+/// A fault stands exactly where the forms are a front that is read, a form with that fault, and a rest.
+pub fn faults_stand_behind_a_front()
+    ensures { (forms : Trees) (fault : DescriptionFault) (line : ℕ) → FaultAt forms fault line ↔ StandsBehind forms fault line }
 {}
