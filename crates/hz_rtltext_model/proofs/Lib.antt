@@ -1,0 +1,3 @@
+pub mod FirstWrongs
+pub mod Numbers
+pub mod Listings

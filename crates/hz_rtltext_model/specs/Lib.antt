@@ -1,0 +1,5 @@
+pub mod Operands
+pub mod Values
+pub mod BlockForms
+pub mod StateForms
+pub mod StateTexts
