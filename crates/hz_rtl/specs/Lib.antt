@@ -1,0 +1,4 @@
+pub mod Shape
+pub mod Codes
+pub mod Heads
+pub mod Faults
