@@ -1,6 +1,5 @@
 -- The pairs of rows.
-use Rattle.std.proofs.Common.{◌≡◌, ℕ, ◌+◌, ◌-◌, ◌<◌, ◌≤◌, zero, suc, inl, inr, ⊎_elim, ◌↔◌, IsTrue, Bool, nat_eq, List, [], ◌∷◌, length, get_or, Contains, refl, sym, ap, ◌∙◌, arith}
-use Rattle.std.specs.Bool.{Decides}
+use Rattle.std.proofs.Common.{◌≡◌, ℕ, ◌+◌, ◌-◌, ◌<◌, ◌≤◌, zero, suc, inl, inr, ⊎_elim, ◌↔◌, IsTrue, Bool, nat_eq, List, [], ◌∷◌, length, get_or, Contains, refl, sym, ap, arith}
 use Rattle.std.specs.List.{range_with_len, AllPairs}
 use Rattle.std.specs.Cmp.Lexicographic.{pointwise}
 use Rattle.std.proofs.lemmas.Bool.{cases_lt}

@@ -1,22 +1,20 @@
 -- The rows of a grid, found again from its pairs.
-use Rattle.std.proofs.Common.{◌≡◌, ℕ, ◌+◌, ◌-◌, ◌*◌, ◌^◌, ◌<◌, ◌≤◌, zero, suc, max, inl, inr, ⊎_elim, ◌↔◌, IsTrue, Bool, true, false, List, [], ◌∷◌, length, map, get_or, Contains, refl, sym, ap, ◌∙◌, arith}
-use Rattle.std.specs.Bool.{Decides}
+use Rattle.std.proofs.Common.{◌≡◌, ℕ, ◌+◌, ◌-◌, ◌*◌, ◌^◌, ◌<◌, ◌≤◌, zero, suc, ⊎_elim, ◌↔◌, IsTrue, Bool, true, false, List, [], ◌∷◌, length, map, get_or, Contains, refl, sym, ap, ◌∙◌, arith}
 use Rattle.std.specs.Int.{bit_at}
-use Rattle.std.specs.List.{range_with_len, list_any}
-use Rattle.std.proofs.lemmas.Bool.{cases_lt, cases_eq, eqb-true}
-use Rattle.std.proofs.lemmas.Bool.Decides.{same_from_decides}
+use Rattle.std.specs.List.{range_with_len}
+use Rattle.std.proofs.lemmas.Bool.{cases_lt, cases_eq}
 use Rattle.std.proofs.lemmas.List.{ext_get_or, length-map, get_or-map}
 use Rattle.std.proofs.lemmas.List.FromFn.{length-range_with_len, get_or-range_with_len}
 use Rattle.std.proofs.lemmas.Map.Views.{Contains-from_any, list_any-from_Contains}
-use Rattle.std.proofs.lemmas.Nat.Bits.{bit_at-lt, bit_at_cat_low, bit_at_cat_high, bit_at_above, bit_at-zero, bit_at_lowest}
+use Rattle.std.proofs.lemmas.Nat.Bits.{bit_at_cat_low, bit_at_cat_high, bit_at_above, bit_at_lowest}
 use Rattle.std.specs.Cmp.{IsEquivalence, nat_eq_equiv, on_equiv, and_equiv}
 use Rattle.hz_base_model.specs.Pairs.{Pair}
 use Rattle.hz_base_model.proofs.Elements.{Contains-nil, Contains-head, Contains-tail, Contains-cons_cases}
-use Rattle.hz_grid.specs.Rows.{has_unit, HasUnit}
+use Rattle.hz_grid.specs.Rows.{HasUnit}
 use Rattle.hz_grid.specs.Grids.{Holds, pair_eq}
-use Rattle.hz_grid.specs.Stored.{IsSet, pairs_from, IsRows}
+use Rattle.hz_grid.specs.Stored.{pairs_from, IsRows}
 use Rattle.hz_grid.specs.Hashes.{bit_of, number_of, has_pair, row_in, cycles_in, rows_in, pair_eq-Decides}
-use Rattle.hz_grid.proofs.Units.{HasUnit-from_bit, bit_from_HasUnit, HasUnit-below, same_from_units}
+use Rattle.hz_grid.proofs.Units.{HasUnit-from_bit, bit_from_HasUnit, same_from_units}
 use Rattle.hz_grid.proofs.Pairs.{Holds-rows, row_below, set_from_pairs}
 
 -- ---- a number by its bits
@@ -34,9 +32,9 @@ bit-number_of test zero unit lt = absurd (omega arith)
 bit-number_of test (suc n) unit lt =
     ⊎_elim
     (λ (same : unit ≡ n). rw same (
-      let high = bit_at_cat_high (bit_of (test n)) n (number_of test n) n (number_of-lt test n) (omega arith) in
-      let zeroth : n - n ≡ 0 = omega arith in
-      high ∙ ap (bit_at (bit_of (test n))) zeroth ∙ lowest (test n)))
+    let high = bit_at_cat_high (bit_of (test n)) n (number_of test n) n (number_of-lt test n) (omega arith) in
+    let zeroth : n - n ≡ 0 = omega arith in
+    high ∙ ap (bit_at (bit_of (test n))) zeroth ∙ lowest (test n)))
     (λ (other : unit ≡ n → ⊥).
     let low : unit < n = omega arith in
     bit_at_cat_low (bit_of (test n)) n (number_of test n) unit low ∙ bit-number_of test n unit low)
@@ -58,6 +56,7 @@ HasUnit-number_of test n unit = (
     told : (b : Bool) → bit_of b ≡ 1 → IsTrue b
     told true e = refl
     told false e = absurd (omega arith)
+
     one : (b : Bool) → IsTrue b → bit_of b ≡ 1
     one true t = refl
     one false t = cc
@@ -101,9 +100,9 @@ cycles_within n (q ∷ pairs) h =
 cycles_in-pairs_from : (rows : List ℕ) → IsRows rows → cycles_in (pairs_from 0 rows) ≡ length rows
 cycles_in-pairs_from rows is =
     let most = cycles_within (length rows) (pairs_from 0 rows) (λ p m.
-      let found = set_from_pairs 0 rows p m in
-      let below = row_below rows p.unit found.0 found.3 in
-      omega (arith, found.1)) in
+    let found = set_from_pairs 0 rows p m in
+    let below = row_below rows p.unit found.0 found.3 in
+    omega (arith, found.1)) in
     ⊎_elim
     (λ (lt : cycles_in (pairs_from 0 rows) < length rows). absurd (is.trimmed (omega arith) (λ unit set.
     let below = cycle_below (pairs_from 0 rows) (record { unit = unit; cycle = length rows - 1 }) ((Holds-rows rows is unit (length rows - 1)).1 set) in
@@ -118,7 +117,7 @@ rows_in-pairs_from rows is =
     let ranged = length-range_with_len 0 (cycles_in (pairs_from 0 rows)) in
     let long = length-map (range_with_len 0 (cycles_in (pairs_from 0 rows))) (row_in (pairs_from 0 rows)) in
     ext_get_or 0 (map (row_in (pairs_from 0 rows)) (range_with_len 0 (cycles_in (pairs_from 0 rows)))) rows (omega arith) (λ cycle lt.
-      let from_zero : 0 + cycle ≡ cycle = omega arith in
-      get_or-map (row_in (pairs_from 0 rows)) (range_with_len 0 (cycles_in (pairs_from 0 rows))) cycle 0 0 (omega arith)
-      ∙ ap (row_in (pairs_from 0 rows)) (get_or-range_with_len 0 (cycles_in (pairs_from 0 rows)) cycle 0 (omega arith) ∙ from_zero)
-      ∙ row_in-pairs_from rows is cycle)
+    let from_zero : 0 + cycle ≡ cycle = omega arith in
+    get_or-map (row_in (pairs_from 0 rows)) (range_with_len 0 (cycles_in (pairs_from 0 rows))) cycle 0 0 (omega arith)
+    ∙ ap (row_in (pairs_from 0 rows)) (get_or-range_with_len 0 (cycles_in (pairs_from 0 rows)) cycle 0 (omega arith) ∙ from_zero)
+    ∙ row_in-pairs_from rows is cycle)

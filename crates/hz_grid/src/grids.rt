@@ -105,6 +105,13 @@ impl Grid {
         self.rows.len() as u16
     }
 
+    /// What holds of every grid: its pairs ascend by cycle and unit, which are in their range. It does nothing.
+    pub fn kept(&self)
+        ensures { IsGrid self.now }
+    {
+        let _ = &self.rows;
+    }
+
     /// The units of the pairs of that cycle: none past the greatest one. It takes no memory.
     pub fn row(&self, cycle: u16) -> Row
         ensures { (unit : ℕ) → HasUnit result unit ↔ Holds self.now unit cycle }
