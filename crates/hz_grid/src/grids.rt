@@ -4,8 +4,10 @@ ghost use Rattle.hz_grid.specs.Rows.{HasUnit};
 ghost use Rattle.hz_grid.specs.Grids.{Holds, IsGrid, HoldsJust, Meets, IsUnion, IsAdvanced};
 ghost use Rattle.hz_grid.specs.Stored.{IsRows, HasJust, HasSameUnits, GainsUnit, ShareUnit, IsJoined};
 
+use crate::order::order;
 use crate::rows::{Row, UNITS};
 use std::alloc::Global;
+use std::cmp::Ordering;
 use std::hash::{Hash, Hasher};
 use std::marker::Model;
 
@@ -145,6 +147,38 @@ impl Eq for Grid {
     ghost use Rattle.hz_grid.specs.Grids.{grid_eq-laws};
 
     ghost laws = { grid_eq-laws };
+}
+
+impl PartialOrd for Grid {
+    ghost use Rattle.std.specs.Ordering.{as_partial_cmp};
+    ghost use Rattle.hz_grid.specs.Orders.{grid_cmp, grid_cmp-partial};
+
+    ghost partial_cmp = { as_partial_cmp grid_cmp };
+
+    ghost laws = { grid_cmp-partial };
+
+    fn partial_cmp(&self, other: &Grid) -> Option<Ordering> {
+        Some(self.cmp(other))
+    }
+}
+
+impl Ord for Grid {
+    ghost use Rattle.std.specs.Prelude.{◌≡◌, refl};
+    ghost use Rattle.hz_grid.specs.Orders.{grid_cmp, grid_cmp-total, grid_eq-cmp};
+
+    ghost cmp = { grid_cmp };
+
+    ghost total = { grid_cmp-total };
+
+    ghost matches_partial_cmp = { λ a b. refl };
+
+    ghost matches_eq = { grid_eq-cmp };
+
+    fn cmp(&self, other: &Grid) -> Ordering
+        ensures { result ≡ grid_cmp self.now other.now }
+    {
+        order(&self.rows, &other.rows)
+    }
 }
 
 impl Hash for Grid {

@@ -2,6 +2,7 @@
 #![tactic(auto)]
 
 mod grids;
+mod order;
 mod rows;
 
 pub use grids::{CYCLES, Grid, NoMemory};

@@ -1,7 +1,7 @@
 //! A row: the units that are reserved in one cycle.
-ghost use Rattle.std.specs.Prelude.{◌≡◌, ◌↔◌, ◌⊎◌, ◌<◌, ◌^◌, ℕ, IsTrue};
+ghost use Rattle.std.specs.Prelude.{◌≡◌, ◌≢◌, ◌↔◌, ◌⊎◌, ◌<◌, ◌^◌, ℕ, IsTrue};
 ghost use Rattle.hz_grid.specs.declared.rows.TheConstants.{UNITS};
-ghost use Rattle.hz_grid.specs.Rows.{HasUnit, RowsMeet, IsWithin};
+ghost use Rattle.hz_grid.specs.Rows.{HasUnit, RowsMeet, IsWithin, DifferAt, HasAbove};
 
 use std::marker::Model;
 
@@ -63,6 +63,22 @@ impl Row {
         ensures { IsTrue result ↔ IsWithin self other }
     {
         self.units | other.units == other.units
+    }
+
+    /// The lowest unit that is in one of the rows alone.
+    pub(crate) fn first_difference(self, other: Row) -> u32
+        requires { self ≢ other }
+        ensures { DifferAt self other result }
+    {
+        (self.units ^ other.units).trailing_zeros()
+    }
+
+    /// Whether a unit above this one is in the row.
+    pub(crate) fn has_above(self, unit: u32) -> bool
+        requires { unit < UNITS }
+        ensures { IsTrue result ↔ HasAbove self unit }
+    {
+        self.units >> unit > 1
     }
 
     /// The units of both rows.

@@ -1,5 +1,6 @@
 use crate::{CYCLES, Grid, Row, UNITS};
 use std::alloc::Global;
+use std::hash::{DefaultHasher, Hash, Hasher};
 use std::process::Abort;
 use std::test::Fail;
 
@@ -145,4 +146,38 @@ fn rows_are_sets(rt: HostRuntime) {
     ] {
         assert!(rt; held.holds(unit) == holds);
     }
+}
+
+// What a hasher makes of a grid.
+fn hash_of(grid: &Grid) -> u64 {
+    let mut hasher = DefaultHasher::new();
+    grid.hash(&mut hasher);
+    hasher.finish()
+}
+
+// In ascending order: by the first pair that only one of two grids has, the earlier cycle first, then the lower unit.
+#[test]
+fn grids_are_ordered_as_lists_of_pairs(rt: HostRuntime) -> Result<(), Fail> {
+    let alloc = rt.alloc();
+    let mut grids = Vec::new(alloc);
+    grids.push(grid(&rt, alloc, &[])?)?;
+    grids.push(grid(&rt, alloc, &[(0, 0)])?)?;
+    grids.push(grid(&rt, alloc, &[(0, 0), (3, 0), (0, 255)])?)?;
+    grids.push(grid(&rt, alloc, &[(0, 0), (3, 0)])?)?;
+    grids.push(grid(&rt, alloc, &[(0, 0), (0, 1)])?)?;
+    grids.push(grid(&rt, alloc, &[(1, 0), (127, 0), (0, 1)])?)?;
+    grids.push(grid(&rt, alloc, &[(127, 0)])?)?;
+    grids.push(grid(&rt, alloc, &[(0, 1), (0, 2)])?)?;
+    grids.push(grid(&rt, alloc, &[(1, 1)])?)?;
+    let shown = [0, 1, 3, 2, 4, 5, 6, 7, 8];
+    for (i, place) in shown.iter().enumerate() {
+        for (j, other) in shown.iter().enumerate() {
+            let (one, two) = (&grids[*place], &grids[*other]);
+            assert!(rt; one.cmp(two) == i.cmp(&j));
+            assert!(rt; (one < two) == (i < j));
+            assert!(rt; (hash_of(one) == hash_of(two)) == (i == j));
+        }
+    }
+    grids[0].kept();
+    Ok(())
 }
