@@ -5,7 +5,7 @@ use Rattle.std.specs.List.{AllPairs}
 use Rattle.hz_base_model.specs.Limits.{automaton_limit, class_limit}
 use Rattle.hz_acceptance_model.specs.Events.{Event, issue, advance}
 use Rattle.hz_tables_model.specs.StateLimits.{cell_limit}
-use Rattle.hz_tables_model.specs.Tables.{Table, walk, IsTable}
+use Rattle.hz_tables_model.specs.Tables.{Table, entry, walk, IsTable}
 
 -- One automaton: its name, the column of each class, how many columns stand before the advance, and its table.
 pub record Part : Type 0 where
@@ -19,9 +19,22 @@ pub record Machine : Type 0 where
   pub classes : List (List ℕ)
   pub parts : List Part
 
+-- a part without classes, columns or states: what a machine has where it has no part
+abbrev pub no_part : Part
+no_part = record { name = []; map = []; columns = 0; rows = [] }
+
+-- the part of this number
+abbrev pub part_at : Machine → ℕ → Part
+part_at m part = slice_index_or m.parts part no_part
+
 -- the column of a class; a class that isn't there has a column that no row has
 abbrev pub column_of : Part → ℕ → ℕ
 column_of part class = slice_index_or part.map class (part.columns + 1)
+
+-- The next state: for a class by its column, and for none by the advance; none where the entry is.
+abbrev pub next_of : Part → ℕ → Option ℕ → Option ℕ
+next_of part state (Some class) = entry part.rows state (column_of part class)
+next_of part state None = entry part.rows state part.columns
 
 -- The columns that events take in a part: an issue takes that of its class, an advance of n cycles the advance n times.
 abbrev pub word_of : Part → List Event → List ℕ
