@@ -7,8 +7,8 @@ use Rattle.hz_sexp.specs.Shape.{tree, trees, node_step, form_step}
 use Rattle.hz_sexp_model.specs.Trees.{Tree, Trees, list, vector, atom, quoted, number, none, more}
 use Rattle.hz_rtl_model.specs.Blocks.{Value}
 use Rattle.hz_rtltext_model.specs.Operands.{Judged, bad_shape, unknown_code, and_then, or_fault, line_of, by_head}
-use Rattle.hz_rtltext_model.specs.Values.{value_code, value_with, value_of}
-use Rattle.hz_rtl.specs.Heads.{head_of}
+use Rattle.hz_rtltext_model.specs.Values.{ValueCode, value_code, value_with, value_of, values_of}
+use Rattle.hz_rtl.specs.Heads.{head_of, judged}
 
 line_of_step : (node : Node-F (ℕ → Tree) Tree) (line : ℕ) → line_of (node_step node line) ≡ line
 line_of_step (Node-F.List forms) line = refl
@@ -42,16 +42,35 @@ pub unheaded_says : {A : Type 0} (says : ℕ → List ℕ → Trees → Judged A
 unheaded_says says form h = no_head_says says (tree form) h ∙ ap (λ (line : ℕ). Err (bad_shape, line)) (line_is form)
 
 
-value_head : (t : Tree) → value_of t ≡ by_head (λ line word operands. and_then (or_fault unknown_code line (value_code word)) (λ code. value_with line code operands)) t
+value_head : (t : Tree) → value_of t ≡ by_head (λ line word operands. and_then (or_fault unknown_code line (value_code word)) (λ code. value_with line code operands (values_of operands))) t
+unfolding value_of
 value_head (list line (more (atom at w) os)) = refl
 value_head _ = refl
 
+-- what each operand is in the place of a value
+judged_is : (operands : List Form) → values_of (trees operands) ≡ judged operands
+unfolding value_of values_of
+judged_is [] = refl
+judged_is (a ∷ operands) = ap (λ vs. value_of (tree a) ∷ vs) (judged_is operands)
+
 -- the same for the value that a form is
-pub value_headed : (form : Form) (word : List ℕ) (operands : Trees) → Some (word, operands) ≡ head_of (tree form) → value_of (tree form) ≡ and_then (or_fault unknown_code (out-Form form).line (value_code word)) (λ code. value_with (out-Form form).line code operands)
-value_headed form word operands h = value_head (tree form) ∙ headed_says (λ line word operands. and_then (or_fault unknown_code line (value_code word)) (λ code. value_with line code operands)) form word operands h
+pub value_headed : (form : Form) (word : List ℕ) (operands : List Form) → Some (word, trees operands) ≡ head_of (tree form)
+    → value_of (tree form) ≡ and_then (or_fault unknown_code (out-Form form).line (value_code word)) (λ code. value_with (out-Form form).line code (trees operands) (judged operands))
+value_headed form word operands h =
+    value_head (tree form)
+    ∙ (headed_says (λ line word operands. and_then (or_fault unknown_code line (value_code word)) (λ code. value_with line code operands (values_of operands))) form word (trees operands) h
+    ∙ ap (λ (vs : List (Judged Value)). and_then (or_fault unknown_code (out-Form form).line (value_code word)) (λ code. value_with (out-Form form).line code (trees operands) vs)) (judged_is operands))
+
+pub value_is : (form : Form) (word : List ℕ) (operands : List Form) (code : ValueCode) → Some (word, trees operands) ≡ head_of (tree form) → Some code ≡ value_code word
+    → value_of (tree form) ≡ value_with (out-Form form).line code (trees operands) (judged operands)
+value_is form word operands code h e = value_headed form word operands h ∙ ap (λ (found : Option ValueCode). and_then (or_fault unknown_code (out-Form form).line found) (λ code. value_with (out-Form form).line code (trees operands) (judged operands))) (sym e)
+
+pub value_unknown : (form : Form) (word : List ℕ) (operands : List Form) → Some (word, trees operands) ≡ head_of (tree form) → None ≡ value_code word
+    → value_of (tree form) ≡ Err (unknown_code, (out-Form form).line)
+value_unknown form word operands h e = value_headed form word operands h ∙ ap (λ (found : Option ValueCode). and_then (or_fault unknown_code (out-Form form).line found) (λ code. value_with (out-Form form).line code (trees operands) (judged operands))) (sym e)
 
 pub value_unheaded : (form : Form) → None ≡ head_of (tree form) → value_of (tree form) ≡ Err (bad_shape, (out-Form form).line)
-value_unheaded form h = value_head (tree form) ∙ unheaded_says (λ line word operands. and_then (or_fault unknown_code line (value_code word)) (λ code. value_with line code operands)) form h
+value_unheaded form h = value_head (tree form) ∙ unheaded_says (λ line word operands. and_then (or_fault unknown_code line (value_code word)) (λ code. value_with line code operands (values_of operands))) form h
 
 -- how much stands in a form
 abbrev mutual

@@ -1,2 +1,6 @@
 pub mod HeadLemmas
 pub mod ValueLemmas
+pub mod EffectLemmas
+pub mod ReaderLemmas
+pub mod StateLemmas
+pub mod NameLemmas

@@ -4,7 +4,7 @@ ghost use Rattle.std.specs.Prelude.{◌≡◌, IfOk, IfErr, Ok, Err};
 ghost use Rattle.std.specs.Option.{option_map};
 ghost use Rattle.hz_rtltext_model.specs.Operands as model;
 ghost use Rattle.hz_rtl.specs.Faults.{Tells};
-ghost use Rattle.hz_rtl.specs.Heads.{head_of};
+ghost use Rattle.hz_rtl.specs.Heads.{head_of, vector_in};
 ghost use Rattle.hz_sexp.specs.Shape.{tree, trees};
 
 use crate::fault::RtlFault;
@@ -22,6 +22,16 @@ pub fn headed(form: &Form) -> Option<(&[u8], &[Form])>
     let (head, operands) = parts.as_slice().split_first()?;
     match &head.node {
         Node::Atom(word) => Some((word.bytes(), operands)),
+        _ => None,
+    }
+}
+
+/// The forms of a vector.
+pub fn vector_in(form: &Form) -> Option<&[Form]>
+    ensures { option_map (λ forms. trees forms.now) result ≡ vector_in (tree form.now) }
+{
+    match &form.node {
+        Node::Vector(forms) => Some(forms.as_slice()),
         _ => None,
     }
 }

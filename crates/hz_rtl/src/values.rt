@@ -4,6 +4,7 @@ ghost use Rattle.std.specs.Prelude.{◌≡◌, IfOk, IfErr, Ok, Err};
 ghost use Rattle.hz_rtltext_model.specs.Values as model;
 ghost use Rattle.hz_rtl.specs.Codes.{value_code};
 ghost use Rattle.hz_rtl.specs.Faults.{Tells};
+ghost use Rattle.hz_rtl.specs.Heads.{judged};
 ghost use Rattle.hz_rtl.specs.Shape.{value, unary_operator, binary_operator};
 ghost use Rattle.hz_sexp.specs.Shape.{tree, trees};
 
@@ -17,8 +18,8 @@ use std::alloc::Global;
 /// `(reg N)`
 #[tactic(auto, using(crate::proofs::ValueLemmas::no_register))]
 fn register_value(line: u32, operands: &[Form]) -> Result<Value, RtlFault>
-    ensures ok { IfOk result (λ v. model.value_with line model.register_code (trees operands.now) ≡ Ok (value v)) }
-    ensures err { IfErr result (Tells (λ fault at. model.value_with line model.register_code (trees operands.now) ≡ Err (fault, at))) }
+    ensures ok { IfOk result (λ v. model.value_with line model.register_code (trees operands.now) (judged operands.now) ≡ Ok (value v)) }
+    ensures err { IfErr result (Tells (λ fault at. model.value_with line model.register_code (trees operands.now) (judged operands.now) ≡ Err (fault, at))) }
 {
     if operands.len() != 1 {
         return Err(RtlFault::BadShape { line });
@@ -30,8 +31,8 @@ fn register_value(line: u32, operands: &[Form]) -> Result<Value, RtlFault>
 /// `(const_int I)`
 #[tactic(auto, using(crate::proofs::ValueLemmas::no_constant))]
 fn constant_value(line: u32, operands: &[Form]) -> Result<Value, RtlFault>
-    ensures ok { IfOk result (λ v. model.value_with line model.constant_code (trees operands.now) ≡ Ok (value v)) }
-    ensures err { IfErr result (Tells (λ fault at. model.value_with line model.constant_code (trees operands.now) ≡ Err (fault, at))) }
+    ensures ok { IfOk result (λ v. model.value_with line model.constant_code (trees operands.now) (judged operands.now) ≡ Ok (value v)) }
+    ensures err { IfErr result (Tells (λ fault at. model.value_with line model.constant_code (trees operands.now) (judged operands.now) ≡ Err (fault, at))) }
 {
     if operands.len() != 1 {
         return Err(RtlFault::BadShape { line });
@@ -44,8 +45,8 @@ fn constant_value(line: u32, operands: &[Form]) -> Result<Value, RtlFault>
 #[tactic(auto, using(crate::proofs::ValueLemmas::no_memory))]
 #[cycle(value_of)]
 fn memory_value(alloc: Global, line: u32, operands: &[Form]) -> Result<Value, RtlFault>
-    ensures ok { IfOk result (λ v. model.value_with line model.memory_code (trees operands.now) ≡ Ok (value v)) }
-    ensures err { IfErr result (Tells (λ fault at. model.value_with line model.memory_code (trees operands.now) ≡ Err (fault, at))) }
+    ensures ok { IfOk result (λ v. model.value_with line model.memory_code (trees operands.now) (judged operands.now) ≡ Ok (value v)) }
+    ensures err { IfErr result (Tells (λ fault at. model.value_with line model.memory_code (trees operands.now) (judged operands.now) ≡ Err (fault, at))) }
 {
     if operands.len() != 1 {
         return Err(RtlFault::BadShape { line });
@@ -64,8 +65,8 @@ fn unary_value(
     operator: Op1,
     operands: &[Form],
 ) -> Result<Value, RtlFault>
-    ensures ok { IfOk result (λ v. model.value_with line (model.unary_code (unary_operator operator)) (trees operands.now) ≡ Ok (value v)) }
-    ensures err { IfErr result (Tells (λ fault at. model.value_with line (model.unary_code (unary_operator operator)) (trees operands.now) ≡ Err (fault, at))) }
+    ensures ok { IfOk result (λ v. model.value_with line (model.unary_code (unary_operator operator)) (trees operands.now) (judged operands.now) ≡ Ok (value v)) }
+    ensures err { IfErr result (Tells (λ fault at. model.value_with line (model.unary_code (unary_operator operator)) (trees operands.now) (judged operands.now) ≡ Err (fault, at))) }
 {
     if operands.len() != 1 {
         return Err(RtlFault::BadShape { line });
@@ -84,8 +85,8 @@ fn binary_value(
     operator: Op2,
     operands: &[Form],
 ) -> Result<Value, RtlFault>
-    ensures ok { IfOk result (λ v. model.value_with line (model.binary_code (binary_operator operator)) (trees operands.now) ≡ Ok (value v)) }
-    ensures err { IfErr result (Tells (λ fault at. model.value_with line (model.binary_code (binary_operator operator)) (trees operands.now) ≡ Err (fault, at))) }
+    ensures ok { IfOk result (λ v. model.value_with line (model.binary_code (binary_operator operator)) (trees operands.now) (judged operands.now) ≡ Ok (value v)) }
+    ensures err { IfErr result (Tells (λ fault at. model.value_with line (model.binary_code (binary_operator operator)) (trees operands.now) (judged operands.now) ≡ Err (fault, at))) }
 {
     if operands.len() != 2 {
         return Err(RtlFault::BadShape { line });
@@ -103,8 +104,8 @@ fn binary_value(
 #[tactic(auto, using(crate::proofs::ValueLemmas::no_choice))]
 #[cycle(value_of)]
 fn choice_value(alloc: Global, line: u32, operands: &[Form]) -> Result<Value, RtlFault>
-    ensures ok { IfOk result (λ v. model.value_with line model.choice_code (trees operands.now) ≡ Ok (value v)) }
-    ensures err { IfErr result (Tells (λ fault at. model.value_with line model.choice_code (trees operands.now) ≡ Err (fault, at))) }
+    ensures ok { IfOk result (λ v. model.value_with line model.choice_code (trees operands.now) (judged operands.now) ≡ Ok (value v)) }
+    ensures err { IfErr result (Tells (λ fault at. model.value_with line model.choice_code (trees operands.now) (judged operands.now) ≡ Err (fault, at))) }
 {
     if operands.len() != 3 {
         return Err(RtlFault::BadShape { line });
@@ -128,8 +129,8 @@ fn value_with(
     code: ValueCode,
     operands: &[Form],
 ) -> Result<Value, RtlFault>
-    ensures ok { IfOk result (λ v. model.value_with line (value_code code) (trees operands.now) ≡ Ok (value v)) }
-    ensures err { IfErr result (Tells (λ fault at. model.value_with line (value_code code) (trees operands.now) ≡ Err (fault, at))) }
+    ensures ok { IfOk result (λ v. model.value_with line (value_code code) (trees operands.now) (judged operands.now) ≡ Ok (value v)) }
+    ensures err { IfErr result (Tells (λ fault at. model.value_with line (value_code code) (trees operands.now) (judged operands.now) ≡ Err (fault, at))) }
 {
     match code {
         ValueCode::Reg => register_value(line, operands),

@@ -1,6 +1,6 @@
 -- Values, places and effects: in each list the word that it begins with decides first, then the number of operands, then the
 -- operands from left to right. docs/FORMATS.md, 'Blocks and states'.
-use Rattle.std.specs.Prelude.{ℕ, if◌then◌else◌, List, codes, Option, Some, None, Ok, Err}
+use Rattle.std.specs.Prelude.{ℕ, [], ◌∷◌, if◌then◌else◌, List, codes, Option, Some, None, Ok, Err}
 use Rattle.std.specs.Option.{option_map, option_or}
 use Rattle.std.specs.Str.{bytes_eq}
 use Rattle.hz_sexp_model.specs.Trees.{Tree, Trees, list, atom, none, more}
@@ -64,23 +64,27 @@ value_code word =
     else if bytes_eq word (codes "if_then_else") then Some choice_code
     else operator_code word
 
+-- the value of a list at a line, by what it begins with, its operands, and what each of them is in the place of a value
+abbrev pub value_with : ℕ → ValueCode → Trees → List (Judged Value) → Judged Value
+value_with line register_code (more operand none) values = and_then (register_in operand) (λ n. Ok (register n))
+value_with line constant_code (more operand none) values = and_then (word_in operand) (λ w. Ok (constant w))
+value_with line memory_code operands (address ∷ []) = and_then address (λ a. Ok (memory a))
+value_with line (unary_code operator) operands (operand ∷ []) = and_then operand (λ a. Ok (unary operator a))
+value_with line (binary_code operator) operands (left ∷ right ∷ []) = and_then left (λ a. and_then right (λ b. Ok (binary operator a b)))
+value_with line choice_code operands (test ∷ first ∷ second ∷ []) = and_then test (λ a. and_then first (λ b. and_then second (λ c. Ok (choice a b c))))
+value_with line code operands values = Err (bad_shape, line)
+
 -- the value that a form is
-abbrev mutual
+unfoldable mutual
   pub value_of : Tree → Judged Value
-  value_of (list line (more (atom at word) operands)) = and_then (or_fault unknown_code line (value_code word)) (λ code. value_with line code operands)
+  value_of (list line (more (atom at word) operands)) =
+      and_then (or_fault unknown_code line (value_code word)) (λ code. value_with line code operands (values_of operands))
   value_of form = Err (bad_shape, line_of form)
 
-  -- the same of a list at a line, by what it begins with and its operands
-  pub value_with : ℕ → ValueCode → Trees → Judged Value
-  value_with line register_code (more operand none) = and_then (register_in operand) (λ n. Ok (register n))
-  value_with line constant_code (more operand none) = and_then (word_in operand) (λ w. Ok (constant w))
-  value_with line memory_code (more address none) = and_then (value_of address) (λ a. Ok (memory a))
-  value_with line (unary_code operator) (more operand none) = and_then (value_of operand) (λ a. Ok (unary operator a))
-  value_with line (binary_code operator) (more left (more right none)) =
-      and_then (value_of left) (λ a. and_then (value_of right) (λ b. Ok (binary operator a b)))
-  value_with line choice_code (more test (more first (more second none))) =
-      and_then (value_of test) (λ a. and_then (value_of first) (λ b. and_then (value_of second) (λ c. Ok (choice a b c))))
-  value_with line code operands = Err (bad_shape, line)
+  -- what each form is in the place of a value
+  pub values_of : Trees → List (Judged Value)
+  values_of none = []
+  values_of (more first others) = value_of first ∷ values_of others
 
 -- What a list is in the place of a place.
 pub data TargetCode : Type 0 where
