@@ -1,0 +1,8 @@
+pub mod LeavingLaws
+pub mod StepLaws
+pub mod PathLaws
+pub mod WordLaws
+pub mod CountLaws
+pub mod SubsetLaws
+pub mod AutomatonLaws
+pub mod LimitLaws

@@ -1,0 +1,4 @@
+//! Reached grids, states and their counts, and what an automaton of a pipeline is.
+#![tactic(auto)]
+
+pub mod leaving;
