@@ -7,8 +7,7 @@ ghost use Rattle.std.specs.Prelude.{◌<◌};
 use hz_grid::{Grid, NoMemory};
 use hz_states::Interner;
 use std::alloc::Global;
-use std::env;
-use std::io;
+use std::{env, io};
 
 /// How many grids are added.
 const GRIDS: u32 = 65536;
