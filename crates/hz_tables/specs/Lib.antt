@@ -2,3 +2,4 @@ pub mod Rows
 pub mod Stored
 pub mod Parts
 pub mod Machines
+pub mod Examples

@@ -12,3 +12,6 @@ pub use part::Part;
 pub use plain::{NoMemory, Plain};
 pub use steps::Steps;
 pub use table::Table;
+
+#[cfg(test)]
+mod tests;

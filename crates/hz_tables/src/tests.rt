@@ -1,0 +1,97 @@
+ghost use Rattle.std.specs.Prelude.{◌≡◌, ◌<◌, IfOk};
+ghost use Rattle.hz_tables_model.specs.Machines.{IsPart};
+ghost use Rattle.hz_tables.specs.Parts.{part_of};
+ghost use Rattle.hz_tables.specs.Examples.{shared};
+
+use crate::{Machine, NoMemory, Part, Plain, Steps, Table};
+use hz_regexp::Name;
+use std::alloc::Global;
+use std::marker::Brand;
+use std::process::Abort;
+use std::sync::ledger::{Blank, Ledger};
+use std::test::Fail;
+
+// A unit that one class takes for a cycle: it is free in state 0, and taken in state 1.
+fn shared(alloc: Global) -> Result<Plain, NoMemory>
+    ensures { IfOk result (λ plain. plain ≡ shared) }
+{
+    let mut plain = Plain::new(alloc, 1);
+    plain.push_row(&[Some(1), Some(0)])?;
+    plain.push_row(&[None, Some(0)])?;
+    Ok(plain)
+}
+
+#[test]
+fn tables_step_by_rows(rt: HostRuntime) -> Result<(), Fail> {
+    let plain = shared(rt.alloc())?;
+    assert!(rt; plain.states() == 2 && plain.columns() == 1);
+    for (state, column, next) in [
+        (0, 0, Some(1)),
+        (0, 1, Some(0)),
+        (1, 0, None),
+        (1, 1, Some(0)),
+    ] {
+        assert!(rt; state < plain.states() && column <= plain.columns());
+        assert!(rt; plain.step(state, column) == next);
+    }
+    Ok(())
+}
+
+// The machine of that unit alone.
+fn machine(alloc: Global, class: Name, name: Name) -> Result<Machine, NoMemory> {
+    let mut map = Vec::with_capacity(alloc, 1)?;
+    map.push(0)?;
+    let part = Part {
+        name,
+        map,
+        table: Table::Rows(shared(alloc)?),
+    };
+    one_part(alloc, class, part)
+}
+
+// A machine of one class and one part.
+fn one_part(alloc: Global, class: Name, part: Part) -> Result<Machine, NoMemory>
+    requires { IsPart 1 (part_of part) }
+{
+    let mut classes = Vec::with_capacity(alloc, 1)?;
+    classes.push(class)?;
+    let mut parts = Vec::with_capacity(alloc, 1)?;
+    parts.push(part)?;
+    Ok(Machine { classes, parts })
+}
+
+// Steps of the first part of a machine, each by the class 0 or by an advance.
+fn steps_of<L: Ledger>(rt: &impl Abort, machine: &Machine, blank: Blank)
+    requires name { blank.name ≡ L.name }
+    requires parts { blank.parts ≡ L.parts }
+    requires some { 0 < blank.parts }
+{
+    let mut steps = Steps::<L>::new(blank);
+    for (state, class, next) in [
+        (0, Some(0), Some(1)),
+        (0, None, Some(0)),
+        (1, Some(0), None),
+        (1, None, Some(0)),
+    ] {
+        assert!(rt; machine.classes.len() == 1 && machine.parts.len() == 1);
+        assert!(rt; state < machine.parts[0].table.states());
+        assert!(rt; machine.step(0, state, class, &mut steps) == next);
+        let column = class.unwrap_or(1);
+        assert!(rt; column <= machine.parts[0].table.columns());
+        assert!(rt; machine.parts[0].table.step(state, column, &mut steps) == next);
+    }
+}
+
+#[test]
+fn machines_step_by_their_parts(rt: HostRuntime) -> Result<(), Fail> {
+    let alloc = rt.alloc();
+    let class = Name::of(alloc, b"issue")?;
+    let name = Name::of(alloc, b"-")?;
+    match (class, name) {
+        (Some(class), Some(name)) => {
+            steps_of::<Brand>(&rt, &machine(alloc, class, name)?, Blank::new(1))
+        }
+        _ => assert!(rt; false),
+    }
+    Ok(())
+}
