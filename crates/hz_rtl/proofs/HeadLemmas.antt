@@ -41,7 +41,6 @@ headed_says says form word operands h = head_says says (tree form) word operands
 pub unheaded_says : {A : Type 0} (says : ℕ → List ℕ → Trees → Judged A) (form : Form) → None ≡ head_of (tree form) → by_head says (tree form) ≡ Err (bad_shape, (out-Form form).line)
 unheaded_says says form h = no_head_says says (tree form) h ∙ ap (λ (line : ℕ). Err (bad_shape, line)) (line_is form)
 
-
 value_head : (t : Tree) → value_of t ≡ by_head (λ line word operands. and_then (or_fault unknown_code line (value_code word)) (λ code. value_with line code operands (values_of operands))) t
 unfolding value_of
 value_head (list line (more (atom at w) os)) = refl

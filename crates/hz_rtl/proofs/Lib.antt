@@ -4,3 +4,4 @@ pub mod EffectLemmas
 pub mod ReaderLemmas
 pub mod StateLemmas
 pub mod NameLemmas
+pub mod ListingLemmas

@@ -1,13 +1,14 @@
 -- Attributes and instructions one after another.
-use Rattle.std.proofs.Common.{◌≡◌, ℕ, ◌+◌, ◌<◌, ◌≤◌, ◌==◌, ◌||◌, List, [], ◌∷◌, ◌++◌, length, get_or, drop, map, Ok, Err, refl, sym, ap, ◌∙◌}
+use Rattle.std.proofs.Common.{◌≡◌, ℕ, ◌+◌, ◌<◌, ◌≤◌, ◌==◌, ◌||◌, List, [], ◌∷◌, ◌++◌, length, get_or, drop, map, Ok, Err, refl, sym, ap, ◌∙◌, arith}
 use Rattle.std.specs.List.{list_any}
-use Rattle.std.proofs.lemmas.List.{drop_all}
+use Rattle.std.proofs.lemmas.List.{drop_all, length-map}
 use Rattle.hz_sexp.specs.declared.form.Form.{Form}
 use Rattle.hz_sexp.specs.Shape.{tree, trees}
 use Rattle.hz_sexp_model.specs.Trees.{Trees}
 use Rattle.hz_rtl_model.specs.Blocks.{Instruction}
 use Rattle.hz_rtltext_model.specs.Operands.{Judged, RtlFault, and_then}
 use Rattle.hz_rtltext_model.specs.BlockForms as model
+use Rattle.hz_rtltext_model.proofs.Numbers.{all_few}
 use Rattle.hz_rtl.specs.declared.block.Insn.{Insn}
 use Rattle.hz_rtl.specs.Shape.{instruction}
 use Rattle.hz_rtl.proofs.EffectLemmas.{forms_from}
@@ -44,3 +45,9 @@ attributes_end forms i given past so = sym so ∙ ap (λ (fs : List Form). model
 
 pub instructions_end : (forms : List Form) (i : ℕ) (before : List Instruction) → length forms ≤ i → model.instructions_after before (trees (drop i forms)) ≡ model.instructions_after [] (trees forms) → model.instructions_after [] (trees forms) ≡ Ok before
 instructions_end forms i before past so = sym so ∙ ap (λ (fs : List Form). model.instructions_after before (trees fs)) (drop_all i forms past)
+
+pub few_read : (forms : Trees) (insns : List Insn) → model.Reads forms (map instruction insns) → length insns ≤ model.instruction_limit
+few_read forms insns is =
+    let few = all_few [] forms (map instruction insns) (omega arith) is in
+    let long = length-map insns instruction in
+    omega arith

@@ -5,3 +5,4 @@ pub mod Faults
 pub mod NameSets
 pub mod Stores
 pub mod States
+pub mod Listings

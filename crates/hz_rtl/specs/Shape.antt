@@ -1,5 +1,5 @@
 -- What the code holds, as what the definitions speak of.
-use Rattle.std.specs.Prelude.{ℕ, List, map}
+use Rattle.std.specs.Prelude.{List, map}
 use Rattle.hz_rtl.specs.declared.block.Op1.{Op1}
 use Rattle.hz_rtl.specs.declared.block.Op1.TheVariants as one
 use Rattle.hz_rtl.specs.declared.block.Op2.{Op2}

@@ -1,6 +1,10 @@
 //! Blocks. GCC Internals, 'Side Effect Expressions', 'Arithmetic' and 'Comparison Operations'; this profile, docs/RULES.md.
 
-use hz_regexp::Name;
+ghost use Rattle.std.specs.Prelude.{◌≡◌, ◌<◌, ◌^◌, length, All, IfOk};
+ghost use Rattle.std.specs.List.{range_with_len};
+
+use hz_regexp::{Name, NoMemory};
+use std::alloc::Global;
 
 /// The operators with one operand.
 #[derive(Clone, Copy, Debug, PartialEq, Eq)]
@@ -79,4 +83,15 @@ pub struct Insn {
 #[derive(Debug, Drop)]
 pub struct Block {
     pub insns: Vec<Insn>,
+}
+
+impl Block {
+    /// The places of all instructions, in the order of the source. There are fewer than 2^32.
+    pub fn source_order(&self, alloc: Global) -> Result<Vec<u32>, NoMemory>
+        requires { length self.now.insns.items < 2 ^ 32 }
+        ensures order { IfOk result (λ order. order.items ≡ range_with_len 0 (length self.now.insns.items)) }
+        ensures within { IfOk result (λ order. All (λ number. number < length self.now.insns.items) order.items) }
+    {
+        (0..self.insns.len() as u32).collect(alloc)
+    }
 }

@@ -90,12 +90,7 @@ pub fn all_stored(state: State, stores: &[Store]) -> Result<State, NoMemory>
 /// The state that the instructions at the places of an order leave, one after the other: in one instruction all values and
 /// addresses are computed in the old state, then the effects are made from left to right. GCC Internals, 'Side Effect
 /// Expressions'; this profile, docs/RULES.md, 'Blocks'.
-pub fn eval(
-    alloc: Global,
-    block: &Block,
-    order: &[u32],
-    state: &State,
-) -> Result<State, NoMemory>
+pub fn eval(alloc: Global, block: &Block, order: &[u32], state: &State) -> Result<State, NoMemory>
     requires { All (λ number. number < length block.now.insns.items) order.now }
     ensures { IfOk result (λ after. words after ≡ model.run (instructions block.now) order.now (words state.now)) }
 {

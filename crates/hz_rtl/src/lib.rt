@@ -9,6 +9,7 @@ mod effects;
 mod evaluation;
 mod fault;
 mod given;
+pub mod laws;
 mod operands;
 mod reader;
 mod state;
@@ -22,3 +23,6 @@ pub use fault::RtlFault;
 pub use reader::read_block;
 pub use state::State;
 pub use state_reader::read_state;
+
+#[cfg(test)]
+mod tests;

@@ -1,6 +1,6 @@
 //! The reader of blocks.
 
-ghost use Rattle.std.specs.Prelude.{◌≡◌, ◌==◌, [], map, IfOk, IfErr, Ok, Err};
+ghost use Rattle.std.specs.Prelude.{◌≡◌, ◌≤◌, ◌==◌, [], length, map, IfOk, IfErr, Ok, Err};
 ghost use Rattle.std.specs.List.{list_any};
 ghost use Rattle.hz_rtltext_model.specs.BlockForms as model;
 ghost use Rattle.hz_rtl.specs.Faults.{Tells};
@@ -87,12 +87,7 @@ fn has_number(insns: &[Insn], number: u32) -> bool
 
 /// `(insn NUMBER pattern attr ..)`, behind these instructions
 #[tactic(auto, using(crate::proofs::ReaderLemmas::has_number_is))]
-fn insn_with(
-    alloc: Global,
-    before: &[Insn],
-    line: u32,
-    operands: &[Form],
-) -> Result<Insn, RtlFault>
+fn insn_with(alloc: Global, before: &[Insn], line: u32, operands: &[Form]) -> Result<Insn, RtlFault>
     ensures ok { IfOk result (λ insn. model.instruction_with (map instruction before.now) line (trees operands.now) ≡ Ok (instruction insn)) }
     ensures err { IfErr result (Tells (λ fault at. model.instruction_with (map instruction before.now) line (trees operands.now) ≡ Err (fault, at))) }
 {
@@ -152,6 +147,7 @@ fn next_insn(alloc: Global, before: &[Insn], form: &Form) -> Result<Insn, RtlFau
 /// This profile, docs/RULES.md, 'Blocks'.
 pub fn read_block(alloc: Global, forms: &[Form]) -> Result<Block, RtlFault>
     ensures reads { IfOk result (λ block. model.Reads (trees forms.now) (instructions block)) }
+    ensures few { IfOk result (λ block. length block.insns.items ≤ model.instruction_limit) }
     ensures faults { IfErr result (Tells (model.FaultAt (trees forms.now))) }
 {
     let mut insns = Vec::new(alloc);

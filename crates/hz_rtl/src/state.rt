@@ -2,7 +2,8 @@
 
 ghost use Rattle.std.specs.Prelude.{ℕ, ◌≡◌, ◌≢◌, Some, length};
 ghost use Rattle.std.specs.Ordering.{nat_cmp};
-ghost use Rattle.std.specs.BTreeMap.{get};
+ghost use Rattle.std.specs.BTreeMap.{get, IsOrdered};
+ghost use Rattle.std.proofs.Props.{props};
 
 use crate::store::{Spot, Store};
 use hz_regexp::NoMemory;
@@ -21,6 +22,7 @@ pub struct State {
     pub cells: BTreeMap<u64, u64>,
     pub ghost count: { length registers.items ≡ 256 },
     pub ghost nonzero: { (address : ℕ) → get nat_cmp cells address ≢ Some 0 },
+    pub ghost ordered: { IsOrdered nat_cmp cells } by { Prim.hlevel props },
 }
 
 impl State {

@@ -1,6 +1,6 @@
 -- What instructions do. GCC Internals, 'Side Effect Expressions': in a `parallel` all values and addresses are computed in the
 -- old state, then the effects are made from left to right. That `clobber` stores the instruction's number is this profile's.
-use Rattle.std.specs.Prelude.{ℕ, Bool, true, false, ◌==◌, if◌then◌else◌, List, [], ◌∷◌, Option, Some, None, slice_get}
+use Rattle.std.specs.Prelude.{ℕ, Bool, false, ◌==◌, if◌then◌else◌, List, [], ◌∷◌, Option, Some, None, slice_get}
 use Rattle.std.specs.List.{flat_map}
 use Rattle.hz_rtl_model.specs.Operators.{unary_word, binary_word}
 use Rattle.hz_rtl_model.specs.Blocks.{Value, register, constant, memory, unary, binary, choice, Target, into, cell_at, Effect, assign, clobber, mention, Instruction}

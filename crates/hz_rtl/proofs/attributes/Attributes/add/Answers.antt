@@ -1,6 +1,3 @@
-use Rattle.std.proofs.Common.{◌≡◌, ℕ, List, ap, ◌∙◌, subst}
-use Rattle.std.specs.Ordering.{nat_cmp}
-use Rattle.std.specs.Cmp.Lexicographic.{slice_cmp}
 use Rattle.hz_rtl.proofs.NameLemmas.{name_more}
 use Rattle.hz_rtl.proofs.attributes.Attributes.add.Goals as goal
 
