@@ -1,6 +1,6 @@
 -- Which instructions of a block depend on which, and how many cycles lie between them. This profile, docs/RULES.md,
 -- 'Dependences'.
-use Rattle.std.specs.Prelude.{ℕ, ◌+◌, ◌-◌, ◌%◌, ◌==◌, Bool, false, ◌&&◌, ◌||◌, not, nat_lt, if◌then◌else◌, List, take, drop, max, Option, Some, None, slice_get}
+use Rattle.std.specs.Prelude.{ℕ, ◌+◌, ◌-◌, ◌%◌, ◌==◌, Bool, false, ◌&&◌, ◌||◌, not, nat_lt, if◌then◌else◌, List, take, drop, max, Option, Some, slice_get}
 use Rattle.std.specs.List.{list_any}
 use Rattle.hz_rtl_model.specs.Operators.{word_count}
 use Rattle.hz_rtl_model.specs.Blocks.{Value, Instruction}

@@ -1,5 +1,5 @@
 -- The graph of a block's dependences, heights, and orders that keep it. This profile, docs/RULES.md, 'Dependences'.
-use Rattle.std.specs.Prelude.{◌≡◌, ℕ, ◌+◌, ◌<◌, ◌≤◌, true, List, length, slice_index, Option}
+use Rattle.std.specs.Prelude.{◌≡◌, ℕ, ◌+◌, ◌<◌, ◌≤◌, true, List, length, slice_index}
 use Rattle.std.specs.List.{Contains, AllPairs}
 use Rattle.hz_rtl_model.specs.Blocks.{Instruction}
 use Rattle.hz_depend_model.specs.Dependences.{depends, Timing, cost}

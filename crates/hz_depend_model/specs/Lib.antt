@@ -1,3 +1,4 @@
 pub mod Accesses
 pub mod Dependences
 pub mod Graphs
+pub mod Orders

@@ -1,4 +1,4 @@
 //! Which instructions of a block depend on which, what that costs, and heights.
 #![tactic(auto)]
 
-
+pub mod laws;

@@ -1,0 +1,31 @@
+-- Dependences lead upwards, inside the block.
+use Rattle.std.proofs.Common.{◌≡◌, ℕ, zero, suc, ◌<◌, Bool, true, false, ◌&&◌, ◌||◌, List, [], ◌∷◌, length, Option, Some, None, refl, arith, rules}
+use Rattle.std.specs.Prelude.{slice_get, nat_lt, IsTrue}
+use Rattle.std.proofs.lemmas.Bool.{ltb-true}
+use Rattle.hz_rtl_model.specs.Blocks.{Instruction}
+use Rattle.hz_depend_model.specs.Accesses.{Access}
+use Rattle.hz_depend_model.specs.Dependences.{is_true, is_anti, is_output, at_places, depends}
+
+inside : (block : List Instruction) (j : ℕ) (y : Instruction) → slice_get block j ≡ Some y → j < length block
+inside [] j y e = absurd (cc)
+inside (x ∷ block) zero y e = omega arith
+inside (x ∷ block) (suc j) y e = let h = inside block j y e in omega arith
+
+true_test : (b : Bool) → IsTrue b → b ≡ true
+true_test true h = refl
+true_test false h = absurd (search rules)
+
+second_there : (test : (between since : ℕ → Bool) (f g : Access) → Bool) (block : List Instruction) (i j : ℕ) (o p : Option Instruction) → at_places test block i j o p ≡ true → (y : Instruction) × (p ≡ Some y)
+second_there test block i j (Some x) (Some y) e = (y, refl)
+second_there test block i j (Some x) None e = absurd (cc)
+second_there test block i j None p e = absurd (cc)
+
+both : (a b : Bool) → (a && b) ≡ true → (a ≡ true) × (b ≡ true)
+both true b e = (refl, e)
+both false b e = absurd (cc)
+
+pub upwards : (block : List Instruction) (i j : ℕ) → IsTrue (depends block i j) → (i < j) × (j < length block)
+upwards block i j h =
+    let (lt, there) = both (nat_lt i j) _ (true_test (depends block i j) h) in
+    let (y, is) = second_there (λ b s f g. is_true b s f g || is_anti b s f g || is_output b s f g) block i j (slice_get block i) (slice_get block j) there in
+    (ltb-true i j lt, inside block j y is)
