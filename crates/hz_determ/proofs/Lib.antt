@@ -1,0 +1,4 @@
+pub mod UnionLemmas
+pub mod ReadLemmas
+pub mod SetLemmas
+pub mod BuildLemmas
