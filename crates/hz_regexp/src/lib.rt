@@ -12,7 +12,7 @@ mod tokens;
 pub use expr::Expr;
 pub use fault::ExprFault;
 pub use lists::{NamesFault, parse_names};
-pub use names::{Name, NoMemory};
+pub use names::{Name, NoMemory, is_name};
 pub use reader::parse_expr;
 
 #[cfg(test)]

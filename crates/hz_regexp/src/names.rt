@@ -66,8 +66,8 @@ impl Name {
     }
 }
 
-/// Whether the bytes are a name.
-fn is_name(bytes: &[u8]) -> bool
+/// Whether the bytes are a name: one or more printable ASCII bytes, none of them a blank or a separator. It takes no memory.
+pub fn is_name(bytes: &[u8]) -> bool
     ensures { result ≡ is_name bytes.now }
 {
     !bytes.is_empty() && bytes.iter().all(|byte| is_name_byte(*byte))

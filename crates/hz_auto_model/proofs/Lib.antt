@@ -1,0 +1,7 @@
+pub mod MovedLaws
+pub mod ColumnLaws
+pub mod PartLaws
+pub mod PipelineLaws
+pub mod CompiledLaws
+pub mod LimitLaws
+pub mod ReportLaws

@@ -1,0 +1,5 @@
+pub mod ClassColumns
+pub mod Moved
+pub mod Counted
+pub mod CompiledParts
+pub mod AutomatonPipelines

@@ -1,0 +1,4 @@
+mod NameLemmas
+mod TraceLemmas
+mod ReplayerLemmas
+mod EventLemmas

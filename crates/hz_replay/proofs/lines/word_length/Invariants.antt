@@ -1,0 +1,6 @@
+use Rattle.std.proofs.Common.{◌≡◌, ℕ, ◌<◌, false, get_or}
+use Rattle.hz_trace_model.specs.Traces.{is_gap}
+use Rattle.hz_replay.proofs.lines.word_length.Given as goal
+
+abbrev pub invariant-loop-count : goal.invariant-loop-count
+invariant-loop-count l = (k : ℕ) → k < l.count → is_gap (get_or l.line k 0) ≡ false

@@ -1,0 +1,12 @@
+use Rattle.std.proofs.Common.{◌≡◌, true, take}
+use Rattle.std.specs.Char.{is_ascii_digit}
+use Rattle.std.specs.List.{list_all}
+use Rattle.hz_base_model.specs.Lines.{number_from}
+use Rattle.hz_replay.specs.Lines.{capped}
+use Rattle.hz_replay.proofs.words.number.Given as goal
+
+abbrev pub invariant-loop-digit : goal.invariant-loop-digit
+invariant-loop-digit l = record {
+  digits : list_all is_ascii_digit (take l.digit-index l.digits) ≡ true;
+  value : l.value ≡ capped (number_from 0 (take l.digit-index l.digits));
+}

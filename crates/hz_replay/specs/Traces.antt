@@ -1,0 +1,64 @@
+-- A trace as the reader makes it, line after line.
+use Rattle.std.specs.Prelude.{◌≡◌, ℕ, ◌+◌, List, [], ◌∷◌, ◌++◌, map, Option, Some, None, Result, Ok, Err}
+use Rattle.hz_acceptance_model.specs.Events as events
+use Rattle.hz_trace_model.specs.Traces.{TraceFault, bad_line, unknown_class, too_many_advances, TraceFaultAt, line_says}
+use Rattle.hz_replay.specs.Lines.{event_of, fault_of, judged}
+use Rattle.hz_replay.specs.declared.words.Wrong.{Wrong as WrongLine}
+use Rattle.hz_replay.specs.declared.event.Event.{Event}
+use Rattle.hz_replay.specs.declared.fault.TraceFault.{TraceFault as Fault}
+use Rattle.hz_replay.specs.declared.fault.TraceFault.TheVariants.{BadLine, UnknownClass, AdvanceLimit, NoMemory}
+
+-- the events of a trace that is read
+abbrev pub events_in : List Event → List events.Event
+events_in items = map (λ e. event_of e.what) items
+
+-- their lines
+abbrev pub lines_in : List Event → List ℕ
+lines_in items = map (λ e. e.line) items
+
+-- what is told of a text that is no trace, where the classes have these names
+abbrev pub IsTraceFault : List (List ℕ) → List ℕ → Fault → Type 0
+IsTraceFault classes text (BadLine line) = TraceFaultAt classes text bad_line line
+IsTraceFault classes text (UnknownClass line) = TraceFaultAt classes text unknown_class line
+IsTraceFault classes text (AdvanceLimit line) = TraceFaultAt classes text too_many_advances line
+IsTraceFault classes text NoMemory = Unit {0}
+
+-- An event with its line, as a pair.
+abbrev pub Placed : Type 0
+Placed = events.Event × ℕ
+
+abbrev pub placed_in : List Event → List Placed
+placed_in items = map (λ e. (event_of e.what, e.line)) items
+
+-- the event of a line joins those that are done
+abbrev pub noted : List Placed → ℕ → Option events.Event → List Placed
+noted done number None = done
+noted done number (Some e) = done ++ (e, number) ∷ []
+
+-- the cycles that the event of a line advances
+abbrev pub cycles_in : Option events.Event → ℕ
+cycles_in None = 0
+cycles_in (Some (events.issue class)) = 0
+cycles_in (Some (events.advance cycles)) = cycles
+
+-- what follows a line that is judged: `more` goes on behind it, from the events so far and their advances
+abbrev pub after_line : (List Placed → ℕ → Result (List Placed) (TraceFault × ℕ)) → List Placed → ℕ → ℕ → Result (Option events.Event) TraceFault → Result (List Placed) (TraceFault × ℕ)
+after_line more done advanced number (Ok event) = more (noted done number event) (advanced + cycles_in event)
+after_line more done advanced number (Err fault) = Err (fault, number)
+
+-- The events of lines, of which the first has this number, behind those that are done; or the first line that is wrong.
+unfoldable pub trace_from : List (List ℕ) → List Placed → ℕ → ℕ → List (List ℕ) → Result (List Placed) (TraceFault × ℕ)
+trace_from classes done advanced number [] = Ok done
+trace_from classes done advanced number (line ∷ lines) =
+    after_line (λ done advanced. trace_from classes done advanced (number + 1) lines) done advanced number (judged advanced (line_says classes line))
+
+-- what a fault tells, none for want of memory
+abbrev pub fault_told : Fault → Option (TraceFault × ℕ)
+fault_told (BadLine line) = Some (bad_line, line)
+fault_told (UnknownClass line) = Some (unknown_class, line)
+fault_told (AdvanceLimit line) = Some (too_many_advances, line)
+fault_told NoMemory = None
+
+-- the fault of a line of this number
+abbrev pub IsFaultOfLine : ℕ → WrongLine → Fault → Type 0
+IsFaultOfLine number why fault = fault_told fault ≡ Some (fault_of why, number)

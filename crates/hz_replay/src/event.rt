@@ -1,0 +1,17 @@
+//! Events of a trace.
+
+/// What an event is: an issue of the class of this number, or so many cycle advances.
+#[derive(Clone, Copy, Debug, PartialEq, Eq)]
+pub enum What {
+    /// An issue of the class of this number.
+    Issue(u32),
+    /// So many cycle advances.
+    Advance(u32),
+}
+
+/// An event with its line in the trace, from 1.
+#[derive(Clone, Copy, Debug, PartialEq, Eq)]
+pub struct Event {
+    pub line: u32,
+    pub what: What,
+}

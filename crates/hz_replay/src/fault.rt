@@ -1,0 +1,40 @@
+//! Why a text is no trace.
+
+ghost use Rattle.std.specs.Prelude.{◌≡◌};
+ghost use Rattle.hz_replay.specs.declared.fault.TraceFault.TheVariants.{NoMemory as no_memory};
+
+use std::alloc::{AllocError, AllocFailed};
+use thiserror::Error;
+
+/// The first line of a trace that is wrong, by its number from 1. Source: this profile, docs/FORMATS.md, 'Trace'.
+#[derive(Clone, Copy, Debug, PartialEq, Eq, Error)]
+pub enum TraceFault {
+    /// The line is neither empty, nor a comment, nor an issue, nor an advance.
+    #[error("line {line} is no event")]
+    BadLine { line: u32 },
+    /// The line issues a name that no class has.
+    #[error("line {line} issues an unknown class")]
+    UnknownClass { line: u32 },
+    /// With this line the advances of the trace pass their limit.
+    #[error("line {line} advances too far")]
+    AdvanceLimit { line: u32 },
+    /// Memory ran out.
+    #[error("out of memory")]
+    NoMemory,
+}
+
+impl From<AllocError> for TraceFault {
+    ghost from_gives = { λ _ fault. fault ≡ no_memory };
+
+    fn from(_error: AllocError) -> TraceFault {
+        TraceFault::NoMemory
+    }
+}
+
+impl<T: Drop> From<AllocFailed<T>> for TraceFault {
+    ghost from_gives = { λ _ fault. fault ≡ no_memory };
+
+    fn from(_error: AllocFailed<T>) -> TraceFault {
+        TraceFault::NoMemory
+    }
+}

@@ -1,0 +1,19 @@
+//! Traces: reading them, and replaying them over a machine of tables.
+#![tactic(auto)]
+
+mod event;
+mod fault;
+mod lines;
+mod names;
+mod outcome;
+mod replaying;
+mod replayer;
+mod trace;
+mod words;
+
+pub use event::{Event, What};
+pub use fault::TraceFault;
+pub use outcome::Outcome;
+pub use replaying::replay;
+pub use replayer::Replayer;
+pub use trace::{read_events, read_trace};

@@ -1,0 +1,107 @@
+//! Replaying over a machine of tables: a state for each part, stepped event by event.
+
+ghost use Rattle.std.specs.Prelude.{◌≡◌, ◌+◌, ◌*◌, ◌<◌, ◌≤◌, ◌∷◌, [], length, replicate, IsTrue, IfSome, Some, None};
+ghost use Rattle.std.specs.Bool.{OnTrue, OnFalse};
+ghost use Rattle.std.specs.Option.{option_map, ForSome};
+ghost use Rattle.hz_tables_model.specs.Machines.{parts_walk, starts_of};
+ghost use Rattle.hz_tables.specs.Machines.{machine_of};
+ghost use Rattle.hz_acceptance_model.specs.Events.{issue, advance};
+ghost use Rattle.hz_replay.specs.Replaying.{event_for};
+
+use hz_tables::{Machine, Steps};
+use smallvec::SmallVec;
+use std::alloc::Global;
+use std::marker::Model;
+use std::sync::ledger::Ledger;
+
+/// A state for each part of a machine. It takes no memory: it has room for as many parts as a machine may have.
+#[derive(Drop)]
+pub struct Replayer<'m> {
+    machine: &'m Machine,
+    states: SmallVec<u32, 16>,
+}
+
+impl<'m> Model for Replayer<'m> {
+    ghost use Rattle.std.specs.Prelude.{◌≡◌};
+    ghost use Rattle.hz_tables.specs.Machines.{machine_of};
+    ghost use Rattle.hz_replay.specs.Replaying.{Standing, AreStates};
+
+    ghost Value = { Standing };
+
+    ghost view = { λ r. record { machine = machine_of r.machine.now; states = r.states.items } };
+
+    ghost invariant = { λ r. AreStates (machine_of r.machine.now) r.states.items × (r.states.capacity ≡ 16) };
+}
+
+impl<'m> Replayer<'m> {
+    /// All parts in their start. It takes no memory.
+    pub fn start(alloc: Global, machine: &'m Machine) -> Replayer<'m>
+        ensures { result ≡ record { machine = machine_of machine.now; states = starts_of (machine_of machine.now) } }
+    {
+        let mut states = SmallVec::new(alloc);
+        for _part in 0..machine.parts.len() {
+            states.push_reserved(0);
+        }
+        Replayer { machine, states }
+    }
+
+    /// The next states: at an issue of a class, or at the advance of one cycle where there is no class. None where some
+    /// part has no next state. At most four steps for each part.
+    fn next<L: Ledger>(
+        &self,
+        class: Option<u32>,
+        steps: &mut Steps<L>,
+    ) -> Option<SmallVec<u32, 16>>
+        requires class { ForSome class (λ class. class < length self.now.machine.classes) }
+        ensures next { option_map (λ states. states.items) result ≡ parts_walk self.now.machine.parts self.now.states (event_for class ∷ []) }
+        ensures room { IfSome result (λ states. states.capacity ≡ 16) }
+        ensures cost { steps.new ≤ steps.old + 4 * length self.now.machine.parts }
+    {
+        let mut next = SmallVec::new(*self.states.allocator());
+        for part in 0..self.machine.parts.len() {
+            match self.machine.step(part as u32, self.states[part], class, steps) {
+                Some(state) => next.push_reserved(state),
+                None => return None,
+            }
+        }
+        Some(next)
+    }
+
+    /// An issue of a class: true if each part has a next state, which it takes; false changes nothing. It takes no
+    /// memory, and at most four steps for each part.
+    pub fn issue<L: Ledger>(&mut self, class: u32, steps: &mut Steps<L>) -> bool
+        requires class { class < length self.old.machine.classes }
+        ensures machine { self.new.machine ≡ self.old.machine }
+        ensures taken { OnTrue result (parts_walk self.old.machine.parts self.old.states (issue class ∷ []) ≡ Some self.new.states) }
+        ensures refused { OnFalse result (parts_walk self.old.machine.parts self.old.states (issue class ∷ []) ≡ None) }
+        ensures stays { OnFalse result (self.new ≡ self.old) }
+        ensures cost { steps.new ≤ steps.old + 4 * length self.old.machine.parts }
+    {
+        match self.next(Some(class), steps) {
+            Some(states) => {
+                self.states = states;
+                true
+            }
+            None => false,
+        }
+    }
+
+    /// One cycle: each part takes its next state. It takes no memory, and at most four steps for each part.
+    pub fn advance<L: Ledger>(&mut self, steps: &mut Steps<L>)
+        ensures machine { self.new.machine ≡ self.old.machine }
+        ensures taken { parts_walk self.old.machine.parts self.old.states (advance 1 ∷ []) ≡ Some self.new.states }
+        ensures cost { steps.new ≤ steps.old + 4 * length self.old.machine.parts }
+    {
+        match self.next(None, steps) {
+            Some(states) => self.states = states,
+            None => unreachable!(),
+        }
+    }
+
+    /// The states, one for each part. It takes no memory.
+    pub fn states(&self) -> &[u32]
+        ensures { result.now ≡ self.now.states }
+    {
+        self.states.as_slice()
+    }
+}

@@ -1,0 +1,117 @@
+//! Replaying a whole trace.
+
+ghost use Rattle.std.specs.Prelude.{◌≡◌, ◌+◌, ◌<◌, ◌≤◌, ◌^◌, ◌∷◌, [], length, All, Some, None};
+ghost use Rattle.std.specs.Bool.{OnTrue, OnFalse};
+ghost use Rattle.hz_base_model.specs.Limits.{advance_limit};
+ghost use Rattle.hz_acceptance_model.specs.Events.{advance, issues_of, cycles_of, IsOfClass};
+ghost use Rattle.hz_tables_model.specs.Machines.{parts_walk};
+ghost use Rattle.hz_tables.specs.Machines.{machine_of};
+ghost use Rattle.hz_replay.specs.Lines.{event_of};
+ghost use Rattle.hz_replay.specs.Traces.{events_in};
+ghost use Rattle.hz_replay.specs.Replaying.{IsOutcome, IsIssue, issues_in, cycles_of_one};
+
+use super::event::{Event, What};
+use super::outcome::Outcome;
+use super::replayer::Replayer;
+use hz_tables::{Machine, Steps};
+use std::alloc::Global;
+use std::sync::ledger::Ledger;
+
+/// So many cycles, one after the other.
+fn advance_by<L: Ledger>(replayer: &mut Replayer<'_>, cycles: u32, steps: &mut Steps<L>)
+    requires { length replayer.old.states ≡ length replayer.old.machine.parts }
+    ensures machine { replayer.new.machine ≡ replayer.old.machine }
+    ensures taken { parts_walk replayer.old.machine.parts replayer.old.states (advance cycles ∷ []) ≡ Some replayer.new.states }
+{
+    for _cycle in 0..cycles {
+        replayer.advance(steps);
+    }
+}
+
+/// One event: true if it is taken; false, only at an issue, changes nothing.
+fn play<L: Ledger>(replayer: &mut Replayer<'_>, what: What, steps: &mut Steps<L>) -> bool
+    requires class { IsOfClass (length replayer.old.machine.classes) (event_of what) }
+    requires each { length replayer.old.states ≡ length replayer.old.machine.parts }
+    ensures machine { replayer.new.machine ≡ replayer.old.machine }
+    ensures taken { OnTrue result (parts_walk replayer.old.machine.parts replayer.old.states (event_of what ∷ []) ≡ Some replayer.new.states) }
+    ensures refused { OnFalse result (parts_walk replayer.old.machine.parts replayer.old.states (event_of what ∷ []) ≡ None) }
+    ensures issue { OnFalse result (IsIssue (event_of what)) }
+{
+    match what {
+        What::Issue(class) => replayer.issue(class, steps),
+        What::Advance(cycles) => {
+            advance_by(replayer, cycles, steps);
+            true
+        }
+    }
+}
+
+/// 1 for an issue, and 0 for advances.
+fn issues_at(what: What) -> u64
+    ensures { result ≡ issues_in (event_of what) }
+{
+    match what {
+        What::Issue(_) => 1,
+        What::Advance(_) => 0,
+    }
+}
+
+/// The cycles that an event advances.
+fn cycles_at(what: What) -> u64
+    ensures { result ≡ cycles_of_one (event_of what) }
+{
+    match what {
+        What::Issue(_) => 0,
+        What::Advance(cycles) => u64::from(cycles),
+    }
+}
+
+/// How many events are issues.
+fn issue_count(events: &[Event]) -> u64
+    ensures { result ≡ issues_of (events_in events.now) }
+{
+    let mut count = 0;
+    for event in events {
+        count += issues_at(event.what);
+    }
+    count
+}
+
+/// How many cycles are advanced.
+fn cycle_count(events: &[Event]) -> u64
+    requires { cycles_of (events_in events.now) ≤ advance_limit }
+    ensures { result ≡ cycles_of (events_in events.now) }
+{
+    let mut count = 0;
+    for event in events {
+        count += cycles_at(event.what);
+    }
+    count
+}
+
+/// Replays events from the start of every part: all are walked, with how many issues and cycle advances there are, or
+/// the first that is not. It takes no memory.
+pub fn replay<L: Ledger>(
+    alloc: Global,
+    machine: &Machine,
+    events: &[Event],
+    steps: &mut Steps<L>,
+) -> Outcome
+    requires classes { All (IsOfClass (length machine.now.classes.items)) (events_in events.now) }
+    requires short { cycles_of (events_in events.now) ≤ advance_limit }
+    requires few { length events.now < 2 ^ 32 }
+    ensures { IsOutcome (machine_of machine.now) (events_in events.now) result }
+{
+    let mut replayer = Replayer::start(alloc, machine);
+    for (place, event) in events.iter().enumerate() {
+        if !play(&mut replayer, event.what, steps) {
+            return Outcome::Refused {
+                event: place as u32,
+            };
+        }
+    }
+    Outcome::Accepted {
+        issues: issue_count(events),
+        cycles: cycle_count(events),
+    }
+}
