@@ -5,7 +5,6 @@ use Rattle.hz_base_model.specs.Pairs.{Pair, SamePairs, placed}
 use Rattle.hz_altern_model.specs.Sets.{Statement, Fits}
 use Rattle.hz_acceptance_model.specs.Replay.{Pipeline, SamePipeline, FitsAt, MayTake, IsChoice, Accepted, FirstRefused, calendar, chosen}
 use Rattle.hz_acceptance_model.specs.Events.{Event, issue, advance, cycles_of}
-
 use Rattle.hz_altern_model.proofs.SamePairsLaws.{same_back, same_append, same_placed, fits_same}
 
 module _ {U : Type 0} where

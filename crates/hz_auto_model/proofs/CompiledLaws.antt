@@ -68,20 +68,22 @@ module _ (treatment : Treatment) (statements : List (Statement ℕ)) (lists colu
   low t state h = walk_stays part.rows part.columns auto.shape (Some 0) (λ s e. let same : 0 ≡ s = cc in subst (λ n. n < length part.rows) same (auto.shape).start) state (word_of part t) h
 
   pub tells_left : TellsWhatIsLeft (length lists) classes part
-  tells_left = record { one = λ t u xs ys all also left other accepted accepts. (
-    λ same.
-        let end = some_of (part_walk part 0 t) ((walks_accepted.walks t all).1 accepted) in
-        let s = state_at grids sets end.0 in
-        same_then xs s ys (left_same classes t xs s left (stands t end.0 all end.1)) (left_same classes u s ys (stands u end.0 also (sym same ∙ end.1)) other),
-    λ same.
-        let end = some_of (part_walk part 0 t) ((walks_accepted.walks t all).1 accepted) in
-        let last = some_of (part_walk part 0 u) ((walks_accepted.walks u also).1 accepts) in
-        let s = state_at grids sets end.0 in
-        let r = state_at grids sets last.0 in
-        let both = same_then s xs r (left_same classes t s xs (stands t end.0 all end.1) left) (same_then xs ys r same (left_same classes u ys r other (stands u last.0 also last.1))) in
-        let one = auto.apart end.0 last.0 (low t end.0 end.1) (low u last.0 last.1) both in
-        end.1 ∙ (ap Some one ∙ sym last.1)
-  ) }
+  tells_left = record {
+    one = λ t u xs ys all also left other accepted accepts. (
+      λ same.
+          let end = some_of (part_walk part 0 t) ((walks_accepted.walks t all).1 accepted) in
+          let s = state_at grids sets end.0 in
+          same_then xs s ys (left_same classes t xs s left (stands t end.0 all end.1)) (left_same classes u s ys (stands u end.0 also (sym same ∙ end.1)) other),
+      λ same.
+          let end = some_of (part_walk part 0 t) ((walks_accepted.walks t all).1 accepted) in
+          let last = some_of (part_walk part 0 u) ((walks_accepted.walks u also).1 accepts) in
+          let s = state_at grids sets end.0 in
+          let r = state_at grids sets last.0 in
+          let both = same_then s xs r (left_same classes t s xs (stands t end.0 all end.1) left) (same_then xs ys r same (left_same classes u ys r other (stands u last.0 also last.1))) in
+          let one = auto.apart end.0 last.0 (low t end.0 end.1) (low u last.0 last.1) both in
+          end.1 ∙ (ap Some one ∙ sym last.1),
+    );
+  }
 
   pub numbered : IsNumbered part
   numbered = record { reached = auto.led; parents = parents; breadth_first = auto.breadth_first }

@@ -27,9 +27,9 @@ use Rattle.hz_auto_model.proofs.CompiledLaws.{left_same}
 entry_column : (table : Table) (columns : ℕ) → IsTable table columns → (state column next : ℕ) → entry table state column ≡ Some next → column ≤ columns
 entry_column table columns is state column next h = ⊎_elim
     (λ (inside : state < length table). ⊎_elim
-        (λ (low : column < columns + 1). omega (arith, low))
-        (λ (high : columns + 1 ≤ column). let past = get_or_past (row_of table state) column None (omega (arith, high, is.width state inside)) in absurd (none-some next (sym past ∙ h)))
-        (cases_lt column (columns + 1)))
+    (λ (low : column < columns + 1). omega (arith, low))
+    (λ (high : columns + 1 ≤ column). let past = get_or_past (row_of table state) column None (omega (arith, high, is.width state inside)) in absurd (none-some next (sym past ∙ h)))
+    (cases_lt column (columns + 1)))
     (λ (outside : length table ≤ state). absurd (none-some next (sym (ap (λ (row : List (Option ℕ)). get_or row column None) (get_or_past table state [] outside)) ∙ h)))
     (cases_lt state (length table))
 

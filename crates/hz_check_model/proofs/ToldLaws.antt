@@ -63,9 +63,9 @@ one_name_more names before s are name = (there, back)
     back o c same = ⊎_elim
         (λ (k : Contains before o). among name (s.name ∷ names) (Contains-tail (s.name) name names (from_among name names ((are name).1 o k same))))
         (λ (k : Contains (s ∷ []) o). ⊎_elim
-            (λ (e : s ≡ o). among name (s.name ∷ names) (subst (λ x. Contains (s.name ∷ names) x) (ap (λ (x : Site). x.name) e ∙ same) (Contains-head (s.name) names)))
-            (λ (e : Contains [] o). absurd (Contains-nil o e))
-            (Contains-cons_cases s o [] k))
+        (λ (e : s ≡ o). among name (s.name ∷ names) (subst (λ x. Contains (s.name ∷ names) x) (ap (λ (x : Site). x.name) e ∙ same) (Contains-head (s.name) names)))
+        (λ (e : Contains [] o). absurd (Contains-nil o e))
+        (Contains-cons_cases s o [] k))
         (Contains-append_cases before (s ∷ []) o c)
 
 preceded_by : (others : List Site) (s : Site) → is_preceded others s ≡ true → (o : Site) × Contains others o × (o.name ≡ s.name) × (o.form < s.form)
@@ -210,8 +210,7 @@ module _ (known : Known) where
       by_test false e later =
           let small = ltb-false size_limit (behind + size_of_item r) e in
           let sum = sum_cons r order in
-          let rest = later small in
-          (
+          let rest = later small in (
             λ h. let told = subst (λ b. cond b (r.site ∷ []) (past_size known (behind + size_of_item r) order) ≡ []) e h in let k = rest.0 told in omega (arith, k, sum),
             λ h. subst (λ b. cond b (r.site ∷ []) (past_size known (behind + size_of_item r) order) ≡ []) (sym e) (rest.1 (omega (arith, h, sum))),
           )
@@ -238,11 +237,15 @@ renumbers before b out = (there, back)
     there h =
         let (c, within, some) = any_item (λ «in». list_any (differs b.number out «in») before) b.ins h in
         let (e, stands, differ) = any_item (differs b.number out c) before some in
-        let front = and_first (not (e.number == b.number) && is_among out e.outs) (is_among c e.ins) differ in
-        (e, c, stands, within,
+        let front = and_first (not (e.number == b.number) && is_among out e.outs) (is_among c e.ins) differ in (
+          e,
+          c,
+          stands,
+          within,
           from_among out e.outs (and_second (not (e.number == b.number)) (is_among out e.outs) front),
           from_among c e.ins (and_second (not (e.number == b.number) && is_among out e.outs) (is_among c e.ins) differ),
-          not_same e.number b.number (and_first (not (e.number == b.number)) (is_among out e.outs) front))
+          not_same e.number b.number (and_first (not (e.number == b.number)) (is_among out e.outs) front),
+        )
 
     back : ((e : BypassItem) × (c : List ℕ) × Contains before e × Contains b.ins c × Contains e.outs out × Contains e.ins c × (e.number ≢ b.number)) → list_any (λ «in». list_any (differs b.number out «in») before) b.ins ≡ true
     back (e, c, stands, within, gave, to, other) = item_any (λ «in». list_any (differs b.number out «in») before) b.ins c within
@@ -267,7 +270,7 @@ renumbered_told before b s = (there, back)
     back (r, line, form) =
         let good = (renumbers before b s.name).1 (r.earlier, r.consumer, r.stands, r.to, r.from_earlier, r.to_earlier, r.other) in
         let there = Contains-map (λ name. record { line = b.line; form = b.form; name = name }) (filter (λ out. list_any (λ «in». list_any (differs b.number out «in») before) b.ins) b.outs) s.name
-            (Contains-filter (λ out. list_any (λ «in». list_any (differs b.number out «in») before) b.ins) s.name good b.outs r.from) in
+        (Contains-filter (λ out. list_any (λ «in». list_any (differs b.number out «in») before) b.ins) s.name good b.outs r.from) in
         let same : ◌≡◌ {A = Site} (record { line = b.line; form = b.form; name = s.name }) s = λ i. record { line = sym line i; form = sym form i; name = s.name } in
         subst (λ x. Contains (renumbered before b) x) same there
 
@@ -312,8 +315,7 @@ second_number before [] s = (λ c. absurd (Contains-nil s c), λ t. absurd (no_p
     no_parts [] b after e = absurd (cc)
     no_parts (x ∷ front) b after e = absurd (cc)
 second_number before (b ∷ bypasses) s =
-    let later = second_number (before ++ b ∷ []) bypasses s in
-    (
+    let later = second_number (before ++ b ∷ []) bypasses s in (
       λ c. ⊎_elim
           (λ (k : Contains (renumbered before b) s).
           let told = (renumbered_told before b s).0 k in
@@ -328,8 +330,7 @@ second_number before (b ∷ bypasses) s =
 
 pub second_numbers_told : (d : Description) (s : Site) → Contains (second_numbers d) s ↔ TellsSecondNumber d.bypasses s
 second_numbers_told d s =
-    let both = second_number [] d.bypasses s in
-    (
+    let both = second_number [] d.bypasses s in (
       λ c. let t = both.0 c in record { before = t.front; b = t.b; after = t.after; parts = t.parts; pair = t.pair; line = t.line; form = t.form },
       λ t. both.1 (record { front = t.before; b = t.b; after = t.after; parts = t.parts; pair = t.pair; line = t.line; form = t.form }),
     )

@@ -240,7 +240,6 @@ adds_options read n form o h =
 -- One option, told by a field and its word.
 module _ (f : Options → Bool) (word : List ℕ) (no : f no_options ≡ false) (both : (a b : Options) → f (all_options a b) ≡ (f a || f b))
     (step : (o p : Options) (w : List ℕ) → with_option o w ≡ Some p → f p ≡ (f o || bytes_eq w word)) where
-
   in_list : (o p : Options) (words : List (List ℕ)) → with_options o words ≡ Some p → IsTrue (f p) ↔ (IsTrue (f o) ⊎ Contains words word)
   in_list o p [] h =
       let same : o ≡ p = cc in
@@ -248,8 +247,7 @@ module _ (f : Options → Bool) (word : List ℕ) (no : f no_options ≡ false) 
   in_list o p (w ∷ words) h =
       let (q, is, rest) = then_some (with_option o w) (λ x. with_options x words) p h in
       let later = in_list q p words rest in
-      let e = step o q w is in
-      (
+      let e = step o q w is in (
         λ t. ⊎_elim
             (λ (k : IsTrue (f q)). ⊎_elim (λ (a : f o ≡ true). inl a) (λ (b : bytes_eq w word ≡ true). inr (subst (λ x. Contains (w ∷ words) x) ((bytes_eq-Decides w word).0 b) (Contains-head w words))) (or_cases (f o) (bytes_eq w word) (sym e ∙ k)))
             (λ (c : Contains words word). inr (Contains-tail w word words c))
@@ -257,9 +255,9 @@ module _ (f : Options → Bool) (word : List ℕ) (no : f no_options ≡ false) 
         λ c. ⊎_elim
             (λ (a : IsTrue (f o)). later.1 (inl (e ∙ ap (λ b. b || bytes_eq w word) a)))
             (λ (k : Contains (w ∷ words) word). ⊎_elim
-                (λ (same : w ≡ word). later.1 (inl (e ∙ (ap (λ b. f o || b) ((bytes_eq-Decides w word).1 same) ∙ or-true (f o)))))
-                (λ (k : Contains words word). later.1 (inr k))
-                (Contains-cons_cases w word words k))
+            (λ (same : w ≡ word). later.1 (inl (e ∙ (ap (λ b. f o || b) ((bytes_eq-Decides w word).1 same) ∙ or-true (f o)))))
+            (λ (k : Contains words word). later.1 (inr k))
+            (Contains-cons_cases w word words k))
             c,
       )
 
@@ -273,9 +271,9 @@ module _ (f : Options → Bool) (word : List ℕ) (no : f no_options ≡ false) 
           (λ (x : f o ≡ true).
           let s = adds_options read n form o h in
           ⊎_elim
-              (λ (bad : f no_options ≡ true). absurd (let e : false ≡ true = sym no ∙ bad in cc))
-              (λ (c : Contains (separated s.bytes) word). inr (record { line = s.line; head = s.head; string = s.string; bytes = s.bytes; is = s.is; stands = c }))
-              ((in_list no_options o (separated s.bytes) s.all).0 x))
+          (λ (bad : f no_options ≡ true). absurd (let e : false ≡ true = sym no ∙ bad in cc))
+          (λ (c : Contains (separated s.bytes) word). inr (record { line = s.line; head = s.head; string = s.string; bytes = s.bytes; is = s.is; stands = c }))
+          ((in_list no_options o (separated s.bytes) s.all).0 x))
           (or_cases (f d.options) (f o) (sym (both d.options o) ∙ t))
       there (automata items) h t = inl t
       there (units items) h t = inl t
@@ -314,8 +312,7 @@ module _ (f : Options → Bool) (word : List ℕ) (no : f no_options ≡ false) 
   in_forms read n d e (more first others) h =
       let (a, is, rest) = then_ok (at_line (line_of first) (form_says read n first)) _ e h in
       let one = in_form read n d first a (line_ok (line_of first) (form_says read n first) a is) in
-      let later = in_forms read (n + 1) (with_addition d a) e others rest in
-      (
+      let later = in_forms read (n + 1) (with_addition d a) e others rest in (
         λ t. ⊎_elim
             (λ (k : IsTrue (f (with_addition d a).options)). ⊎_elim (λ (x : IsTrue (f d.options)). inl x) (λ (s : IsOption word first). inr (first, inl refl, s)) (one.0 k))
             (λ (k : HasOption others word). inr (k.0, inr k.1, k.2))
@@ -323,9 +320,9 @@ module _ (f : Options → Bool) (word : List ℕ) (no : f no_options ≡ false) 
         λ c. ⊎_elim
             (λ (t : IsTrue (f d.options)). later.1 (inl (one.1 (inl t))))
             (λ (k : HasOption (more first others) word). ⊎_elim
-                (λ (same : first ≡ k.0). later.1 (inl (one.1 (inr (subst (IsOption word) (sym same) k.2)))))
-                (λ (among : Among others k.0). later.1 (inr (k.0, among, k.2)))
-                k.1)
+            (λ (same : first ≡ k.0). later.1 (inl (one.1 (inr (subst (IsOption word) (sym same) k.2)))))
+            (λ (among : Among others k.0). later.1 (inr (k.0, among, k.2)))
+            k.1)
             c,
       )
 

@@ -18,7 +18,6 @@ use Rattle.hz_altern_model.specs.Inside.{IsStatementOf}
 use Rattle.hz_acceptance_model.specs.Restricted.{IsOf}
 use Rattle.hz_acceptance_model.specs.Replay.{Class, Pipeline, alternatives_at, of_class, chosen, pairs_at}
 use Rattle.hz_base_model.proofs.Elements.{Contains-nil, Contains-cons_cases, Contains-from_map}
-
 use Rattle.hz_altern_model.proofs.UnitLaws.{AreAllOf, all_one, all_alternatives}
 use Rattle.hz_check_model.proofs.PlaceLaws.{at_name_in, from_filter_map}
 

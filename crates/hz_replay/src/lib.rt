@@ -6,14 +6,14 @@ mod fault;
 mod lines;
 mod names;
 mod outcome;
-mod replaying;
 mod replayer;
+mod replaying;
 mod trace;
 mod words;
 
 pub use event::{Event, What};
 pub use fault::TraceFault;
 pub use outcome::Outcome;
-pub use replaying::replay;
 pub use replayer::Replayer;
+pub use replaying::replay;
 pub use trace::{read_events, read_trace};

@@ -47,11 +47,7 @@ impl<'m> Replayer<'m> {
 
     /// The next states: at an issue of a class, or at the advance of one cycle where there is no class. None where some
     /// part has no next state. At most four steps for each part.
-    fn next<L: Ledger>(
-        &self,
-        class: Option<u32>,
-        steps: &mut Steps<L>,
-    ) -> Option<SmallVec<u32, 16>>
+    fn next<L: Ledger>(&self, class: Option<u32>, steps: &mut Steps<L>) -> Option<SmallVec<u32, 16>>
         requires class { ForSome class (λ class. class < length self.now.machine.classes) }
         ensures next { option_map (λ states. states.items) result ≡ parts_walk self.now.machine.parts self.now.states (event_for class ∷ []) }
         ensures room { IfSome result (λ states. states.capacity ≡ 16) }
@@ -59,7 +55,10 @@ impl<'m> Replayer<'m> {
     {
         let mut next = SmallVec::new(*self.states.allocator());
         for part in 0..self.machine.parts.len() {
-            match self.machine.step(part as u32, self.states[part], class, steps) {
+            match self
+                .machine
+                .step(part as u32, self.states[part], class, steps)
+            {
                 Some(state) => next.push_reserved(state),
                 None => return None,
             }

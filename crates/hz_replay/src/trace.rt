@@ -91,11 +91,7 @@ fn class_names(alloc: Global, classes: &[Name]) -> Result<IndexSet<Vec<u8>>, All
 
 /// The events of a text, each with its line, where the classes are those of the machine; or the fault of the first wrong
 /// line. Source: this profile, docs/FORMATS.md, 'Trace'.
-pub fn read_trace(
-    alloc: Global,
-    bytes: &[u8],
-    machine: &Machine,
-) -> Result<Vec<Event>, TraceFault>
+pub fn read_trace(alloc: Global, bytes: &[u8], machine: &Machine) -> Result<Vec<Event>, TraceFault>
     requires { length bytes.now < 2 ^ 32 }
     ensures ok { IfOk result (λ events. Trace machine.now.classes.items bytes.now (events_in events.items)) }
     ensures lines { IfOk result (λ events. lines_in events.items ≡ event_lines machine.now.classes.items 1 (lines_of bytes.now)) }

@@ -103,7 +103,9 @@ pub fn judge(classes: &IndexSet<Vec<u8>>, advanced: u32, line: &[u8]) -> Result<
     match line_says(classes, line) {
         Said::Nothing => Ok(None),
         Said::Event(What::Issue(class)) => Ok(Some(What::Issue(class))),
-        Said::Event(What::Advance(cycles)) if cycles > ADVANCE_LIMIT - advanced => Err(Wrong::AdvanceLimit),
+        Said::Event(What::Advance(cycles)) if cycles > ADVANCE_LIMIT - advanced => Err(
+            Wrong::AdvanceLimit,
+        ),
         Said::Event(What::Advance(cycles)) => Ok(Some(What::Advance(cycles))),
         Said::Wrong(wrong) => Err(wrong),
     }

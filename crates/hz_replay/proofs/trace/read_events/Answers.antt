@@ -13,7 +13,7 @@ returns-in-Err-clause-err c =
     let classes = names_in c.args.classes.now.keys in
     let text = c.args.text.now in
     let told = wrong_line classes text c.loop-rest.rest.now c.split_line.result.1.now c.split_line.result.0.now (placed_in c.loop-rest.events.items) c.loop-rest.advanced c.loop-rest.number c.loop-rest.invariant.told c.split_line.ensures.lines
-        (fault_of c.in-Err.wrong) (sym c.judge.ensures ∙ ap judgement c.in-Err.is) in
+    (fault_of c.in-Err.wrong) (sym c.judge.ensures ∙ ap judgement c.in-Err.is) in
     fault_from classes text c.fault_at.result (fault_of c.in-Err.wrong) (c.loop-rest.number + 1) c.fault_at.ensures told
 
 pub loop-rest-preserved : goal.loop-rest-preserved
