@@ -162,22 +162,20 @@ fn grids_are_ordered_as_lists_of_pairs(rt: HostRuntime) -> Result<(), Fail> {
     let mut grids = Vec::new(alloc);
     grids.push(grid(&rt, alloc, &[])?)?;
     grids.push(grid(&rt, alloc, &[(0, 0)])?)?;
-    grids.push(grid(&rt, alloc, &[(0, 0), (3, 0), (0, 255)])?)?;
     grids.push(grid(&rt, alloc, &[(0, 0), (3, 0)])?)?;
+    grids.push(grid(&rt, alloc, &[(0, 255), (3, 0), (0, 0)])?)?;
     grids.push(grid(&rt, alloc, &[(0, 0), (0, 1)])?)?;
     grids.push(grid(&rt, alloc, &[(1, 0), (127, 0), (0, 1)])?)?;
     grids.push(grid(&rt, alloc, &[(127, 0)])?)?;
     grids.push(grid(&rt, alloc, &[(0, 1), (0, 2)])?)?;
     grids.push(grid(&rt, alloc, &[(1, 1)])?)?;
-    let shown = [0, 1, 3, 2, 4, 5, 6, 7, 8];
-    for (i, place) in shown.iter().enumerate() {
-        for (j, other) in shown.iter().enumerate() {
-            let (one, two) = (&grids[*place], &grids[*other]);
+    for (i, one) in grids.iter().enumerate() {
+        one.kept();
+        for (j, two) in grids.iter().enumerate() {
             assert!(rt; one.cmp(two) == i.cmp(&j));
             assert!(rt; (one < two) == (i < j));
             assert!(rt; (hash_of(one) == hash_of(two)) == (i == j));
         }
     }
-    grids[0].kept();
     Ok(())
 }
