@@ -1,21 +1,20 @@
 #!/bin/sh
 # Times adding 65,536 grids of 16 to 256 cycles to an interner, each twice, without the making of the grids. The least of
-# five runs each. The program stands beside the crates of the repository, so that no gate builds it: it is proved and
-# built in bench/data first.
+# five runs each. The gate does not build the program: it is proved and built in a folder of its own first, outside the
+# repository, since the gate stops at a source that no crate of it reads.
 . "$(dirname "$0")/../common.sh"
 
-room=$data/states
+room=$(mktemp -d)
+trap 'rm -rf "$room"' EXIT
 mkdir -p "$room/crates"
 for crate in hz_base_model hz_grid hz_states; do
     mkdir -p "$room/crates/$crate"
     for part in src specs proofs; do
-        rm -rf "$room/crates/$crate/$part"
-        if [ -d "crates/$crate/$part" ]; then cp -r "crates/$crate/$part" "$room/crates/$crate"; fi
+            if [ -d "crates/$crate/$part" ]; then cp -r "crates/$crate/$part" "$room/crates/$crate"; fi
     done
 done
-mkdir -p "$room/crates/adding"
-rm -rf "$room/crates/adding/src"
-cp -r bench/states/adding/src "$room/crates/adding"
+mkdir -p "$room/crates/adding/src"
+cp bench/states/adding.rt.in "$room/crates/adding/src/main.rt"
 { grep '^hz_base_model:\|^hz_grid:\|^hz_states:' crates.txt; echo 'adding: hz_grid hz_states'; } > "$room/crates.txt"
 (cd "$room/crates/adding" && rt run -- 16 add) > "$data/states.built" 2>&1 || { tail -n 20 "$data/states.built"; exit 1; }
 adding=$room/crates/adding/out/adding
