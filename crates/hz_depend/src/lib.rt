@@ -1,13 +1,7 @@
-// A library with one function.
+//! Classes of instructions, and which instructions of a block depend on which.
 #![tactic(auto)]
 
-ghost use Rattle.std.specs.Prelude.{◌≡◌};
-ghost use Rattle.hz_depend.specs.Echo.{echo_of};
+mod access;
+mod class;
 
-// The `ensures` clause is the contract: what `echo` returns is `echo_of` of its argument, a definition
-// in `specs/Echo.antt`, which a caller's clause can cite too.
-pub fn echo(x: usize) -> usize
-    ensures { result ≡ echo_of x }
-{
-    x
-}
+pub use class::{ClassFault, class_of};

@@ -1,7 +1,7 @@
 -- What instructions read and write. GCC Internals, 'Side Effect Expressions'; this profile, docs/RULES.md, 'Dependences'.
 use Rattle.std.specs.Prelude.{ℕ, Bool, ◌==◌, List, [], ◌∷◌, ◌++◌, Option, Some, None}
 use Rattle.std.specs.List.{flat_map, list_any}
-use Rattle.hz_rtl_model.specs.Operators.{plus}
+use Rattle.hz_rtl_model.specs.Operators.{BinaryOperator, plus}
 use Rattle.hz_rtl_model.specs.Blocks.{Value, register, constant, memory, unary, binary, choice, Target, into, cell_at, Effect, assign, clobber, mention, Instruction}
 
 -- the registers that a value reads, also those in addresses
@@ -75,8 +75,23 @@ pub record Based : Type 0 where
   pub base : ℕ
   pub offset : ℕ
 
+-- the register that a value is
+abbrev pub plain_register : Value → Option ℕ
+plain_register (register number) = Some number
+plain_register value = None
+
+-- the constant that a value is
+abbrev pub plain_constant : Value → Option ℕ
+plain_constant (constant word) = Some word
+plain_constant value = None
+
+-- the sum of a register and a constant
+abbrev pub sum_of : BinaryOperator → Option ℕ → Option ℕ → Option Based
+sum_of plus (Some number) (Some word) = Some (record { base = number; offset = word })
+sum_of operator left right = None
+
 -- an address that is a base register plus a constant; a plain register is itself plus 0
 abbrev pub based_of : Value → Option Based
 based_of (register number) = Some (record { base = number; offset = 0 })
-based_of (binary plus (register number) (constant word)) = Some (record { base = number; offset = word })
+based_of (binary operator left right) = sum_of operator (plain_register left) (plain_constant right)
 based_of address = None

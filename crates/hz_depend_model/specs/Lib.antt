@@ -2,3 +2,4 @@ pub mod Accesses
 pub mod Dependences
 pub mod Graphs
 pub mod Orders
+pub mod Classes

@@ -1,0 +1,8 @@
+use Rattle.std.proofs.Common.{◌≡◌, drop, map}
+use Rattle.hz_check.specs.Shape.{attribute_of}
+use Rattle.hz_depend_model.specs.Classes as model
+use Rattle.hz_depend.proofs.class.first_fault.Given as goal
+
+-- what is left decides
+abbrev pub invariant-loop-one : goal.invariant-loop-one
+invariant-loop-one l = model.first_fault (map attribute_of l.defined) (drop l.one-index l.given) ≡ model.first_fault (map attribute_of l.defined) l.given

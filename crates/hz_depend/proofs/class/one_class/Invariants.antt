@@ -1,0 +1,12 @@
+use Rattle.std.proofs.Common.{◌≡◌, ◌++◌, drop}
+use Rattle.std.specs.Option.{option_to_list}
+use Rattle.hz_mdread_model.specs.Conditions.{value_of}
+use Rattle.hz_depend_model.specs.Classes as model
+use Rattle.hz_depend.specs.Shape.{conditions_of}
+use Rattle.hz_depend.proofs.class.one_class.Given as goal
+
+-- the class so far, with those of what is left, are all
+abbrev pub invariant-loop-number : goal.invariant-loop-number
+invariant-loop-number l =
+    option_to_list l.found ++ model.holding_from l.number (value_of l.given l.defaults) (conditions_of (drop l.number l.classes))
+    ≡ model.holding_from 0 (value_of l.given l.defaults) (conditions_of l.classes)
