@@ -26,3 +26,25 @@ doubling() {
 rate() {
     awk -v b="$1" -v t="$2" 'BEGIN { printf "%.1f", b * 1000 / t }'
 }
+
+# build_program PROGRAM SOURCE DEPENDENCIES ARGUMENTS CRATE..: proves and builds a program that measures crates, with
+# these crates copied beside it, into $room/crates/PROGRAM/out, and runs it once with the arguments. The gate stops at a
+# source that no crate of the repository reads, so the source has another ending here and the room is outside the
+# repository.
+build_program() {
+    program=$1 source=$2 dependencies=$3 arguments=$4
+    shift 4
+    room=$(mktemp -d)
+    trap 'rm -rf "$room"' EXIT
+    mkdir -p "$room/crates/$program/src"
+    cp "$source" "$room/crates/$program/src/main.rt"
+    for crate in "$@"; do
+        mkdir -p "$room/crates/$crate"
+        for part in src specs proofs; do
+            if [ -d "crates/$crate/$part" ]; then cp -r "crates/$crate/$part" "$room/crates/$crate"; fi
+        done
+        grep "^$crate:" crates.txt >> "$room/crates.txt"
+    done
+    echo "$program: $dependencies" >> "$room/crates.txt"
+    (cd "$room/crates/$program" && rt run -- $arguments) > "$data/$program.built" 2>&1 || { tail -n 20 "$data/$program.built"; exit 1; }
+}
