@@ -1,6 +1,6 @@
 -- The class of an instruction, and what latencies and bypasses say of classes. GCC Internals, 'Defining Insns' Attributes' and
 -- 'Specifying processor pipeline description'; the faults are this profile's, docs/RULES.md, 'Dependences'.
-use Rattle.std.specs.Prelude.{ℕ, ◌==◌, Bool, ◌&&◌, if◌then◌else◌, List, [], ◌∷◌, map, Option, Some, None, Result, Ok, Err, slice_index, slice_get, unwrap_or}
+use Rattle.std.specs.Prelude.{ℕ, ◌==◌, ◌&&◌, if◌then◌else◌, List, [], ◌∷◌, Option, Some, None, Result, Ok, Err, slice_index, unwrap_or}
 use Rattle.std.specs.List.{list_any, find, filter_map, enumerate_from}
 use Rattle.std.specs.Option.{option_map, option_map_or}
 use Rattle.std.specs.Str.{bytes_eq}

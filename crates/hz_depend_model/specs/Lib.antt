@@ -3,3 +3,4 @@ pub mod Dependences
 pub mod Graphs
 pub mod Orders
 pub mod Classes
+pub mod Examples
