@@ -4,7 +4,9 @@ use Rattle.std.specs.Prelude.{slice_get, nat_lt, IsTrue}
 use Rattle.std.proofs.lemmas.Bool.{ltb-true}
 use Rattle.hz_rtl_model.specs.Blocks.{Instruction}
 use Rattle.hz_depend_model.specs.Accesses.{Access}
-use Rattle.hz_depend_model.specs.Dependences.{is_true, is_anti, is_output, at_places, depends}
+use Rattle.hz_depend_model.specs.Graphs.{Edge, edge, IsGraph}
+use Rattle.hz_depend_model.specs.Orders.{Keeps, KeepsEdges}
+use Rattle.hz_depend_model.specs.Dependences.{is_true, is_anti, is_output, at_places, depends, Timing}
 
 inside : (block : List Instruction) (j : ℕ) (y : Instruction) → slice_get block j ≡ Some y → j < length block
 inside [] j y e = absurd (cc)
@@ -29,3 +31,13 @@ upwards block i j h =
     let (lt, there) = both (nat_lt i j) _ (true_test (depends block i j) h) in
     let (y, is) = second_there (λ b s f g. is_true b s f g || is_anti b s f g || is_output b s f g) block i j (slice_get block i) (slice_get block j) there in
     (ltb-true i j lt, inside block j y is)
+
+is_true_test : (b : Bool) → b ≡ true → IsTrue b
+is_true_test true h = search rules
+is_true_test false h = absurd (cc)
+
+-- an order that keeps the edges keeps the dependences
+pub keeps_from_edges : (block : List Instruction) (t : Timing) (edges : List Edge) (order : List ℕ) → IsGraph block t edges → KeepsEdges edges order → Keeps block order
+keeps_from_edges block t edges order graph kept before after i j is d =
+    let (lt, within) = upwards block i j (is_true_test (depends block i j) d) in
+    kept before after (edge block t i j) is (graph.each i j (omega arith) within d)

@@ -3,6 +3,7 @@ use Rattle.std.specs.Prelude.{◌≡◌, ℕ, ◌<◌, true, List, ◌∷◌, �
 use Rattle.std.specs.List.{Contains}
 use Rattle.hz_rtl_model.specs.Blocks.{Instruction}
 use Rattle.hz_depend_model.specs.Dependences.{depends}
+use Rattle.hz_depend_model.specs.Graphs.{Edge}
 
 -- The order holds each place below the count once, and no other.
 pub record IsOrder (count : ℕ) (order : List ℕ) : Type 0 where
@@ -13,3 +14,7 @@ pub record IsOrder (count : ℕ) (order : List ℕ) : Type 0 where
 -- Each place stands behind those that it depends on.
 abbrev pub Keeps : List Instruction → List ℕ → Type 0
 Keeps block order = (before after : List ℕ) (i j : ℕ) → order ≡ before ++ j ∷ after → depends block i j ≡ true → Contains before i
+
+-- Each place stands behind those from which an edge leads to it.
+abbrev pub KeepsEdges : List Edge → List ℕ → Type 0
+KeepsEdges edges order = (before after : List ℕ) (e : Edge) → order ≡ before ++ e.to ∷ after → Contains edges e → Contains before e.from
