@@ -5,3 +5,4 @@ pub mod SourceLaws
 pub mod DoneLaws
 pub mod OrderLaws
 pub mod UpwardLaws
+pub mod HeightLaws

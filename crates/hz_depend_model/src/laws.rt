@@ -1,11 +1,11 @@
 //! Laws of dependences.
 
-ghost use Rattle.std.specs.Prelude.{◌≡◌, ◌<◌, ℕ, List, length, IsTrue};
-ghost use Rattle.std.specs.List.{range_with_len};
+ghost use Rattle.std.specs.Prelude.{◌≡◌, ◌<◌, ℕ, List, length, slice_index, IsTrue};
+ghost use Rattle.std.specs.List.{range_with_len, Contains};
 ghost use Rattle.hz_rtl_model.specs.Blocks.{Instruction};
 ghost use Rattle.hz_rtl_model.specs.States.{State, run};
 ghost use Rattle.hz_depend_model.specs.Dependences.{depends, Timing};
-ghost use Rattle.hz_depend_model.specs.Graphs.{Edge, IsGraph};
+ghost use Rattle.hz_depend_model.specs.Graphs.{Edge, IsGraph, IsHeight};
 ghost use Rattle.hz_depend_model.specs.Orders.{IsOrder, Keeps, KeepsEdges};
 
 /// Commutation: every order that holds each place of a block once and keeps each dependence leaves, from every state, what the
@@ -22,4 +22,9 @@ pub fn dependences_lead_upwards()
 /// The same of every order that keeps the edges of the block's graph.
 pub fn orders_that_keep_edges_commute()
     ensures { (block : List Instruction) (t : Timing) (edges : List Edge) (order : List ℕ) (state : State) → IsGraph block t edges → IsOrder (length block) order → KeepsEdges edges order → run block order state ≡ run block (range_with_len 0 (length block)) state }
+{}
+
+/// Edges that lead upwards have one list of heights.
+pub fn one_list_of_heights()
+    ensures { (edges : List Edge) (latency hs gs : List ℕ) (n : ℕ) → ((e : Edge) → Contains edges e → (e.from < e.to) × (e.to < n)) → ((i : ℕ) → i < n → IsHeight edges latency hs i) → ((i : ℕ) → i < n → IsHeight edges latency gs i) → (i : ℕ) → i < n → slice_index hs i ≡ slice_index gs i }
 {}
