@@ -74,14 +74,54 @@ type Row = (
 );
 
 const ROWS: [Row; 18] = [
-    (false, LATE, [65_536, 65_536, 1_048_576, 4_194_304], Ok((4, 4, 4))),
-    (true, LATE, [65_536, 65_536, 1_048_576, 4_194_304], Ok((4, 4, 4))),
-    (false, CHOICE, [65_536, 65_536, 1_048_576, 4_194_304], Ok((3, 3, 3))),
-    (true, CHOICE, [65_536, 65_536, 1_048_576, 4_194_304], Ok((4, 4, 5))),
-    (false, &[], [65_536, 65_536, 1_048_576, 4_194_304], Ok((1, 1, 1))),
-    (true, &[&[&[]]], [65_536, 65_536, 1_048_576, 4_194_304], Ok((1, 1, 1))),
-    (false, &[&[&[(0, 0)], &[(0, 0)]]], [65_536, 65_536, 1_048_576, 4_194_304], Ok((2, 2, 2))),
-    (true, &[&[&[(0, 0)], &[(0, 0)]]], [65_536, 65_536, 1_048_576, 4_194_304], Ok((2, 2, 2))),
+    (
+        false,
+        LATE,
+        [65_536, 65_536, 1_048_576, 4_194_304],
+        Ok((4, 4, 4)),
+    ),
+    (
+        true,
+        LATE,
+        [65_536, 65_536, 1_048_576, 4_194_304],
+        Ok((4, 4, 4)),
+    ),
+    (
+        false,
+        CHOICE,
+        [65_536, 65_536, 1_048_576, 4_194_304],
+        Ok((3, 3, 3)),
+    ),
+    (
+        true,
+        CHOICE,
+        [65_536, 65_536, 1_048_576, 4_194_304],
+        Ok((4, 4, 5)),
+    ),
+    (
+        false,
+        &[],
+        [65_536, 65_536, 1_048_576, 4_194_304],
+        Ok((1, 1, 1)),
+    ),
+    (
+        true,
+        &[&[&[]]],
+        [65_536, 65_536, 1_048_576, 4_194_304],
+        Ok((1, 1, 1)),
+    ),
+    (
+        false,
+        &[&[&[(0, 0)], &[(0, 0)]]],
+        [65_536, 65_536, 1_048_576, 4_194_304],
+        Ok((2, 2, 2)),
+    ),
+    (
+        true,
+        &[&[&[(0, 0)], &[(0, 0)]]],
+        [65_536, 65_536, 1_048_576, 4_194_304],
+        Ok((2, 2, 2)),
+    ),
     (false, LATE, [4, 4, 4, 8], Ok((4, 4, 4))),
     (false, LATE, [3, 4, 4, 8], Err(StateFault::GridLimit)),
     (false, LATE, [4, 4, 4, 7], Err(StateFault::CellLimit)),
@@ -119,7 +159,10 @@ fn is_row(rt: &impl Abort, all: &Explored, state: u32, want: [u32; 3]) {
     assert!(rt; state < all.plain.states() && all.plain.columns() == 2);
     for column in 0..3 {
         let next = all.plain.step(state, column).unwrap_or(9);
-        assert!(rt; next == want[column as usize], "state {state} column {column}");
+        assert!(rt;
+            next == want[column as usize],
+            "state {state} column {column}"
+        );
     }
 }
 
@@ -127,7 +170,9 @@ fn is_row(rt: &impl Abort, all: &Explored, state: u32, want: [u32; 3]) {
 fn a_choice_under_ndfa(rt: HostRuntime) -> Result<(), Fail> {
     let alloc = rt.alloc();
     let columns = columns_of(&rt, alloc, CHOICE)?;
-    let all = automaton(&rt, alloc, true, &columns, &CAPS)?.ok().ok_or("no automaton")?;
+    let all = automaton(&rt, alloc, true, &columns, &CAPS)?
+        .ok()
+        .ok_or("no automaton")?;
     is_row(&rt, &all, 0, [1, 2, 0]);
     is_row(&rt, &all, 1, [3, 3, 0]);
     is_row(&rt, &all, 2, [3, 9, 0]);
@@ -152,7 +197,9 @@ fn delays(rt: &impl Abort, alloc: Global, count: u16) -> Result<Vec<Vec<Grid>>, 
 #[test]
 fn all_states_that_may_be(rt: HostRuntime) -> Result<(), Fail> {
     let alloc = rt.alloc();
-    let all = automaton(&rt, alloc, false, &delays(&rt, alloc, 16)?, &CAPS)?.ok().ok_or("no automaton")?;
+    let all = automaton(&rt, alloc, false, &delays(&rt, alloc, 16)?, &CAPS)?
+        .ok()
+        .ok_or("no automaton")?;
     assert!(rt; counts(&all) == (65_536, 65_536, 65_536));
     let more = automaton(&rt, alloc, false, &delays(&rt, alloc, 17)?, &CAPS)?.err();
     assert!(rt; more == Some(StateFault::GridLimit));

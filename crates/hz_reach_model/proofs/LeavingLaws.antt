@@ -1,9 +1,8 @@
 -- What choices leave is what runs leave.
 use Rattle.std.proofs.Common.{◌≡◌, ℕ, suc, ◌+◌, ◌<◌, List, [], ◌∷◌, ◌++◌, length, drop, refl, sym, ap, ◌∙◌, subst, append_assoc, slice_index, arith, zero-add, add-zero}
-use Rattle.std.specs.Prelude.{◌↔◌}
 use Rattle.std.proofs.lemmas.List.{append-nil, drop_more, length-append}
 use Rattle.hz_base_model.specs.Pairs.{Pair, placed}
-use Rattle.hz_acceptance_model.specs.Replay.{Pipeline, State, Step, Plays, MayTake, IsChoice, start, calendar, chosen, left_by}
+use Rattle.hz_acceptance_model.specs.Replay.{Pipeline, State, Plays, MayTake, IsChoice, start, calendar, chosen, left_by}
 use Rattle.hz_acceptance_model.specs.Events.{Event, issue, advance, issues_of, cycles_of}
 use Rattle.hz_acceptance_model.specs.Fitting.{IsFuture}
 use Rattle.hz_acceptance_model.proofs.ReplayLaws.{run_more, issues_of-append, cycles_of-append, calendar-append}

@@ -1,17 +1,15 @@
 -- Events, and the same events column by column.
-use Rattle.std.proofs.Common.{◌≡◌, ℕ, zero, suc, ◌+◌, ◌<◌, ◌≤◌, List, [], ◌∷◌, ◌++◌, length, refl, sym, ap, ◌∙◌, subst, arith, ⊎_elim, replicate, map, zero-add, cond, ltb, true, false}
-use Rattle.std.specs.Prelude.{All, ◌↔◌}
+use Rattle.std.proofs.Common.{◌≡◌, ℕ, zero, suc, ◌+◌, ◌<◌, ◌≤◌, List, [], ◌∷◌, length, refl, sym, ap, ◌∙◌, subst, arith, ⊎_elim, replicate, zero-add, cond}
 use Rattle.std.proofs.lemmas.Bool.{cases_lt, lt-ltb, le-ltb}
 use Rattle.std.proofs.lemmas.List.{map-append}
-use Rattle.std.proofs.lemmas.List.Elements.{All-nil, All-cons, All-append, All-replicate, All-head, All-tail}
+use Rattle.std.proofs.lemmas.List.Elements.{All-nil, All-cons, All-append, All-replicate}
 use Rattle.hz_base_model.specs.Pairs.{Pair}
 use Rattle.hz_acceptance_model.specs.Replay.{Pipeline, State, Step, Plays, start, alternatives_at}
 use Rattle.hz_acceptance_model.specs.Events.{Event, issue, advance}
-use Rattle.hz_acceptance_model.specs.Fitting.{IsFuture}
 use Rattle.hz_acceptance_model.proofs.ReplayLaws.{run_split, run_join}
 use Rattle.hz_reach_model.specs.Reach.{Leaves}
 use Rattle.hz_reach_model.specs.Columns.{AreColumns, event_at, events_at, spelled}
-use Rattle.hz_reach_model.proofs.LeavingLaws.{PlaysTo, plays_from_leaves, leaves_from_plays}
+use Rattle.hz_reach_model.proofs.LeavingLaws.{plays_from_leaves, leaves_from_plays}
 
 -- the event of a class, and the advance
 pub event_of_class : (columns k : ℕ) → k < columns → event_at columns k ≡ issue k
@@ -93,7 +91,7 @@ module _ {U : Type 0} (m : Pipeline U) (columns : ℕ) (none : (k : ℕ) → col
   run_from_spelled (advance n ∷ t) s q inside run =
       let next : State U = record { reserved = s.reserved; now = n + s.now } in
       let parts = run_split m s q (events_at columns (replicate n columns)) (events_at columns (spelled columns t))
-          (subst (λ (e : List Event). Plays m s e q) (map-append (event_at columns) (replicate n columns) (spelled columns t)) run) in
+      (subst (λ (e : List Event). Plays m s e q) (map-append (event_at columns) (replicate n columns) (spelled columns t)) run) in
       let same = advances_only n s parts.0 parts.1 in
       (next, refl, run_from_spelled t next q inside (subst (λ (x : State U). Plays m x (events_at columns (spelled columns t)) q) same parts.2))
 
