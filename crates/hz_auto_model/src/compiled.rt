@@ -1,0 +1,37 @@
+//! Laws of compiled automata.
+
+ghost use Rattle.std.specs.Prelude.{◌≡◌, ◌<◌, ℕ, Bool, List, length, map};
+ghost use Rattle.hz_base_model.specs.Pairs.{Pair};
+ghost use Rattle.hz_altern_model.specs.Sets.{Statement};
+ghost use Rattle.hz_acceptance_model.specs.Replay.{Pipeline, Treatment};
+ghost use Rattle.hz_acceptance_model.specs.Restricted.{restricted};
+ghost use Rattle.hz_mdread_model.specs.Descriptions.{Description};
+ghost use Rattle.hz_check_model.specs.CheckFaults.{Known};
+ghost use Rattle.hz_check_model.specs.CheckedParts.{automaton_count, automata_of, class_parts};
+ghost use Rattle.hz_pipeline_model.specs.Pipelines.{pipeline_with};
+ghost use Rattle.hz_tables_model.specs.Machines.{Part};
+ghost use Rattle.hz_reach_model.specs.Built.{IsAutomaton};
+ghost use Rattle.hz_reach_model.specs.Columns.{pipeline_on};
+ghost use Rattle.hz_reach_model.specs.Counts.{Count};
+ghost use Rattle.hz_auto_model.specs.AutomatonPipelines.{automaton_pipeline};
+ghost use Rattle.hz_auto_model.specs.ClassColumns.{IsColumns};
+ghost use Rattle.hz_auto_model.specs.CompiledParts.{WalksAccepted, TellsWhatIsLeft, IsNumbered, IsWithinLimits, IsPastLimit};
+ghost use Rattle.hz_auto_model.specs.Moved.{IsMoved};
+
+/// A part that takes each class to the column of its list, and whose table is an automaton of the columns, walks what the
+/// pipeline of the classes accepts and nothing else; its states tell what is left, and are numbered breadth-first.
+pub fn automata_of_columns_are_of_classes()
+    ensures walks { (treatment : Treatment) (statements : List (Statement ℕ)) (lists columns : List (List (List (Pair ℕ)))) (part : Part) (grids : List (List (Pair ℕ))) (sets : List (List ℕ)) (parents : List (ℕ × ℕ)) → IsColumns lists columns part.map → length columns ≡ part.columns → IsAutomaton (pipeline_on treatment statements columns) part.columns part.rows grids sets parents → WalksAccepted (length lists) (pipeline_on treatment statements lists) part }
+    ensures tells { (treatment : Treatment) (statements : List (Statement ℕ)) (lists columns : List (List (List (Pair ℕ)))) (part : Part) (grids : List (List (Pair ℕ))) (sets : List (List ℕ)) (parents : List (ℕ × ℕ)) → IsColumns lists columns part.map → length columns ≡ part.columns → IsAutomaton (pipeline_on treatment statements columns) part.columns part.rows grids sets parents → TellsWhatIsLeft (length lists) (pipeline_on treatment statements lists) part }
+    ensures numbered { (treatment : Treatment) (statements : List (Statement ℕ)) (lists columns : List (List (List (Pair ℕ)))) (part : Part) (grids : List (List (Pair ℕ))) (sets : List (List ℕ)) (parents : List (ℕ × ℕ)) → IsColumns lists columns part.map → length columns ≡ part.columns → IsAutomaton (pipeline_on treatment statements columns) part.columns part.rows grids sets parents → IsNumbered part }
+{}
+
+/// No count of an automaton is within its limit and past it.
+pub fn counts_are_within_or_past()
+    ensures { (lists : List (List (List (Pair ℕ)))) (shown : Bool) (m : Pipeline ℕ) (kind : Count) → IsWithinLimits shown lists m → IsPastLimit shown lists m kind → ⊥ }
+{}
+
+/// What a check gives of an automaton is its pipeline: the classes keep their numbers.
+pub fn checked_automata_are_their_pipelines()
+    ensures { (d : Description) (known : Known) (a : ℕ) → a < automaton_count d → IsMoved (λ k. k) (restricted a (pipeline_with d known)) (automaton_pipeline d.options (automata_of d) (map (class_parts d known) d.classes) a) }
+{}
