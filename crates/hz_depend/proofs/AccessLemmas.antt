@@ -3,7 +3,7 @@ use Rattle.std.proofs.Common.{◌≡◌, ℕ, Option, Some, None, refl}
 use Rattle.hz_rtl.specs.declared.block.Op2.{Op2}
 use Rattle.hz_rtl.specs.declared.block.Op2.TheVariants.{Plus}
 use Rattle.hz_rtl.specs.Shape.{binary_operator}
-use Rattle.hz_rtl_model.specs.Operators.{BinaryOperator, plus}
+use Rattle.hz_rtl_model.specs.Operators.{plus}
 use Rattle.hz_depend_model.specs.Accesses.{sum_of}
 
 pub no_left : (right : Option ℕ) → sum_of plus None right ≡ None

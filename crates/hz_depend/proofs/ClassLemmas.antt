@@ -1,17 +1,12 @@
 -- Attributes and conditions one after another.
-use Rattle.std.proofs.Common.{◌≡◌, ℕ, ◌+◌, ◌<◌, ◌≤◌, Bool, true, false, cond, List, [], ◌∷◌, ◌++◌, length, get_or, drop, map, Option, Some, None, Result, refl, sym, ap, ◌∙◌}
+use Rattle.std.proofs.Common.{◌≡◌, ℕ, Bool, true, false, cond, List, [], ◌∷◌, map, Some, None, refl}
 use Rattle.std.specs.List.{find, list_any}
-use Rattle.std.specs.Option.{option_map, option_to_list}
+use Rattle.std.specs.Option.{option_map}
 use Rattle.std.specs.Str.{bytes_eq}
 use Rattle.std.specs.declared.alloc.Global.{Global}
 use Rattle.std.specs.declared.vec.Vec.{Vec}
-use Rattle.std.proofs.lemmas.List.{drop_more, drop_all}
 use Rattle.hz_check.specs.Shape.{attribute_of}
-use Rattle.hz_check.specs.declared.checked.CheckedClass.{CheckedClass}
-use Rattle.hz_mdread_model.specs.Descriptions.{Condition}
-use Rattle.hz_mdread_model.specs.Conditions.{holds}
 use Rattle.hz_depend_model.specs.Classes as model
-use Rattle.hz_depend.specs.Shape.{conditions_of}
 
 pub find_attribute : (defined : List (List ℕ × Vec (List ℕ) Global)) (name : List ℕ) → find (λ attribute. bytes_eq attribute.0 name) (map attribute_of defined) ≡ option_map attribute_of (find (λ attribute. bytes_eq attribute.0 name) defined)
 find_attribute [] name = refl

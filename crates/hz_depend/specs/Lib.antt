@@ -1,3 +1,4 @@
 pub mod Faults
 pub mod Shape
 pub mod Cells
+pub mod AccessShape

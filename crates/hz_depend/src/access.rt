@@ -1,13 +1,15 @@
 //! What instructions read and write.
 
-ghost use Rattle.std.specs.Prelude.{◌≡◌, [], ◌++◌, map, OnOk};
+ghost use Rattle.std.specs.Prelude.{◌≡◌, [], ◌++◌, map, IfOk, OnOk};
+ghost use Rattle.std.specs.List.{flat_map};
 ghost use Rattle.std.specs.Option.{option_map};
-ghost use Rattle.hz_rtl.specs.Shape.{value, binary_operator};
+ghost use Rattle.hz_rtl.specs.Shape.{value, target, effect, instruction, binary_operator};
 ghost use Rattle.hz_depend_model.specs.Accesses as model;
 ghost use Rattle.hz_depend.specs.Cells.{based, cells};
+ghost use Rattle.hz_depend.specs.AccessShape.{IsAccess};
 
 use hz_regexp::NoMemory;
-use hz_rtl::{Op2, Value};
+use hz_rtl::{Effect, Insn, Op2, Place, Value};
 use std::alloc::Global;
 
 /// An address that is a base register plus a constant.
@@ -128,4 +130,70 @@ impl Touched {
         }
         Ok(())
     }
+
+    /// Adds what the address of a place reads.
+    fn read_place(&mut self, place: &Place) -> Result<(), NoMemory>
+        ensures registers { OnOk result (self.new.registers.items ≡ self.old.registers.items ++ flat_map model.registers_in (model.values_of_target (target place.now))) }
+        ensures cells { OnOk result (cells self.new.cells.items ≡ cells self.old.cells.items ++ map model.based_of (flat_map model.addresses_in (model.values_of_target (target place.now)))) }
+    {
+        match place {
+            Place::Reg(_) => {}
+            Place::Mem(address) => self.read(address)?,
+        }
+        Ok(())
+    }
+
+    /// Adds what an effect reads.
+    fn read_effect(&mut self, made: &Effect) -> Result<(), NoMemory>
+        ensures registers { OnOk result (self.new.registers.items ≡ self.old.registers.items ++ flat_map model.registers_in (model.values_of_effect (effect made.now))) }
+        ensures cells { OnOk result (cells self.new.cells.items ≡ cells self.old.cells.items ++ map model.based_of (flat_map model.addresses_in (model.values_of_effect (effect made.now)))) }
+    {
+        match made {
+            Effect::Set(place, value) => {
+                self.read(value)?;
+                self.read_place(place)?;
+            }
+            Effect::Clobber(place) => self.read_place(place)?,
+            Effect::Use(value) => self.read(value)?,
+        }
+        Ok(())
+    }
+
+    /// Adds the place that an effect stores to.
+    fn write_place(&mut self, place: &Place) -> Result<(), NoMemory>
+        ensures registers { OnOk result (self.new.registers.items ≡ self.old.registers.items ++ model.register_of_target (target place.now)) }
+        ensures cells { OnOk result (cells self.new.cells.items ≡ cells self.old.cells.items ++ map model.based_of (model.values_of_target (target place.now))) }
+    {
+        match place {
+            Place::Reg(number) => self.registers.push(*number)?,
+            Place::Mem(address) => self.cells.push(based_of(address))?,
+        }
+        Ok(())
+    }
+
+    /// Adds what an effect writes.
+    fn write_effect(&mut self, made: &Effect) -> Result<(), NoMemory>
+        ensures registers { OnOk result (self.new.registers.items ≡ self.old.registers.items ++ flat_map model.register_of_target (model.targets_of_effect (effect made.now))) }
+        ensures cells { OnOk result (cells self.new.cells.items ≡ cells self.old.cells.items ++ map model.based_of (flat_map model.values_of_target (model.targets_of_effect (effect made.now)))) }
+    {
+        match made {
+            Effect::Set(place, _) => self.write_place(place)?,
+            Effect::Clobber(place) => self.write_place(place)?,
+            Effect::Use(_) => {}
+        }
+        Ok(())
+    }
+}
+
+/// What an instruction reads and writes.
+pub fn access_of(alloc: Global, insn: &Insn) -> Result<Access, NoMemory>
+    ensures { IfOk result (λ access. IsAccess access (model.access_of (instruction insn.now))) }
+{
+    let mut read = Touched::new(alloc);
+    let mut written = Touched::new(alloc);
+    for effect in &insn.effects {
+        read.read_effect(effect)?;
+        written.write_effect(effect)?;
+    }
+    Ok(Access { read, written })
 }

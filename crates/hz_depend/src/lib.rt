@@ -5,3 +5,6 @@ mod access;
 mod class;
 
 pub use class::{ClassFault, class_of};
+
+#[cfg(test)]
+mod tests;
