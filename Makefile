@@ -29,6 +29,8 @@ bench: bin/hz
 	@sh bench/description/run.sh bin/hz
 	@sh bench/alternatives/run.sh bin/hz
 	@sh bench/check/run.sh bin/hz
+	@sh bench/states/run.sh
+	@sh bench/determ/run.sh
 
 install: bin/hz
 	@install -d "$(DESTDIR)$(PREFIX)/bin"

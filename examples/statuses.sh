@@ -34,7 +34,10 @@ printf '(define_cpu_unit "u")\n(define_insn_reservation "x" 1 (const_int 1) "(u|
 printf '(define_cpu_unit "u")\n(define_insn_reservation "x" 1 (const_int 1) "(u|u)*65535")\n' > most
 printf 'issue x\nadvance 1\nissue x\n' > t
 printf 'issue x\nissue x\n' > twice
-printf 'issue z\n' > unknown
+printf '; no class has this name\nissue z\n' > unknown
+printf '\n  issue x ; late\n' > bad
+printf 'advance 16777216\nissue x\nadvance 1\n' > far
+printf ' issue\tx\r\n\n; again\nissue x' > spaced
 : > empty
 mkdir folder
 head -c 4194304 /dev/zero | tr '\0' ' ' > longest
@@ -55,8 +58,11 @@ expect 2 'fault name line 2 UnknownName v' replay name t
 expect 2 'fault circle line 1 CircularReservation r' replay circle t
 expect 3 'limit alternatives line 2 Alternatives x' replay alternatives t
 expect 3 'limit most line 2 Alternatives x' replay most t
-expect 2 'fault unknown NotBuilt' replay d unknown
-expect 2 'fault t NotBuilt' replay empty t
+expect 1 'refused line 4 x' replay d spaced
+expect 2 'fault unknown line 2 UnknownClass' replay d unknown
+expect 2 'fault bad line 2 BadLine' replay d bad
+expect 2 'fault far line 3 AdvanceLimit' replay d far
+expect 2 'fault t line 1 UnknownClass' replay empty t
 expect 3 'limit long bytes' replay long t
 expect 3 'limit long bytes' replay long missing
 expect 3 'limit long_trace bytes' replay d long_trace

@@ -1,17 +1,21 @@
 -- Answers: there is one, and no other.
-use Rattle.std.proofs.Common.{◌≡◌, ℕ, ◌+◌, inl, inr, true, false, Bool, List, [], ◌∷◌, length, Option, Some, None, MatchOption, MatchBool, nat_lt, slice_get, sym, ap, ◌∙◌, subst}
+use Rattle.std.proofs.Common.{◌≡◌, ℕ, inl, inr, true, false, Bool, List, [], ◌∷◌, length, Option, Some, None, MatchOption, MatchBool, nat_lt, slice_get, sym, ap, ◌∙◌, subst}
 use Rattle.std.proofs.lemmas.Option.{same_Some}
 use Rattle.hz_sexp_model.proofs.FormsLaws.{one_reading, one_fault, forms_or_fault}
 use Rattle.hz_mdread_model.proofs.DescriptionLaws.{one_description, one_fault_of_descriptions, description_or_fault}
 use Rattle.hz_check_model.proofs.CheckLaws.{fault_one, fault_or_sound, sound_one}
 use Rattle.hz_acceptance_model.proofs.AcceptanceLaws.{one_refused, accepted_or_refused}
-use Rattle.hz_answer_model.specs.Answers.{Held, Says, Next, Opens, HasForms, Describes, Checks, is_built, Traces, Replays, ReplaysDescription, Judges, IsIssueOf, AnswersOrder, Answer}
+use Rattle.hz_answer_model.specs.Answers.{Held, Says, Next, Opens, HasForms, Describes, Checks, HasDescription, is_built, Traces, Replays, ReplaysTrace, ReplaysDescription, Judges, IsIssueOf, AnswersOrder, Answer}
 use Rattle.hz_check_model.specs.CheckFaults.{CheckFault, Known}
 use Rattle.hz_mdread_model.specs.DescriptionForms.{DescriptionFault}
 use Rattle.hz_mdread_model.specs.Descriptions.{Description}
-use Rattle.hz_answer_model.specs.FaultTexts.{form_word, description_words, check_line, check_status}
+use Rattle.hz_answer_model.specs.FaultTexts.{form_word, description_words, check_line, check_status, trace_word}
 use Rattle.hz_sexp_model.specs.Forms.{FormFault}
 use Rattle.hz_base_model.specs.Limits.{description_limit, trace_limit}
+use Rattle.hz_base_model.specs.Lines.{lines_of}
+use Rattle.hz_check_model.specs.Places.{class_names}
+use Rattle.hz_trace_model.specs.Traces.{TraceFault, event_lines}
+use Rattle.hz_trace_model.proofs.TraceLaws.{one_trace, one_trace_fault, trace_or_fault}
 use Rattle.hz_pipeline_model.specs.Pipelines.{pipeline_with}
 use Rattle.hz_acceptance_model.specs.Replay.{Pipeline, Class}
 use Rattle.hz_acceptance_model.specs.Events.{Event, issue}
@@ -40,23 +44,26 @@ module _ {U : Type 0} (m : Pipeline U) where
       same_issue_number : (k l : ℕ) → issue k ≡ issue l → k ≡ l
       same_issue_number k l h = cc
 
-  replays_single : (events : List Event) → IsSingle (Replays m events)
-  replays_single events s s' t t' (inl a) (inl b) = says_single _ _ s s' t t' a.1 b.1
-  replays_single events s s' t t' (inl a) (inr b) = absurd (accepted_or_refused m events b.0 a.0 b.2)
-  replays_single events s s' t t' (inr a) (inl b) = absurd (accepted_or_refused m events a.0 b.0 a.2)
-  replays_single events s s' t t' (inr (i, class, first, named, says)) (inr (j, class', first', named', says')) =
+  replays_single : (lines : List ℕ) (events : List Event) → IsSingle (Replays m lines events)
+  replays_single lines events s s' t t' (inl a) (inl b) = says_single _ _ s s' t t' a.1 b.1
+  replays_single lines events s s' t t' (inl a) (inr b) = absurd (accepted_or_refused m events b.0 a.0 b.3)
+  replays_single lines events s s' t t' (inr a) (inl b) = absurd (accepted_or_refused m events a.0 b.0 a.3)
+  replays_single lines events s s' t t' (inr (i, line, class, first, there, named, says)) (inr (j, line', class', first', there', named', says')) =
       let place = one_refused m events i j first first' in
+      let number = same_Some line line' (sym there ∙ (ap (slice_get lines) place ∙ there')) in
       let name = one_class (slice_get events i) class class' named (subst (λ (n : ℕ). IsIssueOf m (slice_get events n) class') (sym place) named') in
-      (says.0 ∙ sym says'.0, says.1 ∙ (ap (λ (n : ℕ). refused_line (n + 1) class) place ∙ (ap (refused_line (j + 1)) name ∙ sym says'.1)))
+      (says.0 ∙ sym says'.0, says.1 ∙ (ap (λ (n : ℕ). refused_line n class) number ∙ (ap (refused_line line') name ∙ sym says'.1)))
 
 -- a phase leaves no choice where the next leaves none
-traces_single : (d : Description) (name text : List ℕ) (next : Next (List Event)) → ((events : List Event) → IsSingle (next events)) → IsSingle (Traces d name text next)
-traces_single d name text next single s s' t t' (inl (events, is, a)) (inl (events', is', b)) =
-    let same = same_Some events events' (sym is.lines ∙ is'.lines) in
+traces_single : (classes : List (List ℕ)) (name text : List ℕ) (next : Next (List Event)) → ((events : List Event) → IsSingle (next events)) → IsSingle (Traces classes name text next)
+traces_single classes name text next single s s' t t' (inl (events, is, a)) (inl (events', is', b)) =
+    let same = one_trace classes text events events' is is' in
     single events s s' t t' a (subst (λ (es : List Event). next es s' t') (sym same) b)
-traces_single d name text next single s s' t t' (inl (events, is, a)) (inr (none, b)) = absurd (none events is)
-traces_single d name text next single s s' t t' (inr (none, a)) (inl (events, is, b)) = absurd (none events is)
-traces_single d name text next single s s' t t' (inr (none, a)) (inr (none', b)) = says_single _ _ s s' t t' a b
+traces_single classes name text next single s s' t t' (inl (events, is, a)) (inr (fault, line, wrong, b)) = absurd (trace_or_fault classes text events fault line is wrong)
+traces_single classes name text next single s s' t t' (inr (fault, line, wrong, a)) (inl (events, is, b)) = absurd (trace_or_fault classes text events fault line is wrong)
+traces_single classes name text next single s s' t t' (inr (fault, line, wrong, a)) (inr (other, place, also, b)) =
+    let same = one_trace_fault classes text fault other line place wrong also in
+    says_same _ _ _ _ (ap (λ (n : ℕ). 2) same.1) (ap (λ (f : TraceFault). fault_line name line (trace_word f ∷ [])) same.0 ∙ ap (λ (n : ℕ). fault_line name n (trace_word other ∷ [])) same.1) s s' t t' a b
 
 builds_single : (name : List ℕ) (built : Bool) (next : ℕ → List ℕ → Type 0) → IsSingle next → IsSingle (λ s t. MatchBool built (next s t) (Says 2 (not_built_line name) s t))
 builds_single name true next single = single
@@ -92,13 +99,17 @@ forms_single name bytes next single s s' t t' (inr (fault, line, wrong, a)) (inr
     let same = one_fault bytes fault other line place wrong also in
     says_same _ _ _ _ (ap (λ (n : ℕ). 2) same.1) (ap (λ (f : FormFault). fault_line name line (form_word f ∷ [])) same.0 ∙ ap (λ (n : ℕ). fault_line name n (form_word other ∷ [])) same.1) s s' t t' a b
 
+description_single : (name bytes : List ℕ) (next : (d : Description) → Next Known) → ((d : Description) (known : Known) → IsSingle (next d known)) → IsSingle (HasDescription name bytes next)
+description_single name bytes next single =
+    forms_single name bytes _ (λ read.
+    describes_single name read _ (λ d.
+    checks_single name d (next d) (single d)))
+
 texts_single : (description described trace traced : List ℕ) → IsSingle (Judges description described trace traced)
 texts_single description described trace traced =
-    forms_single description described _ (λ read.
-    describes_single description read _ (λ d.
-    checks_single description d (ReplaysDescription description trace traced d) (λ known.
-    builds_single description (is_built d) (Traces d trace traced (Replays (pipeline_with d known)))
-    (traces_single d trace traced (Replays (pipeline_with d known)) (replays_single (pipeline_with d known))))))
+    description_single description described (ReplaysDescription description trace traced) (λ d known.
+    builds_single description (is_built d) (ReplaysTrace trace traced d known)
+    (traces_single (class_names d) trace traced (Replays (pipeline_with d known) (event_lines (class_names d) 1 (lines_of traced))) (replays_single (pipeline_with d known) (event_lines (class_names d) 1 (lines_of traced)))))
 
 -- reading a file leaves no choice where what follows leaves none
 opens_single : (o : Option (List ℕ)) (name : List ℕ) (most : ℕ) (next : List ℕ → ℕ → List ℕ → Type 0) → ((bytes : List ℕ) → IsSingle (next bytes)) → IsSingle (λ s t. MatchOption o (Says 6 (file_line name) s t) (λ bytes. MatchBool (nat_lt most (length bytes)) (Says 3 (limit_line name) s t) (next bytes s t)))

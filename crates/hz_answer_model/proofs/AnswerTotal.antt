@@ -1,8 +1,7 @@
 -- There is an answer to all words, whatever is held.
-use Rattle.std.proofs.Common.{◌≡◌, ℕ, ◌+◌, ◌<◌, ◌≤◌, ⊎_elim, inl, inr, true, false, Bool, List, [], ◌∷◌, length, All, Option, Some, None, MatchOption, MatchBool, nat_lt, get_or, slice_get, refl, sym, ap, ◌∙◌, subst, arith}
-use Rattle.std.proofs.lemmas.Bool.{cases_lt}
+use Rattle.std.proofs.Common.{◌≡◌, ℕ, ◌<◌, ⊎_elim, inl, inr, true, false, Bool, List, [], ◌∷◌, length, All, Option, Some, None, MatchOption, MatchBool, nat_lt, get_or, slice_get, refl, subst, arith, ◌⊎◌}
 use Rattle.std.proofs.lemmas.List.Elements.{All-get_or}
-use Rattle.std.proofs.lemmas.Option.{none-some, same_Some, slice_get-get_or, slice_get_within, get_or_from_slice_get}
+use Rattle.std.proofs.lemmas.Option.{slice_get-get_or, slice_get_within, get_or_from_slice_get}
 use Rattle.hz_answer_model.proofs.EventLaws.{issue_named, events_known}
 use Rattle.hz_sexp_model.proofs.FormsFront.{every_text}
 use Rattle.hz_mdread_model.proofs.DescriptionLaws.{every_list}
@@ -12,19 +11,20 @@ use Rattle.hz_check_model.proofs.CheckTotal.{sound_or_fault}
 use Rattle.hz_acceptance_model.proofs.AcceptanceLaws.{refused_issue}
 use Rattle.hz_acceptance_model.proofs.PlayLaws.{accepted_or_first_refused}
 use Rattle.hz_acceptance_model.proofs.Rows.{same_unit, places_tell}
-use Rattle.hz_answer_model.specs.Answers.{Held, Says, Next, Opens, HasForms, Describes, Checks, is_built, Traces, Replays, ReplaysDescription, Judges, IsIssueOf, AnswersOrder, Answer}
+use Rattle.hz_answer_model.specs.Answers.{Held, Says, Next, Opens, HasForms, Describes, Checks, HasDescription, is_built, Replays, ReplaysTrace, ReplaysDescription, Judges, IsIssueOf, AnswersOrder, Answer}
 use Rattle.hz_check_model.specs.CheckFaults.{Known, CheckFault, CheckFaultAt, IsSound}
 use Rattle.hz_mdread_model.specs.DescriptionForms as description_forms
 use Rattle.hz_mdread_model.specs.DescriptionShape.{IsWellFormed}
 use Rattle.hz_mdread_model.specs.Descriptions.{Description}
-use Rattle.hz_answer_model.specs.FaultTexts.{form_word, description_words, check_line, check_status}
-use Rattle.hz_base_model.specs.Limits.{description_limit, trace_limit, advance_limit}
+use Rattle.hz_answer_model.specs.FaultTexts.{form_word, description_words, check_line, check_status, trace_word}
+use Rattle.hz_base_model.specs.Limits.{description_limit, trace_limit}
 use Rattle.hz_base_model.specs.Lines.{lines_of}
 use Rattle.hz_check_model.specs.Places.{class_names}
 use Rattle.hz_pipeline_model.specs.Pipelines.{pipeline_with}
 use Rattle.hz_acceptance_model.specs.Replay.{FirstRefused}
 use Rattle.hz_acceptance_model.specs.Events.{Event, issue, cycles_of, issues_of, IsOfClass}
-use Rattle.hz_trace_model.specs.StraightTraces.{StraightTrace, events_of}
+use Rattle.hz_trace_model.specs.Traces.{Trace, TraceFault, TraceFaultAt, event_lines}
+use Rattle.hz_trace_model.proofs.TraceLaws.{trace_of_every_text, counted_lines}
 use Rattle.hz_answer_model.specs.Texts.{file_line, limit_line, fault_line, usage_line, refused_line, accepted_line, not_built_line}
 use Rattle.hz_sexp_model.specs.Trees.{Trees}
 use Rattle.hz_answer_model.specs.Words.{Order, replay, order_of}
@@ -49,34 +49,26 @@ module _ (d : Description) (known : Known) where
       let low : found.0 < length (class_names d) = subst (IsOfClass (length (class_names d))) is (All-get_or (IsOfClass (length (class_names d))) events i (issue 0) within of_class) in
       (get_or (class_names d) found.0 [], issue_named d known (slice_get events i) found.0 (get_or (class_names d) found.0 []) found.1 (slice_get-get_or (class_names d) found.0 [] low))
 
-  replays_one : (events : List Event) → All (IsOfClass (length (class_names d))) events → HasOne (Replays (pipeline_with d known) events)
-  replays_one events of_class = ⊎_elim
+  replays_one : (lines : List ℕ) (events : List Event) → length lines ≡ length events → All (IsOfClass (length (class_names d))) events → HasOne (Replays (pipeline_with d known) lines events)
+  replays_one lines events each of_class = ⊎_elim
       (λ accepted. wider (Says 0 (accepted_line (issues_of events) (cycles_of events))) _ (λ s t h. inl (accepted, h)) (says_one 0 (accepted_line (issues_of events) (cycles_of events))))
       (λ refused.
       let class = refused_class events of_class refused.0 refused.1 in
-      wider (Says 1 (refused_line (refused.0 + 1) class.0)) _ (λ s t h. inr (refused.0, class.0, refused.1, class.1, h)) (says_one 1 (refused_line (refused.0 + 1) class.0)))
+      let i = refused.0 in
+      let within = (refused.1).within in
+      let line = get_or lines i 0 in
+      let there = slice_get-get_or lines i 0 (omega (arith, within, each)) in
+      wider (Says 1 (refused_line line class.0)) _ (λ s t h. inr (i, line, class.0, refused.1, there, class.1, h)) (says_one 1 (refused_line line class.0)))
       (accepted_or_first_refused same_unit places_tell (pipeline_with d known) events)
 
-  traces_one : (name text : List ℕ) → HasOne (Traces d name text (Replays (pipeline_with d known)))
-  traces_one name text = by_events (events_of (class_names d) (lines_of text)) refl
-    where
-      none : ((events : List Event) → StraightTrace (class_names d) text events → ⊥) → HasOne (Traces d name text (Replays (pipeline_with d known)))
-      none not_one = wider (Says 2 (not_built_line name)) _ (λ s t h. inr (not_one, h)) (says_one 2 (not_built_line name))
-
-      some : (events : List Event) → StraightTrace (class_names d) text events → HasOne (Traces d name text (Replays (pipeline_with d known)))
-      some events is = wider (Replays (pipeline_with d known) events) _ (λ s t h. inl (events, is, h)) (replays_one events (events_known (class_names d) (lines_of text) events is.lines))
-
-      by_events : (o : Option (List Event)) → events_of (class_names d) (lines_of text) ≡ o → HasOne (Traces d name text (Replays (pipeline_with d known)))
-      by_events None e = none (λ events is. none-some events (sym e ∙ is.lines))
-      by_events (Some events) e = ⊎_elim
-          (λ long. none (λ others is. too_long events others (same_Some events others (sym e ∙ is.lines)) long is.short))
-          (λ short. some events (record { lines = e; short = short }))
-          (cases_lt advance_limit (cycles_of events))
-        where
-          too_long : (events others : List Event) → events ≡ others → advance_limit < cycles_of events → cycles_of others ≤ advance_limit → ⊥
-          too_long events others same long short =
-              let count = ap cycles_of same in
-              absurd (omega arith)
+  traces_one : (name text : List ℕ) → HasOne (ReplaysTrace name text d known)
+  traces_one name text = ⊎_elim
+      (λ (found : (events : List Event) × Trace (class_names d) text events).
+      wider (Replays (pipeline_with d known) (event_lines (class_names d) 1 (lines_of text)) found.0) _ (λ s t h. inl (found.0, found.1, h))
+      (replays_one (event_lines (class_names d) 1 (lines_of text)) found.0 (counted_lines (class_names d) 1 (found.1).lines) (events_known (found.1).lines)))
+      (λ (wrong : (fault : TraceFault) × (line : ℕ) × TraceFaultAt (class_names d) text fault line).
+      wider (Says 2 (fault_line name wrong.1 (trace_word wrong.0 ∷ []))) _ (λ s t h. inr (wrong.0, wrong.1, wrong.2, h)) (says_one 2 (fault_line name wrong.1 (trace_word wrong.0 ∷ []))))
+      (trace_of_every_text (class_names d) text)
 
 builds_one : (name : List ℕ) (built : Bool) (next : ℕ → List ℕ → Type 0) → HasOne next → HasOne (λ s t. MatchBool built (next s t) (Says 2 (not_built_line name) s t))
 builds_one name true next one = one
@@ -102,12 +94,16 @@ forms_one name bytes next one = ⊎_elim
     (λ wrong. wider (Says 2 (fault_line name wrong.1 (form_word wrong.0 ∷ []))) _ (λ s t h. inr (wrong.0, wrong.1, wrong.2, h)) (says_one 2 (fault_line name wrong.1 (form_word wrong.0 ∷ []))))
     (every_text bytes)
 
+description_one : (name bytes : List ℕ) (next : (d : Description) → Next Known) → ((d : Description) (known : Known) → HasOne (next d known)) → HasOne (HasDescription name bytes next)
+description_one name bytes next one =
+    forms_one name bytes _ (λ read.
+    describes_one name read _ (λ d formed.
+    checks_one name d (next d) formed (one d)))
+
 texts_one : (description described trace traced : List ℕ) → HasOne (Judges description described trace traced)
 texts_one description described trace traced =
-    forms_one description described _ (λ read.
-    describes_one description read _ (λ d formed.
-    checks_one description d (ReplaysDescription description trace traced d) formed (λ known.
-    builds_one description (is_built d) (Traces d trace traced (Replays (pipeline_with d known))) (traces_one d known trace traced))))
+    description_one description described (ReplaysDescription description trace traced) (λ d known.
+    builds_one description (is_built d) (ReplaysTrace trace traced d known) (traces_one d known trace traced))
 
 -- reading a file answers where what follows does
 opens_one : (o : Option (List ℕ)) (name : List ℕ) (most : ℕ) (next : List ℕ → ℕ → List ℕ → Type 0) → ((bytes : List ℕ) → HasOne (next bytes)) → HasOne (λ s t. MatchOption o (Says 6 (file_line name) s t) (λ bytes. MatchBool (nat_lt most (length bytes)) (Says 3 (limit_line name) s t) (next bytes s t)))

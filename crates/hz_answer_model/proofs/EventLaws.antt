@@ -1,10 +1,11 @@
--- The events of a straight trace issue classes that there are.
-use Rattle.std.proofs.Common.{◌≡◌, ℕ, ◌<◌, true, false, cond, nat_lt, List, [], ◌∷◌, length, All, Option, Some, None, codes, take, drop, slice_get, option_and_then, refl, sym, ap, ◌∙◌, subst, arith}
+-- The events of a trace issue classes that there are.
+use Rattle.std.proofs.Common.{◌≡◌, ℕ, ◌<◌, Bool, true, false, cond, nat_lt, List, [], ◌∷◌, length, All, Option, Some, None, codes, slice_get, refl, sym, ap, ◌∙◌, subst, arith}
 use Rattle.std.proofs.lemmas.Bool.{ltb-true}
 use Rattle.std.proofs.lemmas.List.Elements.{All-nil, All-cons}
 use Rattle.std.proofs.lemmas.Option.{none-some, same_Some, cond_some, slice_get-map}
 use Rattle.std.specs.List.{position_or_len}
-use Rattle.std.specs.Option.{option_map}
+use Rattle.std.specs.Option.{option_map, option_map_or}
+use Rattle.std.specs.Prelude.{◌==◌}
 use Rattle.std.specs.Str.{bytes_eq}
 use Rattle.hz_answer_model.specs.Answers.{IsIssueOf}
 use Rattle.hz_base_model.specs.Lines.{place_of, number_of}
@@ -13,7 +14,8 @@ use Rattle.hz_mdread_model.specs.Descriptions.{Description, ClassItem}
 use Rattle.hz_check_model.specs.Places.{class_names}
 use Rattle.hz_pipeline_model.specs.Pipelines.{class_of, pipeline_with}
 use Rattle.hz_acceptance_model.specs.Events.{Event, issue, advance, IsOfClass}
-use Rattle.hz_trace_model.specs.StraightTraces.{event_of, events_of}
+use Rattle.hz_base_model.specs.Names.{is_name}
+use Rattle.hz_trace_model.specs.Traces.{skipped, says, wrong, bad_line, unknown_class, without_margin, first_word, operand, says_issue, says_advance, says_words, says_content, Say, nothing, skips, tells}
 
 -- an issue is of the class of its number
 pub issue_named : (d : Description) (known : Known) (e : Option Event) (k : ℕ) (name : List ℕ) → e ≡ Some (issue k) → slice_get (class_names d) k ≡ Some name → IsIssueOf (pipeline_with d known) e name
@@ -30,33 +32,35 @@ place_within name names k h =
     let within = ltb-true _ _ found.0 in
     omega (arith, found.1)
 
-issue_known : (classes : List (List ℕ)) (place : Option ℕ) (e : Event) → ((k : ℕ) → place ≡ Some k → k < length classes) → option_map issue place ≡ Some e → IsOfClass (length classes) e
-issue_known classes None e known h = absurd (none-some e h)
-issue_known classes (Some k) e known h = subst (IsOfClass (length classes)) (same_Some _ _ h) (known k refl)
+-- An event that a line says is of one of the classes.
 
-advance_known : (classes : List (List ℕ)) (number : Option ℕ) (e : Event) → option_map advance number ≡ Some e → IsOfClass (length classes) e
-advance_known classes None e h = absurd (none-some e h)
-advance_known classes (Some n) e h = subst (IsOfClass (length classes)) (same_Some _ _ h) tt
+issue_known : (classes : List (List ℕ)) (place : Option ℕ) (e : Event) → ((k : ℕ) → place ≡ Some k → k < length classes) → option_map_or (λ k. says (issue k)) place (wrong unknown_class) ≡ says e → IsOfClass (length classes) e
+issue_known classes None e known h = absurd (cc)
+issue_known classes (Some k) e known h = let same : issue k ≡ e = cc in subst (IsOfClass (length classes)) same (known k refl)
 
--- the event of a line is an issue of one of the classes, or advances
-event_known : (classes : List (List ℕ)) (line : List ℕ) (e : Event) → event_of classes line ≡ Some e → IsOfClass (length classes) e
-event_known classes line e =
-    elim (bytes_eq (take 6 line) (codes "issue ")) as (λ t. cond t (option_map issue (place_of (drop 6 line) classes)) (cond (bytes_eq (take 8 line) (codes "advance ")) (option_map advance (number_of (drop 8 line))) None) ≡ Some e → IsOfClass (length classes) e) [
-      | true ↦ λ h. issue_known classes (place_of (drop 6 line) classes) e (place_within (drop 6 line) classes) h
-      | false ↦ elim (bytes_eq (take 8 line) (codes "advance ")) as (λ t. cond t (option_map advance (number_of (drop 8 line))) None ≡ Some e → IsOfClass (length classes) e) [
-        | true ↦ λ h. advance_known classes (number_of (drop 8 line)) e h
-        | false ↦ λ h. absurd (none-some e h)
-      ]
-    ]
+advance_known : (classes : List (List ℕ)) (number : Option ℕ) (e : Event) → option_map_or (λ n. says (advance n)) number (wrong bad_line) ≡ says e → IsOfClass (length classes) e
+advance_known classes None e h = absurd (cc)
+advance_known classes (Some n) e h = let same : advance n ≡ e = cc in subst (IsOfClass (length classes)) same tt
 
--- all events are of the classes
-pub events_known : (classes lines : List (List ℕ)) (events : List Event) → events_of classes lines ≡ Some events → All (IsOfClass (length classes)) events
-events_known classes [] events h = subst (All (IsOfClass (length classes))) (same_Some _ _ h) (All-nil (IsOfClass (length classes)))
-events_known classes (line ∷ lines) events h = by_first (event_of classes line) refl (events_of classes lines) refl (λ es k. events_known classes lines es k)
+name_known : (classes : List (List ℕ)) (name : List ℕ) (e : Event) (b : Bool) → cond b (option_map_or (λ k. says (issue k)) (place_of name classes) (wrong unknown_class)) (wrong bad_line) ≡ says e → IsOfClass (length classes) e
+name_known classes name e true h = issue_known classes (place_of name classes) e (place_within name classes) h
+name_known classes name e false h = absurd (cc)
+
+words_known : (classes : List (List ℕ)) (operand : List ℕ) (e : Event) (a b : Bool) → cond a (says_issue classes operand) (cond b (says_advance operand) (wrong bad_line)) ≡ says e → IsOfClass (length classes) e
+words_known classes operand e true b h = name_known classes operand e (is_name operand) h
+words_known classes operand e false true h = advance_known classes (number_of operand) e h
+words_known classes operand e false false h = absurd (cc)
+
+content_known : (classes : List (List ℕ)) (content : List ℕ) (e : Event) → says_content classes content ≡ says e → IsOfClass (length classes) e
+content_known classes [] e h = absurd (cc)
+content_known classes (b ∷ bs) e h = by_mark (b == 59) h
   where
-    by_first : (o : Option Event) → event_of classes line ≡ o → (os : Option (List Event)) → events_of classes lines ≡ os → ((es : List Event) → events_of classes lines ≡ Some es → All (IsOfClass (length classes)) es) → All (IsOfClass (length classes)) events
-    by_first None first os others known = absurd (none-some events (sym (ap (option_and_then (λ e. option_map (λ es. e ∷ es) (events_of classes lines))) first) ∙ h))
-    by_first (Some e) first None others known = absurd (none-some events (sym (ap (option_and_then (λ e. option_map (λ es. e ∷ es) (events_of classes lines))) first ∙ ap (option_map (λ es. e ∷ es)) others) ∙ h))
-    by_first (Some e) first (Some es) others known =
-        let same = same_Some _ _ (sym (ap (option_and_then (λ e. option_map (λ es. e ∷ es) (events_of classes lines))) first ∙ ap (option_map (λ es. e ∷ es)) others) ∙ h) in
-        subst (All (IsOfClass (length classes))) same (All-cons (IsOfClass (length classes)) e es (event_known classes line e first) (known es others))
+    by_mark : (t : Bool) → cond t skipped (says_words classes (first_word (b ∷ bs)) (operand (b ∷ bs))) ≡ says e → IsOfClass (length classes) e
+    by_mark true h = absurd (cc)
+    by_mark false h = words_known classes (operand (b ∷ bs)) e (bytes_eq (first_word (b ∷ bs)) (codes "issue")) (bytes_eq (first_word (b ∷ bs)) (codes "advance")) h
+
+-- all events of lines are of the classes
+pub events_known : {classes lines : List (List ℕ)} {events : List Event} → Say classes lines events → All (IsOfClass (length classes)) events
+events_known {classes} nothing = All-nil (IsOfClass (length classes))
+events_known (skips is rest) = events_known rest
+events_known {classes} (tells {line = line} {event = event} {events = events} is rest) = All-cons (IsOfClass (length classes)) event events (content_known classes (without_margin line) event is) (events_known rest)

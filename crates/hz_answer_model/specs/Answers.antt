@@ -1,10 +1,10 @@
 -- What the program answers: this profile, docs/FORMATS.md, 'Answers'.
-use Rattle.std.specs.Prelude.{◌≡◌, ℕ, ◌+◌, List, [], ◌∷◌, Bool, ◌&&◌, not, nat_lt, Option, Some, MatchOption, MatchBool, length, ◌⊎◌, slice_get}
+use Rattle.std.specs.Prelude.{◌≡◌, ℕ, List, [], ◌∷◌, Bool, ◌&&◌, not, nat_lt, Option, Some, MatchOption, MatchBool, length, ◌⊎◌, slice_get}
 use Rattle.hz_check_model.specs.CheckFaults.{CheckFault, Known, CheckFaultAt, IsSound}
 use Rattle.hz_mdread_model.specs.DescriptionForms.{DescriptionFault}
 use Rattle.hz_mdread_model.specs.DescriptionForms as description_forms
 use Rattle.hz_mdread_model.specs.Descriptions.{Description}
-use Rattle.hz_answer_model.specs.FaultTexts.{form_word, description_words, check_line, check_status}
+use Rattle.hz_answer_model.specs.FaultTexts.{form_word, description_words, check_line, check_status, trace_word}
 use Rattle.hz_sexp_model.specs.Forms.{FormFault}
 use Rattle.hz_sexp_model.specs.Forms as forms
 use Rattle.hz_base_model.specs.Limits.{description_limit, trace_limit}
@@ -13,7 +13,8 @@ use Rattle.hz_pipeline_model.specs.Pipelines.{pipeline_with}
 use Rattle.hz_acceptance_model.specs.Events.{Event, issue, issues_of, cycles_of}
 use Rattle.hz_acceptance_model.specs.Replay.{Pipeline, Class, Accepted, FirstRefused}
 use Rattle.hz_check_model.specs.Sites.{Site}
-use Rattle.hz_trace_model.specs.StraightTraces.{StraightTrace}
+use Rattle.hz_base_model.specs.Lines.{lines_of}
+use Rattle.hz_trace_model.specs.Traces.{Trace, TraceFault, TraceFaultAt, event_lines}
 use Rattle.hz_answer_model.specs.Texts.{usage_line, file_line, limit_line, fault_line, not_built_line, accepted_line, refused_line}
 use Rattle.hz_sexp_model.specs.Trees.{Trees}
 use Rattle.hz_answer_model.specs.Words.{Order, replay, order_of}
@@ -54,6 +55,10 @@ Checks name d next status text =
     ((known : Known) × IsSound d known × next known status text)
     ⊎ ((fault : CheckFault) × (site : Site) × CheckFaultAt d fault site × Says (check_status fault) (check_line name fault site) status text)
 
+-- the front of every command on a description: its text is read, and it is checked
+abbrev pub HasDescription : List ℕ → List ℕ → ((d : Description) → Next Known) → ℕ → List ℕ → Type 0
+HasDescription name bytes next = HasForms name bytes (λ read. Describes name read (λ d. Checks name d (next d)))
+
 -- what is built: descriptions with fewer than two automata, in the first treatment
 abbrev pub is_built : Description → Bool
 is_built d = nat_lt (length d.automata) 2 && not d.options.ndfa
@@ -62,38 +67,34 @@ is_built d = nat_lt (length d.automata) 2 && not d.options.ndfa
 abbrev pub Builds : List ℕ → Description → (ℕ → List ℕ → Type 0) → ℕ → List ℕ → Type 0
 Builds name d next status text = MatchBool (is_built d) (next status text) (Says 2 (not_built_line name) status text)
 
--- the trace is judged: one of another kind is not built
-abbrev pub Traces : Description → List ℕ → List ℕ → Next (List Event) → ℕ → List ℕ → Type 0
-Traces d name bytes next status text =
-    ((events : List Event) × StraightTrace (class_names d) bytes events × next events status text)
-    ⊎ (((events : List Event) → StraightTrace (class_names d) bytes events → ⊥) × Says 2 (not_built_line name) status text)
+-- the events of a trace of classes with these names, or its first wrong line
+abbrev pub Traces : List (List ℕ) → List ℕ → List ℕ → Next (List Event) → ℕ → List ℕ → Type 0
+Traces classes name bytes next status text =
+    ((events : List Event) × Trace classes bytes events × next events status text)
+    ⊎ ((fault : TraceFault) × (line : ℕ) × TraceFaultAt classes bytes fault line × Says 2 (fault_line name line (trace_word fault ∷ [])) status text)
 
 -- the class that an event issues
 abbrev pub IsIssueOf : {U : Type 0} → Pipeline U → Option Event → List ℕ → Type 0
 IsIssueOf {U} m e name = (k : ℕ) × (c : Class U) × (e ≡ Some (issue k)) × (slice_get m.classes k ≡ Some c) × (c.name ≡ name)
 
--- the replay: accepted, or refused at the first event that does not fit, which stands on the line after its place
-abbrev pub Replays : {U : Type 0} → Pipeline U → List Event → ℕ → List ℕ → Type 0
-Replays m events status text =
+-- the replay of events that stand on these lines: accepted, or refused at the first event that does not fit
+abbrev pub Replays : {U : Type 0} → Pipeline U → List ℕ → List Event → ℕ → List ℕ → Type 0
+Replays m lines events status text =
     (Accepted m events × Says 0 (accepted_line (issues_of events) (cycles_of events)) status text)
-    ⊎ ((i : ℕ) × (class : List ℕ) × FirstRefused m events i × IsIssueOf m (slice_get events i) class × Says 1 (refused_line (i + 1) class) status text)
+    ⊎ ((i line : ℕ) × (class : List ℕ) × FirstRefused m events i × (slice_get lines i ≡ Some line) × IsIssueOf m (slice_get events i) class × Says 1 (refused_line line class) status text)
 
--- a description whose names have these alternatives is replayed, where it is built
+-- the trace of a description whose names have these alternatives is judged, and replayed
+abbrev pub ReplaysTrace : List ℕ → List ℕ → Description → Known → ℕ → List ℕ → Type 0
+ReplaysTrace trace traced d known =
+    Traces (class_names d) trace traced (Replays (pipeline_with d known) (event_lines (class_names d) 1 (lines_of traced)))
+
+-- a description without a fault is replayed, where it is built
 abbrev pub ReplaysDescription : List ℕ → List ℕ → List ℕ → Description → Known → ℕ → List ℕ → Type 0
-ReplaysDescription description trace traced d known =
-    Builds description d (Traces d trace traced (Replays (pipeline_with d known)))
-
--- a description that is read is checked, and replayed
-abbrev pub JudgesDescription : List ℕ → List ℕ → List ℕ → Description → ℕ → List ℕ → Type 0
-JudgesDescription description trace traced d = Checks description d (ReplaysDescription description trace traced d)
-
--- forms that are read are a description, which is judged
-abbrev pub JudgesForms : List ℕ → List ℕ → List ℕ → Trees → ℕ → List ℕ → Type 0
-JudgesForms description trace traced read = Describes description read (JudgesDescription description trace traced)
+ReplaysDescription description trace traced d known = Builds description d (ReplaysTrace trace traced d known)
 
 -- both texts are judged, the description first
 abbrev pub Judges : List ℕ → List ℕ → List ℕ → List ℕ → ℕ → List ℕ → Type 0
-Judges description described trace traced = HasForms description described (JudgesForms description trace traced)
+Judges description described trace traced = HasDescription description described (ReplaysDescription description trace traced)
 
 -- all files are read, and then judged in their order
 abbrev pub AnswersReplay : Held → List ℕ → List ℕ → ℕ → List ℕ → Type 0

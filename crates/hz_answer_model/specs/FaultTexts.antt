@@ -9,6 +9,8 @@ use Rattle.hz_mdread_model.specs.DescriptionForms as description
 use Rattle.hz_check_model.specs.CheckFaults.{CheckFault, LimitName}
 use Rattle.hz_check_model.specs.CheckFaults as check
 use Rattle.hz_check_model.specs.Sites.{Site}
+use Rattle.hz_trace_model.specs.Traces.{TraceFault}
+use Rattle.hz_trace_model.specs.Traces as trace
 use Rattle.hz_answer_model.specs.Texts.{fault_line, passed_line}
 
 -- the word of a fault of forms
@@ -68,3 +70,9 @@ check_line file check.bypass_twice site = named_line file (codes "BypassTwice") 
 abbrev pub check_status : CheckFault → ℕ
 check_status (check.limit what) = 3
 check_status _ = 2
+
+-- the word of a fault of a trace
+abbrev pub trace_word : TraceFault → List ℕ
+trace_word trace.bad_line = codes "BadLine"
+trace_word trace.unknown_class = codes "UnknownClass"
+trace_word trace.too_many_advances = codes "AdvanceLimit"

@@ -7,6 +7,7 @@ mod limits;
 mod machines;
 mod pairs;
 mod texts;
+mod traces;
 
 use hz_io::{FileName, MemFiles, MemSink};
 use hz_tool::run;

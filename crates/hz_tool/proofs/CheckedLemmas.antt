@@ -1,30 +1,35 @@
 -- The names and the lists of checked classes.
-use Rattle.std.proofs.Common.{◌≡◌, ◌≢◌, ℕ, ◌<◌, ◌≤◌, List, [], ◌∷◌, length, take, map, get_or, Option, Some, None, refl, sym, ap, ◌∙◌, subst, arith, suc, cond, nat_eq, nat_lt, codes, true, false, Bool, All, slice_get, IsTrue, ⊎_elim, inl, inr, MatchBool}
+use Rattle.std.proofs.Common.{◌≡◌, ◌≢◌, ℕ, ◌<◌, ◌≤◌, List, [], ◌∷◌, length, take, map, get_or, Option, Some, None, refl, sym, ap, ◌∙◌, subst, arith, suc, cond, nat_eq, nat_lt, codes, true, false, Bool, All, slice_get, IsTrue, ⊎_elim, inl, inr, MatchBool, MatchOption}
 use Rattle.std.specs.List.{AllPairs}
 use Rattle.std.specs.Str.{bytes_eq}
 use Rattle.std.proofs.lemmas.List.{length-map, length-take, get_or-take, get_or-map}
 use Rattle.std.proofs.lemmas.List.Quantifiers.{position-Some}
 use Rattle.std.proofs.lemmas.Slice.Eq.{bytes_eq-Decides}
-use Rattle.hz_base_model.specs.Lines.{place_of, lines_of}
+use Rattle.hz_base_model.specs.Lines.{place_of}
 use Rattle.hz_altern_model.specs.Automata.{UnitPlace, list_in}
 use Rattle.hz_check_model.specs.CheckedParts.{AutomatonParts, ClassParts, automaton_names, automaton_count, automata_from, statements_in, class_parts}
 use Rattle.hz_altern_model.specs.Alternatives.{Alternative, alternatives_of}
-use Rattle.hz_answer_model.specs.Answers.{Says, is_built, Traces, Replays, ReplaysDescription}
+use Rattle.hz_answer_model.specs.Answers.{Says, is_built, Traces, ReplaysTrace, ReplaysDescription}
 use Rattle.hz_check_model.specs.CheckFaults.{Known}
-use Rattle.hz_trace_model.specs.StraightTraces.{StraightTrace}
-use Rattle.hz_answer_model.specs.Texts.{not_built_line}
-use Rattle.hz_answer_model.proofs.EventLaws.{events_known}
+use Rattle.hz_trace_model.specs.Traces.{Trace, TraceFault, TraceFaultAt}
+use Rattle.hz_trace_model.specs.Traces as trace
+use Rattle.hz_answer_model.specs.FaultTexts.{trace_word}
+use Rattle.hz_answer_model.specs.Texts.{not_built_line, fault_line}
 use Rattle.hz_pipeline_model.proofs.OneAutomaton.{machine_of_one}
 use Rattle.hz_tool.proofs.AnswerLemmas.{agrees_weaker}
 use Rattle.hz_tool.specs.Decisions.{Agrees, IsTraceReport}
-use Rattle.hz_tool.specs.Trace.{IsNoTrace}
+use Rattle.hz_tool.specs.Kinds.{kind_word, trace_fault}
+use Rattle.hz_tool.specs.declared.kind.Kind.{Kind}
+use Rattle.hz_tool.specs.declared.kind.Kind.TheVariants as kind
 use Rattle.hz_tool.specs.declared.report.Report.{Report}
 use Rattle.hz_tool.specs.declared.report.Report.TheVariants as report
 use Rattle.hz_base_model.specs.Pairs.{Pair}
 use Rattle.std.proofs.Math.Dec.{eqb-suc-zero}
 use Rattle.std.proofs.Math.Path.{fun_ext}
 use Rattle.std.proofs.lemmas.Bool.{cases_Bool, and_parts, ltb-true}
-use Rattle.std.proofs.lemmas.Option.{slice_get-map, get_or_from_slice_get, unwrap_or-slice_get}
+use Rattle.std.proofs.lemmas.Option.{slice_get-map, slice_get-get_or, get_or_from_slice_get, unwrap_or-slice_get}
+use Rattle.hz_replay.specs.declared.event.Event.{Event as Placed}
+use Rattle.hz_replay.specs.Traces.{lines_in}
 use Rattle.std.specs.Option.{option_map}
 use Rattle.std.specs.Prelude.{◌↔◌, unwrap_or}
 use Rattle.hz_pipeline_model.specs.Pipelines as model
@@ -43,7 +48,7 @@ use Rattle.hz_check_model.specs.Places.{class_names}
 use Rattle.hz_acceptance_model.specs.Restricted.{class_in, restricted, IsOf}
 use Rattle.hz_pipeline_model.specs.Pipelines.{pipeline_with}
 use Rattle.hz_acceptance_model.specs.Replay.{Pipeline, Class, alternatives_at, of_class, first_fit, any_fit}
-use Rattle.hz_acceptance_model.specs.Events.{Event, IsOfClass}
+use Rattle.hz_acceptance_model.specs.Events.{Event}
 use Rattle.hz_acceptance_model.proofs.RestrictLaws.{pairs_back, accepted_restricted, refused_restricted}
 use Rattle.hz_tool.specs.Checked.{statements_of_first, first_statements, first_list, HasList}
 use Rattle.hz_tool.specs.Replay.{AreListsOf, IsOutcome}
@@ -208,27 +213,37 @@ one_automaton d checked is built =
     let few = ltb-true (length d.automata) 2 (and_parts (nat_lt (length d.automata) 2) (not d.options.ndfa) built).0 in
     machine_of_one d (pipeline_with d is.known) (omega arith) (record { known = is.known; right = (is.sound.unfolded).right; machine = refl })
 
--- a trace that is not built is told so
-pub trace_refused : (d : Description) (name text : List ℕ) (next : List Event → ℕ → List ℕ → Type 0) (report : Report) → IsTraceReport name (IsNoTrace (class_names d) text) report → Agrees (Traces d name text next) report
-trace_refused d name text next (report.NotBuilt file) (same, wrong) = inr (wrong, (refl, ap not_built_line same))
-trace_refused d name text next report.Memory h = tt
-trace_refused d name text next _ h = absurd h
+-- what is said of the fault that a kind tells holds of one with the kind's word
+trace_said : (k : Kind) (P : TraceFault → Type 0) → MatchOption (trace_fault k) ⊥ P → (fault : TraceFault) × P fault × (kind_word k ≡ trace_word fault)
+trace_said kind.BadLine P h = (trace.bad_line, h, refl)
+trace_said kind.UnknownClass P h = (trace.unknown_class, h, refl)
+trace_said kind.AdvanceLimit P h = (trace.too_many_advances, h, refl)
+trace_said _ P h = absurd h
+
+-- the first wrong line of a trace is told
+pub trace_refused : (classes : List (List ℕ)) (name text : List ℕ) (next : List Event → ℕ → List ℕ → Type 0) (report : Report) → IsTraceReport name classes text report → Agrees (Traces classes name text next) report
+trace_refused classes name text next (report.Fault file line k) (same, wrong) =
+    let said = trace_said k (λ fault. TraceFaultAt classes text fault line) wrong in
+    inr (said.0, line, said.1, (refl, ap (λ (f : List ℕ). fault_line f line (kind_word k ∷ [])) same ∙ ap (λ (w : List ℕ). fault_line name line (w ∷ [])) said.2))
+trace_refused classes name text next report.Memory h = tt
+trace_refused classes name text next _ h = absurd h
 
 -- the events of a trace, replayed
-pub trace_replayed : (d : Description) (name text : List ℕ) (events : List Event) (next : List Event → ℕ → List ℕ → Type 0) (report : Report) → StraightTrace (class_names d) text events → Agrees (next events) report → Agrees (Traces d name text next) report
-trace_replayed d name text events next report is h = agrees_weaker (next events) (Traces d name text next) (λ s t a. inl (events, is, a)) report h
-
--- the events of a trace are of its classes
-pub trace_of : (names : List (List ℕ)) (text : List ℕ) (events : List Event) → StraightTrace names text events → All (IsOfClass (length names)) events
-trace_of names text events is = events_known names (lines_of text) events is.lines
+pub trace_replayed : (classes : List (List ℕ)) (name text : List ℕ) (events : List Event) (next : List Event → ℕ → List ℕ → Type 0) (report : Report) → Trace classes text events → Agrees (next events) report → Agrees (Traces classes name text next) report
+trace_replayed classes name text events next report is h = agrees_weaker (next events) (Traces classes name text next) (λ s t a. inl (events, is, a)) report h
 
 -- a description that is built is replayed
-pub replays_built : (description trace traced : List ℕ) (d : Description) (known : Known) (report : Report) → is_built d ≡ true → Agrees (Traces d trace traced (Replays (pipeline_with d known))) report → Agrees (ReplaysDescription description trace traced d known) report
+pub replays_built : (description trace traced : List ℕ) (d : Description) (known : Known) (report : Report) → is_built d ≡ true → Agrees (ReplaysTrace trace traced d known) report → Agrees (ReplaysDescription description trace traced d known) report
 replays_built description trace traced d known report built h =
-    agrees_weaker (Traces d trace traced (Replays (pipeline_with d known))) (ReplaysDescription description trace traced d known)
-    (λ s t a. subst (λ (b : Bool). MatchBool b (Traces d trace traced (Replays (pipeline_with d known)) s t) (Says 2 (not_built_line description) s t)) (sym built) a) report h
+    agrees_weaker (ReplaysTrace trace traced d known) (ReplaysDescription description trace traced d known)
+    (λ s t a. subst (λ (b : Bool). MatchBool b (ReplaysTrace trace traced d known s t) (Says 2 (not_built_line description) s t)) (sym built) a) report h
 
 -- a description that is not built is told so
 pub not_built : (description trace traced : List ℕ) (d : Description) (known : Known) → is_built d ≡ false → ReplaysDescription description trace traced d known 2 (not_built_line description)
 not_built description trace traced d known other =
-    subst (λ (b : Bool). MatchBool b (Traces d trace traced (Replays (pipeline_with d known)) 2 (not_built_line description)) (Says 2 (not_built_line description) 2 (not_built_line description))) (sym other) (refl, refl)
+    subst (λ (b : Bool). MatchBool b (ReplaysTrace trace traced d known 2 (not_built_line description)) (Says 2 (not_built_line description) 2 (not_built_line description))) (sym other) (refl, refl)
+
+-- the line of an event
+pub line_there : (events : List Placed) (i : ℕ) (e : Placed) → i < length events → slice_get (lines_in events) i ≡ Some (get_or events i e).line
+line_there events i e within =
+    slice_get-map (λ (e : Placed). e.line) events i ∙ ap (option_map (λ (e : Placed). e.line)) (slice_get-get_or events i e within)

@@ -6,27 +6,37 @@ use Rattle.hz_acceptance_model.proofs.ReplayLaws.{issues_of-append, cycles_of-ap
 use Rattle.hz_base_model.specs.Pairs.{Pair}
 use Rattle.hz_acceptance_model.specs.Events as model
 use Rattle.hz_acceptance_model.specs.Replay as played
-use Rattle.hz_acceptance_model.specs.Replay.{Pipeline, State, Step, Plays, IsPlayable, start}
+use Rattle.hz_acceptance_model.specs.Replay.{Pipeline, State, Step, IsPlayable, start}
 use Rattle.hz_acceptance_model.specs.Events.{issues_of, cycles_of}
-use Rattle.hz_tool.specs.declared.trace.Event.{Event}
-use Rattle.hz_tool.specs.declared.trace.Event.TheVariants.{Issue}
+use Rattle.hz_replay.specs.declared.event.Event.{Event}
+use Rattle.hz_replay.specs.declared.event.What.TheVariants.{Issue}
 use Rattle.hz_acceptance_model.specs.Fitting.{IsFuture, IsUnbroken}
 use Rattle.hz_acceptance_model.proofs.FittingLaws.{unbroken_run}
 use Rattle.hz_tool.specs.Replay.{PlaysTo, Follows}
-use Rattle.hz_tool.specs.Trace.{event, events_in, issues_in, cycles_in}
+use Rattle.hz_replay.specs.Lines.{event_of}
+use Rattle.hz_replay.specs.Replaying.{issues_in, cycles_of_one}
+use Rattle.hz_replay.specs.Traces.{events_in}
+
+-- an event of the program as an event of the model
+abbrev pub event : Event → model.Event
+event e = event_of e.what
+
+-- some event of the program
+abbrev pub some_event : Event
+some_event = record { line = 0; what = Issue 0 }
 
 -- the event at a place of the program's list
 abbrev pub event_at : List Event → ℕ → model.Event
-event_at es i = event (get_or es i (Issue 0))
+event_at es i = event (get_or es i some_event)
 
 pub events_more : (es : List Event) (i : ℕ) → i < length es → events_in (take (i + 1) es) ≡ events_in (take i es) ++ event_at es i ∷ []
-events_more es i h = map_more event es i (Issue 0) h
+events_more es i h = map_more event es i some_event h
 
 issues_of_push : (xs : List model.Event) (e : model.Event) → issues_of (xs ++ e ∷ []) ≡ issues_of xs + issues_in e
 issues_of_push xs (model.issue k) = issues_of-append xs (model.issue k ∷ [])
 issues_of_push xs (model.advance n) = issues_of-append xs (model.advance n ∷ [])
 
-cycles_of_push : (xs : List model.Event) (e : model.Event) → cycles_of (xs ++ e ∷ []) ≡ cycles_of xs + cycles_in e
+cycles_of_push : (xs : List model.Event) (e : model.Event) → cycles_of (xs ++ e ∷ []) ≡ cycles_of xs + cycles_of_one e
 cycles_of_push xs (model.issue k) = cycles_of-append xs (model.issue k ∷ [])
 cycles_of_push xs (model.advance n) = omega (arith, cycles_of-append xs (model.advance n ∷ []))
 
@@ -34,7 +44,7 @@ cycles_of_push xs (model.advance n) = omega (arith, cycles_of-append xs (model.a
 pub issues_more : (es : List Event) (i : ℕ) → i < length es → issues_of (events_in (take (i + 1) es)) ≡ issues_of (events_in (take i es)) + issues_in (event_at es i)
 issues_more es i h = ap issues_of (events_more es i h) ∙ issues_of_push (events_in (take i es)) (event_at es i)
 
-pub cycles_more : (es : List Event) (i : ℕ) → i < length es → cycles_of (events_in (take (i + 1) es)) ≡ cycles_of (events_in (take i es)) + cycles_in (event_at es i)
+pub cycles_more : (es : List Event) (i : ℕ) → i < length es → cycles_of (events_in (take (i + 1) es)) ≡ cycles_of (events_in (take i es)) + cycles_of_one (event_at es i)
 cycles_more es i h = ap cycles_of (events_more es i h) ∙ cycles_of_push (events_in (take i es)) (event_at es i)
 
 -- a front has at most the cycles of all
@@ -85,4 +95,4 @@ all_played m es i grid past follows =
 
 pub event_there : (es : List Event) (i : ℕ) → i < length es → slice_get (events_in es) i ≡ Some (event_at es i)
 event_there es i inside =
-    slice_get-map event es i ∙ ap (option_map event) (slice_get-get_or es i (Issue 0) inside)
+    slice_get-map event es i ∙ ap (option_map event) (slice_get-get_or es i some_event inside)

@@ -5,5 +5,4 @@ pub mod JudgeLemmas
 pub mod NameLemmas
 pub mod ReplayLemmas
 pub mod RunLemmas
-pub mod TraceLemmas
 pub mod WritingLemmas

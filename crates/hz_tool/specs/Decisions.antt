@@ -14,10 +14,11 @@ use Rattle.hz_mdread_model.specs.Descriptions.{Description}
 use Rattle.hz_sexp_model.specs.Forms as forms
 use Rattle.hz_sexp_model.specs.Trees.{Trees}
 use Rattle.hz_answer_model.specs.Words.{Order, replay, order_of}
-use Rattle.hz_tool.specs.Kinds.{form_fault, description_fault, expression_fault, named_fault}
+use Rattle.hz_tool.specs.Kinds.{form_fault, description_fault, expression_fault, named_fault, trace_fault}
+use Rattle.hz_trace_model.specs.Traces.{TraceFaultAt}
 use Rattle.hz_tool.specs.Reports.{status_of, text_of}
 use Rattle.hz_tool.specs.declared.report.Report.{Report}
-use Rattle.hz_tool.specs.declared.report.Report.TheVariants.{Fault, Expression, Named, Passed, NotBuilt, Long, Usage, Memory, File}
+use Rattle.hz_tool.specs.declared.report.Report.TheVariants.{Fault, Expression, Named, Passed, Long, Usage, Memory, File}
 
 -- the report is that memory ran out
 abbrev pub is_memory : Report → Bool
@@ -102,11 +103,11 @@ IsCheckReport name d (Passed file line what at) = (file.now ≡ name) × IsToldA
 IsCheckReport name d Memory = ⊤
 IsCheckReport name d _ = ⊥
 
--- a report of judging a trace: it is not built, or memory ran out
-abbrev pub IsTraceReport : List ℕ → Type 0 → Report → Type 0
-IsTraceReport name wrong (NotBuilt file) = (file.now ≡ name) × wrong
-IsTraceReport name wrong Memory = ⊤
-IsTraceReport name wrong _ = ⊥
+-- a report of a trace of classes with these names: its first wrong line, or memory ran out
+abbrev pub IsTraceReport : List ℕ → List (List ℕ) → List ℕ → Report → Type 0
+IsTraceReport name classes text (Fault file line kind) = (file.now ≡ name) × MatchOption (trace_fault kind) ⊥ (λ fault. TraceFaultAt classes text fault line)
+IsTraceReport name classes text Memory = ⊤
+IsTraceReport name classes text _ = ⊥
 
 -- a report of texts that were judged
 abbrev pub IsJudged : Report → Type 0

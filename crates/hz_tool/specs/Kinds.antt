@@ -12,6 +12,8 @@ use Rattle.hz_mdread_model.specs.DescriptionForms.{DescriptionFault}
 use Rattle.hz_mdread_model.specs.DescriptionForms as description
 use Rattle.hz_regexp_model.specs.ExpressionTexts.{ExpressionFault}
 use Rattle.hz_regexp_model.specs.ExpressionTexts as text
+use Rattle.hz_trace_model.specs.Traces.{TraceFault}
+use Rattle.hz_trace_model.specs.Traces as trace
 use Rattle.hz_sexp_model.specs.Forms.{FormFault}
 use Rattle.hz_sexp_model.specs.Forms as form
 
@@ -29,6 +31,9 @@ kind_word kind.BadCondition = codes "BadCondition"
 kind_word kind.UnknownOption = codes "UnknownOption"
 kind_word kind.LatencyLimit = codes "LatencyLimit"
 kind_word kind.UnknownGuard = codes "UnknownGuard"
+kind_word kind.BadLine = codes "BadLine"
+kind_word kind.UnknownClass = codes "UnknownClass"
+kind_word kind.AdvanceLimit = codes "AdvanceLimit"
 
 -- the word of a fault of an expression
 abbrev pub expression_word : ExpressionKind → List ℕ
@@ -81,6 +86,13 @@ description_fault kind.UnknownOption = Some description.unknown_option
 description_fault kind.LatencyLimit = Some description.latency_limit
 description_fault kind.UnknownGuard = Some description.unknown_guard
 description_fault _ = None
+
+-- the fault of a line of a trace that is told, if it is one
+abbrev pub trace_fault : Kind → Option TraceFault
+trace_fault kind.BadLine = Some trace.bad_line
+trace_fault kind.UnknownClass = Some trace.unknown_class
+trace_fault kind.AdvanceLimit = Some trace.too_many_advances
+trace_fault _ = None
 
 -- the fault of an expression that is told
 abbrev pub expression_fault : ExpressionKind → ExpressionFault

@@ -2,8 +2,6 @@ pub mod Checked
 pub mod Decisions
 pub mod Endings
 pub mod Kinds
-pub mod Names
 pub mod Replay
 pub mod Reports
-pub mod Trace
 pub mod Words

@@ -1,9 +1,9 @@
 //! The replay over a checked description of one automaton.
 
 ghost use Rattle.std.specs.List.{AllPairs};
-ghost use Rattle.std.specs.Prelude.{◌≡◌, ◌≢◌, ◌+◌, ℕ, ◌<◌, ◌≤◌, ◌&&◌, not, nat_lt, length, map, slice_get, Some, All, IfOk, IsTrue};
+ghost use Rattle.std.specs.Prelude.{◌≡◌, ◌≢◌, ◌+◌, ◌^◌, ℕ, ◌<◌, ◌≤◌, ◌&&◌, not, nat_lt, length, map, slice_get, Some, All, IfOk, IsTrue};
 ghost use Rattle.hz_check.specs.Checked.{IsCheckedOf};
-ghost use Rattle.hz_answer_model.specs.Answers.{is_built, Replays, Traces, ReplaysDescription};
+ghost use Rattle.hz_answer_model.specs.Answers.{is_built, Replays, ReplaysTrace, ReplaysDescription};
 ghost use Rattle.hz_mdread_model.specs.Descriptions.{Description};
 ghost use Rattle.hz_check_model.specs.CheckFaults.{Known};
 ghost use Rattle.hz_check_model.specs.Places.{class_names};
@@ -11,9 +11,9 @@ ghost use Rattle.hz_pipeline_model.specs.Pipelines.{pipeline_with};
 ghost use Rattle.hz_acceptance_model.specs.Replay.{Pipeline};
 ghost use Rattle.hz_tool.specs.Checked.{first_list, first_statements, HasList, IsTraceOf};
 ghost use Rattle.hz_tool.specs.Decisions.{Agrees, IsJudged};
-ghost use Rattle.hz_tool.specs.Names.{names_in};
+ghost use Rattle.hz_replay.specs.Names.{names_in};
 ghost use Rattle.hz_tool.specs.Replay.{lists_in, AreListsOf, IsOutcome, IsWithin};
-ghost use Rattle.hz_tool.specs.Trace.{events_in};
+ghost use Rattle.hz_replay.specs.Traces.{events_in, lines_in};
 ghost use Rattle.hz_unitsets.specs.SetRules.{statements_of, IsInRange};
 ghost use Rattle.indexmap.specs.IndexSet.{index_set_len};
 
@@ -21,10 +21,10 @@ use super::judging::judge_trace;
 use super::names::add;
 use super::replay::{Outcome, replay};
 use super::report::Report;
-use super::trace::Event;
 use super::words::ReplayOrder;
 use hz_check::{Checked, CheckedClass};
 use hz_grid::Grid;
+use hz_replay::Event;
 use hz_unitsets::{Rules, SetRule};
 use indexmap::IndexSet;
 use std::alloc::{AllocError, Global};
@@ -94,6 +94,15 @@ fn class_name(alloc: Global, names: &IndexSet<Vec<u8>>, class: u32) -> Result<Ve
     }
 }
 
+/// The line of the event at a place.
+#[tactic(auto, using(crate::proofs::CheckedLemmas::line_there))]
+fn line_of(events: &[Event], place: usize) -> u64
+    requires { place < length events.now }
+    ensures { slice_get (lines_in events.now) place ≡ Some result }
+{
+    events[place].line as u64
+}
+
 /// The report of a replay's outcome.
 fn outcome_report<'a>(
     alloc: Global,
@@ -103,13 +112,13 @@ fn outcome_report<'a>(
 ) -> Report<'a>
     requires { IsWithin (length events.now) (index_set_len names.now) outcome }
     ensures kind { IsJudged result }
-    ensures answer { (d : Description) (known : Known) → names_in names.now.keys ≡ class_names d → IsOutcome (pipeline_with d known) (events_in events.now) outcome → Agrees (Replays (pipeline_with d known) (events_in events.now)) result }
+    ensures answer { (d : Description) (known : Known) → names_in names.now.keys ≡ class_names d → IsOutcome (pipeline_with d known) (events_in events.now) outcome → Agrees (Replays (pipeline_with d known) (lines_in events.now) (events_in events.now)) result }
 {
     match outcome {
         Outcome::Accepted { issues, cycles } => Report::Accepted { issues, cycles },
         Outcome::Refused { event, class } => match class_name(alloc, names, class) {
             Ok(class) => Report::Refused {
-                line: event as u64 + 1,
+                line: line_of(events, event),
                 class,
             },
             Err(_) => Report::Memory,
@@ -125,9 +134,10 @@ fn trace_report<'a>(
     names: &IndexSet<Vec<u8>>,
     trace: &[u8],
 ) -> Report<'a>
-    requires { names_in names.now.keys ≡ map (λ c. c.name) checked.now.classes.items }
+    requires names { names_in names.now.keys ≡ map (λ c. c.name) checked.now.classes.items }
+    requires short { length trace.now < 2 ^ 32 }
     ensures kind { IsJudged result }
-    ensures answer { (d : Description) (is : IsCheckedOf d checked.now) → IsTrue (is_built d) → Agrees (Traces d file.entry.now trace.now (Replays (pipeline_with d is.known))) result }
+    ensures answer { (d : Description) (is : IsCheckedOf d checked.now) → IsTrue (is_built d) → Agrees (ReplaysTrace file.entry.now trace.now d is.known) result }
 {
     let events = match judge_trace(alloc, file, names, trace) {
         Ok(events) => events,
@@ -146,6 +156,7 @@ pub fn replay_report<'a>(
     checked: &Checked,
     trace: &[u8],
 ) -> Report<'a>
+    requires { length trace.now < 2 ^ 32 }
     ensures kind { IsJudged result }
     ensures answer { (d : Description) (is : IsCheckedOf d checked.now) → Agrees (ReplaysDescription order.now.description.now order.now.trace.now trace.now d is.known) result }
 {

@@ -5,22 +5,22 @@ ghost use Rattle.hz_mdread_model.specs.DescriptionForms as description_forms;
 ghost use Rattle.hz_mdread_model.specs.DescriptionShape.{IsWellFormed, IsCheckable};
 ghost use Rattle.hz_sexp_model.specs.Forms as forms;
 ghost use Rattle.hz_base_model.specs.Limits.{class_limit};
-ghost use Rattle.hz_trace_model.specs.StraightTraces.{StraightTrace};
+ghost use Rattle.hz_base_model.specs.Lines.{lines_of};
+ghost use Rattle.hz_trace_model.specs.Traces.{Trace, event_lines};
 ghost use Rattle.hz_check.specs.Checked.{IsCheckedOf};
 ghost use Rattle.hz_mdread.specs.Shape.{description};
 ghost use Rattle.hz_sexp.specs.Shape.{trees};
 ghost use Rattle.hz_tool.specs.Decisions.{IsFormsReport, IsExpressionKind, IsDescriptionReport, IsCheckReport, IsTraceReport};
-ghost use Rattle.hz_tool.specs.Names.{names_in};
-ghost use Rattle.hz_tool.specs.Trace.{events_in, IsNoTrace};
+ghost use Rattle.hz_replay.specs.Names.{names_in};
+ghost use Rattle.hz_replay.specs.Traces.{events_in, lines_in};
 ghost use Rattle.indexmap.specs.IndexSet.{index_set_len};
 
-use super::early::Early;
 use super::kind::{ExpressionKind, Kind, NamedKind};
 use super::report::Report;
-use super::trace::{Event, read_trace};
 use hz_check::{CheckFault, Checked, check};
 use hz_mdread::{Description, MdFault, read_description};
 use hz_regexp::{ExprFault, Name};
+use hz_replay::{Event, TraceFault, read_events};
 use hz_sexp::{Form, SexpFault, read_forms};
 use indexmap::IndexSet;
 use std::alloc::Global;
@@ -161,20 +161,25 @@ pub fn judge_check<'a>(
     }
 }
 
-/// The events that a text is, or the report that it is not built.
+/// The events of a trace, or the report of its first wrong line.
 pub fn judge_trace<'a>(
     alloc: Global,
     file: &'a str,
     classes: &IndexSet<Vec<u8>>,
     text: &[u8],
 ) -> Result<Vec<Event>, Report<'a>>
-    requires { index_set_len classes.now ≤ class_limit }
-    ensures ok { IfOk result (λ events. StraightTrace (names_in classes.now.keys) text.now (events_in events.items)) }
-    ensures err { IfErr result (IsTraceReport file.entry.now (IsNoTrace (names_in classes.now.keys) text.now)) }
+    requires count { index_set_len classes.now ≤ class_limit }
+    requires short { length text.now < 2 ^ 32 }
+    ensures ok { IfOk result (λ events. Trace (names_in classes.now.keys) text.now (events_in events.items)) }
+    ensures lines { IfOk result (λ events. lines_in events.items ≡ event_lines (names_in classes.now.keys) 1 (lines_of text.now)) }
+    ensures err { IfErr result (IsTraceReport file.entry.now (names_in classes.now.keys) text.now) }
 {
-    match read_trace(alloc, classes, text) {
-        Ok(events) => Ok(events),
-        Err(Early::NotBuilt) => Err(Report::NotBuilt { file }),
-        Err(Early::NoMemory) => Err(Report::Memory),
-    }
+    let (line, kind) = match read_events(alloc, classes, text) {
+        Ok(events) => return Ok(events),
+        Err(TraceFault::BadLine { line }) => (line, Kind::BadLine),
+        Err(TraceFault::UnknownClass { line }) => (line, Kind::UnknownClass),
+        Err(TraceFault::AdvanceLimit { line }) => (line, Kind::AdvanceLimit),
+        Err(TraceFault::NoMemory) => return Err(Report::Memory),
+    };
+    Err(Report::Fault { file, line, kind })
 }

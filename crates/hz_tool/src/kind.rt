@@ -24,6 +24,10 @@ pub enum Kind {
     UnknownOption,
     LatencyLimit,
     UnknownGuard,
+    /// Faults of the lines of a trace.
+    BadLine,
+    UnknownClass,
+    AdvanceLimit,
 }
 
 impl Kind {
@@ -44,6 +48,9 @@ impl Kind {
             Kind::UnknownOption => b"UnknownOption",
             Kind::LatencyLimit => b"LatencyLimit",
             Kind::UnknownGuard => b"UnknownGuard",
+            Kind::BadLine => b"BadLine",
+            Kind::UnknownClass => b"UnknownClass",
+            Kind::AdvanceLimit => b"AdvanceLimit",
         }
     }
 }

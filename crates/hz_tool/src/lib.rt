@@ -2,7 +2,6 @@
 #![tactic(auto)]
 
 mod checked;
-mod early;
 mod judging;
 mod kind;
 mod names;
@@ -11,7 +10,6 @@ mod read;
 mod replay;
 mod report;
 mod top;
-mod trace;
 mod words;
 
 pub use top::run;

@@ -1,25 +1,13 @@
-//! Names by number: where one stands in a set.
+//! The names of classes, by their numbers.
 
 ghost use Rattle.std.specs.Prelude.{◌≡◌, ◌≤◌, ◌+◌, ◌==◌, ◌++◌, ◌∷◌, [], IfOk, OnOk, None, map};
 ghost use Rattle.hz_base_model.specs.Limits.{class_limit};
 ghost use Rattle.hz_base_model.specs.Lines as model;
-ghost use Rattle.hz_tool.specs.Names.{names_in};
+ghost use Rattle.hz_replay.specs.Names.{names_in};
 ghost use Rattle.indexmap.specs.IndexSet.{index_set_len};
 
 use indexmap::IndexSet;
 use std::alloc::{AllocError, Global};
-
-/// The number of a name: its place in the set.
-#[tactic(auto, using(crate::proofs::NameLemmas::place_of_names))]
-pub fn place_of(names: &IndexSet<Vec<u8>>, name: &[u8]) -> Option<u32>
-    requires { index_set_len names.now ≤ class_limit }
-    ensures { result ≡ model.place_of name.now (names_in names.now.keys) }
-{
-    match names.get_index_of(name) {
-        Some(place) => Some(place as u32),
-        None => None,
-    }
-}
 
 /// Adds a name that is not in the set, at its end.
 pub fn add(alloc: Global, names: &mut IndexSet<Vec<u8>>, name: &[u8]) -> Result<(), AllocError>

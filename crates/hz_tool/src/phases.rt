@@ -2,7 +2,7 @@
 
 ghost use Rattle.std.specs.Prelude.{◌<◌, ◌^◌, IsTrue, length};
 ghost use Rattle.hz_mdread.specs.Shape.{description};
-ghost use Rattle.hz_answer_model.specs.Answers.{Judges, JudgesDescription, JudgesForms};
+ghost use Rattle.hz_answer_model.specs.Answers.{Checks, Describes, Judges, ReplaysDescription};
 ghost use Rattle.hz_mdread_model.specs.DescriptionForms as description_forms;
 ghost use Rattle.hz_mdread_model.specs.DescriptionShape.{IsCheckable};
 ghost use Rattle.hz_sexp.specs.Shape.{trees};
@@ -23,9 +23,10 @@ fn judge_described<'a>(
     described: Description,
     trace: &[u8],
 ) -> Report<'a>
-    requires { IsCheckable (description described) }
+    requires checkable { IsCheckable (description described) }
+    requires trace { length trace.now < 2 ^ 32 }
     ensures kind { IsJudged result }
-    ensures answer { Agrees (JudgesDescription order.now.description.now order.now.trace.now trace.now (description described)) result }
+    ensures answer { Agrees (Checks order.now.description.now (description described) (ReplaysDescription order.now.description.now order.now.trace.now trace.now (description described))) result }
 {
     match judge_check(alloc, order.description, described) {
         Ok(checked) => replay_report(alloc, order, &checked, trace),
@@ -37,8 +38,9 @@ fn judge_described<'a>(
 fn judge_read<'a>(alloc: Global, order: &ReplayOrder<'a>, read: &[Form], trace: &[u8]) -> Report<'a>
     requires count { description_forms.form_count (trees read.now) < 2 ^ 32 }
     requires strings { IsTrue (description_forms.strings_below (2 ^ 32) (trees read.now)) }
+    requires trace { length trace.now < 2 ^ 32 }
     ensures kind { IsJudged result }
-    ensures answer { Agrees (JudgesForms order.now.description.now order.now.trace.now trace.now (trees read.now)) result }
+    ensures answer { Agrees (Describes order.now.description.now (trees read.now) (λ d. Checks order.now.description.now d (ReplaysDescription order.now.description.now order.now.trace.now trace.now d))) result }
 {
     match judge_description(alloc, order.description, read) {
         Ok(described) => judge_described(alloc, order, described, trace),
@@ -53,7 +55,8 @@ pub fn judge<'a>(
     described: &[u8],
     trace: &[u8],
 ) -> Report<'a>
-    requires { length described.now < 2 ^ 32 }
+    requires described { length described.now < 2 ^ 32 }
+    requires trace { length trace.now < 2 ^ 32 }
     ensures kind { IsJudged result }
     ensures answer { Agrees (Judges order.now.description.now described.now order.now.trace.now trace.now) result }
 {

@@ -5,11 +5,13 @@ ghost use Rattle.hz_base_model.specs.Limits.{advance_limit};
 ghost use Rattle.hz_acceptance_model.specs.Replay.{Pipeline};
 ghost use Rattle.hz_acceptance_model.specs.Events.{issue, issues_of, cycles_of, IsOfClass};
 ghost use Rattle.hz_grid.specs.Grids.{IsAdvanced};
-ghost use Rattle.hz_tool.specs.Trace.{event as event_lem, events_in, issues_in, cycles_in};
+ghost use Rattle.hz_replay.specs.Lines.{event_of};
+ghost use Rattle.hz_replay.specs.Replaying.{issues_in, cycles_of_one};
+ghost use Rattle.hz_replay.specs.Traces.{events_in};
 ghost use Rattle.hz_tool.specs.Replay.{lists_in, AreListsOf, NoneFits, FirstFits, Takes, IsAdvancedBy, PlaysFrom, IsOutcome, IsWithin};
 
-use super::trace::Event;
 use hz_grid::{Grid, NoMemory};
+use hz_replay::{Event, What};
 use hz_unitsets::Rules;
 use std::alloc::Global;
 
@@ -64,19 +66,19 @@ fn play(
     rules: &Rules,
     lists: &[&[Grid]],
     present: &mut Grid,
-    event: Event,
+    what: What,
 ) -> Result<Option<u32>, NoMemory>
-    requires { IsOfClass (length lists.now) (event_lem event) }
-    ensures played { IfOk result (λ refused. PlaysFrom rules.now (lists_in lists.now) present.old (event_lem event) (is_none refused) present.new) }
-    ensures class { IfOk result (λ refused. IfSome refused (λ k. event_lem event ≡ issue k)) }
+    requires { IsOfClass (length lists.now) (event_of what) }
+    ensures played { IfOk result (λ refused. PlaysFrom rules.now (lists_in lists.now) present.old (event_of what) (is_none refused) present.new) }
+    ensures class { IfOk result (λ refused. IfSome refused (λ k. event_of what ≡ issue k)) }
     ensures kept { IfOk result (λ refused. IsSome refused → present.new ≡ present.old) }
 {
-    match event {
-        Event::Advance(cycles) => {
+    match what {
+        What::Advance(cycles) => {
             advance_by(present, cycles);
             Ok(None)
         }
-        Event::Issue(class) => match taken(alloc, rules, present, lists[class as usize])? {
+        What::Issue(class) => match taken(alloc, rules, present, lists[class as usize])? {
             Some(grid) => {
                 *present = grid;
                 Ok(None)
@@ -87,22 +89,22 @@ fn play(
 }
 
 /// 1 for an issue, and 0 for advances.
-fn issues_at(event: Event) -> u64
-    ensures { result ≡ issues_in (event_lem event) }
+fn issues_at(what: What) -> u64
+    ensures { result ≡ issues_in (event_of what) }
 {
-    match event {
-        Event::Issue(_) => 1,
-        Event::Advance(_) => 0,
+    match what {
+        What::Issue(_) => 1,
+        What::Advance(_) => 0,
     }
 }
 
 /// The cycles that an event advances.
-fn cycles_at(event: Event) -> u64
-    ensures { result ≡ cycles_in (event_lem event) }
+fn cycles_at(what: What) -> u64
+    ensures { result ≡ cycles_of_one (event_of what) }
 {
-    match event {
-        Event::Issue(_) => 0,
-        Event::Advance(cycles) => u64::from(cycles),
+    match what {
+        What::Issue(_) => 0,
+        What::Advance(cycles) => u64::from(cycles),
     }
 }
 
@@ -112,7 +114,7 @@ fn issue_count(events: &[Event]) -> u64
 {
     let mut count = 0;
     for event in events {
-        count += issues_at(*event);
+        count += issues_at(event.what);
     }
     count
 }
@@ -124,7 +126,7 @@ fn cycle_count(events: &[Event]) -> u64
 {
     let mut count = 0;
     for event in events {
-        count += cycles_at(*event);
+        count += cycles_at(event.what);
     }
     count
 }
@@ -144,7 +146,7 @@ pub fn replay(
 {
     let mut present = Grid::empty(alloc);
     for (place, event) in events.iter().enumerate() {
-        if let Some(class) = play(alloc, rules, lists, &mut present, *event)? {
+        if let Some(class) = play(alloc, rules, lists, &mut present, event.what)? {
             return Ok(Outcome::Refused {
                 event: place,
                 class,

@@ -1,2 +1,1 @@
 pub mod TraceLaws
-pub mod StraightLaws

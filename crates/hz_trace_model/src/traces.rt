@@ -1,11 +1,8 @@
 //! Laws of the texts of traces, whatever names classes have.
 
-ghost use Rattle.std.specs.Prelude.{◌≡◌, ℕ, ◌⊎◌, List, [], ◌∷◌, length, codes, All, IsTrue};
-ghost use Rattle.std.specs.List.{range_with_len};
-ghost use Rattle.hz_base_model.specs.Names.{is_name};
+ghost use Rattle.std.specs.Prelude.{◌≡◌, ℕ, ◌⊎◌, List, [], ◌∷◌, length, codes};
 ghost use Rattle.hz_base_model.specs.Lines.{lines_of};
 ghost use Rattle.hz_acceptance_model.specs.Events.{Event, issue, advance};
-ghost use Rattle.hz_trace_model.specs.StraightTraces.{StraightTrace};
 ghost use Rattle.hz_trace_model.specs.Traces.{line_says, skipped, says, wrong, bad_line, unknown_class, Trace, TraceFault, TraceFaultAt, event_lines};
 
 /// A trace text has at most one list of events, and each event has one line.
@@ -27,12 +24,6 @@ pub fn events_or_fault()
 /// Every text has events or a fault.
 pub fn events_of_every_text()
     ensures { (classes : List (List ℕ)) (text : List ℕ) → ((events : List Event) × Trace classes text events) ⊎ ((fault : TraceFault) × (number : ℕ) × TraceFaultAt classes text fault number) }
-{}
-
-/// A text of plain lines, one event each, has these events by the whole grammar too, each on the line of its place.
-pub fn straight_traces_are_traces()
-    ensures events { (classes : List (List ℕ)) → All (λ n. IsTrue (is_name n)) classes → (text : List ℕ) (events : List Event) → StraightTrace classes text events → Trace classes text events }
-    ensures lines { (classes : List (List ℕ)) → All (λ n. IsTrue (is_name n)) classes → (text : List ℕ) (events : List Event) → StraightTrace classes text events → event_lines classes 1 (lines_of text) ≡ range_with_len 1 (length events) }
 {}
 
 /// Blanks and carriage returns at both ends of a line are dropped, and blanks alone stand between its words; an empty

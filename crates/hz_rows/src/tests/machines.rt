@@ -39,8 +39,12 @@ const SUPERSCALAR_ROWS: &[(&[u8], u8, &[u8])] = &[
         0,
         b"accepted 2 issues 8 cycles\n",
     ),
-    (b"issue  simple\n", 2, b"fault t NotBuilt\n"),
-    (b"issue none\n", 2, b"fault t NotBuilt\n"),
+    (
+        b"; a third simple one\nissue simple\nissue  simple\n\n\tissue simple\n",
+        1,
+        b"refused line 5 simple\n",
+    ),
+    (b"issue none\n", 2, b"fault t line 1 UnknownClass\n"),
 ];
 
 #[test]

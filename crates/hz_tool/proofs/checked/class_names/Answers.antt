@@ -2,7 +2,7 @@ use Rattle.std.proofs.Common.{◌≡◌, ◌<◌, ℕ, List, [], None, length, m
 use Rattle.std.proofs.lemmas.List.{length-map, take-map}
 use Rattle.hz_base_model.specs.Lines.{place_of}
 use Rattle.hz_check.specs.declared.checked.CheckedClass.{CheckedClass}
-use Rattle.hz_tool.specs.Names.{names_in}
+use Rattle.hz_replay.specs.Names.{names_in}
 use Rattle.hz_tool.proofs.CheckedLemmas.{new_name, name_at}
 use Rattle.hz_tool.proofs.checked.class_names.Goals as goal
 

@@ -1,5 +1,5 @@
 use Rattle.std.proofs.Common.{◌≡◌, map, take}
-use Rattle.hz_tool.specs.Names.{names_in}
+use Rattle.hz_replay.specs.Names.{names_in}
 use Rattle.hz_tool.proofs.checked.class_names.Given as goal
 
 -- the names so far

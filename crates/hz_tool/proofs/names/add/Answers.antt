@@ -4,7 +4,7 @@ use Rattle.std.specs.List.{list_any}
 use Rattle.std.specs.Str.{bytes_eq}
 use Rattle.std.specs.declared.alloc.Global.{Global}
 use Rattle.std.specs.declared.vec.Vec.{Vec}
-use Rattle.hz_tool.specs.Names.{names_in}
+use Rattle.hz_replay.specs.Names.{names_in}
 use Rattle.hz_tool.proofs.NameLemmas.{absent_name}
 use Rattle.hz_tool.proofs.names.add.Goals as goal
 

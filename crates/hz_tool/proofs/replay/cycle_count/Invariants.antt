@@ -1,6 +1,6 @@
 use Rattle.std.proofs.Common.{◌≡◌, take}
 use Rattle.hz_acceptance_model.specs.Events.{cycles_of}
-use Rattle.hz_tool.specs.Trace.{events_in}
+use Rattle.hz_replay.specs.Traces.{events_in}
 use Rattle.hz_tool.proofs.replay.cycle_count.Given as goal
 
 abbrev pub invariant-loop-event : goal.invariant-loop-event

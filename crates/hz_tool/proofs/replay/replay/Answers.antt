@@ -2,11 +2,10 @@ use Rattle.std.proofs.Common.{◌≡◌, ℕ, ◌<◌, List, length, take, Optio
 use Rattle.std.proofs.lemmas.List.Elements.{All-get_or}
 use Rattle.std.proofs.lemmas.List.{length-map, get_or-map}
 use Rattle.hz_acceptance_model.specs.Events as model
-use Rattle.hz_tool.specs.declared.trace.Event.TheVariants.{Issue}
-use Rattle.hz_tool.specs.Trace.{event, events_in}
+use Rattle.hz_replay.specs.Traces.{events_in}
 use Rattle.hz_tool.specs.Replay.{lists_in, PlaysFrom, Follows}
 use Rattle.hz_acceptance_model.specs.Events.{IsOfClass}
-use Rattle.hz_tool.proofs.EventLemmas.{event_at, events_more, follows_more, first_refused, all_played, event_there}
+use Rattle.hz_tool.proofs.EventLemmas.{event, some_event, event_at, events_more, follows_more, first_refused, all_played, event_there}
 use Rattle.hz_tool.proofs.replay.replay.Goals as goal
 
 pub play-requires : goal.play-requires
@@ -15,7 +14,7 @@ play-requires c =
     let i = c.loop-place.place in
     let inside : i < length es = omega arith in
     let long = length-map es event in
-    subst (IsOfClass (length c.args.lists.now)) (get_or-map event es i (Issue 0) (model.issue 0) inside) (All-get_or (IsOfClass (length c.args.lists.now)) (events_in es) i (model.issue 0) (omega arith) c.requires.classes)
+    subst (IsOfClass (length c.args.lists.now)) (get_or-map event es i some_event (model.issue 0) inside) (All-get_or (IsOfClass (length c.args.lists.now)) (events_in es) i (model.issue 0) (omega arith) c.requires.classes)
 
 pub returns-in-Some-clause-right : goal.returns-in-Some-clause-right
 returns-in-Some-clause-right c = λ m are.
@@ -51,5 +50,5 @@ returns-in-Some-clause-within c =
     let inside : i < length es = omega arith in
     let long = length-map es event in
     let class = subst (λ (o : Option ℕ). IfSome o (λ k. event_at es i ≡ model.issue k)) c.in-Some.is c.in_ok-class.ensures.class in
-    let known = subst (IsOfClass (length c.args.lists.now)) (get_or-map event es i (Issue 0) (model.issue 0) inside) (All-get_or (IsOfClass (length c.args.lists.now)) (events_in es) i (model.issue 0) (omega arith) c.requires.classes) in
+    let known = subst (IsOfClass (length c.args.lists.now)) (get_or-map event es i some_event (model.issue 0) inside) (All-get_or (IsOfClass (length c.args.lists.now)) (events_in es) i (model.issue 0) (omega arith) c.requires.classes) in
     (inside, subst (IsOfClass (length c.args.lists.now)) class known)

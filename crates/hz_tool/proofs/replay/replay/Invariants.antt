@@ -1,6 +1,6 @@
 use Rattle.std.proofs.Common.{ℕ, take}
 use Rattle.hz_acceptance_model.specs.Replay.{Pipeline}
-use Rattle.hz_tool.specs.Trace.{events_in}
+use Rattle.hz_replay.specs.Traces.{events_in}
 use Rattle.hz_tool.specs.Replay.{AreListsOf, lists_in, Follows}
 use Rattle.hz_tool.proofs.replay.replay.Given as goal
 
