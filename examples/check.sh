@@ -1,5 +1,5 @@
 #!/bin/sh
-# Replays each example trace and compares status and text with its .answer file: the status on the first line, then
+# Replays each example trace, evaluates each example block, and compares status and text with its .answer file: the status on the first line, then
 # the text.
 hz=$1
 cd "$(dirname "$0")/.." || exit 2
@@ -18,5 +18,18 @@ for trace in examples/*/*.trace; do
         bad=1
     fi
 done
-echo "$count traces"
+for block in examples/*/*.block; do
+    state=${block%.block}.state
+    answer=${block%.block}.answer
+    text=$("$hz" eval "$block" "$state")
+    status=$?
+    count=$((count + 1))
+    if [ "$(printf '%s\n%s\n' "$status" "$text")" = "$(cat "$answer")" ]; then
+        echo "$block: status $status"
+    else
+        echo "$block: status $status, $text: not as in $answer"
+        bad=1
+    fi
+done
+echo "$count examples"
 exit $bad

@@ -21,7 +21,7 @@ expect() {
     fi
 }
 
-usage='usage: hz replay DESC TRACE'
+usage='usage: hz replay DESC TRACE | eval BLOCK STATE'
 printf '(define_cpu_unit "a")\n(define_insn_reservation "x" 1 (const_int 1) "nothing,a")\n' > d
 printf '(define_automaton "m,n")\n(define_cpu_unit "a" "m")\n(define_cpu_unit "b" "n")\n' > two_automata
 printf '(define_cpu_unit "a,b")\n(automata_option "ndfa")\n(define_insn_reservation "x" 1 (const_int 1) "a|b")\n' > ndfa
@@ -33,6 +33,9 @@ printf '(define_reservation "r" "s")\n(define_reservation "s" "r")\n' > circle
 printf '(define_cpu_unit "u")\n(define_insn_reservation "x" 1 (const_int 1) "(u|u)*13")\n' > alternatives
 printf '(define_cpu_unit "u")\n(define_insn_reservation "x" 1 (const_int 1) "(u|u)*65535")\n' > most
 printf 'issue x\nadvance 1\nissue x\n' > t
+printf '(insn 1 (set (reg 2) (plus (reg 1) (const_int 1))))\n' > b
+printf '(reg 1 6)\n' > s
+printf '(insn 1 (set (reg 2)\n  (what)))\n' > code
 printf 'issue x\nissue x\n' > twice
 printf '; no class has this name\nissue z\n' > unknown
 printf '\n  issue x ; late\n' > bad
@@ -49,6 +52,12 @@ expect 0 'accepted 0 issues 0 cycles' replay d empty
 expect 0 'accepted 0 issues 0 cycles' replay empty empty
 expect 0 'accepted 0 issues 0 cycles' replay longest empty
 expect 1 'refused line 2 x' replay d twice
+expect 0 "$(printf '(reg 1 6)\n(reg 2 7)')" eval b s
+expect 0 '' eval empty empty
+expect 2 'fault code line 2 UnknownCode' eval code s
+expect 2 'fault b line 1 BadShape' eval b b
+expect 3 'limit long bytes' eval b long
+expect 6 'file missing could not be read' eval b missing
 expect 2 'fault two_automata NotBuilt' replay two_automata t
 expect 2 'fault ndfa NotBuilt' replay ndfa t
 expect 2 'fault unclosed line 1 Unclosed' replay unclosed t

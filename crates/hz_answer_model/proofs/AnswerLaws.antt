@@ -1,11 +1,11 @@
 -- Answers: there is one, and no other.
-use Rattle.std.proofs.Common.{◌≡◌, ℕ, inl, inr, true, false, Bool, List, [], ◌∷◌, length, Option, Some, None, MatchOption, MatchBool, nat_lt, slice_get, sym, ap, ◌∙◌, subst}
+use Rattle.std.proofs.Common.{refl, ◌≡◌, ℕ, inl, inr, true, false, Bool, List, [], ◌∷◌, length, Option, Some, None, MatchOption, MatchBool, nat_lt, slice_get, sym, ap, ◌∙◌, subst}
 use Rattle.std.proofs.lemmas.Option.{same_Some}
 use Rattle.hz_sexp_model.proofs.FormsLaws.{one_reading, one_fault, forms_or_fault}
 use Rattle.hz_mdread_model.proofs.DescriptionLaws.{one_description, one_fault_of_descriptions, description_or_fault}
 use Rattle.hz_check_model.proofs.CheckLaws.{fault_one, fault_or_sound, sound_one}
 use Rattle.hz_acceptance_model.proofs.AcceptanceLaws.{one_refused, accepted_or_refused}
-use Rattle.hz_answer_model.specs.Answers.{Held, Says, Next, Opens, HasForms, Describes, Checks, HasDescription, is_built, Traces, Replays, ReplaysTrace, ReplaysDescription, Judges, IsIssueOf, AnswersOrder, Answer}
+use Rattle.hz_answer_model.specs.Answers.{Describes, Checks, HasDescription, is_built, Traces, Replays, ReplaysTrace, ReplaysDescription, Judges, IsIssueOf, AnswersOrder, Answer}
 use Rattle.hz_check_model.specs.CheckFaults.{CheckFault, Known}
 use Rattle.hz_mdread_model.specs.DescriptionForms.{DescriptionFault}
 use Rattle.hz_mdread_model.specs.Descriptions.{Description}
@@ -21,7 +21,28 @@ use Rattle.hz_acceptance_model.specs.Replay.{Pipeline, Class}
 use Rattle.hz_acceptance_model.specs.Events.{Event, issue}
 use Rattle.hz_answer_model.specs.Texts.{file_line, limit_line, fault_line, not_built_line, usage_line, refused_line}
 use Rattle.hz_sexp_model.specs.Trees.{Trees}
-use Rattle.hz_answer_model.specs.Words.{Order, replay, order_of}
+use Rattle.hz_answer_model.specs.Words.{Order, replay, eval, order_of}
+use Rattle.hz_answer_model.specs.Phases.{Held, Says, Next, Opens, HasForms}
+use Rattle.hz_answer_model.specs.BlockAnswers.{block_limit, state_text_limit, IsBlock, IsState, Evaluates, JudgesBlock}
+use Rattle.hz_answer_model.specs.FaultTexts.{rtl_word}
+use Rattle.hz_rtl_model.specs.Blocks.{Instruction}
+use Rattle.hz_rtl_model.specs.States.{State, run, all_stored}
+use Rattle.hz_rtltext_model.specs.Operands.{RtlFault, Judged}
+use Rattle.hz_rtltext_model.specs.BlockForms as blocks
+use Rattle.hz_rtltext_model.specs.StateForms as states
+use Rattle.hz_rtltext_model.proofs.Listings.{same_text}
+use Rattle.std.specs.List.{range_with_len}
+use Rattle.std.specs.Prelude.{Ok, Err}
+
+-- what is judged good is not wrong
+good_or_wrong : {A : Type 0} (value : A) (wrong : RtlFault × ℕ) (judged : Judged A) → judged ≡ Ok value → judged ≡ Err wrong → ⊥
+good_or_wrong value wrong judged h k = absurd (cc)
+
+same_good : {A : Type 0} (value other : A) (judged : Judged A) → judged ≡ Ok value → judged ≡ Ok other → value ≡ other
+same_good value other judged h k = cc
+
+same_wrong : {A : Type 0} (wrong other : RtlFault × ℕ) (judged : Judged A) → judged ≡ Err wrong → judged ≡ Err other → wrong ≡ other
+same_wrong wrong other judged h k = cc
 
 -- answers that leave no choice
 abbrev pub IsSingle : (ℕ → List ℕ → Type 0) → Type 0
@@ -111,6 +132,39 @@ texts_single description described trace traced =
     builds_single description (is_built d) (ReplaysTrace trace traced d known)
     (traces_single (class_names d) trace traced (Replays (pipeline_with d known) (event_lines (class_names d) 1 (lines_of traced))) (replays_single (pipeline_with d known) (event_lines (class_names d) 1 (lines_of traced)))))
 
+-- Blocks and states.
+
+block_single : (name : List ℕ) (read : Trees) (next : Next (List Instruction)) → ((block : List Instruction) → IsSingle (next block)) → IsSingle (IsBlock name read next)
+block_single name read next single s s' t t' (inl (b, is, x)) (inl (c, also, y)) =
+    let same = same_good b c (blocks.instructions_after [] read) is also in
+    single b s s' t t' x (subst (λ (k : List Instruction). next k s' t') (sym same) y)
+block_single name read next single s s' t t' (inl (b, is, x)) (inr (fault, line, wrong, y)) = absurd (good_or_wrong b (fault, line) (blocks.instructions_after [] read) is wrong)
+block_single name read next single s s' t t' (inr (fault, line, wrong, x)) (inl (b, is, y)) = absurd (good_or_wrong b (fault, line) (blocks.instructions_after [] read) is wrong)
+block_single name read next single s s' t t' (inr (fault, line, wrong, x)) (inr (other, place, also, y)) =
+    let same = same_wrong (fault, line) (other, place) (blocks.instructions_after [] read) wrong also in
+    says_same 2 2 (fault_line name line (rtl_word fault ∷ [])) (fault_line name place (rtl_word other ∷ [])) refl (ap (λ (f : RtlFault × ℕ). fault_line name f.1 (rtl_word f.0 ∷ [])) same) s s' t t' x y
+
+state_single : (name : List ℕ) (read : Trees) (next : Next State) → ((state : State) → IsSingle (next state)) → IsSingle (IsState name read next)
+state_single name read next single s s' t t' (inl (a, is, x)) (inl (b, also, y)) =
+    let given = same_good is.given also.given (states.stores_after [] read) is.says also.says in
+    let same : a ≡ b = is.is ∙ (ap (all_stored states.empty_state) given ∙ sym also.is) in
+    single a s s' t t' x (subst (λ (k : State). next k s' t') (sym same) y)
+state_single name read next single s s' t t' (inl (a, is, x)) (inr (fault, line, wrong, y)) = absurd (good_or_wrong is.given (fault, line) (states.stores_after [] read) is.says wrong)
+state_single name read next single s s' t t' (inr (fault, line, wrong, x)) (inl (a, is, y)) = absurd (good_or_wrong is.given (fault, line) (states.stores_after [] read) is.says wrong)
+state_single name read next single s s' t t' (inr (fault, line, wrong, x)) (inr (other, place, also, y)) =
+    let same = same_wrong (fault, line) (other, place) (states.stores_after [] read) wrong also in
+    says_same 2 2 (fault_line name line (rtl_word fault ∷ [])) (fault_line name place (rtl_word other ∷ [])) refl (ap (λ (f : RtlFault × ℕ). fault_line name f.1 (rtl_word f.0 ∷ [])) same) s s' t t' x y
+
+evaluates_single : (block : List Instruction) (state : State) → IsSingle (Evaluates block state)
+evaluates_single block state s s' t t' (zero, is) (zero', also) = (zero ∙ sym zero', same_text (run block (range_with_len 0 (length block)) state) t t' is also)
+
+blocks_single : (block blocked state stated : List ℕ) → IsSingle (JudgesBlock block blocked state stated)
+blocks_single block blocked state stated =
+    forms_single block blocked _ (λ read.
+    block_single block read _ (λ insns.
+    forms_single state stated _ (λ other.
+    state_single state other (Evaluates insns) (evaluates_single insns))))
+
 -- reading a file leaves no choice where what follows leaves none
 opens_single : (o : Option (List ℕ)) (name : List ℕ) (most : ℕ) (next : List ℕ → ℕ → List ℕ → Type 0) → ((bytes : List ℕ) → IsSingle (next bytes)) → IsSingle (λ s t. MatchOption o (Says 6 (file_line name) s t) (λ bytes. MatchBool (nat_lt most (length bytes)) (Says 3 (limit_line name) s t) (next bytes s t)))
 opens_single None name most next single = says_single 6 (file_line name)
@@ -125,6 +179,10 @@ order_single held (replay description trace) =
     opens_single (held description) description description_limit (λ described. Opens held trace trace_limit (λ traced. Judges description described trace traced))
     (λ described. opens_single (held trace) trace trace_limit (λ traced. Judges description described trace traced)
     (λ traced. texts_single description described trace traced))
+order_single held (eval block state) =
+    opens_single (held block) block block_limit (λ blocked. Opens held state state_text_limit (λ stated. JudgesBlock block blocked state stated))
+    (λ blocked. opens_single (held state) state state_text_limit (λ stated. JudgesBlock block blocked state stated)
+    (λ stated. blocks_single block blocked state stated))
 
 -- the words and what is held have one answer at most
 pub answer_single : (words : List (List ℕ)) (held : Held) → IsSingle (Answer words held)

@@ -11,7 +11,7 @@ use Rattle.hz_check_model.proofs.CheckTotal.{sound_or_fault}
 use Rattle.hz_acceptance_model.proofs.AcceptanceLaws.{refused_issue}
 use Rattle.hz_acceptance_model.proofs.PlayLaws.{accepted_or_first_refused}
 use Rattle.hz_acceptance_model.proofs.Rows.{same_unit, places_tell}
-use Rattle.hz_answer_model.specs.Answers.{Held, Says, Next, Opens, HasForms, Describes, Checks, HasDescription, is_built, Replays, ReplaysTrace, ReplaysDescription, Judges, IsIssueOf, AnswersOrder, Answer}
+use Rattle.hz_answer_model.specs.Answers.{Describes, Checks, HasDescription, is_built, Replays, ReplaysTrace, ReplaysDescription, Judges, IsIssueOf, AnswersOrder, Answer}
 use Rattle.hz_check_model.specs.CheckFaults.{Known, CheckFault, CheckFaultAt, IsSound}
 use Rattle.hz_mdread_model.specs.DescriptionForms as description_forms
 use Rattle.hz_mdread_model.specs.DescriptionShape.{IsWellFormed}
@@ -27,7 +27,18 @@ use Rattle.hz_trace_model.specs.Traces.{Trace, TraceFault, TraceFaultAt, event_l
 use Rattle.hz_trace_model.proofs.TraceLaws.{trace_of_every_text, counted_lines}
 use Rattle.hz_answer_model.specs.Texts.{file_line, limit_line, fault_line, usage_line, refused_line, accepted_line, not_built_line}
 use Rattle.hz_sexp_model.specs.Trees.{Trees}
-use Rattle.hz_answer_model.specs.Words.{Order, replay, order_of}
+use Rattle.hz_answer_model.specs.Words.{Order, replay, eval, order_of}
+use Rattle.hz_answer_model.specs.Phases.{Held, Says, Next, Opens, HasForms}
+use Rattle.hz_answer_model.specs.BlockAnswers.{block_limit, state_text_limit, IsBlock, IsState, Evaluates, JudgesBlock}
+use Rattle.hz_answer_model.specs.FaultTexts.{rtl_word}
+use Rattle.hz_answer_model.proofs.ListingTotal.{IsFinite, finite_given, finite_run, has_text}
+use Rattle.hz_rtl_model.specs.Blocks.{Instruction}
+use Rattle.hz_rtl_model.specs.States.{State, Store, run, all_stored}
+use Rattle.hz_rtltext_model.specs.Operands.{Judged}
+use Rattle.hz_rtltext_model.specs.BlockForms as blocks
+use Rattle.hz_rtltext_model.specs.StateForms as states
+use Rattle.std.specs.List.{range_with_len}
+use Rattle.std.specs.Prelude.{Ok, Err}
 
 -- some status and text answer
 abbrev pub HasOne : (ℕ → List ℕ → Type 0) → Type 0
@@ -105,6 +116,34 @@ texts_one description described trace traced =
     description_one description described (ReplaysDescription description trace traced) (λ d known.
     builds_one description (is_built d) (ReplaysTrace trace traced d known) (traces_one d known trace traced))
 
+-- Blocks and states.
+
+block_one : (name : List ℕ) (read : Trees) (next : Next (List Instruction)) → ((block : List Instruction) → HasOne (next block)) → HasOne (IsBlock name read next)
+block_one name read next one = by_judged (blocks.instructions_after [] read) refl
+  where
+    by_judged : (judged : Judged (List Instruction)) → blocks.instructions_after [] read ≡ judged → HasOne (IsBlock name read next)
+    by_judged (Ok block) is = wider (next block) _ (λ s t h. inl (block, is, h)) (one block)
+    by_judged (Err (fault, line)) is = wider (Says 2 (fault_line name line (rtl_word fault ∷ []))) _ (λ s t h. inr (fault, line, is, h)) (says_one 2 (fault_line name line (rtl_word fault ∷ [])))
+
+state_one : (name : List ℕ) (read : Trees) (next : Next State) → ((state : State) → IsFinite state → HasOne (next state)) → HasOne (IsState name read next)
+state_one name read next one = by_judged (states.stores_after [] read) refl
+  where
+    by_judged : (judged : Judged (List Store)) → states.stores_after [] read ≡ judged → HasOne (IsState name read next)
+    by_judged (Ok given) is = wider (next (all_stored states.empty_state given)) _ (λ s t h. inl (all_stored states.empty_state given, record { given = given; says = is; is = refl }, h)) (one (all_stored states.empty_state given) (finite_given given))
+    by_judged (Err (fault, line)) is = wider (Says 2 (fault_line name line (rtl_word fault ∷ []))) _ (λ s t h. inr (fault, line, is, h)) (says_one 2 (fault_line name line (rtl_word fault ∷ [])))
+
+evaluates_one : (block : List Instruction) (state : State) → IsFinite state → HasOne (Evaluates block state)
+evaluates_one block state finite =
+    let written = has_text (run block (range_with_len 0 (length block)) state) (finite_run block (range_with_len 0 (length block)) state finite) in
+    (0, written.0, (refl, written.1))
+
+blocks_one : (block blocked state stated : List ℕ) → HasOne (JudgesBlock block blocked state stated)
+blocks_one block blocked state stated =
+    forms_one block blocked _ (λ read.
+    block_one block read _ (λ insns.
+    forms_one state stated _ (λ other.
+    state_one state other (Evaluates insns) (evaluates_one insns))))
+
 -- reading a file answers where what follows does
 opens_one : (o : Option (List ℕ)) (name : List ℕ) (most : ℕ) (next : List ℕ → ℕ → List ℕ → Type 0) → ((bytes : List ℕ) → HasOne (next bytes)) → HasOne (λ s t. MatchOption o (Says 6 (file_line name) s t) (λ bytes. MatchBool (nat_lt most (length bytes)) (Says 3 (limit_line name) s t) (next bytes s t)))
 opens_one None name most next one = says_one 6 (file_line name)
@@ -119,6 +158,10 @@ order_one held (replay description trace) =
     opens_one (held description) description description_limit (λ described. Opens held trace trace_limit (λ traced. Judges description described trace traced))
     (λ described. opens_one (held trace) trace trace_limit (λ traced. Judges description described trace traced)
     (λ traced. texts_one description described trace traced))
+order_one held (eval block state) =
+    opens_one (held block) block block_limit (λ blocked. Opens held state state_text_limit (λ stated. JudgesBlock block blocked state stated))
+    (λ blocked. opens_one (held state) state state_text_limit (λ stated. JudgesBlock block blocked state stated)
+    (λ stated. blocks_one block blocked state stated))
 
 -- all words have an answer, whatever is held
 pub answer_one : (words : List (List ℕ)) (held : Held) → HasOne (Answer words held)

@@ -1,3 +1,4 @@
+pub mod ListingTotal
 pub mod AnswerLaws
 pub mod AnswerTotal
 pub mod EventLaws

@@ -4,8 +4,7 @@ use Rattle.hz_check_model.specs.CheckFaults.{CheckFault, Known, CheckFaultAt, Is
 use Rattle.hz_mdread_model.specs.DescriptionForms.{DescriptionFault}
 use Rattle.hz_mdread_model.specs.DescriptionForms as description_forms
 use Rattle.hz_mdread_model.specs.Descriptions.{Description}
-use Rattle.hz_answer_model.specs.FaultTexts.{form_word, description_words, check_line, check_status, trace_word}
-use Rattle.hz_sexp_model.specs.Forms.{FormFault}
+use Rattle.hz_answer_model.specs.FaultTexts.{description_words, check_line, check_status, trace_word}
 use Rattle.hz_sexp_model.specs.Forms as forms
 use Rattle.hz_base_model.specs.Limits.{description_limit, trace_limit}
 use Rattle.hz_check_model.specs.Places.{class_names}
@@ -15,33 +14,11 @@ use Rattle.hz_acceptance_model.specs.Replay.{Pipeline, Class, Accepted, FirstRef
 use Rattle.hz_check_model.specs.Sites.{Site}
 use Rattle.hz_base_model.specs.Lines.{lines_of}
 use Rattle.hz_trace_model.specs.Traces.{Trace, TraceFault, TraceFaultAt, event_lines}
-use Rattle.hz_answer_model.specs.Texts.{usage_line, file_line, limit_line, fault_line, not_built_line, accepted_line, refused_line}
+use Rattle.hz_answer_model.specs.Texts.{usage_line, fault_line, not_built_line, accepted_line, refused_line}
 use Rattle.hz_sexp_model.specs.Trees.{Trees}
-use Rattle.hz_answer_model.specs.Words.{Order, replay, order_of}
-
--- the status and the text
-abbrev pub Says : ℕ → List ℕ → ℕ → List ℕ → Type 0
-Says s t status text = (status ≡ s) × (text ≡ t)
-
--- what names hold
-abbrev pub Held : Type 0
-Held = List ℕ → Option (List ℕ)
-
--- what a later phase answers, by its value
-abbrev pub Next : Type 0 → Type 1
-Next A = A → ℕ → List ℕ → Type 0
-
--- Reading a file of at most so many bytes: where the name is not held it can't be read, and a longer one is refused.
-abbrev pub Opens : Held → List ℕ → ℕ → Next (List ℕ) → ℕ → List ℕ → Type 0
-Opens held name most next status text =
-    MatchOption (held name) (Says 6 (file_line name) status text)
-    (λ bytes. MatchBool (nat_lt most (length bytes)) (Says 3 (limit_line name) status text) (next bytes status text))
-
--- the forms of a text, or its first fault
-abbrev pub HasForms : List ℕ → List ℕ → Next Trees → ℕ → List ℕ → Type 0
-HasForms name bytes next status text =
-    ((read : Trees) × forms.Reads bytes read × next read status text)
-    ⊎ ((fault : FormFault) × (line : ℕ) × forms.FaultAt bytes fault line × Says 2 (fault_line name line (form_word fault ∷ [])) status text)
+use Rattle.hz_answer_model.specs.Words.{Order, replay, eval, order_of}
+use Rattle.hz_answer_model.specs.Phases.{Held, Says, Next, Opens, HasForms}
+use Rattle.hz_answer_model.specs.BlockAnswers.{block_limit, state_text_limit, JudgesBlock}
 
 -- the description that forms say, or the first fault of a form
 abbrev pub Describes : List ℕ → Trees → Next Description → ℕ → List ℕ → Type 0
@@ -103,9 +80,17 @@ AnswersReplay held description trace =
     Opens held trace trace_limit (λ traced.
     Judges description described trace traced))
 
+-- both files are read, the block first, and then judged in their order
+abbrev pub AnswersEval : Held → List ℕ → List ℕ → ℕ → List ℕ → Type 0
+AnswersEval held block state =
+    Opens held block block_limit (λ blocked.
+    Opens held state state_text_limit (λ stated.
+    JudgesBlock block blocked state stated))
+
 -- what an order answers: one case for each command
 abbrev pub AnswersOrder : Held → Order → ℕ → List ℕ → Type 0
 AnswersOrder held (replay description trace) = AnswersReplay held description trace
+AnswersOrder held (eval block state) = AnswersEval held block state
 
 -- What the program answers to its words over files that hold this, where memory is found and nothing fails but the
 -- opening of a name that is not held. The first phase that refuses decides.

@@ -9,6 +9,8 @@ use Rattle.hz_mdread_model.specs.DescriptionForms as description
 use Rattle.hz_check_model.specs.CheckFaults.{CheckFault, LimitName}
 use Rattle.hz_check_model.specs.CheckFaults as check
 use Rattle.hz_check_model.specs.Sites.{Site}
+use Rattle.hz_rtltext_model.specs.Operands.{RtlFault}
+use Rattle.hz_rtltext_model.specs.Operands as rtl
 use Rattle.hz_trace_model.specs.Traces.{TraceFault}
 use Rattle.hz_trace_model.specs.Traces as trace
 use Rattle.hz_answer_model.specs.Texts.{fault_line, passed_line}
@@ -70,6 +72,14 @@ check_line file check.bypass_twice site = named_line file (codes "BypassTwice") 
 abbrev pub check_status : CheckFault → ℕ
 check_status (check.limit what) = 3
 check_status _ = 2
+
+-- the word of a fault of a block or a state
+abbrev pub rtl_word : RtlFault → List ℕ
+rtl_word rtl.bad_shape = codes "BadShape"
+rtl_word rtl.unknown_code = codes "UnknownCode"
+rtl_word rtl.register_range = codes "RegisterRange"
+rtl_word rtl.twice = codes "Twice"
+rtl_word rtl.insn_limit = codes "InsnLimit"
 
 -- the word of a fault of a trace
 abbrev pub trace_word : TraceFault → List ℕ

@@ -1,4 +1,6 @@
 pub mod Words
 pub mod Texts
 pub mod FaultTexts
+pub mod Phases
+pub mod BlockAnswers
 pub mod Answers

@@ -30,4 +30,4 @@ abbrev pub memory_line : List ℕ
 memory_line = concat (codes "memory\n" ∷ [])
 
 abbrev pub usage_line : List ℕ
-usage_line = concat (codes "usage: hz replay DESC TRACE\n" ∷ [])
+usage_line = concat (codes "usage: hz replay DESC TRACE | eval BLOCK STATE\n" ∷ [])

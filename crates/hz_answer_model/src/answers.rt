@@ -1,7 +1,8 @@
 //! Laws of answers.
 
 ghost use Rattle.std.specs.Prelude.{◌≡◌, ℕ, List};
-ghost use Rattle.hz_answer_model.specs.Answers.{Held, Answer};
+ghost use Rattle.hz_answer_model.specs.Answers.{Answer};
+ghost use Rattle.hz_answer_model.specs.Phases.{Held};
 
 /// The words and what is held have one answer at most: one status and one text.
 pub fn one_answer()

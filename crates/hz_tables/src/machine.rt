@@ -1,6 +1,6 @@
 //! A machine: a table for each automaton.
 
-ghost use Rattle.std.specs.Prelude.{◌≡◌, ◌+◌, ◌<◌, ◌≤◌, length, map};
+ghost use Rattle.std.specs.Prelude.{◌≡◌, ◌+◌, ◌<◌, ◌≤◌, IfSome, length, map};
 ghost use Rattle.std.specs.Option.{ForSome};
 ghost use Rattle.std.proofs.Props.{props};
 ghost use Rattle.hz_tables_model.specs.Machines.{IsMachine};
@@ -40,6 +40,7 @@ impl Machine {
         ensures next { result ≡ next_of (part_at (machine_of self.now) part) state class }
         ensures cost { steps.new ≤ steps.old + 4 }
         ensures counted { steps.old < steps.new }
+        ensures map_counted { IfSome class (λ _. steps.old + 2 ≤ steps.new) }
     {
         let part = &self.parts[part as usize];
         let column = match class {

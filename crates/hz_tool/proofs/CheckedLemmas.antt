@@ -9,7 +9,8 @@ use Rattle.hz_base_model.specs.Lines.{place_of}
 use Rattle.hz_altern_model.specs.Automata.{UnitPlace, list_in}
 use Rattle.hz_check_model.specs.CheckedParts.{AutomatonParts, ClassParts, automaton_names, automaton_count, automata_from, statements_in, class_parts}
 use Rattle.hz_altern_model.specs.Alternatives.{Alternative, alternatives_of}
-use Rattle.hz_answer_model.specs.Answers.{Says, is_built, Traces, ReplaysTrace, ReplaysDescription}
+use Rattle.hz_answer_model.specs.Answers.{is_built, Traces, ReplaysTrace, ReplaysDescription}
+use Rattle.hz_answer_model.specs.Phases.{Says}
 use Rattle.hz_check_model.specs.CheckFaults.{Known}
 use Rattle.hz_trace_model.specs.Traces.{Trace, TraceFault, TraceFaultAt}
 use Rattle.hz_trace_model.specs.Traces as trace

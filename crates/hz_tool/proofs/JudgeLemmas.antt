@@ -1,7 +1,8 @@
 -- The reports of the phases of judging a description are what is to be answered.
 use Rattle.std.proofs.Common.{◌≡◌, ℕ, List, [], ◌∷◌, inl, inr, MatchOption, codes, decimal, refl, sym, ap, ◌∙◌}
 use Rattle.hz_check.specs.Faults.{limit_of}
-use Rattle.hz_answer_model.specs.Answers.{Next, HasForms, Describes, Checks}
+use Rattle.hz_answer_model.specs.Answers.{Describes, Checks}
+use Rattle.hz_answer_model.specs.Phases.{Next, HasForms}
 use Rattle.hz_check_model.specs.CheckFaults.{Known, IsSound, limit}
 use Rattle.hz_mdread_model.specs.DescriptionForms.{DescriptionFault}
 use Rattle.hz_mdread_model.specs.DescriptionForms as description_forms
@@ -13,9 +14,17 @@ use Rattle.hz_sexp_model.specs.Forms as forms
 use Rattle.hz_check_model.specs.Sites.{Site}
 use Rattle.hz_answer_model.specs.Texts.{fault_line, passed_line}
 use Rattle.hz_sexp_model.specs.Trees.{Trees}
+use Rattle.hz_answer_model.specs.BlockAnswers.{IsBlock, IsState}
+use Rattle.hz_answer_model.specs.FaultTexts.{rtl_word}
+use Rattle.hz_rtl_model.specs.Blocks.{Instruction}
+use Rattle.hz_rtl_model.specs.States.{State}
+use Rattle.hz_rtltext_model.specs.Operands.{RtlFault}
+use Rattle.hz_rtltext_model.specs.Operands as rtl
+use Rattle.hz_rtltext_model.specs.BlockForms as blocks
+use Rattle.hz_rtltext_model.specs.StateForms as states
 use Rattle.hz_tool.proofs.AnswerLemmas.{agrees_weaker}
-use Rattle.hz_tool.specs.Decisions.{Agrees, IsFormsReport, IsDescriptionReport, IsCheckReport}
-use Rattle.hz_tool.specs.Kinds.{kind_word, form_fault, description_fault, expression_fault, named_fault, named_word}
+use Rattle.hz_tool.specs.Decisions.{Agrees, IsFormsReport, IsDescriptionReport, IsCheckReport, IsRtlReport}
+use Rattle.hz_tool.specs.Kinds.{kind_word, form_fault, description_fault, expression_fault, named_fault, named_word, rtl_fault}
 use Rattle.hz_tool.specs.Kinds as kinds
 use Rattle.hz_tool.specs.declared.kind.Kind.{Kind}
 use Rattle.hz_tool.specs.declared.kind.Kind.TheVariants as kind
@@ -121,3 +130,35 @@ description_on name read d next report is = agrees_weaker (next d) (Describes na
 
 pub check_on : (name : List ℕ) (d : Description) (known : Known) (next : Next Known) (report : Report) → IsSound d known → Agrees (next known) report → Agrees (Checks name d next) report
 check_on name d known next report is = agrees_weaker (next known) (Checks name d next) (λ s t a. inl (known, is, a)) report
+
+-- Blocks and states.
+
+rtl_said : (k : Kind) (P : RtlFault → Type 0) → MatchOption (rtl_fault k) ⊥ P → (fault : RtlFault) × P fault × (kind_word k ≡ rtl_word fault)
+rtl_said kind.BadShape P h = (rtl.bad_shape, h, refl)
+rtl_said kind.UnknownCode P h = (rtl.unknown_code, h, refl)
+rtl_said kind.RegisterRange P h = (rtl.register_range, h, refl)
+rtl_said kind.Twice P h = (rtl.twice, h, refl)
+rtl_said kind.InsnLimit P h = (rtl.insn_limit, h, refl)
+rtl_said _ P h = absurd h
+
+-- the first wrong form of a block is told
+pub block_refused : (name : List ℕ) (read : Trees) (next : Next (List Instruction)) (report : Report) → IsRtlReport name (blocks.FaultAt read) report → Agrees (IsBlock name read next) report
+block_refused name read next (Fault file line k) (same, wrong) =
+    let said = rtl_said k (λ fault. blocks.FaultAt read fault line) wrong in
+    inr (said.0, line, said.1, (refl, ap (λ (f : List ℕ). fault_line f line (kind_word k ∷ [])) same ∙ ap (λ (w : List ℕ). fault_line name line (w ∷ [])) said.2))
+block_refused name read next Memory h = tt
+block_refused name read next _ h = absurd h
+
+-- the first wrong form of a state is told
+pub state_refused : (name : List ℕ) (read : Trees) (next : Next State) (report : Report) → IsRtlReport name (states.FaultAt read) report → Agrees (IsState name read next) report
+state_refused name read next (Fault file line k) (same, wrong) =
+    let said = rtl_said k (λ fault. states.FaultAt read fault line) wrong in
+    inr (said.0, line, said.1, (refl, ap (λ (f : List ℕ). fault_line f line (kind_word k ∷ [])) same ∙ ap (λ (w : List ℕ). fault_line name line (w ∷ [])) said.2))
+state_refused name read next Memory h = tt
+state_refused name read next _ h = absurd h
+
+pub block_on : (name : List ℕ) (read : Trees) (block : List Instruction) (next : Next (List Instruction)) (report : Report) → blocks.Reads read block → Agrees (next block) report → Agrees (IsBlock name read next) report
+block_on name read block next report is = agrees_weaker (next block) (IsBlock name read next) (λ s t a. inl (block, is, a)) report
+
+pub state_on : (name : List ℕ) (read : Trees) (state : State) (next : Next State) (report : Report) → states.Reads read state → Agrees (next state) report → Agrees (IsState name read next) report
+state_on name read state next report is = agrees_weaker (next state) (IsState name read next) (λ s t a. inl (state, is, a)) report

@@ -1,6 +1,8 @@
 use Rattle.std.proofs.Common.{◌≡◌, ℕ, ◌<◌, ◌≤◌, ◌⊎◌, inl, inr, Bool, List, length, Option, Some, nat_lt, MatchBool, MatchOption, refl, sym, subst, arith}
 use Rattle.std.proofs.lemmas.Bool.{le-ltb}
-use Rattle.hz_answer_model.specs.Answers.{Held, Next, Opens, Answer, Judges, AnswersReplay, Says}
+use Rattle.hz_answer_model.specs.Answers.{Answer, Judges, AnswersReplay, AnswersEval}
+use Rattle.hz_answer_model.specs.BlockAnswers.{block_limit, state_text_limit, JudgesBlock}
+use Rattle.hz_answer_model.specs.Phases.{Held, Next, Opens, Says}
 use Rattle.hz_base_model.specs.Limits.{description_limit, trace_limit}
 use Rattle.hz_answer_model.specs.Texts.{file_line, limit_line}
 use Rattle.hz_tool.specs.Decisions.{Agrees, CountsReport, NamesFile, IsFileWord}
@@ -23,6 +25,13 @@ pub answers_replay : (held : Held) (description trace described traced : List �
 answers_replay held description trace described traced report found short found' short' h =
     agrees_weaker (Judges description described trace traced) (AnswersReplay held description trace)
     (λ s t j. opens_found held description description_limit described (λ bytes. Opens held trace trace_limit (λ others. Judges description bytes trace others)) s t found short (opens_found held trace trace_limit traced (λ bytes. Judges description described trace bytes) s t found' short' j))
+    report h
+
+-- the same of a block and a state
+pub answers_eval : (held : Held) (block state blocked stated : List ℕ) (report : Report) → held block ≡ Some blocked → length blocked ≤ block_limit → held state ≡ Some stated → length stated ≤ state_text_limit → Agrees (JudgesBlock block blocked state stated) report → Agrees (AnswersEval held block state) report
+answers_eval held block state blocked stated report found short found' short' h =
+    agrees_weaker (JudgesBlock block blocked state stated) (AnswersEval held block state)
+    (λ s t j. opens_found held block block_limit blocked (λ bytes. Opens held state state_text_limit (λ others. JudgesBlock block bytes state others)) s t found short (opens_found held state state_text_limit stated (λ bytes. JudgesBlock block blocked state bytes) s t found' short' j))
     report h
 
 -- status 6 is that of a file's line

@@ -7,14 +7,15 @@ use Rattle.hz_mdread.specs.Faults.{TellsExpression}
 use Rattle.hz_regexp.specs.declared.fault.ExprFault.{ExprFault}
 use Rattle.hz_regexp.specs.declared.fault.ExprFault.TheVariants as expr
 use Rattle.hz_tool.specs.declared.kind.ExpressionKind.{ExpressionKind}
-use Rattle.hz_answer_model.specs.Answers.{Held}
+use Rattle.hz_answer_model.specs.Phases.{Held}
 use Rattle.hz_check_model.specs.CheckFaults.{limit}
 use Rattle.hz_mdread_model.specs.DescriptionForms as description_forms
 use Rattle.hz_mdread_model.specs.Descriptions.{Description}
 use Rattle.hz_sexp_model.specs.Forms as forms
 use Rattle.hz_sexp_model.specs.Trees.{Trees}
-use Rattle.hz_answer_model.specs.Words.{Order, replay, order_of}
-use Rattle.hz_tool.specs.Kinds.{form_fault, description_fault, expression_fault, named_fault, trace_fault}
+use Rattle.hz_answer_model.specs.Words.{Order, replay, eval, order_of}
+use Rattle.hz_tool.specs.Kinds.{form_fault, description_fault, expression_fault, named_fault, rtl_fault, trace_fault}
+use Rattle.hz_rtltext_model.specs.Operands.{RtlFault}
 use Rattle.hz_trace_model.specs.Traces.{TraceFaultAt}
 use Rattle.hz_tool.specs.Reports.{status_of, text_of}
 use Rattle.hz_tool.specs.declared.report.Report.{Report}
@@ -51,6 +52,7 @@ IsOfOrder _ = ⊤
 -- the file words of an order
 abbrev pub IsFileOf : Order → List ℕ → Type 0
 IsFileOf (replay description trace) name = (name ≡ description) ⊎ (name ≡ trace)
+IsFileOf (eval block state) name = (name ≡ block) ⊎ (name ≡ state)
 
 -- what reading a file for a report says of the counts
 abbrev pub CountsFile : ℕ → ℕ → Result (Vec ℕ Global) Report → Type 0
@@ -102,6 +104,12 @@ IsCheckReport name d (Named file line kind at) = (file.now ≡ name) × IsToldAt
 IsCheckReport name d (Passed file line what at) = (file.now ≡ name) × IsToldAt d (limit (limit_of what)) line at
 IsCheckReport name d Memory = ⊤
 IsCheckReport name d _ = ⊥
+
+-- a report of the forms of a block or a state: the first that is wrong, or memory ran out
+abbrev pub IsRtlReport : List ℕ → (RtlFault → ℕ → Type 0) → Report → Type 0
+IsRtlReport name wrong (Fault file line kind) = (file.now ≡ name) × MatchOption (rtl_fault kind) ⊥ (λ fault. wrong fault line)
+IsRtlReport name wrong Memory = ⊤
+IsRtlReport name wrong _ = ⊥
 
 -- a report of a trace of classes with these names: its first wrong line, or memory ran out
 abbrev pub IsTraceReport : List ℕ → List (List ℕ) → List ℕ → Report → Type 0

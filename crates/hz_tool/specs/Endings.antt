@@ -1,6 +1,7 @@
 use Rattle.std.specs.Prelude.{◌≡◌, ◌⊎◌, ℕ, ◌<◌, List, ◌++◌, length, Option, Some}
 use Rattle.std.specs.Option.{ForSome}
-use Rattle.hz_answer_model.specs.Answers.{Held, Answer}
+use Rattle.hz_answer_model.specs.Answers.{Answer}
+use Rattle.hz_answer_model.specs.Phases.{Held}
 use Rattle.hz_answer_model.specs.Texts.{memory_line, file_line}
 use Rattle.hz_tool.specs.Decisions.{IsFileWord}
 

@@ -12,6 +12,8 @@ use Rattle.hz_mdread_model.specs.DescriptionForms.{DescriptionFault}
 use Rattle.hz_mdread_model.specs.DescriptionForms as description
 use Rattle.hz_regexp_model.specs.ExpressionTexts.{ExpressionFault}
 use Rattle.hz_regexp_model.specs.ExpressionTexts as text
+use Rattle.hz_rtltext_model.specs.Operands.{RtlFault}
+use Rattle.hz_rtltext_model.specs.Operands as rtl
 use Rattle.hz_trace_model.specs.Traces.{TraceFault}
 use Rattle.hz_trace_model.specs.Traces as trace
 use Rattle.hz_sexp_model.specs.Forms.{FormFault}
@@ -31,6 +33,10 @@ kind_word kind.BadCondition = codes "BadCondition"
 kind_word kind.UnknownOption = codes "UnknownOption"
 kind_word kind.LatencyLimit = codes "LatencyLimit"
 kind_word kind.UnknownGuard = codes "UnknownGuard"
+kind_word kind.UnknownCode = codes "UnknownCode"
+kind_word kind.RegisterRange = codes "RegisterRange"
+kind_word kind.Twice = codes "Twice"
+kind_word kind.InsnLimit = codes "InsnLimit"
 kind_word kind.BadLine = codes "BadLine"
 kind_word kind.UnknownClass = codes "UnknownClass"
 kind_word kind.AdvanceLimit = codes "AdvanceLimit"
@@ -86,6 +92,15 @@ description_fault kind.UnknownOption = Some description.unknown_option
 description_fault kind.LatencyLimit = Some description.latency_limit
 description_fault kind.UnknownGuard = Some description.unknown_guard
 description_fault _ = None
+
+-- the fault of a form of a block or a state that is told, if it is one
+abbrev pub rtl_fault : Kind → Option RtlFault
+rtl_fault kind.BadShape = Some rtl.bad_shape
+rtl_fault kind.UnknownCode = Some rtl.unknown_code
+rtl_fault kind.RegisterRange = Some rtl.register_range
+rtl_fault kind.Twice = Some rtl.twice
+rtl_fault kind.InsnLimit = Some rtl.insn_limit
+rtl_fault _ = None
 
 -- the fault of a line of a trace that is told, if it is one
 abbrev pub trace_fault : Kind → Option TraceFault

@@ -6,11 +6,15 @@ ghost use Rattle.hz_mdread_model.specs.DescriptionShape.{IsWellFormed, IsCheckab
 ghost use Rattle.hz_sexp_model.specs.Forms as forms;
 ghost use Rattle.hz_base_model.specs.Limits.{class_limit};
 ghost use Rattle.hz_base_model.specs.Lines.{lines_of};
+ghost use Rattle.hz_rtl.specs.Shape.{instructions};
+ghost use Rattle.hz_rtl.specs.States.{words};
+ghost use Rattle.hz_rtltext_model.specs.BlockForms as blocks;
+ghost use Rattle.hz_rtltext_model.specs.StateForms as states;
 ghost use Rattle.hz_trace_model.specs.Traces.{Trace, event_lines};
 ghost use Rattle.hz_check.specs.Checked.{IsCheckedOf};
 ghost use Rattle.hz_mdread.specs.Shape.{description};
 ghost use Rattle.hz_sexp.specs.Shape.{trees};
-ghost use Rattle.hz_tool.specs.Decisions.{IsFormsReport, IsExpressionKind, IsDescriptionReport, IsCheckReport, IsTraceReport};
+ghost use Rattle.hz_tool.specs.Decisions.{IsFormsReport, IsExpressionKind, IsDescriptionReport, IsCheckReport, IsRtlReport, IsTraceReport};
 ghost use Rattle.hz_replay.specs.Names.{names_in};
 ghost use Rattle.hz_replay.specs.Traces.{events_in, lines_in};
 ghost use Rattle.indexmap.specs.IndexSet.{index_set_len};
@@ -21,6 +25,7 @@ use hz_check::{CheckFault, Checked, check};
 use hz_mdread::{Description, MdFault, read_description};
 use hz_regexp::{ExprFault, Name};
 use hz_replay::{Event, TraceFault, read_events};
+use hz_rtl::{Block, RtlFault, State, read_block, read_state};
 use hz_sexp::{Form, SexpFault, read_forms};
 use indexmap::IndexSet;
 use std::alloc::Global;
@@ -159,6 +164,41 @@ pub fn judge_check<'a>(
         }),
         Err(CheckFault::NoMemory) => Err(Report::Memory),
     }
+}
+
+/// The block that forms are, or the report of the first that is wrong.
+pub fn judge_block<'a>(alloc: Global, file: &'a str, read: &[Form]) -> Result<Block, Report<'a>>
+    ensures ok { IfOk result (λ block. blocks.Reads (trees read.now) (instructions block)) }
+    ensures few { IfOk result (λ block. length block.insns.items ≤ blocks.instruction_limit) }
+    ensures err { IfErr result (IsRtlReport file.entry.now (blocks.FaultAt (trees read.now))) }
+{
+    let (line, kind) = match read_block(alloc, read) {
+        Ok(block) => return Ok(block),
+        Err(RtlFault::BadShape { line }) => (line, Kind::BadShape),
+        Err(RtlFault::UnknownCode { line }) => (line, Kind::UnknownCode),
+        Err(RtlFault::RegisterRange { line }) => (line, Kind::RegisterRange),
+        Err(RtlFault::Twice { line }) => (line, Kind::Twice),
+        Err(RtlFault::InsnLimit { line }) => (line, Kind::InsnLimit),
+        Err(RtlFault::NoMemory) => return Err(Report::Memory),
+    };
+    Err(Report::Fault { file, line, kind })
+}
+
+/// The state that forms give, or the report of the first that is wrong.
+pub fn judge_state<'a>(alloc: Global, file: &'a str, read: &[Form]) -> Result<State, Report<'a>>
+    ensures ok { IfOk result (λ state. states.Reads (trees read.now) (words state)) }
+    ensures err { IfErr result (IsRtlReport file.entry.now (states.FaultAt (trees read.now))) }
+{
+    let (line, kind) = match read_state(alloc, read) {
+        Ok(state) => return Ok(state),
+        Err(RtlFault::BadShape { line }) => (line, Kind::BadShape),
+        Err(RtlFault::UnknownCode { line }) => (line, Kind::UnknownCode),
+        Err(RtlFault::RegisterRange { line }) => (line, Kind::RegisterRange),
+        Err(RtlFault::Twice { line }) => (line, Kind::Twice),
+        Err(RtlFault::InsnLimit { line }) => (line, Kind::InsnLimit),
+        Err(RtlFault::NoMemory) => return Err(Report::Memory),
+    };
+    Err(Report::Fault { file, line, kind })
 }
 
 /// The events of a trace, or the report of its first wrong line.

@@ -24,6 +24,11 @@ pub enum Kind {
     UnknownOption,
     LatencyLimit,
     UnknownGuard,
+    /// Faults of the forms of a block or a state, with BadShape.
+    UnknownCode,
+    RegisterRange,
+    Twice,
+    InsnLimit,
     /// Faults of the lines of a trace.
     BadLine,
     UnknownClass,
@@ -48,6 +53,10 @@ impl Kind {
             Kind::UnknownOption => b"UnknownOption",
             Kind::LatencyLimit => b"LatencyLimit",
             Kind::UnknownGuard => b"UnknownGuard",
+            Kind::UnknownCode => b"UnknownCode",
+            Kind::RegisterRange => b"RegisterRange",
+            Kind::Twice => b"Twice",
+            Kind::InsnLimit => b"InsnLimit",
             Kind::BadLine => b"BadLine",
             Kind::UnknownClass => b"UnknownClass",
             Kind::AdvanceLimit => b"AdvanceLimit",

@@ -2,10 +2,13 @@
 #![tactic(auto)]
 
 mod checked;
+mod evaluating;
 mod judging;
 mod kind;
+mod listing;
 mod names;
 mod phases;
+mod pieces;
 mod read;
 mod replay;
 mod report;

@@ -1,7 +1,6 @@
 //! What the program answers: its status and its text.
 
-ghost use Rattle.std.specs.Prelude.{◌≡◌, ◌+◌, ◌-◌, ◌^◌, ◌<◌, [], ◌∷◌, codes, decimal, map};
-ghost use Rattle.std.specs.List.{concat};
+ghost use Rattle.std.specs.Prelude.{◌≡◌, ◌+◌, ◌-◌, ◌^◌, ◌<◌, [], ◌∷◌, codes, decimal};
 ghost use Rattle.hz_io.specs.Sink.{Writes};
 ghost use Rattle.hz_answer_model.specs.Texts as model;
 ghost use Rattle.hz_tool.specs.Kinds.{kind_word, expression_word, named_word};
@@ -9,9 +8,12 @@ ghost use Rattle.hz_check.specs.Faults.{limit_of};
 ghost use Rattle.hz_answer_model.specs.FaultTexts.{limit_word};
 
 use super::kind::{ExpressionKind, Kind, NamedKind, limit_word};
+use super::listing::put_state;
+use super::pieces::put_all;
 use hz_check::LimitName;
 use hz_io::{Failed, Sink};
 use hz_regexp::Name;
+use hz_rtl::State;
 use itoa::Buffer;
 
 /// An answer, before it is written. A file goes by the word that names it.
@@ -26,6 +28,10 @@ pub enum Report<'a> {
     Refused {
         line: u64,
         class: Vec<u8>,
+    },
+    /// The state that a block leaves.
+    After {
+        state: State,
     },
     /// A fault at a line of a text, counted from 1.
     Fault {
@@ -70,20 +76,6 @@ pub enum Report<'a> {
     File {
         file: &'a str,
     },
-}
-
-/// Writes pieces one after the other.
-fn put_all<S: Sink>(out: &mut S, pieces: &[&[u8]]) -> Result<(), Failed>
-    requires { S.faults out.old < 2 ^ 64 - 1 }
-    ensures { Writes S.written S.room S.faults out.old out.new (concat (map (λ piece. piece.now) pieces.now)) result }
-{
-    for piece in pieces {
-        match out.put(piece) {
-            Ok(()) => {}
-            Err(failed) => return Err(failed),
-        }
-    }
-    Ok(())
 }
 
 /// Writes the line of an accepted trace.
@@ -239,6 +231,7 @@ impl Report<'_> {
         match self {
             Report::Accepted { .. } => 0,
             Report::Refused { .. } => 1,
+            Report::After { .. } => 0,
             Report::Fault { .. } => 2,
             Report::Expression { .. } => 2,
             Report::Named { .. } => 2,
@@ -259,6 +252,7 @@ impl Report<'_> {
         match self {
             Report::Accepted { issues, cycles } => put_accepted(out, *issues, *cycles),
             Report::Refused { line, class } => put_refused(out, *line, class.as_slice()),
+            Report::After { state } => put_state(out, state),
             Report::Fault { file, line, kind } => put_fault(out, file, *line, *kind),
             Report::Expression {
                 file,
@@ -282,7 +276,7 @@ impl Report<'_> {
                 put_all(out, &[b"fault ", file.as_bytes(), b" NotBuilt\n"])
             }
             Report::Long { file } => put_all(out, &[b"limit ", file.as_bytes(), b" bytes\n"]),
-            Report::Usage => put_all(out, &[b"usage: hz replay DESC TRACE\n"]),
+            Report::Usage => put_all(out, &[b"usage: hz replay DESC TRACE | eval BLOCK STATE\n"]),
             Report::Memory => put_all(out, &[b"memory\n"]),
             Report::File { file } => {
                 put_all(out, &[b"file ", file.as_bytes(), b" could not be read\n"])

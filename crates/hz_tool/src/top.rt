@@ -2,17 +2,18 @@
 
 ghost use Rattle.std.specs.Prelude.{◌≡◌, ◌⊎◌, ◌↔◌, ℕ, List, ◌-◌, ◌^◌, ◌<◌, ◌≤◌, None};
 ghost use Rattle.std.specs.Option.{ForSome};
-ghost use Rattle.hz_answer_model.specs.Answers.{Answer, AnswersReplay};
+ghost use Rattle.hz_answer_model.specs.Answers.{Answer, AnswersReplay, AnswersEval, AnswersOrder};
 ghost use Rattle.hz_answer_model.specs.Texts.{usage_line, memory_line};
 ghost use Rattle.hz_answer_model.specs.Words as model;
 ghost use Rattle.hz_tool.specs.Decisions.{Agrees, CountsReport, NamesFile, IsOfOrder, IsFileOf, IsFileWord, ReportsWords};
 ghost use Rattle.hz_tool.specs.Endings.{IsAppended, AppendsFile, Completes, IsCutShort};
-ghost use Rattle.hz_tool.specs.Words.{words_in};
+ghost use Rattle.hz_tool.specs.Words.{words_in, order_in};
 
+use super::evaluating::judge_eval;
 use super::phases::judge;
 use super::read::read_file;
 use super::report::Report;
-use super::words::{ReplayOrder, order_of};
+use super::words::{EvalOrder, Order, ReplayOrder, order_of};
 use hz_io::{Files, Sink};
 use std::alloc::Global;
 
@@ -21,6 +22,12 @@ const DESCRIPTION_LIMIT: u64 = 4_194_304;
 
 /// Bytes of a trace, at most.
 const TRACE_LIMIT: u64 = 67_108_864;
+
+/// Bytes of a block, at most.
+const BLOCK_LIMIT: u64 = 4_194_304;
+
+/// Bytes of the text of a state, at most.
+const STATE_LIMIT: u64 = 4_194_304;
 
 /// The report of a replay: both files are read before either is judged.
 fn decide_replay<'a, F: Files>(alloc: Global, order: ReplayOrder<'a>, files: &mut F) -> Report<'a>
@@ -41,6 +48,39 @@ fn decide_replay<'a, F: Files>(alloc: Global, order: ReplayOrder<'a>, files: &mu
     judge(alloc, &order, description.as_slice(), trace.as_slice())
 }
 
+/// The report of an evaluation: both files are read before either is judged.
+fn decide_eval<'a, F: Files>(alloc: Global, order: EvalOrder<'a>, files: &mut F) -> Report<'a>
+    requires { F.faults files.old < 2 ^ 64 - 1 }
+    ensures counts { CountsReport (F.faults files.old) (F.faults files.new) result }
+    ensures order { IsOfOrder result }
+    ensures file { NamesFile (IsFileOf (model.eval order.entry.block.now order.entry.state.now)) result }
+    ensures answer { ForSome (F.held files.old) (λ held. (F.faults files.new ≡ F.faults files.old) ⊎ F.steady files.old → Agrees (AnswersEval held order.entry.block.now order.entry.state.now) result) }
+{
+    let block = match read_file(alloc, files, order.block, BLOCK_LIMIT) {
+        Ok(block) => block,
+        Err(report) => return report,
+    };
+    let state = match read_file(alloc, files, order.state, STATE_LIMIT) {
+        Ok(state) => state,
+        Err(report) => return report,
+    };
+    judge_eval(alloc, &order, block.as_slice(), state.as_slice())
+}
+
+/// The report of an order.
+fn decide_order<'a, F: Files>(alloc: Global, order: Order<'a>, files: &mut F) -> Report<'a>
+    requires { F.faults files.old < 2 ^ 64 - 1 }
+    ensures counts { CountsReport (F.faults files.old) (F.faults files.new) result }
+    ensures order { IsOfOrder result }
+    ensures file { NamesFile (IsFileOf (order_in order.entry)) result }
+    ensures answer { ForSome (F.held files.old) (λ held. (F.faults files.new ≡ F.faults files.old) ⊎ F.steady files.old → Agrees (AnswersOrder held (order_in order.entry)) result) }
+{
+    match order {
+        Order::Replay(order) => decide_replay(alloc, order, files),
+        Order::Eval(order) => decide_eval(alloc, order, files),
+    }
+}
+
 /// The report of the words.
 fn decide<'a, F: Files>(alloc: Global, words: &'a [String], files: &mut F) -> Report<'a>
     requires { F.faults files.old < 2 ^ 64 - 1 }
@@ -50,13 +90,13 @@ fn decide<'a, F: Files>(alloc: Global, words: &'a [String], files: &mut F) -> Re
     ensures answer { ForSome (F.held files.old) (λ held. (F.faults files.new ≡ F.faults files.old) ⊎ F.steady files.old → Agrees (Answer (words_in words.entry.now) held) result) }
 {
     match order_of(words) {
-        Some(order) => decide_replay(alloc, order, files),
+        Some(order) => decide_order(alloc, order, files),
         None => Report::Usage,
     }
 }
 
 /// Answers to the words, which do not hold the program's own name: reads the files that they name, writes the text of
-/// the answer and gives its status. Statuses: 0 accepted, 1 refused, 2 fault, 3 limit, 4 words, 5 memory, 6 file, 7 sink.
+/// the answer and gives its status. Statuses: 0 done, 1 refused, 2 fault, 3 limit, 4 words, 5 memory, 6 file, 7 sink.
 pub fn run<F: Files, S: Sink>(alloc: Global, words: &[String], files: &mut F, out: &mut S) -> u8
     requires files { F.faults files.old < 2 ^ 64 - 1 }
     requires out { S.faults out.old < 2 ^ 64 - 1 }

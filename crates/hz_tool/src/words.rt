@@ -4,7 +4,7 @@ ghost use Rattle.std.specs.Prelude.{◌≡◌, map};
 ghost use Rattle.std.specs.Option.{option_map};
 ghost use Rattle.std.specs.String.{string_bytes};
 ghost use Rattle.hz_answer_model.specs.Words as model;
-ghost use Rattle.hz_tool.specs.Words.{words_in};
+ghost use Rattle.hz_tool.specs.Words.{words_in, order_in};
 
 /// `replay DESC TRACE`: the names of the two files.
 #[derive(Clone, Copy, Debug)]
@@ -23,23 +23,53 @@ fn begins_with_dash(word: &str) -> bool
     }
 }
 
+/// `eval BLOCK STATE`: the names of the two files.
+#[derive(Clone, Copy, Debug)]
+pub struct EvalOrder<'a> {
+    pub block: &'a str,
+    pub state: &'a str,
+}
+
+/// What the words ask for.
+#[derive(Clone, Copy, Debug)]
+pub enum Order<'a> {
+    Replay(ReplayOrder<'a>),
+    Eval(EvalOrder<'a>),
+}
+
+/// A command on two files, None where it is none.
+fn order_on<'a>(command: &[u8], first: &'a str, second: &'a str) -> Option<Order<'a>>
+    ensures { option_map order_in result ≡ model.order_on command.now first.entry.now second.entry.now }
+{
+    if command == b"replay".as_slice() {
+        return Some(Order::Replay(ReplayOrder {
+            description: first,
+            trace: second,
+        }));
+    }
+    if command == b"eval".as_slice() {
+        return Some(Order::Eval(EvalOrder {
+            block: first,
+            state: second,
+        }));
+    }
+    None
+}
+
 /// What the words ask for, None where they are no command with its operands.
-pub fn order_of(words: &[String]) -> Option<ReplayOrder<'_>>
-    ensures { option_map (λ order. model.replay order.description.now order.trace.now) result ≡ model.order_of (words_in words.now) }
+pub fn order_of(words: &[String]) -> Option<Order<'_>>
+    ensures { option_map order_in result ≡ model.order_of (words_in words.now) }
 {
     if words.len() != 3 {
         return None;
     }
-    let [command, description, trace] = words else {
+    let [command, first, second] = words else {
         unreachable!()
     };
-    if command.as_bytes() != b"replay".as_slice() {
+    let first = first.as_str();
+    let second = second.as_str();
+    if begins_with_dash(first) || begins_with_dash(second) {
         return None;
     }
-    let description = description.as_str();
-    let trace = trace.as_str();
-    if begins_with_dash(description) || begins_with_dash(trace) {
-        return None;
-    }
-    Some(ReplayOrder { description, trace })
+    order_on(command.as_bytes(), first, second)
 }

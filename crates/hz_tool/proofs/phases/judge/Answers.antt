@@ -1,6 +1,7 @@
 use Rattle.std.proofs.Common.{◌<◌, List, IsTrue, sym, subst}
 use Rattle.hz_mdread_model.proofs.FormSizes.{forms_few, strings_short}
-use Rattle.hz_answer_model.specs.Answers.{Checks, Describes, Next, ReplaysDescription}
+use Rattle.hz_answer_model.specs.Answers.{Checks, Describes, ReplaysDescription}
+use Rattle.hz_answer_model.specs.Phases.{Next}
 use Rattle.hz_mdread_model.specs.DescriptionForms.{form_count, strings_below}
 use Rattle.hz_sexp.specs.Shape.{trees}
 use Rattle.hz_sexp_model.specs.Trees.{Trees}

@@ -2,7 +2,7 @@ use Rattle.std.proofs.Common.{ℕ, ◌+◌, ◌<◌, List, length, drop, sym, su
 use Rattle.hz_io.specs.Sink.{Wrote, Cut}
 use Rattle.hz_io.proofs.Writing.{wrote_then, wrote_then_cut, cut_before}
 use Rattle.hz_tool.proofs.WritingLemmas.{text, text_more, text_parts}
-use Rattle.hz_tool.proofs.report.put_all.Goals as goal
+use Rattle.hz_tool.proofs.pieces.put_all.Goals as goal
 
 pub loop-piece-preserved : goal.loop-piece-preserved
 loop-piece-preserved g c =

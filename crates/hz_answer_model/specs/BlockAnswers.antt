@@ -1,0 +1,45 @@
+-- What `eval` answers: this profile, docs/FORMATS.md, 'Answers'.
+use Rattle.std.specs.Prelude.{◌≡◌, ℕ, List, [], ◌∷◌, length, ◌⊎◌}
+use Rattle.std.specs.List.{range_with_len}
+use Rattle.hz_sexp_model.specs.Trees.{Trees}
+use Rattle.hz_rtl_model.specs.Blocks.{Instruction}
+use Rattle.hz_rtl_model.specs.States.{State, run}
+use Rattle.hz_rtltext_model.specs.Operands.{RtlFault}
+use Rattle.hz_rtltext_model.specs.BlockForms as blocks
+use Rattle.hz_rtltext_model.specs.StateForms as states
+use Rattle.hz_rtltext_model.specs.StateTexts.{IsText}
+use Rattle.hz_answer_model.specs.FaultTexts.{rtl_word}
+use Rattle.hz_answer_model.specs.Phases.{Says, Next, HasForms}
+use Rattle.hz_answer_model.specs.Texts.{fault_line}
+
+-- bytes of a block, at most
+abbrev pub block_limit : ℕ
+block_limit = 4194304
+
+-- bytes of the text of a state, at most
+abbrev pub state_text_limit : ℕ
+state_text_limit = 4194304
+
+-- the block that forms are, or the first wrong one
+abbrev pub IsBlock : List ℕ → Trees → Next (List Instruction) → ℕ → List ℕ → Type 0
+IsBlock name read next status text =
+    ((block : List Instruction) × blocks.Reads read block × next block status text)
+    ⊎ ((fault : RtlFault) × (line : ℕ) × blocks.FaultAt read fault line × Says 2 (fault_line name line (rtl_word fault ∷ [])) status text)
+
+-- the state that forms give, or the first wrong one
+abbrev pub IsState : List ℕ → Trees → Next State → ℕ → List ℕ → Type 0
+IsState name read next status text =
+    ((state : State) × states.Reads read state × next state status text)
+    ⊎ ((fault : RtlFault) × (line : ℕ) × states.FaultAt read fault line × Says 2 (fault_line name line (rtl_word fault ∷ [])) status text)
+
+-- the state that the instructions leave in the order of the source is written
+abbrev pub Evaluates : List Instruction → Next State
+Evaluates block state status text = (status ≡ 0) × IsText (run block (range_with_len 0 (length block)) state) text
+
+-- the state of a block that is read is judged, and evaluated
+abbrev pub EvaluatesFrom : List ℕ → List ℕ → List Instruction → ℕ → List ℕ → Type 0
+EvaluatesFrom state stated block = HasForms state stated (λ read. IsState state read (Evaluates block))
+
+-- both texts are judged, the block first
+abbrev pub JudgesBlock : List ℕ → List ℕ → List ℕ → List ℕ → ℕ → List ℕ → Type 0
+JudgesBlock block blocked state stated = HasForms block blocked (λ read. IsBlock block read (EvaluatesFrom state stated))

@@ -1,0 +1,31 @@
+-- Phases of an answer: reading files, and forms. The first that refuses decides. This profile, docs/FORMATS.md, 'Answers'.
+use Rattle.std.specs.Prelude.{◌≡◌, ℕ, List, [], ◌∷◌, Option, MatchOption, MatchBool, nat_lt, length, ◌⊎◌}
+use Rattle.hz_sexp_model.specs.Forms.{FormFault}
+use Rattle.hz_sexp_model.specs.Forms as forms
+use Rattle.hz_sexp_model.specs.Trees.{Trees}
+use Rattle.hz_answer_model.specs.FaultTexts.{form_word}
+use Rattle.hz_answer_model.specs.Texts.{file_line, limit_line, fault_line}
+
+-- the status and the text
+abbrev pub Says : ℕ → List ℕ → ℕ → List ℕ → Type 0
+Says s t status text = (status ≡ s) × (text ≡ t)
+
+-- what names hold
+abbrev pub Held : Type 0
+Held = List ℕ → Option (List ℕ)
+
+-- what a later phase answers, by its value
+abbrev pub Next : Type 0 → Type 1
+Next A = A → ℕ → List ℕ → Type 0
+
+-- Reading a file of at most so many bytes: where the name is not held it can't be read, and a longer one is refused.
+abbrev pub Opens : Held → List ℕ → ℕ → Next (List ℕ) → ℕ → List ℕ → Type 0
+Opens held name most next status text =
+    MatchOption (held name) (Says 6 (file_line name) status text)
+    (λ bytes. MatchBool (nat_lt most (length bytes)) (Says 3 (limit_line name) status text) (next bytes status text))
+
+-- the forms of a text, or its first fault
+abbrev pub HasForms : List ℕ → List ℕ → Next Trees → ℕ → List ℕ → Type 0
+HasForms name bytes next status text =
+    ((read : Trees) × forms.Reads bytes read × next read status text)
+    ⊎ ((fault : FormFault) × (line : ℕ) × forms.FaultAt bytes fault line × Says 2 (fault_line name line (form_word fault ∷ [])) status text)
