@@ -8,9 +8,12 @@ SOURCES := crates.txt $(shell find crates -path '*/out' -prune -o \( -name '*.rt
 all: bin/hz
 
 bin/hz: $(SOURCES)
-	@echo "hz: proving and building; the first time this takes some minutes"
-	@cd crates/hz && rt run -- replay ../../examples/divider/machine.md ../../examples/divider/spaced.trace
+	@echo "hz: proving and building; the first time this takes about half an hour. bin/make.log has what the prover says."
 	@mkdir -p bin
+	@{ cd crates/hz && rt run -- replay ../../examples/divider/machine.md ../../examples/divider/spaced.trace 2>&1; echo "status $$?"; } \
+		| tee bin/make.log | sed -n 's/^crate \(hz[a-z_]*\): .*/hz: \1/p'
+	@grep -q '^status 0$$' bin/make.log || { tail -n 20 bin/make.log; exit 1; }
+	@grep '^accepted' bin/make.log
 	@cp crates/hz/out/hz bin/hz
 	@echo "hz: built bin/hz"
 

@@ -41,6 +41,56 @@ const BLOCK_ROWS: &[(&[u8], &[u8], u8, &[u8])] = &[
         0,
         b"(reg 1 20)\n(mem 21 3)\n(mem 100 3)\n",
     ),
+    // numbers at their ends, and comments between operands
+    (
+        b"(insn 1 (set (reg 1) (const_int -9223372036854775808)))\n(insn 4294967295 (set (reg 2) (const_int 18446744073709551615)))",
+        b"(reg ; the third\n 3 /* five */ 5)",
+        0,
+        b"(reg 1 9223372036854775808)\n(reg 2 18446744073709551615)\n(reg 3 5)\n",
+    ),
+    // heads that are no atom, and wrong numbers of operands
+    (
+        b"(insn 1 (set (reg 1) (5 (reg 1))))",
+        b"",
+        2,
+        b"fault d line 1 BadShape\n",
+    ),
+    (
+        b"(insn 1 (\"set\" (reg 1) (reg 1)))",
+        b"",
+        2,
+        b"fault d line 1 BadShape\n",
+    ),
+    (
+        b"(insn 1\n (set (reg 1)\n (ashift (reg 1))))",
+        b"",
+        2,
+        b"fault d line 3 BadShape\n",
+    ),
+    (
+        b"(insn 1 (set (reg 1) (lt (reg 1) (reg 2) (reg 3))))",
+        b"",
+        2,
+        b"fault d line 1 BadShape\n",
+    ),
+    (
+        b"(insn 1 (use (reg 1))\n (set_attr \"a\" \"b\" \"c\"))",
+        b"",
+        2,
+        b"fault d line 2 BadShape\n",
+    ),
+    (
+        b"(insn 1 (use (reg 1)) (set_attr a \"b\"))",
+        b"",
+        2,
+        b"fault d line 1 BadShape\n",
+    ),
+    (
+        b"(insn 4294967296 (use (reg 1)))",
+        b"",
+        2,
+        b"fault d line 1 BadShape\n",
+    ),
     // the first text that is wrong, the block first
     (b"(insn 1", b")", 2, b"fault d line 1 Unclosed\n"),
     (
