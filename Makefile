@@ -8,7 +8,7 @@ SOURCES := crates.txt $(shell find crates -path '*/out' -prune -o \( -name '*.rt
 all: bin/hz
 
 bin/hz: $(SOURCES)
-	@echo "hz: proving and building; the first time this takes about half an hour. bin/make.log has what the prover says."
+	@echo "hz: proving and building; bin/make.log has what the prover says"
 	@mkdir -p bin
 	@{ cd crates/hz && rt run -- replay ../../examples/divider/machine.md ../../examples/divider/spaced.trace 2>&1; echo "status $$?"; } \
 		| tee bin/make.log | sed -n 's/^crate \(hz[a-z_]*\): .*/hz: \1/p'
