@@ -49,7 +49,7 @@ module _ (treatment : Treatment) (statements : List (Statement ℕ)) where
 
     pub columns_moved : IsMoved to_column (pipeline_on treatment statements lists) (pipeline_on treatment statements columns)
     columns_moved = record {
-      statements = refl;
+      statements = λ source pairs now. (λ h. h, λ h. h);
       treatment = refl;
       alternatives = λ k. ⊎_elim
           (λ (low : k < length lists). list_at lists k ∙ (ap (λ o. of_class (option_map class_of_grids o)) (sym ((column_there k low).1)) ∙ sym (list_at columns (to_column k))))

@@ -4,6 +4,7 @@ use Rattle.std.specs.Prelude.{◌↔◌, All, IsSome, Contains, slice_index_or}
 use Rattle.hz_base_model.specs.Pairs.{Pair, SamePairs}
 use Rattle.hz_altern_model.specs.Sets.{Statement}
 use Rattle.hz_acceptance_model.specs.Events.{Event, issue, advance, IsOfClass}
+use Rattle.hz_acceptance_model.specs.Fitting.{AskTheSame}
 use Rattle.hz_acceptance_model.specs.Replay.{Pipeline, Treatment, Accepted, alternatives_at}
 use Rattle.hz_tables_model.specs.Tables.{walk}
 use Rattle.hz_tables_model.specs.Machines.{Part, column_of, word_of, part_walk}
@@ -38,22 +39,28 @@ same_then xs ys zs a b = record { there = has_then xs ys zs a.there b.there; bac
 same_turned : {U : Type 0} (xs ys : List (List (Pair U))) → SameGrids xs ys → SameGrids ys xs
 same_turned xs ys a = record { there = a.back; back = a.there }
 
-module _ (treatment : Treatment) (statements : List (Statement ℕ)) (lists columns : List (List (List (Pair ℕ)))) (part : Part) (is : IsColumns lists columns part.map) (count : length columns ≡ part.columns)
-    (grids : List (List (Pair ℕ))) (sets : List (List ℕ)) (parents : List (ℕ × ℕ)) (auto : IsAutomaton (pipeline_on treatment statements columns) part.columns part.rows grids sets parents) where
+-- classes go by their columns, under statements that ask the same
+asked_moved : (treatment : Treatment) (statements rules : List (Statement ℕ)) → AskTheSame statements rules → (lists columns : List (List (List (Pair ℕ)))) (maps : List ℕ) (is : IsColumns lists columns maps) → IsMoved (to_column treatment statements lists columns maps is) (pipeline_on treatment statements lists) (pipeline_on treatment rules columns)
+asked_moved treatment statements rules asks lists columns maps is =
+    let moves = columns_moved treatment statements lists columns maps is in
+    record { statements = asks; treatment = moves.treatment; alternatives = moves.alternatives }
+
+module _ (treatment : Treatment) (statements rules : List (Statement ℕ)) (asks : AskTheSame statements rules) (lists columns : List (List (List (Pair ℕ)))) (part : Part) (is : IsColumns lists columns part.map) (count : length columns ≡ part.columns)
+    (grids : List (List (Pair ℕ))) (sets : List (List ℕ)) (parents : List (ℕ × ℕ)) (auto : IsAutomaton (pipeline_on treatment rules columns) part.columns part.rows grids sets parents) where
   abbrev classes : Pipeline ℕ
   classes = pipeline_on treatment statements lists
 
   abbrev by_column : Pipeline ℕ
-  by_column = pipeline_on treatment statements columns
+  by_column = pipeline_on treatment rules columns
 
   same_function : to_column treatment statements lists columns part.map is ≡ column_of part
   same_function = ap (λ n k. slice_index_or part.map k (n + 1)) count
 
   pub part_moved : IsMoved (column_of part) classes by_column
-  part_moved = subst (λ f. IsMoved f classes by_column) same_function (columns_moved treatment statements lists columns part.map is)
+  part_moved = subst (λ f. IsMoved f classes by_column) same_function (asked_moved treatment statements rules asks lists columns part.map is)
 
   none_past : (k : ℕ) → part.columns ≤ k → alternatives_at by_column k ≡ []
-  none_past k high = nothing_past treatment statements columns k (omega (arith, high, count))
+  none_past k high = nothing_past treatment rules columns k (omega (arith, high, count))
 
   inside : (t : List Event) → All (IsOfClass (length lists)) t → IsInside part.columns (moved (column_of part) t)
   inside t all = subst (λ n. IsInside n (moved (column_of part) t)) count (subst (λ f. IsInside (length columns) (moved f t)) same_function (moved_inside treatment statements lists columns part.map is t all))
@@ -89,22 +96,25 @@ module _ (treatment : Treatment) (statements : List (Statement ℕ)) (lists colu
   numbered = record { reached = auto.led; parents = parents; breadth_first = auto.breadth_first }
 
 -- Counts by columns are counts by classes.
-module _ (treatment : Treatment) (statements : List (Statement ℕ)) (lists columns : List (List (List (Pair ℕ)))) (maps : List ℕ) (is : IsColumns lists columns maps) where
+module _ (treatment : Treatment) (statements rules : List (Statement ℕ)) (asks : AskTheSame statements rules) (lists columns : List (List (List (Pair ℕ)))) (maps : List ℕ) (is : IsColumns lists columns maps) where
   abbrev f : ℕ → ℕ
   f = to_column treatment statements lists columns maps is
 
-  back : (t : List Event) (g : List (Pair ℕ)) → Leaves (pipeline_on treatment statements columns) t g → (u : List Event) × (moved f u ≡ t)
-  back t g h = unmoved treatment statements lists columns maps is t (inside_of_leaves (pipeline_on treatment statements columns) (length columns) (nothing_past treatment statements columns) t g h)
+  moves : IsMoved f (pipeline_on treatment statements lists) (pipeline_on treatment rules columns)
+  moves = asked_moved treatment statements rules asks lists columns maps is
 
-  pub counts_above : (n k : ℕ) (kind : Count) → CountIsAbove (pipeline_on treatment statements columns) n kind k → CountIsAbove (pipeline_on treatment statements lists) n kind k
-  counts_above n k kind = above_there (pipeline_on treatment statements columns) (pipeline_on treatment statements lists)
-      (grid_unmoved f (pipeline_on treatment statements lists) (pipeline_on treatment statements columns) (columns_moved treatment statements lists columns maps is) back)
-      (state_unmoved f (pipeline_on treatment statements lists) (pipeline_on treatment statements columns) (columns_moved treatment statements lists columns maps is) back) n k kind
+  back : (t : List Event) (g : List (Pair ℕ)) → Leaves (pipeline_on treatment rules columns) t g → (u : List Event) × (moved f u ≡ t)
+  back t g h = unmoved treatment statements lists columns maps is t (inside_of_leaves (pipeline_on treatment rules columns) (length columns) (nothing_past treatment rules columns) t g h)
 
-  pub counts_most : (n k : ℕ) (kind : Count) → CountIsAtMost (pipeline_on treatment statements columns) n kind k → CountIsAtMost (pipeline_on treatment statements lists) n kind k
-  counts_most n k kind = most_back (pipeline_on treatment statements lists) (pipeline_on treatment statements columns)
-      (grid_moved f (pipeline_on treatment statements lists) (pipeline_on treatment statements columns) (columns_moved treatment statements lists columns maps is))
-      (state_moved f (pipeline_on treatment statements lists) (pipeline_on treatment statements columns) (columns_moved treatment statements lists columns maps is)) n k kind
+  pub counts_above : (n k : ℕ) (kind : Count) → CountIsAbove (pipeline_on treatment rules columns) n kind k → CountIsAbove (pipeline_on treatment statements lists) n kind k
+  counts_above n k kind = above_there (pipeline_on treatment rules columns) (pipeline_on treatment statements lists)
+      (grid_unmoved f (pipeline_on treatment statements lists) (pipeline_on treatment rules columns) moves back)
+      (state_unmoved f (pipeline_on treatment statements lists) (pipeline_on treatment rules columns) moves back) n k kind
+
+  pub counts_most : (n k : ℕ) (kind : Count) → CountIsAtMost (pipeline_on treatment rules columns) n kind k → CountIsAtMost (pipeline_on treatment statements lists) n kind k
+  counts_most n k kind = most_back (pipeline_on treatment statements lists) (pipeline_on treatment rules columns)
+      (grid_moved f (pipeline_on treatment statements lists) (pipeline_on treatment rules columns) moves)
+      (state_moved f (pipeline_on treatment statements lists) (pipeline_on treatment rules columns) moves) n k kind
 
 -- the same under the same numbers
 moved_itself : (t : List Event) → moved (λ k. k) t ≡ t

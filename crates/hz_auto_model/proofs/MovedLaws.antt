@@ -22,10 +22,13 @@ module _ {U : Type 0} (statements : List (Statement U)) (treatment : Treatment) 
 
 module _ {U : Type 0} (f : ℕ → ℕ) (m o : Pipeline U) (same : IsMoved f m o) where
   fits_there : (s : State U) (k i : ℕ) → FitsAt m s k i → FitsAt o s (f k) i
-  fits_there s k i h = subst (λ (ss : List (Statement U)). FitsOf ss m.treatment s (alternatives_at o (f k)) i) same.statements (subst (λ (as' : List (Alternative U)). FitsOf m.statements m.treatment s as' i) (same.alternatives k) h)
+  fits_there s k i h =
+      let there = subst (λ (as' : List (Alternative U)). FitsOf m.statements m.treatment s as' i) (same.alternatives k) h in
+      (there.0, (same.statements s.reserved (chosen o (f k) i) s.now).0 there.1)
 
   fits_back : (s : State U) (k i : ℕ) → FitsAt o s (f k) i → FitsAt m s k i
-  fits_back s k i h = subst (λ (as' : List (Alternative U)). FitsOf m.statements m.treatment s as' i) (sym (same.alternatives k)) (subst (λ (ss : List (Statement U)). FitsOf ss m.treatment s (alternatives_at o (f k)) i) (sym same.statements) h)
+  fits_back s k i h =
+      subst (λ (as' : List (Alternative U)). FitsOf m.statements m.treatment s as' i) (sym (same.alternatives k)) (h.0, (same.statements s.reserved (chosen o (f k) i) s.now).1 h.1)
 
   chosen_same : (k i : ℕ) → chosen m k i ≡ chosen o (f k) i
   chosen_same k i = ap (λ (as' : List (Alternative U)). pairs_at (slice_get as' i)) (same.alternatives k)

@@ -8,6 +8,7 @@ use Rattle.std.proofs.lemmas.Option.{slice_get-map}
 use Rattle.hz_base_model.specs.Pairs.{Pair}
 use Rattle.hz_altern_model.specs.Alternatives.{Alternative, alternatives_of}
 use Rattle.hz_altern_model.specs.Automata.{UnitPlace, list_in}
+use Rattle.hz_acceptance_model.specs.Fitting.{AskTheSame}
 use Rattle.hz_acceptance_model.specs.Replay.{Pipeline, Class, alternatives_at, of_class}
 use Rattle.hz_acceptance_model.specs.Restricted.{of_pairs, class_in, restricted}
 use Rattle.hz_mdread_model.specs.Descriptions.{Description, ClassItem}
@@ -44,4 +45,4 @@ module _ (d : Description) where
         ∙ ap (option_map class_of_grids) (slice_get-map (λ (p : ClassParts). get_or p.lists a []) (map (class_parts d known) d.classes) k ∙ ap (option_map (λ (p : ClassParts). get_or p.lists a [])) (slice_get-map (class_parts d known) d.classes k)))))
 
     pub restricted_moved : IsMoved (λ k. k) (restricted a (pipeline_with d known)) (automaton_pipeline d.options (automata_of d) (map (class_parts d known) d.classes) a)
-    restricted_moved = record { statements = sym (statements_there a low); treatment = refl; alternatives = same_alternatives }
+    restricted_moved = record { statements = subst (AskTheSame (statements_in d a)) (sym (statements_there a low)) (λ source pairs now. (λ h. h, λ h. h)); treatment = refl; alternatives = same_alternatives }

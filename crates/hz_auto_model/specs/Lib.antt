@@ -3,3 +3,4 @@ pub mod Moved
 pub mod Counted
 pub mod CompiledParts
 pub mod AutomatonPipelines
+pub mod Compiled

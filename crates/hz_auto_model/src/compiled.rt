@@ -3,6 +3,7 @@
 ghost use Rattle.std.specs.Prelude.{◌≡◌, ◌<◌, ℕ, Bool, List, length, map};
 ghost use Rattle.hz_base_model.specs.Pairs.{Pair};
 ghost use Rattle.hz_altern_model.specs.Sets.{Statement};
+ghost use Rattle.hz_acceptance_model.specs.Fitting.{AskTheSame};
 ghost use Rattle.hz_acceptance_model.specs.Replay.{Pipeline, Treatment};
 ghost use Rattle.hz_acceptance_model.specs.Restricted.{restricted};
 ghost use Rattle.hz_mdread_model.specs.Descriptions.{Description};
@@ -18,12 +19,13 @@ ghost use Rattle.hz_auto_model.specs.ClassColumns.{IsColumns};
 ghost use Rattle.hz_auto_model.specs.CompiledParts.{WalksAccepted, TellsWhatIsLeft, IsNumbered, IsWithinLimits, IsPastLimit};
 ghost use Rattle.hz_auto_model.specs.Moved.{IsMoved};
 
-/// A part that takes each class to the column of its list, and whose table is an automaton of the columns, walks what the
-/// pipeline of the classes accepts and nothing else; its states tell what is left, and are numbered breadth-first.
+/// A part that takes each class to the column of its list, and whose table is an automaton of the columns under
+/// statements that ask the same, walks what the pipeline of the classes accepts and nothing else; its states tell what is
+/// left, and are numbered breadth-first.
 pub fn automata_of_columns_are_of_classes()
-    ensures walks { (treatment : Treatment) (statements : List (Statement ℕ)) (lists columns : List (List (List (Pair ℕ)))) (part : Part) (grids : List (List (Pair ℕ))) (sets : List (List ℕ)) (parents : List (ℕ × ℕ)) → IsColumns lists columns part.map → length columns ≡ part.columns → IsAutomaton (pipeline_on treatment statements columns) part.columns part.rows grids sets parents → WalksAccepted (length lists) (pipeline_on treatment statements lists) part }
-    ensures tells { (treatment : Treatment) (statements : List (Statement ℕ)) (lists columns : List (List (List (Pair ℕ)))) (part : Part) (grids : List (List (Pair ℕ))) (sets : List (List ℕ)) (parents : List (ℕ × ℕ)) → IsColumns lists columns part.map → length columns ≡ part.columns → IsAutomaton (pipeline_on treatment statements columns) part.columns part.rows grids sets parents → TellsWhatIsLeft (length lists) (pipeline_on treatment statements lists) part }
-    ensures numbered { (treatment : Treatment) (statements : List (Statement ℕ)) (lists columns : List (List (List (Pair ℕ)))) (part : Part) (grids : List (List (Pair ℕ))) (sets : List (List ℕ)) (parents : List (ℕ × ℕ)) → IsColumns lists columns part.map → length columns ≡ part.columns → IsAutomaton (pipeline_on treatment statements columns) part.columns part.rows grids sets parents → IsNumbered part }
+    ensures walks { (treatment : Treatment) (statements rules : List (Statement ℕ)) → AskTheSame statements rules → (lists columns : List (List (List (Pair ℕ)))) (part : Part) (grids : List (List (Pair ℕ))) (sets : List (List ℕ)) (parents : List (ℕ × ℕ)) → IsColumns lists columns part.map → length columns ≡ part.columns → IsAutomaton (pipeline_on treatment rules columns) part.columns part.rows grids sets parents → WalksAccepted (length lists) (pipeline_on treatment statements lists) part }
+    ensures tells { (treatment : Treatment) (statements rules : List (Statement ℕ)) → AskTheSame statements rules → (lists columns : List (List (List (Pair ℕ)))) (part : Part) (grids : List (List (Pair ℕ))) (sets : List (List ℕ)) (parents : List (ℕ × ℕ)) → IsColumns lists columns part.map → length columns ≡ part.columns → IsAutomaton (pipeline_on treatment rules columns) part.columns part.rows grids sets parents → TellsWhatIsLeft (length lists) (pipeline_on treatment statements lists) part }
+    ensures numbered { (treatment : Treatment) (statements rules : List (Statement ℕ)) → AskTheSame statements rules → (lists columns : List (List (List (Pair ℕ)))) (part : Part) (grids : List (List (Pair ℕ))) (sets : List (List ℕ)) (parents : List (ℕ × ℕ)) → IsColumns lists columns part.map → length columns ≡ part.columns → IsAutomaton (pipeline_on treatment rules columns) part.columns part.rows grids sets parents → IsNumbered part }
 {}
 
 /// No count of an automaton is within its limit and past it.
