@@ -1,0 +1,12 @@
+use Rattle.hz_check_model.specs.CheckedParts.{automaton_count}
+use Rattle.hz_pipeline_model.specs.Pipelines.{pipeline_with}
+use Rattle.hz_factoring_model.proofs.JointLaws.{joint}
+use Rattle.hz_factoring_model.proofs.RunLaws.{taken_together}
+use Rattle.hz_factoring_model.proofs.SideBySide.{taken_part}
+use Rattle.hz_factoring_model.proofs.factoring.issues_are_taken_in_each_automaton.Goals as goal
+
+pub returns-clause-parts : goal.returns-clause-parts
+returns-clause-parts c = λ d known sound keeps s k i may a lt. taken_part (automaton_count d) (pipeline_with d known) (joint d known sound keeps) s k i may a lt
+
+pub returns-clause-whole : goal.returns-clause-whole
+returns-clause-whole c = λ d known sound keeps s k choices may. taken_together (automaton_count d) (pipeline_with d known) (joint d known sound keeps) s k choices may
