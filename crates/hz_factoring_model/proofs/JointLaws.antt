@@ -1,5 +1,5 @@
 -- A description that keeps the two rules has a pipeline whose classes factor.
-use Rattle.std.proofs.Common.{◌≡◌, ℕ, zero, suc, ◌<◌, ◌≤◌, ⊎_elim, Bool, true, not, List, [], ◌∷◌, ◌++◌, length, map, All, Contains, Option, Some, None, refl, sym, ap, ◌∙◌, subst, arith, slice_get}
+use Rattle.std.proofs.Common.{◌≡◌, ℕ, zero, suc, ◌<◌, ⊎_elim, true, not, List, [], ◌∷◌, ◌++◌, length, map, All, Contains, Option, Some, None, refl, sym, ap, ◌∙◌, subst, arith, slice_get}
 use Rattle.std.specs.Prelude.{◌==◌, unwrap_or, codes}
 use Rattle.std.specs.Option.{option_map}
 use Rattle.std.specs.Str.{bytes_eq}
@@ -13,7 +13,7 @@ use Rattle.hz_base_model.specs.Pairs.{Pair}
 use Rattle.hz_altern_model.specs.Alternatives.{Alternative, taking, Expression, alternatives_of}
 use Rattle.hz_altern_model.specs.Automata.{UnitPlace}
 use Rattle.hz_altern_model.specs.Inside.{IsStatementOf}
-use Rattle.hz_altern_model.specs.Meanings.{Meaning, unit, reservation, Mentions, Reaches, Unwinds, alternatives_of_meaning}
+use Rattle.hz_altern_model.specs.Meanings.{Meaning, unit, reservation, Mentions, alternatives_of_meaning}
 use Rattle.hz_altern_model.specs.Sets.{Statement}
 use Rattle.hz_acceptance_model.specs.Replay.{Class, alternatives_at, of_class}
 use Rattle.hz_mdread_model.specs.Descriptions.{Description, AutomatonItem, UnitItem, ReservationItem, ClassItem, SetItem}
@@ -23,17 +23,13 @@ use Rattle.hz_check_model.specs.Places.{automaton_number, place_behind, places_b
 use Rattle.hz_check_model.specs.Sites.{Site, earliest}
 use Rattle.hz_pipeline_model.specs.Pipelines.{class_of, pipeline_with}
 use Rattle.hz_base_model.proofs.Elements.{Contains-nil, Contains-cons_cases, Contains-map, Contains-from_map, Contains-filter}
-use Rattle.hz_altern_model.proofs.MeaningLaws.{none_reaches_itself}
 use Rattle.hz_altern_model.proofs.UnitLaws.{AreAllOf, all_one, all_alternatives}
-use Rattle.hz_check_model.proofs.CircleLaws.{unwinds, rank_low}
-use Rattle.hz_check_model.proofs.CountingLaws.{at_name_named}
 use Rattle.hz_check_model.proofs.EarliestLaws.{no_site}
 use Rattle.hz_check_model.proofs.PlaceLaws.{at_name_in, from_filter_map}
-use Rattle.hz_split_model.proofs.DepthLaws.{unfolds_once}
-use Rattle.hz_split_model.specs.Rules.{somewhere, of_reservation, passes}
 use Rattle.hz_factoring_model.specs.Factored.{KeepsRules}
 use Rattle.hz_factoring_model.proofs.Choices.{there, Factors, none_factors}
 use Rattle.hz_factoring_model.proofs.ExpressionFactors.{Contains-flat_map, class_factors}
+use Rattle.hz_factoring_model.proofs.RankLaws.{ranks, ranks_low}
 use Rattle.hz_factoring_model.proofs.SideBySide.{IsJoint}
 
 -- where nothing is told, no fault stands anywhere
@@ -56,11 +52,6 @@ unit_of : (o : Option UnitPlace) (r : Option ReservationItem) (u : UnitPlace) �
 unit_of (Some v) r u e = cc
 unit_of None (Some r) u e = absurd (cc)
 unit_of None None u e = absurd (cc)
-
-reservation_of : (o : Option UnitPlace) (r : Option ReservationItem) (e : Expression) → unit_or_reservation o r ≡ Some (reservation e) → (item : ReservationItem) × (r ≡ Some item)
-reservation_of (Some u) r e is = absurd (cc)
-reservation_of None None e is = absurd (cc)
-reservation_of None (Some item) e is = (item, refl)
 
 module _ (d : Description) where
   -- ---- automata
@@ -156,34 +147,9 @@ module _ (d : Description) where
           },
         )
 
-  -- ---- names and classes
-
-  abbrev names : List (List ℕ)
-  names = map (λ (r : ReservationItem). r.name) d.reservations
-
-  listed : (name : List ℕ) (e : Expression) → meaning d name ≡ Some (reservation e) → Contains names name
-  listed name e is =
-      let found = reservation_of (unit_place d name) (reservation_named d name) e is in
-      let there = at_name_in name (map (λ r. r.name) d.reservations) d.reservations found.0 found.1 in
-      subst (λ (n : List ℕ). Contains names n) (at_name_named (λ (r : ReservationItem). r.name) name d.reservations found.0 found.1) (Contains-map (λ (r : ReservationItem). r.name) d.reservations found.0 there)
+  -- ---- classes
 
   module _ (known : Known) (is : IsKnown d known) where
-    no_circle : (name : List ℕ) → Reaches (meaning d) name name → ⊥
-    no_circle name h = none_reaches_itself (meaning d) is.unwinds name h
-
-    -- ranks that are at most the number of reservations
-    abbrev ranks : Unwinds (meaning d)
-    ranks = unwinds (meaning d) names listed no_circle
-
-    ranks_low : (name : List ℕ) → ranks.rank name ≤ length d.reservations
-    ranks_low name =
-        let low = rank_low (meaning d) names listed no_circle name in
-        let long = length-map d.reservations (λ (r : ReservationItem). r.name) in
-        omega arith
-
-    pub unfolds_in_reservations : (test : Expression → Bool) (name : List ℕ) → passes test (meaning d) (length d.reservations) name ≡ of_reservation (somewhere test (passes test (meaning d) (length d.reservations))) (meaning d name)
-    unfolds_in_reservations test name = unfolds_once test (meaning d) ranks (length d.reservations) ranks_low name
-
     abbrev IsLow : UnitPlace → Type 0
     IsLow u = u.automaton < automaton_count d
 

@@ -1,18 +1,17 @@
 -- Runs of a pipeline whose classes factor, and what it accepts and refuses.
 use Rattle.std.proofs.Common.{◌≡◌, ℕ, zero, suc, ◌+◌, ◌<◌, ◌⊎◌, inl, inr, ⊎_elim, Bool, true, false, List, [], ◌∷◌, ◌++◌, take, Contains, refl, sym, ap, ◌∙◌, subst, arith}
-use Rattle.std.specs.Prelude.{◌↔◌, ◌==◌}
+use Rattle.std.specs.Prelude.{◌==◌}
 use Rattle.std.proofs.lemmas.Bool.{cases_lt, both_ways}
 use Rattle.std.proofs.lemmas.Bool.Decides.{Decides-eqb}
 use Rattle.hz_base_model.specs.Pairs.{Pair, placed}
 use Rattle.hz_altern_model.specs.Automata.{UnitPlace, cut, inside, list_in}
 use Rattle.hz_acceptance_model.specs.Events.{Event, issue, advance}
 use Rattle.hz_acceptance_model.specs.Plays.{accepts}
-use Rattle.hz_acceptance_model.specs.Replay.{Pipeline, SamePipeline, State, start, Step, Plays, MayTake, Accepted, FirstRefused, chosen}
+use Rattle.hz_acceptance_model.specs.Replay.{Pipeline, State, start, Step, Plays, MayTake, Accepted, FirstRefused, chosen}
 use Rattle.hz_acceptance_model.specs.Restricted.{restricted}
 use Rattle.hz_altern_model.proofs.ListInLaws.{Contains-list_in, Contains-from_list_in}
 use Rattle.hz_acceptance_model.proofs.PlayLaws.{accepts_decides}
 use Rattle.hz_acceptance_model.proofs.ReplayLaws.{runs_from_accepted, accepted_from_runs}
-use Rattle.hz_acceptance_model.proofs.SameLaws.{accepted_same}
 use Rattle.hz_factoring_model.specs.Factored.{IsUnion, state_in}
 use Rattle.hz_factoring_model.proofs.Choices.{Alt, At, there, Joined, Factors}
 use Rattle.hz_factoring_model.proofs.InsideFits.{at_inside, IsSeen, seen_nil, seen_append, seen_placed, seen_cut, seen_same, alike_cut}
@@ -187,9 +186,3 @@ module _ (count : ℕ) (m : Pipeline UnitPlace) (joint : IsJoint count m) where
 
   pub all_refuse : (t : List Event) (i : ℕ) → ((a : ℕ) × (a < count) × FirstRefused (restricted a m) t i) × EachAccepts (take i t) → FirstRefused m t i
   all_refuse t i ((a, lt, h), before) = record { within = h.within; before = all_accept (take i t) before; refused = λ accepted. h.refused (each_accepts (take (i + 1) t) accepted a lt) }
-
-  pub accepted_by_parts : (parts : ℕ → Pipeline ℕ) → ((a : ℕ) → a < count → SamePipeline (restricted a m) (parts a)) → (t : List Event) → Accepted m t ↔ ((a : ℕ) → a < count → Accepted (parts a) t)
-  accepted_by_parts parts same t = (
-    λ accepted a lt. (accepted_same (restricted a m) (parts a) (same a lt) t).0 (each_accepts t accepted a lt),
-    λ each. all_accept t (λ a lt. (accepted_same (restricted a m) (parts a) (same a lt) t).1 (each a lt)),
-  )

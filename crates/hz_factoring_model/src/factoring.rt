@@ -5,7 +5,7 @@ ghost use Rattle.hz_base_model.specs.Pairs.{Pair};
 ghost use Rattle.hz_altern_model.specs.Alternatives.{Alternative, alternatives_of};
 ghost use Rattle.hz_altern_model.specs.Automata.{UnitPlace, cut, list_in};
 ghost use Rattle.hz_acceptance_model.specs.Events.{Event};
-ghost use Rattle.hz_acceptance_model.specs.Replay.{Pipeline, SamePipeline, State, MayTake, chosen, Accepted, FirstRefused};
+ghost use Rattle.hz_acceptance_model.specs.Replay.{State, MayTake, chosen, Accepted, FirstRefused};
 ghost use Rattle.hz_acceptance_model.specs.Restricted.{restricted};
 ghost use Rattle.hz_mdread_model.specs.Descriptions.{Description, ClassItem};
 ghost use Rattle.hz_check_model.specs.CheckFaults.{Known, IsSound};
@@ -14,12 +14,10 @@ ghost use Rattle.hz_pipeline_model.specs.Pipelines.{pipeline_with};
 ghost use Rattle.hz_factoring_model.specs.Factored.{KeepsRules, IsUnion, state_in};
 
 /// A description accepts events exactly where each of its automata does, in both treatments: so it refuses first where
-/// some automaton refuses first and none has refused before. Each automaton may be told by any pipeline that lists the
-/// same sets of pairs.
+/// some automaton refuses first and none has refused before.
 pub fn automata_choose_by_themselves()
     ensures acceptance { (d : Description) (known : Known) → IsSound d known → KeepsRules d known → (t : List Event) → Accepted (pipeline_with d known) t ↔ ((a : ℕ) → a < automaton_count d → Accepted (restricted a (pipeline_with d known)) t) }
     ensures refused { (d : Description) (known : Known) → IsSound d known → KeepsRules d known → (t : List Event) (i : ℕ) → FirstRefused (pipeline_with d known) t i ↔ (((a : ℕ) × (a < automaton_count d) × FirstRefused (restricted a (pipeline_with d known)) t i) × ((a : ℕ) → a < automaton_count d → Accepted (restricted a (pipeline_with d known)) (take i t))) }
-    ensures by_parts { (d : Description) (known : Known) (parts : ℕ → Pipeline ℕ) → IsSound d known → KeepsRules d known → ((a : ℕ) → a < automaton_count d → SamePipeline (restricted a (pipeline_with d known)) (parts a)) → (t : List Event) → Accepted (pipeline_with d known) t ↔ ((a : ℕ) → a < automaton_count d → Accepted (parts a) t) }
 {}
 
 /// The sets of pairs of the alternatives of a class are exactly the unions of one grid from each automaton's list.

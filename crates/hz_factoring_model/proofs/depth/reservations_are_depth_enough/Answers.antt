@@ -1,4 +1,4 @@
-use Rattle.hz_factoring_model.proofs.JointLaws.{unfolds_in_reservations}
+use Rattle.hz_factoring_model.proofs.RankLaws.{unfolds_in_reservations}
 use Rattle.hz_factoring_model.proofs.depth.reservations_are_depth_enough.Goals as goal
 
 pub returns : goal.returns

@@ -1,7 +1,7 @@
 use Rattle.hz_check_model.specs.CheckedParts.{automaton_count}
 use Rattle.hz_pipeline_model.specs.Pipelines.{pipeline_with}
 use Rattle.hz_factoring_model.proofs.JointLaws.{joint}
-use Rattle.hz_factoring_model.proofs.RunLaws.{each_accepts, all_accept, one_refuses, all_refuse, accepted_by_parts}
+use Rattle.hz_factoring_model.proofs.RunLaws.{each_accepts, all_accept, one_refuses, all_refuse}
 use Rattle.hz_factoring_model.proofs.factoring.automata_choose_by_themselves.Goals as goal
 
 pub returns-clause-acceptance : goal.returns-clause-acceptance
@@ -11,6 +11,3 @@ returns-clause-acceptance c = λ d known sound keeps t.
 pub returns-clause-refused : goal.returns-clause-refused
 returns-clause-refused c = λ d known sound keeps t i.
     (one_refuses (automaton_count d) (pipeline_with d known) (joint d known sound keeps) t i, all_refuse (automaton_count d) (pipeline_with d known) (joint d known sound keeps) t i)
-
-pub returns-clause-by_parts : goal.returns-clause-by_parts
-returns-clause-by_parts c = λ d known parts sound keeps same t. accepted_by_parts (automaton_count d) (pipeline_with d known) (joint d known sound keeps) parts same t
