@@ -2,10 +2,10 @@
 use Rattle.std.proofs.Common.{◌≡◌, ℕ, ◌+◌, List, [], ◌∷◌, ◌++◌, Result, Ok, Err, refl, sym, ap, ◌∙◌, subst, arith, append_assoc}
 use Rattle.std.proofs.lemmas.List.{append-nil}
 use Rattle.std.specs.List.{flat_map}
-use Rattle.hz_sexp_model.specs.Trees.{Tree, Trees, none, more}
+use Rattle.hz_sexp_model.specs.Trees.{Tree, Trees, none, more, line_of, joined}
 use Rattle.hz_mdread_model.specs.Descriptions.{Description, no_items}
-use Rattle.hz_mdread_model.specs.DescriptionForms.{DescriptionFault, Said, IsReading, Addition, automata, units, reservation, class, bypass, set, options, attribute, and_then, at_line, line_of, form_says, forms_say, form_count, with_addition, Reads, FaultAt}
-use Rattle.hz_mdread_model.specs.AddedItems.{Add, nothing, adds, added_automata, added_units, added_reservations, added_classes, added_bypasses, added_sets, added_attributes, HasItems, followed, StandsBehind}
+use Rattle.hz_mdread_model.specs.DescriptionForms.{DescriptionFault, Said, IsReading, Addition, automata, units, reservation, class, bypass, set, options, attribute, and_then, at_line, form_says, forms_say, form_count, with_addition, Reads, FaultAt}
+use Rattle.hz_mdread_model.specs.AddedItems.{Add, nothing, adds, added_automata, added_units, added_reservations, added_classes, added_bypasses, added_sets, added_attributes, HasItems, StandsBehind}
 use Rattle.hz_mdread_model.proofs.DescriptionFormed.{then_ok}
 
 pub line_ok : {A : Type 0} (line : ℕ) (r : Result A DescriptionFault) (x : A) → at_line line r ≡ Ok x → r ≡ Ok x
@@ -146,7 +146,7 @@ record Behind (read : List ℕ → Said) (n : ℕ) (d : Description) (forms : Tr
   form : Tree
   rest : Trees
   e : Description
-  parts : forms ≡ followed front (more form rest)
+  parts : forms ≡ joined front (more form rest)
   says : forms_say read n d front ≡ Ok e
   wrong : form_says read (n + form_count front) form ≡ Err w.0
   there : w.1 ≡ line_of form
@@ -204,7 +204,7 @@ stands_behind forms fault line f =
     }
 
 -- forms behind a front that says a description
-behind_front : (read : List ℕ → Said) (n : ℕ) (d e : Description) (front after : Trees) → forms_say read n d front ≡ Ok e → forms_say read n d (followed front after) ≡ forms_say read (n + form_count front) e after
+behind_front : (read : List ℕ → Said) (n : ℕ) (d e : Description) (front after : Trees) → forms_say read n d front ≡ Ok e → forms_say read n d (joined front after) ≡ forms_say read (n + form_count front) e after
 behind_front read n d e none after h =
     let same : d ≡ e = cc in
     let count : n ≡ n + 0 = omega arith in
@@ -213,7 +213,7 @@ behind_front read n d e (more first others) after h =
     let (a, is, rest) = then_ok (at_line (line_of first) (form_says read n first)) _ e h in
     let says = line_ok (line_of first) (form_says read n first) a is in
     let count : (n + 1) + form_count others ≡ n + (form_count others + 1) = omega arith in
-    said_line (line_of first) (form_says read n first) a (λ x. forms_say read (n + 1) (with_addition d x) (followed others after)) says
+    said_line (line_of first) (form_says read n first) a (λ x. forms_say read (n + 1) (with_addition d x) (joined others after)) says
     ∙ (behind_front read (n + 1) (with_addition d a) e others after rest ∙ ap (λ m. forms_say read m e after) count)
 
 wrong_first : (read : List ℕ → Said) (n : ℕ) (e : Description) (form : Tree) (rest : Trees) (fault : DescriptionFault) → form_says read n form ≡ Err fault → forms_say read n e (more form rest) ≡ Err (fault, line_of form)

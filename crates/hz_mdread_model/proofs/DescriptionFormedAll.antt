@@ -10,10 +10,10 @@ use Rattle.std.proofs.lemmas.Option.{slice_get_within}
 use Rattle.hz_base_model.specs.Lines.{separated}
 use Rattle.hz_base_model.specs.Names.{is_name}
 use Rattle.hz_altern_model.specs.Sets.{SetKind}
-use Rattle.hz_sexp_model.specs.Trees.{Tree, Trees, none, more}
+use Rattle.hz_sexp_model.specs.Trees.{Tree, Trees, none, more, line_of}
 use Rattle.hz_mdread_model.specs.Descriptions.{AutomatonItem, UnitItem, ReservationItem, ClassItem, BypassItem, SetItem, AttributeItem, Description, no_options, no_items}
 use Rattle.hz_mdread_model.specs.DescriptionShape.{FormKind, define_automaton, define_cpu_unit, define_reservation, define_insn_reservation, define_bypass, automata_option, define_attr, set_form, are_names, IsForm, IsAutomaton, IsUnit, IsReservation, IsClass, IsBypass, IsSet, IsAttribute, IsWellFormed}
-use Rattle.hz_mdread_model.specs.DescriptionForms.{DescriptionFault, bad_shape, bad_condition, unknown_form, unknown_option, quoted_bytes, with_options, shaped, name_in, names_in, set_patterns, limited_number, fallback_in, condition_in, Said, IsReading, expression_in, Addition, automata, units, reservation, class, bypass, set, options, attribute, automaton_items, unit_items, automata_form, units_form, reservation_form, class_form, bypass_form, set_form_of, options_form, attribute_form, form_of_kind, headed, kind_of, line_of, form_says, with_addition, at_line, forms_say, Reads, form_count}
+use Rattle.hz_mdread_model.specs.DescriptionForms.{DescriptionFault, bad_shape, bad_condition, unknown_form, unknown_option, quoted_bytes, with_options, shaped, name_in, names_in, set_patterns, limited_number, fallback_in, condition_in, Said, IsReading, expression_in, Addition, automata, units, reservation, class, bypass, set, options, attribute, automaton_items, unit_items, automata_form, units_form, reservation_form, class_form, bypass_form, set_form_of, options_form, attribute_form, form_of_kind, headed, kind_of, form_says, with_addition, at_line, forms_say, Reads, form_count}
 use Rattle.hz_mdread_model.proofs.DescriptionFormed.{then_ok, or_ok, name_formed, names_formed, set_patterns_formed, number_formed, fallback_formed, condition_formed, expression_formed}
 
 -- names that are all names

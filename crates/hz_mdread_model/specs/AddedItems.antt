@@ -3,9 +3,9 @@
 use Rattle.std.specs.Prelude.{◌≡◌, ◌↔◌, ◌⊎◌, ℕ, ◌+◌, ◌==◌, List, [], ◌∷◌, codes, Ok, Err, IsTrue}
 use Rattle.std.specs.List.{Contains, flat_map}
 use Rattle.hz_base_model.specs.Lines.{separated}
-use Rattle.hz_sexp_model.specs.Trees.{Tree, Trees, list, atom, quoted, none, more}
+use Rattle.hz_sexp_model.specs.Trees.{Tree, Trees, list, atom, quoted, none, more, line_of, joined}
 use Rattle.hz_mdread_model.specs.Descriptions.{AutomatonItem, UnitItem, ReservationItem, ClassItem, BypassItem, SetItem, AttributeItem, Options, Description}
-use Rattle.hz_mdread_model.specs.DescriptionForms.{Said, IsReading, DescriptionFault, Addition, automata, units, reservation, class, bypass, set, options, attribute, form_says, form_count, line_of, Reads}
+use Rattle.hz_mdread_model.specs.DescriptionForms.{Said, IsReading, DescriptionFault, Addition, automata, units, reservation, class, bypass, set, options, attribute, form_says, form_count, Reads}
 
 -- Each form says what it adds, where the first has this number in the file.
 pub data Add (read : List ℕ → Said) : (n : ℕ) (forms : Trees) (additions : List Addition) → Type 0 where
@@ -78,17 +78,12 @@ pub record HasOptions (o : Options) (forms : Trees) : Type 0 where
   pub verbose : IsTrue o.verbose ↔ HasOption forms (codes "v")
   pub no_comb_vect : IsTrue o.no_comb_vect ↔ HasOption forms (codes "no-comb-vect")
 
--- forms before others
-abbrev pub followed : Trees → Trees → Trees
-followed none after = after
-followed (more first others) after = more first (followed others after)
-
 -- The forms are a front that is read, a form with this fault and line, and a rest.
 pub record StandsBehind (forms : Trees) (fault : DescriptionFault) (line : ℕ) : Type 0 where
   pub front : Trees
   pub form : Tree
   pub rest : Trees
-  pub parts : forms ≡ followed front (more form rest)
+  pub parts : forms ≡ joined front (more form rest)
   pub d : Description
   pub reads : Reads front d
   pub wrong : form_says reads.read (form_count front) form ≡ Err fault

@@ -13,7 +13,7 @@ use Rattle.hz_base_model.specs.Limits as limits
 use Rattle.hz_base_model.specs.Lines.{separated}
 use Rattle.hz_base_model.specs.Names.{is_name}
 use Rattle.hz_altern_model.specs.Sets.{SetKind, exclusion, presence, final_presence, absence, final_absence}
-use Rattle.hz_sexp_model.specs.Trees.{Tree, Trees, list, vector, atom, quoted, number, none, more}
+use Rattle.hz_sexp_model.specs.Trees.{Tree, Trees, list, vector, atom, quoted, number, none, more, line_of}
 use Rattle.hz_mdread_model.specs.Descriptions.{Condition, Conditions, constant, matches, negation, conjunction, disjunction, AutomatonItem, UnitItem, ReservationItem, ClassItem, BypassItem, SetItem, AttributeItem, Options, Description, no_options, no_items}
 use Rattle.hz_mdread_model.specs.Descriptions as model
 use Rattle.hz_mdread_model.specs.DescriptionShape.{FormKind, define_automaton, define_cpu_unit, define_reservation, define_insn_reservation, define_bypass, automata_option, define_attr, set_form, are_names, are_patterns, are_several}
@@ -37,14 +37,6 @@ abbrev pub shaped : {A : Type 0} → Option A → Result A DescriptionFault
 shaped found = ok_or found bad_shape
 
 -- Operands.
-
--- the line of a form
-abbrev pub line_of : Tree → ℕ
-line_of (list line forms) = line
-line_of (vector line forms) = line
-line_of (atom line bytes) = line
-line_of (quoted line bytes) = line
-line_of (number line value) = line
 
 -- the word that a list begins with, and its operands
 abbrev pub headed : Tree → Option (List ℕ × Trees)

@@ -1,11 +1,10 @@
 -- The first form that is wrong, behind a front that is read.
 use Rattle.std.proofs.Common.{◌≡◌, ℕ, List, [], ◌∷◌, ◌++◌, Ok, Err, refl, ap, ◌∙◌}
-use Rattle.hz_sexp_model.specs.Trees.{Tree, Trees, none, more}
+use Rattle.hz_sexp_model.specs.Trees.{Tree, Trees, none, more, joined}
 use Rattle.hz_rtl_model.specs.Blocks.{Instruction}
 use Rattle.hz_rtl_model.specs.States.{Store}
 use Rattle.hz_rtltext_model.specs.Operands.{Judged, RtlFault, and_then}
 use Rattle.hz_rtltext_model.specs.BlockForms as blocks
-use Rattle.hz_rtltext_model.specs.BlockForms.{joined}
 use Rattle.hz_rtltext_model.specs.StateForms as states
 
 -- a front that is read behind some items, and a form that is wrong behind it

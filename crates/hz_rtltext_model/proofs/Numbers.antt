@@ -6,9 +6,9 @@ use Rattle.std.specs.Str.{bytes_eq}
 use Rattle.std.proofs.lemmas.Bool.{ltb-true}
 use Rattle.hz_base_model.proofs.Ascending.{AllPairs-append}
 use Rattle.hz_base_model.proofs.Elements.{Contains-nil, Contains-cons_cases}
-use Rattle.hz_sexp_model.specs.Trees.{Tree, Trees, list, atom, none, more}
+use Rattle.hz_sexp_model.specs.Trees.{Tree, Trees, list, atom, none, more, line_of}
 use Rattle.hz_rtl_model.specs.Blocks.{Instruction}
-use Rattle.hz_rtltext_model.specs.Operands.{Judged, RtlFault, insn_limit, and_then, unless_twice, number_in, line_of}
+use Rattle.hz_rtltext_model.specs.Operands.{Judged, RtlFault, insn_limit, and_then, unless_twice, number_in}
 use Rattle.hz_rtltext_model.specs.BlockForms.{has_number, pattern_of, attributes_after, instruction_with, instruction_of, next_instruction, instructions_after, instruction_limit}
 
 -- what leads to a good value is good

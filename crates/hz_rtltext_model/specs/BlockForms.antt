@@ -2,9 +2,9 @@
 use Rattle.std.specs.Prelude.{◌≡◌, ℕ, Bool, nat_lt, ◌==◌, if◌then◌else◌, List, [], ◌∷◌, ◌++◌, length, codes, Ok, Err}
 use Rattle.std.specs.List.{list_any}
 use Rattle.std.specs.Str.{bytes_eq}
-use Rattle.hz_sexp_model.specs.Trees.{Tree, Trees, vector, none, more}
+use Rattle.hz_sexp_model.specs.Trees.{Tree, Trees, vector, none, more, line_of, joined}
 use Rattle.hz_rtl_model.specs.Blocks.{Effect, Instruction}
-use Rattle.hz_rtltext_model.specs.Operands.{Judged, RtlFault, bad_shape, insn_limit, and_then, unless_twice, line_of, by_head, number_in, name_in}
+use Rattle.hz_rtltext_model.specs.Operands.{Judged, RtlFault, bad_shape, insn_limit, and_then, unless_twice, by_head, number_in, name_in}
 use Rattle.hz_rtltext_model.specs.Values.{effect_of, effect_headed}
 
 -- effects from left to right
@@ -93,11 +93,6 @@ Reads forms block = instructions_after [] forms ≡ Ok block
 -- The first wrong form of a block has this fault, and it stands at this line.
 abbrev pub FaultAt : Trees → RtlFault → ℕ → Type 0
 FaultAt forms fault line = instructions_after [] forms ≡ Err (fault, line)
-
--- forms one after another
-abbrev pub joined : Trees → Trees → Trees
-joined none others = others
-joined (more first front) others = more first (joined front others)
 
 -- Forms are a front that is a block, a form that is wrong behind it, and a rest. Law: `blocks_fail_at_their_first_wrong_form`.
 pub record FirstWrong (forms : Trees) (fault : RtlFault) (line : ℕ) : Type 0 where

@@ -1,7 +1,7 @@
 -- The operands of forms: what they are, or what is wrong and at which line. docs/FORMATS.md, 'Blocks and states'.
 use Rattle.std.specs.Prelude.{ℕ, ◌-◌, ◌%◌, ◌^◌, ℤ, pos, negsuc, Bool, nat_lt, if◌then◌else◌, List, Option, Some, None, Result, Ok, Err}
 use Rattle.hz_base_model.specs.Names.{is_name}
-use Rattle.hz_sexp_model.specs.Trees.{Tree, Trees, list, vector, atom, quoted, number, more}
+use Rattle.hz_sexp_model.specs.Trees.{Tree, Trees, list, quoted, number, atom, more, line_of}
 
 -- What can be wrong with a block or a state.
 pub data RtlFault : Type 0 where
@@ -24,14 +24,6 @@ or_fault fault line None = Err (fault, line)
 -- the value, unless it stands there already
 abbrev pub unless_twice : {A : Type 0} → Bool → ℕ → A → Judged A
 unless_twice stands line value = if stands then Err (twice, line) else Ok value
-
--- the line of a form
-abbrev pub line_of : Tree → ℕ
-line_of (list line forms) = line
-line_of (vector line forms) = line
-line_of (atom line bytes) = line
-line_of (quoted line bytes) = line
-line_of (number line value) = line
 
 -- What a list that begins with a word says, by its line, the word and its operands. Any other form has another shape.
 abbrev pub by_head : {A : Type 0} → (ℕ → List ℕ → Trees → Judged A) → Tree → Judged A

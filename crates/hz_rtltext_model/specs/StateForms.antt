@@ -1,11 +1,10 @@
 -- States: what their forms say, and the first that is wrong. docs/FORMATS.md, 'Blocks and states'.
 use Rattle.std.specs.Prelude.{◌≡◌, ℕ, Bool, List, [], ◌∷◌, ◌++◌, Option, Some, None, Ok, Err}
 use Rattle.std.specs.List.{list_any}
-use Rattle.hz_sexp_model.specs.Trees.{Tree, Trees, none, more}
+use Rattle.hz_sexp_model.specs.Trees.{Tree, Trees, none, more, line_of, joined}
 use Rattle.hz_rtl_model.specs.States.{Place, reg, cell, same_place, State, Store, all_stored}
-use Rattle.hz_rtltext_model.specs.Operands.{Judged, RtlFault, bad_shape, and_then, unless_twice, line_of, by_head, register_in, word_in}
+use Rattle.hz_rtltext_model.specs.Operands.{Judged, RtlFault, bad_shape, and_then, unless_twice, by_head, register_in, word_in}
 use Rattle.hz_rtltext_model.specs.Values.{TargetCode, into_code, cell_code, target_code}
-use Rattle.hz_rtltext_model.specs.BlockForms.{joined}
 
 -- a word is given for a place
 abbrev pub gives : List Store → Place → Bool

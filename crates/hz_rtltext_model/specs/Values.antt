@@ -3,10 +3,10 @@
 use Rattle.std.specs.Prelude.{ℕ, [], ◌∷◌, if◌then◌else◌, List, codes, Option, Some, None, Ok, Err}
 use Rattle.std.specs.Option.{option_map, option_or}
 use Rattle.std.specs.Str.{bytes_eq}
-use Rattle.hz_sexp_model.specs.Trees.{Tree, Trees, list, atom, none, more}
+use Rattle.hz_sexp_model.specs.Trees.{Tree, Trees, list, atom, none, more, line_of}
 use Rattle.hz_rtl_model.specs.Operators.{UnaryOperator, neg, complement, BinaryOperator, plus, minus, mult, udiv, umod, conjunction, disjunction, exclusive, ashift, lshiftrt, ashiftrt, eq, ne, ltu, lt}
 use Rattle.hz_rtl_model.specs.Blocks.{Value, register, constant, memory, unary, binary, choice, Target, into, cell_at, Effect, assign, clobber, mention}
-use Rattle.hz_rtltext_model.specs.Operands.{Judged, bad_shape, unknown_code, and_then, or_fault, line_of, by_head, register_in, word_in}
+use Rattle.hz_rtltext_model.specs.Operands.{Judged, bad_shape, unknown_code, and_then, or_fault, by_head, register_in, word_in}
 
 -- What a list is in the place of a value.
 pub data ValueCode : Type 0 where

@@ -14,3 +14,16 @@ mutual
   pub data Trees : Type 0 where
     none : Trees
     more : (first : Tree) → (others : Trees) → Trees
+
+-- the line of a form
+abbrev pub line_of : Tree → ℕ
+line_of (list line forms) = line
+line_of (vector line forms) = line
+line_of (atom line bytes) = line
+line_of (quoted line bytes) = line
+line_of (number line value) = line
+
+-- forms one after another
+abbrev pub joined : Trees → Trees → Trees
+joined none others = others
+joined (more first front) others = more first (joined front others)
