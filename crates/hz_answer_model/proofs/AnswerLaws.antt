@@ -6,14 +6,14 @@ use Rattle.hz_mdread_model.proofs.DescriptionLaws.{one_description, one_fault_of
 use Rattle.hz_check_model.proofs.CheckLaws.{fault_one, fault_or_sound, sound_one}
 use Rattle.hz_acceptance_model.proofs.AcceptanceLaws.{one_refused, accepted_or_refused}
 use Rattle.hz_answer_model.specs.Answers.{Describes, Checks, HasDescription, is_built, Traces, Replays, ReplaysTrace, ReplaysDescription, Judges, IsIssueOf, AnswersOrder, Answer}
-use Rattle.hz_check_model.specs.CheckFaults.{CheckFault, Known}
+use Rattle.hz_check_model.specs.CheckFaults.{CheckFault}
 use Rattle.hz_mdread_model.specs.DescriptionForms.{DescriptionFault}
 use Rattle.hz_mdread_model.specs.Descriptions.{Description}
 use Rattle.hz_answer_model.specs.FaultTexts.{form_word, description_words, check_line, check_status, trace_word}
 use Rattle.hz_sexp_model.specs.Forms.{FormFault}
 use Rattle.hz_base_model.specs.Limits.{description_limit, trace_limit}
 use Rattle.hz_base_model.specs.Lines.{lines_of}
-use Rattle.hz_check_model.specs.Places.{class_names}
+use Rattle.hz_check_model.specs.Places.{class_names, Known}
 use Rattle.hz_trace_model.specs.Traces.{TraceFault, event_lines}
 use Rattle.hz_trace_model.proofs.TraceLaws.{one_trace, one_trace_fault, trace_or_fault}
 use Rattle.hz_pipeline_model.specs.Pipelines.{pipeline_with}

@@ -9,9 +9,8 @@ use Rattle.std.specs.Prelude.{◌==◌}
 use Rattle.std.specs.Str.{bytes_eq}
 use Rattle.hz_answer_model.specs.Answers.{IsIssueOf}
 use Rattle.hz_base_model.specs.Lines.{place_of, number_of}
-use Rattle.hz_check_model.specs.CheckFaults.{Known}
 use Rattle.hz_mdread_model.specs.Descriptions.{Description, ClassItem}
-use Rattle.hz_check_model.specs.Places.{class_names}
+use Rattle.hz_check_model.specs.Places.{class_names, Known}
 use Rattle.hz_pipeline_model.specs.Pipelines.{class_of, pipeline_with}
 use Rattle.hz_acceptance_model.specs.Events.{Event, issue, advance, IsOfClass}
 use Rattle.hz_base_model.specs.Names.{is_name}

@@ -1,13 +1,13 @@
 -- What the program answers: this profile, docs/FORMATS.md, 'Answers'.
 use Rattle.std.specs.Prelude.{◌≡◌, ℕ, List, [], ◌∷◌, Bool, ◌&&◌, not, nat_lt, Option, Some, MatchOption, MatchBool, length, ◌⊎◌, slice_get}
-use Rattle.hz_check_model.specs.CheckFaults.{CheckFault, Known, CheckFaultAt, IsSound}
+use Rattle.hz_check_model.specs.CheckFaults.{CheckFault, CheckFaultAt, IsSound}
 use Rattle.hz_mdread_model.specs.DescriptionForms.{DescriptionFault}
 use Rattle.hz_mdread_model.specs.DescriptionForms as description_forms
 use Rattle.hz_mdread_model.specs.Descriptions.{Description}
 use Rattle.hz_answer_model.specs.FaultTexts.{description_words, check_line, check_status, trace_word}
 use Rattle.hz_sexp_model.specs.Forms as forms
 use Rattle.hz_base_model.specs.Limits.{description_limit, trace_limit}
-use Rattle.hz_check_model.specs.Places.{class_names}
+use Rattle.hz_check_model.specs.Places.{class_names, Known}
 use Rattle.hz_pipeline_model.specs.Pipelines.{pipeline_with}
 use Rattle.hz_acceptance_model.specs.Events.{Event, issue, issues_of, cycles_of}
 use Rattle.hz_acceptance_model.specs.Replay.{Pipeline, Class, Accepted, FirstRefused}

@@ -12,7 +12,7 @@ use Rattle.hz_acceptance_model.specs.Fitting.{AskTheSame}
 use Rattle.hz_acceptance_model.specs.Replay.{Pipeline, Class, alternatives_at, of_class}
 use Rattle.hz_acceptance_model.specs.Restricted.{of_pairs, class_in, restricted}
 use Rattle.hz_mdread_model.specs.Descriptions.{Description, ClassItem}
-use Rattle.hz_check_model.specs.CheckFaults.{Known}
+use Rattle.hz_check_model.specs.Places.{Known}
 use Rattle.hz_check_model.specs.CheckedParts.{AutomatonParts, ClassParts, automaton_names, automaton_count, automaton_parts, automata_from, automata_of, statements_in, lists_of, class_parts}
 use Rattle.hz_pipeline_model.specs.Pipelines.{class_of, pipeline_with}
 use Rattle.hz_reach_model.specs.Columns.{class_of_grids}

@@ -5,7 +5,7 @@ use Rattle.hz_altern_model.specs.Sets.{Statement}
 use Rattle.hz_acceptance_model.specs.Replay.{Pipeline}
 use Rattle.hz_altern_model.specs.Alternatives.{alternatives_of}
 use Rattle.hz_altern_model.specs.Automata.{list_in}
-use Rattle.hz_check_model.specs.CheckFaults.{Known}
+use Rattle.hz_check_model.specs.Places.{Known}
 use Rattle.hz_mdread_model.specs.Descriptions.{Description, Options}
 use Rattle.hz_check_model.specs.CheckedParts.{AutomatonParts, ClassParts}
 use Rattle.hz_pipeline_model.specs.Pipelines.{treatment_of}

@@ -7,7 +7,7 @@ ghost use Rattle.hz_acceptance_model.specs.Fitting.{AskTheSame};
 ghost use Rattle.hz_acceptance_model.specs.Replay.{Pipeline, Treatment};
 ghost use Rattle.hz_acceptance_model.specs.Restricted.{restricted};
 ghost use Rattle.hz_mdread_model.specs.Descriptions.{Description};
-ghost use Rattle.hz_check_model.specs.CheckFaults.{Known};
+ghost use Rattle.hz_check_model.specs.Places.{Known};
 ghost use Rattle.hz_check_model.specs.CheckedParts.{automaton_count, automata_of, class_parts};
 ghost use Rattle.hz_pipeline_model.specs.Pipelines.{pipeline_with};
 ghost use Rattle.hz_tables_model.specs.Machines.{Part};

@@ -10,14 +10,16 @@ use Rattle.hz_check.specs.Checking.{IsOrdered, AreWithin}
 use Rattle.hz_check.specs.Faults.{Tells, IsToldAt, IsToldHere, limit_of}
 use Rattle.hz_expand.proofs.Unwinding.{unfolded}
 use Rattle.hz_check_model.specs.CheckFaults as model
-use Rattle.hz_check_model.specs.CheckFaults.{Standing, Told, Known, first_told, told_at, faults_of_meanings, faults_of_names, CheckFaultAt, of_meanings, of_names, of_circle, IsFirst, IsCircular, Reserving, limit, alternatives, cycles, size, past_limit, second_numbers, reservation_site, automaton_sites, class_sites}
+use Rattle.hz_check_model.specs.CheckFaults.{faults_of_meanings, faults_of_names, CheckFaultAt, of_meanings, of_names, of_circle, IsFirst, IsCircular, limit, alternatives, cycles, size, past_limit, second_numbers, automaton_sites, class_sites}
+use Rattle.hz_check_model.specs.CountingOrder.{Reserving, reservation_site}
+use Rattle.hz_check_model.specs.FirstTold.{Standing, Told, first_told, told_at}
 use Rattle.hz_mdread.specs.declared.description.Description.{Description as StoredDescription}
 use Rattle.hz_mdread.specs.declared.items.ReservationItem.{ReservationItem as StoredReservation}
 use Rattle.hz_mdread.specs.Shape.{description, reservation_item}
 use Rattle.hz_check_model.proofs.EarliestLaws.{no_site}
 use Rattle.hz_mdread_model.specs.Descriptions.{Description}
 use Rattle.hz_base_model.specs.Limits.{automaton_limit, class_limit}
-use Rattle.hz_check_model.specs.Places.{IsKnown}
+use Rattle.hz_check_model.specs.Places.{IsKnown, Known}
 use Rattle.hz_check_model.specs.Sites.{Site, earliest}
 use Rattle.hz_unfold.specs.Orders.{reservings}
 
@@ -34,7 +36,7 @@ tells_with P Q to (Limit what line name) tells = to (model.limit (limit_of what)
 tells_with P Q to (BypassTwice line name) tells = to model.bypass_twice line name tells
 tells_with P Q to NoMemory tells = tells
 
-carried : (d : Description) (told : Told) → CheckFaultAt d told.fault told.site → (fault : model.CheckFault) (line : ℕ) (name : List ℕ) → IsToldHere told fault line name
+carried : (d : Description) (told : Told model.CheckFault) → CheckFaultAt d told.fault told.site → (fault : model.CheckFault) (line : ℕ) (name : List ℕ) → IsToldHere told fault line name
     → CheckFaultAt d fault (record { line = line; form = told.site.form; name = name })
 carried d told at fault line name here =
     subst (λ f. CheckFaultAt d f (record { line = line; form = told.site.form; name = name })) (sym here.same_fault)
@@ -42,25 +44,25 @@ carried d told at fault line name here =
     (subst (λ n. CheckFaultAt d told.fault (record { line = told.site.line; form = told.site.form; name = n })) (sym here.same_name) at))
 
 -- a fault that stands at a site is told there
-pub told_there : (d : Description) (told : Told) → CheckFaultAt d told.fault told.site → (fault : CheckFault) → Tells (IsToldHere told) fault → Tells (IsToldAt d) fault
+pub told_there : (d : Description) (told : Told model.CheckFault) → CheckFaultAt d told.fault told.site → (fault : CheckFault) → Tells (IsToldHere told) fault → Tells (IsToldAt d) fault
 told_there d told at fault = tells_with (IsToldHere told) (IsToldAt d) (λ f line name here. (told.site.form, carried d told at f line name here)) fault
 
 -- what is told first of some faults
-pub record TellsFirst (faults : List Standing) (told : Option Told) : Type 0 where
+pub record TellsFirst (faults : List (Standing model.CheckFault)) (told : Option (Told model.CheckFault)) : Type 0 where
   pub is : first_told faults ≡ told
 
-pub skip : {s : Standing} {rest : List Standing} {o : Option Told} → earliest s.sites ≡ None → TellsFirst rest o → TellsFirst (s ∷ rest) o
+pub skip : {s : Standing model.CheckFault} {rest : List (Standing model.CheckFault)} {o : Option (Told model.CheckFault)} → earliest s.sites ≡ None → TellsFirst rest o → TellsFirst (s ∷ rest) o
 skip {s} {rest} none later = record { is = ap (λ (site : Option Site). told_at s.fault site (first_told rest)) none ∙ later.is }
 
-pub stop : {s : Standing} {rest : List Standing} {site : Site} → earliest s.sites ≡ Some site → TellsFirst (s ∷ rest) (Some (record { fault = s.fault; site = site }))
+pub stop : {s : Standing model.CheckFault} {rest : List (Standing model.CheckFault)} {site : Site} → earliest s.sites ≡ Some site → TellsFirst (s ∷ rest) (Some (record { fault = s.fault; site = site }))
 stop {s} {rest} some = record { is = ap (λ (site : Option Site). told_at s.fault site (first_told rest)) some }
 
 -- a fault of names
-pub name_told : (d : Description) (told : Told) → first_told (faults_of_names d) ≡ Some told → (fault : CheckFault) → Tells (IsToldHere told) fault → Tells (IsToldAt d) fault
+pub name_told : (d : Description) (told : Told model.CheckFault) → first_told (faults_of_names d) ≡ Some told → (fault : CheckFault) → Tells (IsToldHere told) fault → Tells (IsToldAt d) fault
 name_told d told is = told_there d told (of_names is)
 
 -- a fault behind that of circular reservations
-pub meaning_told : (d : Description) (order : List ℕ) → IsOrdered d order → (told : Told) → ((known : Known) → IsKnown d known → TellsFirst (faults_of_meanings d known (reservings d order)) (Some told))
+pub meaning_told : (d : Description) (order : List ℕ) → IsOrdered d order → (told : Told model.CheckFault) → ((known : Known) → IsKnown d known → TellsFirst (faults_of_meanings d known (reservings d order)) (Some told))
     → (fault : CheckFault) → Tells (IsToldHere told) fault → Tells (IsToldAt d) fault
 meaning_told d order o told is =
     let all = unfolded d o.named o.formed order o.ordered in
@@ -84,18 +86,18 @@ few_classes d none =
     omega (arith, less, same)
 
 -- the faults behind the limits of automata, units and classes, in their order
-abbrev pub last_faults : Description → Known → List Reserving → List Standing
+abbrev pub last_faults : Description → Known → List Reserving → List (Standing model.CheckFault)
 last_faults d known order = record { fault = limit alternatives; sites = past_limit d known order alternatives }
     ∷ record { fault = limit cycles; sites = past_limit d known order cycles }
     ∷ record { fault = limit size; sites = past_limit d known order size }
     ∷ record { fault = model.bypass_twice; sites = second_numbers d }
     ∷ []
 
-pub behind : (d : Description) (known : Known) (order : List Reserving) → AreWithin d → {o : Option Told} → TellsFirst (last_faults d known order) o → TellsFirst (faults_of_meanings d known order) o
+pub behind : (d : Description) (known : Known) (order : List Reserving) → AreWithin d → {o : Option (Told model.CheckFault)} → TellsFirst (last_faults d known order) o → TellsFirst (faults_of_meanings d known order) o
 behind d known order within is = skip within.apart (skip within.together (skip within.automata (skip within.units (skip within.classes is))))
 
 -- a fault behind those limits
-pub behind_within : (d : Description) (order : List ℕ) → IsOrdered d order → AreWithin d → (told : Told) → ((known : Known) → IsKnown d known → TellsFirst (last_faults d known (reservings d order)) (Some told))
+pub behind_within : (d : Description) (order : List ℕ) → IsOrdered d order → AreWithin d → (told : Told model.CheckFault) → ((known : Known) → IsKnown d known → TellsFirst (last_faults d known (reservings d order)) (Some told))
     → (fault : CheckFault) → Tells (IsToldHere told) fault → Tells (IsToldAt d) fault
 behind_within d order o within told is = meaning_told d order o told (λ known right. behind d known (reservings d order) within (is known right))
 

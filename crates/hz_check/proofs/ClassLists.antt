@@ -14,7 +14,7 @@ use Rattle.hz_check.specs.Classes.{lists_in, class_with, classes_with}
 use Rattle.hz_check.proofs.Next.{map-map, taken_more}
 use Rattle.hz_altern_model.specs.Alternatives.{Alternative, alternatives_of}
 use Rattle.hz_altern_model.specs.Automata.{UnitPlace, ascending, listed, cut, inside, is_of, list_in, same_pair, without_repeats}
-use Rattle.hz_check_model.specs.CheckFaults.{Known}
+use Rattle.hz_check_model.specs.Places.{Known}
 use Rattle.hz_check_model.specs.CheckedParts.{ClassParts, automaton_count, class_parts}
 use Rattle.hz_mdread_model.specs.Descriptions.{Description, ClassItem}
 use Rattle.hz_base_model.specs.Pairs.{Pair}

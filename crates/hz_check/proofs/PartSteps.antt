@@ -1,6 +1,6 @@
 -- What is put together.
 use Rattle.std.proofs.Common.{◌≡◌, ℕ, suc, List, [], ◌∷◌, map, length, refl, ap}
-use Rattle.hz_check_model.specs.CheckFaults.{Known}
+use Rattle.hz_check_model.specs.Places.{Known}
 use Rattle.hz_check_model.specs.CheckedParts.{AutomatonParts, ClassParts, BypassParts, automata_from, automata_of, automaton_names, automaton_count, class_parts, bypass_parts, attributes_of}
 use Rattle.hz_check_model.specs.CheckedShape.{IsKept}
 use Rattle.hz_mdread_model.specs.Descriptions.{Description}

@@ -1,6 +1,7 @@
 -- What is known between the steps of the check.
 use Rattle.std.specs.Prelude.{◌≡◌, ℕ, List, None, drop}
-use Rattle.hz_check_model.specs.CheckFaults.{first_told, faults_of_names, self_exclusions, sets_across_automata, automaton_sites, class_sites, past_units}
+use Rattle.hz_check_model.specs.CheckFaults.{faults_of_names, self_exclusions, sets_across_automata, automaton_sites, class_sites, past_units}
+use Rattle.hz_check_model.specs.FirstTold.{first_told}
 use Rattle.hz_mdread_model.specs.DescriptionShape.{IsCheckable}
 use Rattle.hz_mdread_model.specs.Descriptions.{Description}
 use Rattle.hz_base_model.specs.Limits.{automaton_limit, class_limit}

@@ -9,6 +9,7 @@ use Rattle.hz_check.specs.declared.told.Wrong.TheVariants as wrong
 use Rattle.hz_check.specs.declared.told.Told.{Told}
 use Rattle.hz_unfold.specs.Places.{site_of}
 use Rattle.hz_check_model.specs.CheckFaults as model
+use Rattle.hz_check_model.specs.FirstTold as first
 use Rattle.hz_mdread_model.specs.Descriptions.{Description}
 
 -- the name of a limit
@@ -52,11 +53,11 @@ wrong_of (wrong.Limit what) = model.limit (limit_of what)
 wrong_of wrong.BypassTwice = model.bypass_twice
 
 -- what is wrong, and where
-abbrev pub told_of : Told → model.Told
+abbrev pub told_of : Told → first.Told model.CheckFault
 told_of t = record { fault = wrong_of t.wrong; site = site_of t.site }
 
 -- the fault with its line and its name is this one
-pub record IsToldHere (told : model.Told) (fault : model.CheckFault) (line : ℕ) (name : List ℕ) : Type 0 where
+pub record IsToldHere (told : first.Told model.CheckFault) (fault : model.CheckFault) (line : ℕ) (name : List ℕ) : Type 0 where
   pub same_fault : fault ≡ told.fault
   pub same_line : line ≡ told.site.line
   pub same_name : name ≡ told.site.name

@@ -7,7 +7,8 @@ use Rattle.hz_expand.specs.Shape.{lists_of}
 use Rattle.hz_altern_model.specs.AlternativeLists.{AreSound}
 use Rattle.hz_altern_model.specs.Alternatives.{alternatives_of}
 use Rattle.hz_altern_model.specs.Automata.{listed}
-use Rattle.hz_check_model.specs.CheckFaults.{Known, IsSound}
+use Rattle.hz_check_model.specs.CheckFaults.{IsSound}
+use Rattle.hz_check_model.specs.Places.{Known}
 use Rattle.hz_check_model.specs.CheckedParts.{automata_of, bypass_parts}
 use Rattle.hz_mdread_model.specs.Descriptions.{Description}
 

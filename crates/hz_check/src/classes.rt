@@ -8,7 +8,7 @@ ghost use Rattle.hz_check.specs.Classes.{lists_in, class_with, classes_with};
 ghost use Rattle.hz_altern_model.specs.AlternativeLists.{IsCuttable};
 ghost use Rattle.hz_altern_model.specs.Alternatives.{alternatives_of};
 ghost use Rattle.hz_altern_model.specs.Automata.{listed};
-ghost use Rattle.hz_check_model.specs.CheckFaults.{Known};
+ghost use Rattle.hz_check_model.specs.Places.{Known};
 ghost use Rattle.hz_check_model.specs.CheckedParts.{automaton_count, class_parts};
 ghost use Rattle.hz_mdread_model.specs.Descriptions as model;
 ghost use Rattle.hz_base_model.specs.Limits.{automaton_limit};

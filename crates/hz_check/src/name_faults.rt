@@ -4,7 +4,8 @@ ghost use Rattle.std.specs.Prelude.{◌≡◌, IfOk};
 ghost use Rattle.std.specs.Option.{option_map};
 ghost use Rattle.hz_mdread.specs.Shape.{description};
 ghost use Rattle.hz_check.specs.Faults.{told_of};
-ghost use Rattle.hz_check_model.specs.CheckFaults.{first_told, faults_of_names};
+ghost use Rattle.hz_check_model.specs.CheckFaults.{faults_of_names};
+ghost use Rattle.hz_check_model.specs.FirstTold.{first_told};
 
 use crate::automata::{unit_without_automaton, unknown_automaton};
 use crate::names::Names;

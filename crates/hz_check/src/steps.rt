@@ -5,7 +5,8 @@ ghost use Rattle.hz_mdread.specs.Shape.{description};
 ghost use Rattle.hz_check.specs.Checking.{IsOrdered, AreWithin};
 ghost use Rattle.hz_check.specs.Faults.{Tells, IsToldAt};
 ghost use Rattle.hz_check.specs.Units.{ArePlaces};
-ghost use Rattle.hz_check_model.specs.CheckFaults.{faults_of_names, first_told};
+ghost use Rattle.hz_check_model.specs.CheckFaults.{faults_of_names};
+ghost use Rattle.hz_check_model.specs.FirstTold.{first_told};
 ghost use Rattle.hz_mdread_model.specs.DescriptionShape.{IsCheckable};
 
 use crate::fault::{CheckFault, LimitName};

@@ -4,7 +4,7 @@ ghost use Rattle.std.specs.Prelude.{◌≡◌, None};
 ghost use Rattle.std.specs.Option.{option_map};
 ghost use Rattle.hz_check.specs.Faults.{Tells, IsToldHere, told_of, wrong_of};
 ghost use Rattle.hz_unfold.specs.Places.{site_of, told};
-ghost use Rattle.hz_check_model.specs.CheckFaults.{told_at};
+ghost use Rattle.hz_check_model.specs.FirstTold.{told_at};
 
 use crate::fault::{CheckFault, LimitName};
 use crate::site::Site;

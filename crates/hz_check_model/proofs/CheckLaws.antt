@@ -5,9 +5,11 @@ use Rattle.std.proofs.lemmas.Option.{same_Some, none-some}
 use Rattle.std.proofs.Math.Path.{fun_ext}
 use Rattle.std.proofs.lemmas.List.Elements.{All-contains}
 use Rattle.hz_base_model.proofs.Elements.{Contains-tail}
-use Rattle.hz_check_model.specs.CheckFaults.{Known, Told, CheckFault, Reserving, first_told, faults_of_names, faults_of_meanings, IsFirst, IsCircular, Merged, Counted, IsCountingOrder, IsUnfolded, CheckFaultAt, IsSound, has_come, named_by, reservation_names, reservations_of, classes_of, reservation_site}
+use Rattle.hz_check_model.specs.CheckFaults.{CheckFault, faults_of_names, faults_of_meanings, IsFirst, IsCircular, IsUnfolded, CheckFaultAt, IsSound}
+use Rattle.hz_check_model.specs.CountingOrder.{Reserving, Merged, Counted, IsCountingOrder, has_come, named_by, reservation_names, reservations_of, classes_of, reservation_site}
+use Rattle.hz_check_model.specs.FirstTold.{Told, first_told}
 use Rattle.hz_mdread_model.specs.Descriptions.{Description, ReservationItem}
-use Rattle.hz_check_model.specs.Places.{IsKnown, meaning}
+use Rattle.hz_check_model.specs.Places.{IsKnown, meaning, Known}
 use Rattle.hz_check_model.specs.Sites.{Site}
 use Rattle.hz_altern_model.proofs.MeaningLaws.{one_assignment, none_reaches_itself}
 
@@ -72,8 +74,8 @@ module _ (d : Description) where
       ap (λ (k : Known). first_told (faults_of_meanings d k a)) (known_one known other u.right v.right)
       ∙ ap (λ (o : List Reserving). first_told (faults_of_meanings d other o)) (order_one a b u.counts v.counts)
 
-  told_one : (o : Option Told) (a b : Told) → o ≡ Some a → o ≡ Some b → (a.fault ≡ b.fault) × (a.site ≡ b.site)
-  told_one o a b x y = let same = same_Some a b (sym x ∙ y) in (ap (λ (t : Told). t.fault) same, ap (λ (t : Told). t.site) same)
+  told_one : (o : Option (Told CheckFault)) (a b : Told CheckFault) → o ≡ Some a → o ≡ Some b → (a.fault ≡ b.fault) × (a.site ≡ b.site)
+  told_one o a b x y = let same = same_Some a b (sym x ∙ y) in (ap (λ (t : Told CheckFault). t.fault) same, ap (λ (t : Told CheckFault). t.site) same)
 
   -- a description has at most one fault, at one place
   pub fault_one : (f g : CheckFault) (s t : Site) → CheckFaultAt d f s → CheckFaultAt d g t → (f ≡ g) × (s ≡ t)

@@ -10,10 +10,12 @@ use Rattle.std.proofs.lemmas.Option.{none-some}
 use Rattle.std.proofs.lemmas.Slice.Eq.{bytes_eq-Decides}
 use Rattle.hz_altern_model.specs.Alternatives.{Expression}
 use Rattle.hz_altern_model.specs.Automata.{UnitPlace}
-use Rattle.hz_check_model.specs.CheckFaults.{Known, Told, Standing, CheckFault, twice_defined, circular_reservation, CheckFaultAt, IsSound, IsUnfolded, IsCountingOrder, IsFirst, IsCircular, Reserving, first_told, told_at, faults_of_names, faults_of_meanings, automaton_sites, unit_sites, reservation_sites, reservation_site, class_sites, attribute_sites, repeated_values, second_definitions}
+use Rattle.hz_check_model.specs.CheckFaults.{CheckFault, twice_defined, circular_reservation, CheckFaultAt, IsSound, IsUnfolded, IsFirst, IsCircular, faults_of_names, faults_of_meanings, automaton_sites, unit_sites, reservation_sites, class_sites, attribute_sites, repeated_values, second_definitions}
+use Rattle.hz_check_model.specs.CountingOrder.{IsCountingOrder, Reserving, reservation_site}
+use Rattle.hz_check_model.specs.FirstTold.{Told, Standing, first_told, told_at}
 use Rattle.hz_mdread_model.specs.Descriptions.{Description, UnitItem, ReservationItem}
 use Rattle.hz_mdread_model.specs.DescriptionShape.{FormKind, define_cpu_unit, define_reservation, IsCheckable, IsForm, IsCheckableReservation}
-use Rattle.hz_check_model.specs.Places.{at_name, unit_place, unit_places, reservation_named, unit_or_reservation, meaning, IsKnown}
+use Rattle.hz_check_model.specs.Places.{at_name, unit_place, unit_places, reservation_named, unit_or_reservation, meaning, IsKnown, Known}
 use Rattle.hz_altern_model.specs.Meanings.{reservation, Reaches}
 use Rattle.hz_check_model.specs.Sites.{Site, is_among, earliest, is_preceded, repeated}
 use Rattle.hz_check_model.proofs.CircleLaws.{reaches_or_not, leads_listed, unwinds, rank_low}
@@ -37,7 +39,7 @@ first_or_none P decide (x ∷ xs) = ⊎_elim
     (decide x)
 
 -- where nothing is told, no site of the first fault stands
-first_standing : (fault : CheckFault) (o : Option Site) (otherwise : Option Told) → told_at fault o otherwise ≡ None → o ≡ None
+first_standing : (fault : CheckFault) (o : Option Site) (otherwise : Option (Told CheckFault)) → told_at fault o otherwise ≡ None → o ≡ None
 first_standing fault None otherwise e = refl
 first_standing fault (Some s) otherwise e = absurd (none-some _ (sym e))
 
@@ -79,7 +81,7 @@ parts_empty a b c e f g h =
     let front = front_empty (a ++ b ++ c) e (front_empty (a ++ b ++ c ++ e) f (front_empty (a ++ b ++ c ++ e ++ f) g h)) in
     (back_empty a b (front_empty (a ++ b) c front), back_empty (a ++ b) c front)
 
-first_empty : (s : Standing) (others : List Standing) → first_told (s ∷ others) ≡ None → s.sites ≡ []
+first_empty : (s : Standing CheckFault) (others : List (Standing CheckFault)) → first_told (s ∷ others) ≡ None → s.sites ≡ []
 first_empty s others e = no_site s.sites (first_standing s.fault (earliest s.sites) (first_told others) e)
 
 abbrev unit_site : UnitItem → Site
@@ -139,7 +141,7 @@ module _ (d : Description) where
             let named = at_name_named (λ (r : ReservationItem). r.name) name d.reservations r is in
             absurd (not_both u.0 r u.1 (at_name_in name (map (λ r. r.name) d.reservations) d.reservations r is) (u.2 ∙ sym named))
 
-    by_meanings : (known : Known) (order : List Reserving) → IsUnfolded d known order → (o : Option Told) → first_told (faults_of_meanings d known order) ≡ o → Judged d
+    by_meanings : (known : Known) (order : List Reserving) → IsUnfolded d known order → (o : Option (Told CheckFault)) → first_told (faults_of_meanings d known order) ≡ o → Judged d
     by_meanings known order unfolded None e = inl (known, record { order = order; unfolded = unfolded; free = e })
     by_meanings known order unfolded (Some told) e = inr (told.fault, told.site, CheckFaultAt.of_meanings unfolded e)
 
@@ -161,6 +163,6 @@ module _ (d : Description) where
   pub sound_or_fault : IsCheckable d → Judged d
   sound_or_fault formed = by_names (first_told (faults_of_names d)) refl
     where
-      by_names : (o : Option Told) → first_told (faults_of_names d) ≡ o → Judged d
+      by_names : (o : Option (Told CheckFault)) → first_told (faults_of_names d) ≡ o → Judged d
       by_names None defined = by_circles formed defined (first_or_none (IsCircular d) (λ r. reaches_or_not (meaning d) names listed r.name r.name) d.reservations)
       by_names (Some told) e = inr (told.fault, told.site, CheckFaultAt.of_names e)

@@ -6,7 +6,7 @@ use Rattle.std.specs.Str.{bytes_eq}
 use Rattle.std.proofs.lemmas.Bool.{cases_Bool, cond_both}
 use Rattle.std.proofs.lemmas.Option.{same_Some, none-some}
 use Rattle.std.proofs.lemmas.Slice.Eq.{bytes_eq-Decides}
-use Rattle.hz_check_model.specs.CheckFaults.{Reserving, reserving_reservation, reservations_of, classes_of, Merged, named_by, has_come, reservation_names, Counted, IsCountingOrder}
+use Rattle.hz_check_model.specs.CountingOrder.{Reserving, reserving_reservation, reservations_of, classes_of, Merged, named_by, has_come, reservation_names, Counted, IsCountingOrder}
 use Rattle.hz_altern_model.specs.NamesIn.{names_in}
 use Rattle.hz_mdread_model.specs.Descriptions.{Description, ReservationItem}
 use Rattle.hz_check_model.specs.Places.{at_name, unit_place, reservation_named, unit_or_reservation, meaning}

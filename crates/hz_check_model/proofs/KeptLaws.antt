@@ -19,7 +19,9 @@ use Rattle.std.proofs.lemmas.Simd.{map-map}
 use Rattle.std.proofs.lemmas.Slice.Eq.{bytes_eq-Decides}
 use Rattle.hz_altern_model.specs.Alternatives.{Alternative, idle, followed_by, beside, taking, Expression, alternatives_of}
 use Rattle.hz_altern_model.specs.Automata.{cut, ascending, is_of, inside, without_repeats, same_pair, UnitPlace, list_in}
-use Rattle.hz_check_model.specs.CheckFaults.{names_of_set, has_too_long, reserving_class, classes_of, reservations_of, Reserving, is_unit, is_reservable, unknown_in_expression, unknown_in_condition, is_class, names_of_bypass, has_too_many, Known, Told, Standing, CheckFault, IsSound, first_told, told_at, faults_of_names, faults_of_meanings, automaton_sites, unit_sites, reservation_sites, class_sites, attribute_sites, repeated_values, past_units, differs, renumbered, renumbered_behind, sites_of}
+use Rattle.hz_check_model.specs.CheckFaults.{names_of_set, has_too_long, is_unit, is_reservable, unknown_in_expression, unknown_in_condition, is_class, names_of_bypass, has_too_many, CheckFault, IsSound, faults_of_names, faults_of_meanings, automaton_sites, unit_sites, reservation_sites, class_sites, attribute_sites, repeated_values, past_units, differs, renumbered, renumbered_behind, sites_of}
+use Rattle.hz_check_model.specs.CountingOrder.{reserving_class, classes_of, reservations_of, Reserving}
+use Rattle.hz_check_model.specs.FirstTold.{Told, Standing, first_told, told_at}
 use Rattle.hz_altern_model.specs.NamesIn.{names_in}
 use Rattle.hz_check_model.specs.CheckedParts.{statements_in, class_numbers, AutomatonParts, ClassParts, BypassParts, automaton_names, automaton_count, units_in, automaton_parts, automata_from, automata_of, lists_of, class_parts, bypass_parts, attributes_of}
 use Rattle.hz_check_model.specs.CheckedShape.{IsKept}
@@ -28,7 +30,7 @@ use Rattle.hz_mdread_model.specs.Descriptions.{SetItem, ReservationItem, Descrip
 use Rattle.hz_altern_model.specs.Expressions.{is_expression}
 use Rattle.hz_base_model.specs.Limits.{cycle_limit, alternative_limit, automaton_limit, unit_limit, class_limit, latency_limit}
 use Rattle.hz_base_model.specs.Lines.{place_of}
-use Rattle.hz_check_model.specs.Places.{unit_place, places_of, statement_of, reservation_named, unit_or_reservation, meaning, IsKnown, at_name, class_names, automaton_number, automaton_numbers, place_behind, places_behind, unit_places}
+use Rattle.hz_check_model.specs.Places.{unit_place, places_of, statement_of, reservation_named, unit_or_reservation, meaning, IsKnown, at_name, class_names, automaton_number, automaton_numbers, place_behind, places_behind, unit_places, Known}
 use Rattle.hz_altern_model.specs.Inside.{inside_statement, are_inside, is_inside, unit_numbers}
 use Rattle.hz_altern_model.specs.Meanings.{Meaning, reservation, Mentions, alternatives_of_meaning, IsClosed}
 use Rattle.hz_base_model.specs.Pairs.{Pair, placed, later}
@@ -48,11 +50,11 @@ use Rattle.hz_altern_model.proofs.MentionLaws.{listed_from_mentions}
 use Rattle.hz_altern_model.proofs.PlacedLaws.{every_alternative}
 
 -- where nothing is told, no fault stands anywhere
-told_none : (fault : CheckFault) (o : Option Site) (otherwise : Option Told) → told_at fault o otherwise ≡ None → (o ≡ None) × (otherwise ≡ None)
+told_none : (fault : CheckFault) (o : Option Site) (otherwise : Option (Told CheckFault)) → told_at fault o otherwise ≡ None → (o ≡ None) × (otherwise ≡ None)
 told_none fault None otherwise e = (refl, e)
 told_none fault (Some s) otherwise e = absurd (none-some _ (sym e))
 
-none_stands : (standings : List Standing) → first_told standings ≡ None → All (λ s. s.sites ≡ []) standings
+none_stands : (standings : List (Standing CheckFault)) → first_told standings ≡ None → All (λ s. s.sites ≡ []) standings
 none_stands [] e = All-nil (λ s. s.sites ≡ [])
 none_stands (s ∷ others) e =
     let here = told_none s.fault (earliest s.sites) (first_told others) e in
@@ -532,7 +534,7 @@ module _ (d : Description) where
     no_meanings : All (λ s. s.sites ≡ []) (faults_of_meanings d known sound.order)
     no_meanings = none_stands (faults_of_meanings d known sound.order) sound.free
 
-    none : Standing
+    none : Standing CheckFault
     none = record { fault = CheckFault.twice_defined; sites = [] }
 
     once : (repeated [] [] (automaton_sites d) ≡ []) × (repeated [] [] (class_sites d) ≡ []) × (repeated [] [] (attribute_sites d) ≡ []) × (repeated (reservation_sites d) [] (unit_sites d) ≡ [])

@@ -14,8 +14,9 @@ use Rattle.hz_base_model.proofs.Elements.{Contains-nil, Contains-head, Contains-
 use Rattle.hz_altern_model.specs.Automata.{UnitPlace, total_size}
 use Rattle.hz_mdread_model.specs.Descriptions.{Description, UnitItem, BypassItem}
 use Rattle.hz_check_model.specs.Sites.{Site, is_among, is_preceded, repeated}
-use Rattle.hz_check_model.specs.Places.{automaton_number, automaton_numbers, place_behind, places_behind, unit_places}
-use Rattle.hz_check_model.specs.CheckFaults.{Known, Reserving, alternatives_in, past_units, past_size, differs, renumbered, renumbered_behind, second_numbers}
+use Rattle.hz_check_model.specs.Places.{automaton_number, automaton_numbers, place_behind, places_behind, unit_places, Known}
+use Rattle.hz_check_model.specs.CheckFaults.{past_units, differs, renumbered, renumbered_behind, second_numbers}
+use Rattle.hz_check_model.specs.CountingOrder.{Reserving, alternatives_in, past_size}
 use Rattle.hz_check_model.specs.ToldPlaces.{ToldBehind, ends, tells, passes, StandsBefore, units_beside, IsPastUnits, unit_site, size_together, PassesSize, IsRenumbered, TellsSecondNumber}
 use Rattle.hz_check_model.proofs.KeptLaws.{among, from_among, number_of}
 

@@ -1,19 +1,20 @@
 -- What can be wrong with a description that is read, and which fault is told. This profile, docs/RULES.md, 'Faults of a description'.
-use Rattle.std.specs.Prelude.{◌≡◌, ℕ, ◌+◌, Bool, false, true, ◌&&◌, ◌||◌, ◌==◌, not, nat_lt, List, [], ◌∷◌, ◌++◌, map, filter, length, drop, All, codes, Option, Some, None, option_and_then, is_none, if◌then◌else◌, IsTrue, IsFalse}
+use Rattle.std.specs.Prelude.{◌≡◌, ℕ, Bool, false, true, ◌&&◌, ◌||◌, ◌==◌, not, nat_lt, List, [], ◌∷◌, ◌++◌, map, filter, length, drop, All, codes, Option, Some, None, option_and_then, is_none, if◌then◌else◌}
 use Rattle.std.specs.Option.{option_map}
 use Rattle.std.specs.List.{list_any, flat_map, filter_map}
 use Rattle.std.specs.Str.{bytes_eq}
-use Rattle.hz_base_model.specs.Limits.{automaton_limit, unit_limit, class_limit, alternative_limit, cycle_limit, size_limit}
-use Rattle.hz_check_model.specs.Sites.{Site, is_among, earliest, repeated}
-use Rattle.hz_altern_model.specs.Alternatives.{Alternative, Expression, alternatives_of}
-use Rattle.hz_altern_model.specs.Alternatives as expression
-use Rattle.hz_altern_model.specs.Automata.{UnitPlace, total_size}
+use Rattle.hz_base_model.specs.Limits.{automaton_limit, unit_limit, class_limit, alternative_limit, cycle_limit}
+use Rattle.hz_altern_model.specs.Alternatives.{Expression}
+use Rattle.hz_altern_model.specs.Automata.{UnitPlace}
 use Rattle.hz_altern_model.specs.Meanings.{Reaches}
+use Rattle.hz_altern_model.specs.NamesIn.{names_in}
 use Rattle.hz_altern_model.specs.Sets.{SetKind, exclusion}
 use Rattle.hz_mdread_model.specs.Descriptions.{Description, Condition, Conditions, UnitItem, ReservationItem, ClassItem, BypassItem, SetItem, AttributeItem}
 use Rattle.hz_mdread_model.specs.Descriptions as condition
-use Rattle.hz_check_model.specs.Places.{class_names, meaning, unit_place, unit_places, reservation_named, IsKnown}
-use Rattle.hz_altern_model.specs.NamesIn.{names_in}
+use Rattle.hz_check_model.specs.CountingOrder.{Reserving, reservation_site, reservations_of, classes_of, alternatives_in, IsCountingOrder, past_size}
+use Rattle.hz_check_model.specs.FirstTold.{Standing, Told, first_told}
+use Rattle.hz_check_model.specs.Places.{Known, class_names, meaning, unit_place, unit_places, IsKnown}
+use Rattle.hz_check_model.specs.Sites.{Site, is_among, repeated}
 
 -- the limits, in the order in which they are asked
 pub data LimitName : Type 0 where
@@ -32,9 +33,6 @@ automaton_sites d = map (λ a. record { line = a.line; form = a.form; name = a.n
 
 abbrev pub unit_sites : Description → List Site
 unit_sites d = map (λ u. record { line = u.line; form = u.form; name = u.name }) d.units
-
-abbrev pub reservation_site : ReservationItem → Site
-reservation_site r = record { line = r.line; form = r.form; name = r.name }
 
 abbrev pub reservation_sites : Description → List Site
 reservation_sites d = map reservation_site d.reservations
@@ -200,32 +198,6 @@ past_units (u ∷ others) (place ∷ places) =
     if nat_lt place.unit unit_limit then past_units others places else record { line = u.line; form = u.form; name = u.name } ∷ past_units others places
 past_units _ _ = []
 
--- A reservation or a class, as it counts.
-pub record Reserving : Type 0 where
-  pub site : Site
-  pub expression : Expression
-  pub is_class : Bool
-
-abbrev pub reserving_reservation : ReservationItem → Reserving
-reserving_reservation r = record { site = reservation_site r; expression = r.expression; is_class = false }
-
-abbrev pub reserving_class : ClassItem → Reserving
-reserving_class c = record { site = record { line = c.line; form = c.form; name = c.name }; expression = c.expression; is_class = true }
-
-abbrev pub reservations_of : Description → List Reserving
-reservations_of d = map reserving_reservation d.reservations
-
-abbrev pub classes_of : Description → List Reserving
-classes_of d = map reserving_class d.classes
-
--- what a description has for each name
-abbrev pub Known : Type 0
-Known = List ℕ → List (Alternative UnitPlace)
-
--- the alternatives of a reservation or of a class
-abbrev pub alternatives_in : Known → Reserving → List (Alternative UnitPlace)
-alternatives_in known r = alternatives_of known r.expression
-
 -- more than may be
 abbrev pub has_too_many : Known → Reserving → Bool
 has_too_many known r = nat_lt alternative_limit (length (alternatives_in known r))
@@ -237,49 +209,6 @@ has_too_long known r = list_any (λ a. nat_lt cycle_limit a.cycles) (alternative
 -- the sites of those that pass a test, the reservations first
 abbrev pub sites_where : (Reserving → Bool) → Description → List Site
 sites_where test d = map (λ r. r.site) (filter test (reservations_of d)) ++ map (λ r. r.site) (filter test (classes_of d))
-
--- Two lists, each in the order of its forms, as one in the order of the file.
-pub data Merged : (first second merged : List Reserving) → Type 0 where
-  no_first : {second : List Reserving} → Merged [] second second
-  no_second : {first : List Reserving} → Merged first [] first
-  from_first : {r s : Reserving} {first second merged : List Reserving} → IsTrue (nat_lt r.site.form s.site.form)
-      → Merged first (s ∷ second) merged → Merged (r ∷ first) (s ∷ second) (r ∷ merged)
-  from_second : {r s : Reserving} {first second merged : List Reserving} → IsFalse (nat_lt r.site.form s.site.form)
-      → Merged (r ∷ first) second merged → Merged (r ∷ first) (s ∷ second) (s ∷ merged)
-
--- the reservations that one names, from left to right
-abbrev pub named_by : Description → Reserving → List Reserving
-named_by d r = filter_map (λ name. option_map reserving_reservation (reservation_named d name)) (names_in r.expression)
-
--- it is a reservation that came before
-abbrev pub has_come : List (List ℕ) → Reserving → Bool
-has_come before r = not r.is_class && is_among r.site.name before
-
--- the names of those that are reservations
-abbrev pub reservation_names : List Reserving → List (List ℕ)
-reservation_names [] = []
-reservation_names (r ∷ others) = if r.is_class then reservation_names others else r.site.name ∷ reservation_names others
-
--- The order in which they count, behind reservations of these names: directly before each come the reservations that
--- it names and that have not come before, from left to right, and so before each of these.
-pub data Counted (d : Description) : (before : List (List ℕ)) (items order : List Reserving) → Type 0 where
-  ends : {before : List (List ℕ)} → Counted d before [] []
-  came : {before : List (List ℕ)} {r : Reserving} {items order : List Reserving} → IsTrue (has_come before r) → Counted d before items order
-      → Counted d before (r ∷ items) order
-  comes : {before : List (List ℕ)} {r : Reserving} {items inner order : List Reserving} → IsFalse (has_come before r) → Counted d before (named_by d r) inner
-      → Counted d (before ++ reservation_names (inner ++ r ∷ [])) items order → Counted d before (r ∷ items) (inner ++ r ∷ order)
-
--- the counting order of a description
-pub record IsCountingOrder (d : Description) (order : List Reserving) : Type 0 where
-  pub file : List Reserving
-  pub merged : Merged (reservations_of d) (classes_of d) file
-  pub counted : Counted d [] file order
-
--- the first of them at which the sizes together pass the limit, behind those that have this size together
-abbrev pub past_size : Known → ℕ → List Reserving → List Site
-past_size known behind [] = []
-past_size known behind (r ∷ others) =
-    if nat_lt size_limit (behind + total_size (alternatives_in known r)) then r.site ∷ [] else past_size known (behind + total_size (alternatives_in known r)) others
 
 -- where a limit is passed
 abbrev pub past_limit : Description → Known → List Reserving → LimitName → List Site
@@ -308,28 +237,8 @@ renumbered_behind before (b ∷ bypasses) = renumbered before b ++ renumbered_be
 abbrev pub second_numbers : Description → List Site
 second_numbers d = renumbered_behind [] d.bypasses
 
--- A fault and the sites where it stands.
-pub record Standing : Type 0 where
-  pub fault : CheckFault
-  pub sites : List Site
-
--- what is told: the fault, and where
-pub record Told : Type 0 where
-  pub fault : CheckFault
-  pub site : Site
-
--- the fault at the site, if there is one, else what is told otherwise
-abbrev pub told_at : CheckFault → Option Site → Option Told → Option Told
-told_at fault (Some site) otherwise = Some (record { fault = fault; site = site })
-told_at fault None otherwise = otherwise
-
--- the first fault that stands somewhere, at its earliest site
-abbrev pub first_told : List Standing → Option Told
-first_told [] = None
-first_told (s ∷ others) = told_at s.fault (earliest s.sites) (first_told others)
-
 -- the faults of names, in their order
-abbrev pub faults_of_names : Description → List Standing
+abbrev pub faults_of_names : Description → List (Standing CheckFault)
 faults_of_names d = record { fault = twice_defined; sites = second_definitions d }
     ∷ record { fault = reserved_name; sites = reserved_names d }
     ∷ record { fault = unknown_name; sites = unknown_names d }
@@ -338,12 +247,12 @@ faults_of_names d = record { fault = twice_defined; sites = second_definitions d
     ∷ []
 
 -- the limits, in their order
-abbrev pub faults_of_limits : Description → Known → List Reserving → List Standing
+abbrev pub faults_of_limits : Description → Known → List Reserving → List (Standing CheckFault)
 faults_of_limits d known order =
     map (λ what. record { fault = limit what; sites = past_limit d known order what }) (automata ∷ units ∷ classes ∷ alternatives ∷ cycles ∷ size ∷ [])
 
 -- the faults behind that of circular reservations, in their order
-abbrev pub faults_of_meanings : Description → Known → List Reserving → List Standing
+abbrev pub faults_of_meanings : Description → Known → List Reserving → List (Standing CheckFault)
 faults_of_meanings d known order = record { fault = self_exclusion; sites = self_exclusions d }
     ∷ record { fault = set_across_automata; sites = sets_across_automata d }
     ∷ (faults_of_limits d known order ++ record { fault = bypass_twice; sites = second_numbers d } ∷ [])
@@ -356,10 +265,10 @@ pub record IsUnfolded (d : Description) (known : Known) (order : List Reserving)
 
 -- The fault that is told of a description, and where.
 pub data CheckFaultAt (d : Description) : (fault : CheckFault) (site : Site) → Type 0 where
-  of_names : {told : Told} → first_told (faults_of_names d) ≡ Some told → CheckFaultAt d told.fault told.site
+  of_names : {told : Told CheckFault} → first_told (faults_of_names d) ≡ Some told → CheckFaultAt d told.fault told.site
   of_circle : {r : ReservationItem} → first_told (faults_of_names d) ≡ None → IsFirst (IsCircular d) d.reservations r
       → CheckFaultAt d circular_reservation (reservation_site r)
-  of_meanings : {known : Known} {order : List Reserving} {told : Told} → IsUnfolded d known order
+  of_meanings : {known : Known} {order : List Reserving} {told : Told CheckFault} → IsUnfolded d known order
       → first_told (faults_of_meanings d known order) ≡ Some told → CheckFaultAt d told.fault told.site
 
 -- The description has no fault, and its names have these alternatives.

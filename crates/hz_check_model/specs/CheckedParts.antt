@@ -7,8 +7,7 @@ use Rattle.hz_altern_model.specs.Alternatives.{alternatives_of}
 use Rattle.hz_altern_model.specs.Automata.{list_in}
 use Rattle.hz_altern_model.specs.Sets.{Statement}
 use Rattle.hz_mdread_model.specs.Descriptions.{Description, Condition, ClassItem, BypassItem}
-use Rattle.hz_check_model.specs.CheckFaults.{Known}
-use Rattle.hz_check_model.specs.Places.{class_names, automaton_number, statement_of}
+use Rattle.hz_check_model.specs.Places.{class_names, automaton_number, statement_of, Known}
 use Rattle.hz_altern_model.specs.Inside.{inside_statement, is_inside}
 
 -- an automaton: its name, its units by their numbers, and its set statements on them

@@ -68,7 +68,11 @@ places_of d names = filter_map (unit_place d) names
 abbrev pub statement_of : Description → SetItem → Statement UnitPlace
 statement_of d s = record { kind = s.kind; units = places_of d s.units; patterns = map (places_of d) s.patterns }
 
+-- what a description has for each name
+abbrev pub Known : Type 0
+Known = List ℕ → List (Alternative UnitPlace)
+
 -- each name has the alternatives of what it stands for, and no reservation reaches itself
-pub record IsKnown (d : Description) (known : List ℕ → List (Alternative UnitPlace)) : Type 0 where
+pub record IsKnown (d : Description) (known : Known) : Type 0 where
   pub unwinds : Unwinds (meaning d)
   pub expands : Expands (meaning d) known

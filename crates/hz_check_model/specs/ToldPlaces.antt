@@ -6,8 +6,8 @@ use Rattle.hz_base_model.specs.Limits.{unit_limit, size_limit}
 use Rattle.hz_altern_model.specs.Automata.{total_size}
 use Rattle.hz_mdread_model.specs.Descriptions.{Description, UnitItem, BypassItem}
 use Rattle.hz_check_model.specs.Sites.{Site}
-use Rattle.hz_check_model.specs.Places.{automaton_number}
-use Rattle.hz_check_model.specs.CheckFaults.{Known, Reserving, alternatives_in}
+use Rattle.hz_check_model.specs.Places.{automaton_number, Known}
+use Rattle.hz_check_model.specs.CountingOrder.{Reserving, alternatives_in}
 
 -- Of items in their order those are told, by their sites, of which a fact holds behind all that stand before them.
 pub data ToldBehind {A : Type 0} (IsWrong : List A → A → Type 0) (site : A → Site) : (before items : List A) (told : List Site) → Type 0 where

@@ -2,8 +2,9 @@
 
 ghost use Rattle.std.specs.Prelude.{◌≡◌, ◌≤◌, ◌↔◌, ◌⊎◌, List, [], ◌∷◌, ◌++◌, length, slice_get, map, All, Contains, Some, None};
 ghost use Rattle.hz_base_model.specs.Limits.{size_limit};
-ghost use Rattle.hz_check_model.specs.CheckFaults.{Known, Reserving, CheckFault, CheckFaultAt, IsSound, IsFirst, past_units, past_size, second_numbers};
-ghost use Rattle.hz_check_model.specs.Places.{automaton_number, unit_places};
+ghost use Rattle.hz_check_model.specs.CheckFaults.{CheckFault, CheckFaultAt, IsSound, IsFirst, past_units, second_numbers};
+ghost use Rattle.hz_check_model.specs.CountingOrder.{Reserving, past_size};
+ghost use Rattle.hz_check_model.specs.Places.{automaton_number, unit_places, Known};
 ghost use Rattle.hz_check_model.specs.ToldPlaces.{ToldBehind, StandsBefore, IsPastUnits, unit_site, units_beside, PassesSize, size_together, TellsSecondNumber};
 ghost use Rattle.hz_check_model.specs.CheckedParts.{automata_of, class_parts, bypass_parts, attributes_of};
 ghost use Rattle.hz_check_model.specs.CheckedShape.{IsKept};

@@ -5,7 +5,7 @@ use Rattle.std.specs.Option.{option_map}
 use Rattle.std.proofs.lemmas.Bool.{and_parts, not-true, cond-true, cond-false}
 use Rattle.std.proofs.lemmas.List.Elements.{filter-append}
 use Rattle.std.proofs.lemmas.Option.{none-some, same_Some}
-use Rattle.hz_check_model.specs.CheckFaults.{Reserving, reserving_reservation, reserving_class, reservations_of, classes_of, Merged, Counted, IsCountingOrder, named_by}
+use Rattle.hz_check_model.specs.CountingOrder.{Reserving, reserving_reservation, reserving_class, reservations_of, classes_of, Merged, Counted, IsCountingOrder, named_by}
 use Rattle.hz_altern_model.specs.NamesIn.{names_in}
 use Rattle.hz_mdread_model.specs.Descriptions.{Description, ReservationItem}
 use Rattle.hz_check_model.specs.Places.{reservation_named}

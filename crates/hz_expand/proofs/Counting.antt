@@ -13,11 +13,13 @@ use Rattle.hz_expand.proofs.Ordered.{at_from_take, IsReservationAt, IsClassAt, r
 use Rattle.hz_altern_model.specs.Alternatives.{Alternative, Expression, alternatives_of}
 use Rattle.hz_altern_model.specs.AlternativeLists.{Extent, extent_of}
 use Rattle.hz_altern_model.specs.Automata.{UnitPlace, listed}
-use Rattle.hz_check_model.specs.CheckFaults.{Known, Reserving, first_told, faults_of_names}
+use Rattle.hz_check_model.specs.CheckFaults.{faults_of_names}
+use Rattle.hz_check_model.specs.CountingOrder.{Reserving}
+use Rattle.hz_check_model.specs.FirstTold.{first_told}
 use Rattle.hz_mdread_model.specs.Descriptions.{Description, UnitItem}
 use Rattle.hz_mdread_model.specs.DescriptionShape.{IsCheckable}
 use Rattle.hz_altern_model.specs.Expressions.{is_expression}
-use Rattle.hz_check_model.specs.Places.{IsKnown}
+use Rattle.hz_check_model.specs.Places.{IsKnown, Known}
 use Rattle.hz_altern_model.specs.Meanings.{Mentions}
 use Rattle.hz_base_model.proofs.Elements.{Contains-nil}
 use Rattle.hz_altern_model.specs.NamesIn.{all_names}

@@ -9,10 +9,9 @@ use Rattle.hz_expand.specs.Tables.{Holds, HasExtent, HasAlternatives}
 use Rattle.hz_altern_model.specs.Alternatives.{Alternative, Expression, alternatives_of}
 use Rattle.hz_altern_model.specs.AlternativeLists.{Extent}
 use Rattle.hz_altern_model.specs.Automata.{UnitPlace, listed}
-use Rattle.hz_check_model.specs.CheckFaults.{Known}
 use Rattle.hz_mdread_model.specs.Descriptions.{Description}
 use Rattle.hz_altern_model.specs.Expressions.{is_expression}
-use Rattle.hz_check_model.specs.Places.{IsKnown}
+use Rattle.hz_check_model.specs.Places.{IsKnown, Known}
 use Rattle.hz_altern_model.specs.Meanings.{Mentions}
 use Rattle.hz_altern_model.specs.NamesIn.{all_names}
 use Rattle.hz_base_model.proofs.Elements.{Contains-nil}

@@ -8,10 +8,11 @@ use Rattle.hz_expand.specs.Tables.{unit_names, reservation_names, HasExtent, Has
 use Rattle.hz_altern_model.specs.Alternatives.{Alternative, taking, alternatives_of}
 use Rattle.hz_altern_model.specs.AlternativeLists.{Extent, extent_of}
 use Rattle.hz_altern_model.specs.Automata.{UnitPlace, listed}
-use Rattle.hz_check_model.specs.CheckFaults.{Known, first_told, faults_of_names}
+use Rattle.hz_check_model.specs.CheckFaults.{faults_of_names}
+use Rattle.hz_check_model.specs.FirstTold.{first_told}
 use Rattle.hz_mdread_model.specs.Descriptions.{Description, UnitItem, ReservationItem}
 use Rattle.hz_mdread_model.specs.DescriptionShape.{IsCheckable}
-use Rattle.hz_check_model.specs.Places.{at_name, place_behind, places_behind, unit_places, unit_or_reservation, reservation_named, meaning, IsKnown}
+use Rattle.hz_check_model.specs.Places.{at_name, place_behind, places_behind, unit_places, unit_or_reservation, reservation_named, meaning, IsKnown, Known}
 use Rattle.hz_altern_model.specs.Meanings.{unit, reservation, alternatives_of_meaning}
 use Rattle.hz_base_model.proofs.Elements.{Contains-head, Contains-tail}
 use Rattle.hz_unfold.proofs.FirstNames.{bytes_eq-self, same_bytes}

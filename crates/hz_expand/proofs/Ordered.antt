@@ -8,7 +8,9 @@ use Rattle.std.proofs.lemmas.List.Elements.{Contains-get_or, Contains-append_lef
 use Rattle.std.proofs.lemmas.Option.{none-some, same_Some, slice_get-get_or, slice_get_within, slice_get_past, get_or_from_slice_get}
 use Rattle.hz_expand.specs.Tables.{unit_names, reservation_names, IsBehind}
 use Rattle.hz_expand.proofs.Names.{no_unit_named}
-use Rattle.hz_check_model.specs.CheckFaults.{Reserving, reserving_reservation, reserving_class, reservations_of, classes_of, first_told, faults_of_names, is_unit, is_reservable}
+use Rattle.hz_check_model.specs.CheckFaults.{faults_of_names, is_unit, is_reservable}
+use Rattle.hz_check_model.specs.CountingOrder.{Reserving, reserving_reservation, reserving_class, reservations_of, classes_of}
+use Rattle.hz_check_model.specs.FirstTold.{first_told}
 use Rattle.hz_altern_model.specs.NamesIn.{names_in}
 use Rattle.hz_mdread_model.specs.Descriptions.{Description, ReservationItem, ClassItem}
 use Rattle.hz_mdread_model.specs.DescriptionShape.{IsCheckable, IsCheckableReservation, IsCheckableClass}

@@ -5,6 +5,7 @@ use Rattle.std.specs.List.{list_any}
 use Rattle.std.proofs.lemmas.Bool.Decides.{nat_tests}
 use Rattle.std.proofs.lemmas.List.{drop_more, append-nil, get_or-map, length-map}
 use Rattle.std.proofs.lemmas.List.Elements.{Contains-append_left, Contains-append_right}
+use Rattle.hz_base_model.specs.Limits.{alternative_limit, cycle_limit}
 use Rattle.hz_altern.specs.Tables.{AreRight}
 use Rattle.hz_expand.specs.declared.extents.PastExtents.{PastExtents}
 use Rattle.hz_expand.specs.Past.{sites_of, AreCountable, AreRightFor, TellsBehind, ArePast}
@@ -15,34 +16,36 @@ use Rattle.hz_expand.proofs.Ordered.{written, names_in_all}
 use Rattle.hz_altern_model.specs.Alternatives.{Alternative, alternatives_of}
 use Rattle.hz_altern_model.specs.AlternativeLists.{Extent, extent_of, greatest_length}
 use Rattle.hz_altern_model.specs.Automata.{UnitPlace}
-use Rattle.hz_check_model.specs.CheckFaults.{Known, Reserving, first_told, faults_of_names, has_too_many, has_too_long, alternatives_in, reservations_of, classes_of}
+use Rattle.hz_check_model.specs.CheckFaults.{faults_of_names, has_too_many, has_too_long}
+use Rattle.hz_check_model.specs.CountingOrder.{Reserving, alternatives_in, reservations_of, classes_of}
+use Rattle.hz_check_model.specs.FirstTold.{first_told}
 use Rattle.hz_mdread_model.specs.Descriptions.{Description}
 use Rattle.hz_mdread_model.specs.DescriptionShape.{IsCheckable}
-use Rattle.hz_check_model.specs.Places.{IsKnown}
+use Rattle.hz_check_model.specs.Places.{IsKnown, Known}
 use Rattle.hz_check_model.specs.Sites.{Site, earlier, earliest}
 use Rattle.hz_base_model.proofs.Elements.{Contains-head, Contains-tail}
 use Rattle.hz_unfold.specs.Orders.{all_of, IsOrder, reservings}
 
 -- what an extent tells
 
-cut_many : (n : ℕ) → nat_lt 4096 n ≡ nat_lt 4096 (min n 4097)
+cut_many : (n : ℕ) → nat_lt alternative_limit n ≡ nat_lt alternative_limit (min n (alternative_limit + 1))
 cut_many n = grind (arith, nat_tests)
 
-cut_long : (n : ℕ) → nat_lt 256 n ≡ nat_lt 256 (min n 257)
+cut_long : (n : ℕ) → nat_lt cycle_limit n ≡ nat_lt cycle_limit (min n (cycle_limit + 1))
 cut_long n = grind (arith, nat_tests)
 
-max_long : (m n : ℕ) → (nat_lt 256 m || nat_lt 256 n) ≡ nat_lt 256 (max m n)
+max_long : (m n : ℕ) → (nat_lt cycle_limit m || nat_lt cycle_limit n) ≡ nat_lt cycle_limit (max m n)
 max_long m n = grind (arith, nat_tests)
 
-pub some_long : (xs : List (Alternative UnitPlace)) → list_any (λ a. nat_lt 256 a.cycles) xs ≡ nat_lt 256 (greatest_length xs)
+pub some_long : (xs : List (Alternative UnitPlace)) → list_any (λ a. nat_lt cycle_limit a.cycles) xs ≡ nat_lt cycle_limit (greatest_length xs)
 some_long [] = refl
-some_long (x ∷ xs) = ap (λ (b : Bool). nat_lt 256 x.cycles || b) (some_long xs) ∙ max_long x.cycles (greatest_length xs)
+some_long (x ∷ xs) = ap (λ (b : Bool). nat_lt cycle_limit x.cycles || b) (some_long xs) ∙ max_long x.cycles (greatest_length xs)
 
-tells_many : (known : Known) (q : Reserving) (e : Extent) → e ≡ extent_of (alternatives_in known q) → has_too_many known q ≡ nat_lt 4096 e.count
-tells_many known q e is = cut_many (length (alternatives_in known q)) ∙ ap (λ (x : Extent). nat_lt 4096 x.count) (sym is)
+tells_many : (known : Known) (q : Reserving) (e : Extent) → e ≡ extent_of (alternatives_in known q) → has_too_many known q ≡ nat_lt alternative_limit e.count
+tells_many known q e is = cut_many (length (alternatives_in known q)) ∙ ap (λ (x : Extent). nat_lt alternative_limit x.count) (sym is)
 
-tells_long : (known : Known) (q : Reserving) (e : Extent) → e ≡ extent_of (alternatives_in known q) → has_too_long known q ≡ nat_lt 256 e.longest
-tells_long known q e is = some_long (alternatives_in known q) ∙ (cut_long (greatest_length (alternatives_in known q)) ∙ ap (λ (x : Extent). nat_lt 256 x.longest) (sym is))
+tells_long : (known : Known) (q : Reserving) (e : Extent) → e ≡ extent_of (alternatives_in known q) → has_too_long known q ≡ nat_lt cycle_limit e.longest
+tells_long known q e is = some_long (alternatives_in known q) ∙ (cut_long (greatest_length (alternatives_in known q)) ∙ ap (λ (x : Extent). nat_lt cycle_limit x.longest) (sym is))
 
 -- one item in front of others
 
@@ -60,8 +63,8 @@ right_tail table known q items right = record { each = λ r h. right.each r (Con
 module _ (table : List ℕ → Option Extent) (items : List Reserving) (old : PastExtents) where
   pub tells_more : (i : ℕ) (q : Reserving) (e : Extent) (now next : PastExtents) → 0 < i → i ≤ length items → q ≡ get_or items (i - 1) q
       → ((known : Known) → AreRight table known q.expression → e ≡ extent_of (alternatives_of known q.expression))
-      → told next.alternatives ≡ earlier (cond (nat_lt 4096 e.count) (Some q.site) None) (told now.alternatives)
-      → told next.cycles ≡ earlier (cond (nat_lt 256 e.longest) (Some q.site) None) (told now.cycles)
+      → told next.alternatives ≡ earlier (cond (nat_lt alternative_limit e.count) (Some q.site) None) (told now.alternatives)
+      → told next.cycles ≡ earlier (cond (nat_lt cycle_limit e.longest) (Some q.site) None) (told now.cycles)
       → TellsBehind table (drop i items) old now → TellsBehind table (drop (i - 1) items) old next
   tells_more i q e now next some within is counted many long tells =
       let step : (i - 1) + 1 ≡ i = omega arith in
@@ -70,12 +73,12 @@ module _ (table : List ℕ → Option Extent) (items : List Reserving) (old : Pa
       subst (λ (xs : List Reserving). TellsBehind table xs old next) (sym parts) (record {
         many = λ known right behind begun.
             let e_is = counted known (right.each q (Contains-head q (drop i items))) in
-            many ∙ (ap (earlier (cond (nat_lt 4096 e.count) (Some q.site) None)) (tells.many known (right_tail table known q (drop i items) right) behind begun)
-            ∙ sym (in_front (has_too_many known) q (drop i items) behind (nat_lt 4096 e.count) (tells_many known q e e_is)));
+            many ∙ (ap (earlier (cond (nat_lt alternative_limit e.count) (Some q.site) None)) (tells.many known (right_tail table known q (drop i items) right) behind begun)
+            ∙ sym (in_front (has_too_many known) q (drop i items) behind (nat_lt alternative_limit e.count) (tells_many known q e e_is)));
         long = λ known right behind begun.
             let e_is = counted known (right.each q (Contains-head q (drop i items))) in
-            long ∙ (ap (earlier (cond (nat_lt 256 e.longest) (Some q.site) None)) (tells.long known (right_tail table known q (drop i items) right) behind begun)
-            ∙ sym (in_front (has_too_long known) q (drop i items) behind (nat_lt 256 e.longest) (tells_long known q e e_is)));
+            long ∙ (ap (earlier (cond (nat_lt cycle_limit e.longest) (Some q.site) None)) (tells.long known (right_tail table known q (drop i items) right) behind begun)
+            ∙ sym (in_front (has_too_long known) q (drop i items) behind (nat_lt cycle_limit e.longest) (tells_long known q e e_is)));
       })
 
 -- all of a description

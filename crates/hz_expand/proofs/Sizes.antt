@@ -27,11 +27,13 @@ use Rattle.hz_expand.proofs.Unwinding.{some_known}
 use Rattle.hz_altern_model.specs.Alternatives.{Alternative, alternatives_of}
 use Rattle.hz_altern_model.specs.AlternativeLists.{AreSound, greatest_length}
 use Rattle.hz_altern_model.specs.Automata.{UnitPlace, listed, total_size}
-use Rattle.hz_check_model.specs.CheckFaults.{Known, Reserving, reserving_class, reservations_of, classes_of, alternatives_in, has_too_many, has_too_long, sites_where, past_size, first_told, faults_of_names}
+use Rattle.hz_check_model.specs.CheckFaults.{has_too_many, has_too_long, sites_where, faults_of_names}
+use Rattle.hz_check_model.specs.CountingOrder.{Reserving, reserving_class, reservations_of, classes_of, alternatives_in, past_size}
+use Rattle.hz_check_model.specs.FirstTold.{first_told}
 use Rattle.hz_mdread_model.specs.Descriptions.{Description}
 use Rattle.hz_mdread_model.specs.DescriptionShape.{IsCheckable}
-use Rattle.hz_base_model.specs.Limits.{size_limit}
-use Rattle.hz_check_model.specs.Places.{IsKnown}
+use Rattle.hz_base_model.specs.Limits.{size_limit, alternative_limit, cycle_limit}
+use Rattle.hz_check_model.specs.Places.{IsKnown, Known}
 use Rattle.hz_check_model.specs.Sites.{Site, earliest}
 use Rattle.hz_check_model.proofs.EarliestLaws.{no_site}
 use Rattle.hz_base_model.proofs.Elements.{Contains-nil, Contains-cons_cases}
@@ -80,11 +82,11 @@ all_pass_none test d e r there =
     (Contains-append_cases (reservations_of d) (classes_of d) r there)
 
 module _ (d : Description) (order : List Reserving) (extents : AreWithinExtents d order) (known : Known) (right : IsKnown d known) (r : Reserving) (there : Contains (all_of d) r) where
-  few_all : length (alternatives_in known r) ≤ 4096
-  few_all = ltb-false 4096 (length (alternatives_in known r)) (all_pass_none (has_too_many known) d (extents.few known right) r there)
+  few_all : length (alternatives_in known r) ≤ alternative_limit
+  few_all = ltb-false alternative_limit (length (alternatives_in known r)) (all_pass_none (has_too_many known) d (extents.few known right) r there)
 
-  short_all : greatest_length (alternatives_in known r) ≤ 256
-  short_all = ltb-false 256 (greatest_length (alternatives_in known r)) (sym (some_long (alternatives_in known r)) ∙ all_pass_none (has_too_long known) d (extents.short known right) r there)
+  short_all : greatest_length (alternatives_in known r) ≤ cycle_limit
+  short_all = ltb-false cycle_limit (greatest_length (alternatives_in known r)) (sym (some_long (alternatives_in known r)) ∙ all_pass_none (has_too_long known) d (extents.short known right) r there)
 
 -- ---- how far the expansion has come
 
@@ -132,13 +134,13 @@ module _ (d : Description) (told : first_told (faults_of_names d) ≡ None) (for
     there : Contains (all_of d) q
     there = subst (Contains (all_of d)) (sym is) (in_all d told formed order ordered number (ordered.within number (Contains-from_At order i number at)))
 
-    pub few_there : AreWithinExtents d (reservings d order) → length all ≤ 4096
+    pub few_there : AreWithinExtents d (reservings d order) → length all ≤ alternative_limit
     few_there extents =
         let k = some_known d told formed order ordered in
         let few = few_all d (reservings d order) extents k.0 k.1 q there in
         omega (arith, same_length all (alternatives_in k.0 q) (same_all k.0 k.1))
 
-    pub short_there : AreWithinExtents d (reservings d order) → greatest_length all ≤ 256
+    pub short_there : AreWithinExtents d (reservings d order) → greatest_length all ≤ cycle_limit
     short_there extents =
         let k = some_known d told formed order ordered in
         let short = short_all d (reservings d order) extents k.0 k.1 q there in
@@ -154,8 +156,8 @@ module _ (d : Description) (told : first_told (faults_of_names d) ≡ None) (for
     too_large site same over = record {
       first = λ known right.
           let size = same_size all (alternatives_in known q) (same_all known right) in
-          let high : 2097152 < s.size + total_size (alternatives_in known q) = omega arith in
-          ap earliest (p.sizes known right ∙ (rest known s.size ∙ cond-true (nat_lt size_limit (s.size + total_size (alternatives_in known q))) (q.site ∷ []) (past_size known (s.size + total_size (alternatives_in known q)) (reservings d (drop (i + 1) order))) (lt-ltb 2097152 (s.size + total_size (alternatives_in known q)) high)))
+          let high : size_limit < s.size + total_size (alternatives_in known q) = omega arith in
+          ap earliest (p.sizes known right ∙ (rest known s.size ∙ cond-true (nat_lt size_limit (s.size + total_size (alternatives_in known q))) (q.site ∷ []) (past_size known (s.size + total_size (alternatives_in known q)) (reservings d (drop (i + 1) order))) (lt-ltb size_limit (s.size + total_size (alternatives_in known q)) high)))
           ∙ ap Some (sym same);
     }
 
@@ -184,9 +186,9 @@ module _ (d : Description) (told : first_told (faults_of_names d) ≡ None) (for
         sizes known right =
             let size = same_size all (alternatives_in known q) (same_all known right) in
             let sum : t.size ≡ s.size + total_size (alternatives_in known q) = omega (arith, e.size) in
-            let low : s.size + total_size (alternatives_in known q) ≤ 2097152 = omega (arith, e.small) in
+            let low : s.size + total_size (alternatives_in known q) ≤ size_limit = omega (arith, e.small) in
             p.sizes known right ∙ (rest known s.size
-            ∙ (cond-false (nat_lt size_limit (s.size + total_size (alternatives_in known q))) (q.site ∷ []) (past_size known (s.size + total_size (alternatives_in known q)) (reservings d (drop (i + 1) order))) (le-ltb 2097152 (s.size + total_size (alternatives_in known q)) low)
+            ∙ (cond-false (nat_lt size_limit (s.size + total_size (alternatives_in known q))) (q.site ∷ []) (past_size known (s.size + total_size (alternatives_in known q)) (reservings d (drop (i + 1) order))) (le-ltb size_limit (s.size + total_size (alternatives_in known q)) low)
             ∙ ap (λ (n : ℕ). past_size known n (reservings d (drop (i + 1) order))) (sym sum)))
 
         lists : (b : Bool) → q.is_class ≡ b → Keeps b (q.site).name (map listed all) s t → (known : Known) → IsKnown d known → lists_of t.lists.items ≡ listed_lists known (classes_among (reservings d (take (i + 1) order)))

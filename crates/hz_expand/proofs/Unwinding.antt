@@ -7,11 +7,13 @@ use Rattle.hz_expand.proofs.Names.{name_there}
 use Rattle.hz_expand.proofs.Ordered.{IsReservationAt, IsClassAt, reservation_or_class, number_is, Contains-filter_map}
 use Rattle.hz_altern_model.specs.Alternatives.{Expression}
 use Rattle.hz_altern_model.specs.Automata.{UnitPlace}
-use Rattle.hz_check_model.specs.CheckFaults.{Known, Reserving, reserving_reservation, reservations_of, classes_of, first_told, faults_of_names, IsUnfolded}
+use Rattle.hz_check_model.specs.CheckFaults.{faults_of_names, IsUnfolded}
+use Rattle.hz_check_model.specs.CountingOrder.{Reserving, reserving_reservation, reservations_of, classes_of}
+use Rattle.hz_check_model.specs.FirstTold.{first_told}
 use Rattle.hz_altern_model.specs.NamesIn.{names_in}
 use Rattle.hz_mdread_model.specs.Descriptions.{Description, ReservationItem}
 use Rattle.hz_mdread_model.specs.DescriptionShape.{IsCheckable}
-use Rattle.hz_check_model.specs.Places.{unit_place, reservation_named, unit_or_reservation, meaning, IsKnown}
+use Rattle.hz_check_model.specs.Places.{unit_place, reservation_named, unit_or_reservation, meaning, IsKnown, Known}
 use Rattle.hz_altern_model.specs.Meanings.{reservation, Mentions, Unwinds}
 use Rattle.hz_check_model.proofs.CircleLaws.{named_there}
 use Rattle.hz_check_model.proofs.CountingLaws.{at_name_named}

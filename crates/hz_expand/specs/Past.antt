@@ -6,10 +6,11 @@ use Rattle.hz_expand.specs.declared.extents.PastExtents.{PastExtents}
 use Rattle.hz_unfold.specs.Places.{told}
 use Rattle.hz_altern_model.specs.AlternativeLists.{Extent}
 use Rattle.hz_check_model.specs.CheckFaults as check
-use Rattle.hz_check_model.specs.CheckFaults.{Known, Reserving, past_limit, has_too_many, has_too_long}
+use Rattle.hz_check_model.specs.CheckFaults.{past_limit, has_too_many, has_too_long}
+use Rattle.hz_check_model.specs.CountingOrder.{Reserving}
 use Rattle.hz_mdread_model.specs.Descriptions.{Description}
 use Rattle.hz_altern_model.specs.Expressions.{is_expression}
-use Rattle.hz_check_model.specs.Places.{IsKnown}
+use Rattle.hz_check_model.specs.Places.{IsKnown, Known}
 use Rattle.hz_altern_model.specs.NamesIn.{all_names}
 use Rattle.hz_check_model.specs.Sites.{Site, earliest}
 

@@ -8,7 +8,7 @@ use Rattle.hz_expand.specs.declared.places.UnitPlace.{UnitPlace}
 use Rattle.hz_expand.specs.declared.reserving.Reserving.{Reserving}
 use Rattle.hz_altern_model.specs.Alternatives.{Alternative}
 use Rattle.hz_altern_model.specs.Automata as automata
-use Rattle.hz_check_model.specs.CheckFaults as model
+use Rattle.hz_check_model.specs.CountingOrder as model
 use Rattle.hz_regexp.specs.Shape.{expression}
 use Rattle.hz_unfold.specs.Places.{site_of}
 

@@ -5,9 +5,8 @@ use Rattle.hz_altern.specs.Tables.{is_held}
 use Rattle.hz_altern_model.specs.Alternatives.{Alternative}
 use Rattle.hz_altern_model.specs.AlternativeLists.{Extent, extent_of}
 use Rattle.hz_altern_model.specs.Automata.{UnitPlace, listed}
-use Rattle.hz_check_model.specs.CheckFaults.{Known}
 use Rattle.hz_mdread_model.specs.Descriptions.{Description}
-use Rattle.hz_check_model.specs.Places.{IsKnown}
+use Rattle.hz_check_model.specs.Places.{IsKnown, Known}
 
 -- the names of the units, and those of the reservations
 abbrev pub unit_names : Description → List (List ℕ)

@@ -7,7 +7,8 @@ ghost use Rattle.hz_expand.specs.Past.{AreCountable, ArePast, TellsBehind};
 ghost use Rattle.hz_unfold.specs.Places.{told};
 ghost use Rattle.hz_expand.specs.Tables.{HasExtent, Holds, IsBehind, unit_names};
 ghost use Rattle.hz_mdread.specs.Shape.{description};
-ghost use Rattle.hz_check_model.specs.CheckFaults.{faults_of_names, first_told};
+ghost use Rattle.hz_check_model.specs.CheckFaults.{faults_of_names};
+ghost use Rattle.hz_check_model.specs.FirstTold.{first_told};
 ghost use Rattle.hz_mdread_model.specs.DescriptionShape.{IsCheckable};
 ghost use Rattle.hz_base_model.specs.Limits.{alternative_limit, cycle_limit};
 ghost use Rattle.hz_check_model.specs.Sites.{earlier as earlier_site};
@@ -24,9 +25,9 @@ use std::alloc::Global;
 /// The earliest reservation or class of the file that passes each of two limits.
 #[derive(Clone, Copy, Debug)]
 pub struct PastExtents<'a> {
-    /// It has more than 4,096 alternatives.
+    /// It has more than `ALTERNATIVE_LIMIT` alternatives.
     pub alternatives: Option<Site<'a>>,
-    /// An alternative of it runs for more than 256 cycles.
+    /// An alternative of it runs for more than `CYCLE_LIMIT` cycles.
     pub cycles: Option<Site<'a>>,
 }
 
@@ -110,8 +111,8 @@ fn add_reservations(
     Ok(())
 }
 
-/// The earliest reservation or class of the file with more than 4,096 alternatives, and the earliest with one of more than
-/// 256 cycles. The numbers of the order are places of reservations, and behind them places of classes. Each expression is
+/// The earliest reservation or class of the file with more than `ALTERNATIVE_LIMIT` alternatives, and the earliest with one
+/// of more than `CYCLE_LIMIT` cycles. The numbers of the order are places of reservations, and behind them places of classes. Each expression is
 /// counted, and no alternative is made. `NoMemory` where there was none. This profile, docs/RULES.md, 'Limits'.
 pub fn past_extents<'a>(
     alloc: Global,

@@ -3,7 +3,7 @@
 ghost use Rattle.std.specs.Prelude.{◌≡◌, ◌<◌, length};
 ghost use Rattle.hz_expand.specs.Shape.{reserving_of};
 ghost use Rattle.hz_mdread.specs.Shape.{class_item, description, reservation_item};
-ghost use Rattle.hz_check_model.specs.CheckFaults.{Reserving as model_reserving, reserving_class, reserving_reservation};
+ghost use Rattle.hz_check_model.specs.CountingOrder.{Reserving as model_reserving, reserving_class, reserving_reservation};
 ghost use Rattle.hz_unfold.specs.Orders.{all_of, reserving};
 
 use hz_mdread::{ClassItem, Description, ReservationItem};

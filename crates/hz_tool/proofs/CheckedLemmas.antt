@@ -11,7 +11,6 @@ use Rattle.hz_check_model.specs.CheckedParts.{AutomatonParts, ClassParts, automa
 use Rattle.hz_altern_model.specs.Alternatives.{Alternative, alternatives_of}
 use Rattle.hz_answer_model.specs.Answers.{is_built, Traces, ReplaysTrace, ReplaysDescription}
 use Rattle.hz_answer_model.specs.Phases.{Says}
-use Rattle.hz_check_model.specs.CheckFaults.{Known}
 use Rattle.hz_trace_model.specs.Traces.{Trace, TraceFault, TraceFaultAt}
 use Rattle.hz_trace_model.specs.Traces as trace
 use Rattle.hz_answer_model.specs.FaultTexts.{trace_word}
@@ -45,7 +44,7 @@ use Rattle.hz_unitsets.specs.SetRules.{statement_of, statements_of, IsInRange}
 use Rattle.hz_check.specs.Checked.{IsCheckedOf}
 use Rattle.hz_check.specs.Shape.{automaton_of, class_of}
 use Rattle.hz_mdread_model.specs.Descriptions.{Description, AutomatonItem, ClassItem, Options}
-use Rattle.hz_check_model.specs.Places.{class_names}
+use Rattle.hz_check_model.specs.Places.{class_names, Known}
 use Rattle.hz_acceptance_model.specs.Restricted.{class_in, restricted, IsOf}
 use Rattle.hz_pipeline_model.specs.Pipelines.{pipeline_with}
 use Rattle.hz_acceptance_model.specs.Replay.{Pipeline, Class, alternatives_at, of_class, first_fit, any_fit}

@@ -3,7 +3,8 @@ use Rattle.std.proofs.Common.{◌≡◌, ℕ, List, [], ◌∷◌, inl, inr, Mat
 use Rattle.hz_check.specs.Faults.{limit_of}
 use Rattle.hz_answer_model.specs.Answers.{Describes, Checks}
 use Rattle.hz_answer_model.specs.Phases.{Next, HasForms}
-use Rattle.hz_check_model.specs.CheckFaults.{Known, IsSound, limit}
+use Rattle.hz_check_model.specs.CheckFaults.{IsSound, limit}
+use Rattle.hz_check_model.specs.Places.{Known}
 use Rattle.hz_mdread_model.specs.DescriptionForms.{DescriptionFault}
 use Rattle.hz_mdread_model.specs.DescriptionForms as description_forms
 use Rattle.hz_mdread_model.specs.Descriptions.{Description}

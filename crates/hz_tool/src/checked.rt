@@ -5,8 +5,7 @@ ghost use Rattle.std.specs.Prelude.{◌≡◌, ◌≢◌, ◌+◌, ◌^◌, ℕ,
 ghost use Rattle.hz_check.specs.Checked.{IsCheckedOf};
 ghost use Rattle.hz_answer_model.specs.Answers.{is_built, Replays, ReplaysTrace, ReplaysDescription};
 ghost use Rattle.hz_mdread_model.specs.Descriptions.{Description};
-ghost use Rattle.hz_check_model.specs.CheckFaults.{Known};
-ghost use Rattle.hz_check_model.specs.Places.{class_names};
+ghost use Rattle.hz_check_model.specs.Places.{class_names, Known};
 ghost use Rattle.hz_pipeline_model.specs.Pipelines.{pipeline_with};
 ghost use Rattle.hz_acceptance_model.specs.Replay.{Pipeline};
 ghost use Rattle.hz_tool.specs.Checked.{first_list, first_statements, HasList, IsTraceOf};

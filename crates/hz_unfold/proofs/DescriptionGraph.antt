@@ -5,7 +5,7 @@ use Rattle.std.proofs.lemmas.List.{length-map, map-append}
 use Rattle.hz_mdread.specs.declared.items.ClassItem.{ClassItem}
 use Rattle.hz_mdread.specs.declared.items.ReservationItem.{ReservationItem}
 use Rattle.hz_mdread.specs.Shape.{class_item, reservation_item}
-use Rattle.hz_check_model.specs.CheckFaults.{Reserving, reserving_reservation, reserving_class, reservations_of, classes_of}
+use Rattle.hz_check_model.specs.CountingOrder.{Reserving, reserving_reservation, reserving_class, reservations_of, classes_of}
 use Rattle.hz_altern_model.specs.NamesIn.{names_in}
 use Rattle.hz_mdread_model.specs.Descriptions.{Description}
 use Rattle.hz_regexp.specs.Shape.{expression}

@@ -9,7 +9,7 @@ use Rattle.std.proofs.lemmas.Option.{slice_get_within, get_or_from_slice_get, sl
 use Rattle.hz_base_model.proofs.Elements.{Contains-nil}
 use Rattle.hz_check_model.proofs.PlaceLaws.{from_filter_map}
 use Rattle.hz_altern_model.specs.Alternatives.{Expression}
-use Rattle.hz_check_model.specs.CheckFaults.{Reserving, reserving_reservation, reserving_class, reservations_of, classes_of, named_by}
+use Rattle.hz_check_model.specs.CountingOrder.{Reserving, reserving_reservation, reserving_class, reservations_of, classes_of, named_by}
 use Rattle.hz_altern_model.specs.NamesIn.{names_in}
 use Rattle.hz_mdread_model.specs.Descriptions.{Description, ReservationItem, ClassItem}
 use Rattle.hz_check_model.specs.Places.{reservation_named}

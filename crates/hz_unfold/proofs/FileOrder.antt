@@ -6,7 +6,7 @@ use Rattle.std.proofs.lemmas.Option.{slice_get_within, get_or_from_slice_get}
 use Rattle.hz_mdread.specs.declared.items.ClassItem.{ClassItem}
 use Rattle.hz_mdread.specs.declared.items.ReservationItem.{ReservationItem}
 use Rattle.hz_mdread.specs.Shape.{class_item, reservation_item}
-use Rattle.hz_check_model.specs.CheckFaults.{reserving_reservation, reserving_class}
+use Rattle.hz_check_model.specs.CountingOrder.{reserving_reservation, reserving_class}
 use Rattle.hz_unfold.specs.Orders.{Numbered, done, last_first, last_second, from_first, from_second, comes_first, reservings_of, class_reservings_of}
 
 -- a list has an item at each place within

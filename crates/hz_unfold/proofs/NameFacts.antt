@@ -9,7 +9,9 @@ use Rattle.std.proofs.lemmas.List.Quantifiers.{position-Some}
 use Rattle.std.proofs.lemmas.Option.{slice_get_within, get_or_from_slice_get, slice_get-get_or}
 use Rattle.hz_base_model.proofs.Elements.{Contains-nil, Contains-head, Contains-tail, Contains-cons_cases, Contains-map, Contains-from_map}
 use Rattle.hz_altern_model.specs.Alternatives.{Expression}
-use Rattle.hz_check_model.specs.CheckFaults.{Standing, first_told, told_at, faults_of_names, second_definitions, unknown_names, unit_sites, reservation_sites, reservation_site, is_unit, is_reservable, unknown_in_expression, sites_of, unknown_in_condition, automaton_sites, class_sites, attribute_sites, repeated_values, is_class, names_of_bypass, names_of_set}
+use Rattle.hz_check_model.specs.CheckFaults.{CheckFault, faults_of_names, second_definitions, unknown_names, unit_sites, reservation_sites, is_unit, is_reservable, unknown_in_expression, sites_of, unknown_in_condition, automaton_sites, class_sites, attribute_sites, repeated_values, is_class, names_of_bypass, names_of_set}
+use Rattle.hz_check_model.specs.CountingOrder.{reservation_site}
+use Rattle.hz_check_model.specs.FirstTold.{Standing, first_told, told_at}
 use Rattle.hz_altern_model.specs.NamesIn.{names_in}
 use Rattle.hz_mdread_model.specs.Descriptions.{Description, UnitItem, ReservationItem, ClassItem}
 use Rattle.hz_mdread_model.specs.DescriptionShape.{IsCheckable, IsCheckableReservation, IsForm, define_cpu_unit, define_reservation}
@@ -76,16 +78,16 @@ none_earliest (s ∷ sites) h = absurd (some_first s (earliest sites) h)
     some_first s None e = absurd (cc)
     some_first s (Some t) e = cond_both (nat_le s.form t.form) (Some s) (Some t) (λ (o : Option Site). o ≡ None → ⊥) (λ _ g. absurd (cc)) (λ _ g. absurd (cc)) e
 
-pub none_standing : (s : Standing) (others : List Standing) → first_told (s ∷ others) ≡ None → (s.sites ≡ []) × (first_told others ≡ None)
+pub none_standing : (s : Standing CheckFault) (others : List (Standing CheckFault)) → first_told (s ∷ others) ≡ None → (s.sites ≡ []) × (first_told others ≡ None)
 none_standing s others h = by_site (earliest s.sites) refl h
   where
     by_site : (o : Option Site) → earliest s.sites ≡ o → told_at s.fault o (first_told others) ≡ None → (s.sites ≡ []) × (first_told others ≡ None)
     by_site None e g = (none_earliest s.sites e, g)
     by_site (Some site) e g = absurd (cc)
 
-pub standing_at : (all : List Standing) → first_told all ≡ None → (i : ℕ) (s : Standing) → slice_get all i ≡ Some s → s.sites ≡ []
+pub standing_at : (all : List (Standing CheckFault)) → first_told all ≡ None → (i : ℕ) (s : Standing CheckFault) → slice_get all i ≡ Some s → s.sites ≡ []
 standing_at [] h i s e = absurd (cc)
-standing_at (t ∷ all) h zero s e = let same : t ≡ s = cc in subst (λ (x : Standing). x.sites ≡ []) same (none_standing t all h).0
+standing_at (t ∷ all) h zero s e = let same : t ≡ s = cc in subst (λ (x : Standing CheckFault). x.sites ≡ []) same (none_standing t all h).0
 standing_at (t ∷ all) h (suc i) s e = standing_at all (none_standing t all h).1 i s e
 
 pub append_nil_parts : {A : Type 0} (xs ys : List A) → xs ++ ys ≡ [] → (xs ≡ []) × (ys ≡ [])

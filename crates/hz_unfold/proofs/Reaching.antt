@@ -10,7 +10,8 @@ use Rattle.hz_check_model.proofs.PlaceLaws.{from_filter_map}
 use Rattle.hz_altern_model.proofs.MentionLaws.{listed_from_mentions, mentions_from_listed}
 use Rattle.hz_altern_model.specs.Alternatives.{Expression}
 use Rattle.hz_altern_model.specs.Automata.{UnitPlace}
-use Rattle.hz_check_model.specs.CheckFaults.{Reserving, reservations_of, classes_of, IsCircular, IsFirst}
+use Rattle.hz_check_model.specs.CheckFaults.{IsCircular, IsFirst}
+use Rattle.hz_check_model.specs.CountingOrder.{Reserving, reservations_of, classes_of}
 use Rattle.hz_altern_model.specs.NamesIn.{names_in}
 use Rattle.hz_mdread_model.specs.Descriptions.{Description, ReservationItem}
 use Rattle.hz_check_model.specs.Places.{meaning, unit_or_reservation, unit_place, unit_places, reservation_named}

@@ -7,7 +7,7 @@ use Rattle.hz_altern_model.specs.Alternatives as expression
 use Rattle.hz_mdread.specs.declared.items.ClassItem.{ClassItem}
 use Rattle.hz_mdread.specs.declared.items.ReservationItem.{ReservationItem}
 use Rattle.hz_mdread.specs.Shape.{class_item, reservation_item}
-use Rattle.hz_check_model.specs.CheckFaults.{Reserving, reserving_reservation, reserving_class, reservations_of, classes_of, IsCountingOrder}
+use Rattle.hz_check_model.specs.CountingOrder.{Reserving, reserving_reservation, reserving_class, reservations_of, classes_of, IsCountingOrder}
 use Rattle.hz_altern_model.specs.NamesIn.{names_in}
 use Rattle.hz_mdread_model.specs.Descriptions.{Description}
 use Rattle.hz_base_model.specs.Lines.{place_of}

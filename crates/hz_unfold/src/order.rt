@@ -2,7 +2,8 @@
 
 ghost use Rattle.std.specs.Prelude.{◌≡◌, ◌+◌, ◌<◌, ◌^◌, IfErr, IfOk, None, OnOk, vec_len};
 ghost use Rattle.hz_mdread.specs.Shape.{description as description_of};
-ghost use Rattle.hz_check_model.specs.CheckFaults.{faults_of_names, first_told};
+ghost use Rattle.hz_check_model.specs.CheckFaults.{faults_of_names};
+ghost use Rattle.hz_check_model.specs.FirstTold.{first_told};
 ghost use Rattle.hz_mdread_model.specs.DescriptionShape.{IsCheckable};
 ghost use Rattle.hz_check_model.specs.Places.{meaning};
 ghost use Rattle.hz_altern_model.specs.Meanings.{Unwinds};

@@ -3,7 +3,7 @@ use Rattle.std.specs.Str.{bytes_eq}
 use Rattle.hz_mdread.specs.Shape.{unit_item, reservation_item}
 use Rattle.hz_check.proofs.Earliest.{IsOf, joined}
 use Rattle.hz_check.proofs.Next.{map-map}
-use Rattle.hz_check_model.specs.CheckFaults.{reservation_site}
+use Rattle.hz_check_model.specs.CountingOrder.{reservation_site}
 use Rattle.hz_check_model.specs.Sites.{earliest}
 use Rattle.hz_check.proofs.reserved.reserved_name.Goals as goal
 

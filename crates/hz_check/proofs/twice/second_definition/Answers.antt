@@ -3,7 +3,8 @@ use Rattle.std.specs.List.{flat_map}
 use Rattle.hz_mdread.specs.Shape.{description, automaton_item, unit_item, reservation_item, class_item, attribute_item}
 use Rattle.hz_unfold.specs.Places.{told}
 use Rattle.hz_check.specs.Twice.{is_given}
-use Rattle.hz_check_model.specs.CheckFaults.{unit_sites, reservation_sites, reservation_site, repeated_values}
+use Rattle.hz_check_model.specs.CheckFaults.{unit_sites, reservation_sites, repeated_values}
+use Rattle.hz_check_model.specs.CountingOrder.{reservation_site}
 use Rattle.hz_check_model.specs.Sites.{Site, earliest, is_preceded}
 use Rattle.hz_check.proofs.Earliest.{IsOf, joined}
 use Rattle.hz_check.proofs.Next.{map-map, flat_map-map}

@@ -4,7 +4,7 @@ use Rattle.hz_altern.specs.Tables.{extent_in}
 use Rattle.hz_expand.specs.Past.{AreCountable, TellsBehind}
 use Rattle.hz_expand.proofs.Pasts.{countable, of_classes, of_reservations, past_all, same_items}
 use Rattle.hz_mdread.specs.Shape.{description, class_item, reservation_item}
-use Rattle.hz_check_model.specs.CheckFaults.{Reserving, reserving_class, reserving_reservation, reservations_of, classes_of}
+use Rattle.hz_check_model.specs.CountingOrder.{Reserving, reserving_class, reserving_reservation, reservations_of, classes_of}
 use Rattle.hz_expand.proofs.extents.past_extents.Goals as goal
 
 pub past_among-classes-requires : goal.past_among-classes-requires

@@ -1,7 +1,7 @@
 use Rattle.std.proofs.Common.{◌≡◌, ◌-◌, ◌<◌, length, sym, ap, ◌∙◌, arith}
 use Rattle.std.proofs.lemmas.List.{length-map, length-append, get_or_append_left, get_or-append_right, get_or-map}
 use Rattle.hz_mdread.specs.Shape.{class_item, description, reservation_item}
-use Rattle.hz_check_model.specs.CheckFaults.{reserving_class, reserving_reservation, reservations_of, classes_of}
+use Rattle.hz_check_model.specs.CountingOrder.{reserving_class, reserving_reservation, reservations_of, classes_of}
 use Rattle.hz_unfold.specs.Orders.{nothing_reserved}
 use Rattle.hz_expand.proofs.reserving.reserving_at.Goals as goal
 
