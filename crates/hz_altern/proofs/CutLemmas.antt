@@ -9,6 +9,7 @@ use Rattle.std.proofs.lemmas.Bool.Decides.{nat_tests}
 use Rattle.std.proofs.lemmas.List.{map-append, take_more}
 use Rattle.std.proofs.lemmas.List.Elements.{All-filter, All-map, All-contains, Contains-get_or, filter_passes}
 use Rattle.std.proofs.lemmas.List.Kept.{AllPairs-filter}
+use Rattle.hz_base_model.specs.Limits.{cycle_limit, unit_limit}
 use Rattle.hz_grid.specs.Grids.{IsGrid, HoldsJust, Precedes as PrecedesInside}
 use Rattle.hz_grid.proofs.Pairs.{Precedes_asymmetric, same_grids}
 use Rattle.hz_altern.specs.declared.alternative.Alt.{Alt}
@@ -55,17 +56,17 @@ module _ (automaton : ℕ) (ps : List (Pair UnitPlace)) where
   before_inside p q both = before_numbers p.cycle q.cycle p.unit.automaton q.unit.automaton p.unit.unit q.unit.unit both.before (both.first ∙ sym both.second)
 
   -- the pairs that are cut out are a grid
-  pub cut_grid : IsAscending ps → All (λ p. p.unit.unit < 128) ps → All (λ p. p.cycle < 256) ps → IsGrid (map inside those)
+  pub cut_grid : IsAscending ps → All (λ p. p.unit.unit < unit_limit) ps → All (λ p. p.cycle < cycle_limit) ps → IsGrid (map inside those)
   cut_grid up units cycles = record {
     ascending = AllPairs-map Both PrecedesInside inside before_inside (pair_at 0 0 0) those (both_pairs up);
-    units = All-map (λ q. q.unit < 128) inside those (All-filter (is_of automaton) (λ p. p.unit.unit < 128) ps units);
-    cycles = All-map (λ q. q.cycle < 256) inside those (All-filter (is_of automaton) (λ p. p.cycle < 256) ps cycles);
+    units = All-map (λ q. q.unit < unit_limit) inside those (All-filter (is_of automaton) (λ p. p.unit.unit < unit_limit) ps units);
+    cycles = All-map (λ q. q.cycle < cycle_limit) inside those (All-filter (is_of automaton) (λ p. p.cycle < cycle_limit) ps cycles);
   }
 
 -- The cut of pairs, which may stand in any order and several times.
-module _ (automaton : ℕ) (ps : List (Pair UnitPlace)) (units : All (λ p. p.unit.unit < 128) ps) (cycles : All (λ p. p.cycle < 256) ps) where
+module _ (automaton : ℕ) (ps : List (Pair UnitPlace)) (units : All (λ p. p.unit.unit < unit_limit) ps) (cycles : All (λ p. p.cycle < cycle_limit) ps) where
   pub cut_is_grid : IsGrid (cut automaton ps)
-  cut_is_grid = cut_grid automaton (ascending ps) (IsAscending-ascending ps) (All-ascending (λ p. p.unit.unit < 128) ps units) (All-ascending (λ p. p.cycle < 256) ps cycles)
+  cut_is_grid = cut_grid automaton (ascending ps) (IsAscending-ascending ps) (All-ascending (λ p. p.unit.unit < unit_limit) ps units) (All-ascending (λ p. p.cycle < cycle_limit) ps cycles)
 
   -- it has the pairs of the automaton's units
   in_cut : (p : Pair ℕ) → Contains (map inside (filter (is_of automaton) ps)) p → Contains (cut automaton ps) p

@@ -3,6 +3,7 @@ use Rattle.std.proofs.Common.{◌≡◌, ◌<◌, ◌≤◌, min, List, [], ◌�
 use Rattle.std.proofs.lemmas.Bool.{lt-ltb, le-ltb}
 use Rattle.std.proofs.lemmas.List.{length-map}
 use Rattle.std.proofs.lemmas.List.Sums.{sum_by-append}
+use Rattle.hz_base_model.specs.Limits.{alternative_limit, cycle_limit, size_limit}
 use Rattle.hz_altern.specs.declared.fault.AlternFault.{AlternFault}
 use Rattle.hz_altern.specs.declared.fault.AlternFault.TheVariants.{AlternativesLimit, CyclesLimit, SizeLimit, NoMemory}
 use Rattle.hz_altern.specs.declared.measure.Extent.{Extent}
@@ -23,37 +24,37 @@ total_listed (x ∷ xs) = omega (arith, weight-cons (listed x) (map listed xs), 
 
 -- what an extent tells of alternatives
 module _ (all : List (Alternative UnitPlace)) (extent : Extent) (is : told extent ≡ extent_of all) where
-  count_is : extent.count ≡ min (length all) 4097
+  count_is : extent.count ≡ min (length all) (alternative_limit + 1)
   count_is = ap (λ e. e.count) is
 
-  longest_is : extent.longest ≡ min (greatest_length all) 257
+  longest_is : extent.longest ≡ min (greatest_length all) (cycle_limit + 1)
   longest_is = ap (λ e. e.longest) is
 
-  pub many : 4096 < extent.count → excess_of all ≡ Some too_many
+  pub many : alternative_limit < extent.count → excess_of all ≡ Some too_many
   many h =
-      let over : 4096 < length all = omega (arith, count_is) in
-      rw (lt-ltb 4096 (length all) over) refl
+      let over : alternative_limit < length all = omega (arith, count_is) in
+      rw (lt-ltb alternative_limit (length all) over) refl
 
-  pub few : extent.count ≤ 4096 → length all ≤ 4096
+  pub few : extent.count ≤ alternative_limit → length all ≤ alternative_limit
   few h = omega (arith, count_is)
 
-  pub short : extent.longest ≤ 256 → greatest_length all ≤ 256
+  pub short : extent.longest ≤ cycle_limit → greatest_length all ≤ cycle_limit
   short h = omega (arith, longest_is)
 
-  pub long : extent.count ≤ 4096 → 256 < extent.longest → excess_of all ≡ Some too_long
+  pub long : extent.count ≤ alternative_limit → cycle_limit < extent.longest → excess_of all ≡ Some too_long
   long h k =
-      let over : 256 < greatest_length all = omega (arith, longest_is) in
-      rw (le-ltb 4096 (length all) (few h), lt-ltb 256 (greatest_length all) over) refl
+      let over : cycle_limit < greatest_length all = omega (arith, longest_is) in
+      rw (le-ltb alternative_limit (length all) (few h), lt-ltb cycle_limit (greatest_length all) over) refl
 
 -- alternatives that are few and short
-module _ (all : List (Alternative UnitPlace)) (few_all : length all ≤ 4096) (short_all : greatest_length all ≤ 256) where
-  large : 2097152 < total_size all → excess_of all ≡ Some too_large
-  large h = rw (le-ltb 4096 (length all) few_all, le-ltb 256 (greatest_length all) short_all, lt-ltb 2097152 (total_size all) h) refl
+module _ (all : List (Alternative UnitPlace)) (few_all : length all ≤ alternative_limit) (short_all : greatest_length all ≤ cycle_limit) where
+  large : size_limit < total_size all → excess_of all ≡ Some too_large
+  large h = rw (le-ltb alternative_limit (length all) few_all, le-ltb cycle_limit (greatest_length all) short_all, lt-ltb size_limit (total_size all) h) refl
 
-  pub within : total_weight (map listed all) ≤ 2097152 → excess_of all ≡ None
+  pub within : total_weight (map listed all) ≤ size_limit → excess_of all ≡ None
   within h =
-      let size : total_size all ≤ 2097152 = omega (arith, total_listed all) in
-      rw (le-ltb 4096 (length all) few_all, le-ltb 256 (greatest_length all) short_all, le-ltb 2097152 (total_size all) size) refl
+      let size : total_size all ≤ size_limit = omega (arith, total_listed all) in
+      rw (le-ltb alternative_limit (length all) few_all, le-ltb cycle_limit (greatest_length all) short_all, le-ltb size_limit (total_size all) size) refl
 
   pub refused : (fault : AlternFault) → Refuses (map listed all) fault → Expands all (Err fault)
   refused AlternativesLimit never = absurd never
@@ -67,6 +68,6 @@ module _ (all : List (Alternative UnitPlace)) (few_all : length all ≤ 4096) (s
     few = simp length-map few_all;
     each = λ k d lt.
         let is = all_listed all placed k d lt in
-        let cycles : greatest_length (map listed all) ≤ 256 = omega (arith, greatest-listed all) in
-        record { placed = is.placed; short = length_within 256 (map listed all) cycles k d lt; ascending = is.ascending };
+        let cycles : greatest_length (map listed all) ≤ cycle_limit = omega (arith, greatest-listed all) in
+        record { placed = is.placed; short = length_within cycle_limit (map listed all) cycles k d lt; ascending = is.ascending };
   }

@@ -4,6 +4,7 @@ use Rattle.std.proofs.lemmas.List.{length-map}
 use Rattle.std.proofs.lemmas.Bool.{and_parts, leb-true}
 use Rattle.std.proofs.Common.{true, take, drop, Option, Some, subst, length-drop, length-take}
 use Rattle.std.specs.Prelude.{IsTrue}
+use Rattle.hz_base_model.specs.Limits.{alternative_limit, cycle_limit}
 use Rattle.hz_regexp.specs.declared.expr.Expr.{Expr}
 use Rattle.hz_regexp.specs.Shape.{expressions}
 use Rattle.hz_altern.specs.declared.mark.Mark.{Mark}
@@ -23,24 +24,24 @@ use Rattle.hz_altern_model.proofs.ExpressionLaws.{length-each_choice, count_copi
 extent_from : (xs : List (Alternative UnitPlace)) (count longest : ℕ) → length xs ≡ count → greatest_length xs ≡ longest → extent_of xs ≡ cut_extent count longest
 extent_from xs count longest e f = ap (λ n. cut_extent n (greatest_length xs)) e ∙ ap (cut_extent count) f
 
-same_extent : (a b c d : ℕ) → min a 4097 ≡ min c 4097 → min b 257 ≡ min d 257 → cut_extent a b ≡ cut_extent c d
+same_extent : (a b c d : ℕ) → min a (alternative_limit + 1) ≡ min c (alternative_limit + 1) → min b (cycle_limit + 1) ≡ min d (cycle_limit + 1) → cut_extent a b ≡ cut_extent c d
 same_extent a b c d e f = cc
 
 pub extent-joined : (mark : Mark) (xs ys : List (Alternative UnitPlace)) → 0 < length xs → 0 < length ys → extent_of (joined_lists mark xs ys) ≡ joined_extents mark (extent_of xs) (extent_of ys)
 extent-joined Comma xs ys h k =
     extent_from (each_choice followed_by xs ys) _ _ (length-each_choice followed_by xs ys) (greatest-followed xs ys h k)
-    ∙ same_extent _ _ _ _ (sym (cut_product 4097 (length xs) (length ys) (omega arith) h k)) (omega arith)
+    ∙ same_extent _ _ _ _ (sym (cut_product (alternative_limit + 1) (length xs) (length ys) (omega arith) h k)) (omega arith)
 extent-joined Bar xs ys h k =
     extent_from (xs ++ ys) _ _ (length-append xs ys) (greatest-append xs ys)
     ∙ same_extent _ _ _ _ (omega arith) (omega arith)
 extent-joined Plus xs ys h k =
     extent_from (each_choice beside xs ys) _ _ (length-each_choice beside xs ys) (greatest-beside xs ys h k)
-    ∙ same_extent _ _ _ _ (sym (cut_product 4097 (length xs) (length ys) (omega arith) h k)) (omega arith)
+    ∙ same_extent _ _ _ _ (sym (cut_product (alternative_limit + 1) (length xs) (length ys) (omega arith) h k)) (omega arith)
 
 pub extent-copies : (n : ℕ) (xs : List (Alternative UnitPlace)) → 1 ≤ n → 0 < length xs → extent_of (copies n xs) ≡ repeated_extent n (extent_of xs)
 extent-copies n xs k h =
     extent_from (copies n xs) _ _ (count_copies n xs) (greatest-copies n xs h)
-    ∙ same_extent _ _ _ _ (sym (cut_power 4097 (length xs) n (omega arith) h k)) (sym (cut_times 257 (greatest_length xs) n k))
+    ∙ same_extent _ _ _ _ (sym (cut_power (alternative_limit + 1) (length xs) n (omega arith) h k)) (sym (cut_times (cycle_limit + 1) (greatest_length xs) n k))
 
 -- what an extent says of the parts of a list, for each assignment that is held right
 abbrev pub Measures : Mark → (List ℕ → Option Extent) → List Expr → Extent → Type 0

@@ -8,6 +8,7 @@ use Rattle.hz_regexp.specs.declared.expr.Expr.{Expr}
 use Rattle.hz_regexp.specs.declared.expr.Expr.TheVariants.{Repeat}
 use Rattle.std.specs.declared.alloc.Global.{Global}
 use Rattle.std.specs.declared.boxed.Box.{Box}
+use Rattle.hz_base_model.specs.Limits.{cycle_limit}
 use Rattle.hz_altern.proofs.Shapes.{repeat_is}
 use Rattle.hz_altern.proofs.PartLemmas.{only_one}
 use Rattle.hz_regexp.specs.Shape.{expression, expressions}
@@ -69,16 +70,16 @@ pub record Halved (known : Known) (mark : Mark) (ps front back : List Expr) : Ty
   pub formed_back : IsTrue (are_expressions (parts_of (expressions back)))
   pub named_front : IsTrue (all_names_in (is_held (alternatives_in known)) (parts_of (expressions front)))
   pub named_back : IsTrue (all_names_in (is_held (alternatives_in known)) (parts_of (expressions back)))
-  pub short_front : greatest_length (of_parts mark known front) ≤ 256
-  pub short_back : greatest_length (of_parts mark known back) ≤ 256
+  pub short_front : greatest_length (of_parts mark known front) ≤ cycle_limit
+  pub short_back : greatest_length (of_parts mark known back) ≤ cycle_limit
   pub listed_front : All IsListed (map listed (of_parts mark known front))
   pub listed_back : All IsListed (map listed (of_parts mark known back))
   pub all : map listed (of_parts mark known ps) ≡ listed_lists mark (map listed (of_parts mark known front)) (map listed (of_parts mark known back))
-  pub short : greatest_length (listed_lists mark (map listed (of_parts mark known front)) (map listed (of_parts mark known back))) ≤ 256
+  pub short : greatest_length (listed_lists mark (map listed (of_parts mark known front)) (map listed (of_parts mark known back))) ≤ cycle_limit
   pub refused_front : (fault : AlternFault) → Refuses (map listed (of_parts mark known front)) fault → Refuses (map listed (of_parts mark known ps)) fault
   pub refused_back : (fault : AlternFault) → Refuses (map listed (of_parts mark known back)) fault → Refuses (map listed (of_parts mark known ps)) fault
 
-pub halved : (known : Known) (mark : Mark) (ps front back : List Expr) → front ≡ take (length ps / 2) ps → back ≡ drop (length ps / 2) ps → (length ps / 2 ≡ 0 → ⊥) → IsTrue (are_expressions (parts_of (expressions ps))) → IsTrue (all_names_in (is_held (alternatives_in known)) (parts_of (expressions ps))) → greatest_length (of_parts mark known ps) ≤ 256 → Halved known mark ps front back
+pub halved : (known : Known) (mark : Mark) (ps front back : List Expr) → front ≡ take (length ps / 2) ps → back ≡ drop (length ps / 2) ps → (length ps / 2 ≡ 0 → ⊥) → IsTrue (are_expressions (parts_of (expressions ps))) → IsTrue (all_names_in (is_held (alternatives_in known)) (parts_of (expressions ps))) → greatest_length (of_parts mark known ps) ≤ cycle_limit → Halved known mark ps front back
 halved known mark ps front back e f several formed named short =
     let pieces = cut_in_two ps front back e f several in
     let test = is_held (alternatives_in known) in
@@ -125,10 +126,10 @@ pub record Single (known : Known) (mark : Mark) (ps : List Expr) (p : Expr) : Ty
   pub formed : IsTrue (is_expression (expression p))
   pub named : IsTrue (all_names (is_held (alternatives_in known)) (expression p))
   pub same : of_parts mark known ps ≡ alternatives_of (known_alternatives known) (expression p)
-  pub short : greatest_length (alternatives_of (known_alternatives known) (expression p)) ≤ 256
+  pub short : greatest_length (alternatives_of (known_alternatives known) (expression p)) ≤ cycle_limit
   pub counted : all_nodes ps ≡ nodes p
 
-pub single : (known : Known) (mark : Mark) (ps : List Expr) (p : Expr) → 0 < length ps → length ps / 2 ≡ 0 → p ≡ get_or ps 0 p → IsTrue (are_expressions (parts_of (expressions ps))) → IsTrue (all_names_in (is_held (alternatives_in known)) (parts_of (expressions ps))) → greatest_length (of_parts mark known ps) ≤ 256 → Single known mark ps p
+pub single : (known : Known) (mark : Mark) (ps : List Expr) (p : Expr) → 0 < length ps → length ps / 2 ≡ 0 → p ≡ get_or ps 0 p → IsTrue (are_expressions (parts_of (expressions ps))) → IsTrue (all_names_in (is_held (alternatives_in known)) (parts_of (expressions ps))) → greatest_length (of_parts mark known ps) ≤ cycle_limit → Single known mark ps p
 single known mark ps p some few item formed named short =
     let is = only_one ps p (omega arith) some item in
     let same = ap (of_parts mark known) is ∙ joined_parts-one mark (known_alternatives known) (expression p) in
@@ -136,7 +137,7 @@ single known mark ps p some few item formed named short =
       formed = (and_parts _ _ (subst (λ qs. IsTrue (are_expressions (parts_of (expressions qs)))) is formed)).0;
       named = (and_parts _ _ (subst (λ qs. IsTrue (all_names_in (is_held (alternatives_in known)) (parts_of (expressions qs)))) is named)).0;
       same = same;
-      short = subst (λ ws. greatest_length ws ≤ 256) same short;
+      short = subst (λ ws. greatest_length ws ≤ cycle_limit) same short;
       counted = ap all_nodes is ∙ add-zero (nodes p);
     }
 
@@ -149,12 +150,12 @@ pub record Repeated (known : Known) (e : Expr) (part : Expression) (times : ℕ)
   pub some : 0 < length (map listed (alternatives_of (known_alternatives known) part))
   pub times_some : 1 ≤ times
   pub listed_part : All IsListed (map listed (alternatives_of (known_alternatives known) part))
-  pub short_part : greatest_length (alternatives_of (known_alternatives known) part) ≤ 256
+  pub short_part : greatest_length (alternatives_of (known_alternatives known) part) ≤ cycle_limit
   pub all : map listed (alternatives_of (known_alternatives known) (expression e)) ≡ copies times (map listed (alternatives_of (known_alternatives known) part))
-  pub short : greatest_length (copies times (map listed (alternatives_of (known_alternatives known) part))) ≤ 256
+  pub short : greatest_length (copies times (map listed (alternatives_of (known_alternatives known) part))) ≤ cycle_limit
   pub refused : (fault : AlternFault) → Refuses (map listed (alternatives_of (known_alternatives known) part)) fault → Refuses (map listed (alternatives_of (known_alternatives known) (expression e))) fault
 
-pub repeated : (known : Known) (e : Expr) (box : Box Expr Global) (times : ℕ) → e ≡ Repeat box times → IsTrue (is_expression (expression e)) → IsTrue (all_names (is_held (alternatives_in known)) (expression e)) → greatest_length (alternatives_of (known_alternatives known) (expression e)) ≤ 256 → Repeated known e (expression box.value) times
+pub repeated : (known : Known) (e : Expr) (box : Box Expr Global) (times : ℕ) → e ≡ Repeat box times → IsTrue (is_expression (expression e)) → IsTrue (all_names (is_held (alternatives_in known)) (expression e)) → greatest_length (alternatives_of (known_alternatives known) (expression e)) ≤ cycle_limit → Repeated known e (expression box.value) times
 repeated known e box times variant formed named short =
     let part = expression box.value in
     let is : expression e ≡ repeat part times = ap expression variant ∙ repeat_is box times in
@@ -171,14 +172,14 @@ repeated known e box times variant formed named short =
     let some' : 0 < length (map listed xs) = simp length-map some in
     let each = all_listed xs placed in
     let long = ap greatest_length whole in
-    let short_copies : greatest_length (copies times (map listed xs)) ≤ 256 = subst (λ ws. greatest_length ws ≤ 256) all (omega (arith, greatest-listed (alternatives_of (known_alternatives known) (expression e)))) in
+    let short_copies : greatest_length (copies times (map listed xs)) ≤ cycle_limit = subst (λ ws. greatest_length ws ≤ cycle_limit) all (omega (arith, greatest-listed (alternatives_of (known_alternatives known) (expression e)))) in
     record {
       formed = inner.0;
       named = named';
       some = some';
       times_some = low;
       listed_part = each;
-      short_part = omega (arith, greatest-listed xs, subst (λ ws. greatest_length ws ≤ 256) (copies_one (map listed xs)) (copies_short (map listed xs) some' each 1 times 256 low short_copies));
+      short_part = omega (arith, greatest-listed xs, subst (λ ws. greatest_length ws ≤ cycle_limit) (copies_one (map listed xs)) (copies_short (map listed xs) some' each 1 times cycle_limit low short_copies));
       all = all;
       short = short_copies;
       refused = λ fault no. subst (λ ws. Refuses ws fault) (sym all) (copies_refused (map listed xs) some' each 1 times fault (omega arith) low (subst (λ ws. Refuses ws fault) (sym (copies_one (map listed xs))) no));

@@ -2,6 +2,7 @@
 use Rattle.std.proofs.Common.{◌≡◌, ℕ, zero, suc, ◌+◌, ◌*◌, ◌<◌, ◌≤◌, max, List, [], ◌∷◌, ◌++◌, length, map, take, get_or, All, refl, sym, ap, ◌∙◌, arith}
 use Rattle.std.proofs.lemmas.List.{map-append, take_more}
 use Rattle.std.proofs.lemmas.List.Elements.{All-head, All-tail, All-nil, All-cons}
+use Rattle.hz_base_model.specs.Limits.{cycle_limit}
 use Rattle.hz_altern.specs.declared.alternative.Alt.{Alt}
 use Rattle.hz_altern.specs.Shapes.{alternatives, alternative_of}
 use Rattle.hz_altern_model.specs.Alternatives.{Alternative, followed_by, beside, each_choice, copies}
@@ -82,5 +83,5 @@ pub greatest_runs : (xs : List (Alternative UnitPlace)) → 0 < length xs → Al
 greatest_runs [] h each = absurd (omega arith)
 greatest_runs (x ∷ xs) h each = let runs = (All-head IsSound x xs each).placed.runs in omega arith
 
-pub greatest_sound : (xs : List (Alternative UnitPlace)) → All IsSound xs → greatest_length xs ≤ 256
-greatest_sound xs each = greatest_within 256 xs (λ k d lt. (each k d lt).short)
+pub greatest_sound : (xs : List (Alternative UnitPlace)) → All IsSound xs → greatest_length xs ≤ cycle_limit
+greatest_sound xs each = greatest_within cycle_limit xs (λ k d lt. (each k d lt).short)

@@ -2,6 +2,7 @@
 use Rattle.std.proofs.Common.{◌/◌, ◌%◌, ◌≡◌, ℕ, zero, suc, ◌+◌, ◌-◌, ◌<◌, ◌≤◌, List, length, All, sym, ap, ◌∙◌, subst, arith, ⊎_elim}
 use Rattle.std.proofs.lemmas.Bool.{cases_lt}
 use Rattle.std.proofs.Math.Nat.{mul-le-mul_left}
+use Rattle.hz_base_model.specs.Limits.{cycle_limit}
 use Rattle.hz_altern.specs.declared.fault.AlternFault.{AlternFault}
 use Rattle.hz_altern.specs.declared.joining.Joining.TheVariants.{InSequence}
 use Rattle.hz_altern.specs.Answers.{total_weight, Refuses}
@@ -85,24 +86,24 @@ module _ (xs : List (Alternative UnitPlace)) (some : 0 < length xs) (each : All 
 -- Half of the copies, twice that, and for an odd number one more.
 pub record Halves (xs : List (Alternative UnitPlace)) (n : ℕ) : Type 0 where
   pub listed_half : All IsListed (copies (n / 2) xs)
-  pub short_half : greatest_length (copies (n / 2) xs) ≤ 256
+  pub short_half : greatest_length (copies (n / 2) xs) ≤ cycle_limit
   pub refused_half : (fault : AlternFault) → Refuses (copies (n / 2) xs) fault → Refuses (copies n xs) fault
   pub listed_even : All IsListed (each_choice (joined_by InSequence) (copies (n / 2) xs) (copies (n / 2) xs))
-  pub short_even : greatest_length (each_choice (joined_by InSequence) (copies (n / 2) xs) (copies (n / 2) xs)) ≤ 256
+  pub short_even : greatest_length (each_choice (joined_by InSequence) (copies (n / 2) xs) (copies (n / 2) xs)) ≤ cycle_limit
   pub refused_even : (fault : AlternFault) → Refuses (each_choice (joined_by InSequence) (copies (n / 2) xs) (copies (n / 2) xs)) fault → Refuses (copies n xs) fault
   pub all_even : n % 2 ≡ 0 → each_choice (joined_by InSequence) (copies (n / 2) xs) (copies (n / 2) xs) ≡ copies n xs
   pub all_odd : (n % 2 ≡ 0 → ⊥) → each_choice (joined_by InSequence) (each_choice (joined_by InSequence) (copies (n / 2) xs) (copies (n / 2) xs)) xs ≡ copies n xs
 
-pub copies_halved : (xs : List (Alternative UnitPlace)) (n : ℕ) → 0 < length xs → All IsListed xs → 1 ≤ n → (n ≡ 1 → ⊥) → greatest_length (copies n xs) ≤ 256 → Halves xs n
+pub copies_halved : (xs : List (Alternative UnitPlace)) (n : ℕ) → 0 < length xs → All IsListed xs → 1 ≤ n → (n ≡ 1 → ⊥) → greatest_length (copies n xs) ≤ cycle_limit → Halves xs n
 copies_halved xs n some each low several short =
     let h = n / 2 in
     let even = twice xs some each h in
     record {
       listed_half = listed_copies h xs (omega arith) each;
-      short_half = copies_short xs some each h n 256 (omega arith) short;
+      short_half = copies_short xs some each h n cycle_limit (omega arith) short;
       refused_half = λ fault. copies_refused xs some each h n fault (omega arith) (omega arith);
       listed_even = subst (All IsListed) (sym even) (listed_copies (h + h) xs (omega arith) each);
-      short_even = subst (λ ws. greatest_length ws ≤ 256) (sym even) (copies_short xs some each (h + h) n 256 (omega arith) short);
+      short_even = subst (λ ws. greatest_length ws ≤ cycle_limit) (sym even) (copies_short xs some each (h + h) n cycle_limit (omega arith) short);
       refused_even = λ fault no. copies_refused xs some each (h + h) n fault (omega arith) (omega arith) (subst (λ ws. Refuses ws fault) even no);
       all_even = λ e. let all : h + h ≡ n = omega arith in even ∙ ap (λ m. copies m xs) all;
       all_odd = λ e.

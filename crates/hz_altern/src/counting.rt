@@ -82,9 +82,8 @@ fn measured_parts<T: Held>(parts: &[Expr], mark: Mark, table: &T) -> Extent
     measured_parts(front, mark, table).joined(mark, measured_parts(back, mark, table))
 }
 
-/// The number of the alternatives of a well-formed expression, with 4,097 for every number above 4,096, and for how many
-/// cycles the longest runs, with 257 for every number above 256. Each name is held with the extent of its own
-/// alternatives. It takes no memory.
+/// The number of the alternatives of a well-formed expression, and for how many cycles the longest runs: each number above
+/// its limit is told as the limit and one. Each name is held with the extent of its own alternatives. It takes no memory.
 pub fn extent(expr: &Expr, known: &Extents) -> Extent
     requires formed { IsTrue (is_expression (expression expr.now)) }
     requires held { IsTrue (all_names (is_held (extent_in known.now)) (expression expr.now)) }

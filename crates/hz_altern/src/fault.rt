@@ -11,14 +11,14 @@ use thiserror::Error;
 /// Why an expression is not expanded: the first limit that its alternatives pass, in this order.
 #[derive(Clone, Copy, Debug, PartialEq, Eq, Error)]
 pub enum AlternFault {
-    /// There are more than 4,096.
-    #[error("more than 4096 alternatives")]
+    /// There are more than `ALTERNATIVE_LIMIT`.
+    #[error("too many alternatives")]
     AlternativesLimit,
-    /// One is longer than 256 cycles.
-    #[error("an alternative of more than 256 cycles")]
+    /// One is longer than `CYCLE_LIMIT`.
+    #[error("an alternative of too many cycles")]
     CyclesLimit,
-    /// Their cycles and pairs are more than 2,097,152 together.
-    #[error("more than 2097152 cycles and pairs")]
+    /// Their cycles and pairs are more than `SIZE_LIMIT` together.
+    #[error("too many cycles and pairs")]
     SizeLimit,
     /// Memory ran out.
     #[error("out of memory")]

@@ -48,7 +48,7 @@ impl Known {
     }
 
     /// Makes a name known that is not known: it stands for a unit of an automaton, which is taken for one cycle. The
-    /// automaton is below 16 and the unit below 128. `NoMemory` leaves what is known as it was.
+    /// automaton and the unit are below their limits. `NoMemory` leaves what is known as it was.
     pub fn add_unit(&mut self, name: &Name, automaton: u8, unit: u8) -> Result<(), NoMemory>
         requires new { alternatives_in self.old name.now ≡ None }
         requires automaton { automaton < automaton_limit }
@@ -69,9 +69,9 @@ impl Known {
         self.add_reservation(name, alts)
     }
 
-    /// Makes a name known that is not known: it stands for a reservation with these alternatives, which are sound: 1 to
-    /// 4,096, each of 1 to 256 cycles, its pairs ascending, within its cycles, and of units below 128 of automata below 16.
-    /// `NoMemory` leaves what is known as it was.
+    /// Makes a name known that is not known: it stands for a reservation with these alternatives, which are sound: at
+    /// least one, each of at least one cycle, their number and cycles within their limits, its pairs ascending, within its
+    /// cycles, and of units and automata below their limits. `NoMemory` leaves what is known as it was.
     pub fn add_reservation(&mut self, name: &Name, alts: Vec<Alt>) -> Result<(), NoMemory>
         requires new { alternatives_in self.old name.now ≡ None }
         requires sound { AreSound (alternatives alts.items) }

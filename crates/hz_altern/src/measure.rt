@@ -1,6 +1,7 @@
 //! How many alternatives there are, and how long the longest is.
 
-ghost use Rattle.std.specs.Prelude.{◌≤◌};
+ghost use Rattle.std.specs.Prelude.{◌≤◌, ◌+◌};
+ghost use Rattle.hz_base_model.specs.Limits.{alternative_limit, cycle_limit};
 
 use crate::mark::Mark;
 use hz_grid::CYCLES;
@@ -11,16 +12,16 @@ pub const ALTERNATIVE_LIMIT: u32 = 4096;
 /// For so many cycles may an alternative run. This profile, docs/RULES.md, 'Limits'.
 pub const CYCLE_LIMIT: u32 = CYCLES as u32;
 
-/// How many alternatives there are, 4,097 for any number above 4,096, and for how many cycles the longest runs, 257 for
-/// any number above 256.
+/// How many alternatives there are, and for how many cycles the longest runs: each number above its limit is told as the
+/// limit and one.
 #[derive(Clone, Copy, Debug, PartialEq, Eq)]
 pub struct Extent {
     pub count: u32,
     pub longest: u32,
     ghost some: { 1 ≤ count },
-    ghost few: { count ≤ 4097 },
+    ghost few: { count ≤ alternative_limit + 1 },
     ghost runs: { 1 ≤ longest },
-    ghost short: { longest ≤ 257 },
+    ghost short: { longest ≤ cycle_limit + 1 },
 }
 
 impl Extent {

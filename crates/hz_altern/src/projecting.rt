@@ -58,8 +58,8 @@ fn is_new(seen: &mut IndexSet<Vec<(u8, u16)>>, pairs: Vec<(u8, u16)>) -> Result<
     Ok(new)
 }
 
-/// What alternatives take of the units of an automaton, in their order, each later equal grid dropped. Units are below 128
-/// and cycles below 256; pairs may stand in any order. `NoMemory` where there was none.
+/// What alternatives take of the units of an automaton, in their order, each later equal grid dropped. Units are below
+/// `UNITS` and cycles below `CYCLES` of `hz_grid`; pairs may stand in any order. `NoMemory` where there was none.
 pub fn project(alloc: Global, alts: &[Alt], automaton: u8) -> Result<Vec<Grid>, NoMemory>
     requires { All IsCuttable (alternatives alts.now) }
     ensures { IfOk result (λ grids. grids.items ≡ list_in automaton (alternatives alts.now)) }

@@ -9,6 +9,7 @@ use Rattle.std.proofs.lemmas.List.Sums.{sum_by-append}
 use Rattle.std.specs.List.{AllPairs, drop-map}
 use Rattle.std.specs.Str.{bytes_eq}
 use Rattle.std.specs.Prelude.{count_by}
+use Rattle.hz_base_model.specs.Limits.{unit_limit}
 use Rattle.hz_mdread.specs.declared.items.UnitItem.{UnitItem as StoredUnit}
 use Rattle.hz_mdread.specs.Shape.{unit_item}
 use Rattle.hz_expand.specs.declared.places.UnitPlace.{UnitPlace as Place}
@@ -45,7 +46,7 @@ earlier_units : (s : Site) (units : List UnitItem) (places : List UnitPlace) →
 earlier_units s [] places all = refl
 earlier_units s (u ∷ units) [] all = refl
 earlier_units s (u ∷ units) (p ∷ places) all =
-    told_before s u (past_units units places) (nat_lt p.unit 128) (all 0 u (omega arith)) (earlier_units s units places (λ k d lt. all (suc k) d (omega arith)))
+    told_before s u (past_units units places) (nat_lt p.unit unit_limit) (all 0 u (omega arith)) (earlier_units s units places (λ k d lt. all (suc k) d (omega arith)))
 
 number_in : (n : ℕ) (o : Option ℕ) → 0 < n → ((i : ℕ) → o ≡ Some i → i < n) → unwrap_or o 0 < n
 number_in n None some below = some
@@ -103,23 +104,23 @@ module _ (d : Description) (items : List StoredUnit) (i : ℕ) (item : StoredUni
 
     -- the units past the limit, by the first of those that are left
     units_now : past_units (map unit_item (drop i items)) (places_behind d (map unit_item (take i items)) (map unit_item (drop i items)))
-        ≡ cond (nat_lt (place_behind d (map unit_item (take i items)) (unit_item item)).unit 128) later_units (here ∷ later_units)
+        ≡ cond (nat_lt (place_behind d (map unit_item (take i items)) (unit_item item)).unit unit_limit) later_units (here ∷ later_units)
     units_now =
         ap (λ (xs : List StoredUnit). past_units (map unit_item xs) (places_behind d (map unit_item (take i items)) (map unit_item (drop i items)))) (drop_next items i item is lt)
         ∙ ap (past_units (map unit_item (item ∷ drop (i + 1) items))) behind_now
 
     -- a unit within the limit
-    pub within_next : (all : List Site) → get_or counts number 0 < 128 → all ≡ past_units (map unit_item (drop i items)) (places_behind d (map unit_item (take i items)) (map unit_item (drop i items)))
+    pub within_next : (all : List Site) → get_or counts number 0 < unit_limit → all ≡ past_units (map unit_item (drop i items)) (places_behind d (map unit_item (take i items)) (map unit_item (drop i items)))
         → all ≡ past_units (map unit_item (drop (i + 1) items)) (places_behind d (map unit_item (take (i + 1) items)) (map unit_item (drop (i + 1) items)))
     within_next all below kept =
-        kept ∙ (units_now ∙ ap (λ (b : Bool). cond b later_units (here ∷ later_units)) (ap (λ (q : UnitPlace). nat_lt q.unit 128) place_here ∙ lt-ltb (get_or counts number 0) 128 below))
+        kept ∙ (units_now ∙ ap (λ (b : Bool). cond b later_units (here ∷ later_units)) (ap (λ (q : UnitPlace). nat_lt q.unit unit_limit) place_here ∙ lt-ltb (get_or counts number 0) unit_limit below))
 
     -- a unit past the limit
-    pub past_here : (all : List Site) → 128 ≤ get_or counts number 0 → AllPairs (λ u v. u.form ≤ v.form) (map unit_item items)
+    pub past_here : (all : List Site) → unit_limit ≤ get_or counts number 0 → AllPairs (λ u v. u.form ≤ v.form) (map unit_item items)
         → all ≡ past_units (map unit_item (drop i items)) (places_behind d (map unit_item (take i items)) (map unit_item (drop i items)))
         → earliest all ≡ Some (record { line = item.line; form = item.form; name = item.name })
     past_here all past ordered kept =
-        ap earliest (kept ∙ (units_now ∙ ap (λ (b : Bool). cond b later_units (here ∷ later_units)) (ap (λ (q : UnitPlace). nat_lt q.unit 128) place_here ∙ le-ltb (get_or counts number 0) 128 past)))
+        ap earliest (kept ∙ (units_now ∙ ap (λ (b : Bool). cond b later_units (here ∷ later_units)) (ap (λ (q : UnitPlace). nat_lt q.unit unit_limit) place_here ∙ le-ltb (get_or counts number 0) unit_limit past)))
         ∙ earlier_units here (map unit_item (drop (i + 1) items)) (places_behind d (map unit_item (take (i + 1) items)) (map unit_item (drop (i + 1) items)))
         (AllPairs-head (λ u v. u.form ≤ v.form) (unit_item item) (map unit_item (drop (i + 1) items))
         (subst (λ (us : List UnitItem). AllPairs (λ u v. u.form ≤ v.form) us) (drop-map unit_item i items ∙ ap (map unit_item) (drop_next items i item is lt)) (AllPairs-drop (λ u v. u.form ≤ v.form) i (map unit_item items) ordered)))

@@ -31,7 +31,7 @@ pub struct Checked {
 #[derive(Drop)]
 pub struct CheckedAutomaton {
     pub name: Name,
-    /// At most 128 units, by their numbers.
+    /// At most `UNITS` of `hz_grid`, by their numbers.
     pub units: Vec<Name>,
     /// The sets on its units.
     pub sets: Vec<SetRule>,

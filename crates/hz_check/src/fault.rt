@@ -7,20 +7,20 @@ use hz_regexp::Name;
 use std::alloc::{AllocError, AllocFailed};
 use thiserror::Error;
 
-/// A limit of a description.
+/// What a limit of a description counts. This profile, docs/RULES.md, 'Limits'.
 #[derive(Clone, Copy, Debug, PartialEq, Eq)]
 pub enum LimitName {
-    /// 16 automata.
+    /// Automata.
     Automata,
-    /// 128 units of one automaton.
+    /// Units of one automaton.
     Units,
-    /// 1,024 classes.
+    /// Classes.
     Classes,
-    /// 4,096 alternatives of a class or of a reservation.
+    /// Alternatives of a class or of a reservation.
     Alternatives,
-    /// 256 cycles of an alternative.
+    /// Cycles of an alternative.
     Cycles,
-    /// 2,097,152 cycles and pairs of all alternatives together.
+    /// Cycles and pairs of all alternatives together.
     Size,
 }
 

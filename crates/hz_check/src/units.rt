@@ -27,7 +27,7 @@ pub(crate) fn unit_places<'a>(
     ensures { IfOk result (λ places. MatchResult places (λ v. ArePlaces (description names.now.desc.now) v.items) (λ s. IsPast (description names.now.desc.now) (site_of s))) }
 {
     let desc = names.desc;
-    let mut counts = [0u8; AUTOMATA];
+    let mut counts = [0u16; AUTOMATA];
     let mut places = Vec::new(alloc);
     for unit in &desc.units {
         let number = names.automaton_number(unit);

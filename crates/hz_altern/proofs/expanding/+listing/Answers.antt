@@ -1,6 +1,7 @@
 use Rattle.std.proofs.Common.{◌≡◌, ◌+◌, ◌≤◌, map, Some, All, sym, ap, ◌∙◌, subst, rules}
 use Rattle.std.specs.Prelude.{IsTrue}
 use Rattle.std.proofs.lemmas.Result.{err_from_is_err_and}
+use Rattle.hz_base_model.specs.Limits.{cycle_limit}
 use Rattle.hz_regexp.specs.Shape.{expression}
 use Rattle.hz_altern.specs.Joinings.{IsListed}
 use Rattle.hz_altern.specs.Shapes.{alternatives}
@@ -97,7 +98,7 @@ listing-listing-requires t c =
     let rep = repeated c.args.known.now c.args.expr.now c.in-Repeat.part c.in-Repeat.times c.in-Repeat.is c.requires.formed c.requires.known c.requires.short in
     let formed : IsTrue (is_expression (expression c.deref-in-Repeat.result.now)) = rw c.deref-in-Repeat.ensures rep.formed in
     let known : IsTrue (all_names (is_held (alternatives_in c.args.known.now)) (expression c.deref-in-Repeat.result.now)) = rw c.deref-in-Repeat.ensures rep.named in
-    let short : greatest_length (alternatives_of (known_alternatives c.args.known.now) (expression c.deref-in-Repeat.result.now)) ≤ 256 = rw c.deref-in-Repeat.ensures rep.short_part in
+    let short : greatest_length (alternatives_of (known_alternatives c.args.known.now) (expression c.deref-in-Repeat.result.now)) ≤ cycle_limit = rw c.deref-in-Repeat.ensures rep.short_part in
     let counted : nodes c.args.expr.now ≡ nodes c.in-Repeat.part.value + 1 = ap nodes c.in-Repeat.is ∙ nodes_of_repeat c.in-Repeat.part c.in-Repeat.times in
     let same = ap nodes c.deref-in-Repeat.ensures in
     search rules

@@ -1,5 +1,6 @@
 use Rattle.std.proofs.Common.{ap, ◌∙◌}
 use Rattle.std.proofs.lemmas.Result.{err_from_is_err_and}
+use Rattle.hz_base_model.specs.Limits.{cycle_limit}
 use Rattle.hz_altern.specs.Joinings.{joined_by}
 use Rattle.hz_altern.specs.Shapes.{alternative_of}
 use Rattle.hz_altern.proofs.Weights.{item_listed, item_short, refused_so_far}
@@ -9,7 +10,7 @@ pub joined-requires-clause-second : goal.joined-requires-clause-second
 joined-requires-clause-second c = item_listed c.args.seconds.now c.loop-second.second-index c.second-item.result c.loop-second-test.true c.second-item.is c.requires.seconds
 
 pub joined-requires-clause-short : goal.joined-requires-clause-short
-joined-requires-clause-short c = item_short (joined_by c.args.joining (alternative_of c.args.first.now)) 256 c.args.seconds.now c.loop-second.second-index c.second-item.result c.loop-second-test.true c.second-item.is c.requires.short
+joined-requires-clause-short c = item_short (joined_by c.args.joining (alternative_of c.args.first.now)) cycle_limit c.args.seconds.now c.loop-second.second-index c.second-item.result c.loop-second-test.true c.second-item.is c.requires.short
 
 pub returns-in_err-push-clause-err : goal.returns-in_err-push-clause-err
 returns-in_err-push-clause-err c =

@@ -1,4 +1,5 @@
 use Rattle.std.proofs.Common.{◌≡◌, ◌<◌, map, filter}
+use Rattle.hz_base_model.specs.Limits.{cycle_limit, unit_limit}
 use Rattle.hz_altern.specs.Cuts.{within_pairs}
 use Rattle.hz_altern.specs.Shapes.{pairs_of}
 use Rattle.hz_altern.proofs.CutLemmas.{cut_is_grid, each_found, grid_is, pairs_are}
@@ -9,13 +10,13 @@ pub of-requires-clause-units : goal.of-requires-clause-units
 of-requires-clause-units c =
     let ps = pairs_of c.args.alt.now.pairs.items in
     let taken : within_pairs c.in_ok-pairs.pairs.items ≡ map inside (filter (is_of c.args.automaton) ps) = rw c.deref.ensures.value at c.in_ok-pairs.ensures in
-    rw c.deref-2.ensures.value (each_found c.args.automaton ps c.requires.units c.requires.cycles c.in_ok-pairs.pairs.items c.put_in_order.new.pairs.items taken c.put_in_order.ensures.same (λ p. p.unit < 128) (cut_is_grid c.args.automaton ps c.requires.units c.requires.cycles).units)
+    rw c.deref-2.ensures.value (each_found c.args.automaton ps c.requires.units c.requires.cycles c.in_ok-pairs.pairs.items c.put_in_order.new.pairs.items taken c.put_in_order.ensures.same (λ p. p.unit < unit_limit) (cut_is_grid c.args.automaton ps c.requires.units c.requires.cycles).units)
 
 pub of-requires-clause-cycles : goal.of-requires-clause-cycles
 of-requires-clause-cycles c =
     let ps = pairs_of c.args.alt.now.pairs.items in
     let taken : within_pairs c.in_ok-pairs.pairs.items ≡ map inside (filter (is_of c.args.automaton) ps) = rw c.deref.ensures.value at c.in_ok-pairs.ensures in
-    rw c.deref-2.ensures.value (each_found c.args.automaton ps c.requires.units c.requires.cycles c.in_ok-pairs.pairs.items c.put_in_order.new.pairs.items taken c.put_in_order.ensures.same (λ p. p.cycle < 256) (cut_is_grid c.args.automaton ps c.requires.units c.requires.cycles).cycles)
+    rw c.deref-2.ensures.value (each_found c.args.automaton ps c.requires.units c.requires.cycles c.in_ok-pairs.pairs.items c.put_in_order.new.pairs.items taken c.put_in_order.ensures.same (λ p. p.cycle < cycle_limit) (cut_is_grid c.args.automaton ps c.requires.units c.requires.cycles).cycles)
 
 pub returns-clause-pairs : goal.returns-clause-pairs
 returns-clause-pairs c =
