@@ -1,5 +1,5 @@
 -- Which limit alternatives pass, and what is answered for them.
-use Rattle.std.proofs.Common.{◌≡◌, ◌<◌, ◌≤◌, min, List, [], ◌∷◌, length, map, All, Some, None, Err, refl, ap, arith}
+use Rattle.std.proofs.Common.{◌≡◌, ◌<◌, ◌≤◌, min, List, [], ◌∷◌, length, map, All, Some, None, Err, refl, ap, arith, ◌+◌}
 use Rattle.std.proofs.lemmas.Bool.{lt-ltb, le-ltb}
 use Rattle.std.proofs.lemmas.List.{length-map}
 use Rattle.std.proofs.lemmas.List.Sums.{sum_by-append}

@@ -4,7 +4,7 @@ use Rattle.std.proofs.lemmas.List.{append-nil}
 use Rattle.std.specs.List.{flat_map}
 use Rattle.hz_sexp_model.specs.Trees.{Tree, Trees, none, more, line_of, joined}
 use Rattle.hz_mdread_model.specs.Descriptions.{Description, no_items}
-use Rattle.hz_mdread_model.specs.DescriptionForms.{DescriptionFault, Said, IsReading, Addition, automata, units, reservation, class, bypass, set, options, attribute, and_then, at_line, form_says, forms_say, form_count, with_addition, Reads, FaultAt}
+use Rattle.hz_mdread_model.specs.DescriptionForms.{DescriptionFault, Said, Addition, automata, units, reservation, class, bypass, set, options, attribute, and_then, at_line, form_says, forms_say, form_count, with_addition, Reads, FaultAt}
 use Rattle.hz_mdread_model.specs.AddedItems.{Add, nothing, adds, added_automata, added_units, added_reservations, added_classes, added_bypasses, added_sets, added_attributes, HasItems, StandsBehind}
 use Rattle.hz_mdread_model.proofs.DescriptionFormed.{then_ok}
 

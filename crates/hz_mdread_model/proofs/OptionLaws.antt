@@ -1,18 +1,18 @@
 -- An option of a description stands exactly where some form has it.
-use Rattle.std.proofs.Common.{◌≡◌, ℕ, ◌+◌, ◌⊎◌, inl, inr, ⊎_elim, Bool, true, false, cond, List, [], ◌∷◌, ◌++◌, Contains, Option, Some, None, Result, Ok, Err, refl, sym, ap, ◌∙◌, subst}
+use Rattle.std.proofs.Common.{◌≡◌, ℕ, ◌+◌, ◌⊎◌, inl, inr, ⊎_elim, Bool, true, false, cond, List, [], ◌∷◌, Contains, Option, Some, None, Result, Ok, refl, sym, ap, ◌∙◌, subst}
 use Rattle.std.specs.Prelude.{◌||◌, codes, IsTrue, ◌↔◌}
-use Rattle.std.specs.Option.{option_and_then, option_map, ok_or}
+use Rattle.std.specs.Option.{option_map, ok_or}
 use Rattle.std.specs.Str.{bytes_eq}
 use Rattle.std.proofs.Math.Bool.{or-true, or-false}
 use Rattle.std.proofs.lemmas.Bool.{or_cases}
 use Rattle.std.proofs.lemmas.Slice.Eq.{bytes_eq-Decides}
 use Rattle.hz_base_model.specs.Lines.{separated}
 use Rattle.hz_base_model.proofs.Elements.{Contains-nil, Contains-head, Contains-tail, Contains-cons_cases}
-use Rattle.hz_sexp_model.specs.Trees.{Tree, Trees, list, vector, atom, quoted, number, none, more, line_of}
+use Rattle.hz_sexp_model.specs.Trees.{Tree, Trees, list, atom, quoted, none, more, line_of}
 use Rattle.hz_mdread_model.specs.Descriptions.{Options, Description, no_options, no_items}
 use Rattle.hz_mdread_model.specs.DescriptionShape.{FormKind, define_automaton, define_cpu_unit, define_reservation, define_insn_reservation, define_bypass, automata_option, define_attr, set_form}
 use Rattle.hz_altern_model.specs.Sets.{SetKind}
-use Rattle.hz_mdread_model.specs.DescriptionForms.{set_of, DescriptionFault, bad_shape, bad_condition, unknown_form, name_in, names_in, set_patterns, limited_number, fallback_in, condition_in, expression_in, unknown_option, Said, Addition, automata, units, reservation, class, bypass, set, options, attribute, and_then, at_line, headed, kind_of, form_of_kind, form_says, forms_say, with_addition, with_option, with_options, all_options, kept, is_silent, quoted_bytes, shaped, options_form, Reads}
+use Rattle.hz_mdread_model.specs.DescriptionForms.{set_of, DescriptionFault, bad_shape, bad_condition, unknown_form, name_in, names_in, set_patterns, limited_number, fallback_in, condition_in, expression_in, unknown_option, Said, Addition, automata, units, reservation, class, bypass, set, options, attribute, at_line, headed, kind_of, form_of_kind, form_says, forms_say, with_addition, with_option, with_options, all_options, is_silent, quoted_bytes, shaped, options_form, Reads}
 use Rattle.hz_mdread_model.specs.AddedItems.{Among, IsOption, HasOption, HasOptions}
 use Rattle.hz_mdread_model.proofs.DescriptionFormed.{then_ok, or_ok, then_some, kept_some}
 use Rattle.hz_mdread_model.proofs.AddedLaws.{line_ok}

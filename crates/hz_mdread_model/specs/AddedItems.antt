@@ -1,11 +1,11 @@
 -- What the forms of a file add, one by one: what a description that is read has, said of each of its lists and options,
 -- and where a fault stands. Laws: `items_are_what_forms_add`, `options_stand_in_forms`, `faults_stand_behind_a_front`.
-use Rattle.std.specs.Prelude.{◌≡◌, ◌↔◌, ◌⊎◌, ℕ, ◌+◌, ◌==◌, List, [], ◌∷◌, codes, Ok, Err, IsTrue}
+use Rattle.std.specs.Prelude.{◌≡◌, ◌↔◌, ◌⊎◌, ℕ, ◌+◌, List, [], ◌∷◌, codes, Ok, Err, IsTrue}
 use Rattle.std.specs.List.{Contains, flat_map}
 use Rattle.hz_base_model.specs.Lines.{separated}
 use Rattle.hz_sexp_model.specs.Trees.{Tree, Trees, list, atom, quoted, none, more, line_of, joined}
 use Rattle.hz_mdread_model.specs.Descriptions.{AutomatonItem, UnitItem, ReservationItem, ClassItem, BypassItem, SetItem, AttributeItem, Options, Description}
-use Rattle.hz_mdread_model.specs.DescriptionForms.{Said, IsReading, DescriptionFault, Addition, automata, units, reservation, class, bypass, set, options, attribute, form_says, form_count, Reads}
+use Rattle.hz_mdread_model.specs.DescriptionForms.{Said, DescriptionFault, Addition, automata, units, reservation, class, bypass, set, attribute, form_says, form_count, Reads}
 
 -- Each form says what it adds, where the first has this number in the file.
 pub data Add (read : List ℕ → Said) : (n : ℕ) (forms : Trees) (additions : List Addition) → Type 0 where

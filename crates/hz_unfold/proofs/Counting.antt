@@ -7,7 +7,7 @@ use Rattle.std.proofs.lemmas.Option.{slice_get-map}
 use Rattle.std.specs.Option.{option_map}
 use Rattle.hz_base_model.proofs.Elements.{Contains-nil, Contains-head, Contains-tail, Contains-cons_cases}
 use Rattle.hz_check_model.specs.CountingOrder.{Reserving, reserving_reservation, reserving_class, reservations_of, classes_of, named_by, has_come, reservation_names, Counted, IsCountingOrder}
-use Rattle.hz_check_model.specs.CheckFaults as model
+use Rattle.hz_check_model.specs.CountingOrder as model
 use Rattle.hz_mdread_model.specs.Descriptions.{Description, ReservationItem}
 use Rattle.hz_check_model.specs.Sites.{is_among}
 use Rattle.hz_unfold.specs.Graphs.{At, IsOnce, Visited, ends, came, comes}

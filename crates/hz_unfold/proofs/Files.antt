@@ -3,9 +3,8 @@ use Rattle.std.proofs.Common.{◌≡◌, ◌≢◌, ℕ, suc, ◌+◌, ◌<◌, 
 use Rattle.std.proofs.lemmas.Bool.{cases_eq}
 use Rattle.std.proofs.lemmas.List.{append_assoc, get_or_at, length-append}
 use Rattle.hz_base_model.proofs.Elements.{Contains-nil, Contains-head, Contains-tail, Contains-cons_cases}
-use Rattle.hz_check_model.specs.CheckFaults.{no_first, no_second}
-use Rattle.hz_check_model.specs.CountingOrder.{Reserving, Merged}
-use Rattle.hz_check_model.specs.CheckFaults as model
+use Rattle.hz_check_model.specs.CountingOrder.{Reserving, Merged, no_first, no_second}
+use Rattle.hz_check_model.specs.CountingOrder as model
 use Rattle.hz_unfold.specs.Orders.{Numbered, done, last_first, last_second, from_first, from_second}
 
 -- numbers from one on stand for these
