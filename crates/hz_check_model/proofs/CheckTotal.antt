@@ -131,8 +131,8 @@ module _ (d : Description) where
         (cases_order u.form r.form)
 
     -- a name is not that of a unit and of a reservation
-    apart : (name : List ℕ) (r : ReservationItem) → reservation_named d name ≡ Some r → unit_place d name ≡ None
-    apart name r is = by_unit (unit_place d name) refl
+    pub no_unit : (name : List ℕ) (r : ReservationItem) → reservation_named d name ≡ Some r → unit_place d name ≡ None
+    no_unit name r is = by_unit (unit_place d name) refl
       where
         by_unit : (o : Option UnitPlace) → unit_place d name ≡ o → o ≡ None
         by_unit None e = refl
@@ -157,7 +157,7 @@ module _ (d : Description) where
         let r = Contains-from_map (λ (r : ReservationItem). r.name) d.reservations name (leads_listed (meaning d) names listed name name h) in
         All-contains (λ r. IsCircular d r → ⊥) d.reservations r.0 none r.1 (subst (λ (n : List ℕ). Reaches (meaning d) n n) (sym r.2) h) in
         let falling = unwinds (meaning d) names listed no_circle in
-        let order = some_order d falling apart (suc (length names)) (λ name. let low = rank_low (meaning d) names listed no_circle name in omega arith) in
+        let order = some_order d falling no_unit (suc (length names)) (λ name. let low = rank_low (meaning d) names listed no_circle name in omega arith) in
         judged (assigned (meaning d) falling) (record { unwinds = falling; expands = assigned_right (meaning d) falling }) order.0 order.1
 
   pub sound_or_fault : IsCheckable d → Judged d

@@ -20,7 +20,7 @@ use Rattle.std.proofs.lemmas.Slice.Eq.{bytes_eq-Decides}
 use Rattle.hz_altern_model.specs.Alternatives.{Alternative, idle, followed_by, beside, taking, Expression, alternatives_of}
 use Rattle.hz_altern_model.specs.Automata.{cut, ascending, is_of, inside, without_repeats, same_pair, UnitPlace, list_in}
 use Rattle.hz_check_model.specs.CheckFaults.{names_of_set, has_too_long, is_unit, is_reservable, unknown_in_expression, unknown_in_condition, is_class, names_of_bypass, has_too_many, CheckFault, IsSound, faults_of_names, faults_of_meanings, automaton_sites, unit_sites, reservation_sites, class_sites, attribute_sites, repeated_values, past_units, differs, renumbered, renumbered_behind, sites_of}
-use Rattle.hz_check_model.specs.CountingOrder.{reserving_class, classes_of, reservations_of, Reserving}
+use Rattle.hz_check_model.specs.CountingOrder.{reserving_class, classes_of, reservations_of, reservation_site, Reserving}
 use Rattle.hz_check_model.specs.FirstTold.{Told, Standing, first_told, told_at}
 use Rattle.hz_altern_model.specs.NamesIn.{names_in}
 use Rattle.hz_check_model.specs.CheckedParts.{statements_in, class_numbers, AutomatonParts, ClassParts, BypassParts, automaton_names, automaton_count, units_in, automaton_parts, automata_from, automata_of, lists_of, class_parts, bypass_parts, attributes_of}
@@ -517,6 +517,20 @@ module _ (d : Description) where
       (λ (is : is_reservable d name ≡ true). is)
       (λ (other : is_reservable d name ≡ false). absurd (none (Contains-filter (λ n. not (is_reservable d n)) name (ap not other) (names_in e) (listed_from_mentions e name h))))
       (cases_Bool (is_reservable d name)))
+
+  -- no two reservations have one name, and no two classes
+  pub names_apart : first_told (faults_of_names d) ≡ None → AllPairs (λ a b. a ≢ b) (map (λ (r : ReservationItem). r.name) d.reservations) × AllPairs (λ a b. a ≢ b) (map (λ (s : Reserving). s.site.name) (classes_of d))
+  names_apart free =
+      let none = none_stands (faults_of_names d) free 0 (record { fault = CheckFault.twice_defined; sites = [] }) (omega arith) in
+      let empty = five_empty (repeated [] [] (automaton_sites d)) (repeated (reservation_sites d) [] (unit_sites d)) (repeated (unit_sites d) [] (reservation_sites d)) (repeated [] [] (class_sites d)) (repeated [] [] (attribute_sites d)) (flat_map repeated_values d.attributes) none in (
+        (apart reservation_site (unit_sites d) [] d.reservations empty.0).1,
+        subst (λ (names : List (List ℕ)). AllPairs (λ a b. a ≢ b) names) (sym (map-map (λ (s : Reserving). s.site.name) reserving_class d.classes)) ((apart class_site [] [] d.classes empty.1).1),
+      )
+    where
+      five_empty : (a b c e f g : List Site) → a ++ b ++ c ++ e ++ f ++ g ≡ [] → (c ≡ []) × (e ≡ [])
+      five_empty a b c e f g h =
+          let four = front_empty (a ++ b ++ c ++ e) f (front_empty (a ++ b ++ c ++ e ++ f) g h) in
+          (back_empty (a ++ b) c (front_empty (a ++ b ++ c) e four), back_empty (a ++ b ++ c) e four)
 
   module _ (known : Known) (formed : IsCheckable d) (sound : IsSound d known) where
     known_placed : (name : List ℕ) → AreAllOf InPlace (known name)

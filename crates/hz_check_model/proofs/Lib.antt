@@ -6,3 +6,4 @@ pub mod KeptLaws
 pub mod PlaceLaws
 pub mod CheckTotal
 pub mod ToldLaws
+pub mod OnceLaws

@@ -1,7 +1,7 @@
 -- What is told behind what stands before: names given twice, units past their limit, sizes, and numbers of bypasses.
-use Rattle.std.proofs.Common.{◌≡◌, ◌≢◌, ℕ, zero, suc, ◌+◌, ◌<◌, ◌≤◌, ◌⊎◌, inl, inr, ⊎_elim, Bool, true, false, cond, nat_lt, List, [], ◌∷◌, ◌++◌, length, map, filter, Contains, Option, Some, None, slice_get, refl, sym, ap, ◌∙◌, subst, arith, append_assoc, length-append}
-use Rattle.std.specs.Prelude.{◌||◌, ◌&&◌, ◌==◌, ◌↔◌, not, IsTrue, count_by}
-use Rattle.std.specs.List.{list_any, sum_by, flat_map}
+use Rattle.std.proofs.Common.{◌≡◌, ◌≢◌, ℕ, ◌+◌, ◌<◌, ◌≤◌, ◌⊎◌, inl, inr, ⊎_elim, Bool, true, false, cond, nat_lt, List, [], ◌∷◌, ◌++◌, length, filter, Contains, Some, slice_get, refl, sym, ap, ◌∙◌, subst, arith, append_assoc}
+use Rattle.std.specs.Prelude.{◌||◌, ◌&&◌, ◌==◌, ◌↔◌, not}
+use Rattle.std.specs.List.{list_any, sum_by}
 use Rattle.std.specs.Str.{bytes_eq}
 use Rattle.std.proofs.lemmas.Bool.{or_cases, ltb-true, ltb-false, lt-ltb, eqb-true, eq-eqb}
 use Rattle.std.proofs.Math.Bool.{or-true}
@@ -11,10 +11,10 @@ use Rattle.std.proofs.lemmas.List.Sums.{sum_by-append}
 use Rattle.std.proofs.lemmas.List.Elements.{Contains-append_left, Contains-append_right, Contains-append_cases}
 use Rattle.hz_base_model.specs.Limits.{unit_limit, size_limit}
 use Rattle.hz_base_model.proofs.Elements.{Contains-nil, Contains-head, Contains-tail, Contains-cons_cases, Contains-filter, Contains-from_filter, Contains-map, Contains-from_map}
-use Rattle.hz_altern_model.specs.Automata.{UnitPlace, total_size}
+use Rattle.hz_altern_model.specs.Automata.{total_size}
 use Rattle.hz_mdread_model.specs.Descriptions.{Description, UnitItem, BypassItem}
 use Rattle.hz_check_model.specs.Sites.{Site, is_among, is_preceded, repeated}
-use Rattle.hz_check_model.specs.Places.{automaton_number, automaton_numbers, place_behind, places_behind, unit_places, Known}
+use Rattle.hz_check_model.specs.Places.{automaton_number, place_behind, places_behind, unit_places, Known}
 use Rattle.hz_check_model.specs.CheckFaults.{past_units, differs, renumbered, renumbered_behind, second_numbers}
 use Rattle.hz_check_model.specs.CountingOrder.{Reserving, alternatives_in, past_size}
 use Rattle.hz_check_model.specs.ToldPlaces.{ToldBehind, ends, tells, passes, StandsBefore, units_beside, IsPastUnits, unit_site, size_together, PassesSize, IsRenumbered, TellsSecondNumber}

@@ -1,9 +1,10 @@
 //! Laws of what can be wrong with a description.
 
-ghost use Rattle.std.specs.Prelude.{◌≡◌, ◌≤◌, ◌↔◌, ◌⊎◌, List, [], ◌∷◌, ◌++◌, length, slice_get, map, All, Contains, Some, None};
+ghost use Rattle.std.specs.Prelude.{◌≡◌, ◌≢◌, ◌≤◌, ◌↔◌, ◌⊎◌, List, [], ◌∷◌, ◌++◌, length, slice_get, map, All, Contains, Some, None};
+ghost use Rattle.std.specs.List.{AllPairs};
 ghost use Rattle.hz_base_model.specs.Limits.{size_limit};
-ghost use Rattle.hz_check_model.specs.CheckFaults.{CheckFault, CheckFaultAt, IsSound, IsFirst, past_units, second_numbers};
-ghost use Rattle.hz_check_model.specs.CountingOrder.{Reserving, past_size};
+ghost use Rattle.hz_check_model.specs.CheckFaults.{CheckFault, CheckFaultAt, IsSound, IsFirst, IsUnfolded, past_units, second_numbers};
+ghost use Rattle.hz_check_model.specs.CountingOrder.{Reserving, past_size, reservations_of, classes_of};
 ghost use Rattle.hz_check_model.specs.Places.{automaton_number, unit_places, Known};
 ghost use Rattle.hz_check_model.specs.ToldPlaces.{ToldBehind, StandsBefore, IsPastUnits, unit_site, units_beside, PassesSize, size_together, TellsSecondNumber};
 ghost use Rattle.hz_check_model.specs.CheckedParts.{automata_of, class_parts, bypass_parts, attributes_of};
@@ -57,6 +58,13 @@ pub fn units_past_their_limit_are_told()
 /// A unit's number is the number of the units of its automaton before it.
 pub fn places_count_units_before()
     ensures { (d : Description) (before after : List UnitItem) (u : UnitItem) → d.units ≡ before ++ u ∷ after → slice_get (unit_places d) (length before) ≡ Some (record { automaton = automaton_number d u.automaton; unit = units_beside d before u }) }
+{}
+
+/// Each reservation and each class counts once, however often it is used: the counting order has each of them, no other,
+/// and none of them twice.
+pub fn each_counts_once()
+    ensures once { (d : Description) (known : Known) (order : List Reserving) → IsCheckable d → IsUnfolded d known order → AllPairs (λ a b. a ≢ b) order }
+    ensures all { (d : Description) (known : Known) (order : List Reserving) → IsCheckable d → IsUnfolded d known order → (r : Reserving) → Contains order r ↔ (Contains (reservations_of d) r ⊎ Contains (classes_of d) r) }
 {}
 
 /// The size is told exactly at the first item with which the sum of sizes passes its limit, where items count in this order;
