@@ -17,9 +17,10 @@ use Rattle.hz_altern_model.specs.Meanings.{Meaning, unit, reservation, Mentions,
 use Rattle.hz_altern_model.specs.Sets.{Statement}
 use Rattle.hz_acceptance_model.specs.Replay.{Class, alternatives_at, of_class}
 use Rattle.hz_mdread_model.specs.Descriptions.{Description, AutomatonItem, UnitItem, ReservationItem, ClassItem, SetItem}
-use Rattle.hz_check_model.specs.CheckFaults.{Known, Told, Standing, CheckFault, IsSound, first_told, told_at, faults_of_meanings, sites_of, units_of_patterns, names_of_set, home, same_home, strangers, sets_across_automata}
+use Rattle.hz_check_model.specs.CheckFaults.{CheckFault, IsSound, faults_of_meanings, sites_of, units_of_patterns, names_of_set, home, same_home, strangers, sets_across_automata}
+use Rattle.hz_check_model.specs.FirstTold.{Told, Standing, first_told, told_at}
 use Rattle.hz_check_model.specs.CheckedParts.{automaton_count}
-use Rattle.hz_check_model.specs.Places.{automaton_number, place_behind, places_behind, unit_places, unit_place, reservation_named, unit_or_reservation, meaning, places_of, statement_of, IsKnown}
+use Rattle.hz_check_model.specs.Places.{automaton_number, place_behind, places_behind, unit_places, unit_place, reservation_named, unit_or_reservation, meaning, places_of, statement_of, IsKnown, Known}
 use Rattle.hz_check_model.specs.Sites.{Site, earliest}
 use Rattle.hz_pipeline_model.specs.Pipelines.{class_of, pipeline_with}
 use Rattle.hz_base_model.proofs.Elements.{Contains-nil, Contains-cons_cases, Contains-map, Contains-from_map, Contains-filter}
@@ -33,11 +34,11 @@ use Rattle.hz_factoring_model.proofs.RankLaws.{ranks, ranks_low}
 use Rattle.hz_factoring_model.proofs.SideBySide.{IsJoint}
 
 -- where nothing is told, no fault stands anywhere
-told_none : (fault : CheckFault) (o : Option Site) (otherwise : Option Told) → told_at fault o otherwise ≡ None → (o ≡ None) × (otherwise ≡ None)
+told_none : (fault : CheckFault) (o : Option Site) (otherwise : Option (Told CheckFault)) → told_at fault o otherwise ≡ None → (o ≡ None) × (otherwise ≡ None)
 told_none fault None otherwise e = (refl, e)
 told_none fault (Some s) otherwise e = absurd (none-some _ (sym e))
 
-none_stands : (standings : List Standing) → first_told standings ≡ None → All (λ s. s.sites ≡ []) standings
+none_stands : (standings : List (Standing CheckFault)) → first_told standings ≡ None → All (λ s. s.sites ≡ []) standings
 none_stands [] e = All-nil (λ s. s.sites ≡ [])
 none_stands (s ∷ others) e =
     let here = told_none s.fault (earliest s.sites) (first_told others) e in

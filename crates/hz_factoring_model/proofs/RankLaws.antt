@@ -5,8 +5,7 @@ use Rattle.hz_altern_model.specs.Alternatives.{Expression}
 use Rattle.hz_altern_model.specs.Automata.{UnitPlace}
 use Rattle.hz_altern_model.specs.Meanings.{reservation, Reaches, Unwinds}
 use Rattle.hz_mdread_model.specs.Descriptions.{Description, ReservationItem}
-use Rattle.hz_check_model.specs.CheckFaults.{Known}
-use Rattle.hz_check_model.specs.Places.{unit_place, reservation_named, unit_or_reservation, meaning, IsKnown}
+use Rattle.hz_check_model.specs.Places.{unit_place, reservation_named, unit_or_reservation, meaning, IsKnown, Known}
 use Rattle.hz_split_model.specs.Rules.{somewhere, of_reservation, passes}
 use Rattle.hz_base_model.proofs.Elements.{Contains-map}
 use Rattle.hz_altern_model.proofs.MeaningLaws.{none_reaches_itself}

@@ -5,8 +5,7 @@ use Rattle.hz_base_model.specs.Pairs.{Pair}
 use Rattle.hz_altern_model.specs.Automata.{UnitPlace, inside, cut}
 use Rattle.hz_acceptance_model.specs.Replay.{State}
 use Rattle.hz_mdread_model.specs.Descriptions.{Description, ClassItem}
-use Rattle.hz_check_model.specs.CheckFaults.{Known}
-use Rattle.hz_check_model.specs.Places.{meaning}
+use Rattle.hz_check_model.specs.Places.{meaning, Known}
 use Rattle.hz_split_model.specs.Rules.{is_mixed_class, is_uneven_class}
 
 -- no class breaks one of the two rules

@@ -3,8 +3,7 @@
 ghost use Rattle.std.specs.Prelude.{◌≡◌, ℕ, Bool, List, length};
 ghost use Rattle.hz_altern_model.specs.Alternatives.{Expression};
 ghost use Rattle.hz_mdread_model.specs.Descriptions.{Description};
-ghost use Rattle.hz_check_model.specs.CheckFaults.{Known};
-ghost use Rattle.hz_check_model.specs.Places.{meaning, IsKnown};
+ghost use Rattle.hz_check_model.specs.Places.{meaning, IsKnown, Known};
 ghost use Rattle.hz_split_model.specs.Rules.{somewhere, of_reservation, passes};
 
 /// The number of reservations is depth enough: what is found inside a name is what is found inside its expression.
