@@ -1,8 +1,11 @@
 //! Automata by hand. A column is grids, and a grid pairs of a unit and a cycle.
 
+ghost use Rattle.std.specs.Prelude.{All, IsTrue, ◌<◌};
+ghost use Rattle.hz_unitsets.specs.SetRules.{IsInRange};
+
 use super::{Caps, Explored, StateFault, first, subset};
 use hz_grid::{CYCLES, Grid, UNITS};
-use hz_unitsets::Rules;
+use hz_unitsets::{Rules, SetKind, SetRule};
 use std::alloc::Global;
 use std::process::Abort;
 use std::test::Fail;
@@ -21,6 +24,12 @@ const LATE: Columns = &[&[&[(0, 1)]]];
 
 /// Unit 0 or unit 1, and unit 0 alone.
 const CHOICE: Columns = &[&[&[(0, 0)], &[(1, 0)]], &[&[(0, 0)]]];
+
+/// Unit 0 alone, and unit 1 alone.
+const SLOTS: Columns = &[&[&[(0, 0)]], &[&[(1, 0)]]];
+
+/// Unit 0 and then unit 2, and unit 1 and then unit 3.
+const LATER: Columns = &[&[&[(0, 0), (2, 1)]], &[&[(1, 0), (3, 1)]]];
 
 // The grids of these columns, with pairs in their range.
 fn columns_of(rt: &impl Abort, alloc: Global, columns: Columns) -> Result<Vec<Vec<Grid>>, Fail> {
@@ -179,6 +188,83 @@ fn a_choice_under_ndfa(rt: HostRuntime) -> Result<(), Fail> {
     is_row(&rt, &all, 3, [9, 9, 0]);
     assert!(rt; all.sets.len() == 4 && all.sets[1].len() == 2);
     assert!(rt; all.parents.as_slice() == [(0, 0), (0, 0), (0, 1), (1, 0)].as_slice());
+    Ok(())
+}
+
+// Whether all units are units of an automaton.
+fn small(units: &[u8]) -> bool
+    ensures { IsTrue result → All (λ unit. unit < UNITS) units.now }
+{
+    units.iter().all(|unit| usize::from(*unit) < UNITS)
+}
+
+// Whether the statement's units are units of an automaton.
+fn in_range(set: &SetRule) -> bool
+    ensures { IsTrue result → IsInRange set.now }
+{
+    small(&set.units) && set.patterns.iter().all(|pattern| small(pattern))
+}
+
+// The automaton of these columns in the first treatment, under one statement of a unit and patterns of one unit each.
+fn under_a_set(
+    rt: &impl Abort,
+    alloc: Global,
+    columns: Columns,
+    kind: SetKind,
+    unit: u8,
+    others: &[u8],
+) -> Result<Explored, Fail> {
+    let mut patterns = Vec::new(alloc);
+    for other in others {
+        patterns.push([*other].to_vec(alloc)?)?;
+    }
+    let set = SetRule {
+        kind,
+        units: [unit].to_vec(alloc)?,
+        patterns,
+    };
+    let sets = [set];
+    assert!(rt; sets.iter().all(|set| in_range(set)));
+    let rules = Rules::build(alloc, &sets)?;
+    let columns = columns_of(rt, alloc, columns)?;
+    assert!(rt; columns.len() <= 1024);
+    Ok(
+        first(alloc, &columns, &rules, &CAPS)
+            .ok()
+            .ok_or("no automaton")?,
+    )
+}
+
+#[test]
+fn an_absence_forbids_one_order(rt: HostRuntime) -> Result<(), Fail> {
+    let all = under_a_set(&rt, rt.alloc(), SLOTS, SetKind::Absence, 0, &[1, 2])?;
+    assert!(rt; all.sets.len() == 4);
+    is_row(&rt, &all, 0, [1, 2, 0]);
+    is_row(&rt, &all, 1, [9, 3, 0]);
+    is_row(&rt, &all, 2, [9, 9, 0]);
+    is_row(&rt, &all, 3, [9, 9, 0]);
+    assert!(rt; all.parents.as_slice() == [(0, 0), (0, 0), (0, 1), (1, 1)].as_slice());
+    Ok(())
+}
+
+#[test]
+fn an_exclusion_is_met_in_a_later_cycle(rt: HostRuntime) -> Result<(), Fail> {
+    let all = under_a_set(&rt, rt.alloc(), LATER, SetKind::Exclusion, 2, &[3])?;
+    assert!(rt; all.sets.len() == 9);
+    let rows = [
+        [1, 2, 0],
+        [9, 9, 3],
+        [9, 9, 4],
+        [5, 6, 0],
+        [7, 8, 0],
+        [9, 9, 3],
+        [9, 9, 4],
+        [9, 9, 3],
+        [9, 9, 4],
+    ];
+    for (state, row) in rows.iter().enumerate() {
+        is_row(&rt, &all, state as u32, *row);
+    }
     Ok(())
 }
 

@@ -1,29 +1,42 @@
 -- What rules say of one cycle, of all cycles and of two grids.
-use Rattle.std.proofs.Common.{◌≡◌, ℕ, ◌+◌, ◌<◌, ◌≤◌, ◌↔◌, ◌⊎◌, inl, inr, List, ◌++◌, map, get_or, All, refl, arith, ⊎_elim}
+use Rattle.std.proofs.Common.{◌≡◌, ℕ, ◌+◌, ◌<◌, ◌≤◌, ◌↔◌, ◌⊎◌, inl, inr, List, [], ◌∷◌, ◌++◌, map, get_or, All, refl, sym, ap, ◌∙◌, arith, ⊎_elim}
 use Rattle.std.proofs.lemmas.Bool.{cases_lt}
-use Rattle.std.proofs.lemmas.List.Elements.{All-contains, All-map, Contains-get_or, Contains-append_left, Contains-append_right, Contains-append_cases}
+use Rattle.std.proofs.lemmas.List.{append-nil, append_assoc, map_push}
+use Rattle.std.proofs.lemmas.List.Elements.{All-contains, All-map, All-push, Contains-get_or, Contains-append_left, Contains-append_right, Contains-append_cases}
 use Rattle.hz_base_model.specs.Pairs.{Pair, placed}
-use Rattle.hz_altern_model.specs.Sets.{Statement, exclusion, Holds, AllowsIn, Fits}
+use Rattle.hz_altern_model.specs.Sets.{Statement, exclusion, Holds, HoldsSome, HoldsPattern, AllowsIn, Fits}
 use Rattle.hz_base_model.proofs.Elements.{Contains-map}
-use Rattle.hz_altern_model.proofs.FitLaws.{allows_idle, allows_same, holds_moved, iff_back}
-use Rattle.hz_acceptance_model.proofs.FittingLaws.{allows_unadded, holds_append}
-use Rattle.hz_grid.specs.Rows.{HasUnit}
+use Rattle.hz_altern_model.proofs.FitLaws.{allows_same, some_with, pattern_with, holds_moved, iff_back}
+use Rattle.hz_acceptance_model.specs.Fitting.{IsUnbroken}
+use Rattle.hz_acceptance_model.proofs.FittingLaws.{holds_append}
+use Rattle.hz_grid.specs.Rows.{HasUnit, RowsMeet, IsWithin}
 use Rattle.hz_grid.specs.Grids.{Meets}
 use Rattle.hz_unitsets.specs.declared.set_rules.SetKind.{SetKind}
 use Rattle.hz_unitsets.specs.declared.set_rules.SetKind.TheVariants.{Exclusion, Presence, FinalPresence, Absence, FinalAbsence}
 use Rattle.hz_unitsets.specs.declared.row_rules.Rule.{Rule}
+use Rattle.hz_unitsets.specs.declared.rules.Asked.{Asked}
 use Rattle.hz_unitsets.specs.SetRules.{kind_of}
-use Rattle.hz_unitsets.specs.RowRules.{statement_in, AllowsAt, Allows}
+use Rattle.hz_unitsets.specs.RowRules.{statement_in, asked_statement, AllowsAt, Allows, Breaks, IsTrigger, IsUnitsOf, IsAsked, AreAsked}
 
--- ---- past the end of a grid
+-- ---- where no added unit may break a statement
 
-pub allows_past_both : (s : Statement ℕ) (source add : List (Pair ℕ)) (cycle : ℕ) → ((unit : ℕ) → Holds source cycle unit → ⊥) → ((unit : ℕ) → Holds add cycle unit → ⊥) → AllowsAt s source add cycle
-allows_past_both s source add cycle none_there none_added =
-    allows_idle s _ _ _ (λ u h. absurd (none_added u h)) (λ u h. ⊎_elim (none_there u) (none_added u) (Contains-append_cases source add _ h))
+pub allows_untriggered : (s : Statement ℕ) (source add : List (Pair ℕ)) (cycle : ℕ) → (Breaks s source → ⊥) → ((unit : ℕ) → IsTrigger s unit → Holds add cycle unit → ⊥) → AllowsAt s source add cycle
+allows_untriggered s source add cycle unbroken none = record {
+  excluded = λ e some pattern. unbroken (e, (cycle, some_there some, pattern_there e pattern));
+  present = λ _ h. absurd (none h.0 (inl h.1) h.2);
+  finally_present = λ _ h. absurd (none h.0 (inl h.1) h.2);
+  absent = λ _ h _. none h.0 (inl h.1) h.2;
+  finally_absent = λ _ h _. none h.0 (inl h.1) h.2;
+}
+  where
+    there : (unit : ℕ) → IsTrigger s unit → Holds (source ++ add) cycle unit → Holds source cycle unit
+    there unit is h = ⊎_elim (λ l. l) (λ r. absurd (none unit is r)) (Contains-append_cases source add _ h)
 
-pub allows_past_added : (s : Statement ℕ) (source add : List (Pair ℕ)) (cycle : ℕ) → (s.kind ≡ exclusion → ⊥) → ((unit : ℕ) → Holds add cycle unit → ⊥) → AllowsAt s source add cycle
-allows_past_added s source add cycle other none_added =
-    allows_unadded s _ _ _ none_added (λ u h. ⊎_elim (λ l. l) (λ r. absurd (none_added u r)) (Contains-append_cases source add _ h)) (λ e. absurd (other e))
+    some_there : HoldsSome s.units (Holds (source ++ add) cycle) → HoldsSome s.units (Holds source cycle)
+    some_there h = (h.0, h.1, there h.0 (inl h.1) h.2)
+
+    pattern_there : s.kind ≡ exclusion → HoldsPattern s.patterns (Holds (source ++ add) cycle) → HoldsPattern s.patterns (Holds source cycle)
+    pattern_there e h = (h.0, h.1, λ u is. there u (inr (e, h.0, h.1, is)) (h.2 u is))
 
 pub exclusion_alone : (k : SetKind) → kind_of k ≡ exclusion → k ≡ Exclusion
 exclusion_alone Exclusion e = refl
@@ -52,6 +65,11 @@ allows_by_rows s source add cycle there added all is_there is_added is_all =
 
 -- ---- all cycles
 
+pub allows_untouched : (s : Statement ℕ) (source add : List (Pair ℕ)) (triggers units : ℕ) → (Breaks s source → ⊥) → ((unit : ℕ) → IsTrigger s unit → HasUnit triggers unit) → IsUnitsOf add units → (RowsMeet triggers units → ⊥) → Allows s source add
+allows_untouched s source add triggers units unbroken has all apart = record {
+  at = λ cycle. allows_untriggered s source add cycle unbroken (λ unit is h. apart (unit, has unit is, all.units unit cycle h));
+}
+
 pub allows_all : (s : Statement ℕ) (source add : List (Pair ℕ)) (end : ℕ) → ((cycle : ℕ) → cycle < end → AllowsAt s source add cycle) → ((cycle : ℕ) → end ≤ cycle → AllowsAt s source add cycle) → Allows s source add
 allows_all s source add end before past = record { at = λ cycle. ⊎_elim (before cycle) (past cycle) (cases_lt cycle end) }
 
@@ -66,21 +84,69 @@ in_place pairs cycle unit =
 result_in_place : (source add : List (Pair ℕ)) (cycle unit : ℕ) → Holds (source ++ add) cycle unit ↔ Holds (source ++ placed 0 add) cycle unit
 result_in_place source add cycle = holds_append source add source (placed 0 add) cycle cycle (λ u. (λ h. h, λ h. h)) (in_place add cycle)
 
-module _ (rules : List Rule) (source add : List (Pair ℕ)) where
-  pub fits_grids : (Meets source add → ⊥) → All (λ rule. Allows (statement_in rule) source add) rules → Fits (map statement_in rules) source add 0
+module _ (statements : List (Statement ℕ)) (source add : List (Pair ℕ)) where
+  pub fits_grids : (Meets source add → ⊥) → All (λ s. Allows s source add) statements → Fits statements source add 0
   fits_grids apart h = record {
     apart = λ p there here. apart (p, there, (in_place add p.cycle p.unit).1 here);
     allowed = λ s is cycle.
-        let each = All-contains (λ r. Allows r source add) (map statement_in rules) s (All-map (λ r. Allows r source add) statement_in rules h) is in
+        let each = All-contains (λ r. Allows r source add) statements s h is in
         allows_same s _ _ _ _ _ _ (λ u. (λ x. x, λ x. x)) (in_place add cycle) (result_in_place source add cycle) (each.at cycle);
   }
 
-  pub grids_apart : Fits (map statement_in rules) source add 0 → Meets source add → ⊥
+  pub grids_apart : Fits statements source add 0 → Meets source add → ⊥
   grids_apart h (p, there, here) = h.apart p there ((in_place add p.cycle p.unit).0 here)
 
-  pub grids_allowed : Fits (map statement_in rules) source add 0 → All (λ rule. Allows (statement_in rule) source add) rules
-  grids_allowed h = λ k d within.
-      let is = Contains-map statement_in rules (get_or rules k d) (Contains-get_or rules k d within) in
-      record {
-        at = λ cycle. allows_same _ _ _ _ _ _ _ (λ u. (λ x. x, λ x. x)) (λ u. iff_back _ _ (in_place add cycle u)) (λ u. iff_back _ _ (result_in_place source add cycle u)) (h.allowed _ is cycle);
-      }
+  pub grids_allowed : Fits statements source add 0 → All (λ s. Allows s source add) statements
+  grids_allowed h = λ k d within. record {
+    at = λ cycle. allows_same _ _ _ _ _ _ _ (λ u. (λ x. x, λ x. x)) (λ u. iff_back _ _ (in_place add cycle u)) (λ u. iff_back _ _ (result_in_place source add cycle u)) (h.allowed _ (Contains-get_or statements k d within) cycle);
+  }
+
+  -- where pairs fit, the source breaks no exclusion
+  pub grids_unbroken : Fits statements source add 0 → IsUnbroken statements source
+  grids_unbroken h = record {
+    excluded = λ s is e cycle some pattern.
+        let into = λ (unit : ℕ) (there : Holds source cycle unit). Contains-append_left source (placed 0 add) _ there in
+        (h.allowed s is cycle).excluded e (some_with s.units _ _ into some) (pattern_with s.patterns _ _ into pattern);
+  }
+
+-- ---- rules
+
+module _ (rules : List Asked) (source : List (Pair ℕ)) where
+  pub unbroken_rules : All (λ asked. ¬ Breaks (asked_statement asked) source) rules → IsUnbroken (map asked_statement rules) source
+  unbroken_rules h = record {
+    excluded = λ s is e cycle some pattern. All-contains (λ r. ¬ Breaks r source) (map asked_statement rules) s (All-map (λ r. ¬ Breaks r source) asked_statement rules h) is (e, (cycle, some, pattern));
+  }
+
+  pub rules_unbroken : IsUnbroken (map asked_statement rules) source → All (λ asked. ¬ Breaks (asked_statement asked) source) rules
+  rules_unbroken h = λ k d within breaks. h.excluded _ (Contains-map asked_statement rules (get_or rules k d) (Contains-get_or rules k d within)) breaks.0 breaks.1.0 breaks.1.1 breaks.1.2
+
+  pub allow_rules : (add : List (Pair ℕ)) → All (λ asked. Allows (asked_statement asked) source add) rules ↔ All (λ s. Allows s source add) (map asked_statement rules)
+  allow_rules add = (
+    λ h. All-map (λ s. Allows s source add) asked_statement rules h,
+    λ h k d within. All-contains (λ s. Allows s source add) (map asked_statement rules) _ h (Contains-map asked_statement rules (get_or rules k d) (Contains-get_or rules k d within)),
+  )
+
+-- where no unit is added that may break a rule, all allow each cycle
+pub none_touched : (rules : List Asked) (all units : ℕ) (source add : List (Pair ℕ)) → AreAsked rules all → All (λ asked. ¬ Breaks (asked_statement asked) source) rules → IsUnitsOf add units → (RowsMeet all units → ⊥)
+    → All (λ asked. Allows (asked_statement asked) source add) rules
+none_touched rules all units source add are unbroken of apart k d within =
+    allows_untouched _ source add (get_or rules k d).triggers units (unbroken k d within) (are.each k d within).triggers of (λ m. apart (m.0, are.triggers k d within m.0 m.1, m.2))
+
+-- one more rule
+pub asked_more : (rules : List Asked) (asked : Asked) (old new : ℕ) → AreAsked rules old → IsAsked asked → ((unit : ℕ) → HasUnit new unit ↔ (HasUnit old unit ⊎ HasUnit asked.triggers unit)) → AreAsked (rules ++ asked ∷ []) new
+asked_more rules asked old new are is joined = record {
+  each = All-push IsAsked rules asked are.each is;
+  triggers = All-push (λ a. IsWithin a.triggers new) rules asked (λ k d within unit h. (joined unit).1 (inl (are.triggers k d within unit h))) (λ unit h. (joined unit).1 (inr h));
+}
+
+-- the first of the rules to come is among those that are asked now
+pub asked_next : (rules : List Asked) (asked : Asked) (to_come : List Rule) (rule : Rule) (rest : List Rule) (all : List (Statement ℕ)) → to_come ≡ rule ∷ rest → asked_statement asked ≡ statement_in rule
+    → map asked_statement rules ++ map statement_in to_come ≡ all → map asked_statement (rules ++ asked ∷ []) ++ map statement_in rest ≡ all
+asked_next rules asked to_come rule rest all steps same h =
+    rw (map_push) (append_assoc (map asked_statement rules) (asked_statement asked ∷ []) (map statement_in rest)
+    ∙ ap (λ s. map asked_statement rules ++ s ∷ map statement_in rest) same
+    ∙ ap (λ rs. map asked_statement rules ++ map statement_in rs) (sym steps)
+    ∙ h)
+
+pub asked_all : (rules : List Asked) (to_come : List Rule) (all : List (Statement ℕ)) → to_come ≡ [] → map asked_statement rules ++ map statement_in to_come ≡ all → map asked_statement rules ≡ all
+asked_all rules to_come all none h = sym (append-nil (map asked_statement rules)) ∙ ap (λ rs. map asked_statement rules ++ map statement_in rs) (sym none) ∙ h

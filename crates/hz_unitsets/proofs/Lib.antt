@@ -1,3 +1,4 @@
 pub mod Cycles
+pub mod Distinct
 pub mod InOrder
 pub mod RowUnits

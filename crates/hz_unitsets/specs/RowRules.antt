@@ -1,11 +1,12 @@
 -- Rules whose units and patterns are rows.
-use Rattle.std.specs.Prelude.{ℕ, ◌<◌, List, map, filter, ◌++◌, All}
+use Rattle.std.specs.Prelude.{◌≡◌, ◌⊎◌, ℕ, ◌<◌, List, [], ◌∷◌, map, filter, ◌++◌, All, Contains}
 use Rattle.std.specs.List.{range_with_len}
 use Rattle.hz_base_model.specs.Pairs.{Pair}
-use Rattle.hz_altern_model.specs.Sets.{Statement, Holds, AllowsIn}
+use Rattle.hz_altern_model.specs.Sets.{Statement, exclusion, Holds, HoldsSome, HoldsPattern, AllowsIn}
 use Rattle.hz_grid.specs.declared.rows.TheConstants.{UNITS}
-use Rattle.hz_grid.specs.Rows.{has_unit, HasUnit}
+use Rattle.hz_grid.specs.Rows.{has_unit, HasUnit, IsWithin}
 use Rattle.hz_unitsets.specs.declared.row_rules.Rule.{Rule}
+use Rattle.hz_unitsets.specs.declared.rules.Asked.{Asked}
 use Rattle.hz_unitsets.specs.SetRules.{kind_of}
 
 -- the units of a row, ascending
@@ -32,3 +33,46 @@ AllowsAt s source add cycle = AllowsIn s (Holds source cycle) (Holds add cycle) 
 -- the statement allows each cycle
 pub record Allows (s : Statement ℕ) (source add : List (Pair ℕ)) : Type 0 where
   pub at : (cycle : ℕ) → AllowsAt s source add cycle
+
+-- in that cycle a unit of the statement stands with a pattern of it
+abbrev pub StandsAt : Statement ℕ → List (Pair ℕ) → ℕ → Type 0
+StandsAt s pairs cycle = HoldsSome s.units (Holds pairs cycle) × HoldsPattern s.patterns (Holds pairs cycle)
+
+-- the same of some cycle
+abbrev pub StandsIn : Statement ℕ → List (Pair ℕ) → Type 0
+StandsIn s pairs = (cycle : ℕ) × HoldsSome s.units (Holds pairs cycle) × HoldsPattern s.patterns (Holds pairs cycle)
+
+-- the statement is an exclusion, and it stands in the pairs
+abbrev pub Breaks : Statement ℕ → List (Pair ℕ) → Type 0
+Breaks s pairs = (s.kind ≡ exclusion) × StandsIn s pairs
+
+-- The addition of the unit may break the statement: it is of its first string, or of a pattern of an exclusion.
+abbrev pub IsTrigger : Statement ℕ → ℕ → Type 0
+IsTrigger s unit = Contains s.units unit ⊎ ((s.kind ≡ exclusion) × (pattern : List ℕ) × Contains s.patterns pattern × Contains pattern unit)
+
+-- the statement of a rule that is asked
+abbrev pub asked_statement : Asked → Statement ℕ
+asked_statement asked = statement_in asked.rule
+
+-- the rule's triggers are noted with it
+pub record IsAsked (asked : Asked) : Type 0 where
+  pub bounded : IsBounded asked.rule
+  pub triggers : (unit : ℕ) → IsTrigger (asked_statement asked) unit → HasUnit asked.triggers unit
+
+-- the same of each of the rules, and the row has the triggers of all
+pub record AreAsked (rules : List Asked) (all : ℕ) : Type 0 where
+  pub each : All IsAsked rules
+  pub triggers : All (λ asked. IsWithin asked.triggers all) rules
+
+-- the row has the units that the pairs hold in any cycle
+pub record IsUnitsOf (pairs : List (Pair ℕ)) (row : ℕ) : Type 0 where
+  pub units : (unit cycle : ℕ) → Holds pairs cycle unit → HasUnit row unit
+
+-- an item is there once more only where it was not there
+abbrev pub IsKept : {X : Type 0} → List X → X → List X → Type 0
+IsKept old item new = (Contains old item × (new ≡ old)) ⊎ ((Contains old item → ⊥) × (new ≡ old ++ item ∷ []))
+
+-- a statement is in the one list exactly where it is in the other
+pub record AreSame (first second : List (Statement ℕ)) : Type 0 where
+  pub there : (s : Statement ℕ) → Contains first s → Contains second s
+  pub back : (s : Statement ℕ) → Contains second s → Contains first s

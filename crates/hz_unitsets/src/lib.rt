@@ -2,9 +2,11 @@
 #![tactic(auto)]
 
 mod row_rules;
+mod rules;
 mod set_rules;
 
-pub use row_rules::{NoMemory, Rules};
+pub use row_rules::NoMemory;
+pub use rules::Rules;
 pub use set_rules::{SetKind, SetRule};
 
 #[cfg(test)]

@@ -1,79 +1,27 @@
-//! The set statements over rows, which are asked of one row of each grid at a time.
+//! One set statement over rows.
 
-ghost use Rattle.std.specs.Prelude.{◌≡◌, ◌↔◌, ◌<◌, ◌≤◌, ℕ, map, All, IfOk, IsTrue, Contains, ◌++◌};
-ghost use Rattle.hz_altern_model.specs.Sets.{AllowsIn, HoldsSome, HoldsPattern, Fits, Holds};
-ghost use Rattle.hz_acceptance_model.specs.Fitting.{AskTheSame};
-ghost use Rattle.hz_grid.specs.Rows.{HasUnit};
-ghost use Rattle.hz_unitsets.specs.SetRules.{statement_of, statements_of, IsInRange, in_order, ordered};
-ghost use Rattle.hz_unitsets.specs.RowRules.{units_in, statement_in, IsRow, IsBounded, AllowsAt, Allows};
+ghost use Rattle.std.specs.Prelude.{◌≡◌, ◌↔◌, ◌<◌, ℕ, map, All, IfOk, IsTrue};
+ghost use Rattle.hz_altern_model.specs.Sets.{AllowsIn, HoldsSome, HoldsPattern};
+ghost use Rattle.hz_grid.specs.Rows.{HasUnit, IsWithin};
+ghost use Rattle.hz_unitsets.specs.SetRules.{statement_of, IsInRange, in_order, ordered};
+ghost use Rattle.hz_unitsets.specs.RowRules.{units_in, statement_in, IsRow, IsBounded, IsTrigger, Breaks, StandsIn, StandsAt};
 
 use crate::set_rules::{SetKind, SetRule};
 pub use hz_grid::NoMemory;
 use hz_grid::{Grid, Row, UNITS};
 use std::alloc::Global;
-use std::marker::Model;
 
-/// The set statements of an automaton, made to be asked of grids.
-#[derive(Drop, Debug)]
-pub struct Rules {
-    rules: Vec<Rule>,
-}
-
-impl Model for Rules {
-    ghost use Rattle.std.specs.Prelude.{List, ℕ, map, All};
-    ghost use Rattle.hz_altern_model.specs.Sets.{Statement};
-    ghost use Rattle.hz_unitsets.specs.RowRules.{statement_in, IsBounded};
-
-    ghost Value = { List (Statement ℕ) };
-
-    ghost view = { λ all. map statement_in all.rules.items };
-
-    ghost invariant = { λ all. All IsBounded all.rules.items };
-}
-
-// One statement, its units and each of its patterns as a row.
-#[derive(Drop, Debug)]
-struct Rule {
+/// One statement, its units and each of its patterns as a row.
+#[derive(Drop, PartialEq, Eq, Hash, Debug)]
+pub(crate) struct Rule {
     kind: SetKind,
     units: Row,
     patterns: Vec<Row>,
 }
 
-impl Rules {
-    /// The rules of these statements: under them the same pairs fit. The units of each are below `UNITS`. `NoMemory` where
-    /// there was none.
-    pub fn build(alloc: Global, sets: &[SetRule]) -> Result<Rules, NoMemory>
-        requires { All IsInRange sets.now }
-        ensures statements { IfOk result (λ rules. rules ≡ map ordered (statements_of sets.now)) }
-        ensures same { IfOk result (λ rules. AskTheSame rules (statements_of sets.now)) }
-    {
-        let mut rules = Vec::new(alloc);
-        for set in sets {
-            rules.push(Rule::build(alloc, set)?)?;
-        }
-        Ok(Rules { rules })
-    }
-
-    /// Whether the added pairs fit what stands reserved, both with cycles counted from the present one: no pair is in
-    /// both, and each statement allows each cycle, the present one and all that are planned. It takes no memory.
-    pub fn fits(&self, source: &Grid, add: &Grid) -> bool
-        ensures { IsTrue result ↔ Fits self.now source.now add.now 0 }
-    {
-        !source.meets(add) && allow(&self.rules, source, add)
-    }
-}
-
-// Whether each rule allows each cycle.
-fn allow(rules: &[Rule], source: &Grid, add: &Grid) -> bool
-    requires { All IsBounded rules.now }
-    ensures { IsTrue result ↔ All (λ rule. Allows (statement_in rule) source.now add.now) rules.now }
-{
-    rules.iter().all(|rule| rule.allows(source, add))
-}
-
 impl Rule {
-    // The rule of this statement.
-    fn build(alloc: Global, set: &SetRule) -> Result<Rule, NoMemory>
+    /// The rule of this statement.
+    pub(crate) fn build(alloc: Global, set: &SetRule) -> Result<Rule, NoMemory>
         requires { IsInRange set.now }
         ensures bounded { IfOk result IsBounded }
         ensures statement { IfOk result (λ rule. statement_in rule ≡ ordered (statement_of set.now)) }
@@ -89,42 +37,8 @@ impl Rule {
         })
     }
 
-    // Whether the rule allows each cycle.
-    fn allows(&self, source: &Grid, add: &Grid) -> bool
-        requires { IsBounded self.now }
-        ensures { IsTrue result ↔ Allows (statement_in self.now) source.now add.now }
-    {
-        for cycle in 0..self.cycles(source, add) {
-            if !self.allows_at(source, add, cycle) {
-                return false;
-            }
-        }
-        true
-    }
-
-    // From this cycle on the rule allows each cycle: an exclusion asks nothing where both grids have ended, and the
-    // others nothing where the added one has.
-    fn cycles(&self, source: &Grid, add: &Grid) -> u16
-        ensures { (cycle : ℕ) → result ≤ cycle → AllowsAt (statement_in self.now) source.now add.now cycle }
-    {
-        match self.kind {
-            SetKind::Exclusion => source.length().max(add.length()),
-            _ => add.length(),
-        }
-    }
-
-    // Whether the rule allows that cycle.
-    fn allows_at(&self, source: &Grid, add: &Grid, cycle: u16) -> bool
-        requires { IsBounded self.now }
-        ensures { IsTrue result ↔ AllowsAt (statement_in self.now) source.now add.now cycle }
-    {
-        let source = source.row(cycle);
-        let added = add.row(cycle);
-        self.allows_rows(source, added, source.join(added))
-    }
-
-    // Whether the rule allows a cycle with these rows: what stood there, what is added, and all of them.
-    fn allows_rows(&self, source: Row, added: Row, all: Row) -> bool
+    /// Whether the rule allows a cycle with these rows: what stood there, what is added, and all of them.
+    pub(crate) fn allows_rows(&self, source: Row, added: Row, all: Row) -> bool
         requires { IsBounded self.now }
         ensures { IsTrue result ↔ AllowsIn (statement_in self.now) (HasUnit source) (HasUnit added) (HasUnit all) }
     {
@@ -134,6 +48,50 @@ impl Rule {
             SetKind::FinalPresence => !self.holds_some(added) || self.holds_pattern(all),
             SetKind::Absence => !(self.holds_some(added) && self.holds_pattern(source)),
             SetKind::FinalAbsence => !(self.holds_some(added) && self.holds_pattern(all)),
+        }
+    }
+
+    /// Whether the source breaks the rule: it is an exclusion, and in some cycle a unit stands with a pattern of it.
+    pub(crate) fn is_broken(&self, source: &Grid) -> bool
+        requires { IsBounded self.now }
+        ensures { IsTrue result ↔ Breaks (statement_in self.now) source.now }
+    {
+        match self.kind {
+            SetKind::Exclusion => self.stands_in(source),
+            _ => false,
+        }
+    }
+
+    // Whether in some cycle a unit of the rule stands with a pattern of it.
+    fn stands_in(&self, source: &Grid) -> bool
+        requires { IsBounded self.now }
+        ensures { IsTrue result ↔ StandsIn (statement_in self.now) source.now }
+    {
+        for cycle in 0..source.length() {
+            if self.stands_at(source, cycle) {
+                return true;
+            }
+        }
+        false
+    }
+
+    // The same of that cycle.
+    fn stands_at(&self, source: &Grid, cycle: u16) -> bool
+        requires { IsBounded self.now }
+        ensures { IsTrue result ↔ StandsAt (statement_in self.now) source.now cycle }
+    {
+        let row = source.row(cycle);
+        self.holds_some(row) && self.holds_pattern(row)
+    }
+
+    /// The units whose addition may break the rule: its own, and of an exclusion those of its patterns.
+    pub(crate) fn triggers(&self) -> Row
+        requires { IsBounded self.now }
+        ensures { (unit : ℕ) → IsTrigger (statement_in self.now) unit → HasUnit result unit }
+    {
+        match self.kind {
+            SetKind::Exclusion => joined(self.units, &self.patterns),
+            _ => self.units,
         }
     }
 
@@ -165,4 +123,16 @@ fn row_of(units: &[u8]) -> Row
         row = row.add(*unit);
     }
     row
+}
+
+// The units of a row and of others.
+fn joined(units: Row, others: &[Row]) -> Row
+    ensures units { IsWithin units result }
+    ensures others { All (λ other. IsWithin other result) others.now }
+{
+    let mut all = units;
+    for other in others {
+        all = all.join(*other);
+    }
+    all
 }

@@ -1,7 +1,7 @@
 //! The set statements as they are said: units and patterns by number.
 
 /// The five set statements. GCC Internals, "Specifying processor pipeline description".
-#[derive(Clone, Copy, PartialEq, Eq, Debug)]
+#[derive(Clone, Copy, PartialEq, Eq, Hash, Debug)]
 pub enum SetKind {
     /// In no cycle a unit stands together with a pattern.
     Exclusion,

@@ -61,7 +61,7 @@ fn grid(rt: &impl Abort, alloc: Global, text: &[u8]) -> Result<Grid, Fail> {
     Ok(Grid::of(alloc, &pairs)?)
 }
 
-// Whether the added pairs fit the source under these statements.
+// Whether the added pairs fit the source under these statements. Where the source breaks no exclusion, both calls say so.
 fn fit(
     rt: &impl Abort,
     alloc: Global,
@@ -71,7 +71,13 @@ fn fit(
 ) -> Result<bool, Fail> {
     assert!(rt; sets.iter().all(|set| in_range(set)));
     let rules = Rules::build(alloc, sets)?;
-    Ok(rules.fits(&grid(rt, alloc, source)?, &grid(rt, alloc, added)?))
+    let source = grid(rt, alloc, source)?;
+    let added = grid(rt, alloc, added)?;
+    let fits = rules.fits(&source, &added);
+    if rules.is_unbroken(&source) {
+        assert_eq!(rt; rules.fits_unbroken(&source, &added), fits);
+    }
+    Ok(fits)
 }
 
 /// Rows on one statement: its kind, units and patterns, the source, what is added, and whether it fits.

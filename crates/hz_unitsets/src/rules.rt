@@ -1,0 +1,205 @@
+//! The set statements of an automaton, each once, which are asked of grids.
+
+ghost use Rattle.std.specs.Prelude.{◌≡◌, ◌≢◌, ◌↔◌, ℕ, map, All, IfOk, OnOk, IsTrue};
+ghost use Rattle.std.specs.List.{AllPairs};
+ghost use Rattle.hz_altern_model.specs.Sets.{Fits};
+ghost use Rattle.hz_acceptance_model.specs.Fitting.{AskTheSame, IsUnbroken};
+ghost use Rattle.hz_unitsets.specs.SetRules.{statements_of, IsInRange, ordered};
+ghost use Rattle.hz_unitsets.specs.RowRules.{statement_in, asked_statement, IsBounded, IsAsked, Allows, AllowsAt, Breaks, IsUnitsOf, IsKept, AreSame};
+
+use crate::row_rules::Rule;
+use crate::set_rules::SetRule;
+use hz_grid::{Grid, NoMemory, Row};
+use indexmap::IndexSet;
+use std::alloc::Global;
+use std::marker::Model;
+
+/// The set statements of an automaton, made to be asked of grids: no statement stands twice.
+#[derive(Drop, Debug)]
+pub struct Rules {
+    rules: Vec<Asked>,
+    triggers: Row,
+}
+
+impl Model for Rules {
+    ghost use Rattle.std.specs.Prelude.{List, ℕ, map};
+    ghost use Rattle.hz_altern_model.specs.Sets.{Statement};
+    ghost use Rattle.hz_unitsets.specs.RowRules.{asked_statement, AreAsked};
+
+    ghost Value = { List (Statement ℕ) };
+
+    ghost view = { λ all. map asked_statement all.rules.items };
+
+    ghost invariant = { λ all. AreAsked all.rules.items all.triggers };
+}
+
+// A rule, and the units whose addition may break it.
+#[derive(Drop, Debug)]
+struct Asked {
+    rule: Rule,
+    triggers: Row,
+}
+
+impl Rules {
+    /// The rules of these statements: under them the same pairs fit, and no two are equal. The units of each are below
+    /// `UNITS`. `NoMemory` where there was none.
+    pub fn build(alloc: Global, sets: &[SetRule]) -> Result<Rules, NoMemory>
+        requires { All IsInRange sets.now }
+        ensures same { IfOk result (λ rules. AskTheSame rules (statements_of sets.now)) }
+        ensures once { IfOk result (λ rules. AllPairs (λ one other. one ≢ other) rules) }
+    {
+        let mut rules = Vec::new(alloc);
+        let mut triggers = Row::empty();
+        for rule in distinct(alloc, sets)? {
+            let asked = Asked::of(rule);
+            triggers = triggers.join(asked.triggers);
+            rules.push(asked)?;
+        }
+        Ok(Rules { rules, triggers })
+    }
+
+    /// Whether the added pairs fit what stands reserved, both with cycles counted from the present one: no pair is in
+    /// both, and each statement allows each cycle, the present one and all that are planned. It takes no memory.
+    pub fn fits(&self, source: &Grid, add: &Grid) -> bool
+        ensures { IsTrue result ↔ Fits self.now source.now add.now 0 }
+    {
+        if source.meets(add) {
+            return false;
+        }
+        self.is_unbroken(source) && self.allow(source, add)
+    }
+
+    /// Whether the added pairs fit a source that breaks no exclusion, as `fits` says it. A statement that no added unit
+    /// may break costs one test of rows, and none where this holds of all. It takes no memory.
+    pub fn fits_unbroken(&self, source: &Grid, add: &Grid) -> bool
+        requires { IsUnbroken self.now source.now }
+        ensures { IsTrue result ↔ Fits self.now source.now add.now 0 }
+    {
+        !source.meets(add) && self.allow(source, add)
+    }
+
+    /// Whether what stands reserved breaks no exclusion. It takes no memory.
+    pub fn is_unbroken(&self, source: &Grid) -> bool
+        ensures { IsTrue result ↔ IsUnbroken self.now source.now }
+    {
+        none_broken(&self.rules, source)
+    }
+
+    // Whether each rule allows each cycle, where the source breaks no exclusion.
+    fn allow(&self, source: &Grid, add: &Grid) -> bool
+        requires { IsUnbroken self.now source.now }
+        ensures { IsTrue result ↔ All (λ s. Allows s source.now add.now) self.now }
+    {
+        let units = units_of(add);
+        !self.triggers.meets(units) || all_allow(&self.rules, source, add, units)
+    }
+}
+
+// Whether the source breaks none of the rules.
+fn none_broken(rules: &[Asked], source: &Grid) -> bool
+    requires { All IsAsked rules.now }
+    ensures { IsTrue result ↔ All (λ asked. ¬ Breaks (asked_statement asked) source.now) rules.now }
+{
+    rules.iter().all(|asked| !asked.rule.is_broken(source))
+}
+
+// Whether each rule allows each cycle, where the source breaks none. The units are those that are added in any cycle.
+fn all_allow(rules: &[Asked], source: &Grid, add: &Grid, units: Row) -> bool
+    requires asked { All IsAsked rules.now }
+    requires unbroken { All (λ asked. ¬ Breaks (asked_statement asked) source.now) rules.now }
+    requires units { IsUnitsOf add.now units }
+    ensures { IsTrue result ↔ All (λ asked. Allows (asked_statement asked) source.now add.now) rules.now }
+{
+    rules.iter().all(|asked| asked.allows(source, add, units))
+}
+
+// The rules of these statements, each once.
+fn distinct(alloc: Global, sets: &[SetRule]) -> Result<IndexSet<Rule>, NoMemory>
+    requires { All IsInRange sets.now }
+    ensures bounded { IfOk result (λ rules. All IsBounded rules.keys) }
+    ensures same { IfOk result (λ rules. AreSame (map statement_in rules.keys) (map ordered (statements_of sets.now))) }
+    ensures once { IfOk result (λ rules. AllPairs (λ one other. one ≢ other) (map statement_in rules.keys)) }
+{
+    let mut rules = IndexSet::new(alloc);
+    for set in sets {
+        keep(&mut rules, Rule::build(alloc, set)?)?;
+    }
+    Ok(rules)
+}
+
+// Adds a rule behind the others where no equal one stands.
+fn keep(rules: &mut IndexSet<Rule>, rule: Rule) -> Result<(), NoMemory>
+    requires rules { All IsBounded rules.old.keys }
+    requires rule { IsBounded rule }
+    ensures bounded { OnOk result (All IsBounded rules.new.keys) }
+    ensures kept { OnOk result (IsKept (map statement_in rules.old.keys) (statement_in rule) (map statement_in rules.new.keys)) }
+{
+    rules.insert(rule)?;
+    Ok(())
+}
+
+impl Asked {
+    // The rule with its triggers.
+    fn of(rule: Rule) -> Asked
+        requires { IsBounded rule }
+        ensures asked { IsAsked result }
+        ensures statement { asked_statement result ≡ statement_in rule }
+    {
+        let triggers = rule.triggers();
+        Asked { rule, triggers }
+    }
+
+    // Whether the rule allows each cycle, where the source does not break it. It is asked only where an added unit may
+    // break it.
+    fn allows(&self, source: &Grid, add: &Grid, units: Row) -> bool
+        requires asked { IsAsked self.now }
+        requires unbroken { ¬ Breaks (asked_statement self.now) source.now }
+        requires units { IsUnitsOf add.now units }
+        ensures { IsTrue result ↔ Allows (asked_statement self.now) source.now add.now }
+    {
+        if !self.triggers.meets(units) {
+            return true;
+        }
+        self.allows_each(source, add)
+    }
+
+    // The same, cycle by cycle.
+    fn allows_each(&self, source: &Grid, add: &Grid) -> bool
+        requires asked { IsAsked self.now }
+        requires unbroken { ¬ Breaks (asked_statement self.now) source.now }
+        ensures { IsTrue result ↔ Allows (asked_statement self.now) source.now add.now }
+    {
+        for cycle in 0..add.length() {
+            if !self.allows_at(source, add, cycle) {
+                return false;
+            }
+        }
+        true
+    }
+
+    // Whether the rule allows that cycle, where the source does not break it. It is asked only where a unit that is
+    // added in that cycle may break it.
+    fn allows_at(&self, source: &Grid, add: &Grid, cycle: u16) -> bool
+        requires asked { IsAsked self.now }
+        requires unbroken { ¬ Breaks (asked_statement self.now) source.now }
+        ensures { IsTrue result ↔ AllowsAt (asked_statement self.now) source.now add.now cycle }
+    {
+        let added = add.row(cycle);
+        if !self.triggers.meets(added) {
+            return true;
+        }
+        let there = source.row(cycle);
+        self.rule.allows_rows(there, added, there.join(added))
+    }
+}
+
+// The units that the grid has in any cycle.
+fn units_of(grid: &Grid) -> Row
+    ensures { IsUnitsOf grid.now result }
+{
+    let mut units = Row::empty();
+    for cycle in 0..grid.length() {
+        units = units.join(grid.row(cycle));
+    }
+    units
+}
