@@ -2,3 +2,4 @@ pub mod UnionLemmas
 pub mod ReadLemmas
 pub mod SetLemmas
 pub mod BuildLemmas
+pub mod LateLemmas

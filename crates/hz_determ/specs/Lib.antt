@@ -1,3 +1,4 @@
 pub mod Sets
 pub mod Reading
 pub mod Explored
+pub mod Worked
