@@ -1,12 +1,16 @@
 -- What the code tells, as what the definitions speak of.
+pub mod Twice
+pub mod PastUnits
+pub mod Bypasses
+pub mod Steps
 use Rattle.std.specs.Prelude.{◌≡◌, ℕ, List, ⊤}
 use Rattle.hz_check.specs.declared.fault.LimitName.{LimitName}
 use Rattle.hz_check.specs.declared.fault.LimitName.TheVariants.{Automata, Units, Classes, Alternatives, Cycles, Size}
 use Rattle.hz_check.specs.declared.fault.CheckFault.{CheckFault}
 use Rattle.hz_check.specs.declared.fault.CheckFault.TheVariants.{TwiceDefined, ReservedName, UnknownName, UnknownAutomaton, UnitNeedsAutomaton, CircularReservation, SelfExclusion, SetAcrossAutomata, Limit, BypassTwice, NoMemory}
-use Rattle.hz_check.specs.declared.told.Wrong.{Wrong}
-use Rattle.hz_check.specs.declared.told.Wrong.TheVariants as wrong
-use Rattle.hz_check.specs.declared.told.Told.{Told}
+use Rattle.hz_check.specs.declared.faults.told.Wrong.{Wrong}
+use Rattle.hz_check.specs.declared.faults.told.Wrong.TheVariants as wrong
+use Rattle.hz_check.specs.declared.faults.told.Told.{Told}
 use Rattle.hz_unfold.specs.Places.{site_of}
 use Rattle.hz_check_model.specs.CheckFaults as model
 use Rattle.hz_check_model.specs.FirstTold as first

@@ -6,17 +6,22 @@ ghost use Rattle.hz_check.specs.Faults.{Tells, IsToldAt};
 ghost use Rattle.hz_check.specs.Parts.{IsPartsOf};
 ghost use Rattle.hz_mdread_model.specs.DescriptionShape.{IsCheckable};
 
-use crate::assembly::{automata, bypasses};
-use crate::bypasses::second_number;
 use crate::checked::{CheckedAutomaton, CheckedBypass};
-use crate::expansion::expanded;
 use crate::fault::CheckFault;
-use crate::placed::placed_sets;
-use crate::steps::{named, ordered, placed};
-use crate::told::{Wrong, refused};
+use crate::faults::bypass_twice::second_number;
+use crate::faults::past_expansions::expanded;
+use crate::faults::steps::{named, ordered, placed};
+use crate::faults::told::{Wrong, refused};
+use crate::parts::assembly::{automata, bypasses};
+use crate::parts::placed_sets::placed_sets;
 use hz_altern::Alt;
 use hz_mdread::Description;
 use std::alloc::Global;
+
+pub(crate) mod assembly;
+pub(crate) mod classes;
+pub(crate) mod placed_sets;
+pub(crate) mod rules;
 
 /// The automata, the bypasses, and for each class its alternatives.
 #[derive(Drop)]

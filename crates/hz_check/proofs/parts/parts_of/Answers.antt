@@ -1,8 +1,8 @@
 use Rattle.std.proofs.Common.{All, map, refl, sym, ap, ◌∙◌, subst}
 use Rattle.hz_mdread.specs.Shape.{description}
-use Rattle.hz_check.specs.Assembly.{IsPlaced}
-use Rattle.hz_check.specs.Checking.{IsOrdered, AreWithin}
-use Rattle.hz_check.proofs.CheckSteps.{behind, behind_within, skip, stop, few_automata, few_classes}
+use Rattle.hz_check.specs.Parts.Assembly.{IsPlaced}
+use Rattle.hz_check.specs.Faults.Steps.{IsOrdered, AreWithin}
+use Rattle.hz_check.proofs.Telling.CheckSteps.{behind, behind_within, skip, stop, few_automata, few_classes}
 use Rattle.hz_expand.proofs.Unwinding.{unfolded}
 use Rattle.hz_check_model.specs.CheckFaults.{bypass_twice, second_numbers}
 use Rattle.hz_check_model.specs.CheckedParts.{automata_of, bypass_parts}
