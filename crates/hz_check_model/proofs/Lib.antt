@@ -7,3 +7,4 @@ pub mod PlaceLaws
 pub mod CheckTotal
 pub mod ToldLaws
 pub mod OnceLaws
+pub mod SplitLaws
