@@ -8,3 +8,4 @@ pub mod CheckTotal
 pub mod ToldLaws
 pub mod OnceLaws
 pub mod SplitLaws
+pub mod RankLaws

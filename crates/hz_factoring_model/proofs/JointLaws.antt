@@ -30,7 +30,7 @@ use Rattle.hz_check_model.proofs.PlaceLaws.{at_name_in, from_filter_map}
 use Rattle.hz_factoring_model.specs.Factored.{KeepsRules}
 use Rattle.hz_factoring_model.proofs.Choices.{there, Factors, none_factors}
 use Rattle.hz_factoring_model.proofs.ExpressionFactors.{Contains-flat_map, class_factors}
-use Rattle.hz_factoring_model.proofs.RankLaws.{ranks, ranks_low}
+use Rattle.hz_check_model.proofs.RankLaws.{ranks, ranks_low}
 use Rattle.hz_factoring_model.proofs.SideBySide.{IsJoint}
 
 -- where nothing is told, no fault stands anywhere

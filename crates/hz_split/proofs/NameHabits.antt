@@ -15,7 +15,7 @@ use Rattle.hz_expand.proofs.Holding.{value_of}
 use Rattle.hz_expand.proofs.Names.{unit_means, reservation_means}
 use Rattle.hz_expand.proofs.Ordered.{IsReservationAt, IsClassAt, reservation_or_class}
 use Rattle.hz_altern_model.proofs.ExpressionLaws.{some_alternatives}
-use Rattle.hz_factoring_model.proofs.RankLaws.{unfolds_in_reservations}
+use Rattle.hz_check_model.proofs.RankLaws.{unfolds_in_reservations}
 use Rattle.hz_mdread_model.specs.Descriptions.{Description, UnitItem, ReservationItem}
 use Rattle.hz_mdread_model.specs.DescriptionShape.{IsCheckable}
 use Rattle.hz_split_model.specs.Rules.{somewhere, of_reservation, passes, is_mixed, is_uneven}
