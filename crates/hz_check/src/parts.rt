@@ -8,6 +8,7 @@ ghost use Rattle.hz_mdread_model.specs.DescriptionShape.{IsCheckable};
 
 use crate::checked::{CheckedAutomaton, CheckedBypass};
 use crate::fault::CheckFault;
+use crate::faults::alternations::unbroken;
 use crate::faults::bypass_twice::second_number;
 use crate::faults::past_expansions::expanded;
 use crate::faults::steps::{named, ordered, placed};
@@ -49,7 +50,11 @@ pub(crate) fn parts_of(alloc: Global, desc: &Description) -> Result<Parts, Check
         Ok(places) => places,
         Err(fault) => return Err(fault),
     };
-    let lists = match expanded(alloc, desc, &places, &order.numbers) {
+    let expanded = match expanded(alloc, desc, &places, &order.numbers) {
+        Ok(lists) => lists,
+        Err(fault) => return Err(fault),
+    };
+    let lists = match unbroken(alloc, desc, &places, &order.numbers, expanded) {
         Ok(lists) => lists,
         Err(fault) => return Err(fault),
     };

@@ -147,6 +147,12 @@ pub fn judge_check<'a>(
         Err(CheckFault::SetAcrossAutomata { line, name }) => {
             Err(named(file, NamedKind::SetAcrossAutomata, line, name))
         }
+        Err(CheckFault::AlternationOfTwoAutomata { line, name }) => {
+            Err(named(file, NamedKind::AlternationOfTwoAutomata, line, name))
+        }
+        Err(CheckFault::AlternationOfTwoLengths { line, name }) => {
+            Err(named(file, NamedKind::AlternationOfTwoLengths, line, name))
+        }
         Err(CheckFault::BypassTwice { line, name }) => {
             Err(named(file, NamedKind::BypassTwice, line, name))
         }

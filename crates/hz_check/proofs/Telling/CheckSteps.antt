@@ -5,7 +5,7 @@ use Rattle.std.specs.Prelude.{IsSomeAnd, slice_get}
 use Rattle.std.proofs.lemmas.List.{length-map, length-drop}
 use Rattle.std.proofs.lemmas.Option.{slice_get-map, get_or_from_slice_get}
 use Rattle.hz_check.specs.declared.fault.CheckFault.{CheckFault}
-use Rattle.hz_check.specs.declared.fault.CheckFault.TheVariants.{TwiceDefined, ReservedName, UnknownName, UnknownAutomaton, UnitNeedsAutomaton, CircularReservation, SelfExclusion, SetAcrossAutomata, Limit, BypassTwice, NoMemory}
+use Rattle.hz_check.specs.declared.fault.CheckFault.TheVariants.{TwiceDefined, ReservedName, UnknownName, UnknownAutomaton, UnitNeedsAutomaton, CircularReservation, SelfExclusion, SetAcrossAutomata, Limit, AlternationOfTwoAutomata, AlternationOfTwoLengths, BypassTwice, NoMemory}
 use Rattle.hz_check.specs.Faults.Steps.{IsOrdered, AreWithin}
 use Rattle.hz_check.specs.Faults.{Tells, IsToldAt, IsToldHere, limit_of}
 use Rattle.hz_expand.proofs.Unwinding.{unfolded}
@@ -21,6 +21,7 @@ use Rattle.hz_mdread_model.specs.Descriptions.{Description}
 use Rattle.hz_base_model.specs.Limits.{automaton_limit, class_limit}
 use Rattle.hz_check_model.specs.Places.{IsKnown, Known}
 use Rattle.hz_check_model.specs.Sites.{Site, earliest}
+use Rattle.hz_check_model.specs.SplitClasses.{mixed_classes, uneven_classes}
 use Rattle.hz_unfold.specs.Orders.{reservings}
 
 tells_with : (P Q : model.CheckFault → ℕ → List ℕ → Type 0) → ((f : model.CheckFault) (line : ℕ) (name : List ℕ) → P f line name → Q f line name) → (fault : CheckFault) → Tells P fault → Tells Q fault
@@ -33,6 +34,8 @@ tells_with P Q to (CircularReservation line name) tells = to model.circular_rese
 tells_with P Q to (SelfExclusion line name) tells = to model.self_exclusion line name tells
 tells_with P Q to (SetAcrossAutomata line name) tells = to model.set_across_automata line name tells
 tells_with P Q to (Limit what line name) tells = to (model.limit (limit_of what)) line name tells
+tells_with P Q to (AlternationOfTwoAutomata line name) tells = to model.alternation_of_two_automata line name tells
+tells_with P Q to (AlternationOfTwoLengths line name) tells = to model.alternation_of_two_lengths line name tells
 tells_with P Q to (BypassTwice line name) tells = to model.bypass_twice line name tells
 tells_with P Q to NoMemory tells = tells
 
@@ -90,6 +93,8 @@ abbrev pub last_faults : Description → Known → List Reserving → List (Stan
 last_faults d known order = record { fault = limit alternatives; sites = past_limit d known order alternatives }
     ∷ record { fault = limit cycles; sites = past_limit d known order cycles }
     ∷ record { fault = limit size; sites = past_limit d known order size }
+    ∷ record { fault = model.alternation_of_two_automata; sites = mixed_classes d known }
+    ∷ record { fault = model.alternation_of_two_lengths; sites = uneven_classes d known }
     ∷ record { fault = model.bypass_twice; sites = second_numbers d }
     ∷ []
 

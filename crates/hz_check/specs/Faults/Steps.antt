@@ -5,7 +5,8 @@ use Rattle.hz_check_model.specs.FirstTold.{first_told}
 use Rattle.hz_mdread_model.specs.DescriptionShape.{IsCheckable}
 use Rattle.hz_mdread_model.specs.Descriptions.{Description}
 use Rattle.hz_base_model.specs.Limits.{automaton_limit, class_limit}
-use Rattle.hz_check_model.specs.Places.{unit_places}
+use Rattle.hz_check_model.specs.Places.{Known, IsKnown, unit_places}
+use Rattle.hz_check_model.specs.SplitClasses.{mixed_classes, uneven_classes}
 use Rattle.hz_check_model.specs.Sites.{earliest}
 use Rattle.hz_unfold.specs.Orders.{IsOrder}
 
@@ -22,3 +23,8 @@ pub record AreWithin (d : Description) : Type 0 where
   pub automata : earliest (drop automaton_limit (automaton_sites d)) ≡ None
   pub units : earliest (past_units d.units (unit_places d)) ≡ None
   pub classes : earliest (drop class_limit (class_sites d)) ≡ None
+
+-- no class breaks one of the two rules on units of several automata
+pub record AreUnbroken (d : Description) : Type 0 where
+  pub mixed : (known : Known) → IsKnown d known → earliest (mixed_classes d known) ≡ None
+  pub uneven : (known : Known) → IsKnown d known → earliest (uneven_classes d known) ≡ None

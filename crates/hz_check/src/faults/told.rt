@@ -21,6 +21,8 @@ pub(crate) enum Wrong {
     SelfExclusion,
     SetAcrossAutomata,
     Limit(LimitName),
+    AlternationOfTwoAutomata,
+    AlternationOfTwoLengths,
     BypassTwice,
 }
 
@@ -61,6 +63,8 @@ pub(crate) fn fault(told: Told<'_>) -> CheckFault
         Wrong::SelfExclusion => CheckFault::SelfExclusion { line, name },
         Wrong::SetAcrossAutomata => CheckFault::SetAcrossAutomata { line, name },
         Wrong::Limit(what) => CheckFault::Limit { what, line, name },
+        Wrong::AlternationOfTwoAutomata => CheckFault::AlternationOfTwoAutomata { line, name },
+        Wrong::AlternationOfTwoLengths => CheckFault::AlternationOfTwoLengths { line, name },
         Wrong::BypassTwice => CheckFault::BypassTwice { line, name },
     }
 }
