@@ -36,7 +36,7 @@ pub struct BrokenRules<'a> {
     pub uneven: Option<Site<'a>>,
 }
 
-/// What is kept for all units, which have these places.
+/// The habits of all units, which have these places.
 fn unit_habits(alloc: Global, desc: &Description, units: &[UnitPlace]) -> Result<Table, NoMemory>
     requires named { first_told (faults_of_names (description desc.now)) ≡ None }
     requires formed { IsCheckable (description desc.now) }
@@ -50,7 +50,7 @@ fn unit_habits(alloc: Global, desc: &Description, units: &[UnitPlace]) -> Result
     Ok(table)
 }
 
-/// Keeps what is to be kept for all reservations, in an order where each stands behind those that it names.
+/// Keeps the habits of all reservations, in an order where each stands behind those that it names.
 fn add_reservations(desc: &Description, order: &[usize], table: &mut Table) -> Result<(), NoMemory>
     requires named { first_told (faults_of_names (description desc.now)) ≡ None }
     requires formed { IsCheckable (description desc.now) }
@@ -76,7 +76,7 @@ fn site_if(test: bool, site: Site<'_>) -> Option<Site<'_>>
     if test { Some(site) } else { None }
 }
 
-/// What is told where a class of which this is kept stands before those that were looked at.
+/// What is told where a class of these habits stands before those that were looked at.
 fn broken_before<'a>(
     class: &'a ClassItem,
     habits: Habits,

@@ -1,4 +1,4 @@
-//! What is kept of an expression.
+//! What is kept of an expression: its habits.
 
 use crate::mark::{Mark, cut};
 use crate::spread::Spread;
@@ -23,7 +23,7 @@ impl Habits {
     ghost use Rattle.std.specs.Prelude.{◌≡◌, ◌≤◌, ◌&&◌};
     ghost use Rattle.hz_split.specs.Habits.{habits_of_unit, idle_habits, joined_habits, repeated_habits, alternated, have_two_lengths, is_comma};
 
-    /// Those of a unit of this automaton.
+    /// The habits of a unit of this automaton.
     pub fn of_unit(automaton: u32) -> Habits
         ensures { result ≡ habits_of_unit automaton }
     {
@@ -36,7 +36,7 @@ impl Habits {
         }
     }
 
-    /// Those of `nothing`.
+    /// The habits of `nothing`.
     pub fn of_nothing() -> Habits
         ensures { result ≡ idle_habits }
     {
@@ -49,24 +49,24 @@ impl Habits {
         }
     }
 
-    /// Whether there are two lengths.
-    pub fn differ(self) -> bool
+    /// Whether the alternatives have two lengths.
+    pub fn has_two_lengths(self) -> bool
         ensures { result ≡ have_two_lengths self }
     {
         self.shortest != self.longest
     }
 
-    /// Whether there are two lengths where one is asked: before a comma.
+    /// Whether the alternatives have two lengths where the mark behind them asks for one.
     fn differs_before(self, mark: Mark) -> bool
         ensures { result ≡ is_comma mark && have_two_lengths self }
     {
         match mark {
-            Mark::Comma => self.differ(),
+            Mark::Comma => self.has_two_lengths(),
             Mark::Bar | Mark::Plus => false,
         }
     }
 
-    /// Those of a part and the parts behind it, with a mark between them.
+    /// The habits of parts with a mark between them, where these are those of the first, and the others of all behind it.
     pub fn joined(self, mark: Mark, others: Habits) -> Habits
         ensures { result ≡ joined_habits mark self others }
     {
@@ -79,7 +79,7 @@ impl Habits {
         }
     }
 
-    /// Those of so many copies one after another.
+    /// The habits of so many copies one after another.
     pub fn repeated(self, times: u32) -> Habits
         requires { 1 ≤ times }
         ensures { result ≡ repeated_habits times self }
@@ -89,11 +89,11 @@ impl Habits {
             shortest: cut(self.shortest.saturating_mul(times)),
             longest: cut(self.longest.saturating_mul(times)),
             mixed: self.mixed,
-            uneven: self.uneven || (2 <= times && self.differ()),
+            uneven: self.uneven || (2 <= times && self.has_two_lengths()),
         }
     }
 
-    /// Those of an alternation of parts that have these.
+    /// The habits of an alternation whose parts together have these.
     pub fn alternated(self) -> Habits
         ensures { result ≡ alternated self }
     {

@@ -1,4 +1,4 @@
-//! What is kept of an expression, by what is kept for its names.
+//! The habits of expressions, by those of their names.
 
 ghost use Rattle.std.specs.Prelude.{◌≡◌, ◌<◌, ℕ, Bool, List, length, IsTrue};
 ghost use Rattle.hz_altern.specs.Tables.{is_held};
@@ -15,7 +15,7 @@ use crate::mark::Mark;
 use crate::table::Table;
 use hz_regexp::Expr;
 
-/// What is kept of a well-formed expression, where it is kept for each name in it. It takes no memory.
+/// The habits of a well-formed expression, where those of each name in it are kept. It takes no memory.
 #[cycle(measuring)]
 pub fn habits_of(expr: &Expr, table: &Table) -> Habits
     requires formed { IsTrue (is_expression (expression expr.now)) }
@@ -35,7 +35,7 @@ pub fn habits_of(expr: &Expr, table: &Table) -> Habits
     }
 }
 
-/// What is kept of parts with a mark between them.
+/// The habits of parts with a mark between them, but for the alternation that they may be together.
 #[cycle(measuring)]
 fn habits_of_parts(parts: &[Expr], mark: Mark, table: &Table) -> Habits
     requires some { 0 < length parts.now }

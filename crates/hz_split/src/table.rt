@@ -1,11 +1,11 @@
-//! What is kept for names.
+//! The habits of names.
 
 use crate::habits::Habits;
 use hz_regexp::{Name, NoMemory};
 use std::alloc::Global;
 use std::collections::BTreeMap;
 
-/// What is kept for each of some names.
+/// The habits of some names: of the units and reservations that they stand for.
 #[derive(Drop)]
 pub struct Table {
     names: BTreeMap<Name, Habits>,
@@ -25,7 +25,7 @@ impl Table {
         }
     }
 
-    /// Keeps this for a name for which nothing is kept.
+    /// Keeps the habits of a name of which none are kept. `NoMemory` where there was none.
     pub fn add(&mut self, name: &Name, habits: Habits) -> Result<(), NoMemory>
         requires { habits_in self.old name.now ≡ None }
         ensures { OnOk result (Adds (habits_in self.old) (habits_in self.new) name.now habits) }
@@ -35,7 +35,7 @@ impl Table {
         Ok(())
     }
 
-    /// What is kept for a name.
+    /// The habits of a name, if they are kept.
     pub fn find(&self, name: &Name) -> Option<Habits>
         ensures { result ≡ habits_in self.now name.now }
     {
