@@ -7,6 +7,7 @@ mod failures;
 mod limits;
 mod machines;
 mod pairs;
+mod splits;
 mod texts;
 mod traces;
 
