@@ -5,3 +5,4 @@ pub mod PipelineLaws
 pub mod CompiledLaws
 pub mod LimitLaws
 pub mod ReportLaws
+pub mod FactoredLaws

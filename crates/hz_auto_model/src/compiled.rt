@@ -1,12 +1,15 @@
 //! Laws of compiled automata.
 
-ghost use Rattle.std.specs.Prelude.{◌≡◌, ◌<◌, ℕ, Bool, List, length, map};
+ghost use Rattle.std.specs.Prelude.{◌≡◌, ◌↔◌, ◌<◌, ℕ, Bool, List, length, map};
 ghost use Rattle.hz_base_model.specs.Pairs.{Pair};
 ghost use Rattle.hz_altern_model.specs.Sets.{Statement};
+ghost use Rattle.hz_acceptance_model.specs.Events.{Event};
 ghost use Rattle.hz_acceptance_model.specs.Fitting.{AskTheSame};
-ghost use Rattle.hz_acceptance_model.specs.Replay.{Pipeline, Treatment};
+ghost use Rattle.hz_factoring_model.specs.Factored.{KeepsRules};
+ghost use Rattle.hz_acceptance_model.specs.Replay.{Pipeline, Treatment, Accepted};
 ghost use Rattle.hz_acceptance_model.specs.Restricted.{restricted};
 ghost use Rattle.hz_mdread_model.specs.Descriptions.{Description};
+ghost use Rattle.hz_check_model.specs.CheckFaults.{IsSound};
 ghost use Rattle.hz_check_model.specs.Places.{Known};
 ghost use Rattle.hz_check_model.specs.CheckedParts.{automaton_count, automata_of, class_parts};
 ghost use Rattle.hz_pipeline_model.specs.Pipelines.{pipeline_with};
@@ -36,4 +39,10 @@ pub fn counts_are_within_or_past()
 /// What a check gives of an automaton is its pipeline: the classes keep their numbers.
 pub fn checked_automata_are_their_pipelines()
     ensures { (d : Description) (known : Known) (a : ℕ) → a < automaton_count d → IsMoved (λ k. k) (restricted a (pipeline_with d known)) (automaton_pipeline d.options (automata_of d) (map (class_parts d known) d.classes) a) }
+{}
+
+/// A description that keeps the two rules accepts events exactly where the pipeline of each automaton does that a check
+/// gives of it.
+pub fn descriptions_are_their_automata()
+    ensures { (d : Description) (known : Known) → IsSound d known → KeepsRules d known → (t : List Event) → Accepted (pipeline_with d known) t ↔ ((a : ℕ) → a < automaton_count d → Accepted (automaton_pipeline d.options (automata_of d) (map (class_parts d known) d.classes) a) t) }
 {}
