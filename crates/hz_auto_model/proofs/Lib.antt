@@ -6,3 +6,4 @@ pub mod CompiledLaws
 pub mod LimitLaws
 pub mod ReportLaws
 pub mod FactoredLaws
+pub mod DescriptionLaws
