@@ -14,7 +14,6 @@ use Rattle.hz_check_model.specs.CheckFaults.{IsSound}
 use Rattle.hz_check_model.specs.Places.{Known}
 use Rattle.hz_check_model.specs.CheckedParts.{AutomatonParts, ClassParts, automaton_names, automaton_count, automata_from, automata_of, class_parts}
 use Rattle.hz_pipeline_model.specs.Pipelines.{pipeline_with}
-use Rattle.hz_factoring_model.specs.Factored.{KeepsRules}
 use Rattle.hz_tables_model.specs.Machines.{Machine, Part, no_part, part_at, part_walk, machine_walk}
 use Rattle.hz_tables_model.proofs.MachineLaws.{machine_walk-each, machine_walk-part, machine_walk-all}
 use Rattle.hz_reach_model.specs.Counts.{Count}
@@ -112,7 +111,7 @@ module _ (d : Description) where
             subst (λ p. IsSome (part_walk p 0 t)) (get_or_from_slice_get m.parts i part no_part at) ((walks i low).1 (each i low)))
 
         -- the machine walks what the description accepts
-        pub machine_accepts : IsSound d known → KeepsRules d known → IsSome (machine_walk m t) ↔ Accepted (pipeline_with d known) t
-        machine_accepts sound keeps =
-            let both = accepted_in_automata d known sound keeps t in
+        pub machine_accepts : IsSound d known → IsSome (machine_walk m t) ↔ Accepted (pipeline_with d known) t
+        machine_accepts sound =
+            let both = accepted_in_automata d known sound t in
             (λ h. both.1 (each_part h), λ accepted. every_part (both.0 accepted))

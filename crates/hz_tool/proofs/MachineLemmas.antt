@@ -92,7 +92,7 @@ module _ (d : Description) (checked : Checked) (is : IsCheckedOf d checked) wher
       let here = compiled_of m reports h in
       record {
         names = here.names ∙ map_twice (λ c. c.name) (class_parts d is.known) d.classes;
-        walks = λ t all. machine_accepts d is.known m reports here t all is.sound ?;
+        walks = λ t all. machine_accepts d is.known m reports here t all is.sound;
       }
 
   -- its trace is replayed
