@@ -90,7 +90,7 @@ const TWO_ROWS: &[(&str, &[u8], u8, &[u8])] = &[
     ),
     (
         "b0, ((a0,a0)|a0)",
-        b"issue x\nadvance 1\nissue x\nadvance 1\nissue x\n",
+        b"issue x\nadvance 2\nissue x\nadvance 1\nissue x\n",
         1,
         b"refused line 5 x\n",
     ),

@@ -73,18 +73,6 @@ const FAULTS: &[(&str, (&str, &str, u32), u8, &str)] = &[
         3,
         "Size f",
     ),
-    (
-        "(define_insn_reservation \"v\" 1 (const_int 1) \"p|q\")",
-        ALONE,
-        2,
-        "AlternationOfTwoAutomata v",
-    ),
-    (
-        "(define_insn_reservation \"w\" 1 (const_int 1) \"((p,p)|p), q\")",
-        ALONE,
-        2,
-        "AlternationOfTwoLengths w",
-    ),
     ("(define_bypass 2 \"x\" \"x\")", ALONE, 2, "BypassTwice x"),
 ];
 
