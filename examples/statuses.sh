@@ -23,8 +23,15 @@ expect() {
 
 usage='usage: hz replay DESC TRACE | eval BLOCK STATE'
 printf '(define_cpu_unit "a")\n(define_insn_reservation "x" 1 (const_int 1) "nothing,a")\n' > d
-printf '(define_automaton "m,n")\n(define_cpu_unit "a" "m")\n(define_cpu_unit "b" "n")\n' > two_automata
-printf '(define_cpu_unit "a,b")\n(automata_option "ndfa")\n(define_insn_reservation "x" 1 (const_int 1) "a|b")\n' > ndfa
+printf '(define_automaton "m,n")\n(define_cpu_unit "a" "m")\n(define_cpu_unit "b" "n")\n(define_insn_reservation "x" 1 (const_int 1) "a+b")\n' > two_automata
+printf '(define_cpu_unit "a,b")\n(automata_option "ndfa")\n(define_insn_reservation "x" 1 (const_int 1) "a|b")\n(define_insn_reservation "y" 1 (const_int 1) "a")\n' > ndfa
+printf 'issue x\nissue y\n' > both
+{
+    printf '(define_cpu_unit "u")\n(define_insn_reservation "c0" 1 (const_int 1) "u")\n'
+    for j in 1 2 3 4 5 6 7 8 9 10 11 12 13 14 15 16; do
+        printf '(define_insn_reservation "c%s" 1 (const_int 1) "nothing*%s, u")\n' "$j" "$j"
+    done
+} > states
 printf '(define_cpu_unit "a' > unclosed
 printf '; a comment\n(define_cpu_unit "a,")\n' > shape
 printf '(define_cpu_unit "u")\n(define_insn_reservation "x" 1 (const_int 1)\n  "u,,u")\n' > comma
@@ -58,8 +65,9 @@ expect 2 'fault code line 2 UnknownCode' eval code s
 expect 2 'fault b line 1 BadShape' eval b b
 expect 3 'limit long bytes' eval b long
 expect 6 'file missing could not be read' eval b missing
-expect 2 'fault two_automata NotBuilt' replay two_automata t
-expect 2 'fault ndfa NotBuilt' replay ndfa t
+expect 0 'accepted 2 issues 1 cycles' replay two_automata t
+expect 0 'accepted 2 issues 0 cycles' replay ndfa both
+expect 3 'limit states automaton -' replay states empty
 expect 2 'fault unclosed line 1 Unclosed' replay unclosed t
 expect 2 'fault shape line 2 BadShape' replay shape t
 expect 2 'fault comma line 2 BadExpression Unexpected 2' replay comma t

@@ -1,25 +1,33 @@
 -- Answers: there is one, and no other.
-use Rattle.std.proofs.Common.{refl, ◌≡◌, ℕ, inl, inr, true, false, Bool, List, [], ◌∷◌, length, Option, Some, None, MatchOption, MatchBool, nat_lt, slice_get, sym, ap, ◌∙◌, subst}
+use Rattle.std.proofs.Common.{refl, ◌≡◌, ℕ, ◌<◌, ◌≤◌, ⊎_elim, arith, slice_index_or, inl, inr, true, false, Bool, List, [], ◌∷◌, length, Option, Some, None, MatchOption, MatchBool, nat_lt, slice_get, sym, ap, ◌∙◌, subst}
+use Rattle.std.proofs.lemmas.Bool.{cases_lt}
 use Rattle.std.proofs.lemmas.Option.{same_Some}
 use Rattle.hz_sexp_model.proofs.FormsLaws.{one_reading, one_fault, forms_or_fault}
 use Rattle.hz_mdread_model.proofs.DescriptionLaws.{one_description, one_fault_of_descriptions, description_or_fault}
 use Rattle.hz_check_model.proofs.CheckLaws.{fault_one, fault_or_sound, sound_one}
 use Rattle.hz_acceptance_model.proofs.AcceptanceLaws.{one_refused, accepted_or_refused}
-use Rattle.hz_answer_model.specs.Answers.{Describes, Checks, HasDescription, is_built, Traces, Replays, ReplaysTrace, ReplaysDescription, Judges, IsIssueOf, AnswersOrder, Answer}
+use Rattle.hz_answer_model.specs.Answers.{Describes, Checks, HasDescription, Compiles, Traces, Replays, ReplaysTrace, ReplaysDescription, Judges, IsIssueOf, AnswersOrder, Answer}
 use Rattle.hz_check_model.specs.CheckFaults.{CheckFault}
+use Rattle.hz_check_model.specs.Places.{Known, class_names}
 use Rattle.hz_mdread_model.specs.DescriptionForms.{DescriptionFault}
 use Rattle.hz_mdread_model.specs.Descriptions.{Description}
 use Rattle.hz_answer_model.specs.FaultTexts.{form_word, description_words, check_line, check_status, trace_word}
 use Rattle.hz_sexp_model.specs.Forms.{FormFault}
 use Rattle.hz_base_model.specs.Limits.{description_limit, trace_limit}
 use Rattle.hz_base_model.specs.Lines.{lines_of}
-use Rattle.hz_check_model.specs.Places.{class_names, Known}
 use Rattle.hz_trace_model.specs.Traces.{TraceFault, event_lines}
 use Rattle.hz_trace_model.proofs.TraceLaws.{one_trace, one_trace_fault, trace_or_fault}
+use Rattle.hz_check_model.specs.CheckedParts.{automaton_names}
 use Rattle.hz_pipeline_model.specs.Pipelines.{pipeline_with}
+use Rattle.hz_acceptance_model.specs.Restricted.{restricted}
+use Rattle.hz_reach_model.specs.Counts.{Count}
+use Rattle.hz_auto_model.specs.AutomatonPipelines.{class_lists}
+use Rattle.hz_auto_model.specs.Compiled.{shows_states}
+use Rattle.hz_auto_model.specs.DescriptionLimits.{KeepsLimits, PassesLimit, IsFirstPastLimit}
+use Rattle.hz_auto_model.proofs.LimitLaws.{within_or_past}
 use Rattle.hz_acceptance_model.specs.Replay.{Pipeline, Class}
 use Rattle.hz_acceptance_model.specs.Events.{Event, issue}
-use Rattle.hz_answer_model.specs.Texts.{file_line, limit_line, fault_line, not_built_line, usage_line, refused_line}
+use Rattle.hz_answer_model.specs.Texts.{file_line, limit_line, fault_line, states_line, usage_line, refused_line}
 use Rattle.hz_sexp_model.specs.Trees.{Trees}
 use Rattle.hz_answer_model.specs.Words.{Order, replay, eval, order_of}
 use Rattle.hz_answer_model.specs.Phases.{Held, Says, Next, Opens, HasForms}
@@ -86,9 +94,25 @@ traces_single classes name text next single s s' t t' (inr (fault, line, wrong, 
     let same = one_trace_fault classes text fault other line place wrong also in
     says_same _ _ _ _ (ap (λ (n : ℕ). 2) same.1) (ap (λ (f : TraceFault). fault_line name line (trace_word f ∷ [])) same.0 ∙ ap (λ (n : ℕ). fault_line name n (trace_word other ∷ [])) same.1) s s' t t' a b
 
-builds_single : (name : List ℕ) (built : Bool) (next : ℕ → List ℕ → Type 0) → IsSingle next → IsSingle (λ s t. MatchBool built (next s t) (Says 2 (not_built_line name) s t))
-builds_single name true next single = single
-builds_single name false next single = says_single 2 (not_built_line name)
+-- the first automaton past its limits is one, and then not all keep them
+kept_or_past : (d : Description) (known : Known) (a : ℕ) → KeepsLimits d known a → (kind : Count) → PassesLimit d known a kind → ⊥
+kept_or_past d known a kept kind past = within_or_past (class_lists d known a) (shows_states d.options) (restricted a (pipeline_with d known)) kind kept past
+
+first_past_one : (d : Description) (known : Known) (a b : ℕ) → IsFirstPastLimit d known a → IsFirstPastLimit d known b → a ≡ b
+first_past_one d known a b one other = ⊎_elim
+    (λ (less : a < b). absurd (kept_or_past d known a (other.before a less) one.kind one.past))
+    (λ (high : b ≤ a). ⊎_elim
+        (λ (less : b < a). absurd (kept_or_past d known b (one.before b less) other.kind other.past))
+        (λ (low : a ≤ b). omega (arith, high, low))
+        (cases_lt b a))
+    (cases_lt a b)
+
+compiles_single : (name : List ℕ) (d : Description) (known : Known) (next : ℕ → List ℕ → Type 0) → IsSingle next → IsSingle (Compiles name d known next)
+compiles_single name d known next single s s' t t' (inl (kept, x)) (inl (kept', y)) = single s s' t t' x y
+compiles_single name d known next single s s' t t' (inl (kept, x)) (inr (a, first, y)) = absurd (kept_or_past d known a (kept a first.there) first.kind first.past)
+compiles_single name d known next single s s' t t' (inr (a, first, x)) (inl (kept, y)) = absurd (kept_or_past d known a (kept a first.there) first.kind first.past)
+compiles_single name d known next single s s' t t' (inr (a, first, x)) (inr (b, also, y)) =
+    says_same 3 3 _ _ refl (ap (λ (n : ℕ). states_line name (slice_index_or (automaton_names d) n [])) (first_past_one d known a b first also)) s s' t t' x y
 
 checks_single : (name : List ℕ) (d : Description) (next : Next Known) → ((known : Known) → IsSingle (next known)) → IsSingle (Checks name d next)
 checks_single name d next single s s' t t' (inl (known, sound, a)) (inl (other, also, b)) =
@@ -129,7 +153,7 @@ description_single name bytes next single =
 texts_single : (description described trace traced : List ℕ) → IsSingle (Judges description described trace traced)
 texts_single description described trace traced =
     description_single description described (ReplaysDescription description trace traced) (λ d known.
-    builds_single description (is_built d) (ReplaysTrace trace traced d known)
+    compiles_single description d known (ReplaysTrace trace traced d known)
     (traces_single (class_names d) trace traced (Replays (pipeline_with d known) (event_lines (class_names d) 1 (lines_of traced))) (replays_single (pipeline_with d known) (event_lines (class_names d) 1 (lines_of traced)))))
 
 -- Blocks and states.

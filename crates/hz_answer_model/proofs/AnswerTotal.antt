@@ -1,5 +1,6 @@
 -- There is an answer to all words, whatever is held.
-use Rattle.std.proofs.Common.{◌≡◌, ℕ, ◌<◌, ⊎_elim, inl, inr, true, false, Bool, List, [], ◌∷◌, length, All, Option, Some, None, MatchOption, MatchBool, nat_lt, get_or, slice_get, refl, subst, arith, ◌⊎◌}
+use Rattle.std.proofs.Common.{◌≡◌, ℕ, zero, suc, ◌<◌, ◌≤◌, ⊎_elim, inl, inr, true, false, Bool, List, [], ◌∷◌, length, All, Option, Some, None, MatchOption, MatchBool, nat_lt, get_or, slice_get, refl, subst, arith, ◌⊎◌}
+use Rattle.std.proofs.lemmas.Bool.{cases_lt}
 use Rattle.std.proofs.lemmas.List.Elements.{All-get_or}
 use Rattle.std.proofs.lemmas.Option.{slice_get-get_or, slice_get_within, get_or_from_slice_get}
 use Rattle.hz_answer_model.proofs.EventLaws.{issue_named, events_known}
@@ -11,21 +12,25 @@ use Rattle.hz_check_model.proofs.CheckTotal.{sound_or_fault}
 use Rattle.hz_acceptance_model.proofs.AcceptanceLaws.{refused_issue}
 use Rattle.hz_acceptance_model.proofs.PlayLaws.{accepted_or_first_refused}
 use Rattle.hz_acceptance_model.proofs.Rows.{same_unit, places_tell}
-use Rattle.hz_answer_model.specs.Answers.{Describes, Checks, HasDescription, is_built, Replays, ReplaysTrace, ReplaysDescription, Judges, IsIssueOf, AnswersOrder, Answer}
+use Rattle.hz_answer_model.specs.Answers.{Describes, Checks, HasDescription, Compiles, IsCountedText, IsCountedOrder, IsCounted, Replays, ReplaysTrace, ReplaysDescription, Judges, IsIssueOf, AnswersOrder, Answer}
 use Rattle.hz_check_model.specs.CheckFaults.{CheckFault, CheckFaultAt, IsSound}
+use Rattle.hz_check_model.specs.Places.{Known, class_names}
 use Rattle.hz_mdread_model.specs.DescriptionForms as description_forms
 use Rattle.hz_mdread_model.specs.DescriptionShape.{IsWellFormed}
 use Rattle.hz_mdread_model.specs.Descriptions.{Description}
 use Rattle.hz_answer_model.specs.FaultTexts.{form_word, description_words, check_line, check_status, trace_word}
 use Rattle.hz_base_model.specs.Limits.{description_limit, trace_limit}
 use Rattle.hz_base_model.specs.Lines.{lines_of}
-use Rattle.hz_check_model.specs.Places.{class_names, Known}
+use Rattle.hz_sexp_model.specs.Forms as forms
+use Rattle.hz_check_model.specs.CheckedParts.{automaton_names, automaton_count}
 use Rattle.hz_pipeline_model.specs.Pipelines.{pipeline_with}
+use Rattle.hz_reach_model.specs.Counts.{Count}
+use Rattle.hz_auto_model.specs.DescriptionLimits.{KeepsLimits, PassesLimit, IsFirstPastLimit, AreCounted}
 use Rattle.hz_acceptance_model.specs.Replay.{FirstRefused}
 use Rattle.hz_acceptance_model.specs.Events.{Event, issue, cycles_of, issues_of, IsOfClass}
 use Rattle.hz_trace_model.specs.Traces.{Trace, TraceFault, TraceFaultAt, event_lines}
 use Rattle.hz_trace_model.proofs.TraceLaws.{trace_of_every_text, counted_lines}
-use Rattle.hz_answer_model.specs.Texts.{file_line, limit_line, fault_line, usage_line, refused_line, accepted_line, not_built_line}
+use Rattle.hz_answer_model.specs.Texts.{file_line, limit_line, fault_line, usage_line, refused_line, accepted_line, states_line}
 use Rattle.hz_sexp_model.specs.Trees.{Trees}
 use Rattle.hz_answer_model.specs.Words.{Order, replay, eval, order_of}
 use Rattle.hz_answer_model.specs.Phases.{Held, Says, Next, Opens, HasForms}
@@ -38,7 +43,7 @@ use Rattle.hz_rtltext_model.specs.Operands.{Judged}
 use Rattle.hz_rtltext_model.specs.BlockForms as blocks
 use Rattle.hz_rtltext_model.specs.StateForms as states
 use Rattle.std.specs.List.{range_with_len}
-use Rattle.std.specs.Prelude.{Ok, Err}
+use Rattle.std.specs.Prelude.{Ok, Err, ⊤, slice_index_or}
 
 -- some status and text answer
 abbrev pub HasOne : (ℕ → List ℕ → Type 0) → Type 0
@@ -81,40 +86,58 @@ module _ (d : Description) (known : Known) where
       wider (Says 2 (fault_line name wrong.1 (trace_word wrong.0 ∷ []))) _ (λ s t h. inr (wrong.0, wrong.1, wrong.2, h)) (says_one 2 (fault_line name wrong.1 (trace_word wrong.0 ∷ []))))
       (trace_of_every_text (class_names d) text)
 
-builds_one : (name : List ℕ) (built : Bool) (next : ℕ → List ℕ → Type 0) → HasOne next → HasOne (λ s t. MatchBool built (next s t) (Says 2 (not_built_line name) s t))
-builds_one name true next one = one
-builds_one name false next one = says_one 2 (not_built_line name)
+-- All of the first automata keep their limits, or some is the first that does not.
+limits_one : (d : Description) (known : Known) → AreCounted d known → (n : ℕ) → n ≤ automaton_count d → ((a : ℕ) → a < n → KeepsLimits d known a) ⊎ ((a : ℕ) × IsFirstPastLimit d known a)
+limits_one d known counted zero few = inl (λ a low. absurd (omega (arith, low)))
+limits_one d known counted (suc n) few = ⊎_elim
+    (λ (kept : (a : ℕ) → a < n → KeepsLimits d known a). ⊎_elim
+        (λ (here : KeepsLimits d known n). inl (λ a low. ⊎_elim
+            (λ (less : a < n). kept a less)
+            (λ (high : n ≤ a). let same : n ≡ a = omega (arith, low, high) in subst (KeepsLimits d known) same here)
+            (cases_lt a n)))
+        (λ (past : (kind : Count) × PassesLimit d known n kind). inr (n, record { there = omega (arith, few); before = kept; kind = past.0; past = past.1 }))
+        (counted n (omega (arith, few))))
+    (λ first. inr first)
+    (limits_one d known counted n (omega (arith, few)))
 
-checks_one : (name : List ℕ) (d : Description) (next : Next Known) → IsWellFormed d → ((known : Known) → HasOne (next known)) → HasOne (Checks name d next)
+compiles_one : (name : List ℕ) (d : Description) (known : Known) (next : ℕ → List ℕ → Type 0) → AreCounted d known → HasOne next → HasOne (Compiles name d known next)
+compiles_one name d known next counted one = ⊎_elim
+    (λ (kept : (a : ℕ) → a < automaton_count d → KeepsLimits d known a). wider next _ (λ s t h. inl (kept, h)) one)
+    (λ (first : (a : ℕ) × IsFirstPastLimit d known a).
+        let line = states_line name (slice_index_or (automaton_names d) first.0 []) in
+        wider (Says 3 line) _ (λ s t h. inr (first.0, first.1, h)) (says_one 3 line))
+    (limits_one d known counted (automaton_count d) (omega arith))
+
+checks_one : (name : List ℕ) (d : Description) (next : Next Known) → IsWellFormed d → ((known : Known) → IsSound d known → HasOne (next known)) → HasOne (Checks name d next)
 checks_one name d next formed one = ⊎_elim
-    (λ (sound : (known : Known) × IsSound d known). wider (next sound.0) _ (λ s t h. inl (sound.0, sound.1, h)) (one sound.0))
+    (λ (sound : (known : Known) × IsSound d known). wider (next sound.0) _ (λ s t h. inl (sound.0, sound.1, h)) (one sound.0 sound.1))
     (λ (wrong : (fault : CheckFault) × (site : _) × CheckFaultAt d fault site).
     wider (Says (check_status wrong.0) (check_line name wrong.0 wrong.1)) _ (λ s t h. inr (wrong.0, wrong.1, wrong.2, h)) (says_one (check_status wrong.0) (check_line name wrong.0 wrong.1)))
     (sound_or_fault d (can_be_checked d formed))
 
-describes_one : (name : List ℕ) (read : Trees) (next : Next Description) → ((d : Description) → IsWellFormed d → HasOne (next d)) → HasOne (Describes name read next)
+describes_one : (name : List ℕ) (read : Trees) (next : Next Description) → ((d : Description) → description_forms.Reads read d → IsWellFormed d → HasOne (next d)) → HasOne (Describes name read next)
 describes_one name read next one = ⊎_elim
-    (λ (said : (d : Description) × description_forms.Reads read d). wider (next said.0) _ (λ s t h. inl (said.0, said.1, h)) (one said.0 (well_formed read said.0 said.1).0))
+    (λ (said : (d : Description) × description_forms.Reads read d). wider (next said.0) _ (λ s t h. inl (said.0, said.1, h)) (one said.0 said.1 (well_formed read said.0 said.1).0))
     (λ (wrong : (fault : description_forms.DescriptionFault) × (line : ℕ) × description_forms.FaultAt read fault line).
     wider (Says 2 (fault_line name wrong.1 (description_words wrong.0))) _ (λ s t h. inr (wrong.0, wrong.1, wrong.2, h)) (says_one 2 (fault_line name wrong.1 (description_words wrong.0))))
     (every_list read)
 
-forms_one : (name bytes : List ℕ) (next : Next Trees) → ((read : Trees) → HasOne (next read)) → HasOne (HasForms name bytes next)
+forms_one : (name bytes : List ℕ) (next : Next Trees) → ((read : Trees) → forms.Reads bytes read → HasOne (next read)) → HasOne (HasForms name bytes next)
 forms_one name bytes next one = ⊎_elim
-    (λ read. wider (next read.0) _ (λ s t h. inl (read.0, read.1, h)) (one read.0))
+    (λ read. wider (next read.0) _ (λ s t h. inl (read.0, read.1, h)) (one read.0 read.1))
     (λ wrong. wider (Says 2 (fault_line name wrong.1 (form_word wrong.0 ∷ []))) _ (λ s t h. inr (wrong.0, wrong.1, wrong.2, h)) (says_one 2 (fault_line name wrong.1 (form_word wrong.0 ∷ []))))
     (every_text bytes)
 
-description_one : (name bytes : List ℕ) (next : (d : Description) → Next Known) → ((d : Description) (known : Known) → HasOne (next d known)) → HasOne (HasDescription name bytes next)
-description_one name bytes next one =
-    forms_one name bytes _ (λ read.
-    describes_one name read _ (λ d formed.
-    checks_one name d (next d) formed (one d)))
+description_one : (name bytes : List ℕ) (next : (d : Description) → Next Known) → IsCountedText bytes → ((d : Description) (known : Known) → AreCounted d known → HasOne (next d known)) → HasOne (HasDescription name bytes next)
+description_one name bytes next counted one =
+    forms_one name bytes _ (λ read is.
+    describes_one name read _ (λ d says formed.
+    checks_one name d (next d) formed (λ known sound. one d known (counted read d known is says sound))))
 
-texts_one : (description described trace traced : List ℕ) → HasOne (Judges description described trace traced)
-texts_one description described trace traced =
-    description_one description described (ReplaysDescription description trace traced) (λ d known.
-    builds_one description (is_built d) (ReplaysTrace trace traced d known) (traces_one d known trace traced))
+texts_one : (description described trace traced : List ℕ) → IsCountedText described → HasOne (Judges description described trace traced)
+texts_one description described trace traced counted =
+    description_one description described (ReplaysDescription description trace traced) counted (λ d known all.
+    compiles_one description d known (ReplaysTrace trace traced d known) all (traces_one d known trace traced))
 
 -- Blocks and states.
 
@@ -139,34 +162,34 @@ evaluates_one block state finite =
 
 blocks_one : (block blocked state stated : List ℕ) → HasOne (JudgesBlock block blocked state stated)
 blocks_one block blocked state stated =
-    forms_one block blocked _ (λ read.
+    forms_one block blocked _ (λ read is.
     block_one block read _ (λ insns.
-    forms_one state stated _ (λ other.
+    forms_one state stated _ (λ other also.
     state_one state other (Evaluates insns) (evaluates_one insns))))
 
 -- reading a file answers where what follows does
-opens_one : (o : Option (List ℕ)) (name : List ℕ) (most : ℕ) (next : List ℕ → ℕ → List ℕ → Type 0) → ((bytes : List ℕ) → HasOne (next bytes)) → HasOne (λ s t. MatchOption o (Says 6 (file_line name) s t) (λ bytes. MatchBool (nat_lt most (length bytes)) (Says 3 (limit_line name) s t) (next bytes s t)))
+opens_one : (o : Option (List ℕ)) (name : List ℕ) (most : ℕ) (next : List ℕ → ℕ → List ℕ → Type 0) → ((bytes : List ℕ) → o ≡ Some bytes → HasOne (next bytes)) → HasOne (λ s t. MatchOption o (Says 6 (file_line name) s t) (λ bytes. MatchBool (nat_lt most (length bytes)) (Says 3 (limit_line name) s t) (next bytes s t)))
 opens_one None name most next one = says_one 6 (file_line name)
 opens_one (Some bytes) name most next one =
     elim (nat_lt most (length bytes)) as (λ b. HasOne (λ s t. MatchBool b (Says 3 (limit_line name) s t) (next bytes s t))) [
       | true ↦ says_one 3 (limit_line name)
-      | false ↦ one bytes
+      | false ↦ one bytes refl
     ]
 
-order_one : (held : Held) (order : Order) → HasOne (AnswersOrder held order)
-order_one held (replay description trace) =
+order_one : (held : Held) (order : Order) → IsCountedOrder held order → HasOne (AnswersOrder held order)
+order_one held (replay description trace) counted =
     opens_one (held description) description description_limit (λ described. Opens held trace trace_limit (λ traced. Judges description described trace traced))
-    (λ described. opens_one (held trace) trace trace_limit (λ traced. Judges description described trace traced)
-    (λ traced. texts_one description described trace traced))
-order_one held (eval block state) =
+    (λ described is. opens_one (held trace) trace trace_limit (λ traced. Judges description described trace traced)
+    (λ traced also. texts_one description described trace traced (subst (λ (o : Option (List ℕ)). MatchOption o ⊤ IsCountedText) is counted)))
+order_one held (eval block state) counted =
     opens_one (held block) block block_limit (λ blocked. Opens held state state_text_limit (λ stated. JudgesBlock block blocked state stated))
-    (λ blocked. opens_one (held state) state state_text_limit (λ stated. JudgesBlock block blocked state stated)
-    (λ stated. blocks_one block blocked state stated))
+    (λ blocked is. opens_one (held state) state state_text_limit (λ stated. JudgesBlock block blocked state stated)
+    (λ stated also. blocks_one block blocked state stated))
 
 -- all words have an answer, whatever is held
-pub answer_one : (words : List (List ℕ)) (held : Held) → HasOne (Answer words held)
-answer_one words held = by_order (order_of words)
+pub answer_one : (words : List (List ℕ)) (held : Held) → IsCounted words held → HasOne (Answer words held)
+answer_one words held counted = by_order (order_of words) counted
   where
-    by_order : (o : Option Order) → HasOne (λ s t. MatchOption o (Says 4 usage_line s t) (λ order. AnswersOrder held order s t))
-    by_order None = says_one 4 usage_line
-    by_order (Some order) = order_one held order
+    by_order : (o : Option Order) → MatchOption o ⊤ (IsCountedOrder held) → HasOne (λ s t. MatchOption o (Says 4 usage_line s t) (λ order. AnswersOrder held order s t))
+    by_order None all = says_one 4 usage_line
+    by_order (Some order) all = order_one held order all

@@ -1,20 +1,22 @@
 -- What the program answers: this profile, docs/FORMATS.md, 'Answers'.
-use Rattle.std.specs.Prelude.{◌≡◌, ℕ, List, [], ◌∷◌, Bool, ◌&&◌, not, nat_lt, Option, Some, MatchOption, MatchBool, length, ◌⊎◌, slice_get}
+use Rattle.std.specs.Prelude.{◌≡◌, ℕ, List, [], ◌∷◌, Option, Some, MatchOption, ⊤, ◌⊎◌, slice_get, slice_index_or}
 use Rattle.hz_check_model.specs.CheckFaults.{CheckFault, CheckFaultAt, IsSound}
+use Rattle.hz_check_model.specs.Places.{Known, class_names}
 use Rattle.hz_mdread_model.specs.DescriptionForms.{DescriptionFault}
 use Rattle.hz_mdread_model.specs.DescriptionForms as description_forms
 use Rattle.hz_mdread_model.specs.Descriptions.{Description}
 use Rattle.hz_answer_model.specs.FaultTexts.{description_words, check_line, check_status, trace_word}
 use Rattle.hz_sexp_model.specs.Forms as forms
 use Rattle.hz_base_model.specs.Limits.{description_limit, trace_limit}
-use Rattle.hz_check_model.specs.Places.{class_names, Known}
+use Rattle.hz_check_model.specs.CheckedParts.{automaton_names}
 use Rattle.hz_pipeline_model.specs.Pipelines.{pipeline_with}
+use Rattle.hz_auto_model.specs.DescriptionLimits.{AllKeepLimits, IsFirstPastLimit, AreCounted}
 use Rattle.hz_acceptance_model.specs.Events.{Event, issue, issues_of, cycles_of}
 use Rattle.hz_acceptance_model.specs.Replay.{Pipeline, Class, Accepted, FirstRefused}
 use Rattle.hz_check_model.specs.Sites.{Site}
 use Rattle.hz_base_model.specs.Lines.{lines_of}
 use Rattle.hz_trace_model.specs.Traces.{Trace, TraceFault, TraceFaultAt, event_lines}
-use Rattle.hz_answer_model.specs.Texts.{usage_line, fault_line, not_built_line, accepted_line, refused_line}
+use Rattle.hz_answer_model.specs.Texts.{usage_line, fault_line, states_line, accepted_line, refused_line}
 use Rattle.hz_sexp_model.specs.Trees.{Trees}
 use Rattle.hz_answer_model.specs.Words.{Order, replay, eval, order_of}
 use Rattle.hz_answer_model.specs.Phases.{Held, Says, Next, Opens, HasForms}
@@ -36,13 +38,11 @@ Checks name d next status text =
 abbrev pub HasDescription : List ℕ → List ℕ → ((d : Description) → Next Known) → ℕ → List ℕ → Type 0
 HasDescription name bytes next = HasForms name bytes (λ read. Describes name read (λ d. Checks name d (next d)))
 
--- what is built: descriptions with fewer than two automata, in the first treatment
-abbrev pub is_built : Description → Bool
-is_built d = nat_lt (length d.automata) 2 && not d.options.ndfa
-
--- a description that is not built is told so
-abbrev pub Builds : List ℕ → Description → (ℕ → List ℕ → Type 0) → ℕ → List ℕ → Type 0
-Builds name d next status text = MatchBool (is_built d) (next status text) (Says 2 (not_built_line name) status text)
+-- The automata of a description are within their limits of states, or the first that is not is told.
+abbrev pub Compiles : List ℕ → Description → Known → (ℕ → List ℕ → Type 0) → ℕ → List ℕ → Type 0
+Compiles name d known next status text =
+    (AllKeepLimits d known × next status text)
+    ⊎ ((a : ℕ) × IsFirstPastLimit d known a × Says 3 (states_line name (slice_index_or (automaton_names d) a [])) status text)
 
 -- the events of a trace of classes with these names, or its first wrong line
 abbrev pub Traces : List (List ℕ) → List ℕ → List ℕ → Next (List Event) → ℕ → List ℕ → Type 0
@@ -65,9 +65,9 @@ abbrev pub ReplaysTrace : List ℕ → List ℕ → Description → Known → �
 ReplaysTrace trace traced d known =
     Traces (class_names d) trace traced (Replays (pipeline_with d known) (event_lines (class_names d) 1 (lines_of traced)))
 
--- a description without a fault is replayed, where it is built
+-- a description without a fault is compiled and replayed
 abbrev pub ReplaysDescription : List ℕ → List ℕ → List ℕ → Description → Known → ℕ → List ℕ → Type 0
-ReplaysDescription description trace traced d known = Builds description d (ReplaysTrace trace traced d known)
+ReplaysDescription description trace traced d known = Compiles description d known (ReplaysTrace trace traced d known)
 
 -- both texts are judged, the description first
 abbrev pub Judges : List ℕ → List ℕ → List ℕ → List ℕ → ℕ → List ℕ → Type 0
@@ -97,3 +97,17 @@ AnswersOrder held (eval block state) = AnswersEval held block state
 abbrev pub Answer : List (List ℕ) → Held → ℕ → List ℕ → Type 0
 Answer words held status text =
     MatchOption (order_of words) (Says 4 usage_line status text) (λ order. AnswersOrder held order status text)
+
+-- Of the description that a text says and that has no fault, each count of each automaton is within its limit or above
+-- it.
+abbrev pub IsCountedText : List ℕ → Type 0
+IsCountedText bytes = (read : Trees) (d : Description) (known : Known) → forms.Reads bytes read → description_forms.Reads read d → IsSound d known → AreCounted d known
+
+-- the same of the descriptions that an order names and that are held
+abbrev pub IsCountedOrder : Held → Order → Type 0
+IsCountedOrder held (replay description trace) = MatchOption (held description) ⊤ IsCountedText
+IsCountedOrder held (eval block state) = ⊤
+
+-- the same of those that words name
+abbrev pub IsCounted : List (List ℕ) → Held → Type 0
+IsCounted words held = MatchOption (order_of words) ⊤ (IsCountedOrder held)

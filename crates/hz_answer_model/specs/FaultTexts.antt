@@ -66,6 +66,8 @@ check_line file check.circular_reservation site = named_line file (codes "Circul
 check_line file check.self_exclusion site = named_line file (codes "SelfExclusion") site
 check_line file check.set_across_automata site = named_line file (codes "SetAcrossAutomata") site
 check_line file (check.limit what) site = passed_line file site.line (limit_word what) site.name
+check_line file check.alternation_of_two_automata site = named_line file (codes "AlternationOfTwoAutomata") site
+check_line file check.alternation_of_two_lengths site = named_line file (codes "AlternationOfTwoLengths") site
 check_line file check.bypass_twice site = named_line file (codes "BypassTwice") site
 
 -- its status

@@ -17,8 +17,9 @@ fault_line file line what = concat (codes "fault " ∷ file ∷ codes " line " �
 abbrev pub passed_line : List ℕ → ℕ → List ℕ → List ℕ → List ℕ
 passed_line file line what name = concat (codes "limit " ∷ file ∷ codes " line " ∷ decimal line ∷ codes " " ∷ what ∷ codes " " ∷ name ∷ codes "\n" ∷ [])
 
-abbrev pub not_built_line : List ℕ → List ℕ
-not_built_line file = concat (codes "fault " ∷ file ∷ codes " NotBuilt\n" ∷ [])
+-- a limit on the states of an automaton of a description, and the automaton's name
+abbrev pub states_line : List ℕ → List ℕ → List ℕ
+states_line file automaton = concat (codes "limit " ∷ file ∷ codes " automaton " ∷ automaton ∷ codes "\n" ∷ [])
 
 abbrev pub limit_line : List ℕ → List ℕ
 limit_line file = concat (codes "limit " ∷ file ∷ codes " bytes\n" ∷ [])

@@ -68,10 +68,12 @@ module _ (treatment : Treatment) (statements rules : List (Statement ℕ)) (asks
   pub walks_accepted : WalksAccepted (length lists) classes part
   walks_accepted = record { walks = λ t all. part_accepts part classes by_column grids sets parents part_moved none_past auto t (inside t all) }
 
-  stands : (t : List Event) (state : ℕ) → All (IsOfClass (length lists)) t → part_walk part 0 t ≡ Some state → IsLeft classes t (state_at grids sets state)
+  -- where events end stands for what they leave
+  pub stands : (t : List Event) (state : ℕ) → All (IsOfClass (length lists)) t → part_walk part 0 t ≡ Some state → IsLeft classes t (state_at grids sets state)
   stands t state all h = part_stands part classes by_column grids sets parents part_moved none_past auto t state (inside t all) h
 
-  low : (t : List Event) (state : ℕ) → part_walk part 0 t ≡ Some state → state < length part.rows
+  -- and is a row
+  pub low : (t : List Event) (state : ℕ) → part_walk part 0 t ≡ Some state → state < length part.rows
   low t state h = walk_stays part.rows part.columns auto.shape (Some 0) (λ s e. let same : 0 ≡ s = cc in subst (λ n. n < length part.rows) same (auto.shape).start) state (word_of part t) h
 
   pub tells_left : TellsWhatIsLeft (length lists) classes part

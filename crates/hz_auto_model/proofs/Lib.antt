@@ -5,3 +5,5 @@ pub mod PipelineLaws
 pub mod CompiledLaws
 pub mod LimitLaws
 pub mod ReportLaws
+pub mod FactoredLaws
+pub mod DescriptionLaws

@@ -30,7 +30,8 @@ module _ (d : Description) where
   statements_there a low = parts_from 0 (automaton_names d) a _ low ∙ ap (statements_in d) (omega arith)
 
   module _ (known : Known) (a : ℕ) (low : a < automaton_count d) where
-    list_there : (c : ClassItem) → get_or (lists_of d known c) a [] ≡ list_in a (alternatives_of known c.expression)
+    -- the list of a class in it
+    pub list_there : (c : ClassItem) → get_or (lists_of d known c) a [] ≡ list_in a (alternatives_of known c.expression)
     list_there c = get_or-map-range_with_len (λ (automaton : ℕ). list_in automaton (alternatives_of known c.expression)) 0 (automaton_count d) a a [] low (omega arith)
 
     same_class : (o : Option ClassItem) → of_class (option_map (class_in a) (option_map (class_of known) o)) ≡ of_class (option_map class_of_grids (option_map (λ (p : ClassParts). get_or p.lists a []) (option_map (class_parts d known) o)))

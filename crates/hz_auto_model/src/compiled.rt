@@ -1,21 +1,25 @@
 //! Laws of compiled automata.
 
-ghost use Rattle.std.specs.Prelude.{◌≡◌, ◌<◌, ℕ, Bool, List, length, map};
+ghost use Rattle.std.specs.Prelude.{◌≡◌, ◌↔◌, ◌<◌, ℕ, Bool, List, length, map, All, IsSome};
 ghost use Rattle.hz_base_model.specs.Pairs.{Pair};
 ghost use Rattle.hz_altern_model.specs.Sets.{Statement};
+ghost use Rattle.hz_acceptance_model.specs.Events.{Event, IsOfClass};
 ghost use Rattle.hz_acceptance_model.specs.Fitting.{AskTheSame};
-ghost use Rattle.hz_acceptance_model.specs.Replay.{Pipeline, Treatment};
+ghost use Rattle.hz_acceptance_model.specs.Replay.{Pipeline, Treatment, Accepted};
 ghost use Rattle.hz_acceptance_model.specs.Restricted.{restricted};
 ghost use Rattle.hz_mdread_model.specs.Descriptions.{Description};
+ghost use Rattle.hz_check_model.specs.CheckFaults.{IsSound};
 ghost use Rattle.hz_check_model.specs.Places.{Known};
 ghost use Rattle.hz_check_model.specs.CheckedParts.{automaton_count, automata_of, class_parts};
 ghost use Rattle.hz_pipeline_model.specs.Pipelines.{pipeline_with};
-ghost use Rattle.hz_tables_model.specs.Machines.{Part};
+ghost use Rattle.hz_tables_model.specs.Machines.{Machine, Part, machine_walk};
 ghost use Rattle.hz_reach_model.specs.Built.{IsAutomaton};
 ghost use Rattle.hz_reach_model.specs.Columns.{pipeline_on};
 ghost use Rattle.hz_reach_model.specs.Counts.{Count};
 ghost use Rattle.hz_auto_model.specs.AutomatonPipelines.{automaton_pipeline};
 ghost use Rattle.hz_auto_model.specs.ClassColumns.{IsColumns};
+ghost use Rattle.hz_auto_model.specs.Compiled.{Report, IsCompiled, IsFirstPast};
+ghost use Rattle.hz_auto_model.specs.DescriptionLimits.{AllKeepLimits, IsFirstPastLimit};
 ghost use Rattle.hz_auto_model.specs.CompiledParts.{WalksAccepted, TellsWhatIsLeft, IsNumbered, IsWithinLimits, IsPastLimit};
 ghost use Rattle.hz_auto_model.specs.Moved.{IsMoved};
 
@@ -36,4 +40,18 @@ pub fn counts_are_within_or_past()
 /// What a check gives of an automaton is its pipeline: the classes keep their numbers.
 pub fn checked_automata_are_their_pipelines()
     ensures { (d : Description) (known : Known) (a : ℕ) → a < automaton_count d → IsMoved (λ k. k) (restricted a (pipeline_with d known)) (automaton_pipeline d.options (automata_of d) (map (class_parts d known) d.classes) a) }
+{}
+
+/// A description that keeps the two rules accepts events exactly where the pipeline of each automaton does that a check
+/// gives of it.
+pub fn descriptions_are_their_automata()
+    ensures { (d : Description) (known : Known) → IsSound d known → (t : List Event) → Accepted (pipeline_with d known) t ↔ ((a : ℕ) → a < automaton_count d → Accepted (automaton_pipeline d.options (automata_of d) (map (class_parts d known) d.classes) a) t) }
+{}
+
+/// The machine that is compiled of a description walks just the events of its classes that the description accepts. Its
+/// automata then keep their limits, and where a limit is told, it is that of the first automaton past one.
+pub fn compiled_machines_are_descriptions()
+    ensures walks { (d : Description) (known : Known) → IsSound d known → (m : Machine) (reports : List Report) → IsCompiled d.options (automata_of d) (map (class_parts d known) d.classes) m reports → (t : List Event) → All (IsOfClass (length d.classes)) t → IsSome (machine_walk m t) ↔ Accepted (pipeline_with d known) t }
+    ensures keep { (d : Description) (known : Known) (m : Machine) (reports : List Report) → IsCompiled d.options (automata_of d) (map (class_parts d known) d.classes) m reports → AllKeepLimits d known }
+    ensures past { (d : Description) (known : Known) (a : ℕ) (kind : Count) → IsFirstPast d.options (automata_of d) (map (class_parts d known) d.classes) a kind → IsFirstPastLimit d known a }
 {}

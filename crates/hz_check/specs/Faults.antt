@@ -1,12 +1,16 @@
 -- What the code tells, as what the definitions speak of.
+pub mod Twice
+pub mod PastUnits
+pub mod Bypasses
+pub mod Steps
 use Rattle.std.specs.Prelude.{◌≡◌, ℕ, List, ⊤}
 use Rattle.hz_check.specs.declared.fault.LimitName.{LimitName}
 use Rattle.hz_check.specs.declared.fault.LimitName.TheVariants.{Automata, Units, Classes, Alternatives, Cycles, Size}
 use Rattle.hz_check.specs.declared.fault.CheckFault.{CheckFault}
-use Rattle.hz_check.specs.declared.fault.CheckFault.TheVariants.{TwiceDefined, ReservedName, UnknownName, UnknownAutomaton, UnitNeedsAutomaton, CircularReservation, SelfExclusion, SetAcrossAutomata, Limit, BypassTwice, NoMemory}
-use Rattle.hz_check.specs.declared.told.Wrong.{Wrong}
-use Rattle.hz_check.specs.declared.told.Wrong.TheVariants as wrong
-use Rattle.hz_check.specs.declared.told.Told.{Told}
+use Rattle.hz_check.specs.declared.fault.CheckFault.TheVariants.{TwiceDefined, ReservedName, UnknownName, UnknownAutomaton, UnitNeedsAutomaton, CircularReservation, SelfExclusion, SetAcrossAutomata, Limit, AlternationOfTwoAutomata, AlternationOfTwoLengths, BypassTwice, NoMemory}
+use Rattle.hz_check.specs.declared.faults.told.Wrong.{Wrong}
+use Rattle.hz_check.specs.declared.faults.told.Wrong.TheVariants as wrong
+use Rattle.hz_check.specs.declared.faults.told.Told.{Told}
 use Rattle.hz_unfold.specs.Places.{site_of}
 use Rattle.hz_check_model.specs.CheckFaults as model
 use Rattle.hz_check_model.specs.FirstTold as first
@@ -32,6 +36,8 @@ Tells P (CircularReservation line name) = P model.circular_reservation line name
 Tells P (SelfExclusion line name) = P model.self_exclusion line name
 Tells P (SetAcrossAutomata line name) = P model.set_across_automata line name
 Tells P (Limit what line name) = P (model.limit (limit_of what)) line name
+Tells P (AlternationOfTwoAutomata line name) = P model.alternation_of_two_automata line name
+Tells P (AlternationOfTwoLengths line name) = P model.alternation_of_two_lengths line name
 Tells P (BypassTwice line name) = P model.bypass_twice line name
 Tells P NoMemory = ⊤
 
@@ -50,6 +56,8 @@ wrong_of wrong.CircularReservation = model.circular_reservation
 wrong_of wrong.SelfExclusion = model.self_exclusion
 wrong_of wrong.SetAcrossAutomata = model.set_across_automata
 wrong_of (wrong.Limit what) = model.limit (limit_of what)
+wrong_of wrong.AlternationOfTwoAutomata = model.alternation_of_two_automata
+wrong_of wrong.AlternationOfTwoLengths = model.alternation_of_two_lengths
 wrong_of wrong.BypassTwice = model.bypass_twice
 
 -- what is wrong, and where

@@ -1,13 +1,5 @@
-pub mod ByName
 pub mod Names
-pub mod Twice
-pub mod Unknown
-pub mod Units
 pub mod Faults
-pub mod Bypasses
-pub mod Assembly
 pub mod Shape
 pub mod Checked
-pub mod Checking
-pub mod Classes
 pub mod Parts

@@ -1,8 +1,10 @@
 -- What is held for the names of a description.
+pub mod Held
+pub mod First
 use Rattle.std.specs.Prelude.{◌≡◌, ℕ, Bool, List, Option}
 use Rattle.std.specs.Option.{option_map}
-use Rattle.hz_check.specs.declared.by_name.ByName.{ByName}
-use Rattle.hz_check.specs.ByName.{held, is_held}
+use Rattle.hz_check.specs.declared.names.by_name.ByName.{ByName}
+use Rattle.hz_check.specs.Names.Held.{held, is_held}
 use Rattle.hz_base_model.specs.Lines.{place_of}
 use Rattle.hz_check_model.specs.Sites.{is_among}
 

@@ -1,4 +1,6 @@
 -- What is made of a description without a fault while it is still whole.
+pub mod Assembly
+pub mod Classes
 use Rattle.std.specs.Prelude.{◌≡◌, map, All}
 use Rattle.hz_altern.specs.Shapes.{alternatives}
 use Rattle.hz_check.specs.declared.parts.Parts.{Parts}

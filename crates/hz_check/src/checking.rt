@@ -7,10 +7,10 @@ ghost use Rattle.hz_check.specs.Faults.{Tells, IsToldAt};
 ghost use Rattle.hz_check.specs.Parts.{IsPartsOf};
 ghost use Rattle.hz_mdread_model.specs.DescriptionShape.{IsCheckable};
 
-use crate::assembly::attributes;
 use crate::checked::Checked;
-use crate::classes::checked_classes;
 use crate::fault::CheckFault;
+use crate::parts::assembly::attributes;
+use crate::parts::classes::checked_classes;
 use crate::parts::{Parts, parts_of};
 use hz_mdread::Description;
 use hz_regexp::NoMemory;

@@ -84,6 +84,18 @@ pub enum CheckFault {
         line: u32,
         name: Name,
     },
+    /// An alternation of the class holds units of two automata.
+    #[error("line {line}: an alternation of two automata")]
+    AlternationOfTwoAutomata {
+        line: u32,
+        name: Name,
+    },
+    /// The class has units of two automata, and a part of two lengths stands before a comma or in a repeat.
+    #[error("line {line}: an alternation of two lengths")]
+    AlternationOfTwoLengths {
+        line: u32,
+        name: Name,
+    },
     /// A bypass gives a pair of classes another number than an earlier one; the name is the producing class.
     #[error("line {line}: a second number of a bypass")]
     BypassTwice {

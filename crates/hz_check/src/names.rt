@@ -2,16 +2,22 @@
 
 ghost use Rattle.std.specs.Prelude.{◌≡◌, map, List, ℕ};
 ghost use Rattle.hz_mdread.specs.Shape.{description};
-ghost use Rattle.hz_check.specs.ByName.{held};
+ghost use Rattle.hz_check.specs.Names.Held.{held};
 ghost use Rattle.hz_check.specs.Names.{IsPlaced, test_by, test_of};
 ghost use Rattle.hz_check_model.specs.CheckFaults.{values_of};
 ghost use Rattle.hz_check_model.specs.Places.{class_names};
 
-use crate::by_name::ByName;
-use crate::tables::{first_missing, places_of, values_of};
+use crate::names::by_name::ByName;
+use crate::names::tables::{first_missing, places_of, values_of};
 use hz_mdread::{Description, UnitItem};
 use hz_regexp::{Name, NoMemory};
 use std::alloc::Global;
+
+pub(crate) mod by_name;
+pub(crate) mod class_numbers;
+pub(crate) mod items;
+pub(crate) mod site;
+pub(crate) mod tables;
 
 /// A description with tables of its names.
 #[derive(Drop)]
@@ -37,9 +43,9 @@ pub(crate) struct Names<'a> {
 impl<'a> Names<'a> {
     ghost use Rattle.std.specs.Prelude.{◌≡◌, IfOk, map, filter, not, List, ℕ};
     ghost use Rattle.std.specs.Option.{option_copied};
-    ghost use Rattle.hz_check.specs.Unknown.{first_of};
+    ghost use Rattle.hz_check.specs.Names.First.{first_of};
     ghost use Rattle.hz_mdread.specs.Shape.{description};
-    ghost use Rattle.hz_check.specs.ByName.{held};
+    ghost use Rattle.hz_check.specs.Names.Held.{held};
     ghost use Rattle.hz_check.specs.Names.{IsPlaced, test_by, test_of};
     ghost use Rattle.hz_check_model.specs.CheckFaults.{is_unit, is_reservable, is_class, values_of, home};
     ghost use Rattle.hz_check_model.specs.Places.{class_names, automaton_number};

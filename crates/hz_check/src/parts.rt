@@ -6,17 +6,23 @@ ghost use Rattle.hz_check.specs.Faults.{Tells, IsToldAt};
 ghost use Rattle.hz_check.specs.Parts.{IsPartsOf};
 ghost use Rattle.hz_mdread_model.specs.DescriptionShape.{IsCheckable};
 
-use crate::assembly::{automata, bypasses};
-use crate::bypasses::second_number;
 use crate::checked::{CheckedAutomaton, CheckedBypass};
-use crate::expansion::expanded;
 use crate::fault::CheckFault;
-use crate::placed::placed_sets;
-use crate::steps::{named, ordered, placed};
-use crate::told::{Wrong, refused};
+use crate::faults::alternations::unbroken;
+use crate::faults::bypass_twice::second_number;
+use crate::faults::past_expansions::expanded;
+use crate::faults::steps::{named, ordered, placed};
+use crate::faults::told::{Wrong, refused};
+use crate::parts::assembly::{automata, bypasses};
+use crate::parts::placed_sets::placed_sets;
 use hz_altern::Alt;
 use hz_mdread::Description;
 use std::alloc::Global;
+
+pub(crate) mod assembly;
+pub(crate) mod classes;
+pub(crate) mod placed_sets;
+pub(crate) mod rules;
 
 /// The automata, the bypasses, and for each class its alternatives.
 #[derive(Drop)]
@@ -44,7 +50,11 @@ pub(crate) fn parts_of(alloc: Global, desc: &Description) -> Result<Parts, Check
         Ok(places) => places,
         Err(fault) => return Err(fault),
     };
-    let lists = match expanded(alloc, desc, &places, &order.numbers) {
+    let expanded = match expanded(alloc, desc, &places, &order.numbers) {
+        Ok(lists) => lists,
+        Err(fault) => return Err(fault),
+    };
+    let lists = match unbroken(alloc, desc, &places, &order.numbers, expanded) {
         Ok(lists) => lists,
         Err(fault) => return Err(fault),
     };

@@ -54,7 +54,7 @@ told_none : (fault : CheckFault) (o : Option Site) (otherwise : Option (Told Che
 told_none fault None otherwise e = (refl, e)
 told_none fault (Some s) otherwise e = absurd (none-some _ (sym e))
 
-none_stands : (standings : List (Standing CheckFault)) → first_told standings ≡ None → All (λ s. s.sites ≡ []) standings
+pub none_stands : (standings : List (Standing CheckFault)) → first_told standings ≡ None → All (λ s. s.sites ≡ []) standings
 none_stands [] e = All-nil (λ s. s.sites ≡ [])
 none_stands (s ∷ others) e =
     let here = told_none s.fault (earliest s.sites) (first_told others) e in
@@ -179,7 +179,7 @@ one_name names a b n x y =
     ∙ sym ((bytes_eq-Decides b (get_or names n [])).0 ((position-Some (bytes_eq b) names n [] y).1))
 
 -- what passes no test is not in a list of those that pass
-none_passes : {A : Type 0} (f : A → Site) (p : A → Bool) (xs : List A) (x : A) → map f (filter p xs) ≡ [] → Contains xs x → p x ≡ true → ⊥
+pub none_passes : {A : Type 0} (f : A → Site) (p : A → Bool) (xs : List A) (x : A) → map f (filter p xs) ≡ [] → Contains xs x → p x ≡ true → ⊥
 none_passes f p xs x none there passes = Contains-nil (f x) (subst (λ (ss : List Site). Contains ss (f x)) none (Contains-map f (filter p xs) x (Contains-filter p x passes xs there)))
 
 -- two bypasses of one pair of classes have one number
@@ -651,7 +651,7 @@ module _ (d : Description) where
       bypass_classes = All-map (λ b. All (λ n. n < length (map (class_parts d known) d.classes)) b.outs × All (λ n. n < length (map (class_parts d known) d.classes)) b.ins) (bypass_parts d) d.bypasses
           (λ k e within. let a = length-map d.classes (class_parts d known) in let b = length-map d.classes (λ (c : ClassItem). c.name) in
           let low = λ (names : List (List ℕ)). subst (λ (n : ℕ). All (λ m. m < n) (class_numbers d names)) (b ∙ sym a) (numbers_low (class_names d) names) in (low ((get_or d.bypasses k e).outs), low ((get_or d.bypasses k e).ins)));
-      one_number = pairs_map SameNumber (bypass_parts d) d.bypasses (λ i j e low within. same_number d (get_or d.bypasses i e) (get_or d.bypasses j e) ((agreed [] d.bypasses (no_meanings 8 none (omega arith))).1 i j e low within));
+      one_number = pairs_map SameNumber (bypass_parts d) d.bypasses (λ i j e low within. same_number d (get_or d.bypasses i e) (get_or d.bypasses j e) ((agreed [] d.bypasses (no_meanings 10 none (omega arith))).1 i j e low within));
       unit_names = units_apart (unit_items_apart) 0 (automaton_names d);
       sets = all_automata (λ a. All (λ s. All (λ u. u < length a.units) s.units × All (λ pattern. All (λ u. u < length a.units) pattern) s.patterns) a.statements)
           (λ n name. sets_low n) 0 (automaton_names d);

@@ -7,3 +7,5 @@ pub mod PlaceLaws
 pub mod CheckTotal
 pub mod ToldLaws
 pub mod OnceLaws
+pub mod SplitLaws
+pub mod RankLaws

@@ -15,6 +15,7 @@ use Rattle.hz_check_model.specs.CountingOrder.{Reserving, reservation_site, rese
 use Rattle.hz_check_model.specs.FirstTold.{Standing, Told, first_told}
 use Rattle.hz_check_model.specs.Places.{Known, class_names, meaning, unit_place, unit_places, IsKnown}
 use Rattle.hz_check_model.specs.Sites.{Site, is_among, repeated}
+use Rattle.hz_check_model.specs.SplitClasses.{mixed_classes, uneven_classes}
 
 -- the limits, in the order in which they are asked
 pub data LimitName : Type 0 where
@@ -24,7 +25,7 @@ pub data LimitName : Type 0 where
 pub data CheckFault : Type 0 where
   twice_defined reserved_name unknown_name unknown_automaton unit_needs_automaton circular_reservation self_exclusion set_across_automata : CheckFault
   limit : (what : LimitName) → CheckFault
-  bypass_twice : CheckFault
+  alternation_of_two_automata alternation_of_two_lengths bypass_twice : CheckFault
 
 -- Where names are defined.
 
@@ -251,11 +252,17 @@ abbrev pub faults_of_limits : Description → Known → List Reserving → List 
 faults_of_limits d known order =
     map (λ what. record { fault = limit what; sites = past_limit d known order what }) (automata ∷ units ∷ classes ∷ alternatives ∷ cycles ∷ size ∷ [])
 
+-- the faults of classes of several automata, in their order
+abbrev pub faults_of_classes : Description → Known → List (Standing CheckFault)
+faults_of_classes d known = record { fault = alternation_of_two_automata; sites = mixed_classes d known }
+    ∷ record { fault = alternation_of_two_lengths; sites = uneven_classes d known }
+    ∷ []
+
 -- the faults behind that of circular reservations, in their order
 abbrev pub faults_of_meanings : Description → Known → List Reserving → List (Standing CheckFault)
 faults_of_meanings d known order = record { fault = self_exclusion; sites = self_exclusions d }
     ∷ record { fault = set_across_automata; sites = sets_across_automata d }
-    ∷ (faults_of_limits d known order ++ record { fault = bypass_twice; sites = second_numbers d } ∷ [])
+    ∷ (faults_of_limits d known order ++ faults_of_classes d known ++ record { fault = bypass_twice; sites = second_numbers d } ∷ [])
 
 -- The names are right: each has its alternatives, and there is a counting order.
 pub record IsUnfolded (d : Description) (known : Known) (order : List Reserving) : Type 0 where

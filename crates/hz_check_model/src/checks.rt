@@ -1,16 +1,17 @@
 //! Laws of what can be wrong with a description.
 
-ghost use Rattle.std.specs.Prelude.{◌≡◌, ◌≢◌, ◌≤◌, ◌↔◌, ◌⊎◌, List, [], ◌∷◌, ◌++◌, length, slice_get, map, All, Contains, Some, None};
+ghost use Rattle.std.specs.Prelude.{◌≡◌, ◌≢◌, ◌≤◌, ◌↔◌, ◌⊎◌, List, [], ◌∷◌, ◌++◌, length, slice_get, map, All, Contains, Some, None, IsFalse};
 ghost use Rattle.std.specs.List.{AllPairs};
 ghost use Rattle.hz_base_model.specs.Limits.{size_limit};
 ghost use Rattle.hz_check_model.specs.CheckFaults.{CheckFault, CheckFaultAt, IsSound, IsFirst, IsUnfolded, past_units, second_numbers};
 ghost use Rattle.hz_check_model.specs.CountingOrder.{Reserving, past_size, reservations_of, classes_of};
-ghost use Rattle.hz_check_model.specs.Places.{automaton_number, unit_places, Known};
+ghost use Rattle.hz_check_model.specs.Places.{automaton_number, unit_places, Known, meaning};
 ghost use Rattle.hz_check_model.specs.ToldPlaces.{ToldBehind, StandsBefore, IsPastUnits, unit_site, units_beside, PassesSize, size_together, TellsSecondNumber};
 ghost use Rattle.hz_check_model.specs.CheckedParts.{automata_of, class_parts, bypass_parts, attributes_of};
 ghost use Rattle.hz_check_model.specs.CheckedShape.{IsKept};
-ghost use Rattle.hz_mdread_model.specs.Descriptions.{Description, UnitItem};
+ghost use Rattle.hz_mdread_model.specs.Descriptions.{Description, UnitItem, ClassItem};
 ghost use Rattle.hz_mdread_model.specs.DescriptionShape.{IsCheckable};
+ghost use Rattle.hz_split_model.specs.Rules.{is_mixed_class, is_uneven_class};
 ghost use Rattle.hz_check_model.specs.Sites.{Site, earliest, repeated};
 
 /// A description has at most one fault, at one place.
@@ -78,4 +79,10 @@ pub fn size_is_told_where_it_passes()
 /// an earlier bypass.
 pub fn second_numbers_are_told()
     ensures { (d : Description) (s : Site) → Contains (second_numbers d) s ↔ TellsSecondNumber d.bypasses s }
+{}
+
+/// No class of a description without a fault breaks one of the two rules on units of several automata.
+pub fn sound_classes_keep_the_rules()
+    ensures unmixed { (d : Description) (known : Known) → IsSound d known → (c : ClassItem) → Contains d.classes c → IsFalse (is_mixed_class (meaning d) (length d.reservations) known c.expression) }
+    ensures even { (d : Description) (known : Known) → IsSound d known → (c : ClassItem) → Contains d.classes c → IsFalse (is_uneven_class (meaning d) (length d.reservations) known c.expression) }
 {}

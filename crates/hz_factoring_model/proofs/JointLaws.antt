@@ -27,10 +27,10 @@ use Rattle.hz_base_model.proofs.Elements.{Contains-nil, Contains-cons_cases, Con
 use Rattle.hz_altern_model.proofs.UnitLaws.{AreAllOf, all_one, all_alternatives}
 use Rattle.hz_check_model.proofs.EarliestLaws.{no_site}
 use Rattle.hz_check_model.proofs.PlaceLaws.{at_name_in, from_filter_map}
-use Rattle.hz_factoring_model.specs.Factored.{KeepsRules}
+use Rattle.hz_check_model.proofs.SplitLaws.{unmixed, even}
 use Rattle.hz_factoring_model.proofs.Choices.{there, Factors, none_factors}
 use Rattle.hz_factoring_model.proofs.ExpressionFactors.{Contains-flat_map, class_factors}
-use Rattle.hz_factoring_model.proofs.RankLaws.{ranks, ranks_low}
+use Rattle.hz_check_model.proofs.RankLaws.{ranks, ranks_low}
 use Rattle.hz_factoring_model.proofs.SideBySide.{IsJoint}
 
 -- where nothing is told, no fault stands anywhere
@@ -193,15 +193,14 @@ module _ (d : Description) (known : Known) (sound : IsSound d known) where
   no_set_across : sets_across_automata d ≡ []
   no_set_across = none_stands (faults_of_meanings d known sound.order) sound.free 1 (record { fault = CheckFault.set_across_automata; sites = [] }) (omega arith)
 
-  module _ (keeps : KeepsRules d known) where
-    pub class_factors_of : (c : ClassItem) → Contains d.classes c → Factors (automaton_count d) (alternatives_of known c.expression)
-    class_factors_of c h = class_factors (automaton_count d) (some_automaton d) known (meaning d) (ranks d known right) right.expands (length d.reservations) (ranks_low d known right) c.expression (keeps.unmixed c h) (keeps.even c h)
+  pub class_factors_of : (c : ClassItem) → Contains d.classes c → Factors (automaton_count d) (alternatives_of known c.expression)
+  class_factors_of c h = class_factors (automaton_count d) (some_automaton d) known (meaning d) (ranks d known right) right.expands (length d.reservations) (ranks_low d known right) c.expression (unmixed d known sound c h) (even d known sound c h)
 
-    pub joint : IsJoint (automaton_count d) (pipeline_with d known)
-    joint = record {
-      some = some_automaton d;
-      pairs = λ k x p h. ((at_class d known right (AreAllOf (IsLow d known right)) (record { each = λ a none. absurd (Contains-nil a none) }) (λ c there_c. class_low d known right c) k).each x.item (there (alternatives_at (pipeline_with d known) k) x)).each p h;
-      statements = λ s h. let found = Contains-from_map (statement_of d) d.sets s h in
-          subst (λ (t : Statement UnitPlace). (a : ℕ) × (a < automaton_count d) × IsStatementOf a t) found.2 (statement_home d no_set_across found.0 found.1);
-      factors = at_class d known right (Factors (automaton_count d)) (none_factors (automaton_count d)) class_factors_of;
-    }
+  pub joint : IsJoint (automaton_count d) (pipeline_with d known)
+  joint = record {
+    some = some_automaton d;
+    pairs = λ k x p h. ((at_class d known right (AreAllOf (IsLow d known right)) (record { each = λ a none. absurd (Contains-nil a none) }) (λ c there_c. class_low d known right c) k).each x.item (there (alternatives_at (pipeline_with d known) k) x)).each p h;
+    statements = λ s h. let found = Contains-from_map (statement_of d) d.sets s h in
+        subst (λ (t : Statement UnitPlace). (a : ℕ) × (a < automaton_count d) × IsStatementOf a t) found.2 (statement_home d no_set_across found.0 found.1);
+    factors = at_class d known right (Factors (automaton_count d)) (none_factors (automaton_count d)) class_factors_of;
+  }

@@ -4,5 +4,4 @@ pub mod InsideFits
 pub mod FirstItems
 pub mod SideBySide
 pub mod RunLaws
-pub mod RankLaws
 pub mod JointLaws

@@ -1,5 +1,4 @@
 //! The factoring law: a description that keeps the two rules on classes of several automata is its automata side by side.
 #![tactic(auto)]
 
-pub mod depth;
 pub mod factoring;

@@ -1,12 +1,14 @@
 //! The rows: what `run` answers, over files and a sink in memory. `d` is the description and `t` the trace.
 ghost use Rattle.std.specs.Prelude.{◌≡◌, ◌<◌, IfOk};
 
+mod automata;
 mod blocks;
 mod checks;
 mod failures;
 mod limits;
 mod machines;
 mod pairs;
+mod splits;
 mod texts;
 mod traces;
 

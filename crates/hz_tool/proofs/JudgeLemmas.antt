@@ -71,6 +71,8 @@ named_said named.UnitNeedsAutomaton name site = refl
 named_said named.CircularReservation name site = refl
 named_said named.SelfExclusion name site = refl
 named_said named.SetAcrossAutomata name site = refl
+named_said named.AlternationOfTwoAutomata name site = refl
+named_said named.AlternationOfTwoLengths name site = refl
 named_said named.BypassTwice name site = refl
 
 named_status : (k : NamedKind) → check_status (named_fault k) ≡ 2
@@ -82,6 +84,8 @@ named_status named.UnitNeedsAutomaton = refl
 named_status named.CircularReservation = refl
 named_status named.SelfExclusion = refl
 named_status named.SetAcrossAutomata = refl
+named_status named.AlternationOfTwoAutomata = refl
+named_status named.AlternationOfTwoLengths = refl
 named_status named.BypassTwice = refl
 
 -- a text's first fault is told

@@ -1,9 +1,7 @@
 pub mod AnswerLemmas
-pub mod CheckedLemmas
-pub mod EventLemmas
 pub mod JudgeLemmas
 pub mod ListingLemmas
-pub mod NameLemmas
-pub mod ReplayLemmas
+pub mod MachineLemmas
 pub mod RunLemmas
+pub mod TraceLemmas
 pub mod WritingLemmas

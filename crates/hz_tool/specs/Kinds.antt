@@ -59,6 +59,8 @@ named_word named.UnitNeedsAutomaton = codes "UnitNeedsAutomaton"
 named_word named.CircularReservation = codes "CircularReservation"
 named_word named.SelfExclusion = codes "SelfExclusion"
 named_word named.SetAcrossAutomata = codes "SetAcrossAutomata"
+named_word named.AlternationOfTwoAutomata = codes "AlternationOfTwoAutomata"
+named_word named.AlternationOfTwoLengths = codes "AlternationOfTwoLengths"
 named_word named.BypassTwice = codes "BypassTwice"
 
 -- the fault that is told of a name
@@ -71,6 +73,8 @@ named_fault named.UnitNeedsAutomaton = check.unit_needs_automaton
 named_fault named.CircularReservation = check.circular_reservation
 named_fault named.SelfExclusion = check.self_exclusion
 named_fault named.SetAcrossAutomata = check.set_across_automata
+named_fault named.AlternationOfTwoAutomata = check.alternation_of_two_automata
+named_fault named.AlternationOfTwoLengths = check.alternation_of_two_lengths
 named_fault named.BypassTwice = check.bypass_twice
 
 -- the fault of forms that is told, if it is one

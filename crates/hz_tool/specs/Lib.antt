@@ -1,7 +1,6 @@
-pub mod Checked
 pub mod Decisions
 pub mod Endings
 pub mod Kinds
-pub mod Replay
+pub mod Machines
 pub mod Reports
 pub mod Words

@@ -4,7 +4,6 @@ ghost use Rattle.std.specs.Prelude.{◌≡◌, ◌^◌, ◌<◌, ◌≤◌, IfOk
 ghost use Rattle.hz_mdread_model.specs.DescriptionForms as description_forms;
 ghost use Rattle.hz_mdread_model.specs.DescriptionShape.{IsWellFormed, IsCheckable};
 ghost use Rattle.hz_sexp_model.specs.Forms as forms;
-ghost use Rattle.hz_base_model.specs.Limits.{class_limit};
 ghost use Rattle.hz_base_model.specs.Lines.{lines_of};
 ghost use Rattle.hz_rtl.specs.Shape.{instructions};
 ghost use Rattle.hz_rtl.specs.States.{words};
@@ -15,19 +14,17 @@ ghost use Rattle.hz_check.specs.Checked.{IsCheckedOf};
 ghost use Rattle.hz_mdread.specs.Shape.{description};
 ghost use Rattle.hz_sexp.specs.Shape.{trees};
 ghost use Rattle.hz_tool.specs.Decisions.{IsFormsReport, IsExpressionKind, IsDescriptionReport, IsCheckReport, IsRtlReport, IsTraceReport};
-ghost use Rattle.hz_replay.specs.Names.{names_in};
 ghost use Rattle.hz_replay.specs.Traces.{events_in, lines_in};
-ghost use Rattle.indexmap.specs.IndexSet.{index_set_len};
 
 use super::kind::{ExpressionKind, Kind, NamedKind};
 use super::report::Report;
 use hz_check::{CheckFault, Checked, check};
 use hz_mdread::{Description, MdFault, read_description};
 use hz_regexp::{ExprFault, Name};
-use hz_replay::{Event, TraceFault, read_events};
+use hz_replay::{Event, TraceFault, read_trace};
 use hz_rtl::{Block, RtlFault, State, read_block, read_state};
 use hz_sexp::{Form, SexpFault, read_forms};
-use indexmap::IndexSet;
+use hz_tables::Machine;
 use std::alloc::Global;
 
 /// The forms of a text, or the report of its first fault.
@@ -147,6 +144,12 @@ pub fn judge_check<'a>(
         Err(CheckFault::SetAcrossAutomata { line, name }) => {
             Err(named(file, NamedKind::SetAcrossAutomata, line, name))
         }
+        Err(CheckFault::AlternationOfTwoAutomata { line, name }) => {
+            Err(named(file, NamedKind::AlternationOfTwoAutomata, line, name))
+        }
+        Err(CheckFault::AlternationOfTwoLengths { line, name }) => {
+            Err(named(file, NamedKind::AlternationOfTwoLengths, line, name))
+        }
         Err(CheckFault::BypassTwice { line, name }) => {
             Err(named(file, NamedKind::BypassTwice, line, name))
         }
@@ -201,20 +204,19 @@ pub fn judge_state<'a>(alloc: Global, file: &'a str, read: &[Form]) -> Result<St
     Err(Report::Fault { file, line, kind })
 }
 
-/// The events of a trace, or the report of its first wrong line.
+/// The events of a trace over the classes of a machine, or the report of its first wrong line.
 pub fn judge_trace<'a>(
     alloc: Global,
     file: &'a str,
-    classes: &IndexSet<Vec<u8>>,
+    machine: &Machine,
     text: &[u8],
 ) -> Result<Vec<Event>, Report<'a>>
-    requires count { index_set_len classes.now ≤ class_limit }
-    requires short { length text.now < 2 ^ 32 }
-    ensures ok { IfOk result (λ events. Trace (names_in classes.now.keys) text.now (events_in events.items)) }
-    ensures lines { IfOk result (λ events. lines_in events.items ≡ event_lines (names_in classes.now.keys) 1 (lines_of text.now)) }
-    ensures err { IfErr result (IsTraceReport file.entry.now (names_in classes.now.keys) text.now) }
+    requires { length text.now < 2 ^ 32 }
+    ensures ok { IfOk result (λ events. Trace machine.now.classes.items text.now (events_in events.items)) }
+    ensures lines { IfOk result (λ events. lines_in events.items ≡ event_lines machine.now.classes.items 1 (lines_of text.now)) }
+    ensures err { IfErr result (IsTraceReport file.entry.now machine.now.classes.items text.now) }
 {
-    let (line, kind) = match read_events(alloc, classes, text) {
+    let (line, kind) = match read_trace(alloc, text, machine) {
         Ok(events) => return Ok(events),
         Err(TraceFault::BadLine { line }) => (line, Kind::BadLine),
         Err(TraceFault::UnknownClass { line }) => (line, Kind::UnknownClass),

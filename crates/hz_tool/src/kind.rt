@@ -100,6 +100,8 @@ pub enum NamedKind {
     CircularReservation,
     SelfExclusion,
     SetAcrossAutomata,
+    AlternationOfTwoAutomata,
+    AlternationOfTwoLengths,
     BypassTwice,
 }
 
@@ -119,6 +121,8 @@ impl NamedKind {
             NamedKind::CircularReservation => b"CircularReservation",
             NamedKind::SelfExclusion => b"SelfExclusion",
             NamedKind::SetAcrossAutomata => b"SetAcrossAutomata",
+            NamedKind::AlternationOfTwoAutomata => b"AlternationOfTwoAutomata",
+            NamedKind::AlternationOfTwoLengths => b"AlternationOfTwoLengths",
             NamedKind::BypassTwice => b"BypassTwice",
         }
     }

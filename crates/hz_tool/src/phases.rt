@@ -8,8 +8,8 @@ ghost use Rattle.hz_mdread_model.specs.DescriptionShape.{IsCheckable};
 ghost use Rattle.hz_sexp.specs.Shape.{trees};
 ghost use Rattle.hz_tool.specs.Decisions.{Agrees, IsJudged};
 
-use super::checked::replay_report;
 use super::judging::{judge_check, judge_description, judge_forms};
+use super::replaying::replay_report;
 use super::report::Report;
 use super::words::ReplayOrder;
 use hz_mdread::Description;

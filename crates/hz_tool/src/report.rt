@@ -27,7 +27,7 @@ pub enum Report<'a> {
     /// The first issue that does not fit: its line, counted from 1, and its class.
     Refused {
         line: u64,
-        class: Vec<u8>,
+        class: Name,
     },
     /// The state that a block leaves.
     After {
@@ -60,9 +60,10 @@ pub enum Report<'a> {
         limit: LimitName,
         name: Name,
     },
-    /// A text of a form that is not built.
-    NotBuilt {
+    /// An automaton of a description, by its name, that has a count of states above its limit.
+    States {
         file: &'a str,
+        automaton: Name,
     },
     /// A file of more bytes than its limit.
     Long {
@@ -98,7 +99,7 @@ fn put_accepted<S: Sink>(out: &mut S, issues: u64, cycles: u64) -> Result<(), Fa
 }
 
 /// Writes the line of a refused trace.
-fn put_refused<S: Sink>(out: &mut S, line: u64, class: &[u8]) -> Result<(), Failed>
+fn put_refused<S: Sink>(out: &mut S, line: u64, class: &Name) -> Result<(), Failed>
     requires { S.faults out.old < 2 ^ 64 - 1 }
     ensures { Writes S.written S.room S.faults out.old out.new (model.refused_line line class.now) result }
 {
@@ -109,7 +110,7 @@ fn put_refused<S: Sink>(out: &mut S, line: u64, class: &[u8]) -> Result<(), Fail
             b"refused line ",
             digits.format(line).as_bytes(),
             b" ",
-            class,
+            class.bytes(),
             b"\n",
         ],
     )
@@ -221,6 +222,23 @@ fn put_passed<S: Sink>(
     )
 }
 
+/// Writes the line of an automaton that has too many states.
+fn put_states<S: Sink>(out: &mut S, file: &str, automaton: &Name) -> Result<(), Failed>
+    requires { S.faults out.old < 2 ^ 64 - 1 }
+    ensures { Writes S.written S.room S.faults out.old out.new (model.states_line file.now automaton.now) result }
+{
+    put_all(
+        out,
+        &[
+            b"limit ",
+            file.as_bytes(),
+            b" automaton ",
+            automaton.bytes(),
+            b"\n",
+        ],
+    )
+}
+
 impl Report<'_> {
     ghost use Rattle.hz_tool.specs.Reports.{text_of, status_of};
 
@@ -236,7 +254,7 @@ impl Report<'_> {
             Report::Expression { .. } => 2,
             Report::Named { .. } => 2,
             Report::Passed { .. } => 3,
-            Report::NotBuilt { .. } => 2,
+            Report::States { .. } => 3,
             Report::Long { .. } => 3,
             Report::Usage => 4,
             Report::Memory => 5,
@@ -251,7 +269,7 @@ impl Report<'_> {
     {
         match self {
             Report::Accepted { issues, cycles } => put_accepted(out, *issues, *cycles),
-            Report::Refused { line, class } => put_refused(out, *line, class.as_slice()),
+            Report::Refused { line, class } => put_refused(out, *line, class),
             Report::After { state } => put_state(out, state),
             Report::Fault { file, line, kind } => put_fault(out, file, *line, *kind),
             Report::Expression {
@@ -272,9 +290,7 @@ impl Report<'_> {
                 limit,
                 name,
             } => put_passed(out, file, *line, *limit, name),
-            Report::NotBuilt { file } => {
-                put_all(out, &[b"fault ", file.as_bytes(), b" NotBuilt\n"])
-            }
+            Report::States { file, automaton } => put_states(out, file, automaton),
             Report::Long { file } => put_all(out, &[b"limit ", file.as_bytes(), b" bytes\n"]),
             Report::Usage => put_all(out, &[b"usage: hz replay DESC TRACE | eval BLOCK STATE\n"]),
             Report::Memory => put_all(out, &[b"memory\n"]),

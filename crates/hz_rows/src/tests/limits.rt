@@ -23,7 +23,7 @@ fn limits_of_descriptions(rt: HostRuntime) -> Result<(), Fail> {
     let alloc = rt.alloc();
     let accepted = b"accepted 0 issues 0 cycles\n".as_slice();
     let automata = ("", "(define_automaton \"a", "\")\n");
-    limited(&rt, alloc, automata, 16, 2, b"fault d NotBuilt\n")?;
+    limited(&rt, alloc, automata, 16, 0, accepted)?;
     limited(
         &rt,
         alloc,
@@ -155,7 +155,7 @@ fn sizes_count_in_their_order(rt: HostRuntime) -> Result<(), Fail> {
 
 /// The ends of two automata with 128 units each.
 const UNIT_ROWS: &[(&str, u8, &[u8])] = &[
-    ("", 2, b"fault d NotBuilt\n"),
+    ("", 0, b"accepted 0 issues 0 cycles\n"),
     (
         "\n(define_cpu_unit \"a\" \"n\")\n(define_cpu_unit \"b\" \"m\")",
         3,

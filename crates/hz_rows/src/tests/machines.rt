@@ -159,19 +159,6 @@ const MACHINE_ROWS: &[(&[u8], &[u8], u8, &[u8])] = &[
         1,
         b"refused line 3 x\n",
     ),
-    // two automata and ndfa are not built
-    (
-        b"(define_automaton \"a,b\")\n(define_cpu_unit \"a0,a1\" \"a\")\n(define_cpu_unit \"b0,b1\" \"b\")\n(define_insn_reservation \"x\" 1 (const_int 1) \"a0+b0\")\n",
-        b"",
-        2,
-        b"fault d NotBuilt\n",
-    ),
-    (
-        b"(define_cpu_unit \"a,b\")\n(define_insn_reservation \"x\" 1 (const_int 1) \"a|b\")\n(define_insn_reservation \"y\" 1 (const_int 1) \"a\")\n(automata_option \"ndfa\")",
-        b"issue",
-        2,
-        b"fault d NotBuilt\n",
-    ),
     // the description is judged before the trace
     (
         b"(define_cpu_unit \"a,b\")\n(define_insn_reservation \"x\" 1 (const_int 1) \"a|b\")\n(define_insn_reservation \"y\" 1 (const_int 1) \"a\")\n(define_cpu_unit \"a\")\n",

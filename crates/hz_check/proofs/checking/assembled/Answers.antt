@@ -3,8 +3,8 @@ use Rattle.std.proofs.lemmas.List.{length-map}
 use Rattle.hz_altern.specs.Shapes.{alternatives}
 use Rattle.hz_mdread.specs.Shape.{description, class_item, attribute_item}
 use Rattle.hz_check.specs.Shape.{automaton_of}
-use Rattle.hz_check.proofs.Next.{map-map}
-use Rattle.hz_check.proofs.PartSteps.{length-automata, kept_of}
+use Rattle.hz_check.proofs.Lists.Next.{map-map}
+use Rattle.hz_check.proofs.Built.PartSteps.{length-automata, kept_of}
 use Rattle.hz_check_model.proofs.KeptLaws.{parts_kept}
 use Rattle.hz_altern_model.specs.Alternatives.{alternatives_of}
 use Rattle.hz_altern_model.specs.Automata.{listed}

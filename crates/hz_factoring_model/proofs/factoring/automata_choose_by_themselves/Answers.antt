@@ -5,9 +5,9 @@ use Rattle.hz_factoring_model.proofs.RunLaws.{each_accepts, all_accept, one_refu
 use Rattle.hz_factoring_model.proofs.factoring.automata_choose_by_themselves.Goals as goal
 
 pub returns-clause-acceptance : goal.returns-clause-acceptance
-returns-clause-acceptance c = λ d known sound keeps t.
-    (each_accepts (automaton_count d) (pipeline_with d known) (joint d known sound keeps) t, all_accept (automaton_count d) (pipeline_with d known) (joint d known sound keeps) t)
+returns-clause-acceptance c = λ d known sound t.
+    (each_accepts (automaton_count d) (pipeline_with d known) (joint d known sound) t, all_accept (automaton_count d) (pipeline_with d known) (joint d known sound) t)
 
 pub returns-clause-refused : goal.returns-clause-refused
-returns-clause-refused c = λ d known sound keeps t i.
-    (one_refuses (automaton_count d) (pipeline_with d known) (joint d known sound keeps) t i, all_refuse (automaton_count d) (pipeline_with d known) (joint d known sound keeps) t i)
+returns-clause-refused c = λ d known sound t i.
+    (one_refuses (automaton_count d) (pipeline_with d known) (joint d known sound) t i, all_refuse (automaton_count d) (pipeline_with d known) (joint d known sound) t i)

@@ -6,7 +6,7 @@ use Rattle.hz_factoring_model.proofs.SideBySide.{taken_part}
 use Rattle.hz_factoring_model.proofs.factoring.issues_are_taken_in_each_automaton.Goals as goal
 
 pub returns-clause-parts : goal.returns-clause-parts
-returns-clause-parts c = λ d known sound keeps s k i may a lt. taken_part (automaton_count d) (pipeline_with d known) (joint d known sound keeps) s k i may a lt
+returns-clause-parts c = λ d known sound s k i may a lt. taken_part (automaton_count d) (pipeline_with d known) (joint d known sound) s k i may a lt
 
 pub returns-clause-whole : goal.returns-clause-whole
-returns-clause-whole c = λ d known sound keeps s k choices may. taken_together (automaton_count d) (pipeline_with d known) (joint d known sound keeps) s k choices may
+returns-clause-whole c = λ d known sound s k choices may. taken_together (automaton_count d) (pipeline_with d known) (joint d known sound) s k choices may

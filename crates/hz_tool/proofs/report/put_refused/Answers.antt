@@ -6,4 +6,5 @@ use Rattle.hz_tool.proofs.report.put_refused.Goals as goal
 pub returns : goal.returns
 returns g c =
     subst (λ (digits : List ℕ). Writes g.S.Sink.written g.S.Sink.room g.S.Sink.faults c.args.out.now c.put_all.new.out (concat (codes "refused line " ∷ digits ∷ codes " " ∷ c.args.class.now ∷ codes "\n" ∷ [])) c.put_all.result) (c.as_bytes.ensures.value ∙ c.format.ensures.text)
-    c.put_all.ensures
+    (subst (λ (name : List ℕ). Writes g.S.Sink.written g.S.Sink.room g.S.Sink.faults c.args.out.now c.put_all.new.out (concat (codes "refused line " ∷ c.as_bytes.result.now ∷ codes " " ∷ name ∷ codes "\n" ∷ [])) c.put_all.result) c.bytes.ensures.value
+    c.put_all.ensures)

@@ -3,7 +3,7 @@ use Rattle.std.proofs.lemmas.Bool.{ltb-true}
 use Rattle.std.proofs.lemmas.Option.{slice_get_read, slice_get-map}
 use Rattle.std.specs.Option.{option_map}
 use Rattle.hz_mdread.specs.Shape.{description, unit_item}
-use Rattle.hz_check.proofs.Homes.{home-at}
+use Rattle.hz_check.proofs.Tables.Homes.{home-at}
 use Rattle.hz_check_model.specs.Places.{automaton_number}
 use Rattle.hz_check.proofs.names.Names.home.Goals as goal
 

@@ -1,8 +1,8 @@
 use Rattle.std.proofs.Common.{map, ap, ◌∙◌}
 use Rattle.hz_mdread.specs.Shape.{automaton_item, unit_item, reservation_item, class_item, attribute_item}
-use Rattle.hz_check.specs.ByName.{held}
+use Rattle.hz_check.specs.Names.Held.{held}
 use Rattle.hz_check.specs.Names.{test_of}
-use Rattle.hz_check.proofs.TableSteps.{placed}
+use Rattle.hz_check.proofs.Tables.TableSteps.{placed}
 use Rattle.hz_check_model.specs.CheckFaults.{values_of}
 use Rattle.hz_check.proofs.names.Names.of.Goals as goal
 

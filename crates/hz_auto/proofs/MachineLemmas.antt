@@ -1,0 +1,108 @@
+-- The automata of a machine, one after another.
+use Rattle.std.proofs.Common.{◌≡◌, ℕ, ◌+◌, ◌<◌, ◌≤◌, List, [], ◌∷◌, ◌++◌, length, map, get_or, All, refl, sym, ap, ◌∙◌, subst, arith, ⊎_elim}
+use Rattle.std.specs.Prelude.{slice_index_or}
+use Rattle.std.proofs.lemmas.Bool.{cases_lt}
+use Rattle.std.proofs.lemmas.List.{length-map, length_push, map_push, get_or_append_left}
+use Rattle.std.proofs.Math.Seq.{get_or-append_seam}
+use Rattle.hz_mdread_model.specs.Descriptions.{Options}
+use Rattle.hz_check_model.specs.CheckedParts.{AutomatonParts, ClassParts}
+use Rattle.hz_check.specs.declared.checked.Checked.{Checked}
+use Rattle.hz_auto.proofs.CheckedFacts.{map_twice}
+use Rattle.hz_check.specs.Shape.{automaton_of, class_of}
+use Rattle.hz_mdread.specs.Shape.{options as options_of}
+use Rattle.hz_reach_model.specs.Counts.{Count}
+use Rattle.hz_states.specs.declared.fault.StateFault.{StateFault}
+use Rattle.hz_states.specs.declared.fault.StateFault.TheVariants.{GridLimit, SetLimit, MemberLimit, CellLimit, NoMemory}
+use Rattle.hz_tables.specs.declared.part.Part.{Part}
+use Rattle.hz_tables.specs.Parts.{part_of}
+use Rattle.hz_tables_model.specs.Machines as model
+use Rattle.hz_tables_model.specs.Machines.{Machine, no_part, part_at}
+use Rattle.hz_auto_model.specs.AutomatonPipelines.{lists_at, automaton_pipeline}
+use Rattle.hz_auto_model.specs.Compiled.{Report, IsCompiledPart, IsCompiled, IsFirstPast, report_at, shows_states}
+use Rattle.hz_auto_model.specs.CompiledParts.{IsPastLimit}
+use Rattle.hz_auto.specs.declared.fault.AutoFault.{AutoFault}
+use Rattle.hz_auto.specs.declared.report.AutoReport.{AutoReport}
+use Rattle.hz_auto.specs.Machines.{IsFaultAt, IsFaultOf, AreCompiled, reports_of}
+use Rattle.hz_auto.specs.Parts.{IsPastAt}
+use Rattle.hz_auto.specs.Reports.{report_of}
+
+module _ (checked : Checked) where
+  abbrev options : Options
+  options = options_of checked.options
+
+  abbrev automata : List AutomatonParts
+  automata = map automaton_of checked.automata.items
+
+  abbrev classes : List ClassParts
+  classes = map class_of checked.classes.items
+
+  -- the machine of these parts
+  abbrev machine_with : List Part → Machine
+  machine_with parts = record { classes = map (λ c. c.name) checked.classes.items; parts = map part_of parts }
+
+  -- the fault of an automaton behind others that are compiled is that of the description
+  pub fault_told : (a : ℕ) (parts : List Part) (reports : List AutoReport) → AreCompiled checked a parts reports → a < length checked.automata.items → (fault : StateFault) (told : AutoFault) → IsPastAt options automata classes a fault → IsFaultAt a fault told → IsFaultOf checked told
+  fault_told a parts reports are low fault told past is = by_fault fault past is
+    where
+      first : (kind : Count) → IsPastLimit (shows_states options) (lists_at classes a) (automaton_pipeline options automata classes a) kind → IsFirstPast options automata classes a kind
+      first kind over = record {
+        there = omega (arith, low, length-map checked.automata.items automaton_of);
+        before = λ b less. (are.at b less).within;
+        past = over;
+      }
+
+      by_fault : (fault : StateFault) → IsPastAt options automata classes a fault → IsFaultAt a fault told → IsFaultOf checked told
+      by_fault GridLimit over e = subst (IsFaultOf checked) (sym e) (first _ over)
+      by_fault SetLimit over e = subst (IsFaultOf checked) (sym e) (first _ over)
+      by_fault MemberLimit over e = subst (IsFaultOf checked) (sym e) (first _ over)
+      by_fault CellLimit over e = subst (IsFaultOf checked) (sym e) (first _ over)
+      by_fault NoMemory over e = subst (IsFaultOf checked) (sym e) tt
+
+  -- one automaton more is compiled
+  pub compiled_more : (a : ℕ) (parts new : List Part) (reports told : List AutoReport) (part : Part) (report : AutoReport) → AreCompiled checked a parts reports → new ≡ parts ++ part ∷ [] → told ≡ reports ++ report ∷ [] → IsCompiledPart options automata classes a (part_of part) (report_of report) → AreCompiled checked (a + 1) new told
+  compiled_more a parts new reports told part report are is also here =
+      subst (λ ps. AreCompiled checked (a + 1) ps told) (sym is) (subst (AreCompiled checked (a + 1) (parts ++ part ∷ [])) (sym also) whole)
+    where
+      part_before : (b : ℕ) → b < a → part_at (machine_with (parts ++ part ∷ [])) b ≡ part_at (machine_with parts) b
+      part_before b less = let each = are.each in ap (λ ps. get_or ps b no_part) (map_push part_of parts part) ∙ get_or_append_left (map part_of parts) (part_of part ∷ []) no_part b (omega (arith, less, each, length-map parts part_of))
+
+      part_last : part_at (machine_with (parts ++ part ∷ [])) a ≡ part_of part
+      part_last =
+          let each = are.each in
+          let last : a ≡ length (map part_of parts) = omega (arith, each, length-map parts part_of) in
+          ap (λ ps. get_or ps a no_part) (map_push part_of parts part) ∙ (ap (λ n. get_or (map part_of parts ++ part_of part ∷ []) n no_part) last ∙ get_or-append_seam (map part_of parts) (part_of part) [] no_part)
+
+      report_before : (b : ℕ) → b < a → report_at (reports_of (reports ++ report ∷ [])) b ≡ report_at (reports_of reports) b
+      report_before b less = let each = are.told in ap (λ rs. report_at rs b) (map_push report_of reports report) ∙ get_or_append_left (map report_of reports) (report_of report ∷ []) _ b (omega (arith, less, each, length-map reports report_of))
+
+      report_last : report_at (reports_of (reports ++ report ∷ [])) a ≡ report_of report
+      report_last =
+          let each = are.told in
+          let last : a ≡ length (map report_of reports) = omega (arith, each, length-map reports report_of) in
+          ap (λ rs. report_at rs a) (map_push report_of reports report) ∙ (ap (report_at (map report_of reports ++ report_of report ∷ [])) last ∙ get_or-append_seam (map report_of reports) (report_of report) [] _)
+
+      whole : AreCompiled checked (a + 1) (parts ++ part ∷ []) (reports ++ report ∷ [])
+      whole = record {
+        each = length_push parts part ∙ ap (λ n. n + 1) are.each;
+        told = length_push reports report ∙ ap (λ n. n + 1) are.told;
+        at = λ b low. ⊎_elim
+            (λ (less : b < a). subst (λ p. IsCompiledPart options automata classes b p (report_at (reports_of (reports ++ report ∷ [])) b)) (sym (part_before b less))
+                (subst (IsCompiledPart options automata classes b (part_at (machine_with parts) b)) (sym (report_before b less)) (are.at b less)))
+            (λ (high : a ≤ b). let same : a ≡ b = omega (arith, low, high) in
+                subst (λ n. IsCompiledPart options automata classes n (part_at (machine_with (parts ++ part ∷ [])) n) (report_at (reports_of (reports ++ report ∷ [])) n)) same
+                (subst (λ p. IsCompiledPart options automata classes a p (report_at (reports_of (reports ++ report ∷ [])) a)) (sym part_last)
+                (subst (IsCompiledPart options automata classes a (part_of part)) (sym report_last) here)))
+            (cases_lt b a);
+      }
+
+  -- all automata are compiled
+  pub compiled_all : (parts : List Part) (reports : List AutoReport) (m : Machine) → AreCompiled checked (length checked.automata.items) parts reports → m ≡ machine_with parts → IsCompiled options automata classes m (reports_of reports)
+  compiled_all parts reports m are is = subst (λ n. IsCompiled options automata classes n (reports_of reports)) (sym is) (record {
+    names = map_twice_back;
+    each = length-map parts part_of ∙ (are.each ∙ sym (length-map checked.automata.items automaton_of));
+    told = length-map reports report_of ∙ (are.told ∙ sym (length-map checked.automata.items automaton_of));
+    parts = λ a low. are.at a (omega (arith, low, length-map checked.automata.items automaton_of));
+  })
+    where
+      map_twice_back : map (λ c. c.name) checked.classes.items ≡ map (λ c. c.name) classes
+      map_twice_back = sym (map_twice (λ c. c.name) class_of checked.classes.items)

@@ -1,0 +1,15 @@
+use Rattle.std.proofs.Common.{All, length, sym, subst, arith}
+use Rattle.std.proofs.lemmas.List.Elements.{All-push}
+use Rattle.hz_tables_model.specs.Machines.{IsPart}
+use Rattle.hz_tables.specs.Parts.{part_of}
+use Rattle.hz_auto.proofs.MachineLemmas.{fault_told, compiled_more}
+use Rattle.hz_auto.proofs.compiled.compile_parts.Goals as goal
+
+pub returns-in-Err-clause-fault : goal.returns-in-Err-clause-fault
+returns-in-Err-clause-fault c = fault_told c.args.checked.now c.loop-automaton.automaton c.loop-automaton.all.parts.items c.loop-automaton.all.reports.items c.loop-automaton.invariant.compiled (let h = c.loop-automaton-test.true in let e = c.len-automaton-end.ensures in let ok = c.args.checked.now.automata.ok in omega (arith, h, e, ok)) c.in-Err.fault c.fault_at.result c.in-Err.ensures.fault c.fault_at.ensures
+
+pub loop-automaton-preserved : goal.loop-automaton-preserved
+loop-automaton-preserved c = record {
+  compiled = compiled_more c.args.checked.now c.loop-automaton.automaton c.loop-automaton.all.parts.items c.add.new.self.parts.items c.loop-automaton.all.reports.items c.add.new.self.reports.items c.in-Ok.compiled.part c.in-Ok.compiled.report c.loop-automaton.invariant.compiled c.in-Ok-add.ensures.parts c.in-Ok-add.ensures.reports c.in-Ok.ensures.compiled;
+  kept = subst (All (λ part. IsPart (length c.args.checked.now.classes.items) (part_of part))) (sym c.in-Ok-add.ensures.parts) (All-push (λ part. IsPart (length c.args.checked.now.classes.items) (part_of part)) c.loop-automaton.all.parts.items c.in-Ok.compiled.part c.loop-automaton.invariant.kept c.in-Ok.ensures.kept);
+}

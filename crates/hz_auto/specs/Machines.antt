@@ -1,0 +1,43 @@
+-- The machine of a checked description.
+use Rattle.std.specs.Prelude.{◌≡◌, ℕ, ◌<◌, List, map, length, MatchOption}
+use Rattle.hz_check.specs.declared.checked.Checked.{Checked}
+use Rattle.hz_check.specs.Shape.{automaton_of, class_of}
+use Rattle.hz_mdread.specs.Shape.{options as options_of}
+use Rattle.hz_reach_model.specs.Counts.{Count}
+use Rattle.hz_states.specs.declared.fault.StateFault.{StateFault}
+use Rattle.hz_states.specs.declared.fault.StateFault.TheVariants.{GridLimit, SetLimit, MemberLimit, CellLimit, NoMemory as no_memory}
+use Rattle.hz_auto.specs.declared.fault.Kind.TheVariants.{Grids, States, Members, Cells}
+use Rattle.hz_tables.specs.declared.part.Part.{Part}
+use Rattle.hz_tables.specs.Parts.{part_of}
+use Rattle.hz_tables_model.specs.Machines.{part_at}
+use Rattle.hz_auto_model.specs.Compiled.{IsCompiledPart, IsFirstPast, report_at}
+use Rattle.hz_auto_model.specs.Compiled as model
+use Rattle.hz_auto.specs.declared.fault.AutoFault.{AutoFault}
+use Rattle.hz_auto.specs.declared.fault.AutoFault.TheVariants.{Limit, NoMemory}
+use Rattle.hz_auto.specs.declared.report.AutoReport.{AutoReport}
+use Rattle.hz_auto.specs.Faults.{count_of}
+use Rattle.hz_auto.specs.Reports.{report_of}
+
+-- the reports, as the definitions speak of them
+abbrev pub reports_of : List AutoReport → List model.Report
+reports_of reports = map report_of reports
+
+-- A fault of compiling: the automaton is the first that has a count above its limit, and that of this kind is; want of
+-- memory says nothing.
+abbrev pub IsFaultOf : Checked → AutoFault → Type 0
+IsFaultOf checked (Limit automaton kind) = IsFirstPast (options_of checked.options) (map automaton_of checked.automata.items) (map class_of checked.classes.items) automaton (count_of kind)
+IsFaultOf checked NoMemory = Unit {0}
+
+-- the fault of the automaton of this number: the count that is above its limit, or want of memory
+abbrev pub IsFaultAt : ℕ → StateFault → AutoFault → Type 0
+IsFaultAt a GridLimit fault = fault ≡ Limit a Grids
+IsFaultAt a SetLimit fault = fault ≡ Limit a States
+IsFaultAt a MemberLimit fault = fault ≡ Limit a Members
+IsFaultAt a CellLimit fault = fault ≡ Limit a Cells
+IsFaultAt a no_memory fault = fault ≡ NoMemory
+
+-- a part and a report for each of the first automata
+pub record AreCompiled (checked : Checked) (done : ℕ) (parts : List Part) (reports : List AutoReport) : Type 0 where
+  pub each : length parts ≡ done
+  pub told : length reports ≡ done
+  pub at : (a : ℕ) → a < done → IsCompiledPart (options_of checked.options) (map automaton_of checked.automata.items) (map class_of checked.classes.items) a (part_at (record { classes = map (λ c. c.name) checked.classes.items; parts = map part_of parts }) a) (report_at (reports_of reports) a)

@@ -1,0 +1,12 @@
+//! The machine of a checked description: an automaton for each of its automata, compiled to a table.
+#![tactic(auto)]
+
+mod columns;
+mod compiled;
+mod fault;
+mod part;
+mod report;
+
+pub use compiled::{Compiled, compile};
+pub use fault::{AutoFault, Kind};
+pub use report::{AutoReport, Shown};

@@ -1,0 +1,140 @@
+//! One automaton of a checked description, compiled.
+
+ghost use Rattle.std.specs.Prelude.{◌≡◌, ◌<◌, ◌≤◌, ◌&&◌, length, map, All, IfOk, IfErr, if◌then◌else◌};
+ghost use Rattle.std.specs.List.{sum_by};
+ghost use Rattle.hz_acceptance_model.specs.Replay.{first_fit, any_fit};
+ghost use Rattle.hz_base_model.specs.Limits.{class_limit};
+ghost use Rattle.hz_tables_model.specs.Machines.{IsPart};
+ghost use Rattle.hz_tables_model.specs.StateLimits.{grid_limit, member_limit};
+ghost use Rattle.hz_tables.specs.Parts.{part_of};
+ghost use Rattle.hz_auto_model.specs.Compiled.{IsCompiledPart};
+ghost use Rattle.hz_check.specs.Shape.{automaton_of, class_of};
+ghost use Rattle.hz_mdread.specs.Shape.{options as options_of};
+ghost use Rattle.hz_determ.specs.Explored.{IsCaps, IsBuilt, AreWithin, PassesCap};
+ghost use Rattle.hz_explore.specs.Spaces.{pipeline_of};
+ghost use Rattle.hz_auto.specs.Parts.{IsCapped, IsPastAt, IsWhole, shows};
+ghost use Rattle.hz_auto.specs.Reports.{report_of};
+
+use crate::columns::{Columns, columns_of};
+use crate::report::{AutoReport, report_on};
+use hz_check::Checked;
+use hz_determ::{Caps, Explored, StateFault, first, subset};
+use hz_grid::Grid;
+use hz_mdread::Options;
+use hz_regexp::{Name, NoMemory};
+use hz_tables::{Part, Table};
+use hz_unitsets::Rules;
+use std::alloc::Global;
+
+/// The table of an automaton, and what is told of it.
+#[derive(Drop)]
+pub(crate) struct Automaton {
+    pub part: Part,
+    pub report: AutoReport,
+}
+
+/// Whether what each state is is to be shown: beside both `v` and `no-minimization`.
+pub(crate) fn shows_states(options: &Options) -> bool
+    ensures { result ≡ shows options.now }
+{
+    options.verbose && options.no_minimization
+}
+
+// The limits on the counts of an automaton; smaller ones where each state is to be shown.
+fn caps_of(shown: bool) -> Caps
+    ensures capped { IsCapped shown result }
+    ensures caps { IsCaps result }
+{
+    if shown {
+        Caps {
+            grids: 4096,
+            states: 4096,
+            members: 65536,
+            cells: 4194304,
+        }
+    } else {
+        Caps {
+            grids: 65536,
+            states: 65536,
+            members: 1048576,
+            cells: 4194304,
+        }
+    }
+}
+
+// The automaton of columns in the treatment that the options have.
+fn explored(
+    alloc: Global,
+    ndfa: bool,
+    columns: &[Vec<Grid>],
+    rules: &Rules,
+    caps: &Caps,
+) -> Result<Explored, StateFault>
+    requires columns { length columns.now ≤ class_limit }
+    requires caps { IsCaps caps.now }
+    ensures built { IfOk result (IsBuilt (if ndfa then any_fit else first_fit) rules.now columns.now) }
+    ensures within { IfOk result (λ _. AreWithin (pipeline_of (if ndfa then any_fit else first_fit) rules.now columns.now) (length columns.now) caps.now) }
+    ensures fault { IfErr result (PassesCap (pipeline_of (if ndfa then any_fit else first_fit) rules.now columns.now) (length columns.now) caps.now) }
+{
+    if ndfa {
+        subset(alloc, columns, rules, caps)
+    } else {
+        first(alloc, columns, rules, caps)
+    }
+}
+
+// The part and the report of an automaton that is explored.
+fn whole(
+    alloc: Global,
+    name: &Name,
+    shown: bool,
+    map: Vec<u32>,
+    explored: Explored,
+) -> Result<Automaton, NoMemory>
+    requires members { sum_by (λ set. length set.items) explored.sets.items ≤ member_limit }
+    requires numbers { All (λ set. All (λ number. number < length explored.grids.items) set.items) explored.sets.items }
+    requires few { length explored.grids.items ≤ grid_limit }
+    ensures { IfOk result (IsWhole name.now shown map.items explored) }
+{
+    let report = report_on(alloc, shown, &explored)?;
+    let Explored {
+        plain,
+        grids: _,
+        sets: _,
+        parents: _,
+    } = explored;
+    let part = Part {
+        name: name.copy()?,
+        map,
+        table: Table::Rows(plain),
+    };
+    Ok(Automaton { part, report })
+}
+
+/// The automaton of this number, compiled; else a count of it that is above its limit.
+pub(crate) fn compile_part(
+    alloc: Global,
+    checked: &Checked,
+    automaton: usize,
+) -> Result<Automaton, StateFault>
+    requires { automaton < length checked.now.automata.items }
+    ensures compiled { IfOk result (λ all. IsCompiledPart (options_of checked.now.options) (map automaton_of checked.now.automata.items) (map class_of checked.now.classes.items) automaton (part_of all.part) (report_of all.report)) }
+    ensures kept { IfOk result (λ all. IsPart (length checked.now.classes.items) (part_of all.part)) }
+    ensures fault { IfErr result (IsPastAt (options_of checked.now.options) (map automaton_of checked.now.automata.items) (map class_of checked.now.classes.items) automaton) }
+{
+    let columns = columns_of(alloc, &checked.classes, automaton)?;
+    let rules = Rules::build(alloc, &checked.automata[automaton].sets)?;
+    let shown = shows_states(&checked.options);
+    let caps = caps_of(shown);
+    let Columns { lists, map } = columns;
+    match explored(alloc, checked.options.ndfa, &lists, &rules, &caps) {
+        Ok(explored) => Ok(whole(
+            alloc,
+            &checked.automata[automaton].name,
+            shown,
+            map,
+            explored,
+        )?),
+        Err(fault) => Err(fault),
+    }
+}

@@ -1,0 +1,11 @@
+use Rattle.hz_auto_model.proofs.DescriptionLaws.{machine_accepts, all_keep, first_past}
+use Rattle.hz_auto_model.proofs.compiled.compiled_machines_are_descriptions.Goals as goal
+
+pub returns-clause-walks : goal.returns-clause-walks
+returns-clause-walks c = λ d known sound m reports is t all. machine_accepts d known m reports is t all sound
+
+pub returns-clause-keep : goal.returns-clause-keep
+returns-clause-keep c = λ d known m reports is. all_keep d known m reports is
+
+pub returns-clause-past : goal.returns-clause-past
+returns-clause-past c = λ d known a kind first. first_past d known a kind first

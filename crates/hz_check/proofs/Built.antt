@@ -1,0 +1,3 @@
+-- What is built of a description without a fault.
+pub mod ClassLists
+pub mod PartSteps

@@ -1,0 +1,5 @@
+-- Names and their tables.
+pub mod NameLists
+pub mod TableSteps
+pub mod KnownNames
+pub mod Homes

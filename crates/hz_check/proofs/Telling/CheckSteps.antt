@@ -1,0 +1,126 @@
+-- From what a step finds to the fault that is told.
+use Rattle.std.proofs.Common.{◌≡◌, ℕ, ◌≤◌, List, [], ◌∷◌, length, drop, get_or, Option, Some, None, refl, sym, ap, ◌∙◌, subst, arith}
+use Rattle.std.specs.Option.{option_map}
+use Rattle.std.specs.Prelude.{IsSomeAnd, slice_get}
+use Rattle.std.proofs.lemmas.List.{length-map, length-drop}
+use Rattle.std.proofs.lemmas.Option.{slice_get-map, get_or_from_slice_get}
+use Rattle.hz_check.specs.declared.fault.CheckFault.{CheckFault}
+use Rattle.hz_check.specs.declared.fault.CheckFault.TheVariants.{TwiceDefined, ReservedName, UnknownName, UnknownAutomaton, UnitNeedsAutomaton, CircularReservation, SelfExclusion, SetAcrossAutomata, Limit, AlternationOfTwoAutomata, AlternationOfTwoLengths, BypassTwice, NoMemory}
+use Rattle.hz_check.specs.Faults.Steps.{IsOrdered, AreWithin}
+use Rattle.hz_check.specs.Faults.{Tells, IsToldAt, IsToldHere, limit_of}
+use Rattle.hz_expand.proofs.Unwinding.{unfolded}
+use Rattle.hz_check_model.specs.CheckFaults as model
+use Rattle.hz_check_model.specs.CheckFaults.{faults_of_meanings, faults_of_names, CheckFaultAt, of_meanings, of_names, of_circle, IsFirst, IsCircular, limit, alternatives, cycles, size, past_limit, second_numbers, automaton_sites, class_sites}
+use Rattle.hz_check_model.specs.CountingOrder.{Reserving, reservation_site}
+use Rattle.hz_check_model.specs.FirstTold.{Standing, Told, first_told, told_at}
+use Rattle.hz_mdread.specs.declared.description.Description.{Description as StoredDescription}
+use Rattle.hz_mdread.specs.declared.items.ReservationItem.{ReservationItem as StoredReservation}
+use Rattle.hz_mdread.specs.Shape.{description, reservation_item}
+use Rattle.hz_check_model.proofs.EarliestLaws.{no_site}
+use Rattle.hz_mdread_model.specs.Descriptions.{Description}
+use Rattle.hz_base_model.specs.Limits.{automaton_limit, class_limit}
+use Rattle.hz_check_model.specs.Places.{IsKnown, Known}
+use Rattle.hz_check_model.specs.Sites.{Site, earliest}
+use Rattle.hz_check_model.specs.SplitClasses.{mixed_classes, uneven_classes}
+use Rattle.hz_unfold.specs.Orders.{reservings}
+
+tells_with : (P Q : model.CheckFault → ℕ → List ℕ → Type 0) → ((f : model.CheckFault) (line : ℕ) (name : List ℕ) → P f line name → Q f line name) → (fault : CheckFault) → Tells P fault → Tells Q fault
+tells_with P Q to (TwiceDefined line name) tells = to model.twice_defined line name tells
+tells_with P Q to (ReservedName line name) tells = to model.reserved_name line name tells
+tells_with P Q to (UnknownName line name) tells = to model.unknown_name line name tells
+tells_with P Q to (UnknownAutomaton line name) tells = to model.unknown_automaton line name tells
+tells_with P Q to (UnitNeedsAutomaton line name) tells = to model.unit_needs_automaton line name tells
+tells_with P Q to (CircularReservation line name) tells = to model.circular_reservation line name tells
+tells_with P Q to (SelfExclusion line name) tells = to model.self_exclusion line name tells
+tells_with P Q to (SetAcrossAutomata line name) tells = to model.set_across_automata line name tells
+tells_with P Q to (Limit what line name) tells = to (model.limit (limit_of what)) line name tells
+tells_with P Q to (AlternationOfTwoAutomata line name) tells = to model.alternation_of_two_automata line name tells
+tells_with P Q to (AlternationOfTwoLengths line name) tells = to model.alternation_of_two_lengths line name tells
+tells_with P Q to (BypassTwice line name) tells = to model.bypass_twice line name tells
+tells_with P Q to NoMemory tells = tells
+
+carried : (d : Description) (told : Told model.CheckFault) → CheckFaultAt d told.fault told.site → (fault : model.CheckFault) (line : ℕ) (name : List ℕ) → IsToldHere told fault line name
+    → CheckFaultAt d fault (record { line = line; form = told.site.form; name = name })
+carried d told at fault line name here =
+    subst (λ f. CheckFaultAt d f (record { line = line; form = told.site.form; name = name })) (sym here.same_fault)
+    (subst (λ l. CheckFaultAt d told.fault (record { line = l; form = told.site.form; name = name })) (sym here.same_line)
+    (subst (λ n. CheckFaultAt d told.fault (record { line = told.site.line; form = told.site.form; name = n })) (sym here.same_name) at))
+
+-- a fault that stands at a site is told there
+pub told_there : (d : Description) (told : Told model.CheckFault) → CheckFaultAt d told.fault told.site → (fault : CheckFault) → Tells (IsToldHere told) fault → Tells (IsToldAt d) fault
+told_there d told at fault = tells_with (IsToldHere told) (IsToldAt d) (λ f line name here. (told.site.form, carried d told at f line name here)) fault
+
+-- what is told first of some faults
+pub record TellsFirst (faults : List (Standing model.CheckFault)) (told : Option (Told model.CheckFault)) : Type 0 where
+  pub is : first_told faults ≡ told
+
+pub skip : {s : Standing model.CheckFault} {rest : List (Standing model.CheckFault)} {o : Option (Told model.CheckFault)} → earliest s.sites ≡ None → TellsFirst rest o → TellsFirst (s ∷ rest) o
+skip {s} {rest} none later = record { is = ap (λ (site : Option Site). told_at s.fault site (first_told rest)) none ∙ later.is }
+
+pub stop : {s : Standing model.CheckFault} {rest : List (Standing model.CheckFault)} {site : Site} → earliest s.sites ≡ Some site → TellsFirst (s ∷ rest) (Some (record { fault = s.fault; site = site }))
+stop {s} {rest} some = record { is = ap (λ (site : Option Site). told_at s.fault site (first_told rest)) some }
+
+-- a fault of names
+pub name_told : (d : Description) (told : Told model.CheckFault) → first_told (faults_of_names d) ≡ Some told → (fault : CheckFault) → Tells (IsToldHere told) fault → Tells (IsToldAt d) fault
+name_told d told is = told_there d told (of_names is)
+
+-- a fault behind that of circular reservations
+pub meaning_told : (d : Description) (order : List ℕ) → IsOrdered d order → (told : Told model.CheckFault) → ((known : Known) → IsKnown d known → TellsFirst (faults_of_meanings d known (reservings d order)) (Some told))
+    → (fault : CheckFault) → Tells (IsToldHere told) fault → Tells (IsToldAt d) fault
+meaning_told d order o told is =
+    let all = unfolded d o.named o.formed order o.ordered in
+    told_there d told (of_meanings all.1 (is all.0 all.1.right).is)
+
+-- a list with nothing behind a number of items is no longer
+pub no_more : {A : Type 0} (n : ℕ) (xs : List A) → drop n xs ≡ [] → length xs ≤ n
+no_more n xs e = let long = length-drop n xs in let none = ap length e in omega arith
+
+-- the limit of automata is kept where none is told past it
+pub few_automata : (d : Description) → earliest (drop automaton_limit (automaton_sites d)) ≡ None → length d.automata ≤ automaton_limit
+few_automata d none =
+    let less = no_more automaton_limit (automaton_sites d) (no_site (drop automaton_limit (automaton_sites d)) none) in
+    let same : length (automaton_sites d) ≡ length d.automata = length-map d.automata (λ a. record { line = a.line; form = a.form; name = a.name }) in
+    omega (arith, less, same)
+
+pub few_classes : (d : Description) → earliest (drop class_limit (class_sites d)) ≡ None → length d.classes ≤ class_limit
+few_classes d none =
+    let less = no_more class_limit (class_sites d) (no_site (drop class_limit (class_sites d)) none) in
+    let same : length (class_sites d) ≡ length d.classes = length-map d.classes (λ c. record { line = c.line; form = c.form; name = c.name }) in
+    omega (arith, less, same)
+
+-- the faults behind the limits of automata, units and classes, in their order
+abbrev pub last_faults : Description → Known → List Reserving → List (Standing model.CheckFault)
+last_faults d known order = record { fault = limit alternatives; sites = past_limit d known order alternatives }
+    ∷ record { fault = limit cycles; sites = past_limit d known order cycles }
+    ∷ record { fault = limit size; sites = past_limit d known order size }
+    ∷ record { fault = model.alternation_of_two_automata; sites = mixed_classes d known }
+    ∷ record { fault = model.alternation_of_two_lengths; sites = uneven_classes d known }
+    ∷ record { fault = model.bypass_twice; sites = second_numbers d }
+    ∷ []
+
+pub behind : (d : Description) (known : Known) (order : List Reserving) → AreWithin d → {o : Option (Told model.CheckFault)} → TellsFirst (last_faults d known order) o → TellsFirst (faults_of_meanings d known order) o
+behind d known order within is = skip within.apart (skip within.together (skip within.automata (skip within.units (skip within.classes is))))
+
+-- a fault behind those limits
+pub behind_within : (d : Description) (order : List ℕ) → IsOrdered d order → AreWithin d → (told : Told model.CheckFault) → ((known : Known) → IsKnown d known → TellsFirst (last_faults d known (reservings d order)) (Some told))
+    → (fault : CheckFault) → Tells (IsToldHere told) fault → Tells (IsToldAt d) fault
+behind_within d order o within told is = meaning_told d order o told (λ known right. behind d known (reservings d order) within (is known right))
+
+-- a reservation that reaches itself
+pub circle_told : (desc : StoredDescription) (place : ℕ) → first_told (faults_of_names (description desc)) ≡ None → IsSomeAnd (slice_get (description desc).reservations place) (IsFirst (IsCircular (description desc)) (description desc).reservations)
+    → (r : StoredReservation) → r ≡ get_or desc.reservations.items place r → (site : Site) → site ≡ reservation_site (reservation_item r)
+    → (fault : CheckFault) → Tells (IsToldHere (record { fault = model.circular_reservation; site = site })) fault → Tells (IsToldAt (description desc)) fault
+circle_told desc place named first r is site at fault tells = found (slice_get desc.reservations.items place) refl
+  where
+    d : Description
+    d = description desc
+
+    by_item : (o : Option StoredReservation) → slice_get desc.reservations.items place ≡ o → IsSomeAnd (option_map reservation_item o) (IsFirst (IsCircular d) d.reservations)
+    by_item o e = subst (λ p. IsSomeAnd p (IsFirst (IsCircular d) d.reservations)) (slice_get-map reservation_item desc.reservations.items place ∙ ap (option_map reservation_item) e) first
+
+    found : (o : Option StoredReservation) → slice_get desc.reservations.items place ≡ o → Tells (IsToldAt d) fault
+    found None e = absurd (by_item None e)
+    found (Some x) e =
+        let same : r ≡ x = is ∙ get_or_from_slice_get desc.reservations.items place x r e in
+        told_there d (record { fault = model.circular_reservation; site = site })
+        (subst (λ s. CheckFaultAt d model.circular_reservation s) (sym (at ∙ ap (λ (y : StoredReservation). reservation_site (reservation_item y)) same)) (of_circle named (by_item (Some x) e))) fault tells

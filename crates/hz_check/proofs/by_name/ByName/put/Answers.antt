@@ -1,5 +1,0 @@
-use Rattle.std.proofs.lemmas.Map.Text.{btree_map_updates_str}
-use Rattle.hz_check.proofs.by_name.ByName.put.Goals as goal
-
-pub returns : goal.returns
-returns g c = btree_map_updates_str c.args.name.now c.args.self.now.names c.insert.new.self _ c.in_ok-insert.ensures.updates

@@ -1,7 +1,0 @@
-use Rattle.std.proofs.Common.{◌≡◌, map}
-use Rattle.hz_altern.specs.Shapes.{alternatives}
-use Rattle.hz_check.specs.Classes.{lists_in}
-use Rattle.hz_check.proofs.classes.lists_of.Given as goal
-
-abbrev pub invariant-loop-automaton : goal.invariant-loop-automaton
-invariant-loop-automaton l = map (λ list. list.items) l.lists.items ≡ lists_in l.automaton (alternatives l.alts)

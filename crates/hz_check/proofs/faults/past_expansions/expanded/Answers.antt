@@ -1,0 +1,28 @@
+use Rattle.std.proofs.Common.{sym, ap, ◌∙◌, subst}
+use Rattle.hz_mdread.specs.Shape.{description}
+use Rattle.hz_unfold.specs.Places.{site_of, told}
+use Rattle.hz_expand.specs.Answers.{Refuses}
+use Rattle.hz_unfold.specs.Orders.{reservings}
+use Rattle.hz_check_model.specs.CheckFaults.{limit, alternatives, cycles, size}
+use Rattle.hz_check.proofs.Telling.CheckSteps.{behind_within, skip, stop}
+use Rattle.hz_check.proofs.faults.past_expansions.expanded.Goals as goal
+
+pub returns-in-Some-clause-err : goal.returns-in-Some-clause-err
+returns-in-Some-clause-err c =
+    behind_within (description c.args.desc.now) c.args.order.now c.requires.ordered c.requires.within (record { fault = limit alternatives; site = site_of c.in-Some.site })
+    (λ known right. stop (sym (c.in_ok-past.ensures.many known right) ∙ ap told c.in-Some.is)) c.refused.result c.refused.ensures
+
+pub returns-in-Some-cycles-clause-err : goal.returns-in-Some-cycles-clause-err
+returns-in-Some-cycles-clause-err c =
+    behind_within (description c.args.desc.now) c.args.order.now c.requires.ordered c.requires.within (record { fault = limit cycles; site = site_of c.in-Some-cycles.site })
+    (λ known right. skip (sym (c.in_ok-past.ensures.many known right) ∙ ap told c.in_default.is)
+    (stop (sym (c.in_ok-past.ensures.long known right) ∙ ap told c.in-Some-cycles.is)))
+    c.refused-in-Some-cycles.result c.refused-in-Some-cycles.ensures
+
+pub returns-in-Err-Size-clause-err : goal.returns-in-Err-Size-clause-err
+returns-in-Err-Size-clause-err c =
+    behind_within (description c.args.desc.now) c.args.order.now c.requires.ordered c.requires.within (record { fault = limit size; site = site_of c.in-Err-Size.site })
+    (λ known right. skip (sym (c.in_ok-past.ensures.many known right) ∙ ap told c.in_default.is)
+    (skip (sym (c.in_ok-past.ensures.long known right) ∙ ap told c.in_default-cycles.is)
+    (stop ((subst (Refuses (description c.args.desc.now) (reservings (description c.args.desc.now) c.args.order.now)) c.in-Err-Size.field-0-is c.in-Err-Size.ensures.err).first known right))))
+    c.refused-in-Err-Size.result c.refused-in-Err-Size.ensures

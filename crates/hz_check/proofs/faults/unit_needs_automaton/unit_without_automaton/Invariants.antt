@@ -1,0 +1,12 @@
+use Rattle.std.proofs.Common.{◌≡◌, drop}
+use Rattle.std.specs.List.{filter_map}
+use Rattle.hz_mdread.specs.Shape.{unit_item}
+use Rattle.hz_unfold.specs.Places.{told}
+use Rattle.hz_check_model.specs.CheckFaults.{homeless}
+use Rattle.hz_check_model.specs.Sites.{earlier, earliest}
+use Rattle.hz_check.proofs.faults.unit_needs_automaton.unit_without_automaton.Given as goal
+
+abbrev pub invariant-loop-unit : goal.invariant-loop-unit
+invariant-loop-unit l =
+    earlier (told l.first) (earliest (filter_map (λ u. homeless (unit_item u)) (drop l.unit-index l.unit-items)))
+    ≡ earliest (filter_map (λ u. homeless (unit_item u)) l.unit-items)

@@ -1,7 +1,0 @@
-use Rattle.std.proofs.Common.{◌≡◌, drop}
-use Rattle.std.specs.List.{flat_map}
-use Rattle.hz_check.specs.Unknown.{first_of}
-use Rattle.hz_check.proofs.sets.first_in.Given as goal
-
-abbrev pub invariant-loop-pattern : goal.invariant-loop-pattern
-invariant-loop-pattern l = first_of (flat_map (λ pattern. pattern.items) (drop l.pattern-index l.patterns)) ≡ first_of (flat_map (λ pattern. pattern.items) l.patterns)

@@ -1,8 +1,0 @@
-use Rattle.std.proofs.Common.{refl}
-use Rattle.std.specs.List.{flat_map}
-use Rattle.hz_check.specs.ByName.{is_held}
-use Rattle.hz_check.proofs.TableSteps.{all_held}
-use Rattle.hz_check.proofs.sets.names_in.Goals as goal
-
-pub returns : goal.returns
-returns c = λ q. all_held (flat_map (λ pattern. pattern.items)) c.args.patterns.now c.loop-pattern.pattern-index q (is_held c.loop-pattern.table q) refl c.loop-pattern-test.false (c.loop-pattern.invariant q)

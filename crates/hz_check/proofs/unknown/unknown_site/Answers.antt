@@ -1,9 +1,0 @@
-use Rattle.hz_mdread.specs.Shape.{description}
-use Rattle.hz_unfold.specs.Places.{told}
-use Rattle.hz_check.proofs.Earliest.{found_next}
-use Rattle.hz_check.proofs.unknown.unknown_site.Goals as goal
-
-pub loop-item-preserved : goal.loop-item-preserved
-loop-item-preserved g c =
-    found_next (g.T.Refers.unknown (description c.args.names.now.desc.now)) (told c.loop-item.first) _ (told c.earlier-first.result) _ c.args.items.now c.loop-item.item-index c.item-item.result
-    c.item-item.is c.loop-item-test.true c.unknown.ensures c.earlier-first.ensures c.loop-item.invariant

@@ -1,0 +1,51 @@
+//! The alternatives of the classes, or the limit that is passed on them.
+
+ghost use Rattle.std.specs.Prelude.{IfOk, IfErr};
+ghost use Rattle.hz_mdread.specs.Shape.{description};
+ghost use Rattle.hz_check.specs.Faults.Steps.{IsOrdered, AreWithin};
+ghost use Rattle.hz_check.specs.Faults.{Tells, IsToldAt};
+ghost use Rattle.hz_check.specs.Faults.PastUnits.{ArePlaces};
+ghost use Rattle.hz_expand.specs.Answers.{AreExpanded};
+ghost use Rattle.hz_expand.specs.Past.{AreWithinExtents};
+ghost use Rattle.hz_unfold.specs.Orders.{reservings};
+
+use crate::fault::{CheckFault, LimitName};
+use crate::faults::told::{Wrong, refused};
+use hz_altern::Alt;
+use hz_expand::{Unexpanded, UnitPlace, expand_all, past_extents};
+use hz_mdread::Description;
+use std::alloc::Global;
+
+/// The alternatives of each class, or the first limit on them that is passed. The units have these places, and the
+/// numbers of the order are places of reservations, and behind them places of classes.
+pub(crate) fn expanded(
+    alloc: Global,
+    desc: &Description,
+    units: &[UnitPlace],
+    order: &[usize],
+) -> Result<Vec<Vec<Alt>>, CheckFault>
+    requires ordered { IsOrdered (description desc.now) order.now }
+    requires within { AreWithin (description desc.now) }
+    requires places { ArePlaces (description desc.now) units.now }
+    ensures ok { IfOk result (λ lists. AreExpanded (description desc.now) (reservings (description desc.now) order.now) lists.items) }
+    ensures extents { IfOk result (λ _. AreWithinExtents (description desc.now) (reservings (description desc.now) order.now)) }
+    ensures err { IfErr result (Tells (IsToldAt (description desc.now))) }
+{
+    let past = past_extents(alloc, desc, order)?;
+    if let Some(site) = past.alternatives {
+        let what = LimitName::Alternatives;
+        return Err(refused(Wrong::Limit(what), site));
+    }
+    if let Some(site) = past.cycles {
+        let what = LimitName::Cycles;
+        return Err(refused(Wrong::Limit(what), site));
+    }
+    match expand_all(alloc, desc, units, order) {
+        Ok(lists) => Ok(lists),
+        Err(Unexpanded::Size(site)) => {
+            let what = LimitName::Size;
+            Err(refused(Wrong::Limit(what), site))
+        }
+        Err(Unexpanded::NoMemory) => Err(CheckFault::NoMemory),
+    }
+}

@@ -1,0 +1,93 @@
+//! The steps of the check before any alternative is looked at, each with the faults that it tells.
+
+ghost use Rattle.std.specs.Prelude.{◌≡◌, IfOk, IfErr, None};
+ghost use Rattle.hz_mdread.specs.Shape.{description};
+ghost use Rattle.hz_check.specs.Faults.Steps.{IsOrdered, AreWithin};
+ghost use Rattle.hz_check.specs.Faults.{Tells, IsToldAt};
+ghost use Rattle.hz_check.specs.Faults.PastUnits.{ArePlaces};
+ghost use Rattle.hz_check_model.specs.CheckFaults.{faults_of_names};
+ghost use Rattle.hz_check_model.specs.FirstTold.{first_told};
+ghost use Rattle.hz_mdread_model.specs.DescriptionShape.{IsCheckable};
+
+use crate::fault::{CheckFault, LimitName};
+use crate::faults::limits::{past_automaton, past_class};
+use crate::faults::of_names::fault_of_names;
+use crate::faults::past_units::unit_places;
+use crate::faults::self_exclusion::self_exclusion;
+use crate::faults::set_across_automata::set_across_automata;
+use crate::faults::told::{Wrong, fault, refused};
+use crate::names::Names;
+use crate::names::items::Defines;
+use hz_expand::UnitPlace;
+use hz_mdread::Description;
+use hz_unfold::{Order, OrderFault, counting_order};
+use std::alloc::Global;
+
+/// The names of a description, where no fault of names stands.
+pub(crate) fn named<'a>(alloc: Global, desc: &'a Description) -> Result<Names<'a>, CheckFault>
+    ensures names { IfOk result (λ names. names.desc.now ≡ desc.now) }
+    ensures free { IfOk result (λ _. first_told (faults_of_names (description desc.now)) ≡ None) }
+    ensures err { IfErr result (Tells (IsToldAt (description desc.now))) }
+{
+    let names = Names::of(alloc, desc)?;
+    match fault_of_names(alloc, &names)? {
+        Some(told) => Err(fault(told)),
+        None => Ok(names),
+    }
+}
+
+/// The counting order, where no reservation reaches itself.
+pub(crate) fn ordered(alloc: Global, desc: &Description) -> Result<Order, CheckFault>
+    requires named { first_told (faults_of_names (description desc.now)) ≡ None }
+    requires formed { IsCheckable (description desc.now) }
+    ensures order { IfOk result (λ order. IsOrdered (description desc.now) order.numbers.items) }
+    ensures err { IfErr result (Tells (IsToldAt (description desc.now))) }
+{
+    match counting_order(alloc, desc) {
+        Ok(order) => Ok(order),
+        Err(OrderFault::Circular(place)) => {
+            let reservation = &desc.reservations[place];
+            Err(refused(Wrong::CircularReservation, reservation.site()))
+        }
+        Err(OrderFault::NoMemory) => Err(CheckFault::NoMemory),
+    }
+}
+
+/// The places of the units, where the sets are right and there are not too many automata, units and classes. The counting
+/// order shows that no reservation reaches itself; nothing else is asked of it.
+pub(crate) fn placed(
+    alloc: Global,
+    names: &Names<'_>,
+    order: &[usize],
+) -> Result<Vec<UnitPlace>, CheckFault>
+    requires { IsOrdered (description names.now.desc.now) order.now }
+    ensures places { IfOk result (λ places. ArePlaces (description names.now.desc.now) places.items) }
+    ensures within { IfOk result (λ _. AreWithin (description names.now.desc.now)) }
+    ensures err { IfErr result (Tells (IsToldAt (description names.now.desc.now))) }
+{
+    let _ = order;
+    if let Some(site) = self_exclusion(alloc, names.desc)? {
+        return Err(refused(Wrong::SelfExclusion, site));
+    }
+    if let Some(site) = set_across_automata(names) {
+        return Err(refused(Wrong::SetAcrossAutomata, site));
+    }
+    if let Some(site) = past_automaton(names.desc) {
+        let what = LimitName::Automata;
+        return Err(refused(Wrong::Limit(what), site));
+    }
+    let places = match unit_places(alloc, names)? {
+        Ok(places) => places,
+        Err(site) => {
+            let what = LimitName::Units;
+            return Err(refused(Wrong::Limit(what), site));
+        }
+    };
+    match past_class(names.desc) {
+        Some(site) => {
+            let what = LimitName::Classes;
+            Err(refused(Wrong::Limit(what), site))
+        }
+        None => Ok(places),
+    }
+}

@@ -1,0 +1,77 @@
+//! Which fault is told, and where.
+
+ghost use Rattle.std.specs.Prelude.{◌≡◌, None};
+ghost use Rattle.std.specs.Option.{option_map};
+ghost use Rattle.hz_check.specs.Faults.{Tells, IsToldHere, told_of, wrong_of};
+ghost use Rattle.hz_unfold.specs.Places.{site_of, told};
+ghost use Rattle.hz_check_model.specs.FirstTold.{told_at};
+
+use crate::fault::{CheckFault, LimitName};
+use crate::names::site::Site;
+
+/// What is wrong.
+#[derive(Clone, Copy)]
+pub(crate) enum Wrong {
+    TwiceDefined,
+    ReservedName,
+    UnknownName,
+    UnknownAutomaton,
+    UnitNeedsAutomaton,
+    CircularReservation,
+    SelfExclusion,
+    SetAcrossAutomata,
+    Limit(LimitName),
+    AlternationOfTwoAutomata,
+    AlternationOfTwoLengths,
+    BypassTwice,
+}
+
+/// What is wrong, and where.
+#[derive(Clone, Copy)]
+pub(crate) struct Told<'a> {
+    pub wrong: Wrong,
+    pub site: Site<'a>,
+}
+
+/// The fault at the site, if there is one.
+pub(crate) fn at<'a>(wrong: Wrong, site: Option<Site<'a>>) -> Option<Told<'a>>
+    ensures { option_map told_of result ≡ told_at (wrong_of wrong) (told site.entry) None }
+{
+    match site {
+        Some(site) => Some(Told { wrong, site }),
+        None => None,
+    }
+}
+
+/// The fault with the line and the name of its site.
+pub(crate) fn fault(told: Told<'_>) -> CheckFault
+    ensures { Tells (IsToldHere (told_of told.entry)) result }
+{
+    let Told { wrong, site } = told;
+    let line = site.line;
+    let name = match site.name.copy() {
+        Ok(name) => name,
+        Err(_) => return CheckFault::NoMemory,
+    };
+    match wrong {
+        Wrong::TwiceDefined => CheckFault::TwiceDefined { line, name },
+        Wrong::ReservedName => CheckFault::ReservedName { line, name },
+        Wrong::UnknownName => CheckFault::UnknownName { line, name },
+        Wrong::UnknownAutomaton => CheckFault::UnknownAutomaton { line, name },
+        Wrong::UnitNeedsAutomaton => CheckFault::UnitNeedsAutomaton { line, name },
+        Wrong::CircularReservation => CheckFault::CircularReservation { line, name },
+        Wrong::SelfExclusion => CheckFault::SelfExclusion { line, name },
+        Wrong::SetAcrossAutomata => CheckFault::SetAcrossAutomata { line, name },
+        Wrong::Limit(what) => CheckFault::Limit { what, line, name },
+        Wrong::AlternationOfTwoAutomata => CheckFault::AlternationOfTwoAutomata { line, name },
+        Wrong::AlternationOfTwoLengths => CheckFault::AlternationOfTwoLengths { line, name },
+        Wrong::BypassTwice => CheckFault::BypassTwice { line, name },
+    }
+}
+
+/// What is wrong at this site, with its line and its name.
+pub(crate) fn refused(wrong: Wrong, site: Site<'_>) -> CheckFault
+    ensures { Tells (IsToldHere (record { fault = wrong_of wrong; site = site_of site.entry })) result }
+{
+    fault(Told { wrong, site })
+}

@@ -1,0 +1,40 @@
+//! Units that name an automaton that is not defined.
+
+ghost use Rattle.std.specs.Prelude.{◌≡◌, map};
+ghost use Rattle.hz_mdread.specs.Shape.{description, unit_item};
+ghost use Rattle.hz_unfold.specs.Places.{told};
+ghost use Rattle.hz_check_model.specs.CheckFaults.{unknown_automata, unknown_automaton_of};
+ghost use Rattle.hz_check_model.specs.Sites.{earliest};
+
+use crate::names::Names;
+use crate::names::site::{Site, earlier};
+use hz_mdread::UnitItem;
+
+/// Where a unit names an automaton that is not defined.
+fn unknown_automaton_of<'a>(names: &Names<'a>, unit: &'a UnitItem) -> Option<Site<'a>>
+    ensures { told result ≡ unknown_automaton_of (map (λ a. a.name) (description names.now.desc.now).automata) (unit_item unit.now) }
+{
+    match &unit.automaton {
+        Some(name) => {
+            let site = Site {
+                line: unit.line,
+                form: unit.form,
+                name,
+            };
+            (!names.automata.holds(name)).then_some(site)
+        }
+        None => None,
+    }
+}
+
+/// Where some unit names an automaton that is not defined.
+pub(crate) fn unknown_automaton<'a>(names: &Names<'a>) -> Option<Site<'a>>
+    ensures { told result ≡ earliest (unknown_automata (description names.now.desc.now)) }
+{
+    let desc = names.desc;
+    let mut first = None;
+    for unit in &desc.units {
+        first = earlier(first, unknown_automaton_of(names, unit));
+    }
+    first
+}

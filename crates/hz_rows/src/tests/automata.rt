@@ -1,0 +1,165 @@
+//! Several automata, the treatment `ndfa`, and the limits of states.
+
+use super::{answers, numbered, replays};
+use std::alloc::Global;
+use std::process::Abort;
+use std::test::Fail;
+
+/// A class of one of two units, and one of the first alone.
+const EITHER: &str = "(define_cpu_unit \"a,b\")(define_insn_reservation \"x\" 1 (const_int 1) \"a|b\")(define_insn_reservation \"y\" 1 (const_int 1) \"a\")";
+
+/// Rows on that description: what stands behind it, the trace, the status and the text.
+const TREATMENT_ROWS: &[(&str, &[u8], u8, &[u8])] = &[
+    ("", b"issue x\nissue y\n", 1, b"refused line 2 y\n"),
+    // under ndfa the first issue may have taken the second unit
+    (
+        "(automata_option \"ndfa\")",
+        b"issue x\nissue y\n",
+        0,
+        b"accepted 2 issues 0 cycles\n",
+    ),
+    (
+        "(automata_option \"ndfa\")",
+        b"issue x\nissue x\nissue y\n",
+        1,
+        b"refused line 3 y\n",
+    ),
+    (
+        "(automata_option \"ndfa\")",
+        b"issue x\nissue y\nadvance 1\nissue y\nissue x\n",
+        0,
+        b"accepted 4 issues 1 cycles\n",
+    ),
+    // these options change no answer of a replay
+    (
+        "(automata_option \"no-minimization,v,stats,no-comb-vect\")",
+        b"issue x\nissue y\n",
+        1,
+        b"refused line 2 y\n",
+    ),
+];
+
+#[test]
+fn issues_take_the_first_that_fits_or_any(rt: HostRuntime) -> Result<(), Fail> {
+    let alloc = rt.alloc();
+    for (end, trace, status, text) in TREATMENT_ROWS {
+        let description = format!(in alloc; "{EITHER}{end}")?;
+        replays(&rt, alloc, description.as_bytes(), trace, *status, text)?;
+    }
+    Ok(())
+}
+
+/// Units of two automata, and a class of the expression of a row on line 4.
+const TWO: &str = "(define_automaton \"a,b\")\n(define_cpu_unit \"a0,a1\" \"a\")\n(define_cpu_unit \"b0,b1\" \"b\")\n(define_insn_reservation \"x\" 1 (const_int 1) \"";
+
+/// Rows on two automata: the expression, the trace, the status and the text.
+const TWO_ROWS: &[(&str, &[u8], u8, &[u8])] = &[
+    // each automaton is full after two
+    (
+        "(a0|a1),(b0|b1)",
+        b"issue x\nissue x\nissue x\n",
+        1,
+        b"refused line 3 x\n",
+    ),
+    (
+        "(a0|a1),(b0|b1)",
+        b"issue x\nissue x\nadvance 1\nissue x\n",
+        0,
+        b"accepted 3 issues 1 cycles\n",
+    ),
+    // refused in the first automaton alone
+    (
+        "a0+(b0|b1)",
+        b"issue x\nissue x\n",
+        1,
+        b"refused line 2 x\n",
+    ),
+    // and in the second alone, one cycle later
+    (
+        "(a0|a1),b0",
+        b"issue x\nadvance 1\nissue x\nissue x\n",
+        1,
+        b"refused line 4 x\n",
+    ),
+    ("a0|b0", b"", 2, b"fault d line 4 AlternationOfTwoAutomata x\n"),
+    (
+        "((a0,a0)|a0), b0",
+        b"",
+        2,
+        b"fault d line 4 AlternationOfTwoLengths x\n",
+    ),
+    (
+        "b0, ((a0,a0)|a0)",
+        b"issue x\nadvance 2\nissue x\nadvance 1\nissue x\n",
+        1,
+        b"refused line 5 x\n",
+    ),
+];
+
+#[test]
+fn automata_choose_side_by_side(rt: HostRuntime) -> Result<(), Fail> {
+    let alloc = rt.alloc();
+    for (expression, trace, status, text) in TWO_ROWS {
+        let description = format!(in alloc; "{TWO}{expression}\")\n")?;
+        replays(&rt, alloc, description.as_bytes(), trace, *status, text)?;
+    }
+    Ok(())
+}
+
+/// Asserts the status and the text of a description of a unit, of classes that take it so many cycles after their issue,
+/// and of what stands behind them.
+fn late(
+    rt: &impl Abort,
+    alloc: Global,
+    classes: u32,
+    end: &str,
+    status: u8,
+    text: &[u8],
+) -> Result<(), Fail> {
+    let head = "(define_cpu_unit \"u\")(define_insn_reservation \"c\" 1 (const_int 1) \"u\")";
+    let mut description = String::from_str(alloc, head)?;
+    for class in 1..classes {
+        let form = format!(in alloc; "(define_insn_reservation \"c{class}\" 1 (const_int 1) \"nothing*{class}, u\")")?;
+        description.push_str(&form)?;
+    }
+    description.push_str(end)?;
+    answers(rt, alloc, description.as_bytes(), status, text)
+}
+
+#[test]
+fn an_automaton_has_at_most_65536_states(rt: HostRuntime) -> Result<(), Fail> {
+    let alloc = rt.alloc();
+    let accepted = b"accepted 0 issues 0 cycles\n".as_slice();
+    late(&rt, alloc, 16, "", 0, accepted)?;
+    late(&rt, alloc, 17, "", 3, b"limit d automaton -\n")?;
+    // 4,096 where each state is to be shown
+    let shown = "(automata_option \"v,no-minimization\")";
+    late(&rt, alloc, 12, shown, 0, accepted)?;
+    late(&rt, alloc, 13, shown, 3, b"limit d automaton -\n")?;
+    late(&rt, alloc, 13, "(automata_option \"v\")", 0, accepted)
+}
+
+#[test]
+fn the_first_automaton_past_its_limit_is_told(rt: HostRuntime) -> Result<(), Fail> {
+    let alloc = rt.alloc();
+    let head = "(define_automaton \"m,n,o\")(define_cpu_unit \"p\" \"m\")(define_cpu_unit \"q\" \"n\")(define_cpu_unit \"r\" \"o\")";
+    let classes = numbered(
+        alloc,
+        head,
+        "(define_insn_reservation \"x",
+        "\" 1 (const_int 1) \"p\")",
+        2,
+    )?;
+    let mut description = classes;
+    for class in 1..18 {
+        let form = format!(in alloc; "(define_insn_reservation \"c{class}\" 1 (const_int 1) \"nothing*{class}, (q + r)\")")?;
+        description.push_str(&form)?;
+    }
+    answers(
+        &rt,
+        alloc,
+        description.as_bytes(),
+        3,
+        b"limit d automaton n\n",
+    )
+}

@@ -1,0 +1,117 @@
+-- The machine of a checked description.
+use Rattle.std.proofs.Common.{◌≡◌, ℕ, suc, ◌+◌, ◌<◌, ◌≤◌, List, [], ◌∷◌, length, map, take, get_or, All, Option, Some, None, slice_get, inl, inr, refl, sym, ap, ◌∙◌, subst, arith, add-one}
+use Rattle.std.specs.Prelude.{IsSome, ◌↔◌, slice_index_or, MatchBool, ⊤}
+use Rattle.std.proofs.lemmas.List.{length-map, get_or-map}
+use Rattle.std.proofs.lemmas.List.Elements.{All-take, All-get_or}
+use Rattle.std.proofs.lemmas.Option.{slice_get_within, get_or_from_slice_get, slice_get-get_or}
+use Rattle.hz_acceptance_model.specs.Events.{Event, issue, IsOfClass, issues_of, cycles_of}
+use Rattle.hz_acceptance_model.specs.Replay.{Accepted, FirstRefused}
+use Rattle.hz_answer_model.specs.Answers.{Replays, ReplaysTrace, ReplaysDescription, Compiles}
+use Rattle.hz_answer_model.specs.Phases.{Says}
+use Rattle.hz_answer_model.specs.Texts.{refused_line, states_line}
+use Rattle.hz_answer_model.proofs.EventLaws.{issue_named}
+use Rattle.hz_auto_model.specs.Compiled.{IsCompiled, IsFirstPast, Report as Told}
+use Rattle.hz_auto_model.specs.DescriptionLimits.{AllKeepLimits, IsFirstPastLimit}
+use Rattle.hz_auto_model.proofs.DescriptionLaws.{machine_accepts, all_keep, first_past}
+use Rattle.hz_check.specs.declared.checked.Checked.{Checked}
+use Rattle.hz_check.specs.Checked.{IsCheckedOf}
+use Rattle.hz_check.specs.Shape.{automaton_of, class_of}
+use Rattle.hz_check_model.specs.CheckedParts.{AutomatonParts, ClassParts, automaton_names, automaton_count, automata_from, automata_of, class_parts}
+use Rattle.hz_check_model.specs.Places.{Known, class_names}
+use Rattle.hz_mdread.specs.Shape.{options as options_of}
+use Rattle.hz_mdread_model.specs.Descriptions.{Description, Options}
+use Rattle.hz_pipeline_model.specs.Pipelines.{pipeline_with}
+use Rattle.hz_reach_model.specs.Counts.{Count}
+use Rattle.hz_replay.specs.Replaying.{IsOutcome, FirstUnwalked}
+use Rattle.hz_tables_model.specs.Machines.{Machine, machine_walk}
+use Rattle.hz_tool.proofs.AnswerLemmas.{agrees_weaker}
+use Rattle.hz_tool.specs.Decisions.{Agrees}
+use Rattle.hz_tool.specs.Machines.{IsMachineFor, Refuses}
+use Rattle.hz_tool.specs.declared.report.Report.{Report}
+
+pub map_twice : {A B C : Type 0} (f : B → C) (g : A → B) (xs : List A) → map f (map g xs) ≡ map (λ x. f (g x)) xs
+map_twice f g [] = refl
+map_twice f g (x ∷ xs) = ap (λ (ys : List _). f (g x) ∷ ys) (map_twice f g xs)
+
+module _ (d : Description) (known : Known) (m : Machine) (is : IsMachineFor d known m) where
+  -- as many classes
+  pub classes_count : length m.classes ≡ length d.classes
+  classes_count = ap length is.names ∙ length-map d.classes (λ c. c.name)
+
+  module _ (t : List Event) (all : All (IsOfClass (length m.classes)) t) where
+    of_classes : All (IsOfClass (length d.classes)) t
+    of_classes = subst (λ n. All (IsOfClass n) t) classes_count all
+
+    -- what is walked is accepted
+    pub walked_accepted : IsSome (machine_walk m t) → Accepted (pipeline_with d known) t
+    walked_accepted = (is.walks t of_classes).0
+
+    -- the first event that is not walked is the first refused
+    pub unwalked_refused : (i : ℕ) → FirstUnwalked m t i → FirstRefused (pipeline_with d known) t i
+    unwalked_refused i first = record {
+      within = first.within;
+      before = (is.walks (take i t) (All-take (IsOfClass (length d.classes)) i t of_classes)).0 first.before;
+      refused = λ accepted.
+          let walked = (is.walks (take (i + 1) t) (All-take (IsOfClass (length d.classes)) (i + 1) t of_classes)).1 accepted in
+          let stops = subst (λ n. machine_walk m (take n t) ≡ None) (sym (add-one i)) first.stops in
+          absurd (none_walked (machine_walk m (take (i + 1) t)) stops walked);
+    }
+      where
+        none_walked : (o : Option (List ℕ)) → o ≡ None → IsSome o → ⊥
+        none_walked o e h = let some = subst IsSome e h in absurd (cc)
+
+  -- a refusal of the machine is the description's
+  pub refusal : (lines : List ℕ) (events : List Event) → All (IsOfClass (length m.classes)) events → (i line : ℕ) (e : Event) (report : Report) → FirstUnwalked m events i → slice_get events i ≡ Some e → slice_get lines i ≡ Some line → Agrees (Refuses m line e) report → Agrees (Replays (pipeline_with d known) lines events) report
+  refusal lines events all i line e report first there here h =
+      agrees_weaker (Refuses m line e) (Replays (pipeline_with d known) lines events)
+      (λ s t (class, name, issues, named, says).
+      inr (i, line, name, unwalked_refused events all i first, here,
+      issue_named d known (slice_get events i) class name (there ∙ ap Some issues) (subst (λ ns. slice_get ns class ≡ Some name) is.names named), says))
+      report h
+
+module _ (d : Description) (checked : Checked) (is : IsCheckedOf d checked) where
+  abbrev parts : List ClassParts
+  parts = map (class_parts d is.known) d.classes
+
+  -- what is compiled of what is held is compiled of the description
+  compiled_of : (m : Machine) (reports : List Told) → IsCompiled (options_of checked.options) (map automaton_of checked.automata.items) (map class_of checked.classes.items) m reports → IsCompiled d.options (automata_of d) parts m reports
+  compiled_of m reports h =
+      subst (λ (o : Options). IsCompiled o (automata_of d) parts m reports) is.options
+      (subst (λ as'. IsCompiled (options_of checked.options) as' parts m reports) is.automata
+      (subst (λ cs. IsCompiled (options_of checked.options) (map automaton_of checked.automata.items) cs m reports) is.classes h))
+
+  first_of : (a : ℕ) (kind : Count) → IsFirstPast (options_of checked.options) (map automaton_of checked.automata.items) (map class_of checked.classes.items) a kind → IsFirstPast d.options (automata_of d) parts a kind
+  first_of a kind h =
+      subst (λ (o : Options). IsFirstPast o (automata_of d) parts a kind) is.options
+      (subst (λ as'. IsFirstPast (options_of checked.options) as' parts a kind) is.automata
+      (subst (λ cs. IsFirstPast (options_of checked.options) (map automaton_of checked.automata.items) cs a kind) is.classes h))
+
+  -- the machine is the description's
+  pub machine_for : (m : Machine) (reports : List Told) → IsCompiled (options_of checked.options) (map automaton_of checked.automata.items) (map class_of checked.classes.items) m reports → IsMachineFor d is.known m
+  machine_for m reports h =
+      let here = compiled_of m reports h in
+      record {
+        names = here.names ∙ map_twice (λ c. c.name) (class_parts d is.known) d.classes;
+        walks = λ t all. machine_accepts d is.known m reports here t all is.sound;
+      }
+
+  -- its trace is replayed
+  pub compiled_replays : (description trace traced : List ℕ) (m : Machine) (reports : List Told) → IsCompiled (options_of checked.options) (map automaton_of checked.automata.items) (map class_of checked.classes.items) m reports → (report : Report) → Agrees (ReplaysTrace trace traced d is.known) report → Agrees (ReplaysDescription description trace traced d is.known) report
+  compiled_replays description trace traced m reports h report answers =
+      agrees_weaker (ReplaysTrace trace traced d is.known) (ReplaysDescription description trace traced d is.known)
+      (λ s t x. inl (all_keep d is.known m reports (compiled_of m reports h), x)) report answers
+
+  names_from : (n : ℕ) (names : List (List ℕ)) → map (λ (p : AutomatonParts). p.name) (automata_from d n names) ≡ names
+  names_from n [] = refl
+  names_from n (name ∷ names) = ap (λ (ns : List (List ℕ)). name ∷ ns) (names_from (suc n) names)
+
+  names_held : map (λ a. a.name) checked.automata.items ≡ automaton_names d
+  names_held =
+      sym (map_twice (λ (p : AutomatonParts). p.name) automaton_of checked.automata.items)
+      ∙ (ap (map (λ (p : AutomatonParts). p.name)) is.automata ∙ names_from 0 (automaton_names d))
+
+  -- a limit of its states is told
+  pub limit_told : (description trace traced : List ℕ) (a : ℕ) (kind : Count) → IsFirstPast (options_of checked.options) (map automaton_of checked.automata.items) (map class_of checked.classes.items) a kind → (report : Report) → Agrees (Says 3 (states_line description (slice_index_or (map (λ x. x.name) checked.automata.items) a []))) report → Agrees (ReplaysDescription description trace traced d is.known) report
+  limit_told description trace traced a kind first report says =
+      agrees_weaker (Says 3 (states_line description (slice_index_or (map (λ x. x.name) checked.automata.items) a []))) (ReplaysDescription description trace traced d is.known)
+      (λ s t x. inr (a, first_past d is.known a kind (first_of a kind first), (x.0, x.1 ∙ ap (λ ns. states_line description (slice_index_or ns a [])) names_held))) report says

@@ -1,0 +1,86 @@
+-- Traces that are judged, and how many events they have.
+use Rattle.std.proofs.Common.{◌≡◌, ℕ, ◌+◌, ◌<◌, ◌≤◌, Bool, true, false, cond, List, [], ◌∷◌, length, get_or, Some, slice_get, inl, inr, refl, sym, ap, ◌∙◌, subst, arith, MatchOption}
+use Rattle.std.specs.Prelude.{◌==◌}
+use Rattle.std.specs.Option.{option_map}
+use Rattle.std.proofs.lemmas.List.{length-map}
+use Rattle.std.proofs.lemmas.Option.{slice_get-map, slice_get-get_or}
+use Rattle.hz_acceptance_model.specs.Events.{Event}
+use Rattle.hz_answer_model.specs.Answers.{Traces}
+use Rattle.hz_answer_model.specs.FaultTexts.{trace_word}
+use Rattle.hz_answer_model.specs.Texts.{fault_line}
+use Rattle.std.specs.List.{onto_first}
+use Rattle.hz_base_model.specs.Lines.{lines_of}
+use Rattle.hz_replay.specs.declared.event.Event.{Event as Placed}
+use Rattle.hz_replay.specs.declared.event.What.TheVariants.{Issue}
+use Rattle.hz_replay.specs.Lines.{event_of}
+use Rattle.hz_replay.specs.Traces.{events_in, lines_in}
+use Rattle.hz_trace_model.specs.Traces.{Trace, TraceFault, TraceFaultAt, Line, line_says, event_lines, numbered}
+use Rattle.hz_trace_model.specs.Traces as trace
+use Rattle.hz_tool.proofs.AnswerLemmas.{agrees_weaker}
+use Rattle.hz_tool.specs.Decisions.{Agrees, IsTraceReport}
+use Rattle.hz_tool.specs.Kinds.{kind_word, trace_fault}
+use Rattle.hz_tool.specs.declared.kind.Kind.{Kind}
+use Rattle.hz_tool.specs.declared.kind.Kind.TheVariants as kind
+use Rattle.hz_tool.specs.declared.report.Report.{Report}
+use Rattle.hz_tool.specs.declared.report.Report.TheVariants as report
+
+-- what is said of the fault that a kind tells holds of one with the kind's word
+trace_said : (k : Kind) (P : TraceFault → Type 0) → MatchOption (trace_fault k) ⊥ P → (fault : TraceFault) × P fault × (kind_word k ≡ trace_word fault)
+trace_said kind.BadLine P h = (trace.bad_line, h, refl)
+trace_said kind.UnknownClass P h = (trace.unknown_class, h, refl)
+trace_said kind.AdvanceLimit P h = (trace.too_many_advances, h, refl)
+trace_said _ P h = absurd h
+
+-- the first wrong line of a trace is told
+pub trace_refused : (classes : List (List ℕ)) (name text : List ℕ) (next : List Event → ℕ → List ℕ → Type 0) (report : Report) → IsTraceReport name classes text report → Agrees (Traces classes name text next) report
+trace_refused classes name text next (report.Fault file line k) (same, wrong) =
+    let said = trace_said k (λ fault. TraceFaultAt classes text fault line) wrong in
+    inr (said.0, line, said.1, (refl, ap (λ (f : List ℕ). fault_line f line (kind_word k ∷ [])) same ∙ ap (λ (w : List ℕ). fault_line name line (w ∷ [])) said.2))
+trace_refused classes name text next report.Memory h = tt
+trace_refused classes name text next _ h = absurd h
+
+-- the events of a trace, replayed
+pub trace_replayed : (classes : List (List ℕ)) (name text : List ℕ) (events : List Event) (next : List Event → ℕ → List ℕ → Type 0) (report : Report) → Trace classes text events → Agrees (next events) report → Agrees (Traces classes name text next) report
+trace_replayed classes name text events next report is h = agrees_weaker (next events) (Traces classes name text next) (λ s t a. inl (events, is, a)) report h
+
+-- the line of an event
+pub line_there : (events : List Placed) (i : ℕ) (e : Placed) → i < length events → slice_get (lines_in events) i ≡ Some (get_or events i e).line
+line_there events i e within =
+    slice_get-map (λ (e : Placed). e.line) events i ∙ ap (option_map (λ (e : Placed). e.line)) (slice_get-get_or events i e within)
+
+-- an event, read where there is none
+abbrev pub some_event : Placed
+some_event = record { line = 0; what = Issue 0 }
+
+-- the event at a place
+pub event_there : (events : List Placed) (i : ℕ) (e : Placed) → i < length events → slice_get (events_in events) i ≡ Some (event_of (get_or events i e).what)
+event_there events i e within =
+    slice_get-map (λ (e : Placed). event_of e.what) events i ∙ ap (option_map (λ (e : Placed). event_of e.what)) (slice_get-get_or events i e within)
+
+-- A text has no more lines than bytes.
+onto_few : (b : ℕ) (lines : List (List ℕ)) (n : ℕ) → length lines ≤ n → length (onto_first b lines) ≤ n + 1
+onto_few b [] n few = omega arith
+onto_few b (line ∷ lines) n few = omega (arith, few)
+
+line_few : (b n : ℕ) (lines : List (List ℕ)) (t : Bool) → length lines ≤ n → length (cond t ([] ∷ lines) (onto_first b lines)) ≤ n + 1
+line_few b n lines true few = omega (arith, few)
+line_few b n lines false few = onto_few b lines n few
+
+lines_few : (bytes : List ℕ) → length (lines_of bytes) ≤ length bytes
+lines_few [] = omega arith
+lines_few (b ∷ bytes) = let few = line_few b (length bytes) (lines_of bytes) (b == 10) (lines_few bytes) in omega (arith, few)
+
+-- and no more events than lines
+event_few : (says : Line) (number n : ℕ) (numbers : List ℕ) → length numbers ≤ n → length (numbered says number numbers) ≤ n + 1
+event_few (trace.says event) number n numbers few = omega (arith, few)
+event_few trace.skipped number n numbers few = omega (arith, few)
+event_few (trace.wrong fault) number n numbers few = omega (arith, few)
+
+events_few : (classes lines : List (List ℕ)) (number : ℕ) → length (event_lines classes number lines) ≤ length lines
+events_few classes [] number = omega arith
+events_few classes (line ∷ lines) number = let few = event_few (line_says classes line) number (length lines) (event_lines classes (number + 1) lines) (events_few classes lines (number + 1)) in omega (arith, few)
+
+pub trace_few : (classes : List (List ℕ)) (text : List ℕ) (events : List Placed) → lines_in events ≡ event_lines classes 1 (lines_of text) → length events ≤ length text
+trace_few classes text events lines =
+    let few = events_few classes (lines_of text) 1 in
+    omega (arith, few, lines_few text, ap length lines, length-map events (λ (e : Placed). e.line))

@@ -1,0 +1,144 @@
+//! The replay of a trace over the machine of a checked description.
+
+ghost use Rattle.std.specs.Prelude.{◌≡◌, ℕ, ◌<◌, ◌≤◌, ◌^◌, List, [], length, map, slice_index_or, All};
+ghost use Rattle.hz_base_model.specs.Limits.{advance_limit};
+ghost use Rattle.hz_acceptance_model.specs.Events.{issue, cycles_of, IsOfClass};
+ghost use Rattle.hz_answer_model.specs.Answers.{Replays, ReplaysTrace, ReplaysDescription};
+ghost use Rattle.hz_answer_model.specs.Phases.{Says};
+ghost use Rattle.hz_answer_model.specs.Texts.{states_line};
+ghost use Rattle.hz_auto.specs.Machines.{IsFaultOf};
+ghost use Rattle.hz_check.specs.Checked.{IsCheckedOf};
+ghost use Rattle.hz_check_model.specs.Places.{Known};
+ghost use Rattle.hz_mdread_model.specs.Descriptions.{Description};
+ghost use Rattle.hz_pipeline_model.specs.Pipelines.{pipeline_with};
+ghost use Rattle.hz_replay.specs.Lines.{event_of};
+ghost use Rattle.hz_replay.specs.Replaying.{IsOutcome};
+ghost use Rattle.hz_replay.specs.Traces.{events_in, lines_in};
+ghost use Rattle.hz_tables.specs.Machines.{machine_of};
+ghost use Rattle.hz_tool.specs.Decisions.{Agrees, IsJudged};
+ghost use Rattle.hz_tool.specs.Machines.{IsMachineFor, IsIssueIn, Refuses};
+
+use super::judging::judge_trace;
+use super::report::Report;
+use super::words::ReplayOrder;
+use hz_auto::{AutoFault, compile};
+use hz_check::Checked;
+use hz_replay::{Event, Outcome, What, replay};
+use hz_tables::{Machine, Steps};
+use std::alloc::Global;
+use std::marker::Brand;
+use std::sync::ledger::{Blank, Ledger};
+
+/// The outcome of events over a machine, whose steps nobody counts.
+fn outcome_of<L: Ledger>(
+    alloc: Global,
+    machine: &Machine,
+    events: &[Event],
+    blank: Blank,
+) -> Outcome
+    requires name { blank.name ≡ L.name }
+    requires parts { blank.parts ≡ L.parts }
+    requires some { 0 < blank.parts }
+    requires classes { All (IsOfClass (length machine.now.classes.items)) (events_in events.now) }
+    requires short { cycles_of (events_in events.now) ≤ advance_limit }
+    requires few { length events.now < 2 ^ 32 }
+    ensures { IsOutcome (machine_of machine.now) (events_in events.now) result }
+{
+    let mut steps = Steps::<L>::new(blank);
+    replay(alloc, machine, events, &mut steps)
+}
+
+/// The class that an event issues.
+fn class_of(what: What) -> u32
+    requires { (class : ℕ) × (event_of what ≡ issue class) }
+    ensures { event_of what ≡ issue result }
+{
+    match what {
+        What::Issue(class) => class,
+        What::Advance(_) => unreachable!(),
+    }
+}
+
+/// The report of the first event that does not fit, an issue.
+fn refused_report<'a>(machine: &Machine, event: &Event) -> Report<'a>
+    requires { IsIssueIn (machine_of machine.now) (event_of event.now.what) }
+    ensures kind { IsJudged result }
+    ensures answer { Agrees (Refuses (machine_of machine.now) event.now.line (event_of event.now.what)) result }
+{
+    let class = class_of(event.what);
+    match machine.classes[class as usize].copy() {
+        Ok(class) => Report::Refused {
+            line: event.line as u64,
+            class,
+        },
+        Err(_) => Report::Memory,
+    }
+}
+
+/// The report of a replay's outcome.
+fn outcome_report<'a>(machine: &Machine, events: &[Event], outcome: Outcome) -> Report<'a>
+    requires classes { All (IsOfClass (length machine.now.classes.items)) (events_in events.now) }
+    requires outcome { IsOutcome (machine_of machine.now) (events_in events.now) outcome }
+    ensures kind { IsJudged result }
+    ensures answer { (d : Description) (known : Known) → IsMachineFor d known (machine_of machine.now) → Agrees (Replays (pipeline_with d known) (lines_in events.now) (events_in events.now)) result }
+{
+    match outcome {
+        Outcome::Accepted { issues, cycles } => Report::Accepted { issues, cycles },
+        Outcome::Refused { event } => refused_report(machine, &events[event as usize]),
+    }
+}
+
+/// The report of a trace over the machine of a description.
+fn trace_report<'a>(alloc: Global, file: &'a str, machine: &Machine, trace: &[u8]) -> Report<'a>
+    requires { length trace.now < 2 ^ 32 }
+    ensures kind { IsJudged result }
+    ensures answer { (d : Description) (known : Known) → IsMachineFor d known (machine_of machine.now) → Agrees (ReplaysTrace file.entry.now trace.now d known) result }
+{
+    let events = match judge_trace(alloc, file, machine, trace) {
+        Ok(events) => events,
+        Err(report) => return report,
+    };
+    let outcome = outcome_of::<Brand>(alloc, machine, &events, Blank::new(1));
+    outcome_report(machine, &events, outcome)
+}
+
+/// The report of the first automaton of a description that has too many states.
+fn states_report<'a>(file: &'a str, checked: &Checked, automaton: u32) -> Report<'a>
+    requires { automaton < length checked.now.automata.items }
+    ensures kind { IsJudged result }
+    ensures answer { Agrees (Says 3 (states_line file.entry.now (slice_index_or (map (λ a. a.name) checked.now.automata.items) automaton []))) result }
+{
+    match checked.automata[automaton as usize].name.copy() {
+        Ok(automaton) => Report::States { file, automaton },
+        Err(_) => Report::Memory,
+    }
+}
+
+/// The report of a description that is not compiled.
+fn fault_report<'a>(file: &'a str, checked: &Checked, fault: AutoFault) -> Report<'a>
+    requires { IsFaultOf checked.now fault }
+    ensures kind { IsJudged result }
+    ensures answer { (d : Description) (is : IsCheckedOf d checked.now) (trace traced : List ℕ) → Agrees (ReplaysDescription file.entry.now trace traced d is.known) result }
+{
+    match fault {
+        AutoFault::Limit { automaton, kind: _ } => states_report(file, checked, automaton),
+        AutoFault::NoMemory => Report::Memory,
+    }
+}
+
+/// The report of the trace of a description without a fault, which is compiled first.
+pub fn replay_report<'a>(
+    alloc: Global,
+    order: &ReplayOrder<'a>,
+    checked: &Checked,
+    trace: &[u8],
+) -> Report<'a>
+    requires { length trace.now < 2 ^ 32 }
+    ensures kind { IsJudged result }
+    ensures answer { (d : Description) (is : IsCheckedOf d checked.now) → Agrees (ReplaysDescription order.now.description.now order.now.trace.now trace.now d is.known) result }
+{
+    match compile(alloc, checked) {
+        Ok(compiled) => trace_report(alloc, order.trace, &compiled.machine, trace),
+        Err(fault) => fault_report(order.description, checked, fault),
+    }
+}
