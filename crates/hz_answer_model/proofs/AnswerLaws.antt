@@ -102,9 +102,9 @@ first_past_one : (d : Description) (known : Known) (a b : ℕ) → IsFirstPastLi
 first_past_one d known a b one other = ⊎_elim
     (λ (less : a < b). absurd (kept_or_past d known a (other.before a less) one.kind one.past))
     (λ (high : b ≤ a). ⊎_elim
-        (λ (less : b < a). absurd (kept_or_past d known b (one.before b less) other.kind other.past))
-        (λ (low : a ≤ b). omega (arith, high, low))
-        (cases_lt b a))
+    (λ (less : b < a). absurd (kept_or_past d known b (one.before b less) other.kind other.past))
+    (λ (low : a ≤ b). omega (arith, high, low))
+    (cases_lt b a))
     (cases_lt a b)
 
 compiles_single : (name : List ℕ) (d : Description) (known : Known) (next : ℕ → List ℕ → Type 0) → IsSingle next → IsSingle (Compiles name d known next)

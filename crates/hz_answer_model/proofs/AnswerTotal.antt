@@ -91,12 +91,12 @@ limits_one : (d : Description) (known : Known) → AreCounted d known → (n : �
 limits_one d known counted zero few = inl (λ a low. absurd (omega (arith, low)))
 limits_one d known counted (suc n) few = ⊎_elim
     (λ (kept : (a : ℕ) → a < n → KeepsLimits d known a). ⊎_elim
-        (λ (here : KeepsLimits d known n). inl (λ a low. ⊎_elim
-            (λ (less : a < n). kept a less)
-            (λ (high : n ≤ a). let same : n ≡ a = omega (arith, low, high) in subst (KeepsLimits d known) same here)
-            (cases_lt a n)))
-        (λ (past : (kind : Count) × PassesLimit d known n kind). inr (n, record { there = omega (arith, few); before = kept; kind = past.0; past = past.1 }))
-        (counted n (omega (arith, few))))
+    (λ (here : KeepsLimits d known n). inl (λ a low. ⊎_elim
+    (λ (less : a < n). kept a less)
+    (λ (high : n ≤ a). let same : n ≡ a = omega (arith, low, high) in subst (KeepsLimits d known) same here)
+    (cases_lt a n)))
+    (λ (past : (kind : Count) × PassesLimit d known n kind). inr (n, record { there = omega (arith, few); before = kept; kind = past.0; past = past.1 }))
+    (counted n (omega (arith, few))))
     (λ first. inr first)
     (limits_one d known counted n (omega (arith, few)))
 
@@ -104,8 +104,8 @@ compiles_one : (name : List ℕ) (d : Description) (known : Known) (next : ℕ �
 compiles_one name d known next counted one = ⊎_elim
     (λ (kept : (a : ℕ) → a < automaton_count d → KeepsLimits d known a). wider next _ (λ s t h. inl (kept, h)) one)
     (λ (first : (a : ℕ) × IsFirstPastLimit d known a).
-        let line = states_line name (slice_index_or (automaton_names d) first.0 []) in
-        wider (Says 3 line) _ (λ s t h. inr (first.0, first.1, h)) (says_one 3 line))
+    let line = states_line name (slice_index_or (automaton_names d) first.0 []) in
+    wider (Says 3 line) _ (λ s t h. inr (first.0, first.1, h)) (says_one 3 line))
     (limits_one d known counted (automaton_count d) (omega arith))
 
 checks_one : (name : List ℕ) (d : Description) (next : Next Known) → IsWellFormed d → ((known : Known) → IsSound d known → HasOne (next known)) → HasOne (Checks name d next)

@@ -41,9 +41,9 @@ stays : {X : Type 0} (old : List X) (item : X) (id : ℕ) (new : List X) → IsA
 stays old item id new added k x e = ⊎_elim
     (λ (same : new ≡ old). ap (λ xs. slice_get xs k) same ∙ e)
     (λ (more : (Contains old item → ⊥) × (new ≡ old ++ item ∷ [])).
-        let low = slice_get_within old k x e in
-        let long = length_push old item in
-        ap (λ xs. slice_get xs k) more.1 ∙ (slice_get-get_or (old ++ item ∷ []) k x (omega (arith, low, long)) ∙ ap Some (before old item x k low ∙ get_or_from_slice_get old k x x e)))
+    let low = slice_get_within old k x e in
+    let long = length_push old item in
+    ap (λ xs. slice_get xs k) more.1 ∙ (slice_get-get_or (old ++ item ∷ []) k x (omega (arith, low, long)) ∙ ap Some (before old item x k low ∙ get_or_from_slice_get old k x x e)))
     added.grown
 
 -- A place is an old one, or the last, which has the new item.
@@ -51,15 +51,15 @@ old_or_last : {X : Type 0} (old : List X) (item : X) (id : ℕ) (new : List X) �
 old_or_last old item id new added k low = ⊎_elim
     (λ (same : new ≡ old). inl (omega (arith, low, ap length same)))
     (λ (more : (Contains old item → ⊥) × (new ≡ old ++ item ∷ [])).
-        let long = length_push old item in
-        let all = ap length more.1 in
-        ⊎_elim
-        (λ (here : k < length old). inl here)
-        (λ (past : length old ≤ k). ⊎_elim
-            (λ (early : id < length old). absurd (more.0 (subst (Contains old) (sym (before old item item id early) ∙ (ap (λ xs. get_or xs id item) (sym more.1) ∙ get_or_from_slice_get new id item item added.there)) (Contains-get_or old id item early))))
-            (λ (late : length old ≤ id). let within = added.within in inr (omega (arith, low, past, long, all), omega (arith, low, past, late, within, long, all)))
-            (cases_lt id (length old)))
-        (cases_lt k (length old)))
+    let long = length_push old item in
+    let all = ap length more.1 in
+    ⊎_elim
+    (λ (here : k < length old). inl here)
+    (λ (past : length old ≤ k). ⊎_elim
+    (λ (early : id < length old). absurd (more.0 (subst (Contains old) (sym (before old item item id early) ∙ (ap (λ xs. get_or xs id item) (sym more.1) ∙ get_or_from_slice_get new id item item added.there)) (Contains-get_or old id item early))))
+    (λ (late : length old ≤ id). let within = added.within in inr (omega (arith, low, past, long, all), omega (arith, low, past, late, within, long, all)))
+    (cases_lt id (length old)))
+    (cases_lt k (length old)))
     added.grown
 
 -- one more class takes the column of its list
@@ -77,14 +77,14 @@ columns_pushed lists columns maps is list id new added = record {
     there : (k : ℕ) → k < length (lists ++ list ∷ []) → slice_get new (slice_index (maps ++ id ∷ []) k) ≡ Some (slice_index_or (lists ++ list ∷ []) k [])
     there k low = ⊎_elim
         (λ (here : k < length lists).
-            ap (slice_get new) (before maps id 0 k (low_of k here))
-            ∙ (stays columns list id new added (slice_index maps k) (slice_index_or lists k []) (is.there k here)
-            ∙ ap Some (sym (before lists list [] k here))))
+        ap (slice_get new) (before maps id 0 k (low_of k here))
+        ∙ (stays columns list id new added (slice_index maps k) (slice_index_or lists k []) (is.there k here)
+        ∙ ap Some (sym (before lists list [] k here))))
         (λ (past : length lists ≤ k).
-            let long = length_push lists list in
-            let each = is.each in
-            let same : k ≡ length lists = omega (arith, low, past, long) in
-            ap (slice_get new) (last maps id 0 k (omega (arith, same, each))) ∙ (added.there ∙ ap Some (sym (last lists list [] k same))))
+        let long = length_push lists list in
+        let each = is.each in
+        let same : k ≡ length lists = omega (arith, low, past, long) in
+        ap (slice_get new) (last maps id 0 k (omega (arith, same, each))) ∙ (added.there ∙ ap Some (sym (last lists list [] k same))))
         (cases_lt k (length lists))
 
     below : (j : ℕ) → j < length lists → slice_index maps j < length columns
@@ -93,19 +93,25 @@ columns_pushed lists columns maps is list id new added = record {
     first : (column : ℕ) → column < length new → (k : ℕ) × (k < length (lists ++ list ∷ [])) × (slice_index (maps ++ id ∷ []) k ≡ column) × ((j : ℕ) → j < k → slice_index (maps ++ id ∷ []) j < column)
     first column low = ⊎_elim
         (λ (here : column < length columns).
-            let class = is.first column here in
-            let within = class.1 in
-            let long = length_push lists list in
-            (class.0, omega (arith, within, long), before maps id 0 class.0 (low_of class.0 within) ∙ class.2,
-            λ j earlier. subst (λ n. n < column) (sym (before maps id 0 j (low_of j (omega (arith, earlier, within))))) (class.3 j earlier)))
+        let class = is.first column here in
+        let within = class.1 in
+        let long = length_push lists list in (
+          class.0,
+          omega (arith, within, long),
+          before maps id 0 class.0 (low_of class.0 within) ∙ class.2,
+          λ j earlier. subst (λ n. n < column) (sym (before maps id 0 j (low_of j (omega (arith, earlier, within))))) (class.3 j earlier),
+        ))
         (λ (end : (column ≡ length columns) × (id ≡ column)).
-            let long = length_push lists list in
-            let each = is.each in
-            let is_last = end.0 in
-            (length lists, omega (arith, long), last maps id 0 (length lists) (sym each) ∙ end.1,
-            λ j earlier.
-                let least = below j earlier in
-                subst (λ n. n < column) (sym (before maps id 0 j (low_of j earlier))) (omega (arith, least, is_last))))
+        let long = length_push lists list in
+        let each = is.each in
+        let is_last = end.0 in (
+          length lists,
+          omega (arith, long),
+          last maps id 0 (length lists) (sym each) ∙ end.1,
+          λ j earlier.
+              let least = below j earlier in
+              subst (λ n. n < column) (sym (before maps id 0 j (low_of j earlier))) (omega (arith, least, is_last)),
+        ))
         (old_or_last columns list id new added column low)
 
 -- there are at most as many columns as classes

@@ -87,11 +87,11 @@ module _ (checked : Checked) where
         told = length_push reports report ∙ ap (λ n. n + 1) are.told;
         at = λ b low. ⊎_elim
             (λ (less : b < a). subst (λ p. IsCompiledPart options automata classes b p (report_at (reports_of (reports ++ report ∷ [])) b)) (sym (part_before b less))
-                (subst (IsCompiledPart options automata classes b (part_at (machine_with parts) b)) (sym (report_before b less)) (are.at b less)))
+            (subst (IsCompiledPart options automata classes b (part_at (machine_with parts) b)) (sym (report_before b less)) (are.at b less)))
             (λ (high : a ≤ b). let same : a ≡ b = omega (arith, low, high) in
-                subst (λ n. IsCompiledPart options automata classes n (part_at (machine_with (parts ++ part ∷ [])) n) (report_at (reports_of (reports ++ report ∷ [])) n)) same
-                (subst (λ p. IsCompiledPart options automata classes a p (report_at (reports_of (reports ++ report ∷ [])) a)) (sym part_last)
-                (subst (IsCompiledPart options automata classes a (part_of part)) (sym report_last) here)))
+            subst (λ n. IsCompiledPart options automata classes n (part_at (machine_with (parts ++ part ∷ [])) n) (report_at (reports_of (reports ++ report ∷ [])) n)) same
+            (subst (λ p. IsCompiledPart options automata classes a p (report_at (reports_of (reports ++ report ∷ [])) a)) (sym part_last)
+            (subst (IsCompiledPart options automata classes a (part_of part)) (sym report_last) here)))
             (cases_lt b a);
       }
 

@@ -49,9 +49,9 @@ members_listed grids sets n e = ap (sum_by length) same ∙ sum_by_mapped (grid_
     same = ext_get_or [] (map (state_at grids sets) (range_with_len 0 n)) (map (map (grid_at grids)) sets)
         (length-map-range_with_len (state_at grids sets) 0 n ∙ (sym e ∙ sym (length-map sets (map (grid_at grids)))))
         (λ i low.
-            let count = length-map-range_with_len (state_at grids sets) 0 n in
-            get_or-map-range_with_len (state_at grids sets) 0 n i i [] (omega (arith, low, count)) (omega arith)
-            ∙ sym (get_or-map (map (grid_at grids)) sets i [] [] (omega (arith, low, count, e))))
+        let count = length-map-range_with_len (state_at grids sets) 0 n in
+        get_or-map-range_with_len (state_at grids sets) 0 n i i [] (omega (arith, low, count)) (omega arith)
+        ∙ sym (get_or-map (map (grid_at grids)) sets i [] [] (omega (arith, low, count, e))))
 
 grid_eq_flips : (x y : List (Pair ℕ)) → grid_eq x y ≡ grid_eq y x
 grid_eq_flips x y = grid_eq-laws.symm x y
@@ -85,15 +85,15 @@ arranged_more grids sets states set state are is = record {
   each = length_push states state ∙ (ap (λ n. n + 1) are.each ∙ sym (length_push sets set));
   at = λ n low. ⊎_elim
       (λ (here : n < length sets).
-          let each = are.each in
-          subst (λ s. IsArranged grids s (get_or (states ++ state ∷ []) n [])) (sym (get_or_append_left sets (set ∷ []) [] n here))
-          (subst (IsArranged grids (get_or sets n [])) (sym (get_or_append_left states (state ∷ []) [] n (omega (arith, here, each)))) (are.at n here)))
+      let each = are.each in
+      subst (λ s. IsArranged grids s (get_or (states ++ state ∷ []) n [])) (sym (get_or_append_left sets (set ∷ []) [] n here))
+      (subst (IsArranged grids (get_or sets n [])) (sym (get_or_append_left states (state ∷ []) [] n (omega (arith, here, each)))) (are.at n here)))
       (λ (past : length sets ≤ n).
-          let each = are.each in
-          let long = length_push sets set in
-          let last : n ≡ length sets = omega (arith, low, past, long) in
-          let last' : n ≡ length states = omega (arith, last, each) in
-          subst (λ s. IsArranged grids s (get_or (states ++ state ∷ []) n [])) (sym (ap (λ k. get_or (sets ++ set ∷ []) k []) last ∙ get_or-append_seam sets set [] []))
-          (subst (IsArranged grids set) (sym (ap (λ k. get_or (states ++ state ∷ []) k []) last' ∙ get_or-append_seam states state [] [])) is))
+      let each = are.each in
+      let long = length_push sets set in
+      let last : n ≡ length sets = omega (arith, low, past, long) in
+      let last' : n ≡ length states = omega (arith, last, each) in
+      subst (λ s. IsArranged grids s (get_or (states ++ state ∷ []) n [])) (sym (ap (λ k. get_or (sets ++ set ∷ []) k []) last ∙ get_or-append_seam sets set [] []))
+      (subst (IsArranged grids set) (sym (ap (λ k. get_or (states ++ state ∷ []) k []) last' ∙ get_or-append_seam states state [] [])) is))
       (cases_lt n (length sets));
 }

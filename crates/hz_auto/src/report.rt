@@ -58,11 +58,7 @@ fn arranged(alloc: Global, grids: &[Grid], set: &[u32]) -> Result<Vec<Grid>, NoM
 }
 
 // The grids of each state.
-fn states_of(
-    alloc: Global,
-    grids: &[Grid],
-    sets: &[Vec<u32>],
-) -> Result<Vec<Vec<Grid>>, NoMemory>
+fn states_of(alloc: Global, grids: &[Grid], sets: &[Vec<u32>]) -> Result<Vec<Vec<Grid>>, NoMemory>
     requires { All (λ set. All (λ number. number < length grids.now) set.items) sets.now }
     ensures { IfOk result (λ states. AreArranged grids.now (map (λ set. set.items) sets.now) (map (λ state. state.items) states.items)) }
 {

@@ -223,9 +223,18 @@ fn under_a_set(
         units: [unit].to_vec(alloc)?,
         patterns,
     };
-    let sets = [set];
+    first_under(rt, alloc, columns, &[set])
+}
+
+// The automaton of these columns in the first treatment, under these statements.
+fn first_under(
+    rt: &impl Abort,
+    alloc: Global,
+    columns: Columns,
+    sets: &[SetRule],
+) -> Result<Explored, Fail> {
     assert!(rt; sets.iter().all(|set| in_range(set)));
-    let rules = Rules::build(alloc, &sets)?;
+    let rules = Rules::build(alloc, sets)?;
     let columns = columns_of(rt, alloc, columns)?;
     assert!(rt; columns.len() <= 1024);
     Ok(

@@ -65,8 +65,15 @@ module _ (d : Description) (known : Known) (m : Machine) (is : IsMachineFor d kn
   refusal lines events all i line e report first there here h =
       agrees_weaker (Refuses m line e) (Replays (pipeline_with d known) lines events)
       (λ s t (class, name, issues, named, says).
-      inr (i, line, name, unwalked_refused events all i first, here,
-      issue_named d known (slice_get events i) class name (there ∙ ap Some issues) (subst (λ ns. slice_get ns class ≡ Some name) is.names named), says))
+      inr (
+        i,
+        line,
+        name,
+        unwalked_refused events all i first,
+        here,
+        issue_named d known (slice_get events i) class name (there ∙ ap Some issues) (subst (λ ns. slice_get ns class ≡ Some name) is.names named),
+        says,
+      ))
       report h
 
 module _ (d : Description) (checked : Checked) (is : IsCheckedOf d checked) where

@@ -6,7 +6,8 @@ use std::process::Abort;
 use std::test::Fail;
 
 /// A class of one of two units, and one of the first alone.
-const EITHER: &str = "(define_cpu_unit \"a,b\")(define_insn_reservation \"x\" 1 (const_int 1) \"a|b\")(define_insn_reservation \"y\" 1 (const_int 1) \"a\")";
+const EITHER: &str =
+    "(define_cpu_unit \"a,b\")(define_insn_reservation \"x\" 1 (const_int 1) \"a|b\")(define_insn_reservation \"y\" 1 (const_int 1) \"a\")";
 
 /// Rows on that description: what stands behind it, the trace, the status and the text.
 const TREATMENT_ROWS: &[(&str, &[u8], u8, &[u8])] = &[
@@ -50,7 +51,8 @@ fn issues_take_the_first_that_fits_or_any(rt: HostRuntime) -> Result<(), Fail> {
 }
 
 /// Units of two automata, and a class of the expression of a row on line 4.
-const TWO: &str = "(define_automaton \"a,b\")\n(define_cpu_unit \"a0,a1\" \"a\")\n(define_cpu_unit \"b0,b1\" \"b\")\n(define_insn_reservation \"x\" 1 (const_int 1) \"";
+const TWO: &str =
+    "(define_automaton \"a,b\")\n(define_cpu_unit \"a0,a1\" \"a\")\n(define_cpu_unit \"b0,b1\" \"b\")\n(define_insn_reservation \"x\" 1 (const_int 1) \"";
 
 /// Rows on two automata: the expression, the trace, the status and the text.
 const TWO_ROWS: &[(&str, &[u8], u8, &[u8])] = &[
@@ -81,7 +83,12 @@ const TWO_ROWS: &[(&str, &[u8], u8, &[u8])] = &[
         1,
         b"refused line 4 x\n",
     ),
-    ("a0|b0", b"", 2, b"fault d line 4 AlternationOfTwoAutomata x\n"),
+    (
+        "a0|b0",
+        b"",
+        2,
+        b"fault d line 4 AlternationOfTwoAutomata x\n",
+    ),
     (
         "((a0,a0)|a0), b0",
         b"",
@@ -119,7 +126,9 @@ fn late(
     let head = "(define_cpu_unit \"u\")(define_insn_reservation \"c\" 1 (const_int 1) \"u\")";
     let mut description = String::from_str(alloc, head)?;
     for class in 1..classes {
-        let form = format!(in alloc; "(define_insn_reservation \"c{class}\" 1 (const_int 1) \"nothing*{class}, u\")")?;
+        let form = format!(in alloc;
+            "(define_insn_reservation \"c{class}\" 1 (const_int 1) \"nothing*{class}, u\")"
+        )?;
         description.push_str(&form)?;
     }
     description.push_str(end)?;
@@ -142,7 +151,8 @@ fn an_automaton_has_at_most_65536_states(rt: HostRuntime) -> Result<(), Fail> {
 #[test]
 fn the_first_automaton_past_its_limit_is_told(rt: HostRuntime) -> Result<(), Fail> {
     let alloc = rt.alloc();
-    let head = "(define_automaton \"m,n,o\")(define_cpu_unit \"p\" \"m\")(define_cpu_unit \"q\" \"n\")(define_cpu_unit \"r\" \"o\")";
+    let head =
+        "(define_automaton \"m,n,o\")(define_cpu_unit \"p\" \"m\")(define_cpu_unit \"q\" \"n\")(define_cpu_unit \"r\" \"o\")";
     let classes = numbered(
         alloc,
         head,
@@ -152,7 +162,9 @@ fn the_first_automaton_past_its_limit_is_told(rt: HostRuntime) -> Result<(), Fai
     )?;
     let mut description = classes;
     for class in 1..18 {
-        let form = format!(in alloc; "(define_insn_reservation \"c{class}\" 1 (const_int 1) \"nothing*{class}, (q + r)\")")?;
+        let form = format!(in alloc;
+            "(define_insn_reservation \"c{class}\" 1 (const_int 1) \"nothing*{class}, (q + r)\")"
+        )?;
         description.push_str(&form)?;
     }
     answers(

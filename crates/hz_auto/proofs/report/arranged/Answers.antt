@@ -12,9 +12,9 @@ pub loop-number-preserved : goal.loop-number-preserved
 loop-number-preserved c =
     let within = All-get_or (λ number. number < length c.args.grids.now) c.args.set.now c.loop-number.number-index 0 c.loop-number-test.true c.requires in
     record {
-  copied = copied_more c.args.grids.now c.args.set.now c.loop-number.number-index c.loop-number.state.items c.push.new.self.items c.in_ok-copy.field-0 c.loop-number-test.true (c.in_ok-copy.ensures.same ∙ (c.index-grids-number.is ∙ get_or_default c.args.grids.now (get_or c.args.set.now c.loop-number.number-index 0) c.index-grids-number.result [] within)) c.in_ok-push.ensures.items c.loop-number.invariant.copied;
-  each = subst (All IsGrid) (sym c.in_ok-push.ensures.items) (All-push IsGrid c.loop-number.state.items c.in_ok-copy.field-0 c.loop-number.invariant.each c.in_ok-copy.ensures.grid);
-}
+      copied = copied_more c.args.grids.now c.args.set.now c.loop-number.number-index c.loop-number.state.items c.push.new.self.items c.in_ok-copy.field-0 c.loop-number-test.true (c.in_ok-copy.ensures.same ∙ (c.index-grids-number.is ∙ get_or_default c.args.grids.now (get_or c.args.set.now c.loop-number.number-index 0) c.index-grids-number.result [] within)) c.in_ok-push.ensures.items c.loop-number.invariant.copied;
+      each = subst (All IsGrid) (sym c.in_ok-push.ensures.items) (All-push IsGrid c.loop-number.state.items c.in_ok-copy.field-0 c.loop-number.invariant.each c.in_ok-copy.ensures.grid);
+    }
 
 pub returns : goal.returns
 returns c =
