@@ -1,5 +1,5 @@
 -- Answers: there is one, and no other.
-use Rattle.std.proofs.Common.{refl, ◌≡◌, ℕ, ◌<◌, ◌≤◌, ⊎_elim, arith, slice_index_or, inl, inr, true, false, Bool, List, [], ◌∷◌, length, Option, Some, None, MatchOption, MatchBool, nat_lt, slice_get, sym, ap, ◌∙◌, subst}
+use Rattle.std.proofs.Common.{refl, ◌≡◌, ℕ, ◌<◌, ◌≤◌, ⊎_elim, arith, slice_index_or, inl, inr, true, false, List, [], ◌∷◌, length, Option, Some, None, MatchOption, MatchBool, nat_lt, slice_get, sym, ap, ◌∙◌, subst}
 use Rattle.std.proofs.lemmas.Bool.{cases_lt}
 use Rattle.std.proofs.lemmas.Option.{same_Some}
 use Rattle.hz_sexp_model.proofs.FormsLaws.{one_reading, one_fault, forms_or_fault}

@@ -1,10 +1,10 @@
 -- The columns of classes, one class after another.
-use Rattle.std.proofs.Common.{inl, inr, ◌≡◌, ◌≢◌, ◌⊎◌, ℕ, ◌+◌, ◌<◌, ◌≤◌, List, [], ◌∷◌, ◌++◌, length, get_or, slice_get, Some, Contains, refl, sym, ap, ◌∙◌, subst, arith, ⊎_elim}
+use Rattle.std.proofs.Common.{inl, inr, ◌≡◌, ◌⊎◌, ℕ, ◌+◌, ◌<◌, ◌≤◌, List, [], ◌∷◌, ◌++◌, length, get_or, slice_get, Some, Contains, refl, sym, ap, ◌∙◌, subst, arith, ⊎_elim}
 use Rattle.std.specs.Prelude.{slice_index, slice_index_or, Bool, true, false, if◌then◌else◌}
 use Rattle.std.specs.Bool.{Decides}
 use Rattle.std.specs.Cmp.{IsEquivalence}
 use Rattle.std.proofs.lemmas.Map.Views.{list_any-from_Contains}
-use Rattle.std.specs.List.{AllPairs, sum_by, list_any}
+use Rattle.std.specs.List.{sum_by, list_any}
 use Rattle.std.proofs.lemmas.Bool.{cases_lt}
 use Rattle.std.proofs.lemmas.List.{get_or_append_left, length_push}
 use Rattle.std.proofs.Math.Seq.{get_or-append_seam}
@@ -12,7 +12,7 @@ use Rattle.std.proofs.lemmas.List.Elements.{Contains-get_or}
 use Rattle.std.proofs.lemmas.Option.{slice_get_within, slice_get-get_or, get_or_from_slice_get}
 use Rattle.hz_base_model.specs.Pairs.{Pair}
 use Rattle.hz_reach_model.proofs.CountLaws.{weighs, sum_by_ones}
-use Rattle.hz_states.specs.Interned.{IsAdded, AreDifferent}
+use Rattle.hz_states.specs.Interned.{IsAdded}
 use Rattle.hz_states.proofs.Adding.{different_added}
 use Rattle.hz_auto_model.specs.ClassColumns.{IsColumns}
 

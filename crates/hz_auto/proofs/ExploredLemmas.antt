@@ -1,13 +1,11 @@
 -- An automaton of a checked description, explored and put together.
-use Rattle.std.proofs.Common.{◌≡◌, ℕ, ◌+◌, ◌<◌, ◌≤◌, Bool, true, false, List, [], ◌∷◌, ◌++◌, length, map, get_or, All, Option, Some, None, refl, sym, ap, ◌∙◌, subst, arith, ⊎_elim}
-use Rattle.std.specs.Prelude.{slice_index_or, MatchBool, IsSomeAnd, if◌then◌else◌}
+use Rattle.std.proofs.Common.{◌≡◌, ℕ, ◌<◌, ◌≤◌, Bool, true, false, List, [], length, map, get_or, All, Option, Some, None, refl, sym, ap, ◌∙◌, subst, arith}
+use Rattle.std.specs.Prelude.{MatchBool, IsSomeAnd, if◌then◌else◌}
 use Rattle.std.specs.List.{sum_by}
 use Rattle.std.specs.Option.{option_map}
 use Rattle.std.specs.declared.alloc.Global.{Global}
 use Rattle.std.specs.declared.vec.Vec.{Vec}
-use Rattle.std.proofs.lemmas.Bool.{cases_lt}
-use Rattle.std.proofs.lemmas.List.{length-map, get_or-map, get_or_default, get_or_append_left, length_push, map_push}
-use Rattle.std.proofs.Math.Seq.{get_or-append_seam}
+use Rattle.std.proofs.lemmas.List.{length-map, get_or-map}
 use Rattle.hz_base_model.specs.Limits.{class_limit}
 use Rattle.hz_base_model.specs.Pairs.{Pair}
 use Rattle.hz_altern_model.specs.Sets.{Statement}
@@ -24,9 +22,7 @@ use Rattle.hz_unitsets.specs.declared.set_rules.SetRule.{SetRule}
 use Rattle.hz_unitsets.specs.SetRules.{statements_of}
 use Rattle.hz_tables_model.specs.Machines.{Part, IsPart}
 use Rattle.hz_tables_model.specs.StateLimits.{member_limit, grid_limit}
-use Rattle.hz_tables_model.specs.Tables.{row_of}
 use Rattle.hz_tables.specs.Parts.{part_of}
-use Rattle.hz_tables.specs.Rows.{KeepsRows}
 use Rattle.hz_determ.specs.declared.build.Caps.{Caps}
 use Rattle.hz_determ.specs.declared.build.Explored.{Explored}
 use Rattle.hz_determ.specs.Explored.{IsCaps, IsBuilt, AreWithin, PassesCap}
@@ -34,13 +30,11 @@ use Rattle.hz_explore.specs.Spaces.{pipeline_of, lists_of}
 use Rattle.hz_states.specs.declared.fault.StateFault.{StateFault}
 use Rattle.hz_auto_model.specs.AutomatonPipelines.{automaton_at, lists_at}
 use Rattle.hz_auto_model.specs.ClassColumns.{IsColumns}
-use Rattle.hz_auto_model.specs.Compiled.{IsCompiledPart, shows_states}
-use Rattle.hz_auto_model.specs.Compiled as compiled
+use Rattle.hz_auto_model.specs.Compiled.{IsCompiledPart}
 use Rattle.hz_auto.specs.declared.part.Automaton.{Automaton}
-use Rattle.hz_auto.specs.declared.report.AutoReport.{AutoReport}
 use Rattle.hz_auto.specs.declared.report.Shown.{Shown}
 use Rattle.hz_auto.specs.Parts.{IsCapped, IsPastAt, IsWhole, shows}
-use Rattle.hz_auto.specs.Reports.{AreArranged, IsReportOf, IsShownOf, report_of, shown_of}
+use Rattle.hz_auto.specs.Reports.{AreArranged, IsShownOf, report_of, shown_of}
 use Rattle.hz_auto.proofs.CheckedFacts.{automaton_there, lists_count, few_classes}
 use Rattle.hz_auto.proofs.ColumnLemmas.{few_columns}
 use Rattle.hz_auto.proofs.PartLemmas.{past_at, within_limits, compiled_part, part_kept, members_few, grids_few}

@@ -1,6 +1,5 @@
 -- The automata of a machine, one after another.
-use Rattle.std.proofs.Common.{◌≡◌, ℕ, ◌+◌, ◌<◌, ◌≤◌, List, [], ◌∷◌, ◌++◌, length, map, get_or, All, refl, sym, ap, ◌∙◌, subst, arith, ⊎_elim}
-use Rattle.std.specs.Prelude.{slice_index_or}
+use Rattle.std.proofs.Common.{◌≡◌, ℕ, ◌+◌, ◌<◌, ◌≤◌, List, [], ◌∷◌, ◌++◌, length, map, get_or, sym, ap, ◌∙◌, subst, arith, ⊎_elim}
 use Rattle.std.proofs.lemmas.Bool.{cases_lt}
 use Rattle.std.proofs.lemmas.List.{length-map, length_push, map_push, get_or_append_left}
 use Rattle.std.proofs.Math.Seq.{get_or-append_seam}
@@ -15,10 +14,9 @@ use Rattle.hz_states.specs.declared.fault.StateFault.{StateFault}
 use Rattle.hz_states.specs.declared.fault.StateFault.TheVariants.{GridLimit, SetLimit, MemberLimit, CellLimit, NoMemory}
 use Rattle.hz_tables.specs.declared.part.Part.{Part}
 use Rattle.hz_tables.specs.Parts.{part_of}
-use Rattle.hz_tables_model.specs.Machines as model
 use Rattle.hz_tables_model.specs.Machines.{Machine, no_part, part_at}
 use Rattle.hz_auto_model.specs.AutomatonPipelines.{lists_at, automaton_pipeline}
-use Rattle.hz_auto_model.specs.Compiled.{Report, IsCompiledPart, IsCompiled, IsFirstPast, report_at, shows_states}
+use Rattle.hz_auto_model.specs.Compiled.{IsCompiledPart, IsCompiled, IsFirstPast, report_at, shows_states}
 use Rattle.hz_auto_model.specs.CompiledParts.{IsPastLimit}
 use Rattle.hz_auto.specs.declared.fault.AutoFault.{AutoFault}
 use Rattle.hz_auto.specs.declared.report.AutoReport.{AutoReport}

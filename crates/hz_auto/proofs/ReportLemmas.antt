@@ -1,25 +1,22 @@
 -- What is told of an automaton: its members, and the grids of its states.
-use Rattle.std.proofs.Common.{◌≡◌, ◌≢◌, ◌⊎◌, ⊎_elim, ℕ, ◌+◌, ◌<◌, ◌≤◌, List, [], ◌∷◌, ◌++◌, take, length, map, get_or, All, Contains, Option, Some, None, refl, sym, ap, ◌∙◌, subst, arith}
-use Rattle.std.specs.Prelude.{slice_index_or, IsPermutation, IsSorted, MatchBool, IsSomeAnd}
-use Rattle.std.specs.List.{AllPairs, sum_by, range_with_len, IsDistinct}
-use Rattle.std.specs.Option.{option_map}
+use Rattle.std.proofs.Common.{◌≡◌, ◌≢◌, ⊎_elim, ℕ, ◌+◌, ◌<◌, ◌≤◌, List, [], ◌∷◌, ◌++◌, take, length, map, get_or, All, refl, sym, ap, ◌∙◌, subst, arith}
+use Rattle.std.specs.Prelude.{IsPermutation}
+use Rattle.std.specs.List.{AllPairs, sum_by, range_with_len}
 use Rattle.std.specs.declared.vec.Vec.{Vec}
 use Rattle.std.specs.declared.alloc.Global.{Global}
 use Rattle.std.proofs.lemmas.Bool.{cases_lt}
 use Rattle.std.proofs.Math.Seq.{get_or-append_seam}
 use Rattle.std.proofs.lemmas.List.{length-map, ext_get_or, get_or-map, map_push, take_more, length_push, get_or_append_left}
 use Rattle.std.proofs.lemmas.List.FromFn.{get_or-map-range_with_len, length-map-range_with_len}
-use Rattle.std.proofs.lemmas.List.Elements.{Contains-get_or}
 use Rattle.std.proofs.lemmas.List.Sorted.{Contains-permutation, IsPermutation-sym}
 use Rattle.std.proofs.lemmas.List.Sums.{sum_by-cons}
 use Rattle.std.proofs.lemmas.Map.Keys.{IsDistinct-IsPermutation}
 use Rattle.std.proofs.lemmas.Map.Made.{AllPairs-from_IsDistinct, IsDistinct-from_AllPairs}
 use Rattle.hz_base_model.specs.Pairs.{Pair, SamePairs}
-use Rattle.hz_acceptance_model.specs.Events.{Event, IsOfClass}
+use Rattle.hz_acceptance_model.specs.Events.{Event}
 use Rattle.hz_acceptance_model.specs.Replay.{Pipeline}
-use Rattle.hz_tables_model.specs.Tables.{Table}
 use Rattle.hz_reach_model.specs.Reach.{AreDifferent, IsLeft}
-use Rattle.hz_reach_model.specs.Built.{IsAutomaton, grid_at, set_at, state_at}
+use Rattle.hz_reach_model.specs.Built.{grid_at, state_at}
 use Rattle.hz_reach_model.proofs.CountLaws.{same_pairs_itself}
 use Rattle.hz_grid.specs.Grids.{IsGrid, grid_eq, grid_eq-laws}
 use Rattle.hz_grid.specs.Hashes.{grid_eq-Decides}

@@ -1,5 +1,5 @@
 -- The count that a fault names.
-use Rattle.std.specs.Prelude.{◌≡◌, Option, Some, None, MatchOption}
+use Rattle.std.specs.Prelude.{◌≡◌, Option, Some, None}
 use Rattle.hz_reach_model.specs.Counts.{Count}
 use Rattle.hz_reach_model.specs.Counts as count
 use Rattle.hz_states.specs.declared.fault.StateFault.{StateFault}

@@ -1,9 +1,8 @@
 -- The machine of a checked description.
-use Rattle.std.specs.Prelude.{◌≡◌, ℕ, ◌<◌, List, map, length, MatchOption}
+use Rattle.std.specs.Prelude.{◌≡◌, ℕ, ◌<◌, List, map, length}
 use Rattle.hz_check.specs.declared.checked.Checked.{Checked}
 use Rattle.hz_check.specs.Shape.{automaton_of, class_of}
 use Rattle.hz_mdread.specs.Shape.{options as options_of}
-use Rattle.hz_reach_model.specs.Counts.{Count}
 use Rattle.hz_states.specs.declared.fault.StateFault.{StateFault}
 use Rattle.hz_states.specs.declared.fault.StateFault.TheVariants.{GridLimit, SetLimit, MemberLimit, CellLimit, NoMemory as no_memory}
 use Rattle.hz_auto.specs.declared.fault.Kind.TheVariants.{Grids, States, Members, Cells}

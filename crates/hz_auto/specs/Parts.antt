@@ -1,5 +1,5 @@
 -- One automaton, explored and compiled.
-use Rattle.std.specs.Prelude.{◌≡◌, ℕ, Bool, ◌&&◌, List, map, All}
+use Rattle.std.specs.Prelude.{◌≡◌, ℕ, Bool, ◌&&◌, List}
 use Rattle.hz_mdread.specs.declared.options.Options.{Options}
 use Rattle.hz_mdread_model.specs.Descriptions as model
 use Rattle.hz_check_model.specs.CheckedParts.{AutomatonParts, ClassParts}

@@ -1,5 +1,5 @@
 -- What is told of an automaton.
-use Rattle.std.specs.Prelude.{◌≡◌, ℕ, ◌<◌, Bool, List, [], map, length, All, slice_index_or, IsPermutation, IsSorted, Option, None, MatchBool, IsSomeAnd}
+use Rattle.std.specs.Prelude.{◌≡◌, ℕ, ◌<◌, Bool, List, [], map, length, All, slice_index_or, IsPermutation, IsSorted, None, MatchBool, IsSomeAnd}
 use Rattle.std.specs.Option.{option_map}
 use Rattle.std.specs.List.{sum_by}
 use Rattle.hz_base_model.specs.Pairs.{Pair}

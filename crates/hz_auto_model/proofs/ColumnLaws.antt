@@ -1,20 +1,19 @@
 -- Classes go by their columns: the pipeline of the classes' lists runs as that of the columns.
-use Rattle.std.proofs.Common.{◌≡◌, ℕ, ◌+◌, ◌<◌, ◌≤◌, List, [], ◌∷◌, length, map, Option, Some, None, slice_get, get_or, refl, sym, ap, ◌∙◌, subst, arith, ⊎_elim}
-use Rattle.std.specs.Prelude.{slice_index, slice_index_or, ◌↔◌, All}
+use Rattle.std.proofs.Common.{◌≡◌, ℕ, ◌+◌, ◌<◌, ◌≤◌, List, [], ◌∷◌, length, Option, Some, None, slice_get, refl, sym, ap, ◌∙◌, arith, ⊎_elim}
+use Rattle.std.specs.Prelude.{slice_index, slice_index_or, All}
 use Rattle.std.specs.Option.{option_map}
 use Rattle.std.proofs.lemmas.Bool.{cases_lt}
 use Rattle.std.proofs.lemmas.List.{get_or_default, get_or_past}
 use Rattle.std.proofs.lemmas.List.Elements.{All-head, All-tail}
 use Rattle.std.proofs.lemmas.Option.{slice_get-map, slice_get-get_or, slice_get_within}
 use Rattle.hz_base_model.specs.Pairs.{Pair}
-use Rattle.hz_altern_model.specs.Alternatives.{Alternative}
 use Rattle.hz_altern_model.specs.Sets.{Statement}
 use Rattle.hz_acceptance_model.specs.Events.{Event, issue, advance, IsOfClass}
-use Rattle.hz_acceptance_model.specs.Replay.{Pipeline, Treatment, alternatives_at, of_class}
+use Rattle.hz_acceptance_model.specs.Replay.{Treatment, alternatives_at, of_class}
 use Rattle.hz_reach_model.specs.Columns.{class_of_grids, pipeline_on}
 use Rattle.hz_reach_model.proofs.WordLaws.{IsInside}
 use Rattle.hz_auto_model.specs.ClassColumns.{IsColumns}
-use Rattle.hz_auto_model.specs.Moved.{moved, moved_event, IsMoved}
+use Rattle.hz_auto_model.specs.Moved.{moved, IsMoved}
 
 -- past the end of a list nothing stands
 pub past_end : {A : Type 0} (xs : List A) (k : ℕ) → length xs ≤ k → slice_get xs k ≡ None

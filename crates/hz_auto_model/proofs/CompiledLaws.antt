@@ -1,15 +1,14 @@
 -- What a part is whose table is the automaton of the columns of its classes.
 use Rattle.std.proofs.Common.{◌≡◌, ℕ, ◌+◌, ◌<◌, ◌≤◌, List, [], ◌∷◌, length, Option, Some, None, refl, sym, ap, ◌∙◌, subst, arith}
-use Rattle.std.specs.Prelude.{◌↔◌, All, IsSome, Contains, slice_index_or}
-use Rattle.hz_base_model.specs.Pairs.{Pair, SamePairs}
+use Rattle.std.specs.Prelude.{◌↔◌, All, IsSome, slice_index_or}
+use Rattle.hz_base_model.specs.Pairs.{Pair}
 use Rattle.hz_altern_model.specs.Sets.{Statement}
 use Rattle.hz_acceptance_model.specs.Events.{Event, issue, advance, IsOfClass}
 use Rattle.hz_acceptance_model.specs.Fitting.{AskTheSame}
 use Rattle.hz_acceptance_model.specs.Replay.{Pipeline, Treatment, Accepted, alternatives_at}
-use Rattle.hz_tables_model.specs.Tables.{walk}
 use Rattle.hz_tables_model.specs.Machines.{Part, column_of, word_of, part_walk}
 use Rattle.hz_tables_model.proofs.TableLaws.{walk_stays}
-use Rattle.hz_reach_model.specs.Reach.{Leaves, IsLeft, IsReachedGrid, IsReachedState, SameGrids, HasGrids}
+use Rattle.hz_reach_model.specs.Reach.{Leaves, IsLeft, SameGrids}
 use Rattle.hz_reach_model.specs.Counts.{Count, CountIsAbove, CountIsAtMost}
 use Rattle.hz_reach_model.specs.Columns.{pipeline_on}
 use Rattle.hz_reach_model.specs.Built.{IsAutomaton, state_at}
@@ -17,7 +16,7 @@ use Rattle.hz_reach_model.proofs.CountLaws.{has_then}
 use Rattle.hz_reach_model.proofs.WordLaws.{IsInside, inside_of_leaves}
 use Rattle.hz_auto_model.specs.ClassColumns.{IsColumns}
 use Rattle.hz_auto_model.specs.CompiledParts.{WalksAccepted, TellsWhatIsLeft, IsNumbered}
-use Rattle.hz_auto_model.specs.Moved.{moved, moved_event, IsMoved}
+use Rattle.hz_auto_model.specs.Moved.{moved, IsMoved}
 use Rattle.hz_auto_model.proofs.MovedLaws.{accepted_moved}
 use Rattle.hz_auto_model.proofs.ColumnLaws.{columns_moved, moved_inside, nothing_past, unmoved, to_column}
 use Rattle.hz_auto_model.proofs.PartLaws.{part_accepts, part_stands, above_there, most_back, grid_moved, state_moved, grid_unmoved, state_unmoved}

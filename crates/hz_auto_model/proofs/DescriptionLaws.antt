@@ -1,5 +1,5 @@
 -- The machine that is compiled of a description.
-use Rattle.std.proofs.Common.{◌≡◌, ℕ, zero, suc, ◌+◌, ◌<◌, ◌≤◌, List, [], ◌∷◌, length, map, Option, Some, None, slice_get, refl, sym, ap, ◌∙◌, subst, arith}
+use Rattle.std.proofs.Common.{◌≡◌, ℕ, suc, ◌<◌, List, [], ◌∷◌, length, map, Option, Some, None, slice_get, refl, sym, ap, ◌∙◌, subst, arith}
 use Rattle.std.specs.Prelude.{◌↔◌, All, IsSome, slice_index_or}
 use Rattle.std.proofs.lemmas.List.{length-map}
 use Rattle.std.proofs.lemmas.Option.{slice_get-get_or, slice_get_within, get_or_from_slice_get}
@@ -12,9 +12,9 @@ use Rattle.hz_acceptance_model.specs.Restricted.{restricted}
 use Rattle.hz_mdread_model.specs.Descriptions.{Description, ClassItem}
 use Rattle.hz_check_model.specs.CheckFaults.{IsSound}
 use Rattle.hz_check_model.specs.Places.{Known}
-use Rattle.hz_check_model.specs.CheckedParts.{AutomatonParts, ClassParts, automaton_names, automaton_count, automata_from, automata_of, class_parts}
+use Rattle.hz_check_model.specs.CheckedParts.{ClassParts, automaton_names, automaton_count, automata_from, automata_of, class_parts}
 use Rattle.hz_pipeline_model.specs.Pipelines.{pipeline_with}
-use Rattle.hz_tables_model.specs.Machines.{Machine, Part, no_part, part_at, part_walk, machine_walk}
+use Rattle.hz_tables_model.specs.Machines.{Machine, no_part, part_at, part_walk, machine_walk}
 use Rattle.hz_tables_model.proofs.MachineLaws.{machine_walk-each, machine_walk-part, machine_walk-all}
 use Rattle.hz_reach_model.specs.Counts.{Count}
 use Rattle.hz_auto_model.specs.AutomatonPipelines.{lists_at, class_lists, automaton_pipeline}

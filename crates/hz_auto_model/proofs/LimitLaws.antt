@@ -1,12 +1,11 @@
 -- An automaton is within its limits or past one, and not both.
-use Rattle.std.proofs.Common.{◌≡◌, ℕ, ◌+◌, ◌<◌, ◌≤◌, List, [], ◌∷◌, length, Some, get_or, slice_get, refl, sym, ap, ◌∙◌, subst, arith}
-use Rattle.std.specs.Prelude.{Contains, slice_index, slice_index_or, ◌≢◌}
-use Rattle.std.specs.List.{sum_by, AllPairs}
-use Rattle.std.proofs.lemmas.List.{get_or_default}
-use Rattle.std.proofs.lemmas.Option.{slice_get_within, get_or_from_slice_get, slice_get-get_or, same_Some}
+use Rattle.std.proofs.Common.{◌≡◌, ℕ, ◌≤◌, List, [], length, slice_get, sym, ap, ◌∙◌, subst, arith}
+use Rattle.std.specs.Prelude.{Contains, slice_index, slice_index_or}
+use Rattle.std.specs.List.{sum_by}
+use Rattle.std.proofs.lemmas.Option.{slice_get_within, get_or_from_slice_get}
 use Rattle.hz_base_model.specs.Pairs.{Pair}
 use Rattle.hz_acceptance_model.specs.Replay.{Pipeline}
-use Rattle.hz_reach_model.specs.Counts.{Count, CountIsAbove, CountIsAtMost}
+use Rattle.hz_reach_model.specs.Counts.{Count, CountIsAbove}
 use Rattle.hz_reach_model.proofs.CountLaws.{weighs, sum_by_ones, no_count_both}
 use Rattle.hz_auto_model.specs.ClassColumns.{IsColumns}
 use Rattle.hz_auto_model.specs.CompiledParts.{HasColumns, cap_of, IsWithinLimits, IsPastLimit}

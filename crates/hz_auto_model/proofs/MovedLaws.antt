@@ -1,12 +1,11 @@
 -- Pipelines whose classes have the same alternatives under other numbers run alike.
-use Rattle.std.proofs.Common.{◌≡◌, ℕ, ◌<◌, List, [], ◌∷◌, ◌++◌, length, slice_get, refl, sym, ap, ◌∙◌, subst}
+use Rattle.std.proofs.Common.{◌≡◌, ℕ, ◌<◌, List, [], ◌∷◌, ◌++◌, length, slice_get, sym, ap, ◌∙◌, subst}
 use Rattle.std.specs.Prelude.{◌↔◌}
 use Rattle.hz_base_model.specs.Pairs.{Pair, placed}
 use Rattle.hz_altern_model.specs.Alternatives.{Alternative}
 use Rattle.hz_altern_model.specs.Sets.{Statement, Fits}
 use Rattle.hz_acceptance_model.specs.Events.{Event, issue, advance}
-use Rattle.hz_acceptance_model.specs.Fitting.{IsFuture}
-use Rattle.hz_acceptance_model.specs.Replay.{Pipeline, Treatment, first_fit, State, start, MayTake, FitsAt, Accepted, alternatives_at, chosen, pairs_at, Step, Plays, IsPlayable}
+use Rattle.hz_acceptance_model.specs.Replay.{Pipeline, Treatment, first_fit, State, start, MayTake, FitsAt, Accepted, chosen, pairs_at, Step, Plays}
 use Rattle.hz_acceptance_model.proofs.ReplayLaws.{runs_from_accepted, accepted_from_runs}
 use Rattle.hz_reach_model.specs.Reach.{Leaves, IsLeft}
 use Rattle.hz_reach_model.proofs.LeavingLaws.{plays_from_leaves, leaves_from_plays}

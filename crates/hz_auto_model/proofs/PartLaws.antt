@@ -1,20 +1,19 @@
 -- A part whose table is the automaton of the columns walks what the pipeline of the classes accepts.
-use Rattle.std.proofs.Common.{◌≡◌, ℕ, ◌+◌, ◌<◌, ◌≤◌, List, [], ◌∷◌, ◌++◌, length, map, Option, Some, None, get_or, replicate, refl, sym, ap, ◌∙◌, subst, arith}
-use Rattle.std.specs.Prelude.{◌↔◌, All, IsSome, Contains, slice_index_or}
-use Rattle.hz_base_model.specs.Pairs.{Pair, SamePairs}
+use Rattle.std.proofs.Common.{◌≡◌, ℕ, ◌≤◌, List, [], ◌∷◌, ◌++◌, Some, replicate, refl, sym, ap, ◌∙◌, subst}
+use Rattle.std.specs.Prelude.{◌↔◌, IsSome}
+use Rattle.hz_base_model.specs.Pairs.{Pair}
 use Rattle.hz_acceptance_model.specs.Events.{Event, issue, advance}
 use Rattle.hz_acceptance_model.specs.Replay.{Pipeline, Accepted, alternatives_at}
-use Rattle.hz_tables_model.specs.Tables.{Table, walk}
+use Rattle.hz_tables_model.specs.Tables.{walk}
 use Rattle.hz_tables_model.specs.Machines.{Part, column_of, word_of, part_walk}
-use Rattle.hz_reach_model.specs.Reach.{Leaves, IsLeft, IsReachedGrid, IsReachedState, SameGrids, HasGrids}
+use Rattle.hz_reach_model.specs.Reach.{Leaves, IsLeft, IsReachedGrid, IsReachedState}
 use Rattle.hz_reach_model.specs.Counts.{Count, IsAbove, IsAtMost, CountIsAbove, CountIsAtMost}
 use Rattle.hz_reach_model.specs.Counts as count
-use Rattle.hz_reach_model.specs.Columns.{AreColumns, events_at, spelled}
+use Rattle.hz_reach_model.specs.Columns.{events_at, spelled}
 use Rattle.hz_reach_model.specs.Built.{IsAutomaton, state_at}
 use Rattle.hz_reach_model.proofs.AutomatonLaws.{leaves_of_accepted, accepted_of_leaves}
-use Rattle.hz_reach_model.proofs.CountLaws.{same_pairs_then, same_pairs_back}
-use Rattle.hz_reach_model.proofs.WordLaws.{IsInside, spelled_columns, leaves_spelled, leaves_from_spelled, inside_of_leaves}
-use Rattle.hz_auto_model.specs.Moved.{moved, moved_event, IsMoved}
+use Rattle.hz_reach_model.proofs.WordLaws.{IsInside, spelled_columns, leaves_spelled, leaves_from_spelled}
+use Rattle.hz_auto_model.specs.Moved.{moved, IsMoved}
 use Rattle.hz_auto_model.proofs.MovedLaws.{accepted_moved, leaves_there, leaves_back, left_there, left_back}
 
 -- the word of a part is what its events are spelled by, by their columns

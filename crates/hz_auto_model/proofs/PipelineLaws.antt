@@ -1,19 +1,16 @@
 -- A description restricted to an automaton runs as that automaton's pipeline of what the check gives.
 use Rattle.std.proofs.Common.{◌≡◌, ℕ, zero, suc, ◌+◌, ◌<◌, List, [], ◌∷◌, length, map, Option, Some, None, get_or, slice_get, refl, sym, ap, ◌∙◌, subst, arith}
-use Rattle.std.specs.Prelude.{slice_index_or}
 use Rattle.std.specs.Option.{option_map}
-use Rattle.std.specs.List.{range_with_len}
 use Rattle.std.proofs.lemmas.List.FromFn.{get_or-map-range_with_len}
 use Rattle.std.proofs.lemmas.Option.{slice_get-map}
-use Rattle.hz_base_model.specs.Pairs.{Pair}
-use Rattle.hz_altern_model.specs.Alternatives.{Alternative, alternatives_of}
-use Rattle.hz_altern_model.specs.Automata.{UnitPlace, list_in}
+use Rattle.hz_altern_model.specs.Alternatives.{alternatives_of}
+use Rattle.hz_altern_model.specs.Automata.{list_in}
 use Rattle.hz_acceptance_model.specs.Fitting.{AskTheSame}
-use Rattle.hz_acceptance_model.specs.Replay.{Pipeline, Class, alternatives_at, of_class}
+use Rattle.hz_acceptance_model.specs.Replay.{alternatives_at, of_class}
 use Rattle.hz_acceptance_model.specs.Restricted.{of_pairs, class_in, restricted}
 use Rattle.hz_mdread_model.specs.Descriptions.{Description, ClassItem}
 use Rattle.hz_check_model.specs.Places.{Known}
-use Rattle.hz_check_model.specs.CheckedParts.{AutomatonParts, ClassParts, automaton_names, automaton_count, automaton_parts, automata_from, automata_of, statements_in, lists_of, class_parts}
+use Rattle.hz_check_model.specs.CheckedParts.{AutomatonParts, ClassParts, automaton_names, automaton_count, automata_from, automata_of, statements_in, lists_of, class_parts}
 use Rattle.hz_pipeline_model.specs.Pipelines.{class_of, pipeline_with}
 use Rattle.hz_reach_model.specs.Columns.{class_of_grids}
 use Rattle.hz_auto_model.specs.AutomatonPipelines.{automaton_at, lists_at, automaton_pipeline}

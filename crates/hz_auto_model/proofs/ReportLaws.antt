@@ -1,19 +1,19 @@
 -- The counts of an automaton are those of its table and grids.
-use Rattle.std.proofs.Common.{◌≡◌, ℕ, zero, suc, ◌+◌, ◌*◌, ◌<◌, ◌≤◌, List, [], ◌∷◌, ◌++◌, length, map, get_or, Option, Some, None, ⊎_elim, refl, sym, ap, ◌∙◌, subst, arith}
-use Rattle.std.specs.Prelude.{◌↔◌, All, IsSome, Contains}
-use Rattle.std.specs.List.{AllPairs, sum_by, range_with_len}
+use Rattle.std.proofs.Common.{◌≡◌, ℕ, ◌+◌, ◌*◌, ◌<◌, ◌≤◌, List, [], ◌∷◌, length, map, get_or, Option, Some, None, ⊎_elim, refl, sym, ap, ◌∙◌, subst, arith}
+use Rattle.std.specs.Prelude.{IsSome, Contains}
+use Rattle.std.specs.List.{sum_by, range_with_len}
 use Rattle.std.proofs.lemmas.List.{length-map, get_or_past}
-use Rattle.std.proofs.lemmas.List.FromFn.{length-range_with_len, get_or-range_with_len, get_or-map-range_with_len}
+use Rattle.std.proofs.lemmas.List.FromFn.{length-range_with_len, get_or-map-range_with_len}
 use Rattle.hz_base_model.specs.Pairs.{Pair, SamePairs}
 use Rattle.hz_base_model.proofs.Elements.{Contains-map, Contains-from_map, Contains-range, Contains-from_range}
-use Rattle.hz_acceptance_model.specs.Replay.{Pipeline, Accepted, alternatives_at}
+use Rattle.hz_acceptance_model.specs.Replay.{Pipeline, alternatives_at}
 use Rattle.hz_tables_model.specs.Tables.{Table, IsTable, row_of, entry, walk}
 use Rattle.hz_tables_model.proofs.TableLaws.{walk_stays}
-use Rattle.hz_reach_model.specs.Reach.{Leaves, IsLeft, IsReachedGrid, IsReachedState, SameGrids, HasGrids, AreDifferent}
+use Rattle.hz_reach_model.specs.Reach.{IsLeft, IsReachedGrid, IsReachedState, SameGrids, AreDifferent}
 use Rattle.hz_reach_model.specs.Counts.{Count, IsAbove, IsAtMost, CountIsAbove, CountIsAtMost}
 use Rattle.hz_reach_model.specs.Counts as count
 use Rattle.hz_reach_model.specs.Columns.{AreColumns, events_at, spelled}
-use Rattle.hz_reach_model.specs.Built.{IsAutomaton, state_at, set_at}
+use Rattle.hz_reach_model.specs.Built.{IsAutomaton, state_at}
 use Rattle.hz_reach_model.proofs.AutomatonLaws.{leaves_of_accepted, accepted_of_leaves}
 use Rattle.hz_reach_model.proofs.CountLaws.{sum_by_ones, sum_by_alike}
 use Rattle.std.proofs.lemmas.Bool.{cases_lt}

@@ -1,7 +1,6 @@
 -- The pipeline of one automaton, by what a description without a fault gives. This profile, docs/RULES.md.
 use Rattle.std.specs.Prelude.{ℕ, List, [], map, slice_index_or}
 use Rattle.hz_base_model.specs.Pairs.{Pair}
-use Rattle.hz_altern_model.specs.Sets.{Statement}
 use Rattle.hz_acceptance_model.specs.Replay.{Pipeline}
 use Rattle.hz_altern_model.specs.Alternatives.{alternatives_of}
 use Rattle.hz_altern_model.specs.Automata.{list_in}

@@ -1,5 +1,5 @@
 -- The columns of a table before its advance: this profile, docs/RULES.md.
-use Rattle.std.specs.Prelude.{◌≡◌, ◌≢◌, ℕ, ◌<◌, List, [], Some, length, slice_get, slice_index, slice_index_or, Contains}
+use Rattle.std.specs.Prelude.{◌≡◌, ◌≢◌, ℕ, ◌<◌, List, [], Some, length, slice_get, slice_index, slice_index_or}
 use Rattle.std.specs.List.{AllPairs}
 use Rattle.hz_base_model.specs.Pairs.{Pair}
 

@@ -1,6 +1,6 @@
 -- What a compiled automaton is: which events its part walks, what its states stand for, and how they are numbered.
 -- Bala and Rubin, 'Efficient Instruction Scheduling Using Finite State Automata', MICRO-28; this profile, docs/RULES.md.
-use Rattle.std.specs.Prelude.{◌≡◌, ◌↔◌, ℕ, ◌<◌, ◌≤◌, Bool, List, [], Option, Some, None, IsSome, length, All, slice_index_or, if◌then◌else◌, ◌&&◌}
+use Rattle.std.specs.Prelude.{◌≡◌, ◌↔◌, ℕ, ◌<◌, Bool, List, IsSome, length, All, if◌then◌else◌}
 use Rattle.hz_base_model.specs.Pairs.{Pair}
 use Rattle.hz_acceptance_model.specs.Events.{Event, IsOfClass}
 use Rattle.hz_acceptance_model.specs.Replay.{Pipeline, Accepted}

@@ -1,10 +1,9 @@
-use Rattle.std.proofs.Common.{◌≡◌, ℕ, ◌<◌, ◌≤◌, ◌++◌, ◌∷◌, [], List, length, map, take, sym, ap, ◌∙◌, subst, arith}
-use Rattle.std.proofs.lemmas.List.{length-map, length_push, length-take-le}
+use Rattle.std.proofs.Common.{◌<◌, ◌++◌, ◌∷◌, [], length, map, take, sym, ap, ◌∙◌, subst, arith}
+use Rattle.std.proofs.lemmas.List.{length_push, length-take-le}
 use Rattle.hz_auto_model.specs.AutomatonPipelines.{lists_at}
 use Rattle.hz_auto_model.specs.ClassColumns.{IsColumns}
 use Rattle.hz_check.specs.declared.checked.CheckedClass.{CheckedClass}
 use Rattle.hz_check.specs.Shape.{class_of}
-use Rattle.hz_base_model.specs.Limits.{class_limit}
 use Rattle.hz_auto.proofs.CheckedFacts.{lists_more, list_held, lists_count}
 use Rattle.hz_auto.proofs.ColumnLemmas.{columns_pushed, few_columns}
 use Rattle.hz_auto.proofs.columns.columns_of.Goals as goal

@@ -1,4 +1,4 @@
-use Rattle.std.proofs.Common.{◌≡◌, map, ap, ◌∙◌}
+use Rattle.std.proofs.Common.{map, ap, ◌∙◌}
 use Rattle.hz_auto.proofs.CheckedFacts.{machine_kept}
 use Rattle.hz_auto.proofs.compiled.machine_on.Goals as goal
 

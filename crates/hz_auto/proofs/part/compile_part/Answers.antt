@@ -1,10 +1,8 @@
-use Rattle.std.proofs.Common.{◌≡◌, ◌≤◌, ◌<◌, length, map, All, sym, ap, ◌∙◌, subst, arith}
+use Rattle.std.proofs.Common.{◌≤◌, ◌<◌, length, All, sym, ap, ◌∙◌, subst}
 use Rattle.std.specs.Prelude.{if◌then◌else◌}
 use Rattle.hz_base_model.specs.Limits.{class_limit}
-use Rattle.hz_acceptance_model.specs.Fitting.{AskTheSame}
 use Rattle.hz_acceptance_model.specs.Replay.{first_fit, any_fit}
-use Rattle.hz_unitsets.specs.SetRules.{IsInRange, statements_of}
-use Rattle.hz_check.specs.Shape.{automaton_of}
+use Rattle.hz_unitsets.specs.SetRules.{IsInRange}
 use Rattle.hz_determ.specs.Explored.{IsBuilt, AreWithin, PassesCap}
 use Rattle.hz_explore.specs.Spaces.{pipeline_of, lists_of}
 use Rattle.hz_auto.specs.Parts.{IsCapped, IsWhole}

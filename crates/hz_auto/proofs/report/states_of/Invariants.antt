@@ -1,4 +1,4 @@
-use Rattle.std.proofs.Common.{◌≡◌, take, map}
+use Rattle.std.proofs.Common.{take, map}
 use Rattle.hz_auto.specs.Reports.{AreArranged}
 use Rattle.hz_auto.proofs.report.states_of.Given as goal
 
