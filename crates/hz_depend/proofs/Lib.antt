@@ -1,2 +1,11 @@
 pub mod ClassLemmas
 pub mod AccessLemmas
+pub mod LastLemmas
+pub mod PairLemmas
+pub mod FoundLemmas
+pub mod SameLemmas
+pub mod HeightLemmas
+pub mod EdgeLemmas
+pub mod BoundLemmas
+pub mod GraphLemmas
+pub mod MadeLemmas

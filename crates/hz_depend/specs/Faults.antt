@@ -1,6 +1,7 @@
 -- What a fault of the code says.
 use Rattle.hz_depend.specs.declared.class.ClassFault.{ClassFault}
 use Rattle.hz_depend.specs.declared.class.ClassFault.TheVariants.{UnknownAttribute, UnknownValue, NoClass, Ambiguous}
+use Rattle.std.specs.Prelude.{ℕ}
 use Rattle.hz_depend_model.specs.Classes as model
 
 abbrev pub fault : ClassFault → model.ClassFault
@@ -8,3 +9,7 @@ fault UnknownAttribute = model.unknown_attribute
 fault UnknownValue = model.unknown_value
 fault NoClass = model.no_class
 fault (Ambiguous a b) = model.ambiguous a b
+
+-- a place and the fault there
+abbrev pub placed : ℕ × ClassFault → ℕ × model.ClassFault
+placed p = (p.0, fault p.1)

@@ -1,6 +1,6 @@
 //! The class of an instruction.
 
-ghost use Rattle.std.specs.Prelude.{◌≡◌, ◌≤◌, length, map, IfOk, IfErr, Ok, Err};
+ghost use Rattle.std.specs.Prelude.{◌≡◌, ◌<◌, ◌≤◌, length, map, IfOk, IfErr, Ok, Err};
 ghost use Rattle.std.specs.List.{find, list_any};
 ghost use Rattle.std.specs.Option.{option_map, option_copied};
 ghost use Rattle.std.specs.Str.{bytes_eq};
@@ -85,6 +85,7 @@ fn one_class(
 ) -> Result<u32, ClassFault>
     requires { length classes.now ≤ 1024 }
     ensures ok { IfOk result (λ class. model.the_one (model.holding_from 0 (value_of given.now defaults.now) (conditions_of classes.now)) ≡ Ok class) }
+    ensures within { IfOk result (λ class. class < length classes.now) }
     ensures err { IfErr result (λ e. model.the_one (model.holding_from 0 (value_of given.now defaults.now) (conditions_of classes.now)) ≡ Err (fault e)) }
 {
     let mut found: Option<u32> = None;
@@ -109,6 +110,7 @@ fn one_class(
 /// whose value isn't one of its values, is told first, then that no condition holds or that two do. It takes no memory.
 pub fn class_of(checked: &Checked, insn: &Insn) -> Result<u32, ClassFault>
     ensures ok { IfOk result (λ class. class_for checked.now insn.now ≡ Ok class) }
+    ensures within { IfOk result (λ class. class < length checked.now.classes.items) }
     ensures err { IfErr result (λ e. class_for checked.now insn.now ≡ Err (fault e)) }
 {
     match first_fault(&checked.attributes, &insn.attrs) {

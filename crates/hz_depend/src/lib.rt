@@ -2,9 +2,19 @@
 #![tactic(auto)]
 
 mod access;
+mod building;
 mod class;
+mod edges;
+mod fault;
+mod heights;
+mod nodes;
+mod pairs;
+mod parts;
 
+pub use building::graph;
 pub use class::{ClassFault, class_of};
+pub use fault::DependFault;
+pub use parts::{Edge, Graph, GraphInsn};
 
 #[cfg(test)]
 mod tests;

@@ -1,0 +1,66 @@
+//! The edges of a block's dependence graph, pair by pair.
+
+ghost use Rattle.std.specs.Prelude.{◌≡◌, ◌≤◌, ◌<◌, ◌+◌, ◌++◌, ℕ, if◌then◌else◌, length, map, slice_index, IfOk, OnOk};
+ghost use Rattle.hz_check.specs.Shape.{bypass_of};
+ghost use Rattle.hz_depend_model.specs.Accesses.{is_among};
+ghost use Rattle.hz_depend.specs.GraphShape.{edge_of};
+ghost use Rattle.hz_depend.specs.Held.{held, found, all_found};
+
+use crate::access::Touched;
+use crate::nodes::Node;
+use crate::parts::Edge;
+use crate::pairs::{REGISTERS, cost};
+use hz_check::CheckedBypass;
+use hz_regexp::NoMemory;
+use std::alloc::Global;
+
+/// Adds the edges from these instructions to the one at a place.
+fn add_edges(
+    edges: &mut Vec<Edge>,
+    last: &[u32],
+    bypasses: &[CheckedBypass],
+    firsts: &[Node],
+    to: u32,
+    second: &Node,
+) -> Result<(), NoMemory>
+    requires registers { length last.now ≡ 256 }
+    requires few { length firsts.now ≤ 4096 }
+    ensures { OnOk result (map edge_of edges.new.items ≡ map edge_of edges.old.items ++ found (slice_index last.now) (map bypass_of bypasses.now) to (held second.now) 0 (map held firsts.now)) }
+{
+    for (place, first) in firsts.iter().enumerate() {
+        let from = place as u32;
+        if let Some(cost) = cost(last, bypasses, from, first, second) {
+            edges.push(Edge { from, to, cost })?;
+        }
+    }
+    Ok(())
+}
+
+/// Notes that an instruction writes registers.
+fn note_written(last: &mut [u32], written: &Touched, after: u32)
+    requires { length last.old ≡ 256 }
+    ensures { (r : ℕ) → slice_index last.new r ≡ (if is_among written.now.registers.items r then after else slice_index last.old r) }
+{
+    for register in &written.registers {
+        last[usize::from(*register)] = after;
+    }
+}
+
+/// All edges.
+pub fn edges_of(
+    alloc: Global,
+    bypasses: &[CheckedBypass],
+    nodes: &[Node],
+) -> Result<Vec<Edge>, NoMemory>
+    requires { length nodes.now ≤ 4096 }
+    ensures { IfOk result (λ edges. map edge_of edges.items ≡ all_found (map bypass_of bypasses.now) (map held nodes.now) (length nodes.now)) }
+{
+    let mut last = [0; REGISTERS];
+    let mut edges = Vec::new(alloc);
+    for (place, node) in nodes.iter().enumerate() {
+        let to = place as u32;
+        add_edges(&mut edges, &last, bypasses, &nodes[..place], to, node)?;
+        note_written(&mut last, &node.access.written, to + 1);
+    }
+    Ok(edges)
+}
