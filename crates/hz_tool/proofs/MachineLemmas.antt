@@ -1,28 +1,26 @@
 -- The machine of a checked description.
-use Rattle.std.proofs.Common.{◌≡◌, ℕ, suc, ◌+◌, ◌<◌, ◌≤◌, List, [], ◌∷◌, length, map, take, get_or, All, Option, Some, None, slice_get, inl, inr, refl, sym, ap, ◌∙◌, subst, arith, add-one}
-use Rattle.std.specs.Prelude.{IsSome, ◌↔◌, slice_index_or, MatchBool, ⊤}
-use Rattle.std.proofs.lemmas.List.{length-map, get_or-map}
-use Rattle.std.proofs.lemmas.List.Elements.{All-take, All-get_or}
-use Rattle.std.proofs.lemmas.Option.{slice_get_within, get_or_from_slice_get, slice_get-get_or}
-use Rattle.hz_acceptance_model.specs.Events.{Event, issue, IsOfClass, issues_of, cycles_of}
+use Rattle.std.proofs.Common.{◌≡◌, ℕ, suc, ◌+◌, List, [], ◌∷◌, length, map, take, All, Option, Some, None, slice_get, inl, inr, refl, sym, ap, ◌∙◌, subst, add-one}
+use Rattle.std.specs.Prelude.{IsSome, slice_index_or}
+use Rattle.std.proofs.lemmas.List.{length-map}
+use Rattle.std.proofs.lemmas.List.Elements.{All-take}
+use Rattle.hz_acceptance_model.specs.Events.{Event, IsOfClass}
 use Rattle.hz_acceptance_model.specs.Replay.{Accepted, FirstRefused}
-use Rattle.hz_answer_model.specs.Answers.{Replays, ReplaysTrace, ReplaysDescription, Compiles}
+use Rattle.hz_answer_model.specs.Answers.{Replays, ReplaysTrace, ReplaysDescription}
 use Rattle.hz_answer_model.specs.Phases.{Says}
-use Rattle.hz_answer_model.specs.Texts.{refused_line, states_line}
+use Rattle.hz_answer_model.specs.Texts.{states_line}
 use Rattle.hz_answer_model.proofs.EventLaws.{issue_named}
 use Rattle.hz_auto_model.specs.Compiled.{IsCompiled, IsFirstPast, Report as Told}
-use Rattle.hz_auto_model.specs.DescriptionLimits.{AllKeepLimits, IsFirstPastLimit}
 use Rattle.hz_auto_model.proofs.DescriptionLaws.{machine_accepts, all_keep, first_past}
 use Rattle.hz_check.specs.declared.checked.Checked.{Checked}
 use Rattle.hz_check.specs.Checked.{IsCheckedOf}
 use Rattle.hz_check.specs.Shape.{automaton_of, class_of}
-use Rattle.hz_check_model.specs.CheckedParts.{AutomatonParts, ClassParts, automaton_names, automaton_count, automata_from, automata_of, class_parts}
-use Rattle.hz_check_model.specs.Places.{Known, class_names}
+use Rattle.hz_check_model.specs.CheckedParts.{AutomatonParts, ClassParts, automaton_names, automata_from, automata_of, class_parts}
+use Rattle.hz_check_model.specs.Places.{Known}
 use Rattle.hz_mdread.specs.Shape.{options as options_of}
 use Rattle.hz_mdread_model.specs.Descriptions.{Description, Options}
 use Rattle.hz_pipeline_model.specs.Pipelines.{pipeline_with}
 use Rattle.hz_reach_model.specs.Counts.{Count}
-use Rattle.hz_replay.specs.Replaying.{IsOutcome, FirstUnwalked}
+use Rattle.hz_replay.specs.Replaying.{FirstUnwalked}
 use Rattle.hz_tables_model.specs.Machines.{Machine, machine_walk}
 use Rattle.hz_tool.proofs.AnswerLemmas.{agrees_weaker}
 use Rattle.hz_tool.specs.Decisions.{Agrees}

@@ -1,4 +1,4 @@
-use Rattle.std.proofs.Common.{List, sym, subst}
+use Rattle.std.proofs.Common.{List, subst}
 use Rattle.hz_answer_model.specs.BlockAnswers.{IsState, Evaluates}
 use Rattle.hz_answer_model.specs.Phases.{Next}
 use Rattle.hz_rtl.specs.Shape.{instructions}

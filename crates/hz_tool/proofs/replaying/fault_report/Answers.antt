@@ -1,5 +1,4 @@
-use Rattle.std.proofs.Common.{subst, arith}
-use Rattle.hz_auto.specs.Faults.{count_of}
+use Rattle.std.proofs.Common.{subst}
 use Rattle.hz_auto.specs.Machines.{IsFaultOf}
 use Rattle.hz_tool.proofs.MachineLemmas.{limit_told}
 use Rattle.hz_tool.proofs.replaying.fault_report.Goals as goal

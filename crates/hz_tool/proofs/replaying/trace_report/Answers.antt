@@ -1,4 +1,4 @@
-use Rattle.std.proofs.Common.{◌≡◌, ◌<◌, ℕ, List, length, All, sym, ap, ◌∙◌, subst, arith}
+use Rattle.std.proofs.Common.{◌≡◌, ℕ, List, length, All, sym, ap, subst, arith}
 use Rattle.hz_acceptance_model.specs.Events.{IsOfClass}
 use Rattle.hz_answer_model.specs.Answers.{Replays}
 use Rattle.hz_answer_model.proofs.EventLaws.{events_known}
