@@ -1,5 +1,5 @@
 -- The list of edges that is found pair by pair.
-use Rattle.std.proofs.Common.{◌≡◌, ℕ, zero, suc, ◌+◌, ◌<◌, ◌≤◌, ⊎_elim, List, [], ◌∷◌, ◌++◌, length, take, Option, Some, None, Contains, refl, sym, ap, ◌∙◌, arith}
+use Rattle.std.proofs.Common.{◌≡◌, ℕ, zero, suc, ◌+◌, ◌<◌, ◌≤◌, ⊎_elim, List, [], ◌∷◌, length, take, Option, Some, None, Contains, refl, sym, ap, ◌∙◌, arith}
 use Rattle.std.specs.Prelude.{slice_get}
 use Rattle.std.specs.List.{AllPairs}
 use Rattle.std.proofs.lemmas.Bool.{cases_lt}
@@ -61,22 +61,28 @@ module _ (last : ℕ → ℕ) (bypasses : List BypassParts) (j : ℕ) (s : Held)
   only i [] e c = absurd (Contains-nil e c)
   only i (g ∷ firsts) e c = ⊎_elim
       (λ (here : Contains (edge_by i j (cost i g)) e).
-        let (from, to, is) = one_only i j (cost i g) e here in
-        record { place = zero; first = g; at = refl; is_from = omega arith; is_to = to; is_cost = let z : i + zero ≡ i = omega arith in ap (λ (q : ℕ). cost q g) z ∙ is })
+      let (from, to, is) = one_only i j (cost i g) e here in
+      record { place = zero; first = g; at = refl; is_from = omega arith; is_to = to; is_cost = let z : i + zero ≡ i = omega arith in ap (λ (q : ℕ). cost q g) z ∙ is })
       (λ (there : Contains (found last bypasses j s (suc i) firsts) e).
-        let r = only (suc i) firsts e there in
-        record { place = suc r.place; first = r.first; at = r.at; is_from = let h = r.is_from in omega arith; is_to = r.is_to;
-                 is_cost = let z : i + suc r.place ≡ suc i + r.place = omega arith in ap (λ (q : ℕ). cost q r.first) z ∙ r.is_cost })
+      let r = only (suc i) firsts e there in
+      record {
+        place = suc r.place;
+        first = r.first;
+        at = r.at;
+        is_from = let h = r.is_from in omega arith;
+        is_to = r.is_to;
+        is_cost = let z : i + suc r.place ≡ suc i + r.place = omega arith in ap (λ (q : ℕ). cost q r.first) z ∙ r.is_cost;
+      })
       (Contains-append_cases (edge_by i j (cost i g)) (found last bypasses j s (suc i) firsts) e c)
 
   once : (i : ℕ) (firsts : List Held) → AllPairs Apart (found last bypasses j s i firsts)
   once i [] = pairs_none Apart
   once i (g ∷ firsts) = AllPairs-append Apart (edge_by i j (cost i g)) (found last bypasses j s (suc i) firsts) (pairs_one Apart i j (cost i g)) (once (suc i) firsts)
       (λ a b m n from to.
-        let (is, rest) = one_only_from i j (cost i g) a m in
-        let r = only (suc i) firsts b n in
-        let h = r.is_from in
-        absurd (omega arith))
+      let (is, rest) = one_only_from i j (cost i g) a m in
+      let r = only (suc i) firsts b n in
+      let h = r.is_from in
+      absurd (omega arith))
     where
       one_only_from : (i j : ℕ) (o : Option ℕ) (e : Edge) → Contains (edge_by i j o) e → (e.from ≡ i) × (e.to ≡ j)
       one_only_from i j o e c = let (f, t, is) = one_only i j o e c in (f, t)
@@ -85,10 +91,10 @@ module _ (last : ℕ → ℕ) (bypasses : List BypassParts) (j : ℕ) (s : Held)
   before i [] le = pairs_none Before
   before i (g ∷ firsts) le = AllPairs-append Before (edge_by i j (cost i g)) (found last bypasses j s (suc i) firsts) (pairs_one Before i j (cost i g)) (before (suc i) firsts (omega arith))
       (λ a b m n.
-        let (f, t, is) = one_only i j (cost i g) a m in
-        let r = only (suc i) firsts b n in
-        let h = r.is_to in
-        omega arith)
+      let (f, t, is) = one_only i j (cost i g) a m in
+      let r = only (suc i) firsts b n in
+      let h = r.is_to in
+      omega arith)
 
 slice_get-take : {X : Type 0} (xs : List X) (n k : ℕ) → k < n → slice_get (take n xs) k ≡ slice_get xs k
 slice_get-take [] zero k lt = absurd (omega arith)
@@ -130,7 +136,8 @@ module _ (bypasses : List BypassParts) (nodes : List Held) where
       let to : e.to ≡ j = r.is_to in
       let zero_on : zero + r.place ≡ e.from = omega arith in
       record {
-        first = r.first; second = s;
+        first = r.first;
+        second = s;
         at_from = ap (slice_get nodes) from ∙ (sym (slice_get-take nodes j r.place lt) ∙ r.at);
         at_to = ap (slice_get nodes) to ∙ is;
         upward = omega arith;
@@ -151,17 +158,17 @@ module _ (bypasses : List BypassParts) (nodes : List Held) where
   all_has (suc n) i j f s c lt within at_i at_j e = ⊎_elim
       (λ (less : j < n). Contains-append_left (all_found bypasses nodes n) (edges_to bypasses nodes n (slice_get nodes n)) (record { from = i; to = j; cost = c }) (all_has n i j f s c lt less at_i at_j e))
       (λ (more : n ≤ j).
-        let same : n ≡ j = omega arith in
-        Contains-append_right (all_found bypasses nodes n) (edges_to bypasses nodes n (slice_get nodes n)) (record { from = i; to = j; cost = c })
-        (rw same (to_has i j (slice_get nodes j) f s c lt at_j at_i e)))
+      let same : n ≡ j = omega arith in
+      Contains-append_right (all_found bypasses nodes n) (edges_to bypasses nodes n (slice_get nodes n)) (record { from = i; to = j; cost = c })
+      (rw same (to_has i j (slice_get nodes j) f s c lt at_j at_i e)))
       (cases_lt j n)
 
   pub all_only : (n : ℕ) (e : Edge) → Contains (all_found bypasses nodes n) e → Found bypasses nodes n e
   all_only zero e c = absurd (Contains-nil e c)
   all_only (suc n) e c = ⊎_elim
       (λ (there : Contains (all_found bypasses nodes n) e).
-        let r = all_only n e there in
-        record { first = r.first; second = r.second; at_from = r.at_from; at_to = r.at_to; upward = r.upward; inside = let h = r.inside in omega arith; is_cost = r.is_cost })
+      let r = all_only n e there in
+      record { first = r.first; second = r.second; at_from = r.at_from; at_to = r.at_to; upward = r.upward; inside = let h = r.inside in omega arith; is_cost = r.is_cost })
       (λ (here : Contains (edges_to bypasses nodes n (slice_get nodes n)) e). to_only n (slice_get nodes n) e refl here)
       (Contains-append_cases (all_found bypasses nodes n) (edges_to bypasses nodes n (slice_get nodes n)) e c)
 
@@ -177,17 +184,17 @@ module _ (bypasses : List BypassParts) (nodes : List Held) where
   all_once zero = pairs_none Apart
   all_once (suc n) = AllPairs-append Apart (all_found bypasses nodes n) (edges_to bypasses nodes n (slice_get nodes n)) (all_once n) (to_once n (slice_get nodes n))
       (λ a b m k from to.
-        let r = all_only n a m in
-        let h = r.inside in
-        let g = leads_to n b k in
-        absurd (omega arith))
+      let r = all_only n a m in
+      let h = r.inside in
+      let g = leads_to n b k in
+      absurd (omega arith))
 
   pub all_before : (n : ℕ) → AllPairs Before (all_found bypasses nodes n)
   all_before zero = pairs_none Before
   all_before (suc n) = AllPairs-append Before (all_found bypasses nodes n) (edges_to bypasses nodes n (slice_get nodes n)) (all_before n) (to_before n (slice_get nodes n))
       (λ a b m k.
-        let r = all_only n a m in
-        let h = r.inside in
-        let u = r.upward in
-        let g = leads_to n b k in
-        omega arith)
+      let r = all_only n a m in
+      let h = r.inside in
+      let u = r.upward in
+      let g = leads_to n b k in
+      omega arith)

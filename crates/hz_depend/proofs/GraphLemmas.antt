@@ -1,15 +1,13 @@
 -- What is found is the graph of the definitions, and what a schedule asks of it.
-use Rattle.std.proofs.Common.{◌≡◌, ℕ, zero, suc, ◌+◌, ◌-◌, ◌<◌, ◌≤◌, ◌==◌, ◌&&◌, Bool, true, false, ◌||◌, cond, List, [], ◌∷◌, length, map, Option, Some, None, Result, Ok, Err, All, Contains, refl, sym, ap, ◌∙◌, subst, get_or, arith, rules}
+use Rattle.std.proofs.Common.{◌≡◌, ℕ, zero, suc, ◌+◌, ◌-◌, ◌<◌, ◌≤◌, ◌==◌, ◌&&◌, Bool, true, false, ◌||◌, cond, List, [], ◌∷◌, length, map, Option, Some, None, All, Contains, refl, sym, ap, ◌∙◌, subst, arith, rules}
 use Rattle.std.specs.Prelude.{slice_get, slice_index, unwrap_or, max, IsTrue}
-use Rattle.std.specs.List.{AllPairs, find, list_any}
+use Rattle.std.specs.List.{find, list_any}
 use Rattle.std.specs.Option.{option_map}
 use Rattle.std.proofs.lemmas.List.{length-map}
-use Rattle.std.proofs.lemmas.List.Elements.{All-contains}
 use Rattle.std.proofs.lemmas.Option.{slice_get-map, get_or_from_slice_get}
 use Rattle.hz_base_model.proofs.Elements.{Contains-head, Contains-tail}
 use Rattle.hz_rtl.specs.declared.block.Insn.{Insn}
 use Rattle.hz_rtl.specs.Shape.{instruction}
-use Rattle.hz_rtl_model.specs.Blocks.{Instruction}
 use Rattle.hz_check.specs.declared.checked.Checked.{Checked}
 use Rattle.hz_check.specs.declared.checked.CheckedClass.{CheckedClass}
 use Rattle.hz_check.specs.Shape.{bypass_of, class_of}
@@ -24,7 +22,7 @@ use Rattle.hz_depend.specs.GraphShape.{latencies_of, timing_in}
 use Rattle.hz_depend.specs.Held.{Held, node_for, class_number, number, cost_by, cost_held, is_true, is_anti, is_output, last_of, all_found}
 use Rattle.hz_depend.proofs.LastLemmas.{nodes_in, block_in}
 use Rattle.hz_depend.proofs.PairLemmas.{true_same, anti_same, output_same, depends_is, cost_is}
-use Rattle.hz_depend.proofs.FoundLemmas.{Found, all_has, all_only, all_once}
+use Rattle.hz_depend.proofs.FoundLemmas.{all_has, all_only, all_once}
 
 some_at : {X : Type 0} (xs : List X) (i : ℕ) → i < length xs → (x : X) × (slice_get xs i ≡ Some x)
 some_at [] i lt = absurd (omega arith)
@@ -89,8 +87,10 @@ module _ (checked : Checked) (insns : List Insn) where
   module _ (i j : ℕ) (x y : Insn) (at_i : slice_get insns i ≡ Some x) (at_j : slice_get insns j ≡ Some y) where
     abbrev cx : ℕ
     cx = class_number checked x
+
     abbrev cy : ℕ
     cy = class_number checked y
+
     abbrev of_class : ℕ → ℕ
     of_class = slice_index (latencies_of checked)
 
@@ -104,18 +104,25 @@ module _ (checked : Checked) (insns : List Insn) where
 
     abbrev last : ℕ → ℕ
     last = last_of (nodes_in checked insns) j
+
     abbrev fx : Held
     fx = node_for checked x
+
     abbrev fy : Held
     fy = node_for checked y
+
     abbrev between : ℕ → Bool
     between = model.is_written (block_in checked insns) (i + 1) j
+
     abbrev since : ℕ → Bool
     since = model.is_written (block_in checked insns) i j
+
     abbrev t : Bool
     t = model.is_true between since (access_of (instruction x)) (access_of (instruction y))
+
     abbrev a : Bool
     a = model.is_anti between since (access_of (instruction x)) (access_of (instruction y))
+
     abbrev o : Bool
     o = model.is_output between since (access_of (instruction x)) (access_of (instruction y))
 
@@ -149,7 +156,12 @@ module _ (checked : Checked) (insns : List Insn) where
       let (x, at_x, is_x) = some_of (node_for checked) (slice_get insns e.from) r.first (sym (slice_get-map (node_for checked) insns e.from) ∙ r.at_from) in
       let (y, at_y, is_y) = some_of (node_for checked) (slice_get insns e.to) r.second (sym (slice_get-map (node_for checked) insns e.to) ∙ r.at_to) in
       record {
-        first = x; second = y; at_from = at_x; at_to = at_y; upward = r.upward; inside = r.inside;
+        first = x;
+        second = y;
+        at_from = at_x;
+        at_to = at_y;
+        upward = r.upward;
+        inside = r.inside;
         is_cost = ap (λ (h : Held). cost_held (last_of (nodes_in checked insns) e.to) e.from h (node_for checked y) bypasses) is_x
             ∙ (ap (λ (h : Held). cost_held (last_of (nodes_in checked insns) e.to) e.from r.first h bypasses) is_y ∙ r.is_cost);
       }
@@ -166,6 +178,7 @@ module _ (checked : Checked) (insns : List Insn) where
           let cost = model.cost (block_in checked insns) timing i j in
           all_has bypasses (nodes_in checked insns) (length insns) i j (node_for checked x) (node_for checked y) cost lt (omega arith) (held_at i x at_x) (held_at j y at_y)
           (pair_cost i j x y at_x at_y lt ∙ ap (λ (b : Bool). cond b (Some cost) None) d)
+
       only : (e : Edge) → Contains all e → (e.from < e.to) × (e.to < length (block_in checked insns)) × (depends (block_in checked insns) e.from e.to ≡ true) × (e.cost ≡ model.cost (block_in checked insns) timing e.from e.to)
       only e c =
           let n = block_length in
@@ -188,6 +201,7 @@ module _ (checked : Checked) (insns : List Insn) where
     where
       test : BypassParts → Bool
       test b = list_any (λ n. n == f.class) b.outs && list_any (λ n. n == s.class) b.ins
+
       go : (o : Option BypassParts) → find test bypasses ≡ o → unwrap_or (option_map (λ b. b.number) o) f.latency ≤ 1000
       go None is = h
       go (Some b) is = found_all (λ b. b.number ≤ 1000) test bypasses b checked.kept.bypass_numbers is

@@ -1,5 +1,5 @@
 -- Sums by edges give heights.
-use Rattle.std.proofs.Common.{◌≡◌, ℕ, zero, suc, ◌+◌, ◌-◌, ◌*◌, ◌<◌, ◌≤◌, ◌≢◌, ◌==◌, Bool, true, false, subst, ⊎_elim, List, [], ◌∷◌, length, map, Option, Some, None, All, Contains, refl, sym, ap, ◌∙◌, get_or, set, get_or-set_other, get_or-set_same, length-set, arith}
+use Rattle.std.proofs.Common.{◌≡◌, ℕ, zero, suc, ◌+◌, ◌-◌, ◌*◌, ◌<◌, ◌≤◌, ◌≢◌, ◌==◌, Bool, true, false, subst, ⊎_elim, List, [], ◌∷◌, length, Option, Some, None, All, Contains, refl, sym, ap, ◌∙◌, get_or, get_or-set_other, get_or-set_same, length-set, arith}
 use Rattle.std.specs.Prelude.{max, unwrap_or, replicate, slice_index}
 use Rattle.std.specs.List.{AllPairs}
 use Rattle.std.proofs.lemmas.Bool.{cases_lt, eqb-true, eq-eqb}
@@ -8,7 +8,7 @@ use Rattle.std.proofs.lemmas.List.Elements.{All-contains}
 use Rattle.hz_base_model.proofs.Elements.{Contains-nil, Contains-head, Contains-tail, Contains-cons_cases}
 use Rattle.hz_base_model.proofs.Ascending.{AllPairs-head, AllPairs-tail}
 use Rattle.hz_depend_model.specs.Graphs.{Edge, IsHeight}
-use Rattle.hz_depend.specs.Relaxing.{height_at, relax, relaxed}
+use Rattle.hz_depend.specs.Relaxing.{height_at, relaxed}
 use Rattle.hz_depend.proofs.FoundLemmas.{Before}
 
 module _ (latencies : List ℕ) where
@@ -143,6 +143,7 @@ module _ (latencies : List ℕ) where
         where
           this : e ≡ f → Covers (e ∷ edges) f
           this same = subst (Covers (e ∷ edges)) same (record { value = new e edges; is = there e edges up; least = let h = same_here in omega arith })
+
           old : Contains edges f → Covers (e ∷ edges) f
           old m =
               let k = known.covers f m in
@@ -178,21 +179,27 @@ module _ (latencies : List ℕ) where
       where
         known : IsSums edges
         known = sums edges up before
+
         here : slice_index heights i ≡ height edges i
         here = same i lt
+
         there_too : (e : Edge) → Contains edges e → slice_index heights e.to ≡ height edges e.to
         there_too e c = let u : Upward e = All-contains Upward edges e up c in same e.to u.1
+
         no_edges : (o : Option ℕ) → sum edges i ≡ o → ((e : Edge) → Contains edges e → e.from ≡ i → ⊥) → slice_index heights i ≡ slice_index latencies i
         no_edges None is none = here ∙ ap (λ (o : Option ℕ). unwrap_or o (slice_index latencies i)) is
         no_edges (Some h) is none = let r = known.reaches i h is in absurd (none r.edge r.there r.is_from)
+
         -- the height of a place that an edge leads from
         value : (e : Edge) → Contains edges e → e.from ≡ i → (h : ℕ) × (sum edges i ≡ Some h) × (slice_index heights i ≡ h) × (e.cost + height edges e.to ≤ h)
         value e c from =
             let k = known.covers e c in
             let is : sum edges i ≡ Some k.value = ap (sum edges) (sym from) ∙ k.is in
             (k.value, is, here ∙ ap (λ (o : Option ℕ). unwrap_or o (slice_index latencies i)) is, k.least)
+
         at_least : (e : Edge) → Contains edges e → e.from ≡ i → e.cost + slice_index heights e.to ≤ slice_index heights i
         at_least e c from = let (h, is, at, le) = value e c from in let t = there_too e c in omega arith
+
         some_edge : (e : Edge) → Contains edges e → e.from ≡ i → (f : Edge) × Contains edges f × (f.from ≡ i) × (slice_index heights i ≡ f.cost + slice_index heights f.to)
         some_edge e c from =
             let (h, is, at, le) = value e c from in

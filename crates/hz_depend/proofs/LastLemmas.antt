@@ -1,5 +1,5 @@
 -- Last writers tell what is written from a place on.
-use Rattle.std.proofs.Common.{◌≡◌, ℕ, zero, suc, ◌+◌, ◌<◌, ◌≤◌, Bool, true, false, cond, ⊎_elim, List, map, Option, Some, None, refl, sym, ap, ◌∙◌, arith}
+use Rattle.std.proofs.Common.{◌≡◌, ℕ, zero, suc, ◌<◌, ◌≤◌, Bool, true, false, cond, ⊎_elim, List, map, Option, Some, None, refl, sym, ap, ◌∙◌, arith}
 use Rattle.std.specs.Prelude.{slice_get, nat_lt}
 use Rattle.std.specs.Option.{option_map}
 use Rattle.std.proofs.Math.Path.{fun_ext}
@@ -9,7 +9,6 @@ use Rattle.hz_rtl.specs.declared.block.Insn.{Insn}
 use Rattle.hz_rtl.specs.Shape.{instruction}
 use Rattle.hz_rtl_model.specs.Blocks.{Instruction}
 use Rattle.hz_check.specs.declared.checked.Checked.{Checked}
-use Rattle.hz_depend_model.specs.Accesses.{access_of, is_among}
 use Rattle.hz_depend_model.specs.Dependences.{is_written}
 use Rattle.hz_depend_model.proofs.WrittenLaws as laws
 use Rattle.hz_depend.specs.Held.{Held, node_for, writes, last_of}

@@ -1,5 +1,5 @@
 -- What the parts that the code makes are together.
-use Rattle.std.proofs.Common.{◌≡◌, ℕ, zero, suc, ◌<◌, ◌≤◌, List, [], ◌∷◌, length, map, Option, Some, None, Result, Ok, Err, All, Contains, refl, sym, ap, ◌∙◌, subst, get_or, arith}
+use Rattle.std.proofs.Common.{◌≡◌, ℕ, suc, ◌<◌, ◌≤◌, List, [], ◌∷◌, length, map, Option, Some, None, Result, Ok, Err, All, Contains, refl, sym, ap, ◌∙◌, subst, get_or, arith}
 use Rattle.std.specs.Prelude.{slice_index}
 use Rattle.std.specs.List.{AllPairs}
 use Rattle.std.proofs.lemmas.List.{length-map, get_or-map}
@@ -14,7 +14,7 @@ use Rattle.hz_depend.specs.declared.parts.Edge.{Edge}
 use Rattle.hz_depend.specs.declared.parts.Graph.{Graph}
 use Rattle.hz_depend.specs.declared.parts.GraphInsn.{GraphInsn}
 use Rattle.hz_depend.specs.Shape.{class_for}
-use Rattle.hz_depend.specs.GraphShape.{edge_of, latencies_of, timing_in, first_class_fault, IsGraphOf, IsSchedulable}
+use Rattle.hz_depend.specs.GraphShape.{edge_of, latencies_of, first_class_fault, IsGraphOf, IsSchedulable}
 use Rattle.hz_depend.specs.Held.{Held, held, node_for, class_number, number_of_class, all_found}
 use Rattle.hz_depend.specs.Relaxing.{height_at, relaxed}
 use Rattle.hz_depend_model.specs.Graphs as model
@@ -133,8 +133,10 @@ module _ (checked : Checked) (block : Block) (nodes : List Node) (sums : List (O
     where
       ok : All (λ n. n.latency ≤ 1000) nodes
       ok = latencies_small checked insns nodes g.edges.items m
+
       up : All (λ e. (e.from < e.to) × (e.to < length nodes) × (e.cost ≤ 1000)) g.edges.items
       up = edges_up checked insns nodes g.edges.items m
+
       ordered : AllPairs (λ a b. a.from < b.to) g.edges.items
       ordered = edges_ordered checked insns nodes g.edges.items m
 

@@ -1,17 +1,17 @@
 -- The tests of a pair over what is held are those of the definitions.
-use Rattle.std.proofs.Common.{◌≡◌, ℕ, ◌+◌, ◌-◌, ◌<◌, Bool, true, false, ◌||◌, ◌&&◌, not, cond, List, [], ◌∷◌, map, Option, Some, None, refl, sym, ap, ◌∙◌, arith}
+use Rattle.std.proofs.Common.{◌≡◌, ℕ, ◌+◌, ◌-◌, ◌<◌, Bool, ◌||◌, ◌&&◌, not, cond, List, [], ◌∷◌, map, Some, refl, sym, ap, ◌∙◌}
 use Rattle.std.specs.Prelude.{slice_get, nat_lt, max}
 use Rattle.std.specs.List.{list_any}
 use Rattle.std.proofs.lemmas.Bool.{lt-ltb}
 use Rattle.std.proofs.lemmas.Option.{slice_get-map}
 use Rattle.hz_rtl.specs.declared.block.Insn.{Insn}
 use Rattle.hz_rtl.specs.Shape.{instruction}
-use Rattle.hz_rtl_model.specs.Blocks.{Value, Instruction}
+use Rattle.hz_rtl_model.specs.Blocks.{Value}
 use Rattle.hz_check.specs.declared.checked.Checked.{Checked}
-use Rattle.hz_depend_model.specs.Accesses.{Access, access_of, is_among, Based, based_of}
+use Rattle.hz_depend_model.specs.Accesses.{Access, access_of, is_among, based_of}
 use Rattle.hz_depend_model.specs.Dependences as model
 use Rattle.hz_depend_model.specs.Dependences.{apart_by, may_meet, is_written, at_places, depends, Timing}
-use Rattle.hz_depend.specs.Held.{Held, node_for, meet, last_of, is_true, is_anti, is_output, cost_by}
+use Rattle.hz_depend.specs.Held.{node_for, meet, last_of, is_true, is_anti, is_output}
 use Rattle.hz_depend.proofs.LastLemmas.{nodes_in, block_in, last_tells}
 
 meets_same : (since : ℕ → Bool) (v : Value) (ws : List Value) → list_any (λ w. not (apart_by since (based_of v) w)) (map based_of ws) ≡ list_any (λ w. not (apart_by since (based_of v) (based_of w))) ws

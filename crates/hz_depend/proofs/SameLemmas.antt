@@ -1,5 +1,5 @@
 -- Small facts about what the code holds.
-use Rattle.std.proofs.Common.{◌≡◌, ℕ, ◌<◌, ◌==◌, Bool, true, false, cond, ◌||◌, ◌&&◌, not, List, [], ◌∷◌, map, length, Option, Some, None, refl, sym, ap, ◌∙◌, get_or, set, get_or-set_other, get_or-set_same, arith}
+use Rattle.std.proofs.Common.{◌≡◌, ℕ, ◌<◌, ◌==◌, Bool, true, false, cond, ◌||◌, ◌&&◌, not, List, [], ◌∷◌, map, length, Option, Some, None, refl, sym, ap, ◌∙◌, get_or, set, get_or-set_other, get_or-set_same}
 use Rattle.std.specs.Prelude.{unwrap_or}
 use Rattle.std.specs.List.{list_any, find}
 use Rattle.std.specs.Option.{option_map}
@@ -35,6 +35,7 @@ noted last x rest v r lt = go (x == r) refl
     both : (b : Bool) (w : ℕ) → w ≡ v → cond b v w ≡ v
     both true w e = refl
     both false w e = e
+
     go : (b : Bool) → (x == r) ≡ b → cond (is_among rest r) v (get_or (set last x v) r 0) ≡ cond (b || is_among rest r) v (get_or last r 0)
     go true is =
         let same = eqb-true x r is in

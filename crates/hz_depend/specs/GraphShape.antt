@@ -7,7 +7,6 @@ use Rattle.hz_rtl.specs.Shape.{instructions}
 use Rattle.hz_check.specs.declared.checked.Checked.{Checked}
 use Rattle.hz_check.specs.Shape.{bypass_of}
 use Rattle.hz_depend.specs.declared.parts.Graph.{Graph}
-use Rattle.hz_depend.specs.declared.parts.GraphInsn.{GraphInsn}
 use Rattle.hz_depend.specs.declared.parts.Edge.{Edge}
 use Rattle.hz_depend.specs.declared.fault.DependFault.{DependFault}
 use Rattle.hz_depend.specs.declared.fault.DependFault.TheVariants.{Class, NoMemory}

@@ -8,8 +8,8 @@ ghost use Rattle.hz_depend.specs.Held.{held, found, all_found};
 
 use crate::access::Touched;
 use crate::nodes::Node;
-use crate::parts::Edge;
 use crate::pairs::{REGISTERS, cost};
+use crate::parts::Edge;
 use hz_check::CheckedBypass;
 use hz_regexp::NoMemory;
 use std::alloc::Global;

@@ -32,9 +32,7 @@ fn is_passed(last: &[u32], i: u32, written: &Touched, read: &Touched) -> bool
     requires place { i + 1 < 2 ^ 32 }
     ensures { result ≡ list_any (λ r. is_among written.now.registers.items r && not (nat_lt (i + 1) (slice_index last.now r))) read.now.registers.items }
 {
-    read.registers
-        .iter()
-        .any(|r| written.registers.contains(r) && after(last, *r) <= i + 1)
+    read.registers.iter().any(|r| written.registers.contains(r) && after(last, *r) <= i + 1)
 }
 
 /// Whether they have a register in common.

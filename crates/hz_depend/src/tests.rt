@@ -2,7 +2,7 @@
 
 ghost use Rattle.std.specs.Prelude.{◌<◌, ◌^◌, length};
 
-use crate::class_of;
+use crate::{Graph, class_of, graph};
 use hz_check::{Checked, check};
 use hz_mdread::read_description;
 use hz_rtl::{Block, read_block};
@@ -88,6 +88,284 @@ fn instructions_have_classes(rt: HostRuntime) -> Result<(), Fail> {
         assert!(rt; block.insns.len() == 1);
         let found = format!(in alloc; "{:?}", class_of(&checked, &block.insns[0]))?;
         assert_eq!(rt; found.as_str(), *expected, "{attributes}");
+    }
+    Ok(())
+}
+
+/// Two integer pipelines, a floating-point pipeline and a divider.
+const SUPERSCALAR: &str = "(define_attr \"type\" \"int,mult,div,float\" (const_string \"int\"))
+(define_cpu_unit \"i0_pipeline, i1_pipeline, f_pipeline\")
+(define_cpu_unit \"port0, port1\")
+(define_cpu_unit \"div\")
+(define_insn_reservation \"simple\" 2 (eq_attr \"type\" \"int\") \"(i0_pipeline | i1_pipeline), (port0 | port1)\")
+(define_insn_reservation \"mult\" 4 (eq_attr \"type\" \"mult\") \"i1_pipeline, nothing*2, (port0 | port1)\")
+(define_insn_reservation \"div\" 9 (eq_attr \"type\" \"div\") \"i1_pipeline, div*7, div + (port0 | port1)\")
+(define_insn_reservation \"float\" 3 (eq_attr \"type\" \"float\") \"f_pipeline, nothing, (port0 | port1)\")
+(define_bypass 4 \"float\" \"simple,mult,div\")
+";
+
+/// What a row shows, effects of instructions with their attributes, and heights and edges.
+const GRAPHS: [(&str, &[&str], &str); 22] = [
+    (
+        "a product that is used",
+        &[
+            "(set (reg 3) (mult (reg 1) (reg 2))) (set_attr \"type\" \"mult\")",
+            "(set (reg 4) (plus (reg 3) (const_int 1)))",
+            "(set (reg 5) (plus (reg 1) (const_int 1)))",
+        ],
+        "6 2 2 | 0>1 4",
+    ),
+    (
+        "a register written twice",
+        &[
+            "(set (reg 3) (mult (reg 1) (reg 2))) (set_attr \"type\" \"mult\")",
+            "(set (reg 3) (plus (reg 1) (const_int 1)))",
+        ],
+        "4 2 | 0>1 2",
+    ),
+    (
+        "one base and two constants",
+        &[
+            "(set (mem (plus (reg 1) (const_int 8))) (reg 2)) (set_attr \"type\" \"mult\")",
+            "(set (reg 4) (mem (reg 1)))",
+        ],
+        "4 2 |",
+    ),
+    (
+        "a bypass",
+        &[
+            "(set (reg 3) (plus (reg 1) (reg 2))) (set_attr \"type\" \"float\")",
+            "(set (reg 4) (plus (reg 3) (const_int 1)))",
+        ],
+        "6 2 | 0>1 4",
+    ),
+    (
+        "a bypass to other classes",
+        &[
+            "(set (reg 3) (plus (reg 1) (reg 2))) (set_attr \"type\" \"float\")",
+            "(set (reg 4) (plus (reg 3) (reg 1))) (set_attr \"type\" \"float\")",
+        ],
+        "6 3 | 0>1 3",
+    ),
+    (
+        "an anti-dependence",
+        &[
+            "(set (reg 4) (plus (reg 3) (const_int 1)))",
+            "(set (reg 3) (plus (reg 1) (const_int 1)))",
+        ],
+        "2 2 | 0>1 0",
+    ),
+    (
+        "the base written between",
+        &[
+            "(set (mem (plus (reg 1) (const_int 8))) (reg 2)) (set_attr \"type\" \"mult\")",
+            "(set (reg 1) (plus (reg 1) (const_int 8)))",
+            "(set (reg 4) (mem (reg 1)))",
+        ],
+        "6 4 2 | 0>1 0 0>2 4 1>2 2",
+    ),
+    (
+        "two bases",
+        &[
+            "(set (mem (reg 1)) (reg 3)) (set_attr \"type\" \"mult\")",
+            "(set (reg 4) (mem (reg 2)))",
+        ],
+        "6 2 | 0>1 4",
+    ),
+    (
+        "no base",
+        &[
+            "(set (mem (mult (reg 1) (reg 1))) (reg 2))",
+            "(set (reg 4) (mem (reg 1)))",
+        ],
+        "4 2 | 0>1 2",
+    ),
+    (
+        "the base written by the first",
+        &[
+            "(parallel [(set (mem (reg 1)) (reg 2)) (set (reg 1) (plus (reg 1) (const_int 8)))])",
+            "(set (reg 4) (mem (plus (reg 1) (const_int 8))))",
+        ],
+        "4 2 | 0>1 2",
+    ),
+    (
+        "the base written by the second",
+        &[
+            "(set (mem (reg 1)) (reg 2))",
+            "(parallel [(set (reg 4) (mem (plus (reg 1) (const_int 8)))) (set (reg 1) (const_int 0))])",
+        ],
+        "2 2 | 0>1 0",
+    ),
+    (
+        "constants that are one word",
+        &[
+            "(set (mem (plus (reg 1) (const_int -8))) (reg 2))",
+            "(set (reg 4) (mem (plus (reg 1) (const_int 18446744073709551608))))",
+        ],
+        "4 2 | 0>1 2",
+    ),
+    (
+        "constants of two signs",
+        &[
+            "(set (mem (plus (reg 1) (const_int -8))) (reg 2))",
+            "(set (reg 4) (mem (plus (reg 1) (const_int 8))))",
+        ],
+        "2 2 |",
+    ),
+    (
+        "clobber and use",
+        &[
+            "(clobber (reg 1))",
+            "(use (reg 1))",
+            "(set (reg 1) (const_int 5))",
+            "(use (reg 1))",
+        ],
+        "6 4 4 2 | 0>1 2 0>2 0 1>2 0 2>3 2",
+    ),
+    (
+        "a cell read, then written",
+        &["(set (reg 4) (mem (reg 1)))", "(set (mem (reg 1)) (reg 2))"],
+        "2 2 | 0>1 0",
+    ),
+    (
+        "a cell written twice",
+        &[
+            "(set (mem (reg 1)) (reg 2)) (set_attr \"type\" \"mult\")",
+            "(set (mem (reg 1)) (reg 3))",
+        ],
+        "4 2 | 0>1 2",
+    ),
+    (
+        "the later one takes longer",
+        &[
+            "(set (reg 3) (const_int 1))",
+            "(set (reg 3) (const_int 2)) (set_attr \"type\" \"mult\")",
+        ],
+        "4 4 | 0>1 0",
+    ),
+    (
+        "a register used and written again",
+        &[
+            "(set (reg 3) (const_int 1)) (set_attr \"type\" \"mult\")",
+            "(set (reg 3) (plus (reg 3) (const_int 1)))",
+        ],
+        "6 2 | 0>1 4",
+    ),
+    (
+        "less than the latency",
+        &[
+            "(set (reg 4) (reg 3)) (set_attr \"type\" \"div\")",
+            "(set (reg 3) (const_int 1))",
+        ],
+        "2 2 | 0>1 0",
+    ),
+    (
+        "two loads",
+        &["(set (reg 4) (mem (reg 1)))", "(set (reg 5) (mem (reg 1)))"],
+        "2 2 |",
+    ),
+    (
+        "an address that is written",
+        &[
+            "(set (reg 1) (const_int 8))",
+            "(set (mem (reg 1)) (const_int 0))",
+        ],
+        "4 2 | 0>1 2",
+    ),
+    ("no instruction", &[], "|"),
+];
+
+/// Heights, and edges with their costs.
+fn shown(alloc: Global, made: &Graph) -> Result<String, Fail> {
+    let mut text = String::new(alloc);
+    for insn in &made.insns {
+        let height = format!(in alloc; "{} ", insn.height)?;
+        text.push_str(height.as_str())?;
+    }
+    text.push_str("|")?;
+    for edge in &made.edges {
+        let one = format!(in alloc; " {}>{} {}", edge.from, edge.to, edge.cost)?;
+        text.push_str(one.as_str())?;
+    }
+    Ok(text)
+}
+
+/// A block of these instructions.
+fn text_of(alloc: Global, insns: &[&str]) -> Result<String, Fail> {
+    let mut text = String::new(alloc);
+    for (number, insn) in insns.iter().enumerate() {
+        let one = format!(in alloc; "(insn {number} {insn})\n")?;
+        text.push_str(one.as_str())?;
+    }
+    Ok(text)
+}
+
+#[test]
+fn instructions_depend_on_others(rt: HostRuntime) -> Result<(), Fail> {
+    let alloc = rt.alloc();
+    let bytes = SUPERSCALAR.as_bytes();
+    assert!(rt; bytes.len() < 100_000);
+    let checked = checked_of(alloc, bytes).ok_or("no description")?;
+    for (name, insns, expected) in &GRAPHS {
+        let text = text_of(alloc, insns)?;
+        let bytes = text.as_bytes();
+        assert!(rt; bytes.len() < 100_000);
+        let block = block_of(alloc, bytes).ok_or("no block")?;
+        assert!(rt; block.insns.len() <= 4096);
+        let made = graph(alloc, &checked, &block)?;
+        let found = shown(alloc, &made)?;
+        assert_eq!(rt; found.as_str(), *expected, "{name}");
+    }
+    Ok(())
+}
+
+/// Attributes of three instructions, and the fault that is told.
+const FAULTS: [(&[&str], &str); 4] = [
+    (
+        &[
+            "",
+            "(set_attr \"type\" \"div\")",
+            "(set_attr \"kind\" \"x\")",
+        ],
+        "Class { place: 1, fault: NoClass }",
+    ),
+    (
+        &[
+            "",
+            "",
+            "(set_attr \"type\" \"mult\") (set_attr \"size\" \"byte\")",
+        ],
+        "Class { place: 2, fault: Ambiguous { a: 1, b: 2 } }",
+    ),
+    (
+        &["(set_attr \"kind\" \"x\")", "(set_attr \"type\" \"x\")", ""],
+        "Class { place: 0, fault: UnknownAttribute }",
+    ),
+    (
+        &["(set_attr \"type\" \"x\")", "(set_attr \"kind\" \"x\")", ""],
+        "Class { place: 0, fault: UnknownValue }",
+    ),
+];
+
+#[test]
+fn the_first_wrong_class_is_told(rt: HostRuntime) -> Result<(), Fail> {
+    let alloc = rt.alloc();
+    let bytes = DESCRIPTION.as_bytes();
+    assert!(rt; bytes.len() < 100_000);
+    let checked = checked_of(alloc, bytes).ok_or("no description")?;
+    for (insns, expected) in &FAULTS {
+        let mut text = String::new(alloc);
+        for (number, attributes) in insns.iter().enumerate() {
+            let one = format!(in alloc; "(insn {number} (use (reg 1)) {attributes})\n")?;
+            text.push_str(one.as_str())?;
+        }
+        let bytes = text.as_bytes();
+        assert!(rt; bytes.len() < 100_000);
+        let block = block_of(alloc, bytes).ok_or("no block")?;
+        assert!(rt; block.insns.len() <= 4096);
+        let fault = graph(alloc, &checked, &block).err().ok_or("no fault")?;
+        let found = format!(in alloc; "{fault:?}")?;
+        assert_eq!(rt; found.as_str(), *expected);
     }
     Ok(())
 }

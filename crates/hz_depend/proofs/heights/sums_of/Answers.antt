@@ -1,4 +1,4 @@
-use Rattle.std.proofs.Common.{◌≡◌, ◌≤◌, ◌*◌, ◌<◌, ◌-◌, List, Option, ℕ, length, get_or, ap, sym, ◌∙◌, arith}
+use Rattle.std.proofs.Common.{◌-◌, List, Option, ℕ, get_or, ap, ◌∙◌, arith}
 use Rattle.hz_depend.specs.Relaxing.{height_at}
 use Rattle.hz_depend.proofs.BoundLemmas.{bound, latencies_in}
 use Rattle.hz_depend.proofs.heights.sums_of.Goals as goal
