@@ -3,7 +3,7 @@
 PREFIX ?= /usr/local
 SOURCES := crates.txt $(shell find crates -path '*/out' -prune -o \( -name '*.rt' -o -name '*.antt' \) -print)
 
-.PHONY: all test examples bench install clean
+.PHONY: all try test examples bench install clean
 
 all: bin/hz
 
@@ -16,6 +16,12 @@ bin/hz: $(SOURCES)
 	@grep '^accepted' bin/make.log
 	@cp crates/hz/out/hz bin/hz
 	@echo "hz: built bin/hz"
+
+# an example at once, interpreted: nothing is proved and nothing built
+try:
+	@echo "hz: an example, interpreted and not proved; half a minute"
+	@cd crates/hz && rt try --data machine.md=../../examples/divider/machine.md --data busy.trace=../../examples/divider/busy.trace \
+		-- replay machine.md busy.trace 2>&1 | grep -v '^run=\|^checked' || true
 
 # the whole gate
 test:
