@@ -148,6 +148,71 @@ fn an_automaton_has_at_most_65536_states(rt: HostRuntime) -> Result<(), Fail> {
     late(&rt, alloc, 13, "(automata_option \"v\")", 0, accepted)
 }
 
+/// The status and the text of classes that take the unit in two cycles, so many behind the 16 of the description.
+fn twice(
+    rt: &impl Abort,
+    alloc: Global,
+    classes: u32,
+    status: u8,
+    text: &[u8],
+) -> Result<(), Fail> {
+    let mut end = String::new(alloc);
+    for class in 0..classes {
+        let first = class % 8 + 1;
+        let second = class / 8 + 1;
+        let form = format!(in alloc;
+            "(define_insn_reservation \"d{class}\" 1 (const_int 1) \"nothing*{first}, u, nothing*{second}, u\")"
+        )?;
+        end.push_str(&form)?;
+    }
+    late(rt, alloc, 16, &end, status, text)
+}
+
+#[test]
+fn a_table_has_at_most_4194304_entries(rt: HostRuntime) -> Result<(), Fail> {
+    let alloc = rt.alloc();
+    // 65,536 states, each with 63 classes and the advance
+    twice(&rt, alloc, 47, 0, b"accepted 0 issues 0 cycles\n")?;
+    twice(&rt, alloc, 48, 3, b"limit d automaton -\n")
+}
+
+/// The status and the text under `ndfa` of a unit and so many more, of a class that takes any of them, and of classes that
+/// take one each, of the first so many of the others.
+fn any(
+    rt: &impl Abort,
+    alloc: Global,
+    others: u32,
+    alone: u32,
+    status: u8,
+    text: &[u8],
+) -> Result<(), Fail> {
+    let units = numbered(alloc, "u", ",u", "", others)?;
+    let expression = numbered(alloc, "u", "|u", "", others)?;
+    let mut description = format!(in alloc;
+        "(automata_option \"ndfa\")(define_cpu_unit \"{units}\")(define_insn_reservation \"any\" 1 (const_int 1) \"{expression}\")"
+    )?;
+    for unit in 0..alone {
+        let form = format!(in alloc;
+            "(define_insn_reservation \"c{unit}\" 1 (const_int 1) \"u{unit}\")"
+        )?;
+        description.push_str(&form)?;
+    }
+    answers(rt, alloc, description.as_bytes(), status, text)
+}
+
+#[test]
+fn choices_have_at_most_65536_grids_and_1048576_members(rt: HostRuntime) -> Result<(), Fail> {
+    let alloc = rt.alloc();
+    let accepted = b"accepted 0 issues 0 cycles\n".as_slice();
+    let limit = b"limit d automaton -\n".as_slice();
+    // each set of 16 units is a grid, in 17 states
+    any(&rt, alloc, 15, 0, 0, accepted)?;
+    any(&rt, alloc, 16, 0, 3, limit)?;
+    // of 13 units 708,588 members at most, and 1,058,787
+    any(&rt, alloc, 12, 11, 0, accepted)?;
+    any(&rt, alloc, 12, 12, 3, limit)
+}
+
 #[test]
 fn the_first_automaton_past_its_limit_is_told(rt: HostRuntime) -> Result<(), Fail> {
     let alloc = rt.alloc();
