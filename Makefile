@@ -41,6 +41,7 @@ bench: bin/hz
 	@sh bench/blocks/run.sh bin/hz
 	@sh bench/states/run.sh
 	@sh bench/determ/run.sh
+	@sh bench/depend/run.sh
 
 install: bin/hz
 	@install -d "$(DESTDIR)$(PREFIX)/bin"
