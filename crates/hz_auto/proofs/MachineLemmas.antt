@@ -1,5 +1,5 @@
 -- The automata of a machine, one after another.
-use Rattle.std.proofs.Common.{◌≡◌, ℕ, ◌+◌, ◌<◌, ◌≤◌, List, [], ◌∷◌, ◌++◌, length, map, get_or, sym, ap, ◌∙◌, subst, arith, ⊎_elim}
+use Rattle.std.proofs.Common.{◌≡◌, ℕ, ◌+◌, ◌<◌, ◌≤◌, ◌⊎◌, inl, inr, Bool, true, false, refl, List, [], ◌∷◌, ◌++◌, length, map, get_or, sym, ap, ◌∙◌, subst, arith, ⊎_elim}
 use Rattle.std.proofs.lemmas.Bool.{cases_lt}
 use Rattle.std.proofs.lemmas.List.{length-map, length_push, map_push, get_or_append_left}
 use Rattle.std.proofs.Math.Seq.{get_or-append_seam}
@@ -9,7 +9,12 @@ use Rattle.hz_check.specs.declared.checked.Checked.{Checked}
 use Rattle.hz_auto.proofs.CheckedFacts.{map_twice}
 use Rattle.hz_check.specs.Shape.{automaton_of, class_of}
 use Rattle.hz_mdread.specs.Shape.{options as options_of}
+use Rattle.std.specs.Prelude.{if◌then◌else◌}
+use Rattle.std.specs.List.{sum_by}
+use Rattle.hz_acceptance_model.specs.Replay.{Pipeline, first_fit, any_fit}
 use Rattle.hz_reach_model.specs.Counts.{Count}
+use Rattle.hz_reach_model.specs.Counts as count
+use Rattle.hz_reach_model.proofs.LimitLaws.{grids_above_states, grids_above_members}
 use Rattle.hz_states.specs.declared.fault.StateFault.{StateFault}
 use Rattle.hz_states.specs.declared.fault.StateFault.TheVariants.{GridLimit, SetLimit, MemberLimit, CellLimit, NoMemory}
 use Rattle.hz_tables.specs.declared.part.Part.{Part}
@@ -17,12 +22,44 @@ use Rattle.hz_tables.specs.Parts.{part_of}
 use Rattle.hz_tables_model.specs.Machines.{Machine, no_part, part_at}
 use Rattle.hz_auto_model.specs.AutomatonPipelines.{lists_at, automaton_pipeline}
 use Rattle.hz_auto_model.specs.Compiled.{IsCompiledPart, IsCompiled, IsFirstPast, report_at, shows_states}
-use Rattle.hz_auto_model.specs.CompiledParts.{IsPastLimit}
+use Rattle.hz_auto_model.specs.CompiledParts.{cap_of, IsPastLimit}
+use Rattle.hz_pipeline_model.specs.Pipelines.{treatment_of}
+use Rattle.hz_base_model.specs.Pairs.{Pair}
 use Rattle.hz_auto.specs.declared.fault.AutoFault.{AutoFault}
+use Rattle.hz_auto.specs.declared.fault.AutoFault.TheVariants.{Limit}
+use Rattle.hz_auto.specs.declared.fault.Kind.{Kind}
+use Rattle.hz_auto.specs.declared.fault.Kind.TheVariants.{Grids, States, Members}
+use Rattle.hz_auto.specs.Faults.{count_of}
 use Rattle.hz_auto.specs.declared.report.AutoReport.{AutoReport}
 use Rattle.hz_auto.specs.Machines.{IsFaultAt, IsFaultOf, AreCompiled, reports_of}
 use Rattle.hz_auto.specs.Parts.{IsPastAt}
 use Rattle.hz_auto.specs.Reports.{report_of}
+
+-- In the first treatment a count of states or members above its limit is one of grids.
+module _ (shown : Bool) (options : Options) (lists : List (List (List (Pair ℕ)))) (m : Pipeline ℕ) (treated : m.treatment ≡ treatment_of options) where
+  one_fits : options.ndfa ≡ false → m.treatment ≡ first_fit
+  one_fits is = treated ∙ ap (λ b. if b then any_fit else first_fit) is
+
+  states_as_grids : IsPastLimit shown lists m count.states → options.ndfa ≡ false → IsPastLimit shown lists m count.grids
+  states_as_grids over is = record {
+    columns = over.columns;
+    has = over.has;
+    above = grids_above_states m (one_fits is) over.columns (cap_of shown count.states) over.above;
+  }
+
+  -- the limit of members is the greater
+  lesser : (shown : Bool) (n : ℕ) → cap_of shown count.members < n → cap_of shown count.grids < n
+  lesser true n h = omega (arith, h)
+  lesser false n h = omega (arith, h)
+
+  members_as_grids : IsPastLimit shown lists m count.members → options.ndfa ≡ false → IsPastLimit shown lists m count.grids
+  members_as_grids over is =
+      let g = grids_above_members m (one_fits is) over.columns (cap_of shown count.members) over.above in
+      record {
+        columns = over.columns;
+        has = over.has;
+        above = record { items = g.items; reached = g.reached; different = g.different; above = lesser shown (sum_by (λ _. 1) g.items) g.above };
+      }
 
 module _ (checked : Checked) where
   abbrev options : Options
@@ -39,21 +76,30 @@ module _ (checked : Checked) where
   machine_with parts = record { classes = map (λ c. c.name) checked.classes.items; parts = map part_of parts }
 
   -- the fault of an automaton behind others that are compiled is that of the description
-  pub fault_told : (a : ℕ) (parts : List Part) (reports : List AutoReport) → AreCompiled checked a parts reports → a < length checked.automata.items → (fault : StateFault) (told : AutoFault) → IsPastAt options automata classes a fault → IsFaultAt a fault told → IsFaultOf checked told
+  pub fault_told : (a : ℕ) (parts : List Part) (reports : List AutoReport) → AreCompiled checked a parts reports → a < length checked.automata.items → (fault : StateFault) (told : AutoFault) → IsPastAt options automata classes a fault → IsFaultAt checked.options.ndfa a fault told → IsFaultOf checked told
   fault_told a parts reports are low fault told past is = by_fault fault past is
     where
-      first : (kind : Count) → IsPastLimit (shows_states options) (lists_at classes a) (automaton_pipeline options automata classes a) kind → IsFirstPast options automata classes a kind
-      first kind over = record {
+      Past : Count → Type 0
+      Past kind = IsPastLimit (shows_states options) (lists_at classes a) (automaton_pipeline options automata classes a) kind
+
+      first : (kind : Count) → Past kind → (options.ndfa ≡ false → (kind ≡ count.grids) ⊎ (kind ≡ count.cells)) → IsFirstPast options automata classes a kind
+      first kind over named = record {
         there = omega (arith, low, length-map checked.automata.items automaton_of);
         before = λ b less. (are.at b less).within;
         past = over;
+        named = named;
       }
 
-      by_fault : (fault : StateFault) → IsPastAt options automata classes a fault → IsFaultAt a fault told → IsFaultOf checked told
-      by_fault GridLimit over e = subst (IsFaultOf checked) (sym e) (first _ over)
-      by_fault SetLimit over e = subst (IsFaultOf checked) (sym e) (first _ over)
-      by_fault MemberLimit over e = subst (IsFaultOf checked) (sym e) (first _ over)
-      by_fault CellLimit over e = subst (IsFaultOf checked) (sym e) (first _ over)
+      -- the kind that is named in each treatment
+      by_treatment : (ndfa : Bool) → ndfa ≡ options.ndfa → (kind : Kind) → Past (count_of kind) → (options.ndfa ≡ false → Past count.grids) → told ≡ Limit a (if ndfa then kind else Grids) → IsFaultOf checked told
+      by_treatment true is kind over grids e = subst (IsFaultOf checked) (sym e) (first (count_of kind) over (λ no. absurd (cc (is, no))))
+      by_treatment false is kind over grids e = subst (IsFaultOf checked) (sym e) (first count.grids (grids (sym is)) (λ _. inl refl))
+
+      by_fault : (fault : StateFault) → IsPastAt options automata classes a fault → IsFaultAt checked.options.ndfa a fault told → IsFaultOf checked told
+      by_fault GridLimit over e = subst (IsFaultOf checked) (sym e) (first count.grids over (λ _. inl refl))
+      by_fault SetLimit over e = by_treatment checked.options.ndfa refl States over (states_as_grids (shows_states options) options (lists_at classes a) (automaton_pipeline options automata classes a) refl over) e
+      by_fault MemberLimit over e = by_treatment checked.options.ndfa refl Members over (members_as_grids (shows_states options) options (lists_at classes a) (automaton_pipeline options automata classes a) refl over) e
+      by_fault CellLimit over e = subst (IsFaultOf checked) (sym e) (first count.cells over (λ _. inr refl))
       by_fault NoMemory over e = subst (IsFaultOf checked) (sym e) tt
 
   -- one automaton more is compiled

@@ -1,5 +1,5 @@
 -- The count that a fault names.
-use Rattle.std.specs.Prelude.{◌≡◌, Option, Some, None}
+use Rattle.std.specs.Prelude.{◌≡◌, Bool, if◌then◌else◌, Option, Some, None}
 use Rattle.hz_reach_model.specs.Counts.{Count}
 use Rattle.hz_reach_model.specs.Counts as count
 use Rattle.hz_states.specs.declared.fault.StateFault.{StateFault}
@@ -14,10 +14,11 @@ count_of States = count.states
 count_of Members = count.members
 count_of Cells = count.cells
 
--- the kind is that of the fault's count, none for want of memory
-abbrev pub IsKindOf : StateFault → Option Kind → Type 0
-IsKindOf GridLimit kind = kind ≡ Some Grids
-IsKindOf SetLimit kind = kind ≡ Some States
-IsKindOf MemberLimit kind = kind ≡ Some Members
-IsKindOf CellLimit kind = kind ≡ Some Cells
-IsKindOf NoMemory kind = kind ≡ None
+-- The kind is that of the fault's count, none for want of memory. Without choices grids, states and members are one
+-- number, which is named by its grids.
+abbrev pub IsKindOf : Bool → StateFault → Option Kind → Type 0
+IsKindOf ndfa GridLimit kind = kind ≡ Some Grids
+IsKindOf ndfa SetLimit kind = kind ≡ Some (if ndfa then States else Grids)
+IsKindOf ndfa MemberLimit kind = kind ≡ Some (if ndfa then Members else Grids)
+IsKindOf ndfa CellLimit kind = kind ≡ Some Cells
+IsKindOf ndfa NoMemory kind = kind ≡ None

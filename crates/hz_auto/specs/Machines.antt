@@ -1,5 +1,5 @@
 -- The machine of a checked description.
-use Rattle.std.specs.Prelude.{◌≡◌, ℕ, ◌<◌, List, map, length}
+use Rattle.std.specs.Prelude.{◌≡◌, ℕ, ◌<◌, Bool, if◌then◌else◌, List, map, length}
 use Rattle.hz_check.specs.declared.checked.Checked.{Checked}
 use Rattle.hz_check.specs.Shape.{automaton_of, class_of}
 use Rattle.hz_mdread.specs.Shape.{options as options_of}
@@ -27,13 +27,14 @@ abbrev pub IsFaultOf : Checked → AutoFault → Type 0
 IsFaultOf checked (Limit automaton kind) = IsFirstPast (options_of checked.options) (map automaton_of checked.automata.items) (map class_of checked.classes.items) automaton (count_of kind)
 IsFaultOf checked NoMemory = Unit {0}
 
--- the fault of the automaton of this number: the count that is above its limit, or want of memory
-abbrev pub IsFaultAt : ℕ → StateFault → AutoFault → Type 0
-IsFaultAt a GridLimit fault = fault ≡ Limit a Grids
-IsFaultAt a SetLimit fault = fault ≡ Limit a States
-IsFaultAt a MemberLimit fault = fault ≡ Limit a Members
-IsFaultAt a CellLimit fault = fault ≡ Limit a Cells
-IsFaultAt a no_memory fault = fault ≡ NoMemory
+-- The fault of the automaton of this number: the count that is above its limit, or want of memory. Without choices grids,
+-- states and members are one number, which is named by its grids.
+abbrev pub IsFaultAt : Bool → ℕ → StateFault → AutoFault → Type 0
+IsFaultAt ndfa a GridLimit fault = fault ≡ Limit a Grids
+IsFaultAt ndfa a SetLimit fault = fault ≡ Limit a (if ndfa then States else Grids)
+IsFaultAt ndfa a MemberLimit fault = fault ≡ Limit a (if ndfa then Members else Grids)
+IsFaultAt ndfa a CellLimit fault = fault ≡ Limit a Cells
+IsFaultAt ndfa a no_memory fault = fault ≡ NoMemory
 
 -- a part and a report for each of the first automata
 pub record AreCompiled (checked : Checked) (done : ℕ) (parts : List Part) (reports : List AutoReport) : Type 0 where

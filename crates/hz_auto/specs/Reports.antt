@@ -25,7 +25,7 @@ pub record AreArranged (grids : List (List (Pair ℕ))) (sets : List (List ℕ))
 
 -- what is shown, as the definitions speak of it
 abbrev pub shown_of : Shown → model.Shown
-shown_of shown = record { parents = shown.parents.items; states = map (λ state. state.items) shown.states.items }
+shown_of shown = record { parents = shown.parents.items; states = map (λ state. state.items) shown.grids.items }
 
 -- a report, as the definitions speak of it
 abbrev pub report_of : AutoReport → model.Report
@@ -34,7 +34,7 @@ report_of report = record { grids = report.grids; states = report.states; member
 -- where each state of an explored automaton is read first, and its grids
 pub record IsShownOf (explored : Explored) (shown : Shown) : Type 0 where
   pub parents : shown.parents.items ≡ explored.parents.items
-  pub states : AreArranged explored.grids.items (map (λ set. set.items) explored.sets.items) (map (λ state. state.items) shown.states.items)
+  pub states : AreArranged explored.grids.items (map (λ set. set.items) explored.sets.items) (map (λ state. state.items) shown.grids.items)
 
 -- what is told of an explored automaton
 pub record IsReportOf (all : Bool) (explored : Explored) (report : AutoReport) : Type 0 where

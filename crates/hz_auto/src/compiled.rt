@@ -47,11 +47,11 @@ fn names_of(alloc: Global, classes: &[CheckedClass]) -> Result<Vec<Name>, NoMemo
 }
 
 // The fault of the automaton of this number.
-fn fault_at(automaton: usize, fault: StateFault) -> AutoFault
+fn fault_at(ndfa: bool, automaton: usize, fault: StateFault) -> AutoFault
     requires { automaton < 2 ^ 32 }
-    ensures { IsFaultAt automaton fault result }
+    ensures { IsFaultAt ndfa automaton fault result }
 {
-    match kind_of(fault) {
+    match kind_of(ndfa, fault) {
         Some(kind) => AutoFault::Limit {
             automaton: automaton as u32,
             kind,
@@ -86,7 +86,7 @@ fn compile_parts(alloc: Global, checked: &Checked) -> Result<Automata, AutoFault
     for automaton in 0..checked.automata.len() {
         let compiled = match compile_part(alloc, checked, automaton) {
             Ok(compiled) => compiled,
-            Err(fault) => return Err(fault_at(automaton, fault)),
+            Err(fault) => return Err(fault_at(checked.options.ndfa, automaton, fault)),
         };
         match all.add(compiled) {
             Ok(()) => {}

@@ -23,6 +23,7 @@ pub enum Kind {
 #[derive(Clone, Copy, Debug, PartialEq, Eq, Error)]
 pub enum AutoFault {
     /// The automaton of this number, from 0, is the first that has a count above its limit, and that of this kind is.
+    /// Without the option `ndfa` grids, states and members are one number, and the kind is `Grids`, or `Cells`.
     #[error("automaton {automaton} has too many {kind:?}")]
     Limit { automaton: u32, kind: Kind },
     /// Memory ran out.
@@ -30,14 +31,15 @@ pub enum AutoFault {
     NoMemory,
 }
 
-/// The count that is above its limit; none for want of memory.
-pub(crate) fn kind_of(fault: StateFault) -> Option<Kind>
-    ensures { IsKindOf fault result }
+/// The count that is above its limit; none for want of memory. Without choices a state has one grid, so that grids,
+/// states and members are one number, which is named by its grids.
+pub(crate) fn kind_of(ndfa: bool, fault: StateFault) -> Option<Kind>
+    ensures { IsKindOf ndfa fault result }
 {
     match fault {
         StateFault::GridLimit => Some(Kind::Grids),
-        StateFault::SetLimit => Some(Kind::States),
-        StateFault::MemberLimit => Some(Kind::Members),
+        StateFault::SetLimit => Some(if ndfa { Kind::States } else { Kind::Grids }),
+        StateFault::MemberLimit => Some(if ndfa { Kind::Members } else { Kind::Grids }),
         StateFault::CellLimit => Some(Kind::Cells),
         StateFault::NoMemory => None,
     }

@@ -29,7 +29,7 @@ pub struct Shown {
     /// For each state but the first the row and the column where it is read first, and (0, 0) for the first.
     pub parents: Vec<(u32, u32)>,
     /// The grids of each state, in ascending order.
-    pub states: Vec<Vec<Grid>>,
+    pub grids: Vec<Vec<Grid>>,
 }
 
 // How many numbers all lists have together.
@@ -76,7 +76,7 @@ fn shown_of(alloc: Global, explored: &Explored) -> Result<Shown, NoMemory>
 {
     Ok(Shown {
         parents: explored.parents.clone()?,
-        states: states_of(alloc, &explored.grids, &explored.sets)?,
+        grids: states_of(alloc, &explored.grids, &explored.sets)?,
     })
 }
 

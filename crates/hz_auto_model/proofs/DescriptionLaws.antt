@@ -1,13 +1,14 @@
 -- The machine that is compiled of a description.
-use Rattle.std.proofs.Common.{◌≡◌, ℕ, suc, ◌<◌, List, [], ◌∷◌, length, map, Option, Some, None, slice_get, refl, sym, ap, ◌∙◌, subst, arith}
+use Rattle.std.proofs.Common.{◌≡◌, ℕ, suc, ◌+◌, ◌<◌, List, [], ◌∷◌, length, map, take, Option, Some, None, slice_get, refl, sym, ap, ◌∙◌, subst, arith}
 use Rattle.std.specs.Prelude.{◌↔◌, All, IsSome, slice_index_or}
 use Rattle.std.proofs.lemmas.List.{length-map}
+use Rattle.std.proofs.lemmas.List.Elements.{All-take}
 use Rattle.std.proofs.lemmas.Option.{slice_get-get_or, slice_get_within, get_or_from_slice_get}
 use Rattle.hz_base_model.specs.Pairs.{Pair}
 use Rattle.hz_altern_model.specs.Alternatives.{alternatives_of}
 use Rattle.hz_altern_model.specs.Automata.{list_in}
 use Rattle.hz_acceptance_model.specs.Events.{Event, IsOfClass}
-use Rattle.hz_acceptance_model.specs.Replay.{Pipeline, Accepted}
+use Rattle.hz_acceptance_model.specs.Replay.{Pipeline, Accepted, FirstRefused}
 use Rattle.hz_acceptance_model.specs.Restricted.{restricted}
 use Rattle.hz_mdread_model.specs.Descriptions.{Description, ClassItem}
 use Rattle.hz_check_model.specs.CheckFaults.{IsSound}
@@ -28,6 +29,18 @@ use Rattle.hz_auto_model.proofs.PipelineLaws.{restricted_moved, list_there}
 some_of : {A : Type 0} (o : Option A) → IsSome o → (x : A) × (o ≡ Some x)
 some_of None h = absurd (cc)
 some_of (Some x) h = (x, refl)
+
+none_walked : {A : Type 0} (o : Option A) → o ≡ None → IsSome o → ⊥
+none_walked o e h = let some = subst IsSome e h in absurd (cc)
+
+-- Where a machine walks what a pipeline accepts, the first event that it does not walk is the first refused.
+module _ {U : Type 0} (p : Pipeline U) (m : Machine) (n : ℕ) (walks : (t : List Event) → All (IsOfClass n) t → IsSome (machine_walk m t) ↔ Accepted p t) where
+  pub unwalked_refused : (t : List Event) → All (IsOfClass n) t → (i : ℕ) → i < length t → IsSome (machine_walk m (take i t)) → machine_walk m (take (i + 1) t) ≡ None → FirstRefused p t i
+  unwalked_refused t all i within before stops = record {
+    within = within;
+    before = (walks (take i t) (All-take (IsOfClass n) i t all)).0 before;
+    refused = λ accepted. none_walked (machine_walk m (take (i + 1) t)) stops ((walks (take (i + 1) t) (All-take (IsOfClass n) (i + 1) t all)).1 accepted);
+  }
 
 module _ (d : Description) where
   parts_count : (n : ℕ) (names : List (List ℕ)) → length (automata_from d n names) ≡ length names

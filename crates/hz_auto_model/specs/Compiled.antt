@@ -1,6 +1,6 @@
 -- The machine that is compiled of automata and classes, and what is told of it. Bala and Rubin, 'Efficient Instruction
 -- Scheduling Using Finite State Automata', MICRO-28; the limits and what is told are this profile's, docs/RULES.md.
-use Rattle.std.specs.Prelude.{◌≡◌, ℕ, ◌<◌, Bool, ◌&&◌, MatchBool, List, [], Option, Some, None, IsSomeAnd, IsSorted, length, map, All, slice_index_or}
+use Rattle.std.specs.Prelude.{◌≡◌, ℕ, ◌<◌, ◌⊎◌, Bool, false, ◌&&◌, MatchBool, List, [], Option, Some, None, IsSomeAnd, IsSorted, length, map, All, slice_index_or}
 use Rattle.std.specs.declared.cmp.Ordering.{Ordering}
 use Rattle.std.specs.Ordering.{nat_cmp, on, then_cmp}
 use Rattle.std.specs.Cmp.Lexicographic.{slice_cmp}
@@ -76,8 +76,10 @@ pub record IsCompiled (options : Options) (automata : List AutomatonParts) (clas
   pub told : length reports ≡ length automata
   pub parts : (a : ℕ) → a < length automata → IsCompiledPart options automata classes a (part_at m a) (report_at reports a)
 
--- The automaton of this number is the first that has a count above its limit, and that of this kind is.
+-- The automaton of this number is the first that has a count above its limit, and that of this kind is. In the first
+-- treatment a state has one grid, and what is one number then is named by its grids.
 pub record IsFirstPast (options : Options) (automata : List AutomatonParts) (classes : List ClassParts) (a : ℕ) (kind : Count) : Type 0 where
   pub there : a < length automata
   pub before : (b : ℕ) → b < a → IsWithinLimits (shows_states options) (lists_at classes b) (automaton_pipeline options automata classes b)
   pub past : IsPastLimit (shows_states options) (lists_at classes a) (automaton_pipeline options automata classes a) kind
+  pub named : options.ndfa ≡ false → (kind ≡ count.grids) ⊎ (kind ≡ count.cells)

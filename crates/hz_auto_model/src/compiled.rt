@@ -1,11 +1,11 @@
 //! Laws of compiled automata.
 
-ghost use Rattle.std.specs.Prelude.{◌≡◌, ◌↔◌, ◌<◌, ℕ, Bool, List, length, map, All, IsSome};
+ghost use Rattle.std.specs.Prelude.{◌≡◌, ◌↔◌, ◌+◌, ◌<◌, ℕ, Bool, List, length, map, take, All, IsSome, None};
 ghost use Rattle.hz_base_model.specs.Pairs.{Pair};
 ghost use Rattle.hz_altern_model.specs.Sets.{Statement};
 ghost use Rattle.hz_acceptance_model.specs.Events.{Event, IsOfClass};
 ghost use Rattle.hz_acceptance_model.specs.Fitting.{AskTheSame};
-ghost use Rattle.hz_acceptance_model.specs.Replay.{Pipeline, Treatment, Accepted};
+ghost use Rattle.hz_acceptance_model.specs.Replay.{Pipeline, Treatment, Accepted, FirstRefused};
 ghost use Rattle.hz_acceptance_model.specs.Restricted.{restricted};
 ghost use Rattle.hz_mdread_model.specs.Descriptions.{Description};
 ghost use Rattle.hz_check_model.specs.CheckFaults.{IsSound};
@@ -48,10 +48,11 @@ pub fn descriptions_are_their_automata()
     ensures { (d : Description) (known : Known) → IsSound d known → (t : List Event) → Accepted (pipeline_with d known) t ↔ ((a : ℕ) → a < automaton_count d → Accepted (automaton_pipeline d.options (automata_of d) (map (class_parts d known) d.classes) a) t) }
 {}
 
-/// The machine that is compiled of a description walks just the events of its classes that the description accepts. Its
-/// automata then keep their limits, and where a limit is told, it is that of the first automaton past one.
+/// The machine that is compiled of a description walks just the events of its classes that the description accepts, and
+/// the first that it does not walk is the first refused. Its automata then keep their limits, and where a limit is told, it is that of the first automaton past one.
 pub fn compiled_machines_are_descriptions()
     ensures walks { (d : Description) (known : Known) → IsSound d known → (m : Machine) (reports : List Report) → IsCompiled d.options (automata_of d) (map (class_parts d known) d.classes) m reports → (t : List Event) → All (IsOfClass (length d.classes)) t → IsSome (machine_walk m t) ↔ Accepted (pipeline_with d known) t }
+    ensures refused { (d : Description) (known : Known) → IsSound d known → (m : Machine) (reports : List Report) → IsCompiled d.options (automata_of d) (map (class_parts d known) d.classes) m reports → (t : List Event) → All (IsOfClass (length d.classes)) t → (i : ℕ) → i < length t → IsSome (machine_walk m (take i t)) → machine_walk m (take (i + 1) t) ≡ None → FirstRefused (pipeline_with d known) t i }
     ensures keep { (d : Description) (known : Known) (m : Machine) (reports : List Report) → IsCompiled d.options (automata_of d) (map (class_parts d known) d.classes) m reports → AllKeepLimits d known }
     ensures past { (d : Description) (known : Known) (a : ℕ) (kind : Count) → IsFirstPast d.options (automata_of d) (map (class_parts d known) d.classes) a kind → IsFirstPastLimit d known a }
 {}

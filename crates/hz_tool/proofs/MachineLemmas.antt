@@ -1,8 +1,7 @@
 -- The machine of a checked description.
-use Rattle.std.proofs.Common.{◌≡◌, ℕ, suc, ◌+◌, List, [], ◌∷◌, length, map, take, All, Option, Some, None, slice_get, inl, inr, refl, sym, ap, ◌∙◌, subst, add-one}
+use Rattle.std.proofs.Common.{◌≡◌, ℕ, suc, List, [], ◌∷◌, length, map, take, All, Some, None, slice_get, inl, inr, refl, sym, ap, ◌∙◌, subst, add-one}
 use Rattle.std.specs.Prelude.{IsSome, slice_index_or}
 use Rattle.std.proofs.lemmas.List.{length-map}
-use Rattle.std.proofs.lemmas.List.Elements.{All-take}
 use Rattle.hz_acceptance_model.specs.Events.{Event, IsOfClass}
 use Rattle.hz_acceptance_model.specs.Replay.{Accepted, FirstRefused}
 use Rattle.hz_answer_model.specs.Answers.{Replays, ReplaysTrace, ReplaysDescription}
@@ -10,7 +9,7 @@ use Rattle.hz_answer_model.specs.Phases.{Says}
 use Rattle.hz_answer_model.specs.Texts.{states_line}
 use Rattle.hz_answer_model.proofs.EventLaws.{issue_named}
 use Rattle.hz_auto_model.specs.Compiled.{IsCompiled, IsFirstPast, Report as Told}
-use Rattle.hz_auto_model.proofs.DescriptionLaws.{machine_accepts, all_keep, first_past}
+use Rattle.hz_auto_model.proofs.DescriptionLaws.{machine_accepts, unwalked_refused as unwalked_is_refused, all_keep, first_past}
 use Rattle.hz_check.specs.declared.checked.Checked.{Checked}
 use Rattle.hz_check.specs.Checked.{IsCheckedOf}
 use Rattle.hz_check.specs.Shape.{automaton_of, class_of}
@@ -46,17 +45,7 @@ module _ (d : Description) (known : Known) (m : Machine) (is : IsMachineFor d kn
 
     -- the first event that is not walked is the first refused
     pub unwalked_refused : (i : ℕ) → FirstUnwalked m t i → FirstRefused (pipeline_with d known) t i
-    unwalked_refused i first = record {
-      within = first.within;
-      before = (is.walks (take i t) (All-take (IsOfClass (length d.classes)) i t of_classes)).0 first.before;
-      refused = λ accepted.
-          let walked = (is.walks (take (i + 1) t) (All-take (IsOfClass (length d.classes)) (i + 1) t of_classes)).1 accepted in
-          let stops = subst (λ n. machine_walk m (take n t) ≡ None) (sym (add-one i)) first.stops in
-          absurd (none_walked (machine_walk m (take (i + 1) t)) stops walked);
-    }
-      where
-        none_walked : (o : Option (List ℕ)) → o ≡ None → IsSome o → ⊥
-        none_walked o e h = let some = subst IsSome e h in absurd (cc)
+    unwalked_refused i first = unwalked_is_refused (pipeline_with d known) m (length d.classes) is.walks t of_classes i first.within first.before (subst (λ n. machine_walk m (take n t) ≡ None) (sym (add-one i)) first.stops)
 
   -- a refusal of the machine is the description's
   pub refusal : (lines : List ℕ) (events : List Event) → All (IsOfClass (length m.classes)) events → (i line : ℕ) (e : Event) (report : Report) → FirstUnwalked m events i → slice_get events i ≡ Some e → slice_get lines i ≡ Some line → Agrees (Refuses m line e) report → Agrees (Replays (pipeline_with d known) lines events) report
