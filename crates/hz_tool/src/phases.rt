@@ -1,4 +1,4 @@
-//! The phases of judging both texts, in their order: forms, description, check, trace and replay.
+//! The phases of judging both texts, in their order: forms, description, check, limits of states, trace and replay.
 
 ghost use Rattle.std.specs.Prelude.{◌<◌, ◌^◌, IsTrue, length};
 ghost use Rattle.hz_mdread.specs.Shape.{description};

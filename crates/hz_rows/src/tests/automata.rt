@@ -31,7 +31,7 @@ const TREATMENT_ROWS: &[(&str, &[u8], u8, &[u8])] = &[
         0,
         b"accepted 4 issues 1 cycles\n",
     ),
-    // these options change no answer of a replay
+    // here no limit is passed, so these options change nothing
     (
         "(automata_option \"no-minimization,v,stats,no-comb-vect\")",
         b"issue x\nissue y\n",
@@ -68,6 +68,14 @@ const TWO_ROWS: &[(&str, &[u8], u8, &[u8])] = &[
         b"issue x\nissue x\nadvance 1\nissue x\n",
         0,
         b"accepted 3 issues 1 cycles\n",
+    ),
+    ("a0+b0", b"issue x\nissue x\n", 1, b"refused line 2 x\n"),
+    ("(a0|a1),b0", b"issue x\nissue x\n", 1, b"refused line 2 x\n"),
+    (
+        "(a0|a1),b0",
+        b"issue x\nadvance 1\nissue x\n",
+        0,
+        b"accepted 2 issues 1 cycles\n",
     ),
     // refused in the first automaton alone
     (
@@ -208,7 +216,7 @@ fn choices_have_at_most_65536_grids_and_1048576_members(rt: HostRuntime) -> Resu
     // each set of 16 units is a grid, in 17 states
     any(&rt, alloc, 15, 0, 0, accepted)?;
     any(&rt, alloc, 16, 0, 3, limit)?;
-    // of 13 units 708,588 members at most, and 1,058,787
+    // of 13 units 706,541 members, and 1,058,787
     any(&rt, alloc, 12, 11, 0, accepted)?;
     any(&rt, alloc, 12, 12, 3, limit)
 }
