@@ -70,7 +70,12 @@ const TWO_ROWS: &[(&str, &[u8], u8, &[u8])] = &[
         b"accepted 3 issues 1 cycles\n",
     ),
     ("a0+b0", b"issue x\nissue x\n", 1, b"refused line 2 x\n"),
-    ("(a0|a1),b0", b"issue x\nissue x\n", 1, b"refused line 2 x\n"),
+    (
+        "(a0|a1),b0",
+        b"issue x\nissue x\n",
+        1,
+        b"refused line 2 x\n",
+    ),
     (
         "(a0|a1),b0",
         b"issue x\nadvance 1\nissue x\n",
