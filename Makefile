@@ -38,6 +38,7 @@ bench: bin/hz
 	@sh bench/description/run.sh bin/hz
 	@sh bench/alternatives/run.sh bin/hz
 	@sh bench/check/run.sh bin/hz
+	@sh bench/compile/run.sh bin/hz
 	@sh bench/blocks/run.sh bin/hz
 	@sh bench/states/run.sh
 	@sh bench/determ/run.sh
