@@ -3,3 +3,4 @@ pub mod NameLists
 pub mod TableSteps
 pub mod KnownNames
 pub mod Homes
+pub mod HomeSteps

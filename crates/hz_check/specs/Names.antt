@@ -1,6 +1,7 @@
 -- What is held for the names of a description.
 pub mod Held
 pub mod First
+pub mod Homes
 use Rattle.std.specs.Prelude.{◌≡◌, ℕ, Bool, List, Option}
 use Rattle.std.specs.Option.{option_map}
 use Rattle.hz_check.specs.declared.names.by_name.ByName.{ByName}

@@ -4,17 +4,21 @@ ghost use Rattle.std.specs.Prelude.{◌≡◌, map, List, ℕ};
 ghost use Rattle.hz_mdread.specs.Shape.{description};
 ghost use Rattle.hz_check.specs.Names.Held.{held};
 ghost use Rattle.hz_check.specs.Names.{IsPlaced, test_by, test_of};
+ghost use Rattle.hz_check.specs.Names.Homes.{AreHomes};
 ghost use Rattle.hz_check_model.specs.CheckFaults.{values_of};
 ghost use Rattle.hz_check_model.specs.Places.{class_names};
 
 use crate::names::by_name::ByName;
+use crate::names::homes::homes_of;
 use crate::names::tables::{first_missing, places_of, values_of};
 use hz_mdread::{Description, UnitItem};
 use hz_regexp::{Name, NoMemory};
 use std::alloc::Global;
+use std::collections::BTreeMap;
 
 pub(crate) mod by_name;
 pub(crate) mod class_numbers;
+pub(crate) mod homes;
 pub(crate) mod items;
 pub(crate) mod site;
 pub(crate) mod tables;
@@ -25,6 +29,8 @@ pub(crate) struct Names<'a> {
     pub desc: &'a Description,
     /// The number of each automaton.
     pub automata: ByName<'a, usize>,
+    /// The number of the automaton of each unit, by the form of the unit.
+    pub homes: BTreeMap<u32, Option<usize>>,
     /// The place of each unit in the file.
     pub units: ByName<'a, usize>,
     /// The place of each reservation in the file.
@@ -34,6 +40,7 @@ pub(crate) struct Names<'a> {
     /// For each attribute its values.
     pub values: ByName<'a, ByName<'a, ()>>,
     ghost automata_placed: { IsPlaced automata (map (λ a. a.name) (description desc.now).automata) },
+    ghost homes_right: { AreHomes (description desc.now) homes },
     ghost units_placed: { IsPlaced units (map (λ u. u.name) (description desc.now).units) },
     ghost reservations_placed: { IsPlaced reservations (map (λ r. r.name) (description desc.now).reservations) },
     ghost classes_placed: { IsPlaced classes (class_names (description desc.now)) },
@@ -41,20 +48,25 @@ pub(crate) struct Names<'a> {
 }
 
 impl<'a> Names<'a> {
-    ghost use Rattle.std.specs.Prelude.{◌≡◌, IfOk, map, filter, not, List, ℕ};
+    ghost use Rattle.std.specs.Prelude.{◌≡◌, IfOk, Contains, map, filter, not, List, ℕ};
+    ghost use Rattle.std.specs.List.{AllPairs};
     ghost use Rattle.std.specs.Option.{option_copied};
     ghost use Rattle.hz_check.specs.Names.First.{first_of};
-    ghost use Rattle.hz_mdread.specs.Shape.{description};
+    ghost use Rattle.hz_mdread.specs.Shape.{description, unit_item};
+    ghost use Rattle.hz_mdread_model.specs.DescriptionShape.{SharesAutomaton};
     ghost use Rattle.hz_check.specs.Names.Held.{held};
     ghost use Rattle.hz_check.specs.Names.{IsPlaced, test_by, test_of};
+    ghost use Rattle.hz_check.specs.Names.Homes.{AreHomes, automaton_place};
     ghost use Rattle.hz_check_model.specs.CheckFaults.{is_unit, is_reservable, is_class, values_of, home};
     ghost use Rattle.hz_check_model.specs.Places.{class_names, automaton_number};
 
     /// The names of a description.
     pub fn of(alloc: Global, desc: &'a Description) -> Result<Names<'a>, NoMemory>
+        requires { AllPairs SharesAutomaton (description desc.now).units }
         ensures { IfOk result (λ names. names.desc.now ≡ desc.now) }
     {
         let automata = places_of(alloc, &desc.automata)?;
+        let homes = homes_of(alloc, desc, &automata)?;
         let units = places_of(alloc, &desc.units)?;
         let reservations = places_of(alloc, &desc.reservations)?;
         let classes = places_of(alloc, &desc.classes)?;
@@ -62,6 +74,7 @@ impl<'a> Names<'a> {
         Ok(Names {
             desc,
             automata,
+            homes,
             units,
             reservations,
             classes,
@@ -90,14 +103,23 @@ impl<'a> Names<'a> {
         first_missing(&self.classes, classes)
     }
 
+    /// The number of a unit's automaton: none where it names none, or one that is not defined.
+    pub fn automaton_place(&self, unit: &UnitItem) -> Option<usize>
+        requires { Contains (description self.now.desc.now).units (unit_item unit.now) }
+        ensures { result ≡ automaton_place (description self.now.desc.now) unit.now.automaton }
+    {
+        match self.homes.get(&unit.form) {
+            Some(place) => *place,
+            None => unreachable!(),
+        }
+    }
+
     /// The number of a unit's automaton: 0 where it names none, or one that is not defined.
-    pub fn automaton_number(&self, unit: &'a UnitItem) -> usize
+    pub fn automaton_number(&self, unit: &UnitItem) -> usize
+        requires { Contains (description self.now.desc.now).units (unit_item unit.now) }
         ensures { result ≡ automaton_number (description self.now.desc.now) unit.now.automaton }
     {
-        match &unit.automaton {
-            Some(name) => self.automata.find(name).copied().unwrap_or(0),
-            None => 0,
-        }
+        self.automaton_place(unit).unwrap_or(0)
     }
 
     /// The number of the automaton of the unit of this name.

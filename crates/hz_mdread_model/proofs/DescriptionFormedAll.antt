@@ -1,5 +1,5 @@
 -- What forms say is well formed: each form by itself, and then all of them.
-use Rattle.std.proofs.Common.{◌≡◌, ℕ, zero, suc, ◌+◌, ◌<◌, ◌≤◌, true, List, [], ◌∷◌, ◌++◌, length, map, All, Option, Some, None, Result, Ok, Err, refl, ◌∙◌, subst, arith, length-append, append_assoc, zero-add}
+use Rattle.std.proofs.Common.{◌≡◌, ℕ, zero, suc, ◌+◌, ◌<◌, ◌≤◌, true, List, [], ◌∷◌, ◌++◌, length, map, All, Option, Some, None, Result, Ok, Err, refl, sym, ◌∙◌, subst, arith, length-append, append_assoc, zero-add}
 use Rattle.std.proofs.lemmas.List.{append-nil}
 use Rattle.std.specs.List.{AllPairs}
 use Rattle.std.specs.Option.{option_map_or, ok_or}
@@ -12,7 +12,7 @@ use Rattle.hz_base_model.specs.Names.{is_name}
 use Rattle.hz_altern_model.specs.Sets.{SetKind}
 use Rattle.hz_sexp_model.specs.Trees.{Tree, Trees, none, more, line_of}
 use Rattle.hz_mdread_model.specs.Descriptions.{AutomatonItem, UnitItem, ReservationItem, ClassItem, BypassItem, SetItem, AttributeItem, Description, no_options, no_items}
-use Rattle.hz_mdread_model.specs.DescriptionShape.{FormKind, define_automaton, define_cpu_unit, define_reservation, define_insn_reservation, define_bypass, automata_option, define_attr, set_form, are_names, IsForm, IsAutomaton, IsUnit, IsReservation, IsClass, IsBypass, IsSet, IsAttribute, IsWellFormed}
+use Rattle.hz_mdread_model.specs.DescriptionShape.{FormKind, define_automaton, define_cpu_unit, define_reservation, define_insn_reservation, define_bypass, automata_option, define_attr, set_form, are_names, IsForm, IsAutomaton, IsUnit, IsReservation, IsClass, IsBypass, IsSet, IsAttribute, SharesAutomaton, IsWellFormed}
 use Rattle.hz_mdread_model.specs.DescriptionForms.{DescriptionFault, bad_shape, bad_condition, unknown_form, unknown_option, quoted_bytes, with_options, shaped, name_in, names_in, set_patterns, limited_number, fallback_in, condition_in, Said, IsReading, expression_in, Addition, automata, units, reservation, class, bypass, set, options, attribute, automaton_items, unit_items, automata_form, units_form, reservation_form, class_form, bypass_form, set_form_of, options_form, attribute_form, form_of_kind, headed, kind_of, form_says, with_addition, at_line, forms_say, Reads, form_count}
 use Rattle.hz_mdread_model.proofs.DescriptionFormed.{then_ok, or_ok, name_formed, names_formed, set_patterns_formed, number_formed, fallback_formed, condition_formed, expression_formed}
 
@@ -29,7 +29,7 @@ made_of P make names are each = All-map P make names (All-weaker (λ name. is_na
 module _ (kinds : List FormKind) (n : ℕ) where
   abbrev pub IsAddition : Addition → Type 0
   IsAddition (automata items) = All (λ (i : AutomatonItem). (i.form ≡ n) × IsAutomaton kinds i) items
-  IsAddition (units items) = All (λ (i : UnitItem). (i.form ≡ n) × IsUnit kinds i) items
+  IsAddition (units items) = (automaton : Option (List ℕ)) × All (λ (i : UnitItem). (i.form ≡ n) × IsUnit kinds i) items × All (λ (i : UnitItem). (i.form ≡ n) × (i.automaton ≡ automaton)) items
   IsAddition (reservation item) = (item.form ≡ n) × IsReservation kinds item
   IsAddition (class item) = (item.form ≡ n) × IsClass kinds item
   IsAddition (bypass item) = (item.form ≡ n) × IsBypass kinds item
@@ -45,7 +45,11 @@ module _ (kinds : List FormKind) (n : ℕ) where
   automata_formed line _ added form h = absurd (cc)
 
   some_units : (line : ℕ) (automaton : Option (List ℕ)) (found : List (List ℕ)) → IsForm kinds n define_cpu_unit → option_map_or is_name automaton true ≡ true → are_names found ≡ true → IsAddition (units (unit_items line n automaton found))
-  some_units line automaton found form named are = made_of (λ (i : UnitItem). (i.form ≡ n) × IsUnit kinds i) _ found are (λ name is. (refl, record { form = form; name = is; automaton = named }))
+  some_units line automaton found form named are = (
+    automaton,
+    made_of (λ (i : UnitItem). (i.form ≡ n) × IsUnit kinds i) _ found are (λ name is. (refl, record { form = form; name = is; automaton = named })),
+    made_of (λ (i : UnitItem). (i.form ≡ n) × (i.automaton ≡ automaton)) _ found are (λ name is. (refl, refl)),
+  )
 
   units_formed : (line : ℕ) (operands : Trees) (added : Addition) → IsForm kinds n define_cpu_unit → units_form line n operands ≡ Ok added → IsAddition added
   units_formed line (more names none) added form h =
@@ -192,6 +196,16 @@ in_order {X} key n xs (y ∷ ys) pairs low same =
     let high : All (λ x. key x ≤ n) (xs ++ y ∷ []) = All-push (λ x. key x ≤ n) xs y low (omega (arith, last)) in
     subst (λ (zs : List X). AllPairs (λ x z. key x ≤ key z) zs) (append_assoc xs (y ∷ []) ys) (in_order key n (xs ++ y ∷ []) ys more high (λ k d inside. same (suc k) d (omega arith)))
 
+-- units of the form n, which have one automaton, behind units of other forms
+shared_more : (n : ℕ) (automaton : Option (List ℕ)) (xs ys : List UnitItem) → AllPairs SharesAutomaton xs → All (λ (x : UnitItem). x.form ≡ n → x.automaton ≡ automaton) xs → All (λ (y : UnitItem). (y.form ≡ n) × (y.automaton ≡ automaton)) ys
+    → AllPairs SharesAutomaton (xs ++ ys)
+shared_more n automaton xs [] pairs before same = rw (append-nil xs) pairs
+shared_more n automaton xs (y ∷ ys) pairs before same =
+    let last = same 0 y (omega arith) in
+    let more = all_pairs_push SharesAutomaton xs y pairs (λ k d inside e. before k d inside (e ∙ last.0) ∙ sym last.1) in
+    let known = All-push (λ (x : UnitItem). x.form ≡ n → x.automaton ≡ automaton) xs y before (λ e. last.1) in
+    subst (λ (zs : List UnitItem). AllPairs SharesAutomaton zs) (append_assoc xs (y ∷ []) ys) (shared_more n automaton (xs ++ y ∷ []) ys more known (λ k d inside. same (suc k) d (omega arith)))
+
 -- Items of forms that are there stay such where a form of the number n follows.
 record Stay {X : Type 0} (form : X → ℕ) (Is Stays : X → Type 0) (n : ℕ) : Type 0 where
   stay : (x : X) → Is x → Stays x
@@ -228,6 +242,7 @@ module _ {X : Type 0} (form : X → ℕ) where
 record Formed (kinds : List FormKind) (d : Description) : Type 0 where
   automata : Several (λ i. i.form) (IsAutomaton kinds) d.automata
   units : Several (λ i. i.form) (IsUnit kinds) d.units
+  shared : AllPairs SharesAutomaton d.units
   reservations : OneEach (λ i. i.form) (IsReservation kinds) d.reservations
   classes : OneEach (λ i. i.form) (IsClass kinds) d.classes
   bypasses : OneEach (λ i. i.form) (IsBypass kinds) d.bypasses
@@ -268,6 +283,7 @@ module _ (kinds : List FormKind) (kind : FormKind) where
     stays = record {
       automata = several_stay (λ i. i.form) (IsAutomaton kinds) (IsAutomaton after) (length kinds) automaton_stay d.automata p.automata;
       units = several_stay (λ i. i.form) (IsUnit kinds) (IsUnit after) (length kinds) unit_stay d.units p.units;
+      shared = p.shared;
       reservations = each_stay (λ i. i.form) (IsReservation kinds) (IsReservation after) (length kinds) reservation_stay d.reservations p.reservations;
       classes = each_stay (λ i. i.form) (IsClass kinds) (IsClass after) (length kinds) class_stay d.classes p.classes;
       bypasses = each_stay (λ i. i.form) (IsBypass kinds) (IsBypass after) (length kinds) bypass_stay d.bypasses p.bypasses;
@@ -277,14 +293,14 @@ module _ (kinds : List FormKind) (kind : FormKind) where
 
     -- what a form adds comes after all others
     joins : (added : Addition) → IsAddition after (length kinds) added → Formed after (with_addition d added)
-    joins (automata items) is = record { automata = several_more (λ i. i.form) (IsAutomaton kinds) (IsAutomaton after) (length kinds) automaton_stay d.automata items p.automata is; units = stays.units; reservations = stays.reservations; classes = stays.classes; bypasses = stays.bypasses; sets = stays.sets; attributes = stays.attributes }
-    joins (units items) is = record { automata = stays.automata; units = several_more (λ i. i.form) (IsUnit kinds) (IsUnit after) (length kinds) unit_stay d.units items p.units is; reservations = stays.reservations; classes = stays.classes; bypasses = stays.bypasses; sets = stays.sets; attributes = stays.attributes }
-    joins (reservation item) is = record { automata = stays.automata; units = stays.units; reservations = one_more (λ i. i.form) (IsReservation kinds) (IsReservation after) (length kinds) reservation_stay d.reservations item p.reservations is; classes = stays.classes; bypasses = stays.bypasses; sets = stays.sets; attributes = stays.attributes }
-    joins (class item) is = record { automata = stays.automata; units = stays.units; reservations = stays.reservations; classes = one_more (λ i. i.form) (IsClass kinds) (IsClass after) (length kinds) class_stay d.classes item p.classes is; bypasses = stays.bypasses; sets = stays.sets; attributes = stays.attributes }
-    joins (bypass item) is = record { automata = stays.automata; units = stays.units; reservations = stays.reservations; classes = stays.classes; bypasses = one_more (λ i. i.form) (IsBypass kinds) (IsBypass after) (length kinds) bypass_stay d.bypasses item p.bypasses is; sets = stays.sets; attributes = stays.attributes }
-    joins (set item) is = record { automata = stays.automata; units = stays.units; reservations = stays.reservations; classes = stays.classes; bypasses = stays.bypasses; sets = one_more (λ i. i.form) (IsSet kinds) (IsSet after) (length kinds) set_stay d.sets item p.sets is; attributes = stays.attributes }
-    joins (attribute item) is = record { automata = stays.automata; units = stays.units; reservations = stays.reservations; classes = stays.classes; bypasses = stays.bypasses; sets = stays.sets; attributes = one_more (λ i. i.form) (IsAttribute kinds) (IsAttribute after) (length kinds) attribute_stay d.attributes item p.attributes is }
-    joins (options o) is = record { automata = stays.automata; units = stays.units; reservations = stays.reservations; classes = stays.classes; bypasses = stays.bypasses; sets = stays.sets; attributes = stays.attributes }
+    joins (automata items) is = record { automata = several_more (λ i. i.form) (IsAutomaton kinds) (IsAutomaton after) (length kinds) automaton_stay d.automata items p.automata is; units = stays.units; shared = stays.shared; reservations = stays.reservations; classes = stays.classes; bypasses = stays.bypasses; sets = stays.sets; attributes = stays.attributes }
+    joins (units items) is = record { automata = stays.automata; units = several_more (λ i. i.form) (IsUnit kinds) (IsUnit after) (length kinds) unit_stay d.units items p.units is.1; shared = shared_more (length kinds) is.0 d.units items p.shared (All-weaker (IsUnit kinds) (λ (x : UnitItem). x.form ≡ length kinds → x.automaton ≡ is.0) (λ x q e. absurd (let h = unit_stay.below x q in omega (arith, e, h))) d.units p.units.0) is.2; reservations = stays.reservations; classes = stays.classes; bypasses = stays.bypasses; sets = stays.sets; attributes = stays.attributes }
+    joins (reservation item) is = record { automata = stays.automata; units = stays.units; shared = stays.shared; reservations = one_more (λ i. i.form) (IsReservation kinds) (IsReservation after) (length kinds) reservation_stay d.reservations item p.reservations is; classes = stays.classes; bypasses = stays.bypasses; sets = stays.sets; attributes = stays.attributes }
+    joins (class item) is = record { automata = stays.automata; units = stays.units; shared = stays.shared; reservations = stays.reservations; classes = one_more (λ i. i.form) (IsClass kinds) (IsClass after) (length kinds) class_stay d.classes item p.classes is; bypasses = stays.bypasses; sets = stays.sets; attributes = stays.attributes }
+    joins (bypass item) is = record { automata = stays.automata; units = stays.units; shared = stays.shared; reservations = stays.reservations; classes = stays.classes; bypasses = one_more (λ i. i.form) (IsBypass kinds) (IsBypass after) (length kinds) bypass_stay d.bypasses item p.bypasses is; sets = stays.sets; attributes = stays.attributes }
+    joins (set item) is = record { automata = stays.automata; units = stays.units; shared = stays.shared; reservations = stays.reservations; classes = stays.classes; bypasses = stays.bypasses; sets = one_more (λ i. i.form) (IsSet kinds) (IsSet after) (length kinds) set_stay d.sets item p.sets is; attributes = stays.attributes }
+    joins (attribute item) is = record { automata = stays.automata; units = stays.units; shared = stays.shared; reservations = stays.reservations; classes = stays.classes; bypasses = stays.bypasses; sets = stays.sets; attributes = one_more (λ i. i.form) (IsAttribute kinds) (IsAttribute after) (length kinds) attribute_stay d.attributes item p.attributes is }
+    joins (options o) is = record { automata = stays.automata; units = stays.units; shared = stays.shared; reservations = stays.reservations; classes = stays.classes; bypasses = stays.bypasses; sets = stays.sets; attributes = stays.attributes }
 
 -- forms that are left, behind forms of these kinds
 all_formed : (read : List ℕ → Said) (reading : IsReading read) (kinds : List FormKind) (d e : Description) (forms : Trees) → Formed kinds d → forms_say read (length kinds) d forms ≡ Ok e
@@ -319,6 +335,7 @@ well_formed forms d r =
         attributes = p.attributes.0;
         automata_in_order = p.automata.1;
         units_in_order = p.units.1;
+        units_share = p.shared;
         reservations_in_order = p.reservations.1;
         classes_in_order = p.classes.1;
         bypasses_in_order = p.bypasses.1;
@@ -332,6 +349,7 @@ well_formed forms d r =
     none_formed = record {
       automata = (All-nil (IsAutomaton []), λ i j e h k. absurd (omega arith));
       units = (All-nil (IsUnit []), λ i j e h k. absurd (omega arith));
+      shared = λ i j e h k same. absurd (omega arith);
       reservations = (All-nil (IsReservation []), λ i j e h k. absurd (omega arith));
       classes = (All-nil (IsClass []), λ i j e h k. absurd (omega arith));
       bypasses = (All-nil (IsBypass []), λ i j e h k. absurd (omega arith));

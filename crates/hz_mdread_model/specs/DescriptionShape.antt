@@ -87,6 +87,10 @@ module _ (kinds : List FormKind) where
     pub values : IsTrue (are_names item.values)
     pub fallback : IsTrue (is_name item.fallback)
 
+-- units of one form have one automaton, or none of them has any
+abbrev pub SharesAutomaton : UnitItem → UnitItem → Type 0
+SharesAutomaton earlier later = earlier.form ≡ later.form → earlier.automaton ≡ later.automaton
+
 -- The description of a file whose forms are of some kinds. Each item is of a form of its kind, so its number is below that of
 -- the forms, and items of two lists have different forms. Each list is in the order of the forms; several items of one form
 -- stand in the order of its names.
@@ -101,6 +105,7 @@ pub record IsWellFormed (d : Description) : Type 0 where
   pub attributes : All (IsAttribute kinds) d.attributes
   pub automata_in_order : AllPairs (λ earlier later. earlier.form ≤ later.form) d.automata
   pub units_in_order : AllPairs (λ earlier later. earlier.form ≤ later.form) d.units
+  pub units_share : AllPairs SharesAutomaton d.units
   pub reservations_in_order : AllPairs (λ earlier later. earlier.form < later.form) d.reservations
   pub classes_in_order : AllPairs (λ earlier later. earlier.form < later.form) d.classes
   pub bypasses_in_order : AllPairs (λ earlier later. earlier.form < later.form) d.bypasses
@@ -123,7 +128,7 @@ module _ (kinds : List FormKind) where
     pub number : item.number ≤ limits.latency_limit
 
 -- A description that can be checked: expressions can be written, numbers are limited, items of two lists have different forms,
--- and each list is in the order of its forms.
+-- each list is in the order of its forms, and units of one form have one automaton.
 pub record IsCheckable (d : Description) : Type 0 where
   pub kinds : List FormKind
   pub automata : All (λ i. IsForm kinds i.form define_automaton) d.automata
@@ -135,6 +140,7 @@ pub record IsCheckable (d : Description) : Type 0 where
   pub attributes : All (λ i. IsForm kinds i.form define_attr) d.attributes
   pub automata_in_order : AllPairs (λ earlier later. earlier.form ≤ later.form) d.automata
   pub units_in_order : AllPairs (λ earlier later. earlier.form ≤ later.form) d.units
+  pub units_share : AllPairs SharesAutomaton d.units
   pub reservations_in_order : AllPairs (λ earlier later. earlier.form ≤ later.form) d.reservations
   pub classes_in_order : AllPairs (λ earlier later. earlier.form ≤ later.form) d.classes
   pub bypasses_in_order : AllPairs (λ earlier later. earlier.form ≤ later.form) d.bypasses

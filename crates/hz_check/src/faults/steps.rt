@@ -25,6 +25,7 @@ use std::alloc::Global;
 
 /// The names of a description, where no fault of names stands.
 pub(crate) fn named<'a>(alloc: Global, desc: &'a Description) -> Result<Names<'a>, CheckFault>
+    requires formed { IsCheckable (description desc.now) }
     ensures names { IfOk result (λ names. names.desc.now ≡ desc.now) }
     ensures free { IfOk result (λ _. first_told (faults_of_names (description desc.now)) ≡ None) }
     ensures err { IfErr result (Tells (IsToldAt (description desc.now))) }

@@ -1,6 +1,6 @@
 //! Units that name an automaton that is not defined.
 
-ghost use Rattle.std.specs.Prelude.{◌≡◌, map};
+ghost use Rattle.std.specs.Prelude.{◌≡◌, Contains, map};
 ghost use Rattle.hz_mdread.specs.Shape.{description, unit_item};
 ghost use Rattle.hz_unfold.specs.Places.{told};
 ghost use Rattle.hz_check_model.specs.CheckFaults.{unknown_automata, unknown_automaton_of};
@@ -12,6 +12,7 @@ use hz_mdread::UnitItem;
 
 /// Where a unit names an automaton that is not defined.
 fn unknown_automaton_of<'a>(names: &Names<'a>, unit: &'a UnitItem) -> Option<Site<'a>>
+    requires { Contains (description names.now.desc.now).units (unit_item unit.now) }
     ensures { told result ≡ unknown_automaton_of (map (λ a. a.name) (description names.now.desc.now).automata) (unit_item unit.now) }
 {
     match &unit.automaton {
@@ -21,7 +22,7 @@ fn unknown_automaton_of<'a>(names: &Names<'a>, unit: &'a UnitItem) -> Option<Sit
                 form: unit.form,
                 name,
             };
-            (!names.automata.holds(name)).then_some(site)
+            names.automaton_place(unit).is_none().then_some(site)
         }
         None => None,
     }

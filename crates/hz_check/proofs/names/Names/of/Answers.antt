@@ -20,3 +20,6 @@ invariant_of-result-clause-classes_placed c = λ q. placed (λ k. k.name) class_
 
 pub invariant_of-result-clause-values_right : goal.invariant_of-result-clause-values_right
 invariant_of-result-clause-values_right c = λ q. c.in_ok-values.ensures q ∙ ap (λ items. test_of (values_of (map attribute_item items) q)) c.deref-5.ensures.value
+
+pub homes_of-requires-clause-placed : goal.homes_of-requires-clause-placed
+homes_of-requires-clause-placed c = λ q. placed (λ a. a.name) automaton_item c.deref.result.now c.args.desc.now.automata.items (held c.in_ok-automata.automata q) q c.deref.ensures.value (c.in_ok-automata.ensures q)
