@@ -15,3 +15,4 @@ pub mod KnownLemmas
 pub mod HalfLemmas
 pub mod ExpandLemmas
 pub mod CutLemmas
+pub mod CondensingLemmas

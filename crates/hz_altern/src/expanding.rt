@@ -14,6 +14,7 @@ ghost use Rattle.hz_altern_model.specs.NamesIn.{all_names, all_names_in};
 ghost use Rattle.hz_regexp.specs.Shape.{expression, expressions};
 
 use crate::alternative::Alt;
+use crate::condensing::condensed;
 use crate::counting::measured;
 use crate::fault::AlternFault;
 use crate::joining::{Joining, joined};
@@ -217,5 +218,6 @@ pub fn expand(alloc: Global, expr: &Expr, known: &Known) -> Result<Vec<Alt>, Alt
     if extent.longest > CYCLE_LIMIT {
         return Err(AlternFault::CyclesLimit);
     }
-    Ok(listing(alloc, expr, known)?.into_alts())
+    let lean = condensed(alloc, expr, known)?;
+    Ok(listing(alloc, &lean, known)?.into_alts())
 }

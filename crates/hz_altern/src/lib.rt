@@ -3,6 +3,7 @@
 #![tactic(auto)]
 
 mod alternative;
+mod condensing;
 mod counting;
 mod expanding;
 mod extents;
