@@ -3,3 +3,4 @@ pub mod SettleLemmas
 pub mod ReadLemmas
 pub mod FoldLemmas
 pub mod WalkLaws
+pub mod TestLemmas

@@ -55,7 +55,7 @@ module _ (table : Table) (columns : ℕ) (leaders : List ℕ) (folded : Rows) (i
         let below : one < length fold.order = omega (arith, fold.rows) in
         let below' : other < length fold.order = omega (arith, fold.rows) in
         let apart : Apart table (numbered fold.order one) (numbered fold.order other) = settled.coarse.apart (numbered fold.order one) (numbered fold.order other) (fold.within one below) (fold.within other below')
-            (λ e. differ (fold.different one other below below' (sym (fold.leads one below) ∙ e ∙ fold.leads other below'))) in
+        (λ e. differ (fold.different one other below below' (sym (fold.leads one below) ∙ e ∙ fold.leads other below'))) in
         record {
           word = apart.word;
           once = λ e. apart.once

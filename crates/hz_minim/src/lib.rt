@@ -10,9 +10,9 @@ mod folding;
 mod leading;
 mod settling;
 
-pub use hz_tables::NoMemory;
 use folding::fold;
 use hz_refine::refine;
+pub use hz_tables::NoMemory;
 use hz_tables::Plain;
 use leading::leaders_of;
 use settling::settle;
@@ -34,3 +34,6 @@ pub fn minimise(alloc: Global, plain: &Plain) -> Result<Plain, NoMemory>
     let settled = settle(alloc, plain, leaders)?;
     fold(alloc, plain, &settled)
 }
+
+#[cfg(test)]
+mod tests;
