@@ -2,9 +2,8 @@
 use Rattle.std.proofs.Common.{◌≡◌, ◌≢◌, ℕ, ◌+◌, ◌<◌, ◌≤◌, List, [], ◌∷◌, ◌++◌, length, get_or, set, replicate, Option, Some, None, All, refl, sym, ap, ◌∙◌, subst, arith, ⊎_elim}
 use Rattle.std.proofs.lemmas.Bool.{cases_lt, cases_eq}
 use Rattle.std.proofs.lemmas.List.{length_push, length-set, length-replicate, get_or_append_left, get_or_push, get_or-set_same, get_or-set_other, get_or-replicate, get_or_past}
-use Rattle.hz_tables_model.specs.Tables.{Table}
-use Rattle.hz_minim_model.specs.Blocks.{block_of, KeepsApart}
-use Rattle.hz_minim.specs.Leading.{leader_of, HasFirst, LedSoFar, IsLed, IsCoarse}
+use Rattle.hz_minim_model.specs.Blocks.{block_of}
+use Rattle.hz_minim.specs.Leading.{leader_of, HasFirst, LedSoFar, IsLed}
 
 same_some : (a b : ℕ) → Some a ≡ Some b → a ≡ b
 same_some a b e = cc
@@ -87,13 +86,4 @@ led_all blocks firsts leaders so = record {
   within = λ state low. (so.first (block_of blocks state) (leader_of leaders state) (so.held state low)).0;
   itself = λ state low. (so.first (block_of blocks state) (leader_of leaders state) (so.held state low)).1;
   same = λ one other low low' e. same_some (leader_of leaders one) (leader_of leaders other) (sym (so.held one low) ∙ ap (λ (b : ℕ). get_or firsts b None) e ∙ so.held other low');
-}
-
--- leaders of blocks that are apart are apart
-pub coarse : (table : Table) (blocks leaders : List ℕ) → KeepsApart table blocks → IsLed blocks leaders → IsCoarse table leaders
-coarse table blocks leaders keeps led = record {
-  each = led.each ∙ keeps.each;
-  within = λ state low. let inside : state < length blocks = omega (arith, keeps.each) in let is = led.within state inside in omega (arith, keeps.each);
-  itself = λ state low. led.itself state (omega (arith, keeps.each));
-  apart = λ one other low low' differ. keeps.apart one other low low' (λ e. differ (led.same one other (omega (arith, keeps.each)) (omega (arith, keeps.each)) e));
 }
