@@ -2,6 +2,13 @@
 //! apart.
 #![tactic(auto)]
 
+mod arrows;
+mod buckets;
+mod lists;
+mod marks;
+mod partition;
+mod splitting;
+
 ghost use Rattle.std.specs.Prelude.{◌<◌, IfOk, All};
 ghost use Rattle.hz_tables_model.specs.Tables.{IsTable};
 ghost use Rattle.hz_minim_model.specs.Blocks.{KeepsApart, block_limit};
@@ -9,6 +16,12 @@ ghost use Rattle.hz_minim_model.specs.Blocks.{KeepsApart, block_limit};
 pub use hz_tables::NoMemory;
 use hz_tables::Plain;
 use std::alloc::Global;
+
+use crate::arrows::arrows_of;
+use crate::lists::empty_lists;
+use crate::marks::Marks;
+use crate::partition::Partition;
+use crate::splitting::turn;
 
 /// The block of each state. States of different blocks are apart; that states of one block are alike is not promised,
 /// and is for the caller to see. Numbers of blocks are below 131,072. Hopcroft, 'An n log n algorithm for minimizing
@@ -18,8 +31,26 @@ pub fn refine(alloc: Global, plain: &Plain) -> Result<Vec<u32>, NoMemory>
     ensures apart { IfOk result (λ blocks. KeepsApart plain.now.rows blocks.items) }
     ensures numbers { IfOk result (λ blocks. All (λ block. block < block_limit) blocks.items) }
 {
-    let _states = plain.states();
-    let refused: Result<Vec<u32>, NoMemory> = Err(NoMemory);
-    let _alloc = alloc;
-    refused
+    let arrows = arrows_of(alloc, plain)?;
+    let mut partition = Partition::whole(alloc, plain.states())?;
+    let mut marks = Marks::whole(alloc, plain.states())?;
+    let mut buckets = empty_lists(alloc, plain.columns() as usize + 1)?;
+    // Each turn but the first takes a block that waits since a split, so there are as many turns as blocks at most.
+    for _turn in 0..plain.states() {
+        match marks.next() {
+            Some(block) => turn(
+                alloc,
+                &arrows,
+                &mut partition,
+                &mut marks,
+                &mut buckets,
+                block,
+            )?,
+            None => return Ok(partition.blocks),
+        }
+    }
+    Ok(partition.blocks)
 }
+
+#[cfg(test)]
+mod tests;
