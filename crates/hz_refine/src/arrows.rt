@@ -24,12 +24,13 @@ fn add_row(arrows: &mut Vec<Vec<Arrow>>, plain: &Plain, state: u32) -> Result<()
     ensures { OnOk result (HasRead plain.now.rows (state + 1) 0 (lists_of arrows.new.items)) }
 {
     for column in 0..plain.columns() + 1 {
-        if let Some(target) = plain.step(state, column) {
-            let arrow = Arrow {
-                column,
-                source: state,
-            };
-            add(arrows, target, arrow)?;
+        let arrow = Arrow {
+            column,
+            source: state,
+        };
+        match plain.step(state, column) {
+            Some(target) => add(arrows, target, arrow)?,
+            None => (),
         }
     }
     Ok(())
