@@ -4,12 +4,13 @@ use Rattle.std.proofs.lemmas.Bool.{cases_eq, cases_lt}
 use Rattle.std.proofs.lemmas.Bool.Decides.{nat_tests}
 use Rattle.std.proofs.lemmas.List.{take_more, take_all, get_or-replicate, length-replicate}
 use Rattle.std.proofs.lemmas.List.Elements.{Contains-append_left, Contains-push, Contains-push_cases, Contains-get_or}
-use Rattle.hz_base_model.proofs.Elements.{Contains-nil}
+use Rattle.std.specs.List.{range_with_len}
+use Rattle.hz_base_model.proofs.Elements.{Contains-nil, Contains-range, Contains-from_range}
 use Rattle.hz_minim_model.specs.Blocks.{block_of}
 use Rattle.hz_refine.specs.declared.marks.Mark.{Mark}
 use Rattle.hz_refine.specs.Lists.{list_at, added}
 use Rattle.hz_refine.specs.Moves.{IsListed, IsMoved, goes_of, goes_to}
-use Rattle.hz_refine.proofs.ListLaws.{added-holds, added-kept, added-only}
+use Rattle.hz_refine.proofs.ListLaws.{added-holds, added-kept, added-only, place_within}
 
 -- a block that has gone goes no further
 pub goes_once : (marks : List Mark) (old block : ℕ) → goes_to marks old (goes_to marks old block) ≡ goes_to marks old block
@@ -87,8 +88,25 @@ listed_moved blocks members state to within inside listed =
     }
 
 -- lists that hold the same list the same states
-pub listed_same : (blocks : List ℕ) (before after : List (List ℕ)) → ((place : ℕ) → list_at after place ≡ list_at before place) → IsListed blocks before → IsListed blocks after
-listed_same blocks before after same listed = record {
+pub listed_same : (blocks : List ℕ) (first second : List (List ℕ)) → ((place : ℕ) → list_at second place ≡ list_at first place) → IsListed blocks first → IsListed blocks second
+listed_same blocks first second same listed = record {
   there = λ state within. subst (λ (xs : List ℕ). Contains xs state) (sym (same (block_of blocks state))) (listed.there state within);
   states = λ block state h. listed.states block state (subst (λ (xs : List ℕ). Contains xs state) (same block) h);
 }
+
+-- one block lists all states
+pub listed_whole : (count : ℕ) (blocks states : List ℕ) → blocks ≡ replicate count 0 → states ≡ range_with_len 0 count → IsListed blocks (states ∷ [])
+listed_whole count blocks states e all =
+    let long : length blocks ≡ count = ap length e ∙ length-replicate count 0 in
+    record {
+      there = λ state within.
+          let below : state < count = omega arith in
+          let block : block_of blocks state ≡ 0 = ap (λ (xs : List ℕ). block_of xs state) e ∙ get_or-replicate count state 0 0 below in
+          subst (λ (b : ℕ). Contains (list_at (states ∷ []) b) state) (sym block) (subst (λ (xs : List ℕ). Contains xs state) (sym all) (Contains-range count state below));
+      states = λ block state h.
+          let first : block < 1 = place_within (states ∷ []) block state h in
+          let zeroth : block ≡ 0 = omega arith in
+          let there : Contains states state = subst (λ (b : ℕ). Contains (list_at (states ∷ []) b) state) zeroth h in
+          let below = Contains-from_range count state (subst (λ (xs : List ℕ). Contains xs state) all there) in
+          omega arith;
+    }

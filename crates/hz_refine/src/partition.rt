@@ -1,7 +1,7 @@
 //! The blocks of states, and what is listed in each.
 
 ghost use Rattle.std.specs.Prelude.{◌≡◌, ◌<◌, ℕ, IfOk, OnOk, length, replicate, slice_set, vec_len};
-ghost use Rattle.std.specs.List.{Contains};
+ghost use Rattle.std.specs.List.{Contains, range_with_len};
 ghost use Rattle.hz_minim_model.specs.Blocks.{block_of};
 ghost use Rattle.hz_refine.specs.Lists.{lists_of};
 ghost use Rattle.hz_refine.specs.Moves.{IsListed, IsMoved, goes_to};
@@ -18,6 +18,13 @@ pub struct Partition {
     pub blocks: Vec<u32>,
     /// For each block its states, and perhaps some that left it.
     pub members: Vec<Vec<u32>>,
+}
+
+// The first so many states.
+fn first_states(alloc: Global, count: u32) -> Result<Vec<u32>, NoMemory>
+    ensures { IfOk result (λ states. states.items ≡ range_with_len 0 count) }
+{
+    (0..count).collect(alloc)
 }
 
 // The block to which the states of a block go: a block that is new since there were `old` ones, or itself.
@@ -41,7 +48,7 @@ impl Partition {
         ensures members { IfOk result (λ partition. vec_len partition.members ≡ 1) }
     {
         let blocks = vec![in alloc; 0; states as usize]?;
-        let all: Vec<u32> = (0..states).collect(alloc)?;
+        let all = first_states(alloc, states)?;
         let mut members = Vec::with_capacity(alloc, 1)?;
         members.push(all)?;
         Ok(Partition { blocks, members })
