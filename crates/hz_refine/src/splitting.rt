@@ -32,7 +32,8 @@ fn split(
     marks.count_all(&partition.blocks, states)?;
     marks.settle_all()?;
     grow(alloc, &mut partition.members, marks.of_blocks.len())?;
-    partition.move_all(&marks.of_blocks, old, states)
+    partition.move_all(&marks.of_blocks, old, states)?;
+    Ok(())
 }
 
 // Splits blocks by each of these lists of states.
