@@ -7,7 +7,7 @@ use Rattle.hz_tables_model.specs.Orders.{IsReadBefore}
 use Rattle.hz_tables.specs.Rows.{Rows}
 use Rattle.hz_refine.specs.declared.arrows.Arrow.{Arrow}
 use Rattle.hz_refine.specs.Lists.{list_at, added}
-use Rattle.hz_refine.specs.Arrows.{arrow_from, AreArrows, HasRead}
+use Rattle.hz_refine.specs.Arrows.{arrow_from, AreArrows, AreWithin, HasRead}
 use Rattle.hz_refine.proofs.ListLaws.{added-holds, added-kept, added-only, length-added}
 use Rattle.hz_refine.proofs.TableLaws.{entry_within}
 
@@ -77,4 +77,10 @@ pub read_all : (plain : Rows) (arrows : List (List Arrow)) (count : ℕ) → IsT
 read_all plain arrows count is all has = record {
   there = has.there;
   all = λ source at target e. let within = (entry_within plain.rows plain.columns is source at target e).0 in has.read source at target (inl (omega arith)) e;
+}
+
+pub arrows_within : (plain : Rows) (arrows : List (List Arrow)) → IsTable plain.rows plain.columns → AreArrows plain arrows → AreWithin (length plain.rows) (plain.columns + 1) arrows
+arrows_within plain arrows is are = record {
+  source = λ target arrow h. (entry_within plain.rows plain.columns is arrow.source arrow.column target (are.there target arrow h)).0;
+  column = λ target arrow h. (entry_within plain.rows plain.columns is arrow.source arrow.column target (are.there target arrow h)).1;
 }

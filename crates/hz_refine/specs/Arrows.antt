@@ -17,7 +17,12 @@ pub record HasRead (table : Table) (state column : ℕ) (arrows : List (List Arr
   pub there : (target : ℕ) (arrow : Arrow) → Contains (list_at arrows target) arrow → entry table arrow.source arrow.column ≡ Some target
   pub read : (source at target : ℕ) → IsReadBefore (source, at) (state, column) → entry table source at ≡ Some target → Contains (list_at arrows target) (arrow_from source at)
 
--- All entries are listed by their states, and nothing else is; each has a column of the table and one of its states.
+-- All entries are listed by their states, and nothing else is.
 pub record AreArrows (plain : Rows) (arrows : List (List Arrow)) : Type 0 where
   pub there : (target : ℕ) (arrow : Arrow) → Contains (list_at arrows target) arrow → entry plain.rows arrow.source arrow.column ≡ Some target
   pub all : (source at target : ℕ) → entry plain.rows source at ≡ Some target → Contains (list_at arrows target) (arrow_from source at)
+
+-- the arrows have so many sources and columns at most
+pub record AreWithin (states columns : ℕ) (arrows : List (List Arrow)) : Type 0 where
+  pub source : (target : ℕ) (arrow : Arrow) → Contains (list_at arrows target) arrow → arrow.source < states
+  pub column : (target : ℕ) (arrow : Arrow) → Contains (list_at arrows target) arrow → arrow.column < columns

@@ -36,7 +36,7 @@ pub fn refine(alloc: Global, plain: &Plain) -> Result<Vec<u32>, NoMemory>
     let mut marks = Marks::whole(alloc, plain.states())?;
     let mut buckets = empty_lists(alloc, plain.columns() as usize + 1)?;
     // Each turn but the first takes a block that waits since a split, so there are as many turns as blocks at most.
-    for _turn in 0..plain.states() {
+    for _ in 0..plain.states() {
         match marks.next() {
             Some(block) => turn(
                 alloc,

@@ -1,12 +1,12 @@
 //! Splitting of blocks by what leads to a block.
 
-ghost use Rattle.std.specs.Prelude.{◌≡◌, ◌+◌, ℕ, OnOk, vec_len};
+ghost use Rattle.std.specs.Prelude.{◌≡◌, ℕ, OnOk, length, vec_len};
 ghost use Rattle.hz_tables_model.specs.Tables.{IsTable};
+ghost use Rattle.hz_minim_model.specs.Blocks.{KeepsApart};
 ghost use Rattle.hz_tables.specs.Rows.{Rows};
-ghost use Rattle.hz_refine.specs.Arrows.{AreArrows};
-ghost use Rattle.hz_refine.specs.Kept.{IsKept};
+ghost use Rattle.hz_refine.specs.Arrows.{AreArrows, AreWithin};
+ghost use Rattle.hz_refine.specs.Kept.{AreBelow, IsKept, StayApart, StaysApart};
 ghost use Rattle.hz_refine.specs.Lists.{lists_of, list_at};
-ghost use Rattle.hz_refine.specs.Moves.{IsSeparate};
 
 use crate::arrows::Arrow;
 use crate::buckets::fill;
@@ -16,17 +16,17 @@ use crate::partition::Partition;
 use hz_tables::NoMemory;
 use std::alloc::Global;
 
-// Splits each block that has some of these states, and not all of them alone.
+// Splits each block that has some of these states, and not these alone.
 fn split(
     alloc: Global,
     partition: &mut Partition,
     marks: &mut Marks,
     states: &[u32],
 ) -> Result<(), NoMemory>
-    ghost plain: { Rows }
-    requires separate { IsSeparate plain.rows states.now }
-    requires kept { IsKept plain.rows partition.old marks.old }
-    ensures { OnOk result (IsKept plain.rows partition.new marks.new) }
+    requires states { AreBelow (length partition.old.blocks.items) states.now }
+    requires kept { IsKept (length partition.old.blocks.items) partition.old marks.old }
+    ensures kept { OnOk result (IsKept (length partition.old.blocks.items) partition.new marks.new) }
+    ensures apart { OnOk result (StaysApart states.now partition.old.blocks.items partition.new.blocks.items) }
 {
     let old = marks.of_blocks.len();
     marks.count_all(&partition.blocks, states)?;
@@ -43,10 +43,10 @@ fn split_all(
     marks: &mut Marks,
     lists: &[Vec<u32>],
 ) -> Result<(), NoMemory>
-    ghost plain: { Rows }
-    requires separate { (place : ℕ) → IsSeparate plain.rows (list_at (lists_of lists.now) place) }
-    requires kept { IsKept plain.rows partition.old marks.old }
-    ensures { OnOk result (IsKept plain.rows partition.new marks.new) }
+    requires states { (place : ℕ) → AreBelow (length partition.old.blocks.items) (list_at (lists_of lists.now) place) }
+    requires kept { IsKept (length partition.old.blocks.items) partition.old marks.old }
+    ensures kept { OnOk result (IsKept (length partition.old.blocks.items) partition.new marks.new) }
+    ensures apart { OnOk result (StayApart (lists_of lists.now) partition.old.blocks.items partition.new.blocks.items) }
 {
     for list in lists {
         split(alloc, partition, marks, list)?;
@@ -63,14 +63,13 @@ pub fn turn(
     buckets: &mut Vec<Vec<u32>>,
     block: u32,
 ) -> Result<(), NoMemory>
-    ghost plain: { Rows }
-    requires table { IsTable plain.rows plain.columns }
-    requires arrows { AreArrows plain (lists_of arrows.now) }
-    requires kept { IsKept plain.rows partition.old marks.old }
-    requires buckets { vec_len buckets.old ≡ plain.columns + 1 }
-    ensures kept { OnOk result (IsKept plain.rows partition.new marks.new) }
-    ensures buckets { OnOk result (vec_len buckets.new ≡ plain.columns + 1) }
+    requires arrows { AreWithin (length partition.old.blocks.items) (vec_len buckets.old) (lists_of arrows.now) }
+    requires kept { IsKept (length partition.old.blocks.items) partition.old marks.old }
+    ensures kept { OnOk result (IsKept (length partition.old.blocks.items) partition.new marks.new) }
+    ensures buckets { OnOk result (vec_len buckets.new ≡ vec_len buckets.old) }
+    ensures apart { OnOk result ((plain : Rows) → IsTable plain.rows plain.columns → AreArrows plain (lists_of arrows.now) → KeepsApart plain.rows partition.old.blocks.items → KeepsApart plain.rows partition.new.blocks.items) }
 {
     fill(buckets, arrows, partition, block)?;
-    split_all(alloc, partition, marks, buckets)
+    split_all(alloc, partition, marks, buckets)?;
+    Ok(())
 }
