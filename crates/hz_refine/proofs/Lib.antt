@@ -4,3 +4,4 @@ pub mod ArrowLaws
 pub mod ApartLaws
 pub mod MoveLaws
 pub mod BucketLaws
+pub mod ExampleLaws
