@@ -1,6 +1,5 @@
 -- Blocks of states that are apart.
-use Rattle.std.proofs.Common.{◌≡◌, ◌≢◌, ℕ, ◌+◌, ◌<◌, ◌≤◌, ◌⊎◌, inl, inr, ⊎_elim, List, [], ◌∷◌, length, replicate, get_or, Option, Some, None, All, Contains, refl, sym, ap, ◌∙◌, subst, arith}
-use Rattle.std.proofs.lemmas.Bool.{cases_eq}
+use Rattle.std.proofs.Common.{◌≡◌, ◌≢◌, ℕ, ◌<◌, ◌≤◌, ⊎_elim, List, length, replicate, Some, None, All, Contains, sym, ap, ◌∙◌, arith}
 use Rattle.std.proofs.lemmas.List.{get_or-replicate, length-replicate}
 use Rattle.std.proofs.lemmas.List.Elements.{All-from_get_or}
 use Rattle.hz_tables_model.specs.Tables.{Table, entry, IsTable}
@@ -32,13 +31,13 @@ module _ (plain : Rows) (is : IsTable plain.rows plain.columns) (arrows : List (
       let to = filled.only column state h in
       let there : entry plain.rows state column ≡ Some to.0 = are.there to.0 (arrow_from state column) to.3 in
       ⊎_elim
-        (λ (none : entry plain.rows other column ≡ None). apart_by_entry plain.rows state other column to.0 there none)
-        (λ (some : (n : ℕ) × (entry plain.rows other column ≡ Some n)).
-          let inside : some.0 < length plain.rows = is.targets other column some.0 some.1 in
-          let each = keeps.each in
-          let differ : block_of blocks to.0 ≢ block_of blocks some.0 = (λ e. out (filled.all some.0 column other (omega arith) (sym e ∙ to.2) (are.all other column some.0 some.1))) in
-          apart_before plain.rows state other column to.0 some.0 there some.1 (keeps.apart to.0 some.0 (is.targets state column to.0 there) inside differ))
-        (option_cases (entry plain.rows other column))
+      (λ (none : entry plain.rows other column ≡ None). apart_by_entry plain.rows state other column to.0 there none)
+      (λ (some : (n : ℕ) × (entry plain.rows other column ≡ Some n)).
+      let inside : some.0 < length plain.rows = is.targets other column some.0 some.1 in
+      let each = keeps.each in
+      let differ : block_of blocks to.0 ≢ block_of blocks some.0 = (λ e. out (filled.all some.0 column other (omega arith) (sym e ∙ to.2) (are.all other column some.0 some.1))) in
+      apart_before plain.rows state other column to.0 some.0 there some.1 (keeps.apart to.0 some.0 (is.targets state column to.0 there) inside differ))
+      (option_cases (entry plain.rows other column))
 
   pub buckets_are_separate : IsSeparate plain.rows (list_at buckets column)
   buckets_are_separate = record {
@@ -55,13 +54,13 @@ module _ (table : Table) (goes : ℕ → ℕ) (states before after : List ℕ) (
         let each = keeps.each in
         ⊎_elim
         (λ (first : Contains states one × (block_of after one ≡ goes (block_of before one))). ⊎_elim
-          (λ (second : Contains states other × (block_of after other ≡ goes (block_of before other))). keeps.apart one other within inside (λ e. differ (first.1 ∙ ap goes e ∙ sym second.1)))
-          (λ (second : (Contains states other → ⊥) × (block_of after other ≡ block_of before other)). separate.apart one other first.0 inside second.0)
-          (moved.at other (omega arith)))
+        (λ (second : Contains states other × (block_of after other ≡ goes (block_of before other))). keeps.apart one other within inside (λ e. differ (first.1 ∙ ap goes e ∙ sym second.1)))
+        (λ (second : (Contains states other → ⊥) × (block_of after other ≡ block_of before other)). separate.apart one other first.0 inside second.0)
+        (moved.at other (omega arith)))
         (λ (first : (Contains states one → ⊥) × (block_of after one ≡ block_of before one)). ⊎_elim
-          (λ (second : Contains states other × (block_of after other ≡ goes (block_of before other))). apart_symmetric table other one (separate.apart other one second.0 within first.0))
-          (λ (second : (Contains states other → ⊥) × (block_of after other ≡ block_of before other)). keeps.apart one other within inside (λ e. differ (first.1 ∙ e ∙ sym second.1)))
-          (moved.at other (omega arith)))
+        (λ (second : Contains states other × (block_of after other ≡ goes (block_of before other))). apart_symmetric table other one (separate.apart other one second.0 within first.0))
+        (λ (second : (Contains states other → ⊥) × (block_of after other ≡ block_of before other)). keeps.apart one other within inside (λ e. differ (first.1 ∙ e ∙ sym second.1)))
+        (moved.at other (omega arith)))
         (moved.at one (omega arith));
   }
 

@@ -1,9 +1,8 @@
 -- The entries of a table, read one after the other.
-use Rattle.std.proofs.Common.{◌≡◌, ◌≢◌, ℕ, ◌+◌, ◌<◌, ◌≤◌, ◌⊎◌, inl, inr, ⊎_elim, List, [], ◌∷◌, length, Option, Some, None, Contains, refl, sym, ap, ◌∙◌, subst, arith}
-use Rattle.std.proofs.lemmas.Bool.{cases_eq, cases_lt}
+use Rattle.std.proofs.Common.{◌≡◌, ◌≢◌, ℕ, ◌+◌, ◌<◌, ◌≤◌, inl, inr, ⊎_elim, List, [], length, Some, None, Contains, sym, ap, ◌∙◌, subst, arith}
+use Rattle.std.proofs.lemmas.Bool.{cases_eq}
 use Rattle.hz_base_model.proofs.Elements.{Contains-nil}
 use Rattle.hz_tables_model.specs.Tables.{Table, entry, IsTable}
-use Rattle.hz_tables_model.specs.Orders.{IsReadBefore}
 use Rattle.hz_tables.specs.Rows.{Rows}
 use Rattle.hz_refine.specs.declared.arrows.Arrow.{Arrow}
 use Rattle.hz_refine.specs.Lists.{list_at, added}
@@ -27,11 +26,11 @@ module _ (table : Table) (state column : ℕ) (arrows : List (List Arrow)) (has 
     read = λ source at target before e. ⊎_elim
         (λ (lt : source < state). has.read source at target (inl lt) e)
         (λ (both : (source ≡ state) × (at < column + 1)). ⊎_elim
-          (λ (here : at ≡ column).
-            let entries : entry table source at ≡ entry table state column = (λ i. entry table (both.0 i) (here i)) in
-            cc)
-          (λ (ne : at ≢ column). let low = both.1 in has.read source at target (inr (both.0, omega arith)) e)
-          (cases_eq at column))
+        (λ (here : at ≡ column).
+        let entries : entry table source at ≡ entry table state column = (λ i. entry table (both.0 i) (here i)) in
+        cc)
+        (λ (ne : at ≢ column). let low = both.1 in has.read source at target (inr (both.0, omega arith)) e)
+        (cases_eq at column))
         before;
   }
 
@@ -41,22 +40,22 @@ module _ (table : Table) (state column : ℕ) (arrows : List (List Arrow)) (has 
     there = λ target arrow h. ⊎_elim
         (λ (old : Contains (list_at arrows target) arrow). has.there target arrow old)
         (λ (new : (target ≡ next) × (arrow_from state column ≡ arrow)).
-          subst (λ (a : Arrow). entry table a.source a.column ≡ Some target) new.1 (there ∙ ap (λ (n : ℕ). Some n) (sym new.0)))
+        subst (λ (a : Arrow). entry table a.source a.column ≡ Some target) new.1 (there ∙ ap (λ (n : ℕ). Some n) (sym new.0)))
         (added-only next (arrow_from state column) arrows target arrow h);
     read = λ source at target before e.
         let keep : Contains (list_at arrows target) (arrow_from source at) → Contains (list_at (added next (arrow_from state column) arrows) target) (arrow_from source at) = added-kept next (arrow_from state column) arrows target (arrow_from source at) in
         ⊎_elim
         (λ (lt : source < state). keep (has.read source at target (inl lt) e))
         (λ (both : (source ≡ state) × (at < column + 1)). ⊎_elim
-          (λ (here : at ≡ column).
-            let entries : entry table source at ≡ entry table state column = (λ i. entry table (both.0 i) (here i)) in
-            let same : target ≡ next = cc in
-            let inside : next < length arrows = omega (arith, has.each) in
-            let arrow : arrow_from state column ≡ arrow_from source at = (λ i. arrow_from (sym both.0 i) (sym here i)) in
-            subst (λ (t : ℕ). Contains (list_at (added next (arrow_from state column) arrows) t) (arrow_from source at)) (sym same)
-            (subst (Contains (list_at (added next (arrow_from state column) arrows) next)) arrow (added-holds next (arrow_from state column) arrows inside)))
-          (λ (ne : at ≢ column). let low = both.1 in keep (has.read source at target (inr (both.0, omega arith)) e))
-          (cases_eq at column))
+        (λ (here : at ≡ column).
+        let entries : entry table source at ≡ entry table state column = (λ i. entry table (both.0 i) (here i)) in
+        let same : target ≡ next = cc in
+        let inside : next < length arrows = omega (arith, has.each) in
+        let arrow : arrow_from state column ≡ arrow_from source at = (λ i. arrow_from (sym both.0 i) (sym here i)) in
+        subst (λ (t : ℕ). Contains (list_at (added next (arrow_from state column) arrows) t) (arrow_from source at)) (sym same)
+        (subst (Contains (list_at (added next (arrow_from state column) arrows) next)) arrow (added-holds next (arrow_from state column) arrows inside)))
+        (λ (ne : at ≢ column). let low = both.1 in keep (has.read source at target (inr (both.0, omega arith)) e))
+        (cases_eq at column))
         before;
   }
 
@@ -66,9 +65,9 @@ read_row table columns state arrows is has = record {
   there = has.there;
   read = λ source at target before e. ⊎_elim
       (λ (lt : source < state + 1). ⊎_elim
-        (λ (here : source ≡ state). has.read source at target (inr (here, (entry_within table columns is source at target e).1)) e)
-        (λ (ne : source ≢ state). has.read source at target (inl (omega arith)) e)
-        (cases_eq source state))
+      (λ (here : source ≡ state). has.read source at target (inr (here, (entry_within table columns is source at target e).1)) e)
+      (λ (ne : source ≢ state). has.read source at target (inl (omega arith)) e)
+      (cases_eq source state))
       (λ (both : (source ≡ state + 1) × (at < 0)). let lt = both.1 in absurd (omega arith))
       before;
 }

@@ -1,5 +1,5 @@
 -- How buckets are filled.
-use Rattle.std.proofs.Common.{◌≡◌, ◌≢◌, ℕ, ◌+◌, ◌<◌, ◌⊎◌, inl, inr, ⊎_elim, List, [], ◌∷◌, ◌++◌, length, get_or, take, Contains, refl, sym, ap, ◌∙◌, subst, arith}
+use Rattle.std.proofs.Common.{◌≡◌, ◌≢◌, ℕ, ◌+◌, ◌<◌, ◌⊎◌, inl, inr, ⊎_elim, List, [], ◌∷◌, ◌++◌, length, get_or, take, Contains, refl, sym, ap, ◌∙◌, subst}
 use Rattle.std.proofs.lemmas.List.{take_more}
 use Rattle.std.proofs.lemmas.List.Elements.{Contains-append_left, Contains-push, Contains-push_cases}
 use Rattle.hz_base_model.proofs.Elements.{Contains-nil}
@@ -45,12 +45,12 @@ adds_more arrows before mid i arrow within e inside adds =
           (contains_cases arrows i arrow (arrow_from state column) within e h);
       only = λ column state h. ⊎_elim
           (λ (old : Contains (list_at mid column) state). ⊎_elim
-            (λ (first : Contains (list_at before column) state). inl first)
-            (λ (put : Contains (take i arrows) (arrow_from state column)). inr (contains_still arrows i arrow (arrow_from state column) within e put))
-            (adds.only column state old))
+          (λ (first : Contains (list_at before column) state). inl first)
+          (λ (put : Contains (take i arrows) (arrow_from state column)). inr (contains_still arrows i arrow (arrow_from state column) within e put))
+          (adds.only column state old))
           (λ (new : (column ≡ arrow.column) × (arrow.source ≡ state)).
-            let same : arrow ≡ arrow_from state column = (λ j. arrow_from (new.1 j) (sym new.0 j)) in
-            inr (subst (Contains (take (i + 1) arrows)) same (contains_more arrows i arrow within e)))
+          let same : arrow ≡ arrow_from state column = (λ j. arrow_from (new.1 j) (sym new.0 j)) in
+          inr (subst (Contains (take (i + 1) arrows)) same (contains_more arrows i arrow within e)))
           (added-only arrow.column arrow.source mid column state h);
     }
 

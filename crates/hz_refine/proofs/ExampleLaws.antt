@@ -1,12 +1,11 @@
 -- Tables of the tests, row by row.
-use Rattle.std.proofs.Common.{◌≡◌, ◌≢◌, ℕ, ◌+◌, ◌-◌, ◌<◌, ◌≤◌, ◌⊎◌, inl, inr, ⊎_elim, Bool, true, false, List, [], ◌∷◌, ◌++◌, length, get_or, Option, Some, None, is_some, unwrap_or, All, refl, sym, ap, ◌∙◌, subst, arith}
+use Rattle.std.proofs.Common.{◌≡◌, ◌≢◌, ℕ, ◌+◌, ◌-◌, ◌<◌, ◌≤◌, ⊎_elim, true, List, [], length, get_or, Option, Some, None, is_some, unwrap_or, All, refl, sym, ap, ◌∙◌, subst, arith}
 use Rattle.std.proofs.lemmas.Bool.{cases_lt, false≢true}
 use Rattle.std.proofs.lemmas.List.{get_or_past}
 use Rattle.std.proofs.lemmas.List.Elements.{All-get_or, All-from_get_or}
 use Rattle.hz_tables_model.specs.Tables.{Table, row_of, entry, IsTable}
 use Rattle.hz_tables.specs.Rows.{AreStates, IsState}
 use Rattle.hz_refine.specs.Examples.{IsRow}
-use Rattle.hz_refine.proofs.TableLaws.{option_cases}
 
 -- all entries that are there are seen to be states
 pub row_is : (states columns : ℕ) (row : List (Option ℕ)) → length row ≡ columns → ((k : ℕ) → k < length row → unwrap_or (get_or row k None) 0 < states) → is_some (get_or row (columns - 1) None) ≡ true → IsRow states columns row
@@ -35,8 +34,8 @@ rows_are columns rows some are =
       targets = λ state column next e. ⊎_elim
           (λ (within : state < length rows). (at state within).targets column next e)
           (λ (past : length rows ≤ state).
-            let none : entry rows state column ≡ None = ap (λ (row : List (Option ℕ)). get_or row column None) (get_or_past rows state [] past) in
-            absurd (cc))
+          let none : entry rows state column ≡ None = ap (λ (row : List (Option ℕ)). get_or row column None) (get_or_past rows state [] past) in
+          absurd (cc))
           (cases_lt state (length rows));
       advances = λ state within.
           let same : columns + 1 - 1 ≡ columns = omega arith in

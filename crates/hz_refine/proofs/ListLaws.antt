@@ -1,5 +1,5 @@
 -- Lists by places, as the code holds them.
-use Rattle.std.proofs.Common.{◌≡◌, ◌≢◌, ℕ, ◌+◌, ◌<◌, ◌≤◌, ◌⊎◌, inl, inr, ⊎_elim, List, [], ◌∷◌, ◌++◌, length, get_or, set, Contains, refl, sym, ap, ◌∙◌, subst, arith, get_or-set_same, get_or-set_other, length-set}
+use Rattle.std.proofs.Common.{◌≡◌, ◌≢◌, ℕ, ◌+◌, ◌<◌, ◌≤◌, ◌⊎◌, inl, inr, ⊎_elim, List, [], ◌∷◌, ◌++◌, length, get_or, set, Contains, sym, ap, ◌∙◌, subst, arith, get_or-set_same, get_or-set_other, length-set}
 use Rattle.std.specs.declared.alloc.Global.{Global}
 use Rattle.std.specs.declared.vec.Vec.{Vec}
 use Rattle.std.proofs.lemmas.Bool.{cases_eq, cases_lt}
@@ -41,21 +41,21 @@ module _ {X : Type 0} where
   pub added-kept : (i : ℕ) (x : X) (lists : List (List X)) (j : ℕ) (y : X) → Contains (list_at lists j) y → Contains (list_at (added i x lists) j) y
   added-kept i x lists j y h = ⊎_elim
       (λ (e : j ≡ i).
-        let here : Contains (list_at lists i) y = subst (λ (k : ℕ). Contains (list_at lists k) y) e h in
-        subst (λ (k : ℕ). Contains (list_at (added i x lists) k) y) (sym e)
-        (subst (λ (xs : List X). Contains xs y) (sym (added_here i x lists (place_within lists i y here))) (Contains-append_left (list_at lists i) (x ∷ []) y here)))
+      let here : Contains (list_at lists i) y = subst (λ (k : ℕ). Contains (list_at lists k) y) e h in
+      subst (λ (k : ℕ). Contains (list_at (added i x lists) k) y) (sym e)
+      (subst (λ (xs : List X). Contains xs y) (sym (added_here i x lists (place_within lists i y here))) (Contains-append_left (list_at lists i) (x ∷ []) y here)))
       (λ (ne : j ≢ i). subst (λ (xs : List X). Contains xs y) (sym (added_there i x lists j ne)) h)
       (cases_eq j i)
 
   pub added-only : (i : ℕ) (x : X) (lists : List (List X)) (j : ℕ) (y : X) → Contains (list_at (added i x lists) j) y → Contains (list_at lists j) y ⊎ ((j ≡ i) × (x ≡ y))
   added-only i x lists j y h = ⊎_elim
       (λ (e : j ≡ i).
-        let here : Contains (list_at (added i x lists) i) y = subst (λ (k : ℕ). Contains (list_at (added i x lists) k) y) e h in
-        let within : i < length lists = omega (arith, place_within (added i x lists) i y here, length-added i x lists) in
-        ⊎_elim
-          (λ (k : Contains (list_at lists i) y). inl (subst (λ (at : ℕ). Contains (list_at lists at) y) (sym e) k))
-          (λ (k : x ≡ y). inr (e, k))
-          (Contains-push_cases (list_at lists i) x y (subst (λ (xs : List X). Contains xs y) (added_here i x lists within) here)))
+      let here : Contains (list_at (added i x lists) i) y = subst (λ (k : ℕ). Contains (list_at (added i x lists) k) y) e h in
+      let within : i < length lists = omega (arith, place_within (added i x lists) i y here, length-added i x lists) in
+      ⊎_elim
+      (λ (k : Contains (list_at lists i) y). inl (subst (λ (at : ℕ). Contains (list_at lists at) y) (sym e) k))
+      (λ (k : x ≡ y). inr (e, k))
+      (Contains-push_cases (list_at lists i) x y (subst (λ (xs : List X). Contains xs y) (added_here i x lists within) here)))
       (λ (ne : j ≢ i). inl (subst (λ (xs : List X). Contains xs y) (added_there i x lists j ne) h))
       (cases_eq j i)
 
@@ -63,9 +63,9 @@ module _ {X : Type 0} where
   nothing_more lists j = ⊎_elim
       (λ (within : j < length lists). get_or_append_left lists ([] ∷ []) [] j within)
       (λ (past : length lists ≤ j). ⊎_elim
-        (λ (e : j ≡ length lists). get_or_push lists [] [] j (sym e) ∙ sym (get_or_past lists j [] past))
-        (λ (ne : j ≢ length lists). get_or_past (lists ++ [] ∷ []) j [] (omega (arith, length_push {X = List X} lists [])) ∙ sym (get_or_past lists j [] past))
-        (cases_eq j (length lists)))
+      (λ (e : j ≡ length lists). get_or_push lists [] [] j (sym e) ∙ sym (get_or_past lists j [] past))
+      (λ (ne : j ≢ length lists). get_or_past (lists ++ [] ∷ []) j [] (omega (arith, length_push {X = List X} lists [])) ∙ sym (get_or_past lists j [] past))
+      (cases_eq j (length lists)))
       (cases_lt j (length lists))
 
   -- an empty list more changes no list
@@ -78,6 +78,6 @@ module _ {X : Type 0} where
       let same : list_at (lists_of (set lists i new)) place ≡ list_at (set (lists_of lists) i new.items) place = ap (λ (all : List (List X)). list_at all place) (map-set (λ (v : Vec X Global). v.items) lists i new) in
       let inside : i < length (lists_of lists) = omega (arith, length-lists_of lists) in
       same ∙ ⊎_elim
-        (λ (e : place ≡ i). ap (list_at (set (lists_of lists) i new.items)) e ∙ get_or-set_same (lists_of lists) i new.items [] inside ∙ empty)
-        (λ (ne : place ≢ i). get_or-set_other (lists_of lists) i place new.items [] ne ∙ before place (omega arith))
-        (cases_eq place i)
+      (λ (e : place ≡ i). ap (list_at (set (lists_of lists) i new.items)) e ∙ get_or-set_same (lists_of lists) i new.items [] inside ∙ empty)
+      (λ (ne : place ≢ i). get_or-set_other (lists_of lists) i place new.items [] ne ∙ before place (omega arith))
+      (cases_eq place i)

@@ -1,15 +1,15 @@
 -- States that move, one after the other.
-use Rattle.std.proofs.Common.{◌≡◌, ◌≢◌, ℕ, ◌+◌, ◌<◌, ◌≤◌, ◌⊎◌, inl, inr, ⊎_elim, Bool, true, false, List, [], ◌∷◌, ◌++◌, length, replicate, get_or, set, take, Contains, refl, sym, ap, ◌∙◌, subst, arith, get_or-set_same, get_or-set_other, length-set}
-use Rattle.std.proofs.lemmas.Bool.{cases_eq, cases_lt}
+use Rattle.std.proofs.Common.{◌≡◌, ◌≢◌, ℕ, ◌+◌, ◌<◌, inl, inr, ⊎_elim, List, [], ◌∷◌, ◌++◌, length, replicate, get_or, set, take, Contains, refl, sym, ap, ◌∙◌, subst, arith, get_or-set_same, get_or-set_other, length-set}
+use Rattle.std.proofs.lemmas.Bool.{cases_eq}
 use Rattle.std.proofs.lemmas.Bool.Decides.{nat_tests}
-use Rattle.std.proofs.lemmas.List.{take_more, take_all, get_or-replicate, length-replicate}
-use Rattle.std.proofs.lemmas.List.Elements.{Contains-append_left, Contains-push, Contains-push_cases, Contains-get_or}
+use Rattle.std.proofs.lemmas.List.{take_more, get_or-replicate, length-replicate}
+use Rattle.std.proofs.lemmas.List.Elements.{Contains-append_left, Contains-push, Contains-push_cases}
 use Rattle.std.specs.List.{range_with_len}
 use Rattle.hz_base_model.proofs.Elements.{Contains-nil, Contains-range, Contains-from_range}
 use Rattle.hz_minim_model.specs.Blocks.{block_of}
 use Rattle.hz_refine.specs.declared.marks.Mark.{Mark}
 use Rattle.hz_refine.specs.Lists.{list_at, added}
-use Rattle.hz_refine.specs.Moves.{IsListed, IsMoved, goes_of, goes_to}
+use Rattle.hz_refine.specs.Moves.{IsListed, IsMoved, goes_to}
 use Rattle.hz_refine.proofs.ListLaws.{added-holds, added-kept, added-only, place_within}
 
 -- a block that has gone goes no further
@@ -47,9 +47,9 @@ module _ (goes : ℕ → ℕ) (once : (block : ℕ) → goes (goes block) ≡ go
       let each = moved.each in
       get_or-set_same mid here (goes (block_of mid here)) 0 (omega arith)
       ∙ ⊎_elim
-        (λ (went : Contains (take i states) here × (block_of mid here ≡ goes (block_of before here))). ap goes went.1 ∙ once (block_of before here))
-        (λ (stays : (Contains (take i states) here → ⊥) × (block_of mid here ≡ block_of before here)). ap goes stays.1)
-        (moved.at here there)
+      (λ (went : Contains (take i states) here × (block_of mid here ≡ goes (block_of before here))). ap goes went.1 ∙ once (block_of before here))
+      (λ (stays : (Contains (take i states) here → ⊥) × (block_of mid here ≡ block_of before here)). ap goes stays.1)
+      (moved.at here there)
 
   at_other : (state : ℕ) → state ≢ here → block_of after state ≡ block_of mid state
   at_other state ne = get_or-set_other mid here state (goes (block_of mid here)) 0 ne
@@ -60,9 +60,9 @@ module _ (goes : ℕ → ℕ) (once : (block : ℕ) → goes (goes block) ≡ go
     at = λ state inside. ⊎_elim
         (λ (e : state ≡ here). inl (subst (Contains (take (i + 1) states)) (sym e) holds, ap (block_of after) e ∙ at_here ∙ ap (λ (n : ℕ). goes (block_of before n)) (sym e)))
         (λ (ne : state ≢ here). ⊎_elim
-          (λ (went : Contains (take i states) state × (block_of mid state ≡ goes (block_of before state))). inl (keeps state went.0, at_other state ne ∙ went.1))
-          (λ (stays : (Contains (take i states) state → ⊥) × (block_of mid state ≡ block_of before state)). inr (lacks state ne stays.0, at_other state ne ∙ stays.1))
-          (moved.at state inside))
+        (λ (went : Contains (take i states) state × (block_of mid state ≡ goes (block_of before state))). inl (keeps state went.0, at_other state ne ∙ went.1))
+        (λ (stays : (Contains (take i states) state → ⊥) × (block_of mid state ≡ block_of before state)). inr (lacks state ne stays.0, at_other state ne ∙ stays.1))
+        (moved.at state inside))
         (cases_eq state here);
   }
 
@@ -73,13 +73,13 @@ listed_moved blocks members state to within inside listed =
     record {
       there = λ other lt. ⊎_elim
           (λ (e : other ≡ state).
-            let block : block_of (set blocks state to) other ≡ to = ap (block_of (set blocks state to)) e ∙ get_or-set_same blocks state to 0 within in
-            subst (λ (b : ℕ). Contains (list_at (added to state members) b) other) (sym block)
-            (subst (Contains (list_at (added to state members) to)) (sym e) (added-holds to state members inside)))
+          let block : block_of (set blocks state to) other ≡ to = ap (block_of (set blocks state to)) e ∙ get_or-set_same blocks state to 0 within in
+          subst (λ (b : ℕ). Contains (list_at (added to state members) b) other) (sym block)
+          (subst (Contains (list_at (added to state members) to)) (sym e) (added-holds to state members inside)))
           (λ (ne : other ≢ state).
-            let block : block_of (set blocks state to) other ≡ block_of blocks other = get_or-set_other blocks state other to 0 ne in
-            subst (λ (b : ℕ). Contains (list_at (added to state members) b) other) (sym block)
-            (added-kept to state members (block_of blocks other) other (listed.there other (omega arith))))
+          let block : block_of (set blocks state to) other ≡ block_of blocks other = get_or-set_other blocks state other to 0 ne in
+          subst (λ (b : ℕ). Contains (list_at (added to state members) b) other) (sym block)
+          (added-kept to state members (block_of blocks other) other (listed.there other (omega arith))))
           (cases_eq other state);
       states = λ block other h. ⊎_elim
           (λ (old : Contains (list_at members block) other). let low = listed.states block other old in omega arith)

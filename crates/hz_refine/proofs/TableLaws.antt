@@ -1,5 +1,5 @@
 -- Entries of tables, and states that entries put apart.
-use Rattle.std.proofs.Common.{◌≡◌, ◌≢◌, ℕ, ◌+◌, ◌<◌, ◌≤◌, ◌⊎◌, inl, inr, ⊎_elim, Bool, true, false, List, [], ◌∷◌, length, get_or, Option, Some, None, is_some, refl, sym, ap, ◌∙◌, subst, arith}
+use Rattle.std.proofs.Common.{◌≡◌, ℕ, ◌+◌, ◌<◌, ◌≤◌, ◌⊎◌, inl, inr, ⊎_elim, true, false, List, [], ◌∷◌, length, get_or, Option, Some, None, is_some, refl, sym, ap, ◌∙◌, arith}
 use Rattle.std.proofs.lemmas.Bool.{cases_lt, false≢true}
 use Rattle.std.proofs.lemmas.List.{get_or_past}
 use Rattle.hz_tables_model.specs.Tables.{Table, row_of, entry, walk, IsTable}
@@ -13,12 +13,12 @@ option_cases (Some n) = inr (n, refl)
 pub entry_within : (table : Table) (columns : ℕ) → IsTable table columns → (state column next : ℕ) → entry table state column ≡ Some next → (state < length table) × (column < columns + 1)
 entry_within table columns is state column next e = ⊎_elim
     (λ (within : state < length table). ⊎_elim
-      (λ (inside : column < length (row_of table state)). (within, omega (arith, is.width state within)))
-      (λ (past : length (row_of table state) ≤ column). let none : entry table state column ≡ None = get_or_past (row_of table state) column None past in absurd (cc))
-      (cases_lt column (length (row_of table state))))
+    (λ (inside : column < length (row_of table state)). (within, omega (arith, is.width state within)))
+    (λ (past : length (row_of table state) ≤ column). let none : entry table state column ≡ None = get_or_past (row_of table state) column None past in absurd (cc))
+    (cases_lt column (length (row_of table state))))
     (λ (past : length table ≤ state).
-      let none : entry table state column ≡ None = ap (λ (row : List (Option ℕ)). get_or row column None) (get_or_past table state [] past) in
-      absurd (cc))
+    let none : entry table state column ≡ None = ap (λ (row : List (Option ℕ)). get_or row column None) (get_or_past table state [] past) in
+    absurd (cc))
     (cases_lt state (length table))
 
 pub apart_symmetric : (table : Table) (one other : ℕ) → Apart table one other → Apart table other one

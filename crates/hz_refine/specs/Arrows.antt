@@ -1,5 +1,5 @@
 -- The entries of a table by the state to which they lead.
-use Rattle.std.specs.Prelude.{◌≡◌, ℕ, ◌+◌, ◌<◌, List, Some, length}
+use Rattle.std.specs.Prelude.{◌≡◌, ℕ, ◌<◌, List, Some, length}
 use Rattle.std.specs.List.{Contains}
 use Rattle.hz_tables_model.specs.Tables.{Table, entry}
 use Rattle.hz_tables_model.specs.Orders.{IsReadBefore}

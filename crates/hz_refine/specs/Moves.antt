@@ -1,6 +1,6 @@
 -- States that move from block to block. Hopcroft, 'An n log n algorithm for minimizing states in a finite automaton',
 -- 1971.
-use Rattle.std.specs.Prelude.{◌≡◌, ◌⊎◌, ℕ, ◌<◌, Bool, false, ◌&&◌, nat_lt, nat_le, List, length, slice_index_or, if◌then◌else◌}
+use Rattle.std.specs.Prelude.{◌≡◌, ◌⊎◌, ℕ, ◌<◌, false, ◌&&◌, nat_lt, nat_le, List, length, slice_index_or, if◌then◌else◌}
 use Rattle.std.specs.List.{Contains}
 use Rattle.hz_tables_model.specs.Tables.{Table}
 use Rattle.hz_tables_model.specs.Apart.{Apart}

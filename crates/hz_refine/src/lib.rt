@@ -13,15 +13,14 @@ ghost use Rattle.std.specs.Prelude.{◌<◌, IfOk, All};
 ghost use Rattle.hz_tables_model.specs.Tables.{IsTable};
 ghost use Rattle.hz_minim_model.specs.Blocks.{KeepsApart, block_limit};
 
-pub use hz_tables::NoMemory;
-use hz_tables::Plain;
-use std::alloc::Global;
-
 use crate::arrows::arrows_of;
 use crate::lists::empty_lists;
 use crate::marks::Marks;
 use crate::partition::Partition;
 use crate::splitting::turn;
+pub use hz_tables::NoMemory;
+use hz_tables::Plain;
+use std::alloc::Global;
 
 /// The block of each state. States of different blocks are apart; that states of one block are alike is not promised,
 /// and is for the caller to see. Numbers of blocks are below 131,072. Hopcroft, 'An n log n algorithm for minimizing
@@ -35,7 +34,7 @@ pub fn refine(alloc: Global, plain: &Plain) -> Result<Vec<u32>, NoMemory>
     let mut partition = Partition::whole(alloc, plain.states())?;
     let mut marks = Marks::whole(alloc, plain.states())?;
     let mut buckets = empty_lists(alloc, plain.columns() as usize + 1)?;
-    // Each turn but the first takes a block that waits since a split, so there are as many turns as blocks at most.
+    // A split makes one block wait, so there are at most as many turns as blocks in the end.
     for _ in 0..plain.states() {
         match marks.next() {
             Some(block) => turn(

@@ -7,11 +7,7 @@ use hz_tables::NoMemory;
 use std::alloc::Global;
 
 /// Adds empty lists behind the others, until there are so many.
-pub fn grow<T: Drop>(
-    alloc: Global,
-    lists: &mut Vec<Vec<T>>,
-    count: usize,
-) -> Result<(), NoMemory>
+pub fn grow<T: Drop>(alloc: Global, lists: &mut Vec<Vec<T>>, count: usize) -> Result<(), NoMemory>
     requires { vec_len lists.old ≤ count }
     ensures size { OnOk result (vec_len lists.new ≡ count) }
     ensures same { OnOk result ((place : ℕ) → list_at (lists_of lists.new.items) place ≡ list_at (lists_of lists.old.items) place) }

@@ -1,5 +1,5 @@
-//! What is counted of blocks, so that the smaller half waits. Which block waits and which goes where is not said here:
-//! blocks keep apart whatever it is.
+//! What is counted of blocks, so that the smaller half waits. No clause says which block waits and where one goes: states
+//! of different blocks are apart whatever it is.
 
 ghost use Rattle.std.specs.Prelude.{◌≡◌, ◌<◌, ◌≤◌, ℕ, IfOk, OnOk, length, vec_len};
 ghost use Rattle.std.specs.List.{Contains};
@@ -32,8 +32,8 @@ pub struct Marks {
     waiting: Vec<u32>,
 }
 
-// The mark of a block from which the states that were counted go to a new one, and the mark of that one. The smaller
-// waits, and the new one too where the block waits.
+// The mark of a block from which the states that were counted go to a new one, and the mark of that one. The smaller one
+// waits, and both where the block waited.
 fn halves(mark: Mark, new: u32) -> (Mark, Mark) {
     let left = mark.size.saturating_sub(mark.hits);
     let left_waits = mark.waits || left < mark.hits;
@@ -115,10 +115,9 @@ impl Marks {
     {
         let new = self.of_blocks.len() as u32;
         if let Some(mark) = self.of_blocks.get_mut(block as usize) {
-            let waited = mark.waits;
             let (left, moved) = halves(*mark, new);
             *mark = left;
-            let waits = if waited || moved.waits { new } else { block };
+            let waits = if moved.waits { new } else { block };
             self.of_blocks.push(moved)?;
             self.waiting.push(waits)?;
         }
@@ -148,7 +147,7 @@ impl Marks {
         ensures more { OnOk result (vec_len self.old.of_blocks ≤ vec_len self.new.of_blocks) }
         ensures few { OnOk result (vec_len self.new.of_blocks ≤ block_limit) }
     {
-        for _block in 0..self.hit.len() {
+        for _ in 0..self.hit.len() {
             match self.hit.pop() {
                 Some(block) => self.settle(block)?,
                 None => return Ok(()),

@@ -1,4 +1,4 @@
-use Rattle.std.proofs.Common.{◌≡◌, ◌+◌, ◌<◌, length, get_or, take, sym, subst, arith}
+use Rattle.std.proofs.Common.{◌+◌, ◌<◌, length, get_or, take, sym, subst, arith}
 use Rattle.std.proofs.lemmas.List.{get_or_default}
 use Rattle.std.proofs.lemmas.List.Elements.{Contains-get_or}
 use Rattle.hz_refine.specs.declared.arrows.Arrow.{Arrow}

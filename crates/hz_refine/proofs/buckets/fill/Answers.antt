@@ -1,4 +1,4 @@
-use Rattle.std.proofs.Common.{◌≡◌, ◌≢◌, ℕ, ◌+◌, ◌<◌, List, length, get_or, take, Contains, sym, ap, ◌∙◌, subst, arith, vec_len}
+use Rattle.std.proofs.Common.{◌≡◌, ℕ, ◌+◌, ◌<◌, List, length, get_or, take, Contains, sym, ap, ◌∙◌, subst, arith, vec_len}
 use Rattle.std.specs.declared.alloc.Global.{Global}
 use Rattle.std.specs.declared.vec.Vec.{Vec}
 use Rattle.std.proofs.lemmas.List.{get_or_default, get_or_read, take_all}
@@ -6,7 +6,7 @@ use Rattle.std.proofs.lemmas.List.Elements.{Contains-get_or}
 use Rattle.hz_minim_model.specs.Blocks.{block_of}
 use Rattle.hz_refine.specs.declared.arrows.Arrow.{Arrow}
 use Rattle.hz_refine.specs.declared.partition.Partition.{Partition}
-use Rattle.hz_refine.specs.Buckets.{AddsArrows, AreBuckets}
+use Rattle.hz_refine.specs.Buckets.{AddsArrows}
 use Rattle.hz_refine.specs.Lists.{list_at, lists_of}
 use Rattle.hz_refine.specs.Moves.{IsListed}
 use Rattle.hz_refine.proofs.BucketLaws.{AreFilled, filled_all, filled_more, filled_skipped}
@@ -45,18 +45,18 @@ loop-state-preserved c =
     let read : c.index.result.now ≡ block_of blocks here = get_or_read blocks here c.index.result.now below c.index.ensures 0 in
     let Filled = λ (v : Vec (Vec ℕ Global) Global). AreFilled arrows blocks c.args.block (take (i + 1) states) (lists_of v.items) in
     elim c.if-index-block.branch [
-      then-index-block+in_ok-add_arrows w ↦
-        let adds = subst (λ (xs : List Arrow). AddsArrows xs before (lists_of w.add_arrows.new.buckets.items)) w.at.ensures w.in_ok-add_arrows.ensures in
-        record {
-          size = ap (λ (v : Vec (Vec ℕ Global) Global). vec_len v) w.buckets-is
-              ∙ omega (arith, adds.size, length-lists_of c.loop-state.buckets.items, length-lists_of w.add_arrows.new.buckets.items, c.loop-state.buckets.ok.0, w.add_arrows.new.buckets.ok.0, c.loop-state.invariant.size);
-          filled = subst Filled (sym w.buckets-is) (filled_more arrows blocks c.args.block states i here c.loop-state-test.true same before c.loop-state.invariant.filled below (sym read ∙ w.if-index-block.true) (lists_of w.add_arrows.new.buckets.items) adds);
-        }
-    | else-index-block w ↦
-        record {
-          size = ap (λ (v : Vec (Vec ℕ Global) Global). vec_len v) w.buckets-is ∙ c.loop-state.invariant.size;
-          filled = subst Filled (sym w.buckets-is) (filled_skipped arrows blocks c.args.block states i here c.loop-state-test.true same before c.loop-state.invariant.filled (λ e. w.if-index-block.false (read ∙ e)));
-        }
+      | then-index-block+in_ok-add_arrows w ↦
+          let adds = subst (λ (xs : List Arrow). AddsArrows xs before (lists_of w.add_arrows.new.buckets.items)) w.at.ensures w.in_ok-add_arrows.ensures in
+          record {
+            size = ap (λ (v : Vec (Vec ℕ Global) Global). vec_len v) w.buckets-is
+                ∙ omega (arith, adds.size, length-lists_of c.loop-state.buckets.items, length-lists_of w.add_arrows.new.buckets.items, c.loop-state.buckets.ok.0, w.add_arrows.new.buckets.ok.0, c.loop-state.invariant.size);
+            filled = subst Filled (sym w.buckets-is) (filled_more arrows blocks c.args.block states i here c.loop-state-test.true same before c.loop-state.invariant.filled below (sym read ∙ w.if-index-block.true) (lists_of w.add_arrows.new.buckets.items) adds);
+          }
+      | else-index-block w ↦
+          record {
+            size = ap (λ (v : Vec (Vec ℕ Global) Global). vec_len v) w.buckets-is ∙ c.loop-state.invariant.size;
+            filled = subst Filled (sym w.buckets-is) (filled_skipped arrows blocks c.args.block states i here c.loop-state-test.true same before c.loop-state.invariant.filled (λ e. w.if-index-block.false (read ∙ e)));
+          }
     ]
 
 pub returns-clause-buckets : goal.returns-clause-buckets

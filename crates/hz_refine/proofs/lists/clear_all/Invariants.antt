@@ -1,4 +1,4 @@
-use Rattle.std.proofs.Common.{◌≡◌, ℕ, ◌<◌, [], length}
+use Rattle.std.proofs.Common.{◌≡◌, ℕ, ◌<◌, []}
 use Rattle.hz_refine.specs.Lists.{lists_of, list_at}
 use Rattle.hz_refine.proofs.lists.clear_all.Given as goal
 

@@ -1,4 +1,4 @@
-use Rattle.std.proofs.Common.{◌≡◌, ℕ, ◌<◌, length, sym, ap, ◌∙◌, subst, arith}
+use Rattle.std.proofs.Common.{length, ap, arith}
 use Rattle.hz_refine.specs.Lists.{lists_of}
 use Rattle.hz_refine.specs.Moves.{goes_to}
 use Rattle.hz_refine.proofs.ApartLaws.{moved_apart}

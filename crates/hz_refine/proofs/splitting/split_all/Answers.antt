@@ -1,6 +1,5 @@
-use Rattle.std.proofs.Common.{◌≡◌, List, ℕ, length, sym, ◌∙◌, subst}
+use Rattle.std.proofs.Common.{List, ℕ, length, sym, ◌∙◌, subst}
 use Rattle.hz_refine.specs.Kept.{AreBelow, IsKept, StaysApart}
-use Rattle.hz_refine.specs.Lists.{list_at, lists_of}
 use Rattle.hz_refine.proofs.ListLaws.{list_at_read}
 use Rattle.hz_refine.proofs.splitting.split_all.Goals as goal
 

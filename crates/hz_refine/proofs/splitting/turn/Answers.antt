@@ -1,7 +1,6 @@
 use Rattle.std.proofs.Common.{Contains, sym, subst}
 use Rattle.hz_refine.specs.Arrows.{arrow_from}
 use Rattle.hz_refine.specs.Lists.{list_at, lists_of}
-use Rattle.hz_refine.specs.Kept.{AreBelow}
 use Rattle.hz_refine.specs.Moves.{IsSeparate}
 use Rattle.hz_refine.proofs.ApartLaws.{buckets_are_separate}
 use Rattle.hz_refine.proofs.splitting.turn.Goals as goal
@@ -19,5 +18,5 @@ pub returns-clause-apart : goal.returns-clause-apart
 returns-clause-apart c = λ plain is are keeps.
     c.in_ok-split_all.ensures.apart plain.rows
     (λ place. subst (λ lists. IsSeparate plain.rows (list_at (lists_of lists) place)) (sym c.deref.ensures.value)
-        (buckets_are_separate plain is (lists_of c.args.arrows.now) are c.args.partition.now.blocks.items keeps c.args.block (lists_of c.fill.new.buckets.items) c.in_ok-fill.ensures.buckets place))
+    (buckets_are_separate plain is (lists_of c.args.arrows.now) are c.args.partition.now.blocks.items keeps c.args.block (lists_of c.fill.new.buckets.items) c.in_ok-fill.ensures.buckets place))
     keeps

@@ -1,4 +1,4 @@
-use Rattle.std.proofs.Common.{◌≡◌, ◌+◌, ◌≤◌, All, length}
+use Rattle.std.proofs.Common.{◌≡◌, ◌+◌, All, length}
 use Rattle.hz_refine.specs.Examples.{IsRow}
 use Rattle.hz_refine.proofs.tests.table.Given as goal
 
