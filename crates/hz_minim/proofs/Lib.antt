@@ -1,0 +1,6 @@
+pub mod LeadLemmas
+pub mod SettleLemmas
+pub mod ReadLemmas
+pub mod FoldLemmas
+pub mod WalkLaws
+pub mod TestLemmas

@@ -1,0 +1,4 @@
+pub mod Leading
+pub mod Reading
+pub mod Folding
+pub mod Examples

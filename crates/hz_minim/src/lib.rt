@@ -6,8 +6,16 @@ ghost use Rattle.hz_tables_model.specs.Tables.{IsTable};
 ghost use Rattle.hz_tables_model.specs.Apart.{WalkTheSame};
 ghost use Rattle.hz_minim_model.specs.Normal.{IsNormal};
 
+mod folding;
+mod leading;
+mod settling;
+
+use folding::fold;
+use hz_refine::refine;
 pub use hz_tables::NoMemory;
 use hz_tables::Plain;
+use leading::leaders_of;
+use settling::settle;
 use std::alloc::Global;
 
 /// The table that walks from the start what this one walks, has no two states that aren't apart, and is numbered
@@ -21,6 +29,11 @@ pub fn minimise(alloc: Global, plain: &Plain) -> Result<Plain, NoMemory>
     ensures fewer { IfOk result (λ least. length least.rows ≤ length plain.now.rows) }
 {
     let _states = plain.states();
-    let _alloc = alloc;
-    Err(NoMemory)
+    let blocks = refine(alloc, plain)?;
+    let leaders = leaders_of(alloc, &blocks)?;
+    let settled = settle(alloc, plain, leaders)?;
+    fold(alloc, plain, &settled)
 }
+
+#[cfg(test)]
+mod tests;

@@ -1,2 +1,4 @@
 //! Least tables: partitions of states, and the normal form.
 #![tactic(auto)]
+
+pub mod normal;

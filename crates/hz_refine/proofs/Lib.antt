@@ -1,0 +1,7 @@
+pub mod ListLaws
+pub mod TableLaws
+pub mod ArrowLaws
+pub mod ApartLaws
+pub mod MoveLaws
+pub mod BucketLaws
+pub mod ExampleLaws

@@ -1,0 +1,6 @@
+pub mod Lists
+pub mod Arrows
+pub mod Moves
+pub mod Buckets
+pub mod Kept
+pub mod Examples

@@ -2,10 +2,22 @@
 //! apart.
 #![tactic(auto)]
 
+mod arrows;
+mod buckets;
+mod lists;
+mod marks;
+mod partition;
+mod splitting;
+
 ghost use Rattle.std.specs.Prelude.{◌<◌, IfOk, All};
 ghost use Rattle.hz_tables_model.specs.Tables.{IsTable};
 ghost use Rattle.hz_minim_model.specs.Blocks.{KeepsApart, block_limit};
 
+use crate::arrows::arrows_of;
+use crate::lists::empty_lists;
+use crate::marks::Marks;
+use crate::partition::Partition;
+use crate::splitting::turn;
 pub use hz_tables::NoMemory;
 use hz_tables::Plain;
 use std::alloc::Global;
@@ -18,8 +30,26 @@ pub fn refine(alloc: Global, plain: &Plain) -> Result<Vec<u32>, NoMemory>
     ensures apart { IfOk result (λ blocks. KeepsApart plain.now.rows blocks.items) }
     ensures numbers { IfOk result (λ blocks. All (λ block. block < block_limit) blocks.items) }
 {
-    let _states = plain.states();
-    let refused: Result<Vec<u32>, NoMemory> = Err(NoMemory);
-    let _alloc = alloc;
-    refused
+    let arrows = arrows_of(alloc, plain)?;
+    let mut partition = Partition::whole(alloc, plain.states())?;
+    let mut marks = Marks::whole(alloc, plain.states())?;
+    let mut buckets = empty_lists(alloc, plain.columns() as usize + 1)?;
+    // A split makes one block wait, so there are at most as many turns as blocks in the end.
+    for _ in 0..plain.states() {
+        match marks.next() {
+            Some(block) => turn(
+                alloc,
+                &arrows,
+                &mut partition,
+                &mut marks,
+                &mut buckets,
+                block,
+            )?,
+            None => return Ok(partition.blocks),
+        }
+    }
+    Ok(partition.blocks)
 }
+
+#[cfg(test)]
+mod tests;

@@ -1,0 +1,49 @@
+//! The entries of a table by the state to which they lead.
+
+ghost use Rattle.std.specs.Prelude.{◌≡◌, ◌+◌, ◌<◌, IfOk, OnOk, length};
+ghost use Rattle.hz_tables_model.specs.Tables.{IsTable};
+ghost use Rattle.hz_refine.specs.Lists.{lists_of};
+ghost use Rattle.hz_refine.specs.Arrows.{AreArrows, HasRead};
+
+use crate::lists::{add, empty_lists};
+use hz_tables::{NoMemory, Plain};
+use std::alloc::Global;
+
+/// An entry that isn't none: its column, and the state that has it.
+#[derive(Clone, Copy)]
+pub struct Arrow {
+    pub column: u32,
+    pub source: u32,
+}
+
+// Adds the arrows of a state, behind those of the states before it.
+fn add_row(arrows: &mut Vec<Vec<Arrow>>, plain: &Plain, state: u32) -> Result<(), NoMemory>
+    requires table { IsTable plain.now.rows plain.now.columns }
+    requires state { state < length plain.now.rows }
+    requires read { HasRead plain.now.rows state 0 (lists_of arrows.old.items) }
+    ensures { OnOk result (HasRead plain.now.rows (state + 1) 0 (lists_of arrows.new.items)) }
+{
+    for column in 0..plain.columns() + 1 {
+        let arrow = Arrow {
+            column,
+            source: state,
+        };
+        match plain.step(state, column) {
+            Some(target) => add(arrows, target, arrow)?,
+            None => (),
+        }
+    }
+    Ok(())
+}
+
+/// For each state the arrows that lead to it.
+pub fn arrows_of(alloc: Global, plain: &Plain) -> Result<Vec<Vec<Arrow>>, NoMemory>
+    requires { IsTable plain.now.rows plain.now.columns }
+    ensures { IfOk result (λ arrows. AreArrows plain.now (lists_of arrows.items)) }
+{
+    let mut arrows = empty_lists(alloc, plain.states() as usize)?;
+    for state in 0..plain.states() {
+        add_row(&mut arrows, plain, state)?;
+    }
+    Ok(arrows)
+}
