@@ -43,6 +43,7 @@ bench: bin/hz
 	@sh bench/states/run.sh
 	@sh bench/determ/run.sh
 	@sh bench/depend/run.sh
+	@sh bench/minim/run.sh
 
 install: bin/hz
 	@install -d "$(DESTDIR)$(PREFIX)/bin"

@@ -125,9 +125,9 @@ module _ (checked : Checked) (a : ℕ) (low : a < length checked.automata.items)
       shown_told true None h = h
       shown_told true (Some shown) h = (h.parents, h.states)
 
-      pub whole_compiled : name ≡ (automaton_at automata a).name → IsCompiledPart options automata classes a (part_of all.part) (report_of all.report)
+      pub whole_compiled : name ≡ (automaton_at automata a).name → IsCompiledPart true options automata classes a (part_of all.part) (report_of all.report)
       whole_compiled named =
-          subst (λ part. IsCompiledPart options automata classes a part (report_of all.report)) is_part
+          subst (λ part. IsCompiledPart true options automata classes a part (report_of all.report)) is_part
           (compiled_part options automata classes a rules asked (lists_of columns) (named_part (part_of all.part).name) is number explored.grids.items sets explored.parents.items built (report_of all.report)
           (whole.named ∙ named)
           (whole.told).grids (whole.told).states ((whole.told).members ∙ sum_by_items explored.sets.items)

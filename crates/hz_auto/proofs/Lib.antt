@@ -4,3 +4,4 @@ pub mod PartLemmas
 pub mod CheckedFacts
 pub mod ExploredLemmas
 pub mod MachineLemmas
+pub mod LeastLemmas

@@ -103,7 +103,7 @@ module _ (checked : Checked) where
       by_fault NoMemory over e = subst (IsFaultOf checked) (sym e) tt
 
   -- one automaton more is compiled
-  pub compiled_more : (a : ℕ) (parts new : List Part) (reports told : List AutoReport) (part : Part) (report : AutoReport) → AreCompiled checked a parts reports → new ≡ parts ++ part ∷ [] → told ≡ reports ++ report ∷ [] → IsCompiledPart options automata classes a (part_of part) (report_of report) → AreCompiled checked (a + 1) new told
+  pub compiled_more : (a : ℕ) (parts new : List Part) (reports told : List AutoReport) (part : Part) (report : AutoReport) → AreCompiled checked a parts reports → new ≡ parts ++ part ∷ [] → told ≡ reports ++ report ∷ [] → IsCompiledPart options.no_minimization options automata classes a (part_of part) (report_of report) → AreCompiled checked (a + 1) new told
   compiled_more a parts new reports told part report are is also here =
       subst (λ ps. AreCompiled checked (a + 1) ps told) (sym is) (subst (AreCompiled checked (a + 1) (parts ++ part ∷ [])) (sym also) whole)
     where
@@ -130,12 +130,12 @@ module _ (checked : Checked) where
         each = length_push parts part ∙ ap (λ n. n + 1) are.each;
         told = length_push reports report ∙ ap (λ n. n + 1) are.told;
         at = λ b low. ⊎_elim
-            (λ (less : b < a). subst (λ p. IsCompiledPart options automata classes b p (report_at (reports_of (reports ++ report ∷ [])) b)) (sym (part_before b less))
-            (subst (IsCompiledPart options automata classes b (part_at (machine_with parts) b)) (sym (report_before b less)) (are.at b less)))
+            (λ (less : b < a). subst (λ p. IsCompiledPart options.no_minimization options automata classes b p (report_at (reports_of (reports ++ report ∷ [])) b)) (sym (part_before b less))
+            (subst (IsCompiledPart options.no_minimization options automata classes b (part_at (machine_with parts) b)) (sym (report_before b less)) (are.at b less)))
             (λ (high : a ≤ b). let same : a ≡ b = omega (arith, low, high) in
-            subst (λ n. IsCompiledPart options automata classes n (part_at (machine_with (parts ++ part ∷ [])) n) (report_at (reports_of (reports ++ report ∷ [])) n)) same
-            (subst (λ p. IsCompiledPart options automata classes a p (report_at (reports_of (reports ++ report ∷ [])) a)) (sym part_last)
-            (subst (IsCompiledPart options automata classes a (part_of part)) (sym report_last) here)))
+            subst (λ n. IsCompiledPart options.no_minimization options automata classes n (part_at (machine_with (parts ++ part ∷ [])) n) (report_at (reports_of (reports ++ report ∷ [])) n)) same
+            (subst (λ p. IsCompiledPart options.no_minimization options automata classes a p (report_at (reports_of (reports ++ report ∷ [])) a)) (sym part_last)
+            (subst (IsCompiledPart options.no_minimization options automata classes a (part_of part)) (sym report_last) here)))
             (cases_lt b a);
       }
 

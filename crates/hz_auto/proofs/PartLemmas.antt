@@ -136,7 +136,7 @@ module _ (options : Options) (automata : List AutomatonParts) (classes : List Cl
             subst (IsSorted grid_order) (get_or_default shown.states i [] d within) at.sorted
 
     -- the part that is compiled
-    pub compiled_part : (report : Report) → part.name ≡ (automaton_at automata a).name → report.grids ≡ length grids → report.states ≡ length part.rows → report.members ≡ sum_by length sets → ReportedOf report → IsWithinLimits (shows_states options) (lists_at classes a) m → IsCompiledPart options automata classes a part report
+    pub compiled_part : (report : Report) → part.name ≡ (automaton_at automata a).name → report.grids ≡ length grids → report.states ≡ length part.rows → report.members ≡ sum_by length sets → ReportedOf report → IsWithinLimits (shows_states options) (lists_at classes a) m → IsCompiledPart true options automata classes a part report
     compiled_part report named grids_are states_are members shown within = record {
       name = named;
       columns = columns;

@@ -40,4 +40,4 @@ IsFaultAt ndfa a no_memory fault = fault ≡ NoMemory
 pub record AreCompiled (checked : Checked) (done : ℕ) (parts : List Part) (reports : List AutoReport) : Type 0 where
   pub each : length parts ≡ done
   pub told : length reports ≡ done
-  pub at : (a : ℕ) → a < done → IsCompiledPart (options_of checked.options) (map automaton_of checked.automata.items) (map class_of checked.classes.items) a (part_at (record { classes = map (λ c. c.name) checked.classes.items; parts = map part_of parts }) a) (report_at (reports_of reports) a)
+  pub at : (a : ℕ) → a < done → IsCompiledPart checked.options.no_minimization (options_of checked.options) (map automaton_of checked.automata.items) (map class_of checked.classes.items) a (part_at (record { classes = map (λ c. c.name) checked.classes.items; parts = map part_of parts }) a) (report_at (reports_of reports) a)

@@ -1,5 +1,5 @@
 -- One automaton, explored and compiled.
-use Rattle.std.specs.Prelude.{◌≡◌, ℕ, Bool, ◌&&◌, List}
+use Rattle.std.specs.Prelude.{◌≡◌, ℕ, ◌≤◌, Bool, ◌&&◌, List, length}
 use Rattle.hz_mdread.specs.declared.options.Options.{Options}
 use Rattle.hz_mdread_model.specs.Descriptions as model
 use Rattle.hz_check_model.specs.CheckedParts.{AutomatonParts, ClassParts}
@@ -8,11 +8,14 @@ use Rattle.hz_reach_model.specs.Counts as count
 use Rattle.hz_states.specs.declared.fault.StateFault.{StateFault}
 use Rattle.hz_states.specs.declared.fault.StateFault.TheVariants.{GridLimit, SetLimit, MemberLimit, CellLimit, NoMemory}
 use Rattle.hz_tables.specs.Parts.{part_of}
+use Rattle.hz_tables_model.specs.Machines.{Part}
 use Rattle.hz_determ.specs.declared.build.Caps.{Caps}
 use Rattle.hz_determ.specs.declared.build.Explored.{Explored}
 use Rattle.hz_auto_model.specs.AutomatonPipelines.{lists_at, automaton_pipeline}
 use Rattle.hz_auto_model.specs.Compiled.{shows_states}
 use Rattle.hz_auto_model.specs.CompiledParts.{cap_of, IsPastLimit}
+use Rattle.hz_tables_model.specs.Apart.{WalkTheSame}
+use Rattle.hz_minim_model.specs.Normal.{IsNormal}
 use Rattle.hz_auto.specs.declared.part.Automaton.{Automaton}
 use Rattle.hz_auto.specs.Reports.{IsReportOf}
 
@@ -42,3 +45,12 @@ pub record IsWhole (name : List ℕ) (shown : Bool) (maps : List ℕ) (explored 
   pub columns : (part_of all.part).columns ≡ explored.plain.columns
   pub rows : (part_of all.part).rows ≡ explored.plain.rows
   pub told : IsReportOf shown explored all.report
+
+-- the least part that walks what a part walks, of which the same is told
+pub record IsLeast (part : Part) (least : Part) : Type 0 where
+  pub named : least.name ≡ part.name
+  pub mapped : least.map ≡ part.map
+  pub columns : least.columns ≡ part.columns
+  pub walks : WalkTheSame part.rows least.rows
+  pub normal : IsNormal least.rows least.columns
+  pub fewer : length least.rows ≤ length part.rows

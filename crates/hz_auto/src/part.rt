@@ -1,10 +1,11 @@
 //! One automaton of a checked description, compiled.
 
-ghost use Rattle.std.specs.Prelude.{◌≡◌, ◌<◌, ◌≤◌, ◌&&◌, length, map, All, IfOk, IfErr, if◌then◌else◌};
+ghost use Rattle.std.specs.Prelude.{◌≡◌, ◌<◌, ◌≤◌, ◌&&◌, length, map, All, IfOk, IfErr, if◌then◌else◌, true};
 ghost use Rattle.std.specs.List.{sum_by};
 ghost use Rattle.hz_acceptance_model.specs.Replay.{first_fit, any_fit};
 ghost use Rattle.hz_base_model.specs.Limits.{class_limit};
 ghost use Rattle.hz_tables_model.specs.Machines.{IsPart};
+ghost use Rattle.hz_tables_model.specs.Tables.{IsTable};
 ghost use Rattle.hz_tables_model.specs.StateLimits.{grid_limit, member_limit};
 ghost use Rattle.hz_tables.specs.Parts.{part_of};
 ghost use Rattle.hz_auto_model.specs.Compiled.{IsCompiledPart};
@@ -12,7 +13,7 @@ ghost use Rattle.hz_check.specs.Shape.{automaton_of, class_of};
 ghost use Rattle.hz_mdread.specs.Shape.{options as options_of};
 ghost use Rattle.hz_determ.specs.Explored.{IsCaps, IsBuilt, AreWithin, PassesCap};
 ghost use Rattle.hz_explore.specs.Spaces.{pipeline_of};
-ghost use Rattle.hz_auto.specs.Parts.{IsCapped, IsPastAt, IsWhole, shows};
+ghost use Rattle.hz_auto.specs.Parts.{IsCapped, IsLeast, IsPastAt, IsWhole, shows};
 ghost use Rattle.hz_auto.specs.Reports.{report_of};
 
 use crate::columns::{Columns, columns_of};
@@ -21,6 +22,7 @@ use hz_check::Checked;
 use hz_determ::{Caps, Explored, StateFault, first, subset};
 use hz_grid::Grid;
 use hz_mdread::Options;
+use hz_minim::minimise;
 use hz_regexp::{Name, NoMemory};
 use hz_tables::{Part, Table};
 use hz_unitsets::Rules;
@@ -111,14 +113,10 @@ fn whole(
     Ok(Automaton { part, report })
 }
 
-/// The automaton of this number, compiled; else a count of it that is above its limit.
-pub(crate) fn compile_part(
-    alloc: Global,
-    checked: &Checked,
-    automaton: usize,
-) -> Result<Automaton, StateFault>
+// The automaton of this number with its states as they were found; else a count of it that is above its limit.
+fn found_part(alloc: Global, checked: &Checked, automaton: usize) -> Result<Automaton, StateFault>
     requires { automaton < length checked.now.automata.items }
-    ensures compiled { IfOk result (λ all. IsCompiledPart (options_of checked.now.options) (map automaton_of checked.now.automata.items) (map class_of checked.now.classes.items) automaton (part_of all.part) (report_of all.report)) }
+    ensures compiled { IfOk result (λ all. IsCompiledPart true (options_of checked.now.options) (map automaton_of checked.now.automata.items) (map class_of checked.now.classes.items) automaton (part_of all.part) (report_of all.report)) }
     ensures kept { IfOk result (λ all. IsPart (length checked.now.classes.items) (part_of all.part)) }
     ensures fault { IfErr result (IsPastAt (options_of checked.now.options) (map automaton_of checked.now.automata.items) (map class_of checked.now.classes.items) automaton) }
 {
@@ -137,4 +135,42 @@ pub(crate) fn compile_part(
         )?),
         Err(fault) => Err(fault),
     }
+}
+
+// The least part that walks what a part walks.
+fn least_part(alloc: Global, part: Part) -> Result<Part, NoMemory>
+    requires { IsTable (part_of part).rows (part_of part).columns }
+    ensures { IfOk result (λ least. IsLeast (part_of part) (part_of least)) }
+{
+    let Part { name, map, table } = part;
+    match table {
+        Table::Rows(plain) => {
+            let table = Table::Rows(minimise(alloc, &plain)?);
+            Ok(Part { name, map, table })
+        }
+    }
+}
+
+/// The automaton of this number, compiled: minimised unless the options have `no-minimization`. Else a count of it that is
+/// above its limit.
+pub(crate) fn compile_part(
+    alloc: Global,
+    checked: &Checked,
+    automaton: usize,
+) -> Result<Automaton, StateFault>
+    requires { automaton < length checked.now.automata.items }
+    ensures compiled { IfOk result (λ all. IsCompiledPart checked.now.options.no_minimization (options_of checked.now.options) (map automaton_of checked.now.automata.items) (map class_of checked.now.classes.items) automaton (part_of all.part) (report_of all.report)) }
+    ensures kept { IfOk result (λ all. IsPart (length checked.now.classes.items) (part_of all.part)) }
+    ensures fault { IfErr result (IsPastAt (options_of checked.now.options) (map automaton_of checked.now.automata.items) (map class_of checked.now.classes.items) automaton) }
+{
+    let found = match found_part(alloc, checked, automaton) {
+        Ok(found) => found,
+        Err(fault) => return Err(fault),
+    };
+    if checked.options.no_minimization {
+        return Ok(found);
+    }
+    let Automaton { part, report } = found;
+    let part = least_part(alloc, part)?;
+    Ok(Automaton { part, report })
 }

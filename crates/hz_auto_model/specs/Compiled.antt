@@ -10,6 +10,7 @@ use Rattle.hz_acceptance_model.specs.Replay.{Pipeline}
 use Rattle.hz_mdread_model.specs.Descriptions.{Options}
 use Rattle.hz_check_model.specs.CheckedParts.{AutomatonParts, ClassParts}
 use Rattle.hz_tables_model.specs.Machines.{Machine, Part, part_at, part_walk}
+use Rattle.hz_tables_model.specs.Apart.{AllApart}
 use Rattle.hz_tables_model.specs.Orders.{IsBreadthFirst}
 use Rattle.hz_reach_model.specs.Reach.{IsLeft}
 use Rattle.hz_reach_model.specs.Counts.{Count}
@@ -49,15 +50,16 @@ pub record IsShown (classes : ℕ) (m : Pipeline ℕ) (part : Part) (shown : Sho
   pub ascending : All (λ grids. IsSorted grid_order grids) shown.states
 
 -- The part of an automaton of this number, and what is told of it: it has the automaton's name; classes with equal
--- lists share a column; it walks just what the automaton's pipeline accepts; its states are what accepted events leave,
--- numbered breadth-first; no count is above its limit, and those that are told are the automaton's.
-pub record IsCompiledPart (options : Options) (automata : List AutomatonParts) (classes : List ClassParts) (a : ℕ) (part : Part) (report : Report) : Type 0 where
+-- lists share a column; it walks just what the automaton's pipeline accepts; its states are what accepted events leave
+-- where they stay as they were found, else they are apart from one another; they are numbered breadth-first; no count is
+-- above its limit, and those that are told are the automaton's, before minimisation.
+pub record IsCompiledPart (stay : Bool) (options : Options) (automata : List AutomatonParts) (classes : List ClassParts) (a : ℕ) (part : Part) (report : Report) : Type 0 where
   pub name : part.name ≡ (automaton_at automata a).name
   pub columns : List (List (List (Pair ℕ)))
   pub shared : IsColumns (lists_at classes a) columns part.map
   pub number : length columns ≡ part.columns
   pub walks : WalksAccepted (length classes) (automaton_pipeline options automata classes a) part
-  pub tells : TellsWhatIsLeft (length classes) (automaton_pipeline options automata classes a) part
+  pub tells : MatchBool stay (TellsWhatIsLeft (length classes) (automaton_pipeline options automata classes a) part) (AllApart part.rows)
   pub numbered : IsNumbered part
   pub within : IsWithinLimits (shows_states options) (lists_at classes a) (automaton_pipeline options automata classes a)
   pub grids : CountIs (automaton_pipeline options automata classes a) part.columns count.grids report.grids
@@ -74,7 +76,7 @@ pub record IsCompiled (options : Options) (automata : List AutomatonParts) (clas
   pub names : m.classes ≡ map (λ c. c.name) classes
   pub each : length m.parts ≡ length automata
   pub told : length reports ≡ length automata
-  pub parts : (a : ℕ) → a < length automata → IsCompiledPart options automata classes a (part_at m a) (report_at reports a)
+  pub parts : (a : ℕ) → a < length automata → IsCompiledPart options.no_minimization options automata classes a (part_at m a) (report_at reports a)
 
 -- The automaton of this number is the first that has a count above its limit, and that of this kind is. In the first
 -- treatment a state has one grid, and what is one number then is named by its grids.

@@ -1,0 +1,41 @@
+#!/bin/sh
+# Times the minimisation of tables of 16,384, 32,768 and 65,536 states, without the making of the table: a chain in which
+# each round of a plain refinement splits off one state, tables that a seed makes, tables whose states are all alike, and
+# calendars of a unit. The least of five runs each, with the greatest memory, the table's among it.
+. "$(dirname "$0")/../common.sh"
+
+# The program has proofs, which are those of the tests of the crate.
+top=$(pwd)
+rt() {
+    for proof in is_row is_table; do
+        mkdir -p "proofs/$proof"
+        for file in "$top/crates/hz_minim/proofs/tests/$proof"/*.antt; do
+            sed 's/hz_minim\.proofs\.tests\./minimising.proofs./' "$file" > "proofs/$proof/$(basename "$file")"
+        done
+    done
+    command rt "$@"
+}
+
+build_program minimising bench/minim/minimising.rt.in 'hz_tables_model hz_tables hz_minim_model hz_minim' 'chain 4 1' \
+    hz_base_model hz_altern_model hz_acceptance_model hz_tables_model hz_minim_model hz_regexp_model hz_regexp hz_tables hz_refine hz_minim
+minimising=$room/crates/minimising/out/minimising
+
+echo "kind states columns least ms doubling peak_kb"
+for kind in chain random random alike calendar; do
+    columns=63
+    case $kind in
+    chain) columns=1 ;;
+    calendar) columns=16 ;;
+    random) if [ "$seen" ]; then columns=1; fi; seen=1 ;;
+    esac
+    before=
+    for states in 16384 32768 65536; do
+        least=$("$minimising" "$kind" "$states" "$columns")
+        made=$(least "$minimising" "$kind" "$states" "$columns" table)
+        whole=$(least "$minimising" "$kind" "$states" "$columns")
+        time=$((whole - made))
+        peak=$(/usr/bin/time -f %M "$minimising" "$kind" "$states" "$columns" 2>&1 > /dev/null)
+        echo "$kind $states $columns $least $(awk -v t="$time" 'BEGIN { printf "%.1f", t / 1000000 }') $(doubling "$time" "$before") $peak"
+        before=$time
+    done
+done

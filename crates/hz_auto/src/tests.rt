@@ -1,0 +1,105 @@
+//! Machines of small descriptions: how many states they have, and what is told of them.
+
+ghost use Rattle.std.specs.Prelude.{◌<◌, ◌^◌, length};
+
+use crate::{Compiled, compile};
+use hz_check::{Checked, check};
+use hz_mdread::read_description;
+use hz_sexp::read_forms;
+use std::alloc::Global;
+use std::process::Abort;
+use std::test::Fail;
+
+/// What a text describes.
+fn checked_of(alloc: Global, text: &[u8]) -> Option<Checked>
+    requires { length text.now < 2 ^ 32 }
+{
+    match read_forms(alloc, text) {
+        Ok(forms) => match read_description(alloc, &forms) {
+            Ok(description) => check(alloc, description).ok(),
+            Err(_) => None,
+        },
+        Err(_) => None,
+    }
+}
+
+/// The machine of a text, if it has one.
+fn compiled_of(rt: &impl Abort, alloc: Global, text: &[u8]) -> Option<Compiled> {
+    assert!(rt; text.len() < 1000);
+    let checked = checked_of(alloc, text)?;
+    compile(alloc, &checked).ok()
+}
+
+/// A unit that is taken a cycle late: whether it is taken now tells no states apart.
+const LATE: &str =
+    "(define_cpu_unit \"a\")(define_insn_reservation \"x\" 1 (const_int 1) \"nothing,a\")";
+
+/// A class of one of two units, and one of the first alone.
+const EITHER: &str =
+    "(define_cpu_unit \"a,b\")(define_insn_reservation \"x\" 1 (const_int 1) \"a|b\")(define_insn_reservation \"y\" 1 (const_int 1) \"a\")";
+
+/// Descriptions with options: the states of the table, and what is told of grids, states and members.
+const ROWS: [(&str, &str, u32, (u32, u32, u32)); 6] = [
+    (LATE, "v", 2, (4, 4, 4)),
+    (LATE, "no-minimization", 4, (4, 4, 4)),
+    (EITHER, "stats", 3, (3, 3, 3)),
+    (EITHER, "ndfa", 4, (4, 4, 5)),
+    (EITHER, "v,no-minimization", 3, (3, 3, 3)),
+    (EITHER, "ndfa,no-minimization", 4, (4, 4, 5)),
+];
+
+#[test]
+fn tables_are_minimised_and_counts_are_not(rt: HostRuntime) -> Result<(), Fail> {
+    let alloc = rt.alloc();
+    for (description, options, states, counts) in ROWS {
+        let text = format!(in alloc; "(automata_option \"{options}\"){description}")?;
+        match compiled_of(&rt, alloc, text.as_bytes()) {
+            Some(all) => {
+                assert!(rt; all.machine.parts.len() == 1 && all.reports.len() == 1);
+                assert!(rt; all.machine.parts[0].table.states() == states);
+                let report = &all.reports[0];
+                assert!(rt; (report.grids, report.states, report.members) == counts);
+            }
+            None => assert!(rt; false),
+        }
+    }
+    Ok(())
+}
+
+/// Options, where the states of `EITHER` are read first, and how many grids each has.
+const SHOWN: [(&str, &[(u32, u32)], &[usize]); 2] = [
+    ("no-minimization", &[(0, 0), (0, 0), (1, 0)], &[1, 1, 1]),
+    (
+        "ndfa,no-minimization",
+        &[(0, 0), (0, 0), (0, 1), (1, 0)],
+        &[1, 2, 1, 1],
+    ),
+];
+
+#[test]
+fn states_are_shown_beside_both_options(rt: HostRuntime) -> Result<(), Fail> {
+    let alloc = rt.alloc();
+    for (options, parents, sizes) in SHOWN {
+        let text = format!(in alloc; "(automata_option \"v,{options}\"){EITHER}")?;
+        match compiled_of(&rt, alloc, text.as_bytes()) {
+            Some(all) => {
+                assert!(rt; all.reports.len() == 1);
+                match &all.reports[0].shown {
+                    Some(shown) => {
+                        assert!(rt; shown.parents.as_slice() == parents);
+                        assert!(rt;
+                            shown
+                                .grids
+                                .iter()
+                                .map(|grids| grids.len())
+                                .eq(sizes.iter().copied())
+                        );
+                    }
+                    None => assert!(rt; false),
+                }
+            }
+            None => assert!(rt; false),
+        }
+    }
+    Ok(())
+}
