@@ -1,11 +1,11 @@
 -- Leaders are settled by parting those that a state leads from those that it does not.
-use Rattle.std.proofs.Common.{◌≡◌, ◌≢◌, ◌⊎◌, inl, inr, ℕ, zero, suc, ◌+◌, ◌<◌, ◌≤◌, Bool, true, false, cond, eqb, List, [], ◌∷◌, ◌++◌, length, get_or, Option, Some, None, refl, sym, ap, ◌∙◌, subst, arith, ⊎_elim}
+use Rattle.std.proofs.Common.{◌≡◌, ◌≢◌, inl, inr, ℕ, zero, suc, ◌+◌, ◌<◌, ◌≤◌, Bool, cond, eqb, List, [], ◌∷◌, ◌++◌, length, Option, Some, None, refl, sym, ap, ◌∙◌, subst, arith, ⊎_elim}
 use Rattle.std.specs.Prelude.{is_some}
 use Rattle.std.proofs.lemmas.Bool.{cases_lt, cases_eq, eq-eqb, ne_eqb}
 use Rattle.std.proofs.lemmas.List.{length_push, get_or_append_left, get_or_push}
 use Rattle.hz_tables_model.specs.Tables.{Table, entry, walk, IsTable}
 use Rattle.hz_tables_model.specs.Apart.{Apart}
-use Rattle.hz_minim.specs.Leading.{leader_of, led, led_entry, IsCoarse, Strays, Follows, AllFollow, IsSettled, GoesAlong, IsPartedTo, IsParted, led_below}
+use Rattle.hz_minim.specs.Leading.{leader_of, led, led_entry, IsCoarse, Strays, Follows, AllFollow, GoesAlong, IsPartedTo, IsParted, led_below}
 
 -- ---- states that lead to different leaders
 

@@ -1,10 +1,10 @@
 -- Rows that are tested one by one are those of a table.
-use Rattle.std.proofs.Common.{◌≡◌, ℕ, ◌+◌, ◌<◌, ◌≤◌, Some, None, length, get_or, List, [], Option, All, sym, ap, ◌∙◌, arith, ⊎_elim}
+use Rattle.std.proofs.Common.{◌≡◌, ℕ, ◌<◌, ◌≤◌, Some, None, length, get_or, List, [], Option, sym, ap, ◌∙◌, arith, ⊎_elim}
 use Rattle.std.proofs.lemmas.Bool.{cases_lt}
 use Rattle.std.proofs.lemmas.List.{get_or_past}
-use Rattle.hz_tables_model.specs.Tables.{Table, row_of, entry, IsTable}
+use Rattle.hz_tables_model.specs.Tables.{row_of, IsTable}
 use Rattle.hz_tables.specs.Rows.{Rows, KeepsRows}
-use Rattle.hz_minim.specs.Examples.{IsRow, AreRows}
+use Rattle.hz_minim.specs.Examples.{AreRows}
 
 none_some : (next : ℕ) → None ≡ Some next → ⊥
 none_some next e = cc

@@ -1,11 +1,11 @@
 -- There is one normal table for what is walked from the start: states of one number are walked alike, the lower ones first.
-use Rattle.std.proofs.Common.{◌≡◌, ◌≢◌, ◌⊎◌, inl, inr, ℕ, zero, suc, ◌+◌, ◌<◌, ◌≤◌, List, [], ◌∷◌, length, get_or, Option, Some, None, Bool, refl, sym, ap, ◌∙◌, subst, arith, ⊎_elim}
+use Rattle.std.proofs.Common.{◌≡◌, ◌⊎◌, inl, inr, ℕ, zero, suc, ◌<◌, ◌≤◌, List, [], ◌∷◌, length, Option, Some, None, refl, sym, ap, ◌∙◌, subst, arith, ⊎_elim}
 use Rattle.std.specs.Prelude.{is_some}
 use Rattle.std.proofs.lemmas.Bool.{cases_lt, cases_eq, cases_order}
 use Rattle.std.proofs.lemmas.List.{ext_get_or}
 use Rattle.hz_tables_model.specs.Tables.{Table, row_of, entry, walk, IsTable}
-use Rattle.hz_tables_model.specs.Apart.{Apart, AllApart, WalkTheSame}
-use Rattle.hz_tables_model.specs.Orders.{IsReadBefore, IsFirstRead, place_of, IsBreadthFirst}
+use Rattle.hz_tables_model.specs.Apart.{AllApart, WalkTheSame}
+use Rattle.hz_tables_model.specs.Orders.{IsReadBefore, IsFirstRead, place_of}
 use Rattle.hz_minim_model.specs.Normal.{IsNormal}
 use Rattle.hz_minim_model.proofs.PlaceLaws.{before_itself, read_earlier}
 

@@ -1,6 +1,6 @@
 -- The table that has no two states for one purpose, and numbers its states by the order in which they are read. GCC
 -- Internals, 'Specifying processor pipeline description', on `no-minimization`; the order is this profile's, docs/RULES.md.
-use Rattle.std.specs.Prelude.{◌≡◌, ℕ, List}
+use Rattle.std.specs.Prelude.{ℕ, List}
 use Rattle.hz_tables_model.specs.Tables.{Table, IsTable}
 use Rattle.hz_tables_model.specs.Apart.{AllApart}
 use Rattle.hz_tables_model.specs.Orders.{IsBreadthFirst}

@@ -1,4 +1,4 @@
-use Rattle.std.proofs.Common.{◌≡◌, List, ℕ, subst, sym}
+use Rattle.std.proofs.Common.{subst, sym}
 use Rattle.std.proofs.lemmas.Result.{IfOk-weaker}
 use Rattle.hz_tables_model.specs.Apart.{WalkTheSame}
 use Rattle.hz_minim_model.specs.Normal.{IsNormal}

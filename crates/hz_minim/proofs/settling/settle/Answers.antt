@@ -1,5 +1,5 @@
-use Rattle.std.proofs.Common.{◌≡◌, ◌<◌, ℕ, List, length, subst, sym}
-use Rattle.hz_minim.specs.Leading.{Strays, IsParted, led_below}
+use Rattle.std.proofs.Common.{ℕ, List, length, subst}
+use Rattle.hz_minim.specs.Leading.{Strays, IsParted}
 use Rattle.hz_minim.proofs.SettleLemmas.{parted_coarse, parting_falls}
 use Rattle.hz_minim.proofs.settling.settle.Goals as goal
 

@@ -1,4 +1,4 @@
-use Rattle.std.proofs.Common.{◌≡◌, ◌<◌, ℕ, length, subst, arith}
+use Rattle.std.proofs.Common.{◌≡◌, length, subst, arith}
 use Rattle.std.specs.Prelude.{nat_lt}
 use Rattle.std.proofs.lemmas.Bool.{OnTrue_from, ltb-true}
 use Rattle.hz_tables_model.specs.Tables.{IsTable}
