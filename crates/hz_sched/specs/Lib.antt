@@ -1,0 +1,4 @@
+pub mod Shape
+pub mod Rows
+pub mod Waits
+pub mod Standing
