@@ -13,6 +13,7 @@ use Rattle.std.specs.Set.{remove_key}
 use Rattle.std.proofs.lemmas.Bool.{ltb-true, ltb-false, eqb-true, eqb-false, le-ltb, eq-eqb}
 use Rattle.std.proofs.lemmas.Map.Keys.{sorted_head, sorted_tail}
 use Rattle.std.proofs.lemmas.List.Elements.{All-from_recursion, All-contains}
+use Rattle.hz_sched.specs.Pending.{Key, key_cmp}
 use Rattle.hz_base_model.proofs.Elements.{Contains-nil, Contains-head, Contains-tail, Contains-cons_cases}
 
 module _ {K : Type 0} (cmp : K → K → Ordering) where
@@ -160,13 +161,6 @@ same_number a = go (nat_lt a a) (le-ltb a a (omega arith)) (a == a) (eq-eqb a a 
     go false h false k = absurd (cc)
 
 -- ---- heights and places
-
-abbrev pub Key : Type 0
-Key = Reverse ℕ × ℕ
-
--- the greatest height first, and of equal ones the least place
-abbrev pub key_cmp : Key → Key → Ordering
-key_cmp x y = ordering_then (nat_cmp (y.0).0 (x.0).0) (nat_cmp x.1 y.1)
 
 pub exact_key : (x y : Key) → key_cmp x y ≡ Equal → x ≡ y
 exact_key x y e = go (nat_cmp (y.0).0 (x.0).0) refl e

@@ -6,3 +6,5 @@ pub mod WalkLemmas
 pub mod StandLemmas
 pub mod ComesLemmas
 pub mod KeyLemmas
+pub mod BoardLemmas
+pub mod SchedLemmas

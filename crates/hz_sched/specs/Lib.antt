@@ -2,3 +2,4 @@ pub mod Shape
 pub mod Rows
 pub mod Waits
 pub mod Standing
+pub mod Pending

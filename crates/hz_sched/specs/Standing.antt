@@ -1,12 +1,12 @@
 -- How far a schedule has come. These words are only to prove with.
-use Rattle.std.specs.Prelude.{◌≡◌, ℕ, zero, suc, ◌+◌, ◌-◌, ◌<◌, ◌≤◌, is_some, if◌then◌else◌, List, [], ◌∷◌, ◌++◌, length, slice_index, Option, Some, None}
+use Rattle.std.specs.Prelude.{◌≡◌, ℕ, zero, suc, ◌+◌, ◌-◌, ◌<◌, ◌≤◌, true, is_some, if◌then◌else◌, List, [], ◌∷◌, ◌++◌, length, slice_index, Option, Some, None}
 use Rattle.std.specs.declared.cmp.Reverse.{Reverse}
 use Rattle.std.specs.List.{Contains, AllPairs}
 use Rattle.hz_acceptance_model.specs.Events.{issue, advance}
 use Rattle.hz_tables_model.specs.Machines.{Machine, machine_walk}
 use Rattle.hz_depend_model.specs.Graphs.{Edge}
-use Rattle.hz_sched_model.specs.Schedules.{Graph, Slot, height_at, present, spell, Greedy, IsCandidate}
-use Rattle.hz_sched_model.specs.Machines.{IsWalked}
+use Rattle.hz_sched_model.specs.Schedules.{Graph, Slot, class_at, present, spell, Greedy, IsCandidate}
+use Rattle.hz_sched_model.specs.Machines.{IsWalked, can_start}
 use Rattle.hz_sched.specs.Waits.{issued_at, missing, ripe}
 
 -- These slots are greedy, no candidate stands at a cycle behind them and before this one, and the machine is in these states.
@@ -26,3 +26,7 @@ left_below at (suc n) = (if is_some (at n) then 0 else 1) + left_below at n
 -- Edges lead upwards among the instructions, and their costs are small.
 pub record IsUpward (g : Graph) : Type 0 where
   pub upward : (e : Edge) → Contains g.edges e → (e.from < e.to) × (e.to < length g.nodes) × (e.cost ≤ 1000)
+
+-- The class of each instruction can be issued from the start.
+pub record AllStart (m : Machine) (g : Graph) : Type 0 where
+  pub alone : (j : ℕ) → j < length g.nodes → can_start m (class_at g j) ≡ true
