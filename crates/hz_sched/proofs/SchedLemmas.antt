@@ -1,0 +1,182 @@
+-- The board of a schedule, step by step.
+use Rattle.std.proofs.Common.{◌≡◌, ℕ, zero, suc, ◌+◌, ◌-◌, ◌<◌, ◌≤◌, Bool, true, false, not, cond, List, [], ◌∷◌, ◌++◌, length, map, replicate, Option, Some, None, is_some, Result, Ok, Err, All, Contains, get_or, refl, sym, ap, ◌∙◌, subst, arith}
+use Rattle.std.specs.Prelude.{slice_get, slice_index, OnOk, position, nat_lt, IsSome}
+use Rattle.std.specs.Bool.{OnTrue, OnFalse}
+use Rattle.std.specs.List.{find, prefix_len, position_or_len}
+use Rattle.std.specs.Option.{option_map}
+use Rattle.std.proofs.lemmas.Bool.{ltb-false}
+use Rattle.std.proofs.lemmas.List.{length-map, length-replicate, get_or-map}
+use Rattle.std.proofs.lemmas.List.Sums.{fails_before_first}
+use Rattle.std.proofs.lemmas.List.Elements.{All-get_or, All-contains, All-map}
+use Rattle.std.proofs.lemmas.Option.{slice_get-get_or}
+use Rattle.hz_acceptance_model.specs.Events.{Event, issue, advance}
+use Rattle.hz_tables_model.specs.Tables.{Table}
+use Rattle.hz_tables_model.specs.Machines.{Part, Machine, no_part, part_at, part_walk, parts_walk, machine_walk, starts_of, onto_states, word_of, IsPart, IsMachine}
+use Rattle.hz_tables_model.proofs.TableLaws.{walk_stays}
+use Rattle.hz_tables_model.proofs.MachineLaws.{machine_walk-each, machine_walk-part}
+use Rattle.hz_replay.specs.Replaying.{Standing, AreStates}
+use Rattle.hz_depend.specs.declared.parts.Edge as depend
+use Rattle.hz_depend.specs.declared.parts.Graph as depend_graph
+use Rattle.hz_depend.specs.declared.parts.GraphInsn.{GraphInsn}
+use Rattle.hz_depend.specs.GraphShape.{edge_of, IsSchedulable}
+use Rattle.hz_depend_model.specs.Graphs.{Edge}
+use Rattle.hz_sched_model.specs.Schedules.{Node, Graph, Slot, class_at, present, GoesBefore, Legal, Greedy, IsCandidate}
+use Rattle.hz_sched_model.specs.Machines.{IsWalked, Settles, can_start}
+use Rattle.hz_sched.specs.Shape.{graph_of, node_of, slots_of}
+use Rattle.hz_sched.specs.declared.board.Board.{Board}
+use Rattle.hz_sched.specs.Waits.{issued_at, and_issued}
+use Rattle.hz_sched.specs.Standing.{IsAt, IsUpward, AllStart, left_below}
+use Rattle.hz_sched.specs.Pending.{Key, AreWaits, AreLeft, IsBoard, may}
+use Rattle.hz_sched.proofs.SlotLemmas.{left_less, none_yet}
+use Rattle.hz_sched.proofs.SpellLemmas.{present-push}
+use Rattle.hz_sched.proofs.StandLemmas.{at_start, next_cycle, next_issue, now_issued, was_left, candidate_fits, is_legal}
+use Rattle.hz_sched.proofs.ComesLemmas.{some_comes}
+use Rattle.hz_sched.proofs.BoardLemmas.{none_may, first_may, classes_of_nodes}
+
+-- ---- states
+
+-- what a machine walks to are states of its parts
+pub walked_states : (m : Machine) → IsMachine m → (t : List Event) (states : List ℕ) → machine_walk m t ≡ Some states → AreStates m states
+walked_states m is t states h = record { each = each; within = within }
+  where
+    each : length states ≡ length m.parts
+    each = machine_walk-each m t states h
+
+    within : (i : ℕ) → i < length m.parts → slice_index states i < length (part_at m i).rows
+    within i lt =
+        let part : Part = part_at m i in
+        let kept : IsPart (length m.classes) part = All-get_or (IsPart (length m.classes)) m.parts i no_part lt is.parts in
+        let here = machine_walk-part m t states h i part (slice_get-get_or m.parts i no_part lt) in
+        let there : slice_get states i ≡ Some (get_or states i 0) = slice_get-get_or states i 0 (omega (arith, each)) in
+        walk_stays part.rows part.columns kept.table (Some 0) (λ s e. let same : 0 ≡ s = cc in subst (λ (n : ℕ). n < length part.rows) same (kept.table).start) (get_or states i 0) (word_of part t) (sym here ∙ there)
+
+nothing_walked : (parts : List Part) → parts_walk parts (replicate (length parts) 0) [] ≡ Some (replicate (length parts) 0)
+nothing_walked [] = refl
+nothing_walked (part ∷ parts) = ap (onto_states (Some 0)) (nothing_walked parts)
+
+-- ---- the board
+
+pub board_start : (m : Machine) (g : Graph) (board : Board) (states : List ℕ) → board.slots.items ≡ [] → board.cycle ≡ 0 → states ≡ starts_of m → AreWaits g (issued_at []) board.counts.items board.ripes.items → AreLeft g (issued_at []) board.left.keys → IsBoard m g board states
+board_start m g board states none at_zero start waits left =
+    let slots : [] ≡ slots_of board.slots.items = ap slots_of (sym none) in
+    record {
+      at = subst (λ (ss : List ℕ). IsAt m g (slots_of board.slots.items) board.cycle ss) (sym start) (subst (λ (c : ℕ). IsAt m g (slots_of board.slots.items) c (starts_of m)) (sym at_zero) (subst (λ (xs : List Slot). IsAt m g xs 0 (starts_of m)) slots (at_start m g (nothing_walked m.parts))));
+      waits = subst (λ (xs : List Slot). AreWaits g (issued_at xs) board.counts.items board.ripes.items) slots waits;
+      left = subst (λ (xs : List Slot). AreLeft g (issued_at xs) board.left.keys) slots left;
+    }
+
+-- The instruction that is issued next.
+pub record IsNext (m : Machine) (g : Graph) (board : Board) (place : ℕ) : Type 0 where
+  pub may : IsCandidate (IsWalked m) g (slots_of board.slots.items) board.cycle place
+  pub first : (j : ℕ) → IsCandidate (IsWalked m) g (slots_of board.slots.items) board.cycle j → GoesBefore g place j
+
+module _ (m : Machine) (g : Graph) (board : Board) (states : List ℕ) (b : IsBoard m g board states) where
+  -- the place that the set of the board tells
+  abbrev pub told : List ℕ → Option ℕ
+  told seen = option_map (λ (k : Key). k.1) (find (λ (k : Key). may m g board.counts.items board.ripes.items board.cycle seen k.1) board.left.keys)
+
+  pub is_next : (seen : List ℕ) → seen ≡ states → (place : ℕ) → Some place ≡ told seen → IsNext m g board place
+  is_next seen same place e =
+      let found = first_may m g (slots_of board.slots.items) board.cycle states b.at board.counts.items board.ripes.items b.waits board.left.keys b.left place (sym (e ∙ ap told same)) in
+      record { may = found.0; first = found.1 }
+
+  pub none_next : (seen : List ℕ) → seen ≡ states → None ≡ told seen → (j : ℕ) → IsCandidate (IsWalked m) g (slots_of board.slots.items) board.cycle j → ⊥
+  none_next seen same e j c = none_may m g (slots_of board.slots.items) board.cycle states b.at board.counts.items board.ripes.items b.waits board.left.keys b.left (sym (e ∙ ap told same)) j c
+
+  pub next_fits : (place : ℕ) → IsNext m g board place → is_some (parts_walk m.parts states (issue (class_at g place) ∷ [])) ≡ true
+  next_fits place n = candidate_fits m g (slots_of board.slots.items) board.cycle states b.at place n.may
+
+  module _ (place : ℕ) (n : IsNext m g board place) (next : List ℕ) (step : parts_walk m.parts states (issue (class_at g place) ∷ []) ≡ Some next)
+      (new : Board) (slots : slots_of new.slots.items ≡ slots_of board.slots.items ++ record { place = place; cycle = board.cycle } ∷ []) (cycle : new.cycle ≡ board.cycle) where
+    now : issued_at (slots_of new.slots.items) ≡ and_issued (issued_at (slots_of board.slots.items)) place board.cycle
+    now = ap issued_at slots ∙ now_issued m g (slots_of board.slots.items) board.cycle states b.at place n.may n.first
+
+    pub board_next : AreWaits g (and_issued (issued_at (slots_of board.slots.items)) place board.cycle) new.counts.items new.ripes.items → AreLeft g (and_issued (issued_at (slots_of board.slots.items)) place board.cycle) new.left.keys → IsBoard m g new next
+    board_next waits left = record {
+      at = subst (λ (c : ℕ). IsAt m g (slots_of new.slots.items) c next) (sym cycle) (subst (λ (xs : List Slot). IsAt m g xs board.cycle next) (sym slots) (next_issue m g (slots_of board.slots.items) board.cycle states b.at place n.may n.first next step));
+      waits = subst (λ (f : ℕ → Option ℕ). AreWaits g f new.counts.items new.ripes.items) (sym now) waits;
+      left = subst (λ (f : ℕ → Option ℕ). AreLeft g f new.left.keys) (sym now) left;
+    }
+
+    pub present_next : new.cycle ≡ present 0 (slots_of new.slots.items)
+    present_next = cycle ∙ sym (ap (present 0) slots ∙ present-push 0 (slots_of board.slots.items) (record { place = place; cycle = board.cycle }))
+
+    pub fewer_next : (count : ℕ) → count ≡ length g.nodes → suc (left_below (issued_at (slots_of new.slots.items)) count) ≡ left_below (issued_at (slots_of board.slots.items)) count
+    fewer_next count all =
+        ap (λ (f : ℕ → Option ℕ). suc (left_below f count)) now
+        ∙ sym (left_less (issued_at (slots_of board.slots.items)) place board.cycle count (let within = (n.may).within in omega arith) (was_left m g (slots_of board.slots.items) board.cycle states b.at place n.may n.first))
+
+  pub cycle_next : ((j : ℕ) → IsCandidate (IsWalked m) g (slots_of board.slots.items) board.cycle j → ⊥) → (next : List ℕ) → parts_walk m.parts states (advance 1 ∷ []) ≡ Some next → IsAt m g (slots_of board.slots.items) (board.cycle + 1) next
+  cycle_next none next step = next_cycle m g (slots_of board.slots.items) board.cycle states b.at none next step
+
+  -- an issue has come before
+  pub never : Settles m → IsUpward g → All (λ n. n.class < length m.classes) g.nodes → AllStart m g → (count : ℕ) → count ≡ length g.nodes → 0 < left_below (issued_at (slots_of board.slots.items)) count → board.cycle ≡ present 0 (slots_of board.slots.items) + 1257 → ⊥
+  never settles upward ranges start count all some late =
+      let left : 0 < left_below (issued_at (slots_of board.slots.items)) (length g.nodes) = subst (λ (n : ℕ). 0 < left_below (issued_at (slots_of board.slots.items)) n) all some in
+      let (j, c) = some_comes m g settles upward ranges start.alone (slots_of board.slots.items) board.cycle states b.at left 1000 256 257 (present 0 (slots_of board.slots.items) + 1256) refl refl (omega (arith, late)) (omega arith) in
+      (b.at).barren (present 0 (slots_of board.slots.items) + 1256) j (omega arith) (omega (arith, late)) c
+
+-- an issue that fits is taken
+pub is_taken : (m : Machine) (s : Standing) (next : List ℕ) (class k : ℕ) (b : Bool) → s.machine ≡ m → k ≡ class → OnTrue b (parts_walk (s.machine).parts s.states (issue k ∷ []) ≡ Some next) → OnFalse b (parts_walk (s.machine).parts s.states (issue k ∷ []) ≡ None)
+    → is_some (parts_walk m.parts s.states (issue class ∷ [])) ≡ true → parts_walk m.parts s.states (issue class ∷ []) ≡ Some next
+is_taken m s next class k b machine same taken refused fits = go b taken refused
+  where
+    walk : parts_walk (s.machine).parts s.states (issue k ∷ []) ≡ parts_walk m.parts s.states (issue class ∷ [])
+    walk = ap (λ (x : Machine). parts_walk x.parts s.states (issue k ∷ [])) machine ∙ ap (λ (n : ℕ). parts_walk m.parts s.states (issue n ∷ [])) same
+
+    go : (b : Bool) → OnTrue b (parts_walk (s.machine).parts s.states (issue k ∷ []) ≡ Some next) → OnFalse b (parts_walk (s.machine).parts s.states (issue k ∷ []) ≡ None) → parts_walk m.parts s.states (issue class ∷ []) ≡ Some next
+    go true t r = sym walk ∙ t
+    go false t r = let none = sym walk ∙ r in absurd (cc)
+
+pub on_ok : {T E A B C D F : Type 0} (r : Result T E) → (A → B → C → D → F) → OnOk r A → OnOk r B → OnOk r C → OnOk r D → OnOk r F
+on_ok (Ok x) f a b c d = f a b c d
+on_ok (Err e) f a b c d = tt
+
+-- ---- what is asked of the graph
+
+pub upward_of : (classes : ℕ) (g : depend_graph.Graph) → IsSchedulable classes g → IsUpward (graph_of g)
+upward_of classes g is = record {
+  upward = λ e there. let u = All-contains (λ e. (e.from < e.to) × (e.to < length g.insns.items) × (e.cost ≤ 1000)) (map edge_of g.edges.items) e (All-map (λ e. (e.from < e.to) × (e.to < length g.insns.items) × (e.cost ≤ 1000)) edge_of g.edges.items is.edges) there in
+      let long = length-map g.insns.items node_of in
+      (u.0, omega (arith, u.1, long), u.2);
+}
+
+pub ranges_of : (classes : ℕ) (g : depend_graph.Graph) → IsSchedulable classes g → All (λ n. n.class < classes) (graph_of g).nodes
+ranges_of classes g is = classes_of_nodes classes g.insns.items is.classes
+
+-- ---- the first that can't start
+
+module _ {X Y : Type 0} (f : X → Y) (p : Y → Bool) where
+  front-map : (xs : List X) → position_or_len p (map f xs) ≡ position_or_len (λ x. p (f x)) xs
+  front-map [] = refl
+  front-map (x ∷ xs) = go (p (f x)) (front-map xs)
+    where
+      go : (b : Bool) → position_or_len p (map f xs) ≡ position_or_len (λ x. p (f x)) xs → cond (not b) (1 + position_or_len p (map f xs)) 0 ≡ cond (not b) (1 + position_or_len (λ x. p (f x)) xs) 0
+      go true h = refl
+      go false h = ap (λ (n : ℕ). 1 + n) h
+
+  pub position-map : (xs : List X) → position p (map f xs) ≡ position (λ x. p (f x)) xs
+  position-map xs =
+      ap (λ (k : ℕ). cond (nat_lt k (length (map f xs))) (Some k) None) (front-map xs)
+      ∙ ap (λ (n : ℕ). cond (nat_lt (position_or_len (λ x. p (f x)) xs) n) (Some (position_or_len (λ x. p (f x)) xs)) None) (length-map xs f)
+
+pub none_at : {X : Type 0} (p : X → Bool) (xs : List X) → position p xs ≡ None → (i : ℕ) (d : X) → i < length xs → p (get_or xs i d) ≡ false
+none_at p xs e i d lt = go (nat_lt (position_or_len p xs) (length xs)) refl e
+  where
+    go : (b : Bool) → nat_lt (position_or_len p xs) (length xs) ≡ b → cond b (Some (position_or_len p xs)) None ≡ None → p (get_or xs i d) ≡ false
+    go true h e = absurd (cc)
+    go false h e = let all = ltb-false (position_or_len p xs) (length xs) h in fails_before_first p xs i d (omega arith)
+
+not_false : (b : Bool) → not b ≡ false → b ≡ true
+not_false true h = refl
+not_false false h = absurd (cc)
+
+pub all_start : (m : Machine) (insns : List GraphInsn) (g : Graph) → g.nodes ≡ map node_of insns → position (λ i. not (can_start m i.class)) insns ≡ None → AllStart m g
+all_start m insns g nodes e = record { alone = alone }
+  where
+    alone : (j : ℕ) → j < length g.nodes → can_start m (class_at g j) ≡ true
+    alone j lt =
+        let none : Node = record { class = 0; height = 0 } in
+        let told : position (λ n. not (can_start m n.class)) g.nodes ≡ None = ap (position (λ n. not (can_start m n.class))) nodes ∙ (position-map node_of (λ n. not (can_start m n.class)) insns ∙ e) in
+        let here = not_false (can_start m (get_or g.nodes j none).class) (none_at (λ n. not (can_start m n.class)) g.nodes told j none lt) in
+        ap (can_start m) (get_or-map (λ (n : Node). n.class) g.nodes j none 0 lt) ∙ here

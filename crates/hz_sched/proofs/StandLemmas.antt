@@ -1,0 +1,138 @@
+-- One step of a schedule: a cycle, or an issue.
+use Rattle.std.proofs.Common.{◌≡◌, ℕ, zero, suc, ◌+◌, ◌-◌, ◌<◌, ◌≤◌, ◌⊎◌, inl, inr, ⊎_elim, true, List, [], ◌∷◌, ◌++◌, length, map, Option, Some, None, is_some, All, Contains, get_or, refl, sym, ap, ◌∙◌, subst, append_assoc, arith}
+use Rattle.std.specs.Prelude.{IsSome}
+use Rattle.std.specs.List.{AllPairs}
+use Rattle.std.proofs.lemmas.Bool.{cases_lt}
+use Rattle.std.proofs.lemmas.List.{append-nil}
+use Rattle.std.proofs.lemmas.List.Elements.{All-contains, Contains-get_or}
+use Rattle.hz_base_model.proofs.Elements.{Contains-nil, Contains-head, Contains-cons_cases, Contains-map, Contains-from_map}
+use Rattle.std.proofs.lemmas.List.Elements.{Contains-append_cases}
+use Rattle.hz_acceptance_model.specs.Events.{Event, issue, advance}
+use Rattle.hz_tables_model.specs.Machines.{Machine, parts_walk, machine_walk, starts_of}
+use Rattle.hz_depend_model.specs.Orders.{IsOrder}
+use Rattle.hz_sched_model.specs.Schedules.{Graph, Slot, class_at, places, present, advance_to, spelled, spell, GoesBefore, Legal, Greedy, IsCandidate, FollowsGreedily}
+use Rattle.hz_sched_model.specs.Machines.{IsWalked}
+use Rattle.hz_sched_model.proofs.SameSchedules.{AreWithin, greedy_within}
+use Rattle.hz_sched.specs.Waits.{issued_at, and_issued}
+use Rattle.hz_sched.specs.Standing.{IsAt, left_below}
+use Rattle.hz_sched.proofs.SpellLemmas.{spelled-push, present-push}
+use Rattle.hz_sched.proofs.SlotLemmas.{issued_none, none_issued, slot_of_issue, issued-push, same_issued, other_issued, all_issued, none_yet, rising-push, Split, last, earlier, split, At, at_place}
+use Rattle.hz_sched.proofs.WalkLemmas.{walk_on, front_walked, walk_behind, one_more, walk_to, no_advance}
+
+module _ (m : Machine) (g : Graph) (slots : List Slot) (cycle : ℕ) (states : List ℕ) (at : IsAt m g slots cycle states) where
+  -- what is walked behind the advance to the present cycle
+  pub issue_walk : (j : ℕ) → machine_walk m (spell g slots ++ (advance_to (present 0 slots) cycle ++ issue (class_at g j) ∷ [])) ≡ parts_walk m.parts states (issue (class_at g j) ∷ [])
+  issue_walk j =
+      walk_to m (spell g slots) (issue (class_at g j) ∷ []) (present 0 slots) cycle at.reached
+      ∙ walk_behind m (spell g slots) (cycle - present 0 slots) states at.walked (issue (class_at g j) ∷ [])
+
+  pub candidate_fits : (j : ℕ) → IsCandidate (IsWalked m) g slots cycle j → is_some (parts_walk m.parts states (issue (class_at g j) ∷ [])) ≡ true
+  candidate_fits j c = subst (λ (o : Option (List ℕ)). IsSome o) (issue_walk j) c.fits
+
+  pub fits_candidate : (j : ℕ) → is_some (parts_walk m.parts states (issue (class_at g j) ∷ [])) ≡ true → IsWalked m (spell g slots ++ (advance_to (present 0 slots) cycle ++ issue (class_at g j) ∷ []))
+  fits_candidate j h = subst (λ (o : Option (List ℕ)). IsSome o) (sym (issue_walk j)) h
+
+  -- one cycle more, where none is a candidate
+  pub next_cycle : ((j : ℕ) → IsCandidate (IsWalked m) g slots cycle j → ⊥) → (next : List ℕ) → parts_walk m.parts states (advance 1 ∷ []) ≡ Some next → IsAt m g slots (cycle + 1) next
+  next_cycle none next step = record {
+    reached = (let low = at.reached in omega arith);
+    walked = subst (λ (n : ℕ). machine_walk m (spell g slots ++ advance n ∷ []) ≡ Some next) (let low = at.reached in omega arith) (one_more m (spell g slots) (cycle - present 0 slots) states at.walked next step);
+    rising = at.rising;
+    greedy = at.greedy;
+    told = at.told;
+    barren = λ c j low high k. ⊎_elim
+        (λ (lt : c < cycle). at.barren c j low lt k)
+        (λ (ge : cycle ≤ c). let same : c ≡ cycle = omega arith in none j (subst (λ (n : ℕ). IsCandidate (IsWalked m) g slots n j) same k))
+        (cases_lt c cycle);
+  }
+
+  module _ (j : ℕ) (may : IsCandidate (IsWalked m) g slots cycle j) (first : (i : ℕ) → IsCandidate (IsWalked m) g slots cycle i → GoesBefore g j i) where
+    abbrev one : Slot
+    one = record { place = j; cycle = cycle }
+
+    unissued : issued_at slots j ≡ None
+    unissued = issued_none slots j may.left
+
+    follows : FollowsGreedily (IsWalked m) g slots one
+    follows = record { may = may; first = first; soonest = at.barren }
+
+    greedy_next : Greedy (IsWalked m) g (slots ++ one ∷ [])
+    greedy_next before after x e = go (split slots one before after x e)
+      where
+        go : Split slots one before x → FollowsGreedily (IsWalked m) g before x
+        go (last same is) = subst (λ (xs : List Slot). FollowsGreedily (IsWalked m) g xs x) same (subst (FollowsGreedily (IsWalked m) g slots) is follows)
+        go (earlier rest same) = at.greedy before rest x same
+
+    told_next : (x : Slot) → Contains (slots ++ one ∷ []) x → issued_at (slots ++ one ∷ []) x.place ≡ Some x.cycle
+    told_next x h = ap (λ (f : ℕ → Option ℕ). f x.place) (issued-push slots one unissued) ∙ ⊎_elim
+        (λ (there : Contains slots x).
+        let was = at.told x there in
+        other_issued (issued_at slots) j cycle x.place (λ (e : x.place ≡ j). let none = ap (issued_at slots) e ∙ unissued in absurd (cc)) ∙ was)
+        (λ (last : Contains (one ∷ []) x). ⊎_elim
+        (λ (e : one ≡ x). subst (λ (y : Slot). and_issued (issued_at slots) j cycle y.place ≡ Some y.cycle) e (same_issued (issued_at slots) j cycle))
+        (λ (no_more : Contains [] x). absurd (Contains-nil x no_more))
+        (Contains-cons_cases one x [] last))
+        (Contains-append_cases slots (one ∷ []) x h)
+
+    -- one issue more
+    pub next_issue : (next : List ℕ) → parts_walk m.parts states (issue (class_at g j) ∷ []) ≡ Some next → IsAt m g (slots ++ one ∷ []) cycle next
+    next_issue next step =
+        let now = present-push 0 slots one in
+        record {
+          reached = omega (arith, now);
+          walked = subst (λ (n : ℕ). machine_walk m (spell g (slots ++ one ∷ []) ++ advance n ∷ []) ≡ Some next) (omega (arith, now))
+              (no_advance m (spell g (slots ++ one ∷ [])) ∙ (ap (machine_walk m) (spelled-push g 0 slots one) ∙ (issue_walk j ∙ step)));
+          rising = rising-push slots one at.rising at.reached;
+          greedy = greedy_next;
+          told = told_next;
+          barren = λ c i low high k. absurd (omega (arith, now));
+        }
+
+    pub now_issued : issued_at (slots ++ one ∷ []) ≡ and_issued (issued_at slots) j cycle
+    now_issued = issued-push slots one unissued
+
+    pub was_left : issued_at slots j ≡ None
+    was_left = unissued
+
+  -- ---- all is issued
+
+  pub is_legal : left_below (issued_at slots) (length g.nodes) ≡ 0 → Legal (IsWalked m) g slots
+  is_legal none = record {
+    order = record { each = each; only = only; once = once };
+    rising = at.rising;
+    kept = λ before after x e. ((at.greedy before after x e).may).ready;
+    accepted = front_walked m (spell g slots) (advance (cycle - present 0 slots) ∷ []) states at.walked;
+  }
+    where
+      each : (i : ℕ) → i < length g.nodes → Contains (places slots) i
+      each i lt = go (issued_at slots i) refl (all_issued (issued_at slots) (length g.nodes) i none lt)
+        where
+          go : (o : Option ℕ) → issued_at slots i ≡ o → is_some (issued_at slots i) ≡ true → Contains (places slots) i
+          go None e h = absurd (cc)
+          go (Some c) e h = let (x, there, place, when) = slot_of_issue slots i c e in subst (Contains (places slots)) place (Contains-map (λ (y : Slot). y.place) slots x there)
+
+      only : (i : ℕ) → Contains (places slots) i → i < length g.nodes
+      only i h =
+          let (x, there, place) = Contains-from_map (λ (y : Slot). y.place) slots i h in
+          subst (λ (k : ℕ). k < length g.nodes) place (All-contains (λ (y : Slot). y.place < length g.nodes) slots x (greedy_within (IsWalked m) g slots at.greedy) there)
+
+      once : (before after : List ℕ) (i : ℕ) → places slots ≡ before ++ i ∷ after → Contains before i → ⊥
+      once before after i e h =
+          let p = at_place slots before after i e in
+          let f = at.greedy p.front p.back p.slot p.all in
+          (f.may).left (subst (λ (k : ℕ). Contains (places p.front) k) (sym p.place) (subst (λ (xs : List ℕ). Contains xs i) (sym p.places_before) h))
+
+-- nothing is issued yet
+pub at_start : (m : Machine) (g : Graph) → machine_walk m [] ≡ Some (starts_of m) → IsAt m g [] 0 (starts_of m)
+at_start m g h = record {
+  reached = omega arith;
+  walked = no_advance m [] ∙ h;
+  rising = λ i j d lt inside. absurd (omega (arith, inside));
+  greedy = λ before after x e. absurd (no_front before after x e);
+  told = λ x h. absurd (Contains-nil x h);
+  barren = λ c j low high k. absurd (omega arith);
+}
+  where
+    no_front : (before after : List Slot) (x : Slot) → [] ≡ before ++ x ∷ after → ⊥
+    no_front [] after x e = cc
+    no_front (b ∷ before) after x e = cc

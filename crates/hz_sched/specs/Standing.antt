@@ -1,0 +1,32 @@
+-- How far a schedule has come. These words are only to prove with.
+use Rattle.std.specs.Prelude.{◌≡◌, ℕ, zero, suc, ◌+◌, ◌-◌, ◌<◌, ◌≤◌, true, is_some, if◌then◌else◌, List, [], ◌∷◌, ◌++◌, length, slice_index, Option, Some, None}
+use Rattle.std.specs.declared.cmp.Reverse.{Reverse}
+use Rattle.std.specs.List.{Contains, AllPairs}
+use Rattle.hz_acceptance_model.specs.Events.{issue, advance}
+use Rattle.hz_tables_model.specs.Machines.{Machine, machine_walk}
+use Rattle.hz_depend_model.specs.Graphs.{Edge}
+use Rattle.hz_sched_model.specs.Schedules.{Graph, Slot, class_at, present, spell, Greedy, IsCandidate}
+use Rattle.hz_sched_model.specs.Machines.{IsWalked, can_start}
+use Rattle.hz_sched.specs.Waits.{issued_at, missing, ripe}
+
+-- These slots are greedy, no candidate stands at a cycle behind them and before this one, and the machine is in these states.
+pub record IsAt (m : Machine) (g : Graph) (slots : List Slot) (cycle : ℕ) (states : List ℕ) : Type 0 where
+  pub reached : present 0 slots ≤ cycle
+  pub walked : machine_walk m (spell g slots ++ advance (cycle - present 0 slots) ∷ []) ≡ Some states
+  pub rising : AllPairs (λ x y. x.cycle ≤ y.cycle) slots
+  pub greedy : Greedy (IsWalked m) g slots
+  pub told : (x : Slot) → Contains slots x → issued_at slots x.place ≡ Some x.cycle
+  pub barren : (c j : ℕ) → present 0 slots ≤ c → c < cycle → IsCandidate (IsWalked m) g slots c j → ⊥
+
+-- how many places below a number are not issued
+abbrev pub left_below : (ℕ → Option ℕ) → ℕ → ℕ
+left_below at zero = 0
+left_below at (suc n) = (if is_some (at n) then 0 else 1) + left_below at n
+
+-- Edges lead upwards among the instructions, and their costs are small.
+pub record IsUpward (g : Graph) : Type 0 where
+  pub upward : (e : Edge) → Contains g.edges e → (e.from < e.to) × (e.to < length g.nodes) × (e.cost ≤ 1000)
+
+-- The class of each instruction can be issued from the start.
+pub record AllStart (m : Machine) (g : Graph) : Type 0 where
+  pub alone : (j : ℕ) → j < length g.nodes → can_start m (class_at g j) ≡ true

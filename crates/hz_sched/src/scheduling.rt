@@ -1,0 +1,119 @@
+//! The list scheduler.
+
+ghost use Rattle.std.specs.Prelude.{◌≡◌, ◌≤◌, ◌<◌, ◌+◌, ◌==◌, ◌^◌, ℕ, suc, true, filter, length, map, IfOk, OnOk};
+ghost use Rattle.hz_tables.specs.Machines.{machine_of};
+ghost use Rattle.hz_depend.specs.GraphShape.{IsSchedulable};
+ghost use Rattle.hz_sched_model.specs.Schedules as model;
+ghost use Rattle.hz_sched_model.specs.Machines.{IsWalked, Settles, can_start, cannot_start_alone};
+ghost use Rattle.hz_sched.specs.Shape.{graph_of, slots_of, alone_in};
+ghost use Rattle.hz_sched.specs.Rows.{row_at};
+ghost use Rattle.hz_sched.specs.Waits.{issued_at};
+ghost use Rattle.hz_sched.specs.Standing.{left_below, AllStart};
+ghost use Rattle.hz_sched.specs.Pending.{IsBoard};
+
+use crate::board::Board;
+use crate::fault::SchedFault;
+use crate::fitting::first_stuck;
+use crate::outgoing::outgoing;
+use crate::parts::{Schedule, Slot};
+use crate::spelling::class_at;
+use hz_depend::{Edge, Graph};
+use hz_regexp::NoMemory;
+use hz_replay::Replayer;
+use hz_tables::{Machine, Steps};
+use std::alloc::Global;
+use std::marker::Brand;
+use std::sync::ledger::{Blank, Ledger};
+
+/// An issue comes before so many cycles have gone by: 1,000 for all waits, 256 until the machine has settled, and its own.
+const MOST_WAIT: u32 = 1_257;
+
+/// Issues the next instruction at the first cycle at which one may be issued: the first of those that may.
+fn issue_next<L: Ledger>(
+    machine: &Machine,
+    graph: &Graph,
+    rows: &[Vec<Edge>],
+    board: &mut Board,
+    replayer: &mut Replayer<'_>,
+    steps: &mut Steps<L>,
+) -> Result<(), NoMemory>
+    requires settles { Settles (machine_of machine.now) }
+    requires schedulable { IsSchedulable (length machine.now.classes.items) graph.now }
+    requires start { AllStart (machine_of machine.now) (graph_of graph.now) }
+    requires size { length rows.now ≡ length graph.now.insns.items }
+    requires rows { (i : ℕ) → row_at rows.now i ≡ filter (λ e. e.from == i) graph.now.edges.items }
+    requires machine { replayer.old.machine ≡ machine_of machine.now }
+    requires board { IsBoard (machine_of machine.now) (graph_of graph.now) board.old replayer.old.states }
+    requires present { board.old.cycle ≡ model.present 0 (slots_of board.old.slots.items) }
+    requires some { 0 < left_below (issued_at (slots_of board.old.slots.items)) (length graph.now.insns.items) }
+    requires small { board.old.cycle + 4096 < 2 ^ 32 }
+    ensures machine { replayer.new.machine ≡ machine_of machine.now }
+    ensures board { OnOk result (IsBoard (machine_of machine.now) (graph_of graph.now) board.new replayer.new.states) }
+    ensures present { OnOk result (board.new.cycle ≡ model.present 0 (slots_of board.new.slots.items)) }
+    ensures fewer { OnOk result (suc (left_below (issued_at (slots_of board.new.slots.items)) (length graph.now.insns.items)) ≡ left_below (issued_at (slots_of board.old.slots.items)) (length graph.now.insns.items)) }
+    ensures soon { OnOk result (board.new.cycle ≤ board.old.cycle + 1256) }
+{
+    for _wait in 0..MOST_WAIT {
+        if let Some(place) = board.first(machine, graph, replayer.states()) {
+            let _is_taken = replayer.issue(class_at(graph, place), steps);
+            return board.issue(graph, row_of(rows, place), place);
+        }
+        replayer.advance(steps);
+        board.cycle += 1;
+    }
+    unreachable!()
+}
+
+/// The edges from an instruction.
+fn row_of(rows: &[Vec<Edge>], place: u32) -> &[Edge]
+    requires { place < length rows.now }
+    ensures { result.now ≡ row_at rows.now place }
+{
+    rows[place as usize].as_slice()
+}
+
+/// The slots of all instructions, each of which can be issued from the start.
+fn slots_on<L: Ledger>(
+    alloc: Global,
+    machine: &Machine,
+    graph: &Graph,
+    blank: Blank,
+) -> Result<Vec<Slot>, NoMemory>
+    requires name { blank.name ≡ L.name }
+    requires parts { blank.parts ≡ L.parts }
+    requires some { 0 < blank.parts }
+    requires settles { Settles (machine_of machine.now) }
+    requires schedulable { IsSchedulable (length machine.now.classes.items) graph.now }
+    requires start { AllStart (machine_of machine.now) (graph_of graph.now) }
+    ensures legal { IfOk result (λ slots. model.Legal (IsWalked (machine_of machine.now)) (graph_of graph.now) (slots_of slots.items)) }
+    ensures greedy { IfOk result (λ slots. model.Greedy (IsWalked (machine_of machine.now)) (graph_of graph.now) (slots_of slots.items)) }
+{
+    let mut steps = Steps::<L>::new(blank);
+    let rows = outgoing(alloc, graph.insns.len(), &graph.edges)?;
+    let mut board = Board::new(alloc, graph)?;
+    let mut replayer = Replayer::start(alloc, machine);
+    for _turn in 0..graph.insns.len() {
+        issue_next(machine, graph, &rows, &mut board, &mut replayer, &mut steps)?;
+    }
+    Ok(board.into_slots())
+}
+
+/// The schedule of a block: at each cycle the instructions that have waited for those on which they depend and that fit are
+/// issued, the one of the greatest height first, of equal ones the first in the source; the cycle is advanced only where none
+/// fits. `CannotStartAlone` tells the first instruction in the source whose class can't be issued even where nothing else is.
+/// docs/RULES.md, 'List schedules'.
+pub fn schedule(alloc: Global, machine: &Machine, graph: &Graph) -> Result<Schedule, SchedFault>
+    requires settles { Settles (machine_of machine.now) }
+    requires schedulable { IsSchedulable (length machine.now.classes.items) graph.now }
+    ensures legal { IfOk result (λ made. model.Legal (IsWalked (machine_of machine.now)) (graph_of graph.now) (slots_of made.slots.items)) }
+    ensures greedy { IfOk result (λ made. model.Greedy (IsWalked (machine_of machine.now)) (graph_of graph.now) (slots_of made.slots.items)) }
+    ensures fault { alone_in result ≡ cannot_start_alone (machine_of machine.now) (graph_of graph.now) }
+{
+    if let Some(place) = first_stuck(alloc, machine, &graph.insns) {
+        return Err(SchedFault::CannotStartAlone { place });
+    }
+    match slots_on::<Brand>(alloc, machine, graph, Blank::new(1)) {
+        Ok(slots) => Ok(Schedule { slots }),
+        Err(_) => Err(SchedFault::NoMemory),
+    }
+}

@@ -1,0 +1,2 @@
+pub mod OneSchedule
+pub mod SameSchedules

@@ -1,0 +1,21 @@
+-- What a list scheduler asks of a machine of tables, and what it refuses. This profile, docs/RULES.md, 'List schedules'.
+use Rattle.std.specs.Prelude.{◌≡◌, ℕ, Bool, not, List, [], ◌∷◌, ◌++◌, length, position, All, Option, Some, IsSome, is_some}
+use Rattle.hz_acceptance_model.specs.Events.{Event, issue, advance, IsOfClass}
+use Rattle.hz_tables_model.specs.Machines.{Machine, machine_walk, starts_of}
+use Rattle.hz_sched_model.specs.Schedules.{Graph}
+
+-- the machine walks these events
+abbrev pub IsWalked : Machine → List Event → Type 0
+IsWalked m t = IsSome (machine_walk m t)
+
+-- A machine settles: behind any events of its classes that it walks, 256 cycles more lead each part to its start.
+pub record Settles (m : Machine) : Type 0 where
+  pub settles : (t : List Event) → All (IsOfClass (length m.classes)) t → IsWalked m t → machine_walk m (t ++ advance 256 ∷ []) ≡ Some (starts_of m)
+
+-- a class can be issued from the start
+abbrev pub can_start : Machine → ℕ → Bool
+can_start m class = is_some (machine_walk m (issue class ∷ []))
+
+-- `CannotStartAlone`: the place of the first instruction whose class can't be issued from the start
+abbrev pub cannot_start_alone : Machine → Graph → Option ℕ
+cannot_start_alone m g = position (λ n. not (can_start m n.class)) g.nodes
