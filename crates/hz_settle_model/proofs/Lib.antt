@@ -1,0 +1,3 @@
+pub mod RunLaws
+pub mod PartLaws
+pub mod SettleLaws
