@@ -25,7 +25,7 @@ use Rattle.hz_depend_model.specs.Graphs.{Edge}
 use Rattle.hz_sched_model.specs.Schedules.{Node, Graph, Slot, class_at, height_at, GoesBefore, IsCandidate}
 use Rattle.hz_sched_model.specs.Machines.{IsWalked}
 use Rattle.hz_sched.specs.Shape.{node_of}
-use Rattle.hz_sched.specs.Waits.{issued_at, and_issued, missing, ripe, leading, ripe_from}
+use Rattle.hz_sched.specs.Waits.{IsSoonest, issued_at, and_issued, missing, ripe, leading, ripe_from}
 use Rattle.hz_sched.specs.Pending.{Key, key_cmp, key_of, AreWaits, AreLeft, may}
 use Rattle.hz_sched.specs.Standing.{IsAt}
 use Rattle.hz_sched.proofs.SlotLemmas.{issued_none, none_issued, same_issued, other_issued}
@@ -79,7 +79,7 @@ none_waited g counts ripes wide long counted zeros = record {
   counts_size = wide;
   ripes_size = long;
   counted = λ j. counted j ∙ sym (missing_none j g.edges);
-  waited = λ j. ap (λ (xs : List ℕ). slice_index xs j) zeros ∙ (zero_at (length g.nodes) j ∙ sym (ripe_none j g.edges));
+  waited = λ j _. ap (λ (xs : List ℕ). slice_index xs j) zeros ∙ (zero_at (length g.nodes) j ∙ sym (ripe_none j g.edges));
 }
 
 -- ---- one issue
@@ -107,7 +107,7 @@ module _ (g : Graph) (at : ℕ → Option ℕ) (place cycle : ℕ) (left : at pl
       omega arith
 
   pub waits_next : (counts ripes fresh later : List ℕ) (row : List Edge) → row ≡ edges_from place g.edges → AreWaits g at counts ripes → length fresh ≡ length counts → length later ≡ length ripes
-      → ((j : ℕ) → slice_index counts j ≡ slice_index fresh j + leading j row) → ((j : ℕ) → slice_index later j ≡ max (slice_index ripes j) (ripe_from cycle j row)) → AreWaits g (and_issued at place cycle) fresh later
+      → ((j : ℕ) → slice_index counts j ≡ slice_index fresh j + leading j row) → ((j : ℕ) → j ≢ place → slice_index later j ≡ max (slice_index ripes j) (ripe_from cycle j row)) → AreWaits g (and_issued at place cycle) fresh later
   waits_next counts ripes fresh later row is waits wide long fewer riper = record {
     counts_size = wide ∙ waits.counts_size;
     ripes_size = long ∙ waits.ripes_size;
@@ -117,9 +117,10 @@ module _ (g : Graph) (at : ℕ → Option ℕ) (place cycle : ℕ) (left : at pl
         let same = ap (leading j) is in
         let f = fewer j in
         omega arith;
-    waited = λ j.
-        riper j
-        ∙ (ap (λ (n : ℕ). max n (ripe_from cycle j row)) (waits.waited j)
+    waited = λ j none.
+        let ne : j ≢ place = λ (e : j ≡ place). let some = ap (and_issued at place cycle) e ∙ same_issued at place cycle in absurd (cc) in
+        riper j ne
+        ∙ (ap (λ (n : ℕ). max n (ripe_from cycle j row)) (waits.waited j (sym (other_issued at place cycle j ne) ∙ none))
         ∙ (ap (λ (es : List Edge). max (ripe at j g.edges) (ripe_from cycle j es)) is
         ∙ sym (ripe_issued at place cycle left j g.edges)));
   }
@@ -169,7 +170,7 @@ module _ (m : Machine) (g : Graph) (slots : List Slot) (cycle : ℕ) (states : L
   candidate_passes j c =
       let (none, low) = ready_back g slots cycle j at.told c.ready in
       let zero : (slice_index counts j == 0) ≡ true = eq-eqb (slice_index counts j) 0 (waits.counted j ∙ none) in
-      let ripe_now : nat_le (slice_index ripes j) cycle ≡ true = le-leb (slice_index ripes j) cycle (omega (arith, waits.waited j, low)) in
+      let ripe_now : nat_le (slice_index ripes j) cycle ≡ true = le-leb (slice_index ripes j) cycle (omega (arith, waits.waited j (issued_none slots j c.left), low)) in
       and_both (nat_lt j (length g.nodes)) (((slice_index counts j == 0) && nat_le (slice_index ripes j) cycle) && is_some (parts_walk m.parts states (issue (class_at g j) ∷ [])))
       (lt-ltb j (length g.nodes) c.within)
       (and_both ((slice_index counts j == 0) && nat_le (slice_index ripes j) cycle) (is_some (parts_walk m.parts states (issue (class_at g j) ∷ [])))
@@ -188,7 +189,7 @@ module _ (m : Machine) (g : Graph) (slots : List Slot) (cycle : ℕ) (states : L
       record {
         within = within;
         left = none_issued slots j none;
-        ready = ready_there g slots cycle j (sym (waits.counted j) ∙ zero) (omega (arith, waits.waited j, low));
+        ready = ready_there g slots cycle j (sym (waits.counted j) ∙ zero) (omega (arith, waits.waited j none, low));
         fits = fits_candidate m g slots cycle states at j fit;
       }
 
@@ -238,3 +239,27 @@ written n xs ys e = ap (λ (k : ℕ). take k (xs ++ ys)) e ∙ take-append_seam 
 pub both_written : (g : Graph) (at : ℕ → Option ℕ) (n k : ℕ) (fresh rest later tail : List ℕ) → n ≡ length fresh → k ≡ length later → AreWaits g at fresh later → AreWaits g at (take n (fresh ++ rest)) (take k (later ++ tail))
 both_written g at n k fresh rest later tail e f h =
     subst (λ (xs : List ℕ). AreWaits g at xs (take k (later ++ tail))) (sym (written n fresh rest e)) (subst (AreWaits g at fresh) (sym (written k later tail f)) h)
+
+-- ---- waiting
+
+none_found : {K : Type 0} (p : K → Bool) (ks : List K) → ((x : K) → p x ≡ true → ⊥) → find p ks ≡ None
+none_found p [] fails = refl
+none_found p (x ∷ ks) fails = go (p x) refl (none_found p ks fails)
+  where
+    go : (b : Bool) → p x ≡ b → find p ks ≡ None → cond b (Some x) (find p ks) ≡ None
+    go true h rest = absurd (fails x h)
+    go false h rest = rest
+
+-- before the earliest cycle none may be issued
+pub none_before : (m : Machine) (g : Graph) (counts ripes : List ℕ) (cycle earliest : ℕ) (states : List ℕ) (keys : List Key) → length counts ≡ length g.nodes → IsSoonest counts ripes earliest → cycle < earliest → None ≡ option_map (λ (k : Key). k.1) (find (λ (k : Key). may m g counts ripes cycle states k.1) keys)
+none_before m g counts ripes cycle earliest states keys wide soonest early = sym (ap (option_map (λ (k : Key). k.1)) (none_found (λ (k : Key). may m g counts ripes cycle states k.1) keys (λ k. fails k.1)))
+  where
+    fails : (j : ℕ) → may m g counts ripes cycle states j ≡ true → ⊥
+    fails j passes =
+        let within = ltb-true j (length g.nodes) (and_left (nat_lt j (length g.nodes)) (((slice_index counts j == 0) && nat_le (slice_index ripes j) cycle) && is_some (parts_walk m.parts states (issue (class_at g j) ∷ []))) passes) in
+        let rest = and_right (nat_lt j (length g.nodes)) (((slice_index counts j == 0) && nat_le (slice_index ripes j) cycle) && is_some (parts_walk m.parts states (issue (class_at g j) ∷ []))) passes in
+        let now = and_left ((slice_index counts j == 0) && nat_le (slice_index ripes j) cycle) (is_some (parts_walk m.parts states (issue (class_at g j) ∷ []))) rest in
+        let zero = eqb-true (slice_index counts j) 0 (and_left (slice_index counts j == 0) (nat_le (slice_index ripes j) cycle) now) in
+        let low = leb-true (slice_index ripes j) cycle (and_right (slice_index counts j == 0) (nat_le (slice_index ripes j) cycle) now) in
+        let high = soonest j (omega (arith, wide, within)) zero in
+        omega (arith, low, high, early)

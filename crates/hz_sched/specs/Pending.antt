@@ -29,7 +29,7 @@ pub record AreWaits (g : Graph) (at : ℕ → Option ℕ) (counts ripes : List �
   pub counts_size : length counts ≡ length g.nodes
   pub ripes_size : length ripes ≡ length g.nodes
   pub counted : (j : ℕ) → slice_index counts j ≡ missing at j g.edges
-  pub waited : (j : ℕ) → slice_index ripes j ≡ ripe at j g.edges
+  pub waited : (j : ℕ) → at j ≡ None → slice_index ripes j ≡ ripe at j g.edges
 
 -- The keys of the instructions that are left.
 pub record AreLeft (g : Graph) (at : ℕ → Option ℕ) (keys : List Key) : Type 0 where

@@ -11,13 +11,13 @@ ghost use Rattle.hz_replay.specs.Replaying.{AreStates};
 ghost use Rattle.hz_sched_model.specs.Schedules as model;
 ghost use Rattle.hz_sched.specs.Shape.{graph_of, slots_of, slot_of};
 ghost use Rattle.hz_sched.specs.Rows.{row_at};
-ghost use Rattle.hz_sched.specs.Waits.{issued_at, and_issued};
+ghost use Rattle.hz_sched.specs.Waits.{IsSoonest, issued_at, and_issued};
 ghost use Rattle.hz_sched.specs.Pending.{Key, AreWaits, AreLeft, may, key_of};
 
 use crate::fitting::fits;
 use crate::parts::Slot;
 use crate::spelling::class_at;
-use crate::waiting::{counts_of, release};
+use crate::waiting::{counts_of, end_waits};
 use hz_depend::{Edge, Graph};
 use hz_regexp::NoMemory;
 use hz_tables::Machine;
@@ -117,14 +117,24 @@ impl Board {
         }
     }
 
-    /// The first instruction that may be issued now.
-    pub fn first(&self, machine: &Machine, graph: &Graph, states: &[u32]) -> Option<u32>
+    /// The first instruction that may be issued now. Before the earliest cycle no instruction has waited for all others.
+    pub fn first(
+        &self,
+        earliest: u32,
+        machine: &Machine,
+        graph: &Graph,
+        states: &[u32],
+    ) -> Option<u32>
+        requires earliest { IsSoonest self.now.counts.items self.now.ripes.items earliest }
         requires states { AreStates (machine_of machine.now) states.now }
         requires classes { All (λ i. i.class < length machine.now.classes.items) graph.now.insns.items }
         requires counts { length self.now.counts.items ≡ length graph.now.insns.items }
         requires ripes { length self.now.ripes.items ≡ length graph.now.insns.items }
         ensures { result ≡ option_map (λ k. k.1) (find (λ k. may (machine_of machine.now) (graph_of graph.now) self.now.counts.items self.now.ripes.items self.now.cycle states.now k.1) self.now.left.keys) }
     {
+        if self.cycle < earliest {
+            return None;
+        }
         match self
             .left
             .iter()
@@ -153,7 +163,7 @@ impl Board {
         self.slots.push(Slot { place, cycle })?;
         let height = height_at(graph, place);
         self.left.remove(&(Reverse(height), place));
-        release(&mut self.counts, &mut self.ripes, row, cycle);
+        end_waits(&mut self.counts, &mut self.ripes, row, place, cycle);
         Ok(())
     }
 }

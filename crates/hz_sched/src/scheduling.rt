@@ -17,6 +17,7 @@ use crate::fitting::first_stuck;
 use crate::outgoing::outgoing;
 use crate::parts::{Schedule, Slot};
 use crate::spelling::class_at;
+use crate::waiting::soonest;
 use hz_depend::{Edge, Graph};
 use hz_regexp::NoMemory;
 use hz_replay::Replayer;
@@ -53,8 +54,9 @@ fn issue_next<L: Ledger>(
     ensures fewer { OnOk result (suc (left_below (issued_at (slots_of board.new.slots.items)) (length graph.now.insns.items)) ≡ left_below (issued_at (slots_of board.old.slots.items)) (length graph.now.insns.items)) }
     ensures soon { OnOk result (board.new.cycle ≤ board.old.cycle + 1256) }
 {
+    let earliest = soonest(&board.counts, &board.ripes);
     for _wait in 0..MOST_WAIT {
-        if let Some(place) = board.first(machine, graph, replayer.states()) {
+        if let Some(place) = board.first(earliest, machine, graph, replayer.states()) {
             let _is_taken = replayer.issue(class_at(graph, place), steps);
             return board.issue(graph, row_of(rows, place), place);
         }

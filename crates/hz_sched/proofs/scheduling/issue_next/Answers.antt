@@ -102,6 +102,7 @@ loop-wait-preserved g c =
         waits = c.loop-wait.invariant.board.waits;
         left = c.loop-wait.invariant.board.left;
       };
+      soon = c.loop-wait.invariant.soon;
       slots = c.loop-wait.invariant.slots;
       cycle = omega (arith, c.loop-wait.invariant.cycle);
     }
