@@ -1,6 +1,6 @@
 //! Laws of the schedules of a block.
 
-ghost use Rattle.std.specs.Prelude.{◌≡◌, ℕ, List};
+ghost use Rattle.std.specs.Prelude.{◌≡◌, ℕ, List, All};
 ghost use Rattle.hz_acceptance_model.specs.Replay.{Accepted};
 ghost use Rattle.hz_check_model.specs.Places.{Known};
 ghost use Rattle.hz_mdread_model.specs.Descriptions.{Description};
@@ -9,7 +9,7 @@ ghost use Rattle.hz_rtl_model.specs.Blocks.{Instruction};
 ghost use Rattle.hz_depend_model.specs.Classes.{ClassFault};
 ghost use Rattle.hz_sched_model.specs.Schedules.{Graph, Slot, Legal};
 ghost use Rattle.hz_scheduled_model.specs.BlockGraphs.{IsFirstClassFault, IsGraphOf, classes_of};
-ghost use Rattle.hz_scheduled_model.specs.BlockSchedules.{IsFirstStuck, IsScheduleOf, KeepsBlock};
+ghost use Rattle.hz_scheduled_model.specs.BlockSchedules.{StartsAlone, IsFirstStuck, IsScheduleOf, KeepsBlock};
 
 /// A legal schedule of a block's dependence graph has the block's instructions each once, keeps every latency and bypass, is
 /// accepted, and leaves from every state what the order of the source leaves.
@@ -28,8 +28,9 @@ pub fn one_class_fault()
     ensures none { (d : Description) (block : List Instruction) (i : Instruction) (e : ClassFault) (g : Graph) → IsFirstClassFault d block i e → IsGraphOf d block g → ⊥ }
 {}
 
-/// The first instruction that can't be issued from the start is one; where there is one, the block has no schedule.
+/// The first instruction that can't be issued from the start is one; where there is one, not all of them can. (The block may still
+/// have a schedule, behind instructions whose units a presence set wants.)
 pub fn one_stuck_instruction()
     ensures one { (d : Description) (known : Known) (block : List Instruction) (i j : Instruction) → IsFirstStuck d known block i → IsFirstStuck d known block j → i ≡ j }
-    ensures none { (d : Description) (known : Known) (block : List Instruction) (i : Instruction) (g : Graph) (slots : List Slot) → IsFirstStuck d known block i → IsScheduleOf d known block g slots → ⊥ }
+    ensures none { (d : Description) (known : Known) (block : List Instruction) (i : Instruction) → IsFirstStuck d known block i → All (StartsAlone d known) block → ⊥ }
 {}
