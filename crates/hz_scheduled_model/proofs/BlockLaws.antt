@@ -31,14 +31,24 @@ record Parted (slots : List Slot) (before : List ℕ) (j : ℕ) : Type 0 where
   pub places_are : places ahead ≡ before
   pub place_is : slot.place ≡ j
 
+same_cons : (i j : ℕ) (is js : List ℕ) → i ≡ j → is ≡ js → i ∷ is ≡ j ∷ js
+same_cons i j is js e f = cc
+
+further : (x : Slot) (slots : List Slot) (b : ℕ) (before : List ℕ) (j : ℕ) → x.place ≡ b → Parted slots before j → Parted (x ∷ slots) (b ∷ before) j
+further x slots b before j first p = record {
+  ahead = x ∷ p.ahead;
+  slot = p.slot;
+  behind = p.behind;
+  is = ap (λ (zs : List Slot). x ∷ zs) p.is;
+  places_are = same_cons x.place b (places p.ahead) before first p.places_are;
+  place_is = p.place_is;
+}
+
 parted : (slots : List Slot) (before after : List ℕ) (j : ℕ) → places slots ≡ before ++ j ∷ after → Parted slots before j
 parted [] [] after j e = absurd (cc)
 parted [] (b ∷ before) after j e = absurd (cc)
 parted (x ∷ slots) [] after j e = record { ahead = []; slot = x; behind = slots; is = refl; places_are = refl; place_is = cc }
-parted (x ∷ slots) (b ∷ before) after j e =
-    let p = parted slots before after j (cc) in
-    let first : x.place ≡ b = cc in
-    record { ahead = x ∷ p.ahead; slot = p.slot; behind = p.behind; is = ap (λ (zs : List Slot). x ∷ zs) p.is; places_are = let rest = p.places_are in cc; place_is = p.place_is }
+parted (x ∷ slots) (b ∷ before) after j e = further x slots b before j (cc) (parted slots before after j (cc))
 
 module _ (d : Description) (known : Known) (block : List Instruction) (g : Graph) (slots : List Slot) (graph : IsGraphOf d block g) (legal : Legal (Accepted (pipeline_with d known)) g slots) where
   whole : IsOrder (length block) (places slots)
@@ -67,6 +77,6 @@ pub one_of_a_block : (d : Description) (known : Known) (block : List Instruction
 one_of_a_block d known block g h s t one other = (
   same_classes d block g h one.graph other.graph,
   one_schedule (Accepted (pipeline_with d known)) g s t one.legal one.greedy
-  (legal_there (Accepted (pipeline_with d known)) d block h g other.graph one.graph t other.legal)
-  (greedy_there (Accepted (pipeline_with d known)) d block h g other.graph one.graph t other.greedy),
+      (legal_there (Accepted (pipeline_with d known)) d block h g other.graph one.graph t other.legal)
+      (greedy_there (Accepted (pipeline_with d known)) d block h g other.graph one.graph t other.greedy),
 )

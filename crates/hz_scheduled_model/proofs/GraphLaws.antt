@@ -118,7 +118,7 @@ module _ (accepts : List Event → Type 0) (d : Description) (block : List Instr
         left = c.left;
         ready = ready_there d block g h one other slots cycle j c.ready;
         fits = subst (λ (t : List Event). accepts (t ++ (advance_to (present 0 slots) cycle ++ issue (class_at h j) ∷ []))) (same_spelled d block h g other one 0 slots)
-        (subst (λ (class : ℕ). accepts (spell g slots ++ (advance_to (present 0 slots) cycle ++ issue class ∷ []))) (same_class d block h g other one j) c.fits);
+            (subst (λ (class : ℕ). accepts (spell g slots ++ (advance_to (present 0 slots) cycle ++ issue class ∷ []))) (same_class d block h g other one j) c.fits);
       }
 
   before_there : (i j : ℕ) → i < length g.nodes → j < length g.nodes → GoesBefore g i j → GoesBefore h i j
@@ -146,6 +146,6 @@ module _ (accepts : List Event → Type 0) (d : Description) (block : List Instr
       record {
         may = candidate_there accepts d block g h one other before x.cycle x.place f.may;
         first = λ j c. let back = candidate_there accepts d block h g other one before x.cycle j c in
-        before_there accepts d block g h one other x.place j (f.may).within back.within (f.first j back);
+            before_there accepts d block g h one other x.place j (f.may).within back.within (f.first j back);
         soonest = λ cycle j low high c. f.soonest cycle j low high (candidate_there accepts d block h g other one before cycle j c);
       }
