@@ -18,12 +18,8 @@ use Rattle.hz_scheduled_model.specs.BlockGraphs.{timing_in, classes_of, IsGraphO
 use Rattle.hz_scheduled_model.specs.BlockSchedules.{IsScheduleOf, KeepsBlock}
 use Rattle.hz_scheduled_model.proofs.GraphLaws.{as_many, same_classes, legal_there, greedy_there}
 
-is_true_test : (b : Bool) → b ≡ true → IsTrue b
-is_true_test true h = search rules
-is_true_test false h = absurd (cc)
-
 -- Slots whose places stand around one.
-record Parted (slots : List Slot) (before : List ℕ) (j : ℕ) : Type 0 where
+pub record Parted (slots : List Slot) (before : List ℕ) (j : ℕ) : Type 0 where
   pub ahead : List Slot
   pub slot : Slot
   pub behind : List Slot
@@ -44,7 +40,7 @@ further x slots b before j first p = record {
   place_is = p.place_is;
 }
 
-parted : (slots : List Slot) (before after : List ℕ) (j : ℕ) → places slots ≡ before ++ j ∷ after → Parted slots before j
+pub parted : (slots : List Slot) (before after : List ℕ) (j : ℕ) → places slots ≡ before ++ j ∷ after → Parted slots before j
 parted [] [] after j e = absurd (cc)
 parted [] (b ∷ before) after j e = absurd (cc)
 parted (x ∷ slots) [] after j e = record { ahead = []; slot = x; behind = slots; is = refl; places_are = refl; place_is = cc }
@@ -56,7 +52,7 @@ module _ (d : Description) (known : Known) (block : List Instruction) (g : Graph
 
   behind_costs : (before after : List Slot) (x : Slot) (i : ℕ) → slots ≡ before ++ x ∷ after → depends block i x.place ≡ true → (y : Slot) × Contains before y × (y.place ≡ i) × (y.cycle + cost block (timing_in d (classes_of g)) i x.place ≤ x.cycle)
   behind_costs before after x i is depending =
-      let (up, inside) = upwards block i x.place (is_true_test (depends block i x.place) depending) in
+      let (up, inside) = upwards block i x.place depending in
       legal.kept before after x is (edge block (timing_in d (classes_of g)) i x.place) ((graph.edges).each i x.place (omega arith) inside depending) refl
 
   keeps : Keeps block (places slots)

@@ -1,0 +1,7 @@
+pub mod ToldLaws
+pub mod SlotLaws
+pub mod GreedyLaws
+pub mod BehindLaws
+pub mod CostLaws
+pub mod GraphTotal
+pub mod ScheduleTotal
