@@ -1,5 +1,5 @@
 -- What the program answers: this profile, docs/FORMATS.md, 'Answers'.
-use Rattle.std.specs.Prelude.{◌≡◌, ℕ, List, [], ◌∷◌, All, Option, Some, MatchOption, ⊤, ◌⊎◌, slice_get, slice_index_or}
+use Rattle.std.specs.Prelude.{◌≡◌, ℕ, List, [], ◌∷◌, Option, Some, MatchOption, ⊤, ◌⊎◌, slice_get, slice_index_or}
 use Rattle.hz_check_model.specs.CheckFaults.{CheckFault, CheckFaultAt, IsSound}
 use Rattle.hz_check_model.specs.Places.{Known, class_names}
 use Rattle.hz_mdread_model.specs.DescriptionForms.{DescriptionFault}
@@ -22,10 +22,6 @@ use Rattle.hz_answer_model.specs.Words.{Order, replay, schedule, eval, order_of}
 use Rattle.hz_answer_model.specs.Phases.{Held, Says, Next, Opens, HasForms}
 use Rattle.hz_answer_model.specs.BlockAnswers.{block_limit, state_text_limit, JudgesBlock}
 use Rattle.hz_answer_model.specs.ScheduleAnswers.{SchedulesBlock}
-use Rattle.hz_answer_model.specs.Headline.{IsDescribed, IsBlockIn}
-use Rattle.hz_rtl_model.specs.Blocks.{Instruction}
-use Rattle.hz_sched_model.specs.Schedules.{Graph, Slot}
-use Rattle.hz_scheduled_model.specs.BlockSchedules.{StartsAlone, IsScheduleOf}
 
 -- the description that forms say, or the first fault of a form
 abbrev pub Describes : List ℕ → Trees → Next Description → ℕ → List ℕ → Type 0
@@ -120,17 +116,10 @@ Answer words held status text =
 abbrev pub IsCountedText : List ℕ → Type 0
 IsCountedText bytes = (read : Trees) (d : Description) (known : Known) → forms.Reads bytes read → description_forms.Reads read d → IsSound d known → AreCounted d known
 
--- A block that a text says, each of whose instructions can be issued from the start by the description that another says, has a
--- schedule.
-abbrev pub IsScheduledText : List ℕ → List ℕ → Type 0
-IsScheduledText described blocked =
-    (d : Description) (known : Known) (insns : List Instruction) → IsDescribed described d known → IsBlockIn blocked insns → All (StartsAlone d known) insns
-    → (g : Graph) × (slots : List Slot) × IsScheduleOf d known insns g slots
-
 -- the same of the descriptions that an order names and that are held
 abbrev pub IsCountedOrder : Held → Order → Type 0
 IsCountedOrder held (replay description trace) = MatchOption (held description) ⊤ IsCountedText
-IsCountedOrder held (schedule description block) = MatchOption (held description) ⊤ (λ described. IsCountedText described × MatchOption (held block) ⊤ (IsScheduledText described))
+IsCountedOrder held (schedule description block) = MatchOption (held description) ⊤ IsCountedText
 IsCountedOrder held (eval block state) = ⊤
 
 -- the same of those that words name

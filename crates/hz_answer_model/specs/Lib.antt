@@ -4,5 +4,5 @@ pub mod FaultTexts
 pub mod Phases
 pub mod BlockAnswers
 pub mod ScheduleAnswers
-pub mod Headline
 pub mod Answers
+pub mod Headline

@@ -1,41 +1,19 @@
 -- A graph has a schedule that is legal and greedy, where what is accepted can be told and instructions fit behind a while.
-use Rattle.std.proofs.Common.{◌≡◌, ℕ, zero, suc, ◌+◌, ◌-◌, ◌<◌, ◌≤◌, ◌⊎◌, inl, inr, ⊎_elim, List, [], ◌∷◌, ◌++◌, length, Contains, refl, sym, ap, ◌∙◌, subst, arith}
+use Rattle.std.proofs.Common.{◌≡◌, ℕ, zero, suc, ◌+◌, ◌-◌, ◌<◌, ◌≤◌, ◌⊎◌, inl, inr, ⊎_elim, List, [], ◌∷◌, ◌++◌, length, Contains, sym, ap, subst, arith}
 use Rattle.std.specs.List.{AllPairs, range_with_len}
 use Rattle.std.proofs.lemmas.Bool.{cases_lt}
 use Rattle.std.proofs.lemmas.List.FromFn.{length-range_with_len}
 use Rattle.std.proofs.lemmas.List.Elements.{All-contains, Contains-append_left, Contains-append_right}
-use Rattle.hz_base_model.proofs.Elements.{Contains-nil, Contains-head, Contains-tail, Contains-cons_cases, Contains-map, Contains-from_map, Contains-range}
+use Rattle.hz_base_model.proofs.Elements.{Contains-head, Contains-map, Contains-from_map, Contains-range}
 use Rattle.hz_acceptance_model.specs.Events.{Event, issue, advance}
 use Rattle.hz_depend_model.specs.Graphs.{Edge}
 use Rattle.hz_sched_model.specs.Schedules.{Graph, Slot, class_at, height_at, places, present, advance_to, spell, IsReady, GoesBefore, Legal, Greedy, IsCandidate, FollowsGreedily}
 use Rattle.hz_sched_model.proofs.OneSchedule.{Rises}
 use Rattle.hz_sched_model.proofs.SameSchedules.{greedy_within}
 use Rattle.hz_scheduled_model.proofs.BlockLaws.{parted}
+use Rattle.hz_schedulable_model.proofs.LeftLaws.{without}
 use Rattle.hz_schedulable_model.proofs.ToldLaws.{IsTold, same_told, less_told, low_told, each_told, some_told, contained_told}
 use Rattle.hz_schedulable_model.proofs.SlotLaws.{spelled-push, advances_later, below_present, rising-push, Split, last, earlier, split, no_front}
-
--- ---- lists of what is left
-
--- A list without one item.
-record IsWithout (xs : List ℕ) (x : ℕ) : Type 0 where
-  rest : List ℕ
-  shorter : suc (length rest) ≡ length xs
-  others : (j : ℕ) → Contains xs j → (x ≡ j) ⊎ Contains rest j
-
-without : (xs : List ℕ) (x : ℕ) → Contains xs x → IsWithout xs x
-without [] x there = absurd (Contains-nil x there)
-without (y ∷ xs) x there = ⊎_elim
-    (λ (same : y ≡ x). record { rest = xs; shorter = refl; others = λ j h. ⊎_elim (λ (e : y ≡ j). inl (sym same ∙ e)) (λ (m : Contains xs j). inr m) (Contains-cons_cases y j xs h) })
-    (λ (m : Contains xs x). let w = without xs x m in let less = w.shorter in
-    record {
-      rest = y ∷ w.rest;
-      shorter = omega arith;
-      others = λ j h. ⊎_elim
-          (λ (e : y ≡ j). inr (subst (λ (k : ℕ). Contains (k ∷ w.rest) j) (sym e) (Contains-head j w.rest)))
-          (λ (n : Contains xs j). ⊎_elim (λ (e : x ≡ j). inl e) (λ (k : Contains w.rest j). inr (Contains-tail y j w.rest k)) (w.others j n))
-          (Contains-cons_cases y j xs h);
-    })
-    (Contains-cons_cases y x xs there)
 
 -- numbers up to one
 last_or_less : (n j : ℕ) → j < suc n → (j < n) ⊎ (n ≡ j)

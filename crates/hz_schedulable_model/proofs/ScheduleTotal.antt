@@ -3,9 +3,9 @@ use Rattle.std.proofs.Common.{◌≡◌, ℕ, zero, suc, ◌+◌, ◌*◌, ◌-�
 use Rattle.std.specs.Prelude.{Ok, Result, slice_index}
 use Rattle.std.specs.List.{AllPairs}
 use Rattle.std.proofs.lemmas.Bool.{cases_lt}
-use Rattle.std.proofs.lemmas.List.{append-nil, length-append, get_or_append_left}
+use Rattle.std.proofs.lemmas.List.{append-nil, length-append, length-map, get_or_append_left}
 use Rattle.std.proofs.lemmas.List.Elements.{All-head, All-tail, All-weaker}
-use Rattle.hz_acceptance_model.specs.Events.{Event, issue, advance}
+use Rattle.hz_acceptance_model.specs.Events.{Event, issue, advance, cycles_of}
 use Rattle.hz_acceptance_model.specs.Replay.{Accepted}
 use Rattle.hz_acceptance_model.proofs.AcceptanceLaws.{prefix_accepted}
 use Rattle.hz_mdread_model.specs.Descriptions.{Description}
@@ -16,7 +16,7 @@ use Rattle.hz_pipeline_model.specs.Pipelines.{pipeline_with}
 use Rattle.hz_rtl_model.specs.Blocks.{Instruction}
 use Rattle.hz_depend_model.specs.Classes.{ClassFault}
 use Rattle.hz_depend_model.specs.Graphs.{Edge}
-use Rattle.hz_sched_model.specs.Schedules.{Graph, Slot, class_at, present, advance_to, spell, IsReady, IsCandidate, FollowsGreedily}
+use Rattle.hz_sched_model.specs.Schedules.{Graph, Slot, class_at, places, present, advance_to, spell, IsReady, IsCandidate, FollowsGreedily}
 use Rattle.hz_sched_model.proofs.OneSchedule.{Rises}
 use Rattle.hz_scheduled_model.specs.BlockGraphs.{class_in, classes_of, IsGraphOf}
 use Rattle.hz_scheduled_model.specs.BlockSchedules.{StartsAlone, IsScheduleOf}
@@ -25,7 +25,8 @@ use Rattle.hz_schedulable_model.proofs.BehindLaws.{accepted_told, accepted_nothi
 use Rattle.hz_schedulable_model.proofs.CostLaws.{cost_small}
 use Rattle.hz_schedulable_model.proofs.GraphTotal.{some_graph}
 use Rattle.hz_schedulable_model.proofs.GreedyLaws.{some_schedule}
-use Rattle.hz_schedulable_model.proofs.SlotLaws.{present-push, advances_later, below_present}
+use Rattle.hz_schedulable_model.proofs.SlotLaws.{present-push, advances_later, below_present, spelled_cycles}
+use Rattle.hz_schedulable_model.proofs.LeftLaws.{order_length}
 
 -- the edges of a block's graph lead upwards, and cost little
 upward_edges : (d : Description) (block : List Instruction) (g : Graph) → IsCheckable d → IsGraphOf d block g → (e : Edge) → Contains g.edges e → (e.from < e.to) × (e.to < length g.nodes) × (e.cost ≤ 1000)
@@ -112,3 +113,13 @@ module _ (d : Description) (known : Known) where
 
 pub soon_issued : (d : Description) (known : Known) (block : List Instruction) (g : Graph) (slots : List Slot) → IsCheckable d → IsSound d known → IsScheduleOf d known block g slots → present 0 slots ≤ 1256 * length slots
 soon_issued d known block g slots formed sound is = soon_all d known block g slots formed sound is
+
+-- the trace of a schedule is short
+pub short_trace : (d : Description) (known : Known) (block : List Instruction) (g : Graph) (slots : List Slot) → IsCheckable d → IsSound d known → IsScheduleOf d known block g slots → cycles_of (spell g slots) ≤ 1256 * length block
+short_trace d known block g slots formed sound is =
+    let soon = soon_issued d known block g slots formed sound is in
+    let cycles = spelled_cycles g 0 slots (λ k e low. omega arith) (is.legal).rising in
+    let each = order_length (length g.nodes) (places slots) (is.legal).order in
+    let long = length-map slots (λ (x : Slot). x.place) in
+    let many = as_many d block g is.graph in
+    omega (arith, soon, cycles, each, long, many)

@@ -1,10 +1,13 @@
 -- One more slot.
-use Rattle.std.proofs.Common.{◌≡◌, ℕ, ◌-◌, ◌<◌, ◌≤◌, Bool, cond, ⊎_elim, List, [], ◌∷◌, ◌++◌, All, Contains, refl, sym, ap, ◌∙◌, append_assoc, arith}
+use Rattle.std.proofs.Common.{◌≡◌, ℕ, ◌+◌, ◌-◌, length, ◌<◌, ◌≤◌, Bool, true, false, cond, ⊎_elim, List, [], ◌∷◌, ◌++◌, All, Contains, refl, sym, ap, ◌∙◌, append_assoc, arith}
 use Rattle.std.specs.List.{AllPairs}
-use Rattle.std.proofs.lemmas.Bool.{lt-ltb}
+use Rattle.std.specs.Prelude.{nat_lt}
+use Rattle.std.proofs.lemmas.List.Elements.{All-head}
+use Rattle.std.proofs.lemmas.Bool.{lt-ltb, le-ltb, cases_lt}
 use Rattle.hz_base_model.proofs.Elements.{Contains-nil, Contains-cons_cases}
 use Rattle.hz_base_model.proofs.Ascending.{AllPairs-head, AllPairs-tail, AllPairs-append}
-use Rattle.hz_acceptance_model.specs.Events.{Event, issue, advance}
+use Rattle.hz_acceptance_model.specs.Events.{Event, issue, advance, issues_of, cycles_of}
+use Rattle.hz_acceptance_model.proofs.ReplayLaws.{issues_of-append, cycles_of-append}
 use Rattle.hz_sched_model.specs.Schedules.{Graph, Slot, class_at, present, advance_to, spelled}
 use Rattle.hz_sched_model.proofs.OneSchedule.{Rises}
 
@@ -49,6 +52,34 @@ rising-push slots y rising le = AllPairs-append Rises slots (y ∷ []) rising (�
         (λ (e : y ≡ b). let low = below_present slots 0 rising a there in let same = ap (λ (z : Slot). z.cycle) e in omega arith)
         (λ (m : Contains [] b). absurd (Contains-nil b m))
         (Contains-cons_cases y b [] last)
+
+-- the cycles of a trace of slots that rise lead to the last
+pub spelled_cycles : (g : Graph) (cycle : ℕ) (slots : List Slot) → All (λ x. cycle ≤ x.cycle) slots → AllPairs Rises slots → cycles_of (spelled g cycle slots) + cycle ≡ present cycle slots
+spelled_cycles g cycle [] low rising = omega arith
+spelled_cycles g cycle (x ∷ slots) low rising =
+    let here = advanced cycle x.cycle (All-head (λ x. cycle ≤ x.cycle) x slots low) in
+    let rest = spelled_cycles g x.cycle slots (AllPairs-head Rises x slots rising) (AllPairs-tail Rises x slots rising) in
+    let both = cycles_of-append (advance_to cycle x.cycle) (issue (class_at g x.place) ∷ spelled g x.cycle slots) in
+    omega (arith, here, rest, both)
+  where
+    advanced : (now later : ℕ) → now ≤ later → cycles_of (advance_to now later) + now ≡ later
+    advanced now later le = ⊎_elim
+        (λ (lt : now < later). let same = ap cycles_of (advances_later now later lt) in omega (arith, same, lt))
+        (λ (ge : later ≤ now). let same = ap (λ (b : Bool). cycles_of (cond b (advance (later - now) ∷ []) [])) (le-ltb now later ge) in omega (arith, same, ge, le))
+        (cases_lt now later)
+
+-- a trace of slots issues each
+pub spelled_issues : (g : Graph) (cycle : ℕ) (slots : List Slot) → issues_of (spelled g cycle slots) ≡ length slots
+spelled_issues g cycle [] = refl
+spelled_issues g cycle (x ∷ slots) =
+    let rest = spelled_issues g x.cycle slots in
+    let both = issues_of-append (advance_to cycle x.cycle) (issue (class_at g x.place) ∷ spelled g x.cycle slots) in
+    let none = none_issued (nat_lt cycle x.cycle) in
+    omega (arith, rest, both, none)
+  where
+    none_issued : (b : Bool) → issues_of (cond b (advance (x.cycle - cycle) ∷ []) []) ≡ 0
+    none_issued true = refl
+    none_issued false = refl
 
 -- ---- fronts of slots
 
