@@ -36,6 +36,10 @@ pub fn refine(alloc: Global, plain: &Plain) -> Result<Vec<u32>, NoMemory>
     let mut buckets = empty_lists(alloc, plain.columns() as usize + 1)?;
     // A split makes one block wait, so there are at most as many turns as blocks in the end.
     for _ in 0..plain.states() {
+        // No block of one state is split.
+        if marks.of_blocks.len() == plain.states() as usize {
+            return Ok(partition.blocks);
+        }
         match marks.next() {
             Some(block) => turn(
                 alloc,

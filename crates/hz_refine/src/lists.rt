@@ -1,6 +1,6 @@
 //! A list for each place.
 
-ghost use Rattle.std.specs.Prelude.{◌≡◌, ◌<◌, ◌≤◌, ℕ, [], IfOk, OnOk, vec_len};
+ghost use Rattle.std.specs.Prelude.{◌≡◌, ◌<◌, ◌≤◌, ℕ, [], IfOk, OnOk, length, vec_len};
 ghost use Rattle.hz_refine.specs.Lists.{lists_of, list_at, added};
 
 use hz_tables::NoMemory;
@@ -25,6 +25,18 @@ pub fn empty_lists<T: Drop>(alloc: Global, count: usize) -> Result<Vec<Vec<T>>, 
 {
     let mut lists = Vec::with_capacity(alloc, count)?;
     grow(alloc, &mut lists, count)?;
+    Ok(lists)
+}
+
+/// Empty lists, each with room for so many items.
+pub fn roomy_lists<T: Drop>(alloc: Global, rooms: &[u32]) -> Result<Vec<Vec<T>>, NoMemory>
+    ensures size { IfOk result (λ lists. vec_len lists ≡ length rooms.now) }
+    ensures empty { IfOk result (λ lists. (place : ℕ) → list_at (lists_of lists.items) place ≡ []) }
+{
+    let mut lists = Vec::with_capacity(alloc, rooms.len())?;
+    for room in rooms {
+        lists.push(Vec::with_capacity(alloc, *room as usize)?)?;
+    }
     Ok(lists)
 }
 

@@ -23,6 +23,9 @@ turn-requires-clause-arrows c =
     (subst (λ arrows. AreWithin (length c.args.plain.now.rows) (c.args.plain.now.columns + 1) (lists_of arrows)) (sym c.deref.ensures.value)
     (arrows_within c.args.plain.now (lists_of c.in_ok-arrows.arrows.items) c.requires c.in_ok-arrows.ensures)))
 
+pub returns-then-len-states-clause-numbers : goal.returns-then-len-states-clause-numbers
+returns-then-len-states-clause-numbers c = kept_below _ c.loop.partition c.loop.marks c.loop.invariant.kept
+
 pub returns-in-None-clause-numbers : goal.returns-in-None-clause-numbers
 returns-in-None-clause-numbers c = kept_below _ c.loop.partition c.loop.marks c.loop.invariant.kept
 
