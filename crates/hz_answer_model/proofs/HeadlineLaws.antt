@@ -8,7 +8,7 @@ use Rattle.hz_mdread_model.proofs.DescriptionLaws.{one_description}
 use Rattle.hz_check_model.proofs.CheckLaws.{sound_one}
 use Rattle.hz_acceptance_model.specs.Events.{issues_of, cycles_of}
 use Rattle.hz_auto_model.specs.DescriptionLimits.{AllKeepLimits}
-use Rattle.hz_schedulable_model.proofs.SlotLaws.{spelled_cycles, spelled_issues}
+use Rattle.hz_sched_model.proofs.TraceLaws.{issues_spelled, cycles_spelled}
 use Rattle.hz_sexp_model.specs.Trees.{Trees}
 use Rattle.hz_sexp_model.specs.Forms as forms
 use Rattle.hz_mdread_model.specs.Descriptions.{Description}
@@ -160,8 +160,7 @@ opens o name most next bytes text is low h =
 -- the line that accepts slots
 accepted_slots : (g : Graph) (slots : List Slot) → AllPairs (λ x y. x.cycle ≤ y.cycle) slots → accepted_line (length slots) (present 0 slots) ≡ accepted_line (issues_of (spell g slots)) (cycles_of (spell g slots))
 accepted_slots g slots rising =
-    let cycles : present 0 slots ≡ cycles_of (spell g slots) = omega (arith, spelled_cycles g 0 slots (λ k e low. omega arith) rising) in
-    ap (λ (n : ℕ). accepted_line n (present 0 slots)) (sym (spelled_issues g 0 slots)) ∙ ap (accepted_line (issues_of (spell g slots))) cycles
+    ap (λ (n : ℕ). accepted_line n (present 0 slots)) (sym (issues_spelled g slots)) ∙ ap (accepted_line (issues_of (spell g slots))) (sym (cycles_spelled g slots rising))
 
 module _ (held : Held) (description block text : List ℕ) (w : WritesSchedule held description block text) (h : AnswersSchedule held description block 0 text) where
   -- the description keeps its limits, and its text does

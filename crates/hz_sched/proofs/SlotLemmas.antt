@@ -1,13 +1,9 @@
 -- Which places are issued, and what is left.
-use Rattle.std.proofs.Common.{◌≡◌, ◌≢◌, ℕ, zero, suc, ◌+◌, ◌<◌, ◌≤◌, ◌==◌, ◌⊎◌, inl, inr, ⊎_elim, Bool, true, false, cond, List, [], ◌∷◌, ◌++◌, length, map, Option, Some, None, is_some, All, Contains, refl, sym, ap, ◌∙◌, subst, arith}
-use Rattle.std.specs.List.{AllPairs}
+use Rattle.std.proofs.Common.{◌≡◌, ◌≢◌, ℕ, zero, suc, ◌+◌, ◌<◌, ◌≤◌, ◌==◌, ◌⊎◌, inl, inr, Bool, true, false, cond, List, [], ◌∷◌, ◌++◌, Option, Some, None, is_some, Contains, refl, sym, ap, ◌∙◌, subst, arith}
 use Rattle.std.proofs.Math.Path.{fun_ext}
-use Rattle.std.proofs.lemmas.Bool.{eqb-true, eqb-false, eq-eqb, ne_eqb, cases_lt}
-use Rattle.std.proofs.lemmas.List.Elements.{All-contains, All-get_or}
+use Rattle.std.proofs.lemmas.Bool.{eqb-true, eqb-false, eq-eqb, ne_eqb}
 use Rattle.hz_base_model.proofs.Elements.{Contains-nil, Contains-head, Contains-tail, Contains-cons_cases}
-use Rattle.hz_base_model.proofs.Ascending.{AllPairs-head, AllPairs-tail, AllPairs-append}
-use Rattle.hz_sched_model.specs.Schedules.{Slot, places, present}
-use Rattle.hz_sched_model.proofs.OneSchedule.{Rises}
+use Rattle.hz_sched_model.specs.Schedules.{Slot, places}
 use Rattle.hz_sched.specs.Waits.{issued_at, and_issued}
 use Rattle.hz_sched.specs.Standing.{left_below}
 
@@ -129,75 +125,3 @@ least_left at (suc n) some = go (left_below at n == 0) refl (at n) refl some (le
 pub none_yet : (n : ℕ) → left_below (issued_at []) n ≡ n
 none_yet zero = refl
 none_yet (suc n) = omega (arith, none_yet n)
-
--- ---- rising slots
-
-above_all : (slots : List Slot) (cycle : ℕ) → All (λ x. cycle ≤ x.cycle) slots → AllPairs Rises slots → cycle ≤ present cycle slots
-above_all [] cycle all rising = omega arith
-above_all (y ∷ slots) cycle all rising =
-    let first : cycle ≤ y.cycle = all 0 y (omega arith) in
-    let rest = above_all slots y.cycle (AllPairs-head Rises y slots rising) (AllPairs-tail Rises y slots rising) in
-    omega arith
-
--- no slot is later than the present cycle
-pub below_present : (slots : List Slot) (cycle : ℕ) → AllPairs Rises slots → (x : Slot) → Contains slots x → x.cycle ≤ present cycle slots
-below_present [] cycle rising x h = absurd (Contains-nil x h)
-below_present (y ∷ slots) cycle rising x h = ⊎_elim
-    (λ (e : y ≡ x). let rest = above_all slots y.cycle (AllPairs-head Rises y slots rising) (AllPairs-tail Rises y slots rising) in let same = ap (λ (z : Slot). z.cycle) e in omega arith)
-    (λ (m : Contains slots x). below_present slots y.cycle (AllPairs-tail Rises y slots rising) x m)
-    (Contains-cons_cases y x slots h)
-
-pub rising-push : (slots : List Slot) (y : Slot) → AllPairs Rises slots → present 0 slots ≤ y.cycle → AllPairs Rises (slots ++ y ∷ [])
-rising-push slots y rising le = AllPairs-append Rises slots (y ∷ []) rising (λ i j d lt inside. absurd (omega (arith, inside))) above
-  where
-    above : (a b : Slot) → Contains slots a → Contains (y ∷ []) b → a.cycle ≤ b.cycle
-    above a b there last = ⊎_elim
-        (λ (e : y ≡ b). let low = below_present slots 0 rising a there in let same = ap (λ (z : Slot). z.cycle) e in omega arith)
-        (λ (m : Contains [] b). absurd (Contains-nil b m))
-        (Contains-cons_cases y b [] last)
-
--- ---- fronts of slots
-
-pub data Split (slots : List Slot) (y : Slot) (before : List Slot) (x : Slot) : Type 0 where
-  last : slots ≡ before → y ≡ x → Split slots y before x
-  earlier : (rest : List Slot) → slots ≡ before ++ x ∷ rest → Split slots y before x
-
-pub split : (slots : List Slot) (y : Slot) (before after : List Slot) (x : Slot) → slots ++ y ∷ [] ≡ before ++ x ∷ after → Split slots y before x
-split [] y [] after x e = last refl (let same : y ≡ x = cc in same)
-split [] y (b ∷ []) after x e = absurd (cc)
-split [] y (b ∷ (d ∷ before)) after x e = absurd (cc)
-split (z ∷ slots) y [] after x e = earlier slots (let same : z ≡ x = cc in ap (λ (w : Slot). w ∷ slots) same)
-split (z ∷ slots) y (b ∷ before) after x e = more (split slots y before after x (let tails : slots ++ y ∷ [] ≡ before ++ x ∷ after = cc in tails))
-  where
-    heads : z ≡ b
-    heads = cc
-
-    more : Split slots y before x → Split (z ∷ slots) y (b ∷ before) x
-    more (last same is) = last (λ i. heads i ∷ same i) is
-    more (earlier rest same) = earlier rest (λ i. heads i ∷ same i)
-
--- the slot at a place of the order
-pub record At (slots : List Slot) (before : List ℕ) (j : ℕ) : Type 0 where
-  pub front : List Slot
-  pub slot : Slot
-  pub back : List Slot
-  pub all : slots ≡ front ++ slot ∷ back
-  pub places_before : places front ≡ before
-  pub place : slot.place ≡ j
-
-pub at_place : (slots : List Slot) (before after : List ℕ) (j : ℕ) → places slots ≡ before ++ j ∷ after → At slots before j
-at_place [] [] after j e = absurd (cc)
-at_place [] (b ∷ before) after j e = absurd (cc)
-at_place (x ∷ slots) [] after j e = record { front = []; slot = x; back = slots; all = refl; places_before = refl; place = (let same : x.place ≡ j = cc in same) }
-at_place (x ∷ slots) (b ∷ before) after j e =
-    let tails : places slots ≡ before ++ j ∷ after = cc in
-    let heads : x.place ≡ b = cc in
-    let rest = at_place slots before after j tails in
-    record {
-      front = x ∷ rest.front;
-      slot = rest.slot;
-      back = rest.back;
-      all = ap (λ (xs : List Slot). x ∷ xs) rest.all;
-      places_before = λ i. heads i ∷ rest.places_before i;
-      place = rest.place;
-    }

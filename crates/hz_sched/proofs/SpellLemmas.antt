@@ -1,24 +1,13 @@
 -- The trace of one more slot.
-use Rattle.std.proofs.Common.{◌≡◌, ℕ, zero, suc, ◌+◌, ◌<◌, List, [], ◌∷◌, ◌++◌, map, length, get_or, refl, sym, ap, ◌∙◌, append_assoc, arith}
+use Rattle.std.proofs.Common.{◌≡◌, ℕ, zero, suc, ◌+◌, ◌<◌, List, [], ◌∷◌, ◌++◌, map, length, get_or, sym, ap, ◌∙◌, append_assoc, arith}
 use Rattle.std.specs.Prelude.{slice_index}
 use Rattle.std.specs.List.{range_with_len}
 use Rattle.std.proofs.lemmas.List.{map-append, length-append, length-map, get_or-map}
 use Rattle.hz_depend.specs.declared.parts.GraphInsn.{GraphInsn}
 use Rattle.hz_replay.specs.declared.event.Event as trace
-use Rattle.hz_replay.specs.Traces.{lines_in}
 use Rattle.hz_sched.specs.Shape.{node_of, AreNumbered}
-use Rattle.hz_acceptance_model.specs.Events.{Event, issue, advance}
-use Rattle.hz_sched_model.specs.Schedules.{Node, Graph, Slot, class_at, advance_to, spelled, present}
-
-pub spelled-push : (g : Graph) (cycle : ℕ) (slots : List Slot) (x : Slot) → spelled g cycle (slots ++ x ∷ []) ≡ spelled g cycle slots ++ (advance_to (present cycle slots) x.cycle ++ issue (class_at g x.place) ∷ [])
-spelled-push g cycle [] x = refl
-spelled-push g cycle (y ∷ slots) x =
-    ap (λ (t : List Event). advance_to cycle y.cycle ++ issue (class_at g y.place) ∷ t) (spelled-push g y.cycle slots x)
-    ∙ sym (append_assoc (advance_to cycle y.cycle) (issue (class_at g y.place) ∷ spelled g y.cycle slots) (advance_to (present y.cycle slots) x.cycle ++ issue (class_at g x.place) ∷ []))
-
-pub present-push : (cycle : ℕ) (slots : List Slot) (x : Slot) → present cycle (slots ++ x ∷ []) ≡ x.cycle
-present-push cycle [] x = refl
-present-push cycle (y ∷ slots) x = present-push y.cycle slots x
+use Rattle.hz_acceptance_model.specs.Events.{Event, issue}
+use Rattle.hz_sched_model.specs.Schedules.{Node, Graph, Slot, class_at, advance_to, spelled}
 
 -- the trace so far, with that of the slots that are left, is that of all
 pub spelled_next : (g : Graph) (done advanced issued all : List Event) (cycle : ℕ) (x : Slot) (rest : List Slot) → advanced ≡ done ++ advance_to cycle x.cycle → issued ≡ advanced ++ issue (class_at g x.place) ∷ []

@@ -1,23 +1,19 @@
 -- One step of a schedule: a cycle, or an issue.
-use Rattle.std.proofs.Common.{◌≡◌, ℕ, zero, suc, ◌+◌, ◌-◌, ◌<◌, ◌≤◌, ◌⊎◌, inl, inr, ⊎_elim, true, List, [], ◌∷◌, ◌++◌, length, map, Option, Some, None, is_some, All, Contains, get_or, refl, sym, ap, ◌∙◌, subst, append_assoc, arith}
+use Rattle.std.proofs.Common.{◌≡◌, ℕ, ◌+◌, ◌-◌, ◌<◌, ◌≤◌, ⊎_elim, true, List, [], ◌∷◌, ◌++◌, length, Option, Some, None, is_some, Contains, refl, sym, ap, ◌∙◌, subst, arith}
 use Rattle.std.specs.Prelude.{IsSome}
-use Rattle.std.specs.List.{AllPairs}
 use Rattle.std.proofs.lemmas.Bool.{cases_lt}
-use Rattle.std.proofs.lemmas.List.{append-nil}
-use Rattle.std.proofs.lemmas.List.Elements.{All-contains, Contains-get_or}
-use Rattle.hz_base_model.proofs.Elements.{Contains-nil, Contains-head, Contains-cons_cases, Contains-map, Contains-from_map}
+use Rattle.hz_base_model.proofs.Elements.{Contains-nil, Contains-cons_cases, Contains-map}
 use Rattle.std.proofs.lemmas.List.Elements.{Contains-append_cases}
-use Rattle.hz_acceptance_model.specs.Events.{Event, issue, advance}
+use Rattle.hz_acceptance_model.specs.Events.{issue, advance}
 use Rattle.hz_tables_model.specs.Machines.{Machine, parts_walk, machine_walk, starts_of}
-use Rattle.hz_depend_model.specs.Orders.{IsOrder}
-use Rattle.hz_sched_model.specs.Schedules.{Graph, Slot, class_at, places, present, advance_to, spelled, spell, GoesBefore, Legal, Greedy, IsCandidate, FollowsGreedily}
+use Rattle.hz_sched_model.specs.Schedules.{Graph, Slot, class_at, places, present, advance_to, spell, GoesBefore, Legal, Greedy, IsCandidate, FollowsGreedily}
 use Rattle.hz_sched_model.specs.Machines.{IsWalked}
-use Rattle.hz_sched_model.proofs.SameSchedules.{AreWithin, greedy_within}
+use Rattle.hz_sched_model.proofs.GrowLaws.{greedy-push, legal_when_all}
 use Rattle.hz_sched.specs.Waits.{issued_at, and_issued}
 use Rattle.hz_sched.specs.Standing.{IsAt, left_below}
-use Rattle.hz_sched.proofs.SpellLemmas.{spelled-push, present-push}
-use Rattle.hz_sched.proofs.SlotLemmas.{issued_none, none_issued, slot_of_issue, issued-push, same_issued, other_issued, all_issued, none_yet, rising-push, Split, last, earlier, split, At, at_place}
-use Rattle.hz_sched.proofs.WalkLemmas.{walk_on, front_walked, walk_behind, one_more, walk_to, no_advance}
+use Rattle.hz_sched_model.proofs.SlotLaws.{spelled-push, present-push, rising-push, no_front}
+use Rattle.hz_sched.proofs.SlotLemmas.{issued_none, slot_of_issue, issued-push, same_issued, other_issued, all_issued}
+use Rattle.hz_sched.proofs.WalkLemmas.{front_walked, walk_behind, one_more, walk_to, no_advance}
 
 module _ (m : Machine) (g : Graph) (slots : List Slot) (cycle : ℕ) (states : List ℕ) (at : IsAt m g slots cycle states) where
   -- what is walked behind the advance to the present cycle
@@ -57,11 +53,7 @@ module _ (m : Machine) (g : Graph) (slots : List Slot) (cycle : ℕ) (states : L
     follows = record { may = may; first = first; soonest = at.barren }
 
     greedy_next : Greedy (IsWalked m) g (slots ++ one ∷ [])
-    greedy_next before after x e = go (split slots one before after x e)
-      where
-        go : Split slots one before x → FollowsGreedily (IsWalked m) g before x
-        go (last same is) = subst (λ (xs : List Slot). FollowsGreedily (IsWalked m) g xs x) same (subst (FollowsGreedily (IsWalked m) g slots) is follows)
-        go (earlier rest same) = at.greedy before rest x same
+    greedy_next = greedy-push (IsWalked m) g slots one at.greedy follows
 
     told_next : (x : Slot) → Contains (slots ++ one ∷ []) x → issued_at (slots ++ one ∷ []) x.place ≡ Some x.cycle
     told_next x h = ap (λ (f : ℕ → Option ℕ). f x.place) (issued-push slots one unissued) ∙ ⊎_elim
@@ -97,12 +89,7 @@ module _ (m : Machine) (g : Graph) (slots : List Slot) (cycle : ℕ) (states : L
   -- ---- all is issued
 
   pub is_legal : left_below (issued_at slots) (length g.nodes) ≡ 0 → Legal (IsWalked m) g slots
-  is_legal none = record {
-    order = record { each = each; only = only; once = once };
-    rising = at.rising;
-    kept = λ before after x e. ((at.greedy before after x e).may).ready;
-    accepted = front_walked m (spell g slots) (advance (cycle - present 0 slots) ∷ []) states at.walked;
-  }
+  is_legal none = legal_when_all (IsWalked m) g slots at.rising at.greedy (front_walked m (spell g slots) (advance (cycle - present 0 slots) ∷ []) states at.walked) each
     where
       each : (i : ℕ) → i < length g.nodes → Contains (places slots) i
       each i lt = go (issued_at slots i) refl (all_issued (issued_at slots) (length g.nodes) i none lt)
@@ -110,17 +97,6 @@ module _ (m : Machine) (g : Graph) (slots : List Slot) (cycle : ℕ) (states : L
           go : (o : Option ℕ) → issued_at slots i ≡ o → is_some (issued_at slots i) ≡ true → Contains (places slots) i
           go None e h = absurd (cc)
           go (Some c) e h = let (x, there, place, when) = slot_of_issue slots i c e in subst (Contains (places slots)) place (Contains-map (λ (y : Slot). y.place) slots x there)
-
-      only : (i : ℕ) → Contains (places slots) i → i < length g.nodes
-      only i h =
-          let (x, there, place) = Contains-from_map (λ (y : Slot). y.place) slots i h in
-          subst (λ (k : ℕ). k < length g.nodes) place (All-contains (λ (y : Slot). y.place < length g.nodes) slots x (greedy_within (IsWalked m) g slots at.greedy) there)
-
-      once : (before after : List ℕ) (i : ℕ) → places slots ≡ before ++ i ∷ after → Contains before i → ⊥
-      once before after i e h =
-          let p = at_place slots before after i e in
-          let f = at.greedy p.front p.back p.slot p.all in
-          (f.may).left (subst (λ (k : ℕ). Contains (places p.front) k) (sym p.place) (subst (λ (xs : List ℕ). Contains xs i) (sym p.places_before) h))
 
 -- nothing is issued yet
 pub at_start : (m : Machine) (g : Graph) → machine_walk m [] ≡ Some (starts_of m) → IsAt m g [] 0 (starts_of m)
@@ -132,7 +108,3 @@ at_start m g h = record {
   told = λ x h. absurd (Contains-nil x h);
   barren = λ c j low high k. absurd (omega arith);
 }
-  where
-    no_front : (before after : List Slot) (x : Slot) → [] ≡ before ++ x ∷ after → ⊥
-    no_front [] after x e = cc
-    no_front (b ∷ before) after x e = cc

@@ -2,3 +2,5 @@ pub mod OneSchedule
 pub mod SameSchedules
 pub mod TraceLaws
 pub mod StuckLaws
+pub mod SlotLaws
+pub mod GrowLaws

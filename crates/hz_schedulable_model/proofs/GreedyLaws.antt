@@ -3,17 +3,16 @@ use Rattle.std.proofs.Common.{◌≡◌, ℕ, zero, suc, ◌+◌, ◌-◌, ◌<�
 use Rattle.std.specs.List.{AllPairs, range_with_len}
 use Rattle.std.proofs.lemmas.Bool.{cases_lt}
 use Rattle.std.proofs.lemmas.List.FromFn.{length-range_with_len}
-use Rattle.std.proofs.lemmas.List.Elements.{All-contains, Contains-append_left, Contains-append_right}
+use Rattle.std.proofs.lemmas.List.Elements.{Contains-append_left, Contains-append_right}
 use Rattle.hz_base_model.proofs.Elements.{Contains-head, Contains-map, Contains-from_map, Contains-range}
 use Rattle.hz_acceptance_model.specs.Events.{Event, issue, advance}
 use Rattle.hz_depend_model.specs.Graphs.{Edge}
 use Rattle.hz_sched_model.specs.Schedules.{Graph, Slot, class_at, height_at, places, present, advance_to, spell, IsReady, GoesBefore, Legal, Greedy, IsCandidate, FollowsGreedily}
 use Rattle.hz_sched_model.proofs.OneSchedule.{Rises}
-use Rattle.hz_sched_model.proofs.SameSchedules.{greedy_within}
-use Rattle.hz_scheduled_model.proofs.BlockLaws.{parted}
+use Rattle.hz_sched_model.proofs.GrowLaws.{greedy-push, legal_when_all}
 use Rattle.hz_schedulable_model.proofs.LeftLaws.{without}
 use Rattle.hz_schedulable_model.proofs.ToldLaws.{IsTold, same_told, less_told, low_told, each_told, some_told, contained_told}
-use Rattle.hz_schedulable_model.proofs.SlotLaws.{spelled-push, advances_later, below_present, rising-push, Split, last, earlier, split, no_front}
+use Rattle.hz_sched_model.proofs.SlotLaws.{spelled-push, advances_later, below_present, rising-push, no_front}
 
 -- numbers up to one
 last_or_less : (n j : ℕ) → j < suc n → (j < n) ⊎ (n ≡ j)
@@ -172,32 +171,9 @@ module _ (accepts : List Event → Type 0) (told : (t : List Event) → IsTold (
   going_more : (slots : List Slot) (x : Slot) → IsGoing slots → FollowsGreedily accepts g slots x → present 0 slots ≤ x.cycle → IsGoing (slots ++ x ∷ [])
   going_more slots x going follows late = record {
     rising = rising-push slots x going.rising late;
-    greedy = λ before after y e. go before y (split slots x before after y e);
+    greedy = greedy-push accepts g slots x going.greedy follows;
     accepted = subst accepts (sym (spelled-push g 0 slots x)) (follows.may).fits;
   }
-    where
-      go : (before : List Slot) (y : Slot) → Split slots x before y → FollowsGreedily accepts g before y
-      go before y (last same is) = subst (λ (xs : List Slot). FollowsGreedily accepts g xs y) same (subst (FollowsGreedily accepts g slots) is follows)
-      go before y (earlier rest same) = going.greedy before rest y same
-
-  going_legal : (slots : List Slot) → IsGoing slots → ((j : ℕ) → j < length g.nodes → Contains (places slots) j) → Legal accepts g slots
-  going_legal slots going each = record {
-    order = record { each = each; only = only; once = once };
-    rising = going.rising;
-    kept = λ before after x e. ((going.greedy before after x e).may).ready;
-    accepted = going.accepted;
-  }
-    where
-      only : (i : ℕ) → Contains (places slots) i → i < length g.nodes
-      only i h =
-          let (x, there, place) = Contains-from_map (λ (y : Slot). y.place) slots i h in
-          subst (λ (k : ℕ). k < length g.nodes) place (All-contains (λ (y : Slot). y.place < length g.nodes) slots x (greedy_within accepts g slots going.greedy) there)
-
-      once : (before after : List ℕ) (i : ℕ) → places slots ≡ before ++ i ∷ after → Contains before i → ⊥
-      once before after i e h =
-          let p = parted slots before after i e in
-          let f = going.greedy p.ahead p.behind p.slot p.is in
-          (f.may).left (subst (λ (k : ℕ). Contains (places p.ahead) k) (sym p.place_is) (subst (λ (xs : List ℕ). Contains xs i) (sym p.places_are) h))
 
   -- all places below a number are issued, or there is a least that is not
   least_left : (slots : List Slot) (n : ℕ) → ((j : ℕ) → j < n → Contains (places slots) j) ⊎ ((j : ℕ) × (j < n) × (Contains (places slots) j → ⊥) × ((i : ℕ) → i < j → Contains (places slots) i))
@@ -271,13 +247,13 @@ module _ (accepts : List Event → Type 0) (told : (t : List Event) → IsTold (
 
     all_of : (fuel : ℕ) (left : List ℕ) (slots : List Slot) → length left ≤ fuel → ((j : ℕ) → j < length g.nodes → Contains (places slots) j ⊎ Contains left j) → IsGoing slots → Whole
     all_of zero left slots few each going = ⊎_elim
-        (λ (all : (j : ℕ) → j < length g.nodes → Contains (places slots) j). (slots, going_legal slots going all, going.greedy))
+        (λ (all : (j : ℕ) → j < length g.nodes → Contains (places slots) j). (slots, legal_when_all accepts g slots going.rising going.greedy going.accepted all, going.greedy))
         (λ (some : (j : ℕ) × (j < length g.nodes) × (Contains (places slots) j → ⊥) × ((i : ℕ) → i < j → Contains (places slots) i)).
         let s = step slots left each going (next slots going some) in
         absurd (omega (arith, s.shorter)))
         (least_left slots (length g.nodes))
     all_of (suc fuel) left slots few each going = ⊎_elim
-        (λ (all : (j : ℕ) → j < length g.nodes → Contains (places slots) j). (slots, going_legal slots going all, going.greedy))
+        (λ (all : (j : ℕ) → j < length g.nodes → Contains (places slots) j). (slots, legal_when_all accepts g slots going.rising going.greedy going.accepted all, going.greedy))
         (λ (some : (j : ℕ) × (j < length g.nodes) × (Contains (places slots) j → ⊥) × ((i : ℕ) → i < j → Contains (places slots) i)).
         let s = step slots left each going (next slots going some) in
         all_of fuel s.rest (slots ++ s.slot ∷ []) (omega (arith, s.shorter)) s.each s.going)

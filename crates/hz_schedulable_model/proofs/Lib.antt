@@ -1,6 +1,5 @@
 pub mod ToldLaws
 pub mod LeftLaws
-pub mod SlotLaws
 pub mod GreedyLaws
 pub mod BehindLaws
 pub mod CostLaws

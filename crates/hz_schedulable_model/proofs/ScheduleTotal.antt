@@ -18,6 +18,7 @@ use Rattle.hz_depend_model.specs.Classes.{ClassFault}
 use Rattle.hz_depend_model.specs.Graphs.{Edge}
 use Rattle.hz_sched_model.specs.Schedules.{Graph, Slot, class_at, places, present, advance_to, spell, IsReady, IsCandidate, FollowsGreedily}
 use Rattle.hz_sched_model.proofs.OneSchedule.{Rises}
+use Rattle.hz_sched_model.proofs.TraceLaws.{cycles_spelled}
 use Rattle.hz_scheduled_model.specs.BlockGraphs.{class_in, classes_of, IsGraphOf}
 use Rattle.hz_scheduled_model.specs.BlockSchedules.{StartsAlone, IsScheduleOf}
 use Rattle.hz_scheduled_model.proofs.GraphLaws.{HasClass, as_many}
@@ -25,7 +26,7 @@ use Rattle.hz_schedulable_model.proofs.BehindLaws.{accepted_told, accepted_nothi
 use Rattle.hz_schedulable_model.proofs.CostLaws.{cost_small}
 use Rattle.hz_schedulable_model.proofs.GraphTotal.{some_graph}
 use Rattle.hz_schedulable_model.proofs.GreedyLaws.{some_schedule}
-use Rattle.hz_schedulable_model.proofs.SlotLaws.{present-push, advances_later, below_present, spelled_cycles}
+use Rattle.hz_sched_model.proofs.SlotLaws.{present-push, advances_later, below_present}
 use Rattle.hz_schedulable_model.proofs.LeftLaws.{order_length}
 
 -- the edges of a block's graph lead upwards, and cost little
@@ -118,7 +119,7 @@ soon_issued d known block g slots formed sound is = soon_all d known block g slo
 pub short_trace : (d : Description) (known : Known) (block : List Instruction) (g : Graph) (slots : List Slot) → IsCheckable d → IsSound d known → IsScheduleOf d known block g slots → cycles_of (spell g slots) ≤ 1256 * length block
 short_trace d known block g slots formed sound is =
     let soon = soon_issued d known block g slots formed sound is in
-    let cycles = spelled_cycles g 0 slots (λ k e low. omega arith) (is.legal).rising in
+    let cycles = cycles_spelled g slots (is.legal).rising in
     let each = order_length (length g.nodes) (places slots) (is.legal).order in
     let long = length-map slots (λ (x : Slot). x.place) in
     let many = as_many d block g is.graph in

@@ -8,11 +8,13 @@ ghost use Rattle.hz_check_model.specs.CheckFaults.{IsSound};
 ghost use Rattle.hz_check_model.specs.Places.{Known};
 ghost use Rattle.hz_rtl_model.specs.Blocks.{Instruction};
 ghost use Rattle.hz_sched_model.specs.Schedules.{Graph, Slot, present};
+ghost use Rattle.hz_sched_model.specs.Machines.{most_wait};
 ghost use Rattle.hz_scheduled_model.specs.BlockSchedules.{StartsAlone, IsScheduleOf};
 
 /// A block of a description without a fault, each of whose instructions can be issued from the start, has a schedule. In every
-/// schedule an issue comes at most 1,256 cycles behind the one before it: 1,000 for all waits, and 256 until nothing is reserved.
+/// schedule an issue comes at most `most_wait` cycles behind the one before it: 1,000 for all waits, and 256 until nothing is
+/// reserved.
 pub fn every_block_has_a_schedule()
     ensures some { (d : Description) (known : Known) (block : List Instruction) → IsCheckable d → IsSound d known → All (StartsAlone d known) block → (g : Graph) × (slots : List Slot) × IsScheduleOf d known block g slots }
-    ensures soon { (d : Description) (known : Known) (block : List Instruction) (g : Graph) (slots : List Slot) → IsCheckable d → IsSound d known → IsScheduleOf d known block g slots → present 0 slots ≤ 1256 * length slots }
+    ensures soon { (d : Description) (known : Known) (block : List Instruction) (g : Graph) (slots : List Slot) → IsCheckable d → IsSound d known → IsScheduleOf d known block g slots → present 0 slots ≤ most_wait * length slots }
 {}

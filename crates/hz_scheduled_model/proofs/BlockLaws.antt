@@ -1,5 +1,5 @@
 -- A legal schedule keeps its block, and a block has one schedule.
-use Rattle.std.proofs.Common.{◌≡◌, ℕ, ◌+◌, ◌≤◌, List, [], ◌∷◌, ◌++◌, length, Contains, refl, sym, ap, subst, arith}
+use Rattle.std.proofs.Common.{◌≡◌, ℕ, ◌+◌, ◌≤◌, List, ◌∷◌, ◌++◌, length, Contains, refl, sym, subst, arith}
 use Rattle.std.specs.Prelude.{true}
 use Rattle.hz_base_model.proofs.Elements.{Contains-map}
 use Rattle.hz_acceptance_model.specs.Replay.{Accepted}
@@ -14,37 +14,10 @@ use Rattle.hz_depend_model.proofs.OrderLaws.{commutes}
 use Rattle.hz_depend_model.proofs.UpwardLaws.{upwards}
 use Rattle.hz_sched_model.specs.Schedules.{Graph, Slot, places, Legal}
 use Rattle.hz_sched_model.proofs.OneSchedule.{one_schedule}
+use Rattle.hz_sched_model.proofs.SlotLaws.{at_place}
 use Rattle.hz_scheduled_model.specs.BlockGraphs.{timing_in, classes_of, IsGraphOf}
 use Rattle.hz_scheduled_model.specs.BlockSchedules.{IsScheduleOf, KeepsBlock}
 use Rattle.hz_scheduled_model.proofs.GraphLaws.{as_many, same_classes, legal_there, greedy_there}
-
--- Slots whose places stand around one.
-pub record Parted (slots : List Slot) (before : List ℕ) (j : ℕ) : Type 0 where
-  pub ahead : List Slot
-  pub slot : Slot
-  pub behind : List Slot
-  pub is : slots ≡ ahead ++ slot ∷ behind
-  pub places_are : places ahead ≡ before
-  pub place_is : slot.place ≡ j
-
-same_cons : (i j : ℕ) (is js : List ℕ) → i ≡ j → is ≡ js → i ∷ is ≡ j ∷ js
-same_cons i j is js e f = cc
-
-further : (x : Slot) (slots : List Slot) (b : ℕ) (before : List ℕ) (j : ℕ) → x.place ≡ b → Parted slots before j → Parted (x ∷ slots) (b ∷ before) j
-further x slots b before j first p = record {
-  ahead = x ∷ p.ahead;
-  slot = p.slot;
-  behind = p.behind;
-  is = ap (λ (zs : List Slot). x ∷ zs) p.is;
-  places_are = same_cons x.place b (places p.ahead) before first p.places_are;
-  place_is = p.place_is;
-}
-
-pub parted : (slots : List Slot) (before after : List ℕ) (j : ℕ) → places slots ≡ before ++ j ∷ after → Parted slots before j
-parted [] [] after j e = absurd (cc)
-parted [] (b ∷ before) after j e = absurd (cc)
-parted (x ∷ slots) [] after j e = record { ahead = []; slot = x; behind = slots; is = refl; places_are = refl; place_is = cc }
-parted (x ∷ slots) (b ∷ before) after j e = further x slots b before j (cc) (parted slots before after j (cc))
 
 module _ (d : Description) (known : Known) (block : List Instruction) (g : Graph) (slots : List Slot) (graph : IsGraphOf d block g) (legal : Legal (Accepted (pipeline_with d known)) g slots) where
   whole : IsOrder (length block) (places slots)
@@ -57,9 +30,9 @@ module _ (d : Description) (known : Known) (block : List Instruction) (g : Graph
 
   keeps : Keeps block (places slots)
   keeps before after i j is depending =
-      let p = parted slots before after j is in
-      let (y, there, place, late) = behind_costs p.ahead p.behind p.slot i p.is (subst (λ (k : ℕ). depends block i k ≡ true) (sym p.place_is) depending) in
-      subst (λ (ps : List ℕ). Contains ps i) p.places_are (subst (Contains (places p.ahead)) place (Contains-map (λ (z : Slot). z.place) p.ahead y there))
+      let p = at_place slots before after j is in
+      let (y, there, place, late) = behind_costs p.front p.back p.slot i p.all (subst (λ (k : ℕ). depends block i k ≡ true) (sym p.place) depending) in
+      subst (λ (ps : List ℕ). Contains ps i) p.places_before (subst (Contains (places p.front)) place (Contains-map (λ (z : Slot). z.place) p.front y there))
 
   pub legal_keeps : KeepsBlock d known block g slots
   legal_keeps = record {

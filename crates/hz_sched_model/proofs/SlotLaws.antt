@@ -1,14 +1,11 @@
--- One more slot.
-use Rattle.std.proofs.Common.{◌≡◌, ℕ, ◌+◌, ◌-◌, length, ◌<◌, ◌≤◌, Bool, true, false, cond, ⊎_elim, List, [], ◌∷◌, ◌++◌, All, Contains, refl, sym, ap, ◌∙◌, append_assoc, arith}
+-- One more slot: its trace, the present cycle, and the fronts of slots.
+use Rattle.std.proofs.Common.{◌≡◌, ℕ, ◌-◌, ◌<◌, ◌≤◌, Bool, cond, ⊎_elim, List, [], ◌∷◌, ◌++◌, All, Contains, refl, sym, ap, ◌∙◌, append_assoc, arith}
 use Rattle.std.specs.List.{AllPairs}
-use Rattle.std.specs.Prelude.{nat_lt}
-use Rattle.std.proofs.lemmas.List.Elements.{All-head}
-use Rattle.std.proofs.lemmas.Bool.{lt-ltb, le-ltb, cases_lt}
+use Rattle.std.proofs.lemmas.Bool.{lt-ltb}
 use Rattle.hz_base_model.proofs.Elements.{Contains-nil, Contains-cons_cases}
 use Rattle.hz_base_model.proofs.Ascending.{AllPairs-head, AllPairs-tail, AllPairs-append}
-use Rattle.hz_acceptance_model.specs.Events.{Event, issue, advance, issues_of, cycles_of}
-use Rattle.hz_acceptance_model.proofs.ReplayLaws.{issues_of-append, cycles_of-append}
-use Rattle.hz_sched_model.specs.Schedules.{Graph, Slot, class_at, present, advance_to, spelled}
+use Rattle.hz_acceptance_model.specs.Events.{Event, issue, advance}
+use Rattle.hz_sched_model.specs.Schedules.{Graph, Slot, class_at, places, present, advance_to, spelled}
 use Rattle.hz_sched_model.proofs.OneSchedule.{Rises}
 
 -- ---- traces
@@ -53,34 +50,6 @@ rising-push slots y rising le = AllPairs-append Rises slots (y ∷ []) rising (�
         (λ (m : Contains [] b). absurd (Contains-nil b m))
         (Contains-cons_cases y b [] last)
 
--- the cycles of a trace of slots that rise lead to the last
-pub spelled_cycles : (g : Graph) (cycle : ℕ) (slots : List Slot) → All (λ x. cycle ≤ x.cycle) slots → AllPairs Rises slots → cycles_of (spelled g cycle slots) + cycle ≡ present cycle slots
-spelled_cycles g cycle [] low rising = omega arith
-spelled_cycles g cycle (x ∷ slots) low rising =
-    let here = advanced cycle x.cycle (All-head (λ x. cycle ≤ x.cycle) x slots low) in
-    let rest = spelled_cycles g x.cycle slots (AllPairs-head Rises x slots rising) (AllPairs-tail Rises x slots rising) in
-    let both = cycles_of-append (advance_to cycle x.cycle) (issue (class_at g x.place) ∷ spelled g x.cycle slots) in
-    omega (arith, here, rest, both)
-  where
-    advanced : (now later : ℕ) → now ≤ later → cycles_of (advance_to now later) + now ≡ later
-    advanced now later le = ⊎_elim
-        (λ (lt : now < later). let same = ap cycles_of (advances_later now later lt) in omega (arith, same, lt))
-        (λ (ge : later ≤ now). let same = ap (λ (b : Bool). cycles_of (cond b (advance (later - now) ∷ []) [])) (le-ltb now later ge) in omega (arith, same, ge, le))
-        (cases_lt now later)
-
--- a trace of slots issues each
-pub spelled_issues : (g : Graph) (cycle : ℕ) (slots : List Slot) → issues_of (spelled g cycle slots) ≡ length slots
-spelled_issues g cycle [] = refl
-spelled_issues g cycle (x ∷ slots) =
-    let rest = spelled_issues g x.cycle slots in
-    let both = issues_of-append (advance_to cycle x.cycle) (issue (class_at g x.place) ∷ spelled g x.cycle slots) in
-    let none = none_issued (nat_lt cycle x.cycle) in
-    omega (arith, rest, both, none)
-  where
-    none_issued : (b : Bool) → issues_of (cond b (advance (x.cycle - cycle) ∷ []) []) ≡ 0
-    none_issued true = refl
-    none_issued false = refl
-
 -- ---- fronts of slots
 
 -- A slot of slots behind which one more stands: the last, or one of those before it.
@@ -102,6 +71,36 @@ split (z ∷ slots) y (b ∷ before) after x e = more (split slots y before afte
     more (last same is) = last (λ i. heads i ∷ same i) is
     more (earlier rest same) = earlier rest (λ i. heads i ∷ same i)
 
+-- the slot at a place of the order
+pub record At (slots : List Slot) (before : List ℕ) (j : ℕ) : Type 0 where
+  pub front : List Slot
+  pub slot : Slot
+  pub back : List Slot
+  pub all : slots ≡ front ++ slot ∷ back
+  pub places_before : places front ≡ before
+  pub place : slot.place ≡ j
+
+same_cons : (i j : ℕ) (is js : List ℕ) → i ≡ j → is ≡ js → i ∷ is ≡ j ∷ js
+same_cons i j is js e f = cc
+
+-- one slot more before it
+further : (x : Slot) (slots : List Slot) (b : ℕ) (before : List ℕ) (j : ℕ) → x.place ≡ b → At slots before j → At (x ∷ slots) (b ∷ before) j
+further x slots b before j first p = record {
+  front = x ∷ p.front;
+  slot = p.slot;
+  back = p.back;
+  all = ap (λ (xs : List Slot). x ∷ xs) p.all;
+  places_before = same_cons x.place b (places p.front) before first p.places_before;
+  place = p.place;
+}
+
+pub at_place : (slots : List Slot) (before after : List ℕ) (j : ℕ) → places slots ≡ before ++ j ∷ after → At slots before j
+at_place [] [] after j e = absurd (cc)
+at_place [] (b ∷ before) after j e = absurd (cc)
+at_place (x ∷ slots) [] after j e = record { front = []; slot = x; back = slots; all = refl; places_before = refl; place = cc }
+at_place (x ∷ slots) (b ∷ before) after j e = further x slots b before j (cc) (at_place slots before after j (cc))
+
+-- no slots have no front
 pub no_front : (before after : List Slot) (x : Slot) → [] ≡ before ++ x ∷ after → ⊥
 no_front [] after x e = cc
 no_front (b ∷ before) after x e = cc
