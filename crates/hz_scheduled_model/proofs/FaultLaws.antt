@@ -1,6 +1,7 @@
 -- The first instruction of a block whose class is wrong, and the first that can't be issued from the start.
-use Rattle.std.proofs.Common.{◌≡◌, ℕ, ◌⊎◌, inl, inr, ⊎_elim, List, [], ◌∷◌, All, refl, sym, ap, ◌∙◌, subst}
-use Rattle.std.specs.Prelude.{Result, Ok, Err}
+use Rattle.std.proofs.Common.{◌≡◌, ℕ, zero, suc, ◌<◌, ◌⊎◌, inl, inr, ⊎_elim, List, [], ◌∷◌, length, map, All, Some, refl, sym, ap, ◌∙◌, subst, arith}
+use Rattle.std.specs.Prelude.{Result, Ok, Err, slice_get, slice_index}
+use Rattle.std.proofs.lemmas.List.Elements.{All-nil, All-cons}
 use Rattle.hz_acceptance_model.specs.Events.{issue}
 use Rattle.hz_acceptance_model.specs.Replay.{Accepted, FirstRefused}
 use Rattle.hz_acceptance_model.proofs.AcceptanceLaws.{accepted_or_refused}
@@ -11,11 +12,11 @@ use Rattle.hz_mdread_model.specs.Descriptions.{Description}
 use Rattle.hz_pipeline_model.specs.Pipelines.{pipeline_with}
 use Rattle.hz_rtl_model.specs.Blocks.{Instruction}
 use Rattle.hz_depend_model.specs.Classes.{ClassFault}
-use Rattle.hz_sched_model.specs.Schedules.{Graph}
+use Rattle.hz_sched_model.specs.Schedules.{Graph, class_at}
 use Rattle.hz_scheduled_model.specs.BlockGraphs.{class_in, classes_of, IsFirstClassFault, IsGraphOf}
 use Rattle.hz_scheduled_model.specs.BlockSchedules.{StartsAlone, IsFirstStuck}
 use Rattle.hz_scheduled_model.proofs.FirstLaws.{first_is_one, first_or_all, all_or_first, IsFirst}
-use Rattle.hz_scheduled_model.proofs.GraphLaws.{HasClass, all_have_classes}
+use Rattle.hz_scheduled_model.proofs.GraphLaws.{HasClass, all_have_classes, as_many}
 
 class_or_fault : (r : Result ℕ ClassFault) (class : ℕ) (fault : ClassFault) → r ≡ Ok class → r ≡ Err fault → ⊥
 class_or_fault r class fault is wrong = absurd (cc)
@@ -85,3 +86,56 @@ module _ (d : Description) (known : Known) where
       (λ (first : (i : Instruction) × IsFirst (StartsAlone d known) (λ i. StartsAlone d known i → ⊥) block i). let f = first.1 in
       inr (first.0, record { before = f.before; after = f.after; parts = f.parts; start = f.good; stuck = f.is }))
       (all_or_first (StartsAlone d known) (λ i. StartsAlone d known i → ⊥) starts_or_not block)
+
+  -- ---- what is told by the places of a graph
+
+  -- instructions whose classes are accepted from the start, by their places
+  starts_from : (classes : List ℕ) (block : List Instruction) → map Ok classes ≡ map (class_in d) block → ((j : ℕ) → j < length block → Accepted (pipeline_with d known) (issue (slice_index classes j) ∷ [])) → All (StartsAlone d known) block
+  starts_from classes [] are each = All-nil (StartsAlone d known)
+  starts_from [] (i ∷ block) are each = absurd (cc)
+  starts_from (class ∷ classes) (i ∷ block) are each =
+      All-cons (StartsAlone d known) i block (class, cc, each 0 (omega arith)) (starts_from classes block (cc) (λ j low. each (suc j) (omega arith)))
+
+  -- A place of a block whose instruction is the first that is stuck.
+  pub record IsStuckAt (block : List Instruction) (place : ℕ) : Type 0 where
+    pub insn : Instruction
+    pub there : slice_get block place ≡ Some insn
+    pub first : IsFirstStuck d known block insn
+
+  stuck_from : (classes : List ℕ) (block : List Instruction) → map Ok classes ≡ map (class_in d) block → (place : ℕ) → place < length block
+      → ((j : ℕ) → j < place → Accepted (pipeline_with d known) (issue (slice_index classes j) ∷ [])) → (Accepted (pipeline_with d known) (issue (slice_index classes place) ∷ []) → ⊥) → IsStuckAt block place
+  stuck_from classes [] are place low each stuck = absurd (omega arith)
+  stuck_from [] (i ∷ block) are place low each stuck = absurd (cc)
+  stuck_from (class ∷ classes) (i ∷ block) are zero low each stuck = record {
+    insn = i;
+    there = refl;
+    first = record {
+      before = [];
+      after = block;
+      parts = refl;
+      start = All-nil (StartsAlone d known);
+      stuck = λ starts. stuck (subst (λ (k : ℕ). Accepted (pipeline_with d known) (issue k ∷ [])) (same_class (class_in d i) starts.0 class starts.1 (cc)) starts.2);
+    };
+  }
+  stuck_from (class ∷ classes) (i ∷ block) are (suc place) low each stuck =
+      behind (stuck_from classes block (cc) place (omega arith) (λ j less. each (suc j) (omega arith)) stuck)
+    where
+      behind : IsStuckAt block place → IsStuckAt (i ∷ block) (suc place)
+      behind s = let f = s.first in record {
+        insn = s.insn;
+        there = s.there;
+        first = record {
+          before = i ∷ f.before;
+          after = f.after;
+          parts = ap (λ (is : List Instruction). i ∷ is) f.parts;
+          start = All-cons (StartsAlone d known) i f.before (class, cc, each 0 (omega arith)) f.start;
+          stuck = f.stuck;
+        };
+      }
+
+  module _ (block : List Instruction) (g : Graph) (graph : IsGraphOf d block g) where
+    pub starts_of_places : ((j : ℕ) → j < length g.nodes → Accepted (pipeline_with d known) (issue (class_at g j) ∷ [])) → All (StartsAlone d known) block
+    starts_of_places each = starts_from (classes_of g) block graph.classes (λ j low. each j (omega (arith, low, as_many d block g graph)))
+
+    pub stuck_of_place : (place : ℕ) → place < length g.nodes → ((j : ℕ) → j < place → Accepted (pipeline_with d known) (issue (class_at g j) ∷ [])) → (Accepted (pipeline_with d known) (issue (class_at g place) ∷ []) → ⊥) → IsStuckAt block place
+    stuck_of_place place low each stuck = stuck_from (classes_of g) block graph.classes place (omega (arith, low, as_many d block g graph)) each stuck
