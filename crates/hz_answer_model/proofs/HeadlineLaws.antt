@@ -1,45 +1,55 @@
 -- What `schedule` answers with status 0 is a schedule that keeps its block.
-use Rattle.std.proofs.Common.{◌≡◌, ℕ, inl, inr, Bool, true, false, List, [], length, Option, Some, None, MatchOption, MatchBool, nat_lt, refl, arith}
+use Rattle.std.proofs.Common.{◌≡◌, ℕ, inl, inr, Bool, true, false, List, [], length, Option, Some, None, MatchOption, MatchBool, nat_lt, ◌≤◌, refl, sym, ap, ◌∙◌, subst, arith}
+use Rattle.std.specs.List.{AllPairs}
+use Rattle.std.proofs.lemmas.Bool.{le-ltb}
+use Rattle.std.proofs.lemmas.Option.{same_Some}
+use Rattle.hz_sexp_model.proofs.FormsLaws.{one_reading}
+use Rattle.hz_mdread_model.proofs.DescriptionLaws.{one_description}
+use Rattle.hz_check_model.proofs.CheckLaws.{sound_one}
+use Rattle.hz_acceptance_model.specs.Events.{issues_of, cycles_of}
+use Rattle.hz_auto_model.specs.DescriptionLimits.{AllKeepLimits}
+use Rattle.hz_schedulable_model.proofs.SlotLaws.{spelled_cycles, spelled_issues}
 use Rattle.hz_sexp_model.specs.Trees.{Trees}
 use Rattle.hz_sexp_model.specs.Forms as forms
 use Rattle.hz_mdread_model.specs.Descriptions.{Description}
 use Rattle.hz_mdread_model.specs.DescriptionForms as description_forms
 use Rattle.hz_mdread_model.proofs.CheckableLaws.{can_be_checked}
 use Rattle.hz_mdread_model.proofs.DescriptionFormedAll.{well_formed}
-use Rattle.hz_base_model.specs.Limits.{description_limit}
+use Rattle.hz_base_model.specs.Limits.{description_limit, trace_limit}
 use Rattle.hz_check_model.specs.CheckFaults as check
 use Rattle.hz_check_model.specs.CheckFaults.{CheckFault, IsSound}
 use Rattle.hz_check_model.specs.Places.{Known}
 use Rattle.hz_rtl_model.specs.Blocks.{Instruction}
 use Rattle.hz_rtltext_model.specs.BlockForms as blocks
 use Rattle.hz_rtltext_model.proofs.Numbers.{all_few}
-use Rattle.hz_sched_model.specs.Schedules.{Graph, Slot}
+use Rattle.hz_sched_model.specs.Schedules.{Graph, Slot, present, spell}
 use Rattle.hz_scheduled_model.specs.BlockSchedules.{IsScheduleOf}
 use Rattle.hz_scheduled_model.proofs.BlockLaws.{legal_keeps}
 use Rattle.hz_schedulable_model.proofs.ScheduleTotal.{short_trace}
-use Rattle.hz_answer_model.specs.Texts.{file_line, limit_line}
+use Rattle.hz_answer_model.specs.Texts.{file_line, limit_line, accepted_line}
 use Rattle.hz_answer_model.specs.FaultTexts.{check_status}
 use Rattle.hz_answer_model.specs.Phases.{Held, Says, Next, Opens, HasForms}
 use Rattle.hz_answer_model.specs.BlockAnswers.{block_limit, IsBlock}
-use Rattle.hz_answer_model.specs.Answers.{Describes, Checks, HasDescription, Compiles, AnswersSchedule, SchedulesByDescription}
+use Rattle.hz_answer_model.specs.Answers.{Describes, Checks, HasDescription, Compiles, Judges, AnswersSchedule, SchedulesByDescription}
 use Rattle.hz_answer_model.specs.ScheduleAnswers.{schedule_text, HasClasses, Schedules, SchedulesBlock}
-use Rattle.hz_answer_model.specs.Headline.{IsDescribed, WritesSchedule}
+use Rattle.hz_answer_model.specs.Headline.{IsDescribed, WritesSchedule, ReplayAccepts}
 
 -- ---- what status 0 tells of each phase
 
 -- A file that was read.
-record IsOpened (o : Option (List ℕ)) (next : List ℕ → ℕ → List ℕ → Type 0) (text : List ℕ) : Type 0 where
+record IsOpened (o : Option (List ℕ)) (most : ℕ) (next : List ℕ → ℕ → List ℕ → Type 0) (text : List ℕ) : Type 0 where
   bytes : List ℕ
   is : o ≡ Some bytes
+  low : nat_lt most (length bytes) ≡ false
   answers : next bytes 0 text
 
-opened : (o : Option (List ℕ)) (name : List ℕ) (most : ℕ) (next : List ℕ → ℕ → List ℕ → Type 0) (text : List ℕ) → MatchOption o (Says 6 (file_line name) 0 text) (λ bytes. MatchBool (nat_lt most (length bytes)) (Says 3 (limit_line name) 0 text) (next bytes 0 text)) → IsOpened o next text
+opened : (o : Option (List ℕ)) (name : List ℕ) (most : ℕ) (next : List ℕ → ℕ → List ℕ → Type 0) (text : List ℕ) → MatchOption o (Says 6 (file_line name) 0 text) (λ bytes. MatchBool (nat_lt most (length bytes)) (Says 3 (limit_line name) 0 text) (next bytes 0 text)) → IsOpened o most next text
 opened None name most next text h = absurd (omega (arith, h.0))
-opened (Some bytes) name most next text h = go (nat_lt most (length bytes)) h
+opened (Some bytes) name most next text h = go (nat_lt most (length bytes)) refl h
   where
-    go : (b : Bool) → MatchBool b (Says 3 (limit_line name) 0 text) (next bytes 0 text) → IsOpened (Some bytes) next text
-    go true h = absurd (omega (arith, h.0))
-    go false h = record { bytes = bytes; is = refl; answers = h }
+    go : (b : Bool) → nat_lt most (length bytes) ≡ b → MatchBool b (Says 3 (limit_line name) 0 text) (next bytes 0 text) → IsOpened (Some bytes) most next text
+    go true is h = absurd (omega (arith, h.0))
+    go false is h = record { bytes = bytes; is = refl; low = is; answers = h }
 
 formed_of : (name bytes : List ℕ) (next : Next Trees) (text : List ℕ) → HasForms name bytes next 0 text → (read : Trees) × forms.Reads bytes read × next read 0 text
 formed_of name bytes next text (inl good) = good
@@ -82,8 +92,8 @@ given_of name bytes next text h =
     let (known, sound, last) = checked_of name d (next d) text others in
     record { d = d; known = known; is = record { read = read; forms = forms; says = says; sound = sound }; answers = last }
 
-compiled_of : (name : List ℕ) (d : Description) (known : Known) (next : ℕ → List ℕ → Type 0) (text : List ℕ) → Compiles name d known next 0 text → next 0 text
-compiled_of name d known next text (inl good) = good.1
+compiled_of : (name : List ℕ) (d : Description) (known : Known) (next : ℕ → List ℕ → Type 0) (text : List ℕ) → Compiles name d known next 0 text → AllKeepLimits d known × next 0 text
+compiled_of name d known next text (inl good) = good
 compiled_of name d known next text (inr (a, first, h)) = absurd (omega (arith, h.0))
 
 block_of : (name : List ℕ) (read : Trees) (next : Next (List Instruction)) (text : List ℕ) → IsBlock name read next 0 text → (block : List Instruction) × blocks.Reads read block × next block 0 text
@@ -107,7 +117,7 @@ writes_schedule held description block text h =
     let given = given_of description first.bytes (SchedulesByDescription description block second.bytes) text second.answers in
     let d = given.d in
     let known = given.known in
-    let (read, forms, more) = formed_of block second.bytes (λ read. IsBlock block read (λ insns. HasClasses block d insns (Schedules block d known insns))) text (compiled_of description d known (SchedulesBlock block second.bytes d known) text given.answers) in
+    let (read, forms, more) = formed_of block second.bytes (λ read. IsBlock block read (λ insns. HasClasses block d insns (Schedules block d known insns))) text (compiled_of description d known (SchedulesBlock block second.bytes d known) text given.answers).1 in
     let (insns, says, others) = block_of block read (λ insns. HasClasses block d insns (Schedules block d known insns)) text more in
     let (g, slots, is, written) = schedule_of block d known insns text (classes_of_block block d insns (Schedules block d known insns) text others) in
     let formed = can_be_checked d (well_formed ((given.is).read) d ((given.is).says)).0 in
@@ -130,3 +140,48 @@ writes_schedule held description block text h =
       short = omega (arith, few, short);
       text_is = written;
     }
+
+-- ---- what `replay` answers
+
+-- a text says one description
+one_described : (bytes : List ℕ) (d e : Description) (known other : Known) → IsDescribed bytes d known → IsDescribed bytes e other → (d ≡ e) × (known ≡ other)
+one_described bytes d e known other one two =
+    let read = one_reading bytes one.read two.read one.forms two.forms in
+    let same : d ≡ e = one_description two.read d e (subst (λ (t : Trees). description_forms.Reads t d) read one.says) two.says in
+    (same, sound_one e known other (subst (λ (x : Description). IsSound x known) same one.sound) two.sound)
+
+-- what follows the reading of a file
+opens : (o : Option (List ℕ)) (name : List ℕ) (most : ℕ) (next : List ℕ → ℕ → List ℕ → Type 0) (bytes text : List ℕ) → o ≡ Some bytes → nat_lt most (length bytes) ≡ false → next bytes 0 text
+    → MatchOption o (Says 6 (file_line name) 0 text) (λ bytes. MatchBool (nat_lt most (length bytes)) (Says 3 (limit_line name) 0 text) (next bytes 0 text))
+opens o name most next bytes text is low h =
+    subst (λ (p : Option (List ℕ)). MatchOption p (Says 6 (file_line name) 0 text) (λ bytes. MatchBool (nat_lt most (length bytes)) (Says 3 (limit_line name) 0 text) (next bytes 0 text))) (sym is)
+    (subst (λ (b : Bool). MatchBool b (Says 3 (limit_line name) 0 text) (next bytes 0 text)) (sym low) h)
+
+-- the line that accepts slots
+accepted_slots : (g : Graph) (slots : List Slot) → AllPairs (λ x y. x.cycle ≤ y.cycle) slots → accepted_line (length slots) (present 0 slots) ≡ accepted_line (issues_of (spell g slots)) (cycles_of (spell g slots))
+accepted_slots g slots rising =
+    let cycles : present 0 slots ≡ cycles_of (spell g slots) = omega (arith, spelled_cycles g 0 slots (λ k e low. omega arith) rising) in
+    ap (λ (n : ℕ). accepted_line n (present 0 slots)) (sym (spelled_issues g 0 slots)) ∙ ap (accepted_line (issues_of (spell g slots))) cycles
+
+module _ (held : Held) (description block text : List ℕ) (w : WritesSchedule held description block text) (h : AnswersSchedule held description block 0 text) where
+  -- the description keeps its limits, and its text does
+  limits : AllKeepLimits w.d w.known × (nat_lt description_limit (length w.described) ≡ false)
+  limits =
+      let first = opened (held description) description description_limit (λ described. Opens held block block_limit (λ blocked. HasDescription description described (SchedulesByDescription description block blocked))) text h in
+      let second = opened (held block) block block_limit (λ blocked. HasDescription description first.bytes (SchedulesByDescription description block blocked)) text first.answers in
+      let given = given_of description first.bytes (SchedulesByDescription description block second.bytes) text second.answers in
+      let kept = (compiled_of description given.d given.known (SchedulesBlock block second.bytes given.d given.known) text given.answers).0 in
+      let bytes : first.bytes ≡ w.described = same_Some first.bytes w.described (sym first.is ∙ w.first_file) in
+      let one = one_described w.described given.d w.d given.known w.known (subst (λ (b : List ℕ). IsDescribed b given.d given.known) bytes given.is) w.is_described in (
+        subst (AllKeepLimits w.d) one.1 (subst (λ (x : Description). AllKeepLimits x given.known) one.0 kept),
+        subst (λ (b : List ℕ). nat_lt description_limit (length b) ≡ false) bytes first.low,
+      )
+
+  pub accepts_schedule : ReplayAccepts held description w.d w.g w.slots
+  accepts_schedule = record {
+    answers = λ other trace traced same there short events.
+        let line = accepted_line (length w.slots) (present 0 w.slots) in
+        opens (other description) description description_limit (λ described. Opens other trace trace_limit (λ traced. Judges description described trace traced)) w.described line (same ∙ w.first_file) limits.1
+        (opens (other trace) trace trace_limit (λ traced. Judges description w.described trace traced) traced line there (le-ltb trace_limit (length traced) short)
+        (inl ((w.is_described).read, (w.is_described).forms, inl (w.d, (w.is_described).says, inl (w.known, (w.is_described).sound, inl (limits.0, inl (spell w.g w.slots, events, inl ((w.keeps).accepted, (refl, accepted_slots w.g w.slots (w.keeps).rising)))))))));
+  }

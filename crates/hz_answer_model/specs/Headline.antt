@@ -1,19 +1,22 @@
--- What is written of a schedule, in the words of its promise: README.md.
-use Rattle.std.specs.Prelude.{◌≡◌, ℕ, ◌≤◌, List, Some}
+-- What is written of a schedule, and what `replay` answers of it, in the words of the promise: README.md.
+use Rattle.std.specs.Prelude.{◌≡◌, ℕ, ◌≤◌, List, length, Some}
 use Rattle.hz_sexp_model.specs.Trees.{Trees}
 use Rattle.hz_sexp_model.specs.Forms as forms
 use Rattle.hz_mdread_model.specs.Descriptions.{Description}
 use Rattle.hz_mdread_model.specs.DescriptionForms as description_forms
 use Rattle.hz_check_model.specs.CheckFaults.{IsSound}
-use Rattle.hz_check_model.specs.Places.{Known}
-use Rattle.hz_base_model.specs.Limits.{advance_limit}
+use Rattle.hz_check_model.specs.Places.{Known, class_names}
+use Rattle.hz_base_model.specs.Limits.{advance_limit, trace_limit}
 use Rattle.hz_acceptance_model.specs.Events.{cycles_of}
 use Rattle.hz_rtl_model.specs.Blocks.{Instruction}
 use Rattle.hz_rtltext_model.specs.BlockForms as blocks
-use Rattle.hz_sched_model.specs.Schedules.{Graph, Slot, spell}
+use Rattle.hz_sched_model.specs.Schedules.{Graph, Slot, present, spell}
 use Rattle.hz_scheduled_model.specs.BlockGraphs.{IsGraphOf}
 use Rattle.hz_scheduled_model.specs.BlockSchedules.{KeepsBlock}
+use Rattle.hz_trace_model.specs.Traces.{Trace}
+use Rattle.hz_answer_model.specs.Answers.{AnswersReplay}
 use Rattle.hz_answer_model.specs.Phases.{Held}
+use Rattle.hz_answer_model.specs.Texts.{accepted_line}
 use Rattle.hz_answer_model.specs.ScheduleAnswers.{schedule_text}
 
 -- The description that bytes say, and the alternatives of its names.
@@ -48,3 +51,9 @@ pub record WritesSchedule (held : Held) (description block : List ℕ) (text : L
   pub keeps : KeepsBlock d known insns g slots
   pub short : cycles_of (spell g slots) ≤ advance_limit
   pub text_is : text ≡ schedule_text d insns g slots
+
+-- `replay` accepts the trace of slots, by whatever text it is given: where the same description is held, and a text that is not too
+-- long, whose events the slots spell, it answers with status 0 how many issues there are, and the last cycle.
+pub record ReplayAccepts (held : Held) (description : List ℕ) (d : Description) (g : Graph) (slots : List Slot) : Type 0 where
+  pub answers : (other : Held) (trace traced : List ℕ) → other description ≡ held description → other trace ≡ Some traced → length traced ≤ trace_limit → Trace (class_names d) traced (spell g slots)
+      → AnswersReplay other description trace 0 (accepted_line (length slots) (present 0 slots))

@@ -2,7 +2,7 @@
 
 ghost use Rattle.std.specs.Prelude.{◌≡◌, ℕ, List};
 ghost use Rattle.hz_answer_model.specs.Answers.{Answer, AnswersSchedule, IsCounted};
-ghost use Rattle.hz_answer_model.specs.Headline.{WritesSchedule};
+ghost use Rattle.hz_answer_model.specs.Headline.{WritesSchedule, ReplayAccepts};
 ghost use Rattle.hz_answer_model.specs.Phases.{Held};
 
 /// The words and what is held have one answer at most: one status and one text.
@@ -14,6 +14,12 @@ pub fn one_answer()
 /// latency and bypass, in an order that `replay` accepts and that from every state leaves what source order leaves.
 pub fn schedules_keep_their_blocks()
     ensures { (held : Held) (description block text : List ℕ) → AnswersSchedule held description block 0 text → WritesSchedule held description block text }
+{}
+
+/// `replay` accepts each schedule that `schedule` writes: it answers with status 0, and tells as many issues as the block has
+/// instructions, and the cycle of the last.
+pub fn replay_accepts_schedules()
+    ensures { (held : Held) (description block text : List ℕ) (w : WritesSchedule held description block text) → AnswersSchedule held description block 0 text → ReplayAccepts held description w.d w.g w.slots }
 {}
 
 /// All words have an answer, whatever is held, where each count of each automaton of a description that is held is

@@ -1,6 +1,6 @@
 -- A legal schedule keeps its block, and a block has one schedule.
-use Rattle.std.proofs.Common.{◌≡◌, ℕ, ◌+◌, ◌≤◌, List, [], ◌∷◌, ◌++◌, length, Contains, refl, sym, ap, subst, arith, rules}
-use Rattle.std.specs.Prelude.{true, false, Bool, IsTrue}
+use Rattle.std.proofs.Common.{◌≡◌, ℕ, ◌+◌, ◌≤◌, List, [], ◌∷◌, ◌++◌, length, Contains, refl, sym, ap, subst, arith}
+use Rattle.std.specs.Prelude.{true}
 use Rattle.hz_base_model.proofs.Elements.{Contains-map}
 use Rattle.hz_acceptance_model.specs.Replay.{Accepted}
 use Rattle.hz_check_model.specs.Places.{Known}
@@ -64,6 +64,7 @@ module _ (d : Description) (known : Known) (block : List Instruction) (g : Graph
   pub legal_keeps : KeepsBlock d known block g slots
   legal_keeps = record {
     each = whole;
+    rising = legal.rising;
     kept = behind_costs;
     accepted = legal.accepted;
     leaves = λ state. commutes block state (places slots) whole keeps;

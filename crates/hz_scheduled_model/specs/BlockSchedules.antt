@@ -1,7 +1,7 @@
 -- Schedules of a block by a description, and what they keep of the block. GCC Internals, 'Specifying processor pipeline
 -- description'; list scheduling as in this profile, docs/RULES.md, 'List schedules'.
 use Rattle.std.specs.Prelude.{◌≡◌, ℕ, ◌+◌, ◌≤◌, true, List, [], ◌∷◌, ◌++◌, length, All, Ok}
-use Rattle.std.specs.List.{Contains, range_with_len}
+use Rattle.std.specs.List.{Contains, AllPairs, range_with_len}
 use Rattle.hz_acceptance_model.specs.Events.{issue}
 use Rattle.hz_acceptance_model.specs.Replay.{Accepted}
 use Rattle.hz_check_model.specs.Places.{Known}
@@ -38,6 +38,8 @@ module _ (d : Description) (known : Known) where
   pub record KeepsBlock (block : List Instruction) (g : Graph) (slots : List Slot) : Type 0 where
     -- each instruction stands there once, and no other
     pub each : IsOrder (length block) (places slots)
+    -- cycles don't fall
+    pub rising : AllPairs (λ x y. x.cycle ≤ y.cycle) slots
     -- every latency and bypass is kept: an instruction is issued behind each on which it depends, by the cost of the dependence
     pub kept : (before after : List Slot) (x : Slot) (i : ℕ) → slots ≡ before ++ x ∷ after → depends block i x.place ≡ true → (y : Slot) × Contains before y × (y.place ≡ i) × (y.cycle + cost block (timing_in d (classes_of g)) i x.place ≤ x.cycle)
     -- their trace is accepted
