@@ -1,0 +1,109 @@
+"""Makes one automaton of those that one alternation holds together."""
+import re
+
+from .changes import of_kind
+from .forms import Fault
+from .items import Automata, Class, Reservation, Units
+
+TOKEN = re.compile(r"[^\s,|+*()]+|[,|+*()]")
+MARKS = ",|+"
+
+
+class Expression:
+    """Finds the names of each alternation in an expression: those between two bars stand together."""
+
+    def __init__(self, item):
+        self.item, self.tokens, self.alternations = item, TOKEN.findall(item.expression), []
+        self.names = self.parts(0)
+        if self.tokens:
+            raise Fault(item.place, f"`{self.tokens[0]}` continues no expression")
+
+    def parts(self, level):
+        """The names of parts with a mark of this level, or of a later one, between them."""
+        if level == len(MARKS):
+            return self.repeat()
+        found, several = self.parts(level + 1), False
+        while self.tokens[:1] == [MARKS[level]]:
+            self.tokens.pop(0)
+            found, several = found | self.parts(level + 1), True
+        if several and MARKS[level] == "|":
+            self.alternations.append(found)
+        return found
+
+    def repeat(self):
+        found = self.element()
+        while self.tokens[:1] == ["*"]:
+            del self.tokens[:2]
+        return found
+
+    def element(self):
+        """The names of a name or of an expression in parentheses."""
+        token = self.tokens.pop(0) if self.tokens else None
+        if token == "(":
+            found = self.parts(0)
+            token = self.tokens.pop(0) if self.tokens else None
+            if token == ")":
+                return found
+        elif token and token not in ",|+*)":
+            return {token} - {"nothing"}
+        raise Fault(self.item.place, "the expression ends too early" if token is None
+                    else f"`{token}` continues no expression")
+
+
+class Joined:
+    """Automata in groups; each group is called by its first in the order of the file."""
+
+    def __init__(self, names):
+        self.order = {name: place for place, name in enumerate(names)}
+        self.leader = {name: name for name in names}
+
+    def find(self, name):
+        while self.leader[name] != name:
+            name = self.leader[name]
+        return name
+
+    def join(self, names):
+        leaders = sorted({self.find(name) for name in names}, key=self.order.get)
+        for leader in leaders[1:]:
+            self.leader[leader] = leaders[0]
+        return len(leaders) > 1
+
+
+class Merging:
+    """The automata of the units that names lead to."""
+
+    def __init__(self, items):
+        self.automaton = {name: item.automaton for item in of_kind(items, Units) for name in item.names}
+        self.expressions = {item.name: Expression(item) for item in of_kind(items, Reservation)}
+        self.known = {}
+
+    def automata(self, names):
+        """The automata of all units that names lead to."""
+        return set().union(*(self.automata_of(name) for name in names)) if names else set()
+
+    def automata_of(self, name):
+        if name not in self.known:
+            self.known[name] = set()
+            if name in self.expressions:
+                self.known[name] = self.automata(self.expressions[name].names)
+            elif self.automaton.get(name):
+                self.known[name] = {self.automaton[name]}
+        return self.known[name]
+
+
+def merge_automata(items, told):
+    """Automata that one alternation holds together become the first of them."""
+    merging = Merging(items)
+    joined = Joined(list(dict.fromkeys(name for item in of_kind(items, Automata) for name in item.names)))
+    for item in items:
+        if isinstance(item, (Class, Reservation)):
+            for names in Expression(item).alternations:
+                together = sorted(merging.automata(names) & set(joined.order))
+                if joined.join(together):
+                    told.tell(item, "merge", f"{item.name} chooses between units of {', '.join(together)}")
+    for item in of_kind(items, Units):
+        if item.automaton in joined.order:
+            item.automaton = joined.find(item.automaton)
+    for item in of_kind(items, Automata):
+        item.names = [name for name in item.names if joined.find(name) == name]
+    return [item for item in items if not isinstance(item, Automata) or item.names]
