@@ -58,7 +58,7 @@ def main_files(config):
     return [main for main in mains if os.path.exists(os.path.join(config, main))]
 
 
-def drawn_from(reader, own, shared):
+def drawn_from(own, shared):
     """The files from which items take units and reservations."""
     return {item.place.file for item in needed(own, shared) if isinstance(item, (Units, Reservation))}
 
@@ -68,14 +68,24 @@ def pipelines(reader, main):
     files = collections.defaultdict(list)
     for item in reader.items(main, True):
         files[item.place.file].append(item)
-    groups = {file: {file} for file, items in files.items() if any(isinstance(item, Class) for item in items)}
+    groups = {file: {file} for file, items in files.items() if has_classes(items)}
     for file in list(groups):
         shared = [item for other, items in files.items() if other != file for item in items]
-        for other in drawn_from(reader, files[file], shared) & set(groups) - {main}:
+        for other in drawn_from(files[file], shared) & set(groups) - {main}:
             joined = groups[file] | groups[other]
             groups.update({member: joined for member in joined})
     order = list(files)
-    return sorted({tuple(sorted(group, key=order.index)) for group in groups.values()})
+    return sorted({tuple(sorted(group, key=order.index)) for group in groups.values()}) + left_out(reader, main, files)
+
+
+def has_classes(items):
+    return any(isinstance(item, Class) for item in items)
+
+
+def left_out(reader, main, files):
+    """The files of a pipeline that the target's main file does not include."""
+    beside = sorted(glob.glob(os.path.join(os.path.dirname(main), "*.md")))
+    return [(file,) for file in beside if file not in files and has_classes(reader.items(file, False))]
 
 
 def row(hz, reader, name, most, **what):
@@ -124,7 +134,9 @@ def kind_of(found):
         return "accepted"
     if found.status == 2:
         return "fault " + words[3]
-    return " ".join(["limit"] + words[3:4] if words[1:2] == ["line"] else words[:2])
+    if found.status == 3:
+        return "limit " + (words[3] if words[1] == "line" else "of states")
+    return found.answer
 
 
 def summary(title, found):
@@ -152,12 +164,11 @@ def main():
         print(f"check-gcc: no {given.source}; Debian's package gcc-12-source has it")
         return 0
     hz, found = os.path.abspath(given.hz), []
-    print("pipeline | classes | status | answer | seconds | changes")
+    print("pipeline | classes | answer | seconds | changes")
     with tempfile.TemporaryDirectory() as folder:
         for one in rows(hz, unpack(sources[0], folder), given.targets, given.seconds):
             found.append(one)
-            print(f"{one.name} | {one.classes} | {one.status} | {one.answer} | {one.seconds:.1f} |"
-                  f" {spelled(one.changes)}", flush=True)
+            print(f"{one.name} | {one.classes} | {one.answer} | {one.seconds:.1f} | {spelled(one.changes)}", flush=True)
         os.chdir("/")
     merged = [one for one in found if one.name.endswith("--merge")]
     whole = [one for one in found if one.name.startswith("all of") and one not in merged]

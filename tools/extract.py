@@ -64,7 +64,8 @@ def written(taken, sources):
     """The text of items, each behind the file and line that it comes from."""
     lines = [f"; Taken out of {', '.join(sources)} by tools/extract.py.", ""]
     for item in taken:
-        lines += [f"; {'; '.join([str(item.place)] + item.notes)}", item.text(), ""]
+        comment = "; ".join([str(item.place)] + item.notes)
+        lines += ["; " + " ".join(comment.split()), item.text(), ""]
     return "\n".join(lines)
 
 
@@ -94,11 +95,14 @@ def words():
 
 
 def main():
-    given = words()
+    given, reader = words(), Reader()
     try:
-        taken, made = extract(Reader(), given.files, given.defs, given.target, given.merge)
+        taken, made = extract(reader, given.files, given.defs, given.target, given.merge)
     except Fault as fault:
         print(fault, file=sys.stderr)
+        return 2
+    if os.path.realpath(given.out) in reader.read:
+        print(f"{given.out}: an input is not written over", file=sys.stderr)
         return 2
     for change in made:
         print(change, file=sys.stderr)

@@ -1,12 +1,14 @@
 """Changes of what hz's profile cannot say, one pass for each kind, each change told."""
 import dataclasses
 import fnmatch
+import re
 
 from .forms import Form, Place, Text
 from .items import Attribute, Bypass, Class, Options, Units, Values, names
 
 NOT_BUILT = ["collapse-ndfa"]
 UNKNOWN = "unknown"
+NUMBER = re.compile(r"-?[0-9]+")
 
 
 @dataclasses.dataclass(frozen=True)
@@ -48,7 +50,7 @@ def odd_test(condition):
         return next((odd for odd in map(odd_test, operands) if odd), None)
     if head == "eq_attr" and len(operands) == 2 and all(isinstance(part, Text) for part in operands):
         return None
-    if head == "const_int" and len(operands) == 1 and type(operands[0]) is str:
+    if head == "const_int" and len(operands) == 1 and NUMBER.fullmatch(str(operands[0])):
         return None
     return head or "a vector"
 
@@ -67,7 +69,7 @@ def change_queries(items, told):
     """A query unit is a unit."""
     for item in of_kind(items, Units):
         if item.query:
-            told.tell(item, "query", f"{', '.join(item.names)} can be asked for")
+            told.tell(item, "query", f"query units {', '.join(item.names)}")
     return items
 
 
@@ -80,37 +82,32 @@ def change_options(items, told):
     return [item for item in items if not isinstance(item, Options) or item.names]
 
 
-def matching(pattern, classes):
-    """The classes that a name in a bypass stands for; it is a pattern of files where it has a wildcard."""
-    if any(mark in pattern for mark in "*?["):
-        return [name for name in classes if fnmatch.fnmatchcase(name, pattern)]
-    return [pattern]
-
-
-def expanded(patterns, classes):
-    """The classes of a list in a bypass, each once."""
-    return list(dict.fromkeys(name for pattern in patterns for name in matching(pattern, classes)))
-
-
 def change_bypasses(items, told):
     """A guarded bypass goes; wildcards are expanded."""
     classes, kept = [item.name for item in of_kind(items, Class)], []
     for item in items:
-        if isinstance(item, Bypass) and item.guard:
-            told.tell(item, "guard", f"the bypass has the guard {item.guard}")
-            continue
-        if isinstance(item, Bypass):
-            expand_bypass(item, classes, told)
-        kept.append(item)
+        if not isinstance(item, Bypass):
+            kept.append(item)
+        elif item.guard:
+            told.tell(item, "guard", f"the bypass is guarded by {item.guard}")
+        else:
+            item.outs = expanded(item, item.outs, classes, told)
+            item.ins = expanded(item, item.ins, classes, told)
+            kept += [item] if item.outs and item.ins else []
     return kept
 
 
-def expand_bypass(item, classes, told):
-    outs, ins = expanded(item.outs, classes), expanded(item.ins, classes)
-    patterns = [name for name in item.outs + item.ins if name not in outs + ins]
-    if patterns:
-        told.tell(item, "wildcard", f"{', '.join(patterns)} stands for classes")
-    item.outs, item.ins = outs, ins
+def expanded(bypass, patterns, classes, told):
+    """The classes of a list in a bypass, each once; as GCC does, a name with a wildcard is matched as names of files are."""
+    found = []
+    for pattern in patterns:
+        if any(mark in pattern for mark in "*?["):
+            matching = [name for name in classes if fnmatch.fnmatchcase(name, pattern)]
+            told.tell(bypass, "wildcard", f"{pattern} stands for {', '.join(matching) or 'no class'}")
+            found += matching
+        else:
+            found.append(pattern)
+    return list(dict.fromkeys(found))
 
 
 def tests_of_attributes(condition):

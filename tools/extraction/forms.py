@@ -54,6 +54,7 @@ TOKEN = re.compile(BLANK + r"""(?:
 BRACE = re.compile(r"\\.|[{}]", re.S)
 UNREAD = {'"': "a string that is not closed", "/": "a comment that is not closed", "}": "a brace that closes nothing"}
 CLOSES = {")": "(", "]": "["}
+DEPTH = 200
 ESCAPES = {"\\\n": "", '\\"': '"', "\\\\": "\\"}
 
 
@@ -107,6 +108,8 @@ def read_forms(file, text):
             form = Form(scanner.place(start), text[start])
             (open_forms[-1] if open_forms else top).append(form)
             open_forms.append(form)
+            if len(open_forms) > DEPTH:
+                raise Fault(form.place, f"more than {DEPTH} brackets are open")
         elif kind == "close":
             if not open_forms or open_forms[-1].bracket != CLOSES[text[start]]:
                 raise Fault(scanner.place(start), f"`{text[start]}` closes nothing")

@@ -23,14 +23,14 @@ def string(form, at):
 def number(form, at):
     """The number at a place of a form."""
     value = form[at] if at < len(form) else None
-    if type(value) is not str or not value.isdigit():
+    if type(value) is not str or not value.isdecimal():
         raise Fault(form.place, f"operand {at} of {form.head()} is no number")
     return int(value)
 
 
 def names(text):
-    """The names of a list; as GCC does, a comma behind the last is passed over."""
-    return [piece.strip() for piece in text.split(",") if piece.strip()]
+    """The names of a list, which may be empty."""
+    return [piece.strip() for piece in text.split(",")] if text.strip() else []
 
 
 def names_in(expression):
@@ -45,7 +45,7 @@ def listed(given):
 
 def quoted(text):
     """A string in which white space says nothing, over lines where it is long."""
-    lines = textwrap.wrap(text, 100, break_long_words=False, break_on_hyphens=False)
+    lines = textwrap.wrap(" ".join(text.split()), 100, break_long_words=False, break_on_hyphens=False)
     return '"' + "\n    ".join(lines).replace("\\", "\\\\").replace('"', '\\"') + '"'
 
 

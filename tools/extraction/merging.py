@@ -1,4 +1,5 @@
 """Makes one automaton of those that one alternation holds together."""
+import itertools
 import re
 
 from .changes import of_kind
@@ -7,6 +8,12 @@ from .items import Automata, Class, Reservation, Units
 
 TOKEN = re.compile(r"[^\s,|+*()]+|[,|+*()]")
 MARKS = ",|+"
+DEPTH = 64
+
+
+def deepest(tokens):
+    """How many parentheses are open at most."""
+    return max(itertools.accumulate((token == "(") - (token == ")") for token in tokens), default=0)
 
 
 class Expression:
@@ -14,6 +21,8 @@ class Expression:
 
     def __init__(self, item):
         self.item, self.tokens, self.alternations = item, TOKEN.findall(item.expression), []
+        if deepest(self.tokens) > DEPTH:
+            raise Fault(item.place, f"more than {DEPTH} parentheses are open")
         self.names = self.parts(0)
         if self.tokens:
             raise Fault(item.place, f"`{self.tokens[0]}` continues no expression")
@@ -69,36 +78,32 @@ class Joined:
         return len(leaders) > 1
 
 
-class Merging:
-    """The automata of the units that names lead to."""
+class Leading:
+    """Which automata names lead to."""
 
     def __init__(self, items):
         self.automaton = {name: item.automaton for item in of_kind(items, Units) for name in item.names}
-        self.expressions = {item.name: Expression(item) for item in of_kind(items, Reservation)}
-        self.known = {}
+        self.names = {item.name: Expression(item).names for item in of_kind(items, Reservation)}
 
     def automata(self, names):
         """The automata of all units that names lead to."""
-        return set().union(*(self.automata_of(name) for name in names)) if names else set()
-
-    def automata_of(self, name):
-        if name not in self.known:
-            self.known[name] = set()
-            if name in self.expressions:
-                self.known[name] = self.automata(self.expressions[name].names)
-            elif self.automaton.get(name):
-                self.known[name] = {self.automaton[name]}
-        return self.known[name]
+        seen, waiting = set(), list(names)
+        while waiting:
+            name = waiting.pop()
+            if name not in seen:
+                seen.add(name)
+                waiting += self.names.get(name, ())
+        return {self.automaton[name] for name in seen if self.automaton.get(name)}
 
 
 def merge_automata(items, told):
     """Automata that one alternation holds together become the first of them."""
-    merging = Merging(items)
+    leading = Leading(items)
     joined = Joined(list(dict.fromkeys(name for item in of_kind(items, Automata) for name in item.names)))
     for item in items:
         if isinstance(item, (Class, Reservation)):
             for names in Expression(item).alternations:
-                together = sorted(merging.automata(names) & set(joined.order))
+                together = sorted(leading.automata(names) & set(joined.order))
                 if joined.join(together):
                     told.tell(item, "merge", f"{item.name} chooses between units of {', '.join(together)}")
     for item in of_kind(items, Units):
