@@ -79,33 +79,43 @@ class Joined:
 
 
 class Leading:
-    """Which automata names lead to."""
+    """Where names lead to."""
 
     def __init__(self, items):
         self.automaton = {name: item.automaton for item in of_kind(items, Units) for name in item.names}
         self.names = {item.name: Expression(item).names for item in of_kind(items, Reservation)}
 
-    def automata(self, names):
-        """The automata of all units that names lead to."""
+    def reached(self, names):
+        """The names, and all names to which their expressions lead."""
         seen, waiting = set(), list(names)
         while waiting:
             name = waiting.pop()
             if name not in seen:
                 seen.add(name)
                 waiting += self.names.get(name, ())
-        return {self.automaton[name] for name in seen if self.automaton.get(name)}
+        return seen
+
+    def automata(self, names):
+        """The automata of all units that names lead to."""
+        return {self.automaton[name] for name in self.reached(names) if self.automaton.get(name)}
+
+
+def alternations(items, leading):
+    """Each alternation in a class, or in a reservation to which one leads: the item and the automata there."""
+    classes = of_kind(items, Class)
+    used = leading.reached(name for item in classes for name in Expression(item).names)
+    for item in of_kind(items, Reservation) + classes:
+        if isinstance(item, Class) or item.name in used:
+            for names in Expression(item).alternations:
+                yield item, sorted(leading.automata(names))
 
 
 def merge_automata(items, told):
     """Automata that one alternation holds together become the first of them."""
-    leading = Leading(items)
     joined = Joined(list(dict.fromkeys(name for item in of_kind(items, Automata) for name in item.names)))
-    for item in items:
-        if isinstance(item, (Class, Reservation)):
-            for names in Expression(item).alternations:
-                together = sorted(leading.automata(names) & set(joined.order))
-                if joined.join(together):
-                    told.tell(item, "merge", f"{item.name} chooses between units of {', '.join(together)}")
+    for item, together in alternations(items, Leading(items)):
+        if joined.join(name for name in together if name in joined.order):
+            told.tell(item, "merge", f"{item.name} chooses between units of {', '.join(together)}")
     for item in of_kind(items, Units):
         if item.automaton in joined.order:
             item.automaton = joined.find(item.automaton)
