@@ -1,9 +1,10 @@
 # Builds, tries and installs hz. `rt` is the command of the Rattle toolchain.
 
 PREFIX ?= /usr/local
+GCC_SOURCE ?= /usr/src/gcc-12/gcc-12*.tar.xz
 SOURCES := crates.txt $(shell find crates -path '*/out' -prune -o \( -name '*.rt' -o -name '*.antt' \) -print)
 
-.PHONY: all try test examples bench install clean
+.PHONY: all try test examples check-gcc bench install clean
 
 all: bin/hz
 
@@ -27,10 +28,15 @@ try:
 test:
 	@rt ci
 
-# each example and each status of the program, against what is expected
+# each example and each status of the program, and what tools/extract.py writes, against what is expected
 examples: bin/hz
 	@sh examples/check.sh bin/hz
 	@sh examples/statuses.sh bin/hz
+	@if command -v python3 > /dev/null; then sh tools/test.sh bin/hz; else echo "no python3: tools/test.sh is not run"; fi
+
+# each pipeline of GCC's back ends; GCC_SOURCE is what Debian's package gcc-12-source installs
+check-gcc: bin/hz
+	@python3 tools/check_gcc.py --source '$(GCC_SOURCE)' bin/hz
 
 bench: bin/hz
 	@sh bench/replay/run.sh bin/hz

@@ -1,10 +1,11 @@
 //! What is made of a description without a fault while it is still whole.
 
 ghost use Rattle.std.specs.Prelude.{IfOk, IfErr};
+ghost use Rattle.std.specs.List.{AllPairs};
 ghost use Rattle.hz_mdread.specs.Shape.{description};
 ghost use Rattle.hz_check.specs.Faults.{Tells, IsToldAt};
 ghost use Rattle.hz_check.specs.Parts.{IsPartsOf};
-ghost use Rattle.hz_mdread_model.specs.DescriptionShape.{IsCheckable};
+ghost use Rattle.hz_mdread_model.specs.DescriptionShape.{IsCheckable, SharesAutomaton};
 
 use crate::checked::{CheckedAutomaton, CheckedBypass};
 use crate::fault::CheckFault;
@@ -35,6 +36,7 @@ pub(crate) struct Parts {
 /// The parts of a description without a fault, or the fault that is told.
 pub(crate) fn parts_of(alloc: Global, desc: &Description) -> Result<Parts, CheckFault>
     requires formed { IsCheckable (description desc.now) }
+    requires shared { AllPairs SharesAutomaton (description desc.now).units }
     ensures ok { IfOk result (IsPartsOf (description desc.now)) }
     ensures err { IfErr result (Tells (IsToldAt (description desc.now))) }
 {

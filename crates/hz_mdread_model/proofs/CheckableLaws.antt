@@ -17,7 +17,6 @@ can_be_checked d is = record {
   attributes = All-weaker (IsAttribute is.kinds) (λ i. IsForm is.kinds i.form define_attr) (λ i h. h.form) d.attributes is.attributes;
   automata_in_order = is.automata_in_order;
   units_in_order = is.units_in_order;
-  units_share = is.units_share;
   reservations_in_order = λ i j e low within. let before = is.reservations_in_order i j e low within in omega (arith, before);
   classes_in_order = λ i j e low within. let before = is.classes_in_order i j e low within in omega (arith, before);
   bypasses_in_order = λ i j e low within. let before = is.bypasses_in_order i j e low within in omega (arith, before);

@@ -128,7 +128,7 @@ module _ (kinds : List FormKind) where
     pub number : item.number ≤ limits.latency_limit
 
 -- A description that can be checked: expressions can be written, numbers are limited, items of two lists have different forms,
--- each list is in the order of its forms, and units of one form have one automaton.
+-- and each list is in the order of its forms.
 pub record IsCheckable (d : Description) : Type 0 where
   pub kinds : List FormKind
   pub automata : All (λ i. IsForm kinds i.form define_automaton) d.automata
@@ -140,7 +140,6 @@ pub record IsCheckable (d : Description) : Type 0 where
   pub attributes : All (λ i. IsForm kinds i.form define_attr) d.attributes
   pub automata_in_order : AllPairs (λ earlier later. earlier.form ≤ later.form) d.automata
   pub units_in_order : AllPairs (λ earlier later. earlier.form ≤ later.form) d.units
-  pub units_share : AllPairs SharesAutomaton d.units
   pub reservations_in_order : AllPairs (λ earlier later. earlier.form ≤ later.form) d.reservations
   pub classes_in_order : AllPairs (λ earlier later. earlier.form ≤ later.form) d.classes
   pub bypasses_in_order : AllPairs (λ earlier later. earlier.form ≤ later.form) d.bypasses

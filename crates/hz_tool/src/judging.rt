@@ -1,8 +1,9 @@
 //! The texts judged, one phase after the other; the first that refuses gives the report.
 
 ghost use Rattle.std.specs.Prelude.{◌≡◌, ◌^◌, ◌<◌, ◌≤◌, IfOk, IfErr, IsTrue, length};
+ghost use Rattle.std.specs.List.{AllPairs};
 ghost use Rattle.hz_mdread_model.specs.DescriptionForms as description_forms;
-ghost use Rattle.hz_mdread_model.specs.DescriptionShape.{IsWellFormed, IsCheckable};
+ghost use Rattle.hz_mdread_model.specs.DescriptionShape.{IsWellFormed, IsCheckable, SharesAutomaton};
 ghost use Rattle.hz_sexp_model.specs.Forms as forms;
 ghost use Rattle.hz_base_model.specs.Lines.{lines_of};
 ghost use Rattle.hz_rtl.specs.Shape.{instructions};
@@ -114,7 +115,8 @@ pub fn judge_check<'a>(
     file: &'a str,
     described: Description,
 ) -> Result<Checked, Report<'a>>
-    requires { IsCheckable (description described) }
+    requires formed { IsCheckable (description described) }
+    requires shared { AllPairs SharesAutomaton (description described).units }
     ensures ok { IfOk result (IsCheckedOf (description described)) }
     ensures err { IfErr result (IsCheckReport file.entry.now (description described)) }
 {

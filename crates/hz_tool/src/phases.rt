@@ -1,10 +1,11 @@
 //! The phases of judging both texts, in their order: forms, description, check, limits of states, trace and replay.
 
 ghost use Rattle.std.specs.Prelude.{◌<◌, ◌^◌, IsTrue, length};
+ghost use Rattle.std.specs.List.{AllPairs};
 ghost use Rattle.hz_mdread.specs.Shape.{description};
 ghost use Rattle.hz_answer_model.specs.Answers.{Checks, Describes, Judges, ReplaysDescription};
 ghost use Rattle.hz_mdread_model.specs.DescriptionForms as description_forms;
-ghost use Rattle.hz_mdread_model.specs.DescriptionShape.{IsCheckable};
+ghost use Rattle.hz_mdread_model.specs.DescriptionShape.{IsCheckable, SharesAutomaton};
 ghost use Rattle.hz_sexp.specs.Shape.{trees};
 ghost use Rattle.hz_tool.specs.Decisions.{Agrees, IsJudged};
 
@@ -24,6 +25,7 @@ fn judge_described<'a>(
     trace: &[u8],
 ) -> Report<'a>
     requires checkable { IsCheckable (description described) }
+    requires shared { AllPairs SharesAutomaton (description described).units }
     requires trace { length trace.now < 2 ^ 32 }
     ensures kind { IsJudged result }
     ensures answer { Agrees (Checks order.now.description.now (description described) (ReplaysDescription order.now.description.now order.now.trace.now trace.now (description described))) result }

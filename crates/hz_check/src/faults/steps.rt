@@ -1,13 +1,14 @@
 //! The steps of the check before any alternative is looked at, each with the faults that it tells.
 
 ghost use Rattle.std.specs.Prelude.{◌≡◌, IfOk, IfErr, None};
+ghost use Rattle.std.specs.List.{AllPairs};
 ghost use Rattle.hz_mdread.specs.Shape.{description};
 ghost use Rattle.hz_check.specs.Faults.Steps.{IsOrdered, AreWithin};
 ghost use Rattle.hz_check.specs.Faults.{Tells, IsToldAt};
 ghost use Rattle.hz_check.specs.Faults.PastUnits.{ArePlaces};
 ghost use Rattle.hz_check_model.specs.CheckFaults.{faults_of_names};
 ghost use Rattle.hz_check_model.specs.FirstTold.{first_told};
-ghost use Rattle.hz_mdread_model.specs.DescriptionShape.{IsCheckable};
+ghost use Rattle.hz_mdread_model.specs.DescriptionShape.{IsCheckable, SharesAutomaton};
 
 use crate::fault::{CheckFault, LimitName};
 use crate::faults::limits::{past_automaton, past_class};
@@ -25,7 +26,7 @@ use std::alloc::Global;
 
 /// The names of a description, where no fault of names stands.
 pub(crate) fn named<'a>(alloc: Global, desc: &'a Description) -> Result<Names<'a>, CheckFault>
-    requires formed { IsCheckable (description desc.now) }
+    requires { AllPairs SharesAutomaton (description desc.now).units }
     ensures names { IfOk result (λ names. names.desc.now ≡ desc.now) }
     ensures free { IfOk result (λ _. first_told (faults_of_names (description desc.now)) ≡ None) }
     ensures err { IfErr result (Tells (IsToldAt (description desc.now))) }

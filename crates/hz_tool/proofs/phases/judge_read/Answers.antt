@@ -15,3 +15,6 @@ returns-in-Err-clause-answer c =
 
 pub judge_described-requires-clause-checkable : goal.judge_described-requires-clause-checkable
 judge_described-requires-clause-checkable c = can_be_checked (description c.in-Ok.described) c.in-Ok.ensures.formed
+
+pub judge_described-requires-clause-shared : goal.judge_described-requires-clause-shared
+judge_described-requires-clause-shared c = c.in-Ok.ensures.formed.units_share

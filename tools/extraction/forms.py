@@ -1,0 +1,132 @@
+"""Reads the forms of a machine description: lists and vectors of atoms, strings and forms, each with its line."""
+import bisect
+import dataclasses
+import re
+
+
+@dataclasses.dataclass(frozen=True)
+class Place:
+    """A line of a file, from 1."""
+    file: str
+    line: int
+
+    def __str__(self):
+        return f"{self.file}:{self.line}"
+
+
+class Fault(Exception):
+    """An input that cannot be read: where, and what is wrong there."""
+
+    def __init__(self, place, what):
+        super().__init__(f"{place}: {what}")
+
+
+class Text(str):
+    """A string, its escapes replaced."""
+
+
+class Block(str):
+    """Embedded C between braces, as it stands."""
+
+
+class Form(list):
+    """A list or a vector: its operands, its first bracket and the place where it begins."""
+
+    def __init__(self, place, bracket):
+        super().__init__()
+        self.place, self.bracket = place, bracket
+
+    def head(self):
+        """The atom that the form begins with, or None."""
+        first = self[0] if self else None
+        return str(first) if type(first) is str else None
+
+
+BLANK = r"(?:[ \t\n\v\f\r]+|;[^\n]*|/\*.*?\*/)*"
+TOKEN = re.compile(BLANK + r"""(?:
+      (?P<string> "[^"\\]*(?:\\.[^"\\]*)*" )
+    | (?P<open>   [(\[] )
+    | (?P<close>  [)\]] )
+    | (?P<block>  \{ )
+    | (?P<atom>   (?: <[^<>]*> | /(?!\*) | [^\s()\[\]{}";/] )+ )
+    | (?P<end>    \Z )
+    )?""", re.S | re.X)
+BRACE = re.compile(r"\\.|[{}]", re.S)
+UNREAD = {'"': "a string that is not closed", "/": "a comment that is not closed", "}": "a brace that closes nothing"}
+CLOSES = {")": "(", "]": "["}
+DEPTH = 200
+ESCAPES = {"\\\n": "", '\\"': '"', "\\\\": "\\"}
+
+
+class Scanner:
+    """The tokens of a text. A comment ends as in C at the first `*/`, whatever stands in it."""
+
+    def __init__(self, file, text):
+        self.file, self.text = file, text
+        self.ends = [found.start() for found in re.finditer("\n", text)]
+
+    def place(self, at):
+        return Place(self.file, bisect.bisect_left(self.ends, at) + 1)
+
+    def tokens(self):
+        """The kind, the first and the last character of each token."""
+        at = 0
+        while True:
+            found = TOKEN.match(self.text, at)
+            kind, end = found.lastgroup, found.end()
+            if kind is None:
+                raise Fault(self.place(end), UNREAD.get(self.text[end], "a character that is not allowed"))
+            start = found.start(kind)
+            if kind == "end":
+                return
+            at = self.block_end(start) if kind == "block" else end
+            yield kind, start, at
+
+    def block_end(self, start):
+        """Behind the brace that closes the one at `start`; a brace behind a backslash is none."""
+        depth = 0
+        for found in BRACE.finditer(self.text, start):
+            depth += {"{": 1, "}": -1}.get(found[0], 0)
+            if depth == 0:
+                return found.end()
+        raise Fault(self.place(start), "a brace that is not closed")
+
+    def leaf(self, kind, start, end):
+        """The atom, string or block of a token."""
+        if kind == "string":
+            inner = self.text[start + 1:end - 1]
+            return Text(re.sub(r"\\.", lambda found: ESCAPES.get(found[0], found[0]), inner, flags=re.S))
+        return Block(self.text[start:end]) if kind == "block" else self.text[start:end]
+
+
+def read_forms(file, text):
+    """The top forms of a text, all of which are lists."""
+    scanner = Scanner(file, text)
+    top, open_forms = [], []
+    for kind, start, end in scanner.tokens():
+        if kind == "open":
+            form = Form(scanner.place(start), text[start])
+            (open_forms[-1] if open_forms else top).append(form)
+            open_forms.append(form)
+            if len(open_forms) > DEPTH:
+                raise Fault(form.place, f"more than {DEPTH} brackets are open")
+        elif kind == "close":
+            if not open_forms or open_forms[-1].bracket != CLOSES[text[start]]:
+                raise Fault(scanner.place(start), f"`{text[start]}` closes nothing")
+            open_forms.pop()
+        elif open_forms:
+            open_forms[-1].append(scanner.leaf(kind, start, end))
+        else:
+            raise Fault(scanner.place(start), "this stands outside all forms")
+    if open_forms:
+        raise Fault(open_forms[-1].place, f"`{open_forms[-1].bracket}` is not closed")
+    return top
+
+
+def read_file(path, place=None):
+    """The top forms of a file; where it cannot be opened the fault is at the form that includes it."""
+    try:
+        with open(path, encoding="latin-1", newline="\n") as file:
+            return read_forms(path, file.read())
+    except OSError as error:
+        raise Fault(place or path, f"{path}: {error.strerror}" if place else error.strerror) from error
