@@ -254,12 +254,12 @@ listing_together-loop-part-preserved t c =
     let Now : List Leaf → ℕ → List (Alternative UnitPlace) → Type 0 = λ leaves cycles others. IsBeside known (before ++ e ∷ []) leaves cycles others in
     rw part.next (elim c.if-measured-eq1.branch [
       | listing_together-then-measured-eq1+in_ok-gather w ↦
-      let one = one_counted (alternatives_of (known_alternatives known) e) c.measured.result (c.measured.ensures (known_alternatives known) (right_known known e part.names_known)) w.if-measured-eq1.true in
-      let more = single_more known before e c.loop-part.leaves.keys c.loop-part.length c.loop-part.others c.loop-part.invariant part.formed at.short w.gather.new.leaves.keys w.max-length.result one w.in_ok-gather.ensures.gathered (w.max-length.ensures ∙ ap (λ (n : ℕ). max n c.loop-part.length) w.in_ok-gather.ensures.length) in
-      rw (w.leaves-is, w.length-is, w.others-is) more
+          let one = one_counted (alternatives_of (known_alternatives known) e) c.measured.result (c.measured.ensures (known_alternatives known) (right_known known e part.names_known)) w.if-measured-eq1.true in
+          let more = single_more known before e c.loop-part.leaves.keys c.loop-part.length c.loop-part.others c.loop-part.invariant part.formed at.short w.gather.new.leaves.keys w.max-length.result one w.in_ok-gather.ensures.gathered (w.max-length.ensures ∙ ap (λ (n : ℕ). max n c.loop-part.length) w.in_ok-gather.ensures.length) in
+          rw (w.leaves-is, w.length-is, w.others-is) more
       | listing_together-else-measured-eq1+in_ok-more+in_ok-others-2 w ↦
-      let more = others_more known before e c.loop-part.leaves.keys c.loop-part.length c.loop-part.others c.loop-part.invariant part.formed at.short part.names_known w.in_ok-others-2.others (w.in_ok-others-2.ensures.ok ∙ ap (joins c.loop-part.others) w.in_ok-more.ensures.ok) in
-      rw (w.leaves-is, w.length-is, w.others-is) more
+          let more = others_more known before e c.loop-part.leaves.keys c.loop-part.length c.loop-part.others c.loop-part.invariant part.formed at.short part.names_known w.in_ok-others-2.others (w.in_ok-others-2.ensures.ok ∙ ap (joins c.loop-part.others) w.in_ok-more.ensures.ok) in
+          rw (w.leaves-is, w.length-is, w.others-is) more
     ])
 
 abbrev alternative : List (Pair UnitPlace) → ℕ → Alternative UnitPlace
