@@ -1,7 +1,8 @@
 #!/bin/sh
 # Times the check of descriptions of 1, 2 and 4 MB, the least of five runs of `hz replay` each: tens of thousands of
 # reservations, attributes and bypasses; an automaton of a long name with one set of many units, which are too many for
-# it; and a reservation of 524,288 pairs that stands beside itself as often as the text has room.
+# it; and a reservation of up to 524,288 pairs that stands beside itself as often as the text has room: by itself, repeated
+# once or twice, before a unit, behind one, and in a part of a part; or units repeated 256 times in its place.
 hz=$1
 . "$(dirname "$0")/../common.sh"
 
@@ -29,9 +30,10 @@ long_name() {
     }'
 }
 
-# beside_itself BYTES: a reservation of all pairs that there can be, as often beside itself as there is room
-beside_itself() {
-    awk -v most="$1" 'BEGIN {
+# beside CYCLES PART BYTES: a reservation q of all pairs that there can be in so many cycles, and a class in which parts of
+# this form stand beside one another as often as there is room; in a part U and V stand for units, each time others
+beside() {
+    awk -v cycles="$1" -v part="$2" -v most="$3" 'BEGIN {
         automata = "a0"
         for (a = 1; a < 16; a++) automata = automata ",a" a
         printf "(define_automaton \"%s\")\n", automata
@@ -44,14 +46,28 @@ beside_itself() {
             }
             printf "(define_cpu_unit \"%s\" \"a%d\")\n", units, a
         }
-        printf "(define_reservation \"q\" \"(%s)*256\")\n(define_insn_reservation \"c\" 1 (const_int 1) \"q", all
-        for (i = 0; i < (most - 50000) / 2; i++) printf "+q"
+        printf "(define_reservation \"q\" \"(%s)*%d\")\n(define_insn_reservation \"c\" 1 (const_int 1) \"q", all, cycles
+        for (i = 0; size < most - 50000; i++) {
+            line = part
+            gsub("U", "u" (i % 16) "_" (i % 128), line)
+            gsub("V", "u" (i % 16) "_" (i % 127), line)
+            printf "+%s", line
+            size += length(line) + 1
+        }
         print "\")"
     }'
 }
 
+beside_itself() { beside 256 'q' "$1"; }
+repeated_once() { beside 256 'q*1' "$1"; }
+before_units() { beside 255 '(q,U)' "$1"; }
+behind_units() { beside 255 '(U,q)' "$1"; }
+repeated_twice() { beside 128 '(q*2)' "$1"; }
+inside_parts() { beside 255 '((q+U),V)' "$1"; }
+unit_repeated() { beside 256 'U*256' "$1"; }
+
 echo "kind bytes ms MB_a_second doubling"
-for kind in forms long_name beside_itself; do
+for kind in forms long_name beside_itself repeated_once before_units behind_units repeated_twice inside_parts unit_repeated; do
     before=
     for mega in 1 2 4; do
         text=$data/check_${kind}_$mega

@@ -14,5 +14,7 @@ pub mod ListedLemmas
 pub mod KnownLemmas
 pub mod HalfLemmas
 pub mod ExpandLemmas
+pub mod LeafLemmas
+pub mod GatherLemmas
+pub mod BesideLemmas
 pub mod CutLemmas
-pub mod CondensingLemmas

@@ -5,4 +5,4 @@ pub mod Tables
 pub mod Answers
 pub mod Cuts
 pub mod Merging
-pub mod Condensing
+pub mod Leaves

@@ -5,7 +5,7 @@ ghost use Rattle.hz_altern.specs.Answers.{Expands, Refuses};
 ghost use Rattle.hz_altern.specs.Joinings.{IsListed, joined_by, joined_parts, listed_lists};
 ghost use Rattle.hz_altern.specs.Shapes.{alternative_of, alternatives};
 ghost use Rattle.hz_altern.specs.Tables.{alternatives_in, known_alternatives, is_held};
-ghost use Rattle.hz_altern_model.specs.Alternatives.{alternatives_of, each_choice, copies, idle, parts_of};
+ghost use Rattle.hz_altern_model.specs.Alternatives.{alternatives_of, together, each_choice, copies, idle, parts_of};
 ghost use Rattle.hz_altern_model.specs.AlternativeLists.{AreSound, greatest_length};
 ghost use Rattle.hz_altern_model.specs.Automata.{listed};
 ghost use Rattle.hz_altern_model.specs.Expressions.{is_expression, are_expressions};
@@ -14,15 +14,16 @@ ghost use Rattle.hz_altern_model.specs.NamesIn.{all_names, all_names_in};
 ghost use Rattle.hz_regexp.specs.Shape.{expression, expressions};
 
 use crate::alternative::Alt;
-use crate::condensing::condensed;
 use crate::counting::measured;
 use crate::fault::AlternFault;
 use crate::joining::{Joining, joined};
 use crate::known::Known;
+use crate::leaves::{gather, pairs};
 use crate::listing::Listing;
 use crate::mark::Mark;
 use crate::measure::{ALTERNATIVE_LIMIT, CYCLE_LIMIT};
 use hz_regexp::Expr;
+use indexmap::IndexSet;
 use std::alloc::Global;
 
 /// Lists copies of alternatives.
@@ -104,6 +105,22 @@ fn in_sequence(alloc: Global, first: &Listing, second: &Listing) -> Result<Listi
     )
 }
 
+/// The alternatives of two lists from the same cycle on.
+fn together(alloc: Global, first: &Listing, second: &Listing) -> Result<Listing, AlternFault>
+    requires first { All IsListed first.now }
+    requires second { All IsListed second.now }
+    requires short { greatest_length (each_choice (joined_by Joining.Together) first.now second.now) ≤ cycle_limit }
+    ensures ok { IfOk result (λ listing. listing ≡ each_choice (joined_by Joining.Together) first.now second.now) }
+    ensures err { IfErr result (Refuses (each_choice (joined_by Joining.Together) first.now second.now)) }
+{
+    choices(
+        alloc,
+        Joining::Together,
+        first.as_slice(),
+        second.as_slice(),
+    )
+}
+
 /// The alternatives of so many copies one after another, each of which chooses by itself. The number is halved until one
 /// is left, so that no pair is copied much more often than it stands in the answer.
 fn copies(alloc: Global, once: &Listing, times: u32) -> Result<Listing, AlternFault>
@@ -141,12 +158,7 @@ fn joined_lists(
     match mark {
         Mark::Comma => in_sequence(alloc, &first, &second),
         Mark::Bar => first.with(second),
-        Mark::Plus => choices(
-            alloc,
-            Joining::Together,
-            first.as_slice(),
-            second.as_slice(),
-        ),
+        Mark::Plus => together(alloc, &first, &second),
     }
 }
 
@@ -167,7 +179,7 @@ fn listing(alloc: Global, expr: &Expr, known: &Known) -> Result<Listing, AlternF
         Expr::Nothing => idle(alloc),
         Expr::Seq(parts) => listing_parts(alloc, parts, Mark::Comma, known),
         Expr::Oneof(parts) => listing_parts(alloc, parts, Mark::Bar, known),
-        Expr::Allof(parts) => listing_parts(alloc, parts, Mark::Plus, known),
+        Expr::Allof(parts) => listing_together(alloc, parts, known),
         Expr::Repeat(part, times) => {
             let once = listing(alloc, part, known)?;
             copies(alloc, &once, *times)
@@ -201,6 +213,34 @@ fn listing_parts(
     joined_lists(alloc, mark, first, second)
 }
 
+/// The alternatives of parts that begin in the same cycle, of which none is too long. Parts with one alternative are taken
+/// apart into names, each from its cycle on, so that the pairs of a name are joined once for each cycle in which it begins.
+#[cycle(listing)]
+fn listing_together(alloc: Global, parts: &[Expr], known: &Known) -> Result<Listing, AlternFault>
+    requires some { 0 < length parts.now }
+    requires formed { IsTrue (are_expressions (parts_of (expressions parts.now))) }
+    requires known { IsTrue (all_names_in (is_held (alternatives_in known.now)) (parts_of (expressions parts.now))) }
+    requires short { greatest_length (together (known_alternatives known.now) (parts_of (expressions parts.now))) ≤ cycle_limit }
+    ensures ok { IfOk result (λ listing. listing ≡ map listed (together (known_alternatives known.now) (parts_of (expressions parts.now)))) }
+    ensures err { IfErr result (Refuses (map listed (together (known_alternatives known.now) (parts_of (expressions parts.now))))) }
+{
+    let mut leaves = IndexSet::new(alloc);
+    let mut length = 1;
+    let mut others = idle(alloc)?;
+    for part in parts {
+        if measured(part, known).count == 1 {
+            length = gather(alloc, part, 0, known, &mut leaves)?.max(length);
+        } else {
+            let more = listing(alloc, part, known)?;
+            others = together(alloc, &others, &more)?;
+        }
+    }
+    let pairs = pairs(alloc, leaves.as_slice(), known)?;
+    let mut single = Listing::new(alloc);
+    single.push(Alt { pairs, length })?;
+    together(alloc, &single, &others)
+}
+
 /// The alternatives of a well-formed expression in their order, where each name in it is known. Choices are ordered with
 /// the leftmost part most significant, and equal alternatives stand each time. They are counted before they are made: the
 /// first limit that they pass is told, of number, cycles and size, else `NoMemory` where there was none. This profile,
@@ -218,6 +258,5 @@ pub fn expand(alloc: Global, expr: &Expr, known: &Known) -> Result<Vec<Alt>, Alt
     if extent.longest > CYCLE_LIMIT {
         return Err(AlternFault::CyclesLimit);
     }
-    let lean = condensed(alloc, expr, known)?;
-    Ok(listing(alloc, &lean, known)?.into_alts())
+    Ok(listing(alloc, expr, known)?.into_alts())
 }

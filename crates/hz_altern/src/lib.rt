@@ -3,13 +3,13 @@
 #![tactic(auto)]
 
 mod alternative;
-mod condensing;
 mod counting;
 mod expanding;
 mod extents;
 mod fault;
 mod joining;
 mod known;
+mod leaves;
 mod listing;
 mod mark;
 mod measure;

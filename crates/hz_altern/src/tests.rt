@@ -69,7 +69,8 @@ fn expanded(
     Ok(expand(alloc, &expr, known))
 }
 
-// The units a to d of automaton 0 and p of automaton 1, and the reservation R, which is `a|(b,c)`.
+// The units a to d of automaton 0 and p of automaton 1, and the reservations R, which is `a|(b,c)`, S, `a,b`, and T,
+// `a,nothing`.
 fn units(rt: &impl Abort, alloc: Global) -> Result<Known, Fail> {
     let mut known = Known::new(alloc);
     for (bytes, automaton, unit) in [
@@ -83,10 +84,17 @@ fn units(rt: &impl Abort, alloc: Global) -> Result<Known, Fail> {
         assert!(rt; known.extent(&name).is_none());
         known.add_unit(&name, automaton, unit)?;
     }
-    let alts = expanded(rt, alloc, &known, "a|(b,c)")?.expect(rt, "alternatives");
-    let name = name(rt, alloc, b"R")?;
-    assert!(rt; known.extent(&name).is_none());
-    known.add_reservation(&name, alts)?;
+    for (bytes, text) in [
+        (b"R".as_slice(), "a|(b,c)"),
+        (b"S", "a,b"),
+        (b"T", "a,nothing"),
+    ] {
+        assert!(rt; text.len() < 100);
+        let alts = expanded(rt, alloc, &known, text)?.expect(rt, "alternatives");
+        let name = name(rt, alloc, bytes)?;
+        assert!(rt; known.extent(&name).is_none());
+        known.add_reservation(&name, alts)?;
+    }
     Ok(known)
 }
 
@@ -179,6 +187,24 @@ fn expressions_have_these_alternatives(rt: HostRuntime) -> Result<(), Fail> {
         ("R+R", "a0/1|a0b0c1/2|a0b0c1/2|b0c1/2"),
         ("p+a", "a0p0/1"),
         ("d+(nothing,p)", "d0p1/2"),
+        ("S*1+S*1", "a0b1/2"),
+        ("(S,c)+(S,d)", "a0b1c2d2/3"),
+        ("(c,S)+(d,S)", "c0d0a1b2/3"),
+        ("(S*2)+(S*2)+c", "a0c0b1a2b3/4"),
+        ("((S+c),d)+((S+d),c)", "a0c0d0b1c2d2/3"),
+        ("S+(nothing,S)", "a0a1b1b2/3"),
+        ("(T,b)+(T,c)", "a0b2c2/3"),
+        ("T+(b,nothing,nothing)", "a0b0/3"),
+        ("(a,nothing*3)+b", "a0b0/4"),
+        ("(nothing*2)+a", "a0/2"),
+        ("nothing+nothing", "/1"),
+        ("((a+b),nothing)*2+d", "a0b0d0a2b2/4"),
+        ("(S+T)*2", "a0b1a2b3/4"),
+        ("((S,c)*2+(S*3,d))+nothing*9", "a0b1a2c2a3b3a4b4b5c5d6/9"),
+        ("R+S", "a0b1/2|a0b0b1c1/2"),
+        ("(S|c)+S", "a0b1/2|a0c0b1/2"),
+        ("S+(S|c)+S+(d|S)", "a0d0b1/2|a0b1/2|a0c0d0b1/2|a0c0b1/2"),
+        ("(c,(a|b))+(d,S)*1", "c0d0a1b2/3|c0d0a1b1b2/3"),
     ] {
         assert!(rt; text.len() < 100);
         let alts = expanded(&rt, alloc, &known, text)?.expect(&rt, "alternatives");

@@ -1,21 +1,30 @@
-use Rattle.std.proofs.Common.{◌≡◌, ◌+◌, ◌≤◌, map, Some, All, sym, ap, ◌∙◌, subst, rules}
-use Rattle.std.specs.Prelude.{IsTrue}
+use Rattle.std.proofs.Common.{◌≡◌, ℕ, ◌+◌, ◌<◌, ◌≤◌, max, [], ◌∷◌, ◌++◌, List, length, map, take, Some, All, sym, ap, ◌∙◌, subst, arith, rules}
+use Rattle.std.specs.Prelude.{IsTrue, IfOk, IfErr}
 use Rattle.std.proofs.lemmas.Result.{err_from_is_err_and}
 use Rattle.hz_base_model.specs.Limits.{cycle_limit}
-use Rattle.hz_regexp.specs.Shape.{expression}
+use Rattle.hz_base_model.specs.Pairs.{Pair}
+use Rattle.hz_altern.specs.Answers.{Refuses}
+use Rattle.hz_regexp.specs.Shape.{expression, expressions}
 use Rattle.hz_altern.specs.Joinings.{IsListed}
-use Rattle.hz_altern.specs.Shapes.{alternatives}
+use Rattle.hz_altern.specs.Shapes.{alternatives, pairs_of}
 use Rattle.hz_altern.specs.Tables.{alternatives_in, known_alternatives, is_held}
+use Rattle.std.proofs.lemmas.List.{take_all, length-map}
+use Rattle.hz_altern.proofs.BesideLemmas.{IsBeside, joins, as_one, none_beside, single_more, listed_more, short_more, others_more, refused_more, refused_part, beside_at, listed_single, short_both, all_beside, refused_single}
+use Rattle.hz_altern.proofs.GatherLemmas.{part_at, one_counted, held_extent}
+use Rattle.hz_altern.specs.Leaves.{leaves_pairs}
+use Rattle.hz_altern.specs.declared.leaves.Leaf.{Leaf}
+use Rattle.hz_regexp.specs.declared.expr.Expr.{Expr}
 use Rattle.hz_altern.proofs.HalfLemmas.{halved, single, repeated}
-use Rattle.hz_altern.proofs.KnownLemmas.{named_listed}
+use Rattle.hz_altern.proofs.KnownLemmas.{named_listed, right_known}
 use Rattle.hz_altern.proofs.Nodes.{nodes, nodes_of_repeat}
 use Rattle.hz_altern.proofs.Shapes.{named_is}
-use Rattle.hz_altern_model.specs.Alternatives.{named, alternatives_of}
+use Rattle.hz_altern_model.specs.Alternatives.{Alternative, named, alternatives_of}
 use Rattle.hz_altern_model.specs.AlternativeLists.{greatest_length}
-use Rattle.hz_altern_model.specs.Automata.{listed}
+use Rattle.hz_altern_model.specs.Automata.{UnitPlace, ascending, listed}
 use Rattle.hz_altern_model.specs.Expressions.{is_expression}
 use Rattle.hz_altern_model.specs.NamesIn.{all_names}
 use Rattle.hz_altern.proofs.expanding.+listing.Goals as goal
+use Rattle.hz_altern.proofs.expanding.+listing.Goals.{listing_together-then-measured-eq1+in_ok-gather, listing_together-else-measured-eq1+in_ok-more+in_ok-others-2}
 
 pub listing_parts-listing-requires : goal.listing_parts-listing-requires
 listing_parts-listing-requires t c =
@@ -156,3 +165,158 @@ listing-returns-in-Some-clause-err t c =
     let all : alternatives c.deref.result.now ≡ map listed (alternatives_of (known_alternatives known) (expression c.args.expr.now)) =
     ap alternatives c.deref.ensures.value ∙ (named_listed known c.in-Named.name _ there ∙ ap (λ e. map listed (alternatives_of (known_alternatives known) e)) (sym is)) in
     rw (← all) c.copied.ensures.err
+
+pub listing_together-loop-part-init : goal.listing_together-loop-part-init
+listing_together-loop-part-init t c = none_beside c.args.known.now c.new-leaves.result.keys c.in_ok-others.others c.new-leaves.ensures.empty c.in_ok-others.ensures.ok
+
+pub listing_together-measured-requires-clause-formed : goal.listing_together-measured-requires-clause-formed
+listing_together-measured-requires-clause-formed t c =
+    let part = part_at (is_held (alternatives_in c.args.known.now)) c.args.parts.now c.loop-part.part-index c.part-item.result c.loop-part-test.true c.part-item.is c.requires.formed c.requires.known in
+    part.formed
+
+pub listing_together-measured-requires-clause-held : goal.listing_together-measured-requires-clause-held
+listing_together-measured-requires-clause-held t c =
+    let part = part_at (is_held (alternatives_in c.args.known.now)) c.args.parts.now c.loop-part.part-index c.part-item.result c.loop-part-test.true c.part-item.is c.requires.formed c.requires.known in
+    held_extent c.args.known.now (expression c.part-item.result) part.names_known
+
+pub listing_together-gather-requires-clause-formed : goal.listing_together-gather-requires-clause-formed
+listing_together-gather-requires-clause-formed t c =
+    let part = part_at (is_held (alternatives_in c.args.known.now)) c.args.parts.now c.loop-part.part-index c.part-item.result c.loop-part-test.true c.part-item.is c.requires.formed c.requires.known in
+    part.formed
+
+pub listing_together-gather-requires-clause-held : goal.listing_together-gather-requires-clause-held
+listing_together-gather-requires-clause-held t c =
+    let part = part_at (is_held (alternatives_in c.args.known.now)) c.args.parts.now c.loop-part.part-index c.part-item.result c.loop-part-test.true c.part-item.is c.requires.formed c.requires.known in
+    part.names_known
+
+pub listing_together-gather-requires-clause-one : goal.listing_together-gather-requires-clause-one
+listing_together-gather-requires-clause-one t c =
+    let part = part_at (is_held (alternatives_in c.args.known.now)) c.args.parts.now c.loop-part.part-index c.part-item.result c.loop-part-test.true c.part-item.is c.requires.formed c.requires.known in
+    one_counted (alternatives_of (known_alternatives c.args.known.now) (expression c.part-item.result)) c.measured.result (c.measured.ensures (known_alternatives c.args.known.now) (right_known c.args.known.now (expression c.part-item.result) part.names_known)) c.if-measured-eq1.true
+
+pub listing_together-gather-requires-clause-short : goal.listing_together-gather-requires-clause-short
+listing_together-gather-requires-clause-short t c =
+    let at = beside_at c.args.known.now c.args.parts.now c.loop-part.part-index c.part-item.result c.loop-part-test.true c.part-item.is c.requires.formed c.requires.known c.requires.short in
+    let short = at.short in
+    omega arith
+
+pub listing_together-listing-requires : goal.listing_together-listing-requires
+listing_together-listing-requires t c =
+    let part = part_at (is_held (alternatives_in c.args.known.now)) c.args.parts.now c.loop-part.part-index c.part-item.result c.loop-part-test.true c.part-item.is c.requires.formed c.requires.known in
+    let at = beside_at c.args.known.now c.args.parts.now c.loop-part.part-index c.part-item.result c.loop-part-test.true c.part-item.is c.requires.formed c.requires.known c.requires.short in
+    let formed = part.formed in
+    let names_known = part.names_known in
+    let fewer = part.fewer in
+    let short = at.short in
+    search rules
+
+pub listing_together-returns-in_err-more-clause-err : goal.listing_together-returns-in_err-more-clause-err
+listing_together-returns-in_err-more-clause-err t c =
+    let part = part_at (is_held (alternatives_in c.args.known.now)) c.args.parts.now c.loop-part.part-index c.part-item.result c.loop-part-test.true c.part-item.is c.requires.formed c.requires.known in
+    let at = beside_at c.args.known.now c.args.parts.now c.loop-part.part-index c.part-item.result c.loop-part-test.true c.part-item.is c.requires.formed c.requires.known c.requires.short in
+    let before = expressions (take c.loop-part.part-index c.args.parts.now) in
+    let e = expression c.part-item.result in
+    let p = err_from_is_err_and c.from_residual-in_err-more.result c.from_residual-in_err-more.ensures.1 in
+    rw (p.1, p.2) (at.refused _ (refused_part c.args.known.now before e c.loop-part.leaves.keys c.loop-part.length c.loop-part.others c.loop-part.invariant part.formed at.short part.names_known _ c.in_err-more.ensures.err))
+
+pub listing_together-together-requires-clause-second : goal.listing_together-together-requires-clause-second
+listing_together-together-requires-clause-second t c =
+    let part = part_at (is_held (alternatives_in c.args.known.now)) c.args.parts.now c.loop-part.part-index c.part-item.result c.loop-part-test.true c.part-item.is c.requires.formed c.requires.known in
+    let at = beside_at c.args.known.now c.args.parts.now c.loop-part.part-index c.part-item.result c.loop-part-test.true c.part-item.is c.requires.formed c.requires.known c.requires.short in
+    let before = expressions (take c.loop-part.part-index c.args.parts.now) in
+    let e = expression c.part-item.result in
+    rw c.in_ok-more.ensures.ok (listed_more c.args.known.now before e c.loop-part.leaves.keys c.loop-part.length c.loop-part.others c.loop-part.invariant part.formed at.short part.names_known)
+
+pub listing_together-together-requires-clause-short : goal.listing_together-together-requires-clause-short
+listing_together-together-requires-clause-short t c =
+    let part = part_at (is_held (alternatives_in c.args.known.now)) c.args.parts.now c.loop-part.part-index c.part-item.result c.loop-part-test.true c.part-item.is c.requires.formed c.requires.known in
+    let at = beside_at c.args.known.now c.args.parts.now c.loop-part.part-index c.part-item.result c.loop-part-test.true c.part-item.is c.requires.formed c.requires.known c.requires.short in
+    let before = expressions (take c.loop-part.part-index c.args.parts.now) in
+    let e = expression c.part-item.result in
+    rw c.in_ok-more.ensures.ok (short_more c.args.known.now before e c.loop-part.leaves.keys c.loop-part.length c.loop-part.others c.loop-part.invariant part.formed at.short part.names_known)
+
+pub listing_together-returns-in_err-others-2-clause-err : goal.listing_together-returns-in_err-others-2-clause-err
+listing_together-returns-in_err-others-2-clause-err t c =
+    let part = part_at (is_held (alternatives_in c.args.known.now)) c.args.parts.now c.loop-part.part-index c.part-item.result c.loop-part-test.true c.part-item.is c.requires.formed c.requires.known in
+    let at = beside_at c.args.known.now c.args.parts.now c.loop-part.part-index c.part-item.result c.loop-part-test.true c.part-item.is c.requires.formed c.requires.known c.requires.short in
+    let before = expressions (take c.loop-part.part-index c.args.parts.now) in
+    let e = expression c.part-item.result in
+    let p = err_from_is_err_and c.from_residual-in_err-others-2.result c.from_residual-in_err-others-2.ensures.1 in
+    rw (p.1, p.2) (at.refused _ (refused_more c.args.known.now before e c.loop-part.leaves.keys c.loop-part.length c.loop-part.others c.loop-part.invariant part.formed at.short part.names_known _ (rw c.in_ok-more.ensures.ok at c.in_err-others-2.ensures.err)))
+
+pub listing_together-loop-part-preserved : goal.listing_together-loop-part-preserved
+listing_together-loop-part-preserved t c =
+    let part = part_at (is_held (alternatives_in c.args.known.now)) c.args.parts.now c.loop-part.part-index c.part-item.result c.loop-part-test.true c.part-item.is c.requires.formed c.requires.known in
+    let at = beside_at c.args.known.now c.args.parts.now c.loop-part.part-index c.part-item.result c.loop-part-test.true c.part-item.is c.requires.formed c.requires.known c.requires.short in
+    let before = expressions (take c.loop-part.part-index c.args.parts.now) in
+    let e = expression c.part-item.result in
+    let known = c.args.known.now in
+    let Now : List Leaf → ℕ → List (Alternative UnitPlace) → Type 0 = λ leaves cycles others. IsBeside known (before ++ e ∷ []) leaves cycles others in
+    rw part.next (elim c.if-measured-eq1.branch [
+      | listing_together-then-measured-eq1+in_ok-gather w ↦
+          let one = one_counted (alternatives_of (known_alternatives known) e) c.measured.result (c.measured.ensures (known_alternatives known) (right_known known e part.names_known)) w.if-measured-eq1.true in
+          let more = single_more known before e c.loop-part.leaves.keys c.loop-part.length c.loop-part.others c.loop-part.invariant part.formed at.short w.gather.new.leaves.keys w.max-length.result one w.in_ok-gather.ensures.gathered (w.max-length.ensures ∙ ap (λ (n : ℕ). max n c.loop-part.length) w.in_ok-gather.ensures.length) in
+          rw (w.leaves-is, w.length-is, w.others-is) more
+      | listing_together-else-measured-eq1+in_ok-more+in_ok-others-2 w ↦
+          let more = others_more known before e c.loop-part.leaves.keys c.loop-part.length c.loop-part.others c.loop-part.invariant part.formed at.short part.names_known w.in_ok-others-2.others (w.in_ok-others-2.ensures.ok ∙ ap (joins c.loop-part.others) w.in_ok-more.ensures.ok) in
+          rw (w.leaves-is, w.length-is, w.others-is) more
+    ])
+
+abbrev alternative : List (Pair UnitPlace) → ℕ → Alternative UnitPlace
+alternative pairs cycles = record { pairs = pairs; cycles = cycles }
+
+pub listing_together-returns-in_err-push-clause-err : goal.listing_together-returns-in_err-push-clause-err
+listing_together-returns-in_err-push-clause-err t c =
+    let known = c.args.known.now in
+    let es = expressions c.args.parts.now in
+    let some : 0 < length es = simp length-map c.requires.some in
+    let are : IsBeside known es c.loop-part.leaves.keys c.loop-part.length c.loop-part.others = subst (λ (ps : List Expr). IsBeside known (expressions ps) c.loop-part.leaves.keys c.loop-part.length c.loop-part.others) (take_all c.loop-part.part-index c.args.parts.now c.loop-part-test.false) c.loop-part.invariant in
+    let made : pairs_of c.in_ok-pairs.pairs.items ≡ ascending (leaves_pairs known c.loop-part.leaves.keys) = c.in_ok-pairs.ensures ∙ ap (λ ls. ascending (leaves_pairs known ls)) c.as_slice.ensures.keys in
+    let p = err_from_is_err_and c.from_residual-in_err-push.result c.from_residual-in_err-push.ensures.1 in
+    rw (p.1, p.2) (refused_single known es c.loop-part.leaves.keys c.loop-part.length c.loop-part.others are some c.requires.formed _ (subst (λ ps. Refuses (alternative ps c.loop-part.length ∷ []) c.in_err-push.field-0.0) made (rw c.new-single.ensures at c.in_err-push.ensures.err)))
+
+pub listing_together-together-requires-2-clause-first : goal.listing_together-together-requires-2-clause-first
+listing_together-together-requires-2-clause-first t c =
+    let known = c.args.known.now in
+    let es = expressions c.args.parts.now in
+    let some : 0 < length es = simp length-map c.requires.some in
+    let are : IsBeside known es c.loop-part.leaves.keys c.loop-part.length c.loop-part.others = subst (λ (ps : List Expr). IsBeside known (expressions ps) c.loop-part.leaves.keys c.loop-part.length c.loop-part.others) (take_all c.loop-part.part-index c.args.parts.now c.loop-part-test.false) c.loop-part.invariant in
+    let made : pairs_of c.in_ok-pairs.pairs.items ≡ ascending (leaves_pairs known c.loop-part.leaves.keys) = c.in_ok-pairs.ensures ∙ ap (λ ls. ascending (leaves_pairs known ls)) c.as_slice.ensures.keys in
+    let this : List (Alternative UnitPlace) = listed (as_one known c.loop-part.leaves.keys c.loop-part.length) ∷ [] in
+    let pushed : c.push.new.self ≡ this = (rw c.new-single.ensures at c.in_ok-push.ensures.ok) ∙ ap (λ ps. alternative ps c.loop-part.length ∷ []) made in
+    subst (All IsListed) (sym pushed) (listed_single known es c.loop-part.leaves.keys c.loop-part.length c.loop-part.others are some c.requires.formed)
+
+pub listing_together-together-requires-2-clause-short : goal.listing_together-together-requires-2-clause-short
+listing_together-together-requires-2-clause-short t c =
+    let known = c.args.known.now in
+    let es = expressions c.args.parts.now in
+    let some : 0 < length es = simp length-map c.requires.some in
+    let are : IsBeside known es c.loop-part.leaves.keys c.loop-part.length c.loop-part.others = subst (λ (ps : List Expr). IsBeside known (expressions ps) c.loop-part.leaves.keys c.loop-part.length c.loop-part.others) (take_all c.loop-part.part-index c.args.parts.now c.loop-part-test.false) c.loop-part.invariant in
+    let made : pairs_of c.in_ok-pairs.pairs.items ≡ ascending (leaves_pairs known c.loop-part.leaves.keys) = c.in_ok-pairs.ensures ∙ ap (λ ls. ascending (leaves_pairs known ls)) c.as_slice.ensures.keys in
+    let this : List (Alternative UnitPlace) = listed (as_one known c.loop-part.leaves.keys c.loop-part.length) ∷ [] in
+    let pushed : c.push.new.self ≡ this = (rw c.new-single.ensures at c.in_ok-push.ensures.ok) ∙ ap (λ ps. alternative ps c.loop-part.length ∷ []) made in
+    rw pushed (short_both known es c.loop-part.leaves.keys c.loop-part.length c.loop-part.others are some c.requires.formed)
+
+pub listing_together-returns-clause-ok : goal.listing_together-returns-clause-ok
+listing_together-returns-clause-ok t c =
+    let known = c.args.known.now in
+    let es = expressions c.args.parts.now in
+    let some : 0 < length es = simp length-map c.requires.some in
+    let are : IsBeside known es c.loop-part.leaves.keys c.loop-part.length c.loop-part.others = subst (λ (ps : List Expr). IsBeside known (expressions ps) c.loop-part.leaves.keys c.loop-part.length c.loop-part.others) (take_all c.loop-part.part-index c.args.parts.now c.loop-part-test.false) c.loop-part.invariant in
+    let made : pairs_of c.in_ok-pairs.pairs.items ≡ ascending (leaves_pairs known c.loop-part.leaves.keys) = c.in_ok-pairs.ensures ∙ ap (λ ls. ascending (leaves_pairs known ls)) c.as_slice.ensures.keys in
+    let this : List (Alternative UnitPlace) = listed (as_one known c.loop-part.leaves.keys c.loop-part.length) ∷ [] in
+    let pushed : c.push.new.self ≡ this = (rw c.new-single.ensures at c.in_ok-push.ensures.ok) ∙ ap (λ ps. alternative ps c.loop-part.length ∷ []) made in
+    let joined = ap (λ xs. joins xs c.loop-part.others) pushed ∙ all_beside known es c.loop-part.leaves.keys c.loop-part.length c.loop-part.others are some c.requires.formed in
+    subst (λ (xs : List (Alternative UnitPlace)). IfOk c.together-2.result (λ listing. listing ≡ xs)) joined c.together-2.ensures.ok
+
+pub listing_together-returns-clause-err : goal.listing_together-returns-clause-err
+listing_together-returns-clause-err t c =
+    let known = c.args.known.now in
+    let es = expressions c.args.parts.now in
+    let some : 0 < length es = simp length-map c.requires.some in
+    let are : IsBeside known es c.loop-part.leaves.keys c.loop-part.length c.loop-part.others = subst (λ (ps : List Expr). IsBeside known (expressions ps) c.loop-part.leaves.keys c.loop-part.length c.loop-part.others) (take_all c.loop-part.part-index c.args.parts.now c.loop-part-test.false) c.loop-part.invariant in
+    let made : pairs_of c.in_ok-pairs.pairs.items ≡ ascending (leaves_pairs known c.loop-part.leaves.keys) = c.in_ok-pairs.ensures ∙ ap (λ ls. ascending (leaves_pairs known ls)) c.as_slice.ensures.keys in
+    let this : List (Alternative UnitPlace) = listed (as_one known c.loop-part.leaves.keys c.loop-part.length) ∷ [] in
+    let pushed : c.push.new.self ≡ this = (rw c.new-single.ensures at c.in_ok-push.ensures.ok) ∙ ap (λ ps. alternative ps c.loop-part.length ∷ []) made in
+    let joined = ap (λ xs. joins xs c.loop-part.others) pushed ∙ all_beside known es c.loop-part.leaves.keys c.loop-part.length c.loop-part.others are some c.requires.formed in
+    subst (λ (xs : List (Alternative UnitPlace)). IfErr c.together-2.result (Refuses xs)) joined c.together-2.ensures.err

@@ -1,5 +1,7 @@
-use Rattle.std.proofs.Common.{◌+◌, ◌*◌}
+use Rattle.std.proofs.Common.{◌+◌, ◌*◌, take}
+use Rattle.hz_altern.proofs.BesideLemmas.{IsBeside}
 use Rattle.hz_altern.proofs.Nodes.{nodes, all_nodes}
+use Rattle.hz_regexp.specs.Shape.{expressions}
 use Rattle.hz_altern.proofs.expanding.+listing.Given as goal
 
 abbrev pub decreases-listing : goal.decreases-listing
@@ -7,3 +9,10 @@ decreases-listing l = 2 * nodes l.expr.now
 
 abbrev pub decreases-listing_parts : goal.decreases-listing_parts
 decreases-listing_parts l = 2 * all_nodes l.parts.now + 1
+
+abbrev pub decreases-listing_together : goal.decreases-listing_together
+decreases-listing_together l = 2 * all_nodes l.parts.now + 1
+
+-- the parts so far
+abbrev pub invariant-listing_together-loop-part : goal.invariant-listing_together-loop-part
+invariant-listing_together-loop-part l = IsBeside l.known (expressions (take l.part-index l.parts)) l.leaves.keys l.length l.others

@@ -1,13 +1,11 @@
-use Rattle.std.proofs.Common.{◌≡◌, ℕ, ◌≤◌, ap, sym, ◌∙◌, subst}
+use Rattle.std.proofs.Common.{sym, ◌∙◌, subst}
 use Rattle.std.proofs.lemmas.Result.{err_from_is_err_and}
 use Rattle.hz_altern.specs.Tables.{known_alternatives}
 use Rattle.hz_altern.proofs.KnownLemmas.{right_known, some_of, placed_of}
 use Rattle.hz_altern.proofs.ExpandLemmas.{many, few, short, long, within, refused, sound}
 use Rattle.hz_regexp.specs.Shape.{expression}
 use Rattle.hz_altern_model.specs.Alternatives.{alternatives_of}
-use Rattle.hz_altern_model.specs.AlternativeLists.{AreSound, greatest_length}
-use Rattle.hz_base_model.specs.Limits.{cycle_limit}
-use Rattle.hz_altern.proofs.HalfLemmas.{greatest-listed}
+use Rattle.hz_altern_model.specs.AlternativeLists.{AreSound}
 use Rattle.hz_altern.proofs.expanding.expand.Goals as goal
 
 pub returns-then-extent-gt-ALTERNATIVE_LIMIT-clause-answer : goal.returns-then-extent-gt-ALTERNATIVE_LIMIT-clause-answer
@@ -29,11 +27,7 @@ listing-requires-clause-short c =
     let known = c.args.known.now in
     let e = expression c.args.expr.now in
     let is = c.measured-extent.ensures (known_alternatives known) (right_known known e c.requires.known) in
-    let same = c.in_ok-lean.ensures.same in
-    let lean = alternatives_of (known_alternatives known) (expression c.in_ok-lean.lean) in
-    let all = alternatives_of (known_alternatives known) e in
-    let long : greatest_length lean ≡ greatest_length all = sym (greatest-listed lean) ∙ (ap greatest_length same ∙ greatest-listed all) in
-    subst (λ (n : ℕ). n ≤ cycle_limit) (sym long) (short all c.measured-extent.result is c.if-extent-gt-CYCLE_LIMIT.false)
+    short (alternatives_of (known_alternatives known) e) c.measured-extent.result is c.if-extent-gt-CYCLE_LIMIT.false
 
 pub returns-in_err-listing-clause-answer : goal.returns-in_err-listing-clause-answer
 returns-in_err-listing-clause-answer c =
@@ -43,8 +37,8 @@ returns-in_err-listing-clause-answer c =
     let is = c.measured-extent.ensures (known_alternatives known) (right_known known e c.requires.known) in
     let few_all = few all c.measured-extent.result is c.if-extent-gt-ALTERNATIVE_LIMIT.false in
     let short_all = short all c.measured-extent.result is c.if-extent-gt-CYCLE_LIMIT.false in
-    let p = err_from_is_err_and c.from_residual-in_err-listing.result c.from_residual-in_err-listing.ensures.1 in
-    rw (p.1, p.2) (refused all few_all short_all _ (rw c.in_ok-lean.ensures.same at c.in_err-listing.ensures.err))
+    let p = err_from_is_err_and c.from_residual.result c.from_residual.ensures.1 in
+    rw (p.1, p.2) (refused all few_all short_all _ c.in_err-listing.ensures.err)
 
 pub returns-clause-answer : goal.returns-clause-answer
 returns-clause-answer c =
@@ -54,7 +48,7 @@ returns-clause-answer c =
     let is = c.measured-extent.ensures (known_alternatives known) (right_known known e c.requires.known) in
     let few_all = few all c.measured-extent.result is c.if-extent-gt-ALTERNATIVE_LIMIT.false in
     let short_all = short all c.measured-extent.result is c.if-extent-gt-CYCLE_LIMIT.false in
-    let listing = c.in_ok-listing.ensures.ok ∙ c.in_ok-lean.ensures.same in
+    let listing = c.in_ok-listing.ensures.ok in
     (within all few_all short_all (rw listing at c.into_alts.ensures.small), c.into_alts.ensures.alts ∙ listing)
 
 pub returns-clause-sound : goal.returns-clause-sound
@@ -65,4 +59,4 @@ returns-clause-sound c =
     let is = c.measured-extent.ensures (known_alternatives known) (right_known known e c.requires.known) in
     let few_all = few all c.measured-extent.result is c.if-extent-gt-ALTERNATIVE_LIMIT.false in
     let short_all = short all c.measured-extent.result is c.if-extent-gt-CYCLE_LIMIT.false in
-    subst AreSound (sym (c.into_alts.ensures.alts ∙ (c.in_ok-listing.ensures.ok ∙ c.in_ok-lean.ensures.same))) (sound all few_all short_all (some_of known e c.requires.formed c.requires.known) (placed_of known e c.requires.formed))
+    subst AreSound (sym (c.into_alts.ensures.alts ∙ c.in_ok-listing.ensures.ok)) (sound all few_all short_all (some_of known e c.requires.formed c.requires.known) (placed_of known e c.requires.formed))
