@@ -1,0 +1,14 @@
+//! The texts of the program: what it answers, before it is written, and the one call that writes it.
+#![tactic(auto)]
+
+mod faults;
+mod kind;
+mod listing;
+mod outcomes;
+mod pieces;
+mod report;
+mod writing;
+
+pub use kind::{ExpressionKind, Kind, NamedKind};
+pub use report::Report;
+pub use writing::write_report;
