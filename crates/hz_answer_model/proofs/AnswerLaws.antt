@@ -1,17 +1,17 @@
 -- Answers: there is one, and no other.
-use Rattle.std.proofs.Common.{refl, ◌≡◌, ℕ, ◌<◌, ◌≤◌, ⊎_elim, arith, slice_index_or, inl, inr, true, false, List, [], ◌∷◌, length, Option, Some, None, MatchOption, MatchBool, nat_lt, slice_get, sym, ap, ◌∙◌, subst}
+use Rattle.std.proofs.Common.{refl, ◌≡◌, ℕ, ◌<◌, ◌≤◌, ⊎_elim, arith, slice_index_or, inl, inr, true, false, List, [], ◌∷◌, ◌++◌, map, length, Option, Some, None, MatchOption, MatchBool, nat_lt, slice_get, sym, ap, ◌∙◌, subst}
 use Rattle.std.proofs.lemmas.Bool.{cases_lt}
 use Rattle.std.proofs.lemmas.Option.{same_Some}
 use Rattle.hz_sexp_model.proofs.FormsLaws.{one_reading, one_fault, forms_or_fault}
 use Rattle.hz_mdread_model.proofs.DescriptionLaws.{one_description, one_fault_of_descriptions, description_or_fault}
 use Rattle.hz_check_model.proofs.CheckLaws.{fault_one, fault_or_sound, sound_one}
 use Rattle.hz_acceptance_model.proofs.AcceptanceLaws.{one_refused, accepted_or_refused}
-use Rattle.hz_answer_model.specs.Answers.{Describes, Checks, HasDescription, Compiles, Traces, Replays, ReplaysTrace, ReplaysDescription, Judges, IsIssueOf, AnswersOrder, Answer}
+use Rattle.hz_answer_model.specs.Answers.{Describes, Checks, HasDescription, Compiles, Traces, Replays, ReplaysTrace, ReplaysDescription, Judges, SchedulesByDescription, IsIssueOf, AnswersOrder, Answer}
 use Rattle.hz_check_model.specs.CheckFaults.{CheckFault}
 use Rattle.hz_check_model.specs.Places.{Known, class_names}
 use Rattle.hz_mdread_model.specs.DescriptionForms.{DescriptionFault}
 use Rattle.hz_mdread_model.specs.Descriptions.{Description}
-use Rattle.hz_answer_model.specs.FaultTexts.{form_word, description_words, check_line, check_status, trace_word}
+use Rattle.hz_answer_model.specs.FaultTexts.{form_word, description_words, check_line, check_status, trace_word, class_line, stuck_line}
 use Rattle.hz_sexp_model.specs.Forms.{FormFault}
 use Rattle.hz_base_model.specs.Limits.{description_limit, trace_limit}
 use Rattle.hz_base_model.specs.Lines.{lines_of}
@@ -27,20 +27,25 @@ use Rattle.hz_auto_model.specs.DescriptionLimits.{KeepsLimits, PassesLimit, IsFi
 use Rattle.hz_auto_model.proofs.LimitLaws.{within_or_past}
 use Rattle.hz_acceptance_model.specs.Replay.{Pipeline, Class}
 use Rattle.hz_acceptance_model.specs.Events.{Event, issue}
-use Rattle.hz_answer_model.specs.Texts.{file_line, limit_line, fault_line, states_line, usage_line, refused_line}
+use Rattle.hz_answer_model.specs.Texts.{file_line, limit_line, fault_line, states_line, usage_line, refused_line, slot_line, scheduled_line}
 use Rattle.hz_sexp_model.specs.Trees.{Trees}
-use Rattle.hz_answer_model.specs.Words.{Order, replay, eval, order_of}
+use Rattle.hz_answer_model.specs.Words.{Order, replay, schedule, eval, order_of}
 use Rattle.hz_answer_model.specs.Phases.{Held, Says, Next, Opens, HasForms}
 use Rattle.hz_answer_model.specs.BlockAnswers.{block_limit, state_text_limit, IsBlock, IsState, Evaluates, JudgesBlock}
 use Rattle.hz_answer_model.specs.FaultTexts.{rtl_word}
+use Rattle.hz_answer_model.specs.ScheduleAnswers.{schedule_text, HasClasses, Schedules, SchedulesBlock}
+use Rattle.hz_sched_model.specs.Schedules.{Graph, Slot, present}
+use Rattle.hz_scheduled_model.specs.BlockGraphs.{classes_of}
+use Rattle.hz_scheduled_model.proofs.BlockLaws.{one_of_a_block}
+use Rattle.hz_scheduled_model.proofs.FaultLaws.{one_wrong_class, wrong_class_or_all, one_stuck, stuck_or_all}
 use Rattle.hz_rtl_model.specs.Blocks.{Instruction}
 use Rattle.hz_rtl_model.specs.States.{State, run, all_stored}
 use Rattle.hz_rtltext_model.specs.Operands.{RtlFault, Judged}
 use Rattle.hz_rtltext_model.specs.BlockForms as blocks
 use Rattle.hz_rtltext_model.specs.StateForms as states
 use Rattle.hz_rtltext_model.proofs.Listings.{same_text}
-use Rattle.std.specs.List.{range_with_len}
-use Rattle.std.specs.Prelude.{Ok, Err}
+use Rattle.std.specs.List.{range_with_len, flat_map}
+use Rattle.std.specs.Prelude.{Ok, Err, slice_index}
 
 -- what is judged good is not wrong
 good_or_wrong : {A : Type 0} (value : A) (wrong : RtlFault × ℕ) (judged : Judged A) → judged ≡ Ok value → judged ≡ Err wrong → ⊥
@@ -198,11 +203,51 @@ opens_single (Some bytes) name most next single =
       | false ↦ single bytes
     ]
 
+-- Schedules.
+
+classes_single : (name : List ℕ) (d : Description) (block : List Instruction) (next : ℕ → List ℕ → Type 0) → IsSingle next → IsSingle (HasClasses name d block next)
+classes_single name d block next single s s' t t' (inl (all, x)) (inl (also, y)) = single s s' t t' x y
+classes_single name d block next single s s' t t' (inl (all, x)) (inr (i, fault, first, y)) = absurd (wrong_class_or_all d block i fault first all)
+classes_single name d block next single s s' t t' (inr (i, fault, first, x)) (inl (all, y)) = absurd (wrong_class_or_all d block i fault first all)
+classes_single name d block next single s s' t t' (inr (i, fault, first, x)) (inr (j, other, second, y)) =
+    let same = one_wrong_class d block i j fault other first second in
+    says_same 2 2 _ _ refl (ap (λ (k : Instruction). class_line name (class_names d) k fault) same.0 ∙ ap (class_line name (class_names d) j) same.1) s s' t t' x y
+
+-- the text of a schedule by the classes of its graph
+abbrev text_by_classes : Description → List Instruction → List ℕ → List Slot → List ℕ
+text_by_classes d block classes slots =
+    flat_map (λ x. slot_line x.cycle (slice_index (map (λ i. i.number) block) x.place) (slice_index_or (class_names d) (slice_index classes x.place) [])) slots
+    ++ scheduled_line (length slots) (present 0 slots)
+
+same_schedule_text : (d : Description) (block : List Instruction) (g h : Graph) (slots others : List Slot) → classes_of g ≡ classes_of h → slots ≡ others → schedule_text d block g slots ≡ schedule_text d block h others
+same_schedule_text d block g h slots others classes same = ap (λ (cs : List ℕ). text_by_classes d block cs slots) classes ∙ ap (schedule_text d block h) same
+
+schedules_single : (name : List ℕ) (d : Description) (known : Known) (block : List Instruction) → IsSingle (Schedules name d known block)
+schedules_single name d known block s s' t t' (inl (all, g, slots, is, x)) (inl (every, h, others, also, y)) =
+    let same = one_of_a_block d known block g h slots others is also in
+    says_same 0 0 _ _ refl (same_schedule_text d block g h slots others same.0 same.1) s s' t t' x y
+schedules_single name d known block s s' t t' (inl (all, g, slots, is, x)) (inr (i, first, y)) = absurd (stuck_or_all d known block i first all)
+schedules_single name d known block s s' t t' (inr (i, first, x)) (inl (all, g, slots, is, y)) = absurd (stuck_or_all d known block i first all)
+schedules_single name d known block s s' t t' (inr (i, first, x)) (inr (j, second, y)) =
+    says_same 2 2 _ _ refl (ap (stuck_line name) (one_stuck d known block i j first second)) s s' t t' x y
+
+scheduled_single : (description described block blocked : List ℕ) → IsSingle (HasDescription description described (SchedulesByDescription description block blocked))
+scheduled_single description described block blocked =
+    description_single description described (SchedulesByDescription description block blocked) (λ d known.
+    compiles_single description d known (SchedulesBlock block blocked d known)
+    (forms_single block blocked _ (λ read.
+    block_single block read _ (λ insns.
+    classes_single block d insns (Schedules block d known insns) (schedules_single block d known insns)))))
+
 order_single : (held : Held) (order : Order) → IsSingle (AnswersOrder held order)
 order_single held (replay description trace) =
     opens_single (held description) description description_limit (λ described. Opens held trace trace_limit (λ traced. Judges description described trace traced))
     (λ described. opens_single (held trace) trace trace_limit (λ traced. Judges description described trace traced)
     (λ traced. texts_single description described trace traced))
+order_single held (schedule description block) =
+    opens_single (held description) description description_limit (λ described. Opens held block block_limit (λ blocked. HasDescription description described (SchedulesByDescription description block blocked)))
+    (λ described. opens_single (held block) block block_limit (λ blocked. HasDescription description described (SchedulesByDescription description block blocked))
+    (λ blocked. scheduled_single description described block blocked))
 order_single held (eval block state) =
     opens_single (held block) block block_limit (λ blocked. Opens held state state_text_limit (λ stated. JudgesBlock block blocked state stated))
     (λ blocked. opens_single (held state) state state_text_limit (λ stated. JudgesBlock block blocked state stated)

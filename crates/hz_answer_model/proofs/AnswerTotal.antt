@@ -12,13 +12,13 @@ use Rattle.hz_check_model.proofs.CheckTotal.{sound_or_fault}
 use Rattle.hz_acceptance_model.proofs.AcceptanceLaws.{refused_issue}
 use Rattle.hz_acceptance_model.proofs.PlayLaws.{accepted_or_first_refused}
 use Rattle.hz_acceptance_model.proofs.Rows.{same_unit, places_tell}
-use Rattle.hz_answer_model.specs.Answers.{Describes, Checks, HasDescription, Compiles, IsCountedText, IsCountedOrder, IsCounted, Replays, ReplaysTrace, ReplaysDescription, Judges, IsIssueOf, AnswersOrder, Answer}
+use Rattle.hz_answer_model.specs.Answers.{Describes, Checks, HasDescription, Compiles, IsCountedText, IsCountedOrder, IsCounted, Replays, ReplaysTrace, ReplaysDescription, Judges, SchedulesByDescription, IsIssueOf, AnswersOrder, Answer}
 use Rattle.hz_check_model.specs.CheckFaults.{CheckFault, CheckFaultAt, IsSound}
 use Rattle.hz_check_model.specs.Places.{Known, class_names}
 use Rattle.hz_mdread_model.specs.DescriptionForms as description_forms
-use Rattle.hz_mdread_model.specs.DescriptionShape.{IsWellFormed}
+use Rattle.hz_mdread_model.specs.DescriptionShape.{IsWellFormed, IsCheckable}
 use Rattle.hz_mdread_model.specs.Descriptions.{Description}
-use Rattle.hz_answer_model.specs.FaultTexts.{form_word, description_words, check_line, check_status, trace_word}
+use Rattle.hz_answer_model.specs.FaultTexts.{form_word, description_words, check_line, check_status, trace_word, class_line, stuck_line}
 use Rattle.hz_base_model.specs.Limits.{description_limit, trace_limit}
 use Rattle.hz_base_model.specs.Lines.{lines_of}
 use Rattle.hz_sexp_model.specs.Forms as forms
@@ -32,10 +32,17 @@ use Rattle.hz_trace_model.specs.Traces.{Trace, TraceFault, TraceFaultAt, event_l
 use Rattle.hz_trace_model.proofs.TraceLaws.{trace_of_every_text, counted_lines}
 use Rattle.hz_answer_model.specs.Texts.{file_line, limit_line, fault_line, usage_line, refused_line, accepted_line, states_line}
 use Rattle.hz_sexp_model.specs.Trees.{Trees}
-use Rattle.hz_answer_model.specs.Words.{Order, replay, eval, order_of}
+use Rattle.hz_answer_model.specs.Words.{Order, replay, schedule, eval, order_of}
 use Rattle.hz_answer_model.specs.Phases.{Held, Says, Next, Opens, HasForms}
 use Rattle.hz_answer_model.specs.BlockAnswers.{block_limit, state_text_limit, IsBlock, IsState, Evaluates, JudgesBlock}
 use Rattle.hz_answer_model.specs.FaultTexts.{rtl_word}
+use Rattle.hz_answer_model.specs.ScheduleAnswers.{schedule_text, HasClasses, Schedules, SchedulesBlock}
+use Rattle.hz_depend_model.specs.Classes.{ClassFault}
+use Rattle.hz_scheduled_model.specs.BlockGraphs.{IsFirstClassFault}
+use Rattle.hz_scheduled_model.specs.BlockSchedules.{StartsAlone, IsFirstStuck}
+use Rattle.hz_schedulable_model.proofs.ScheduleTotal.{some_schedule_of}
+use Rattle.hz_scheduled_model.proofs.GraphLaws.{HasClass}
+use Rattle.hz_scheduled_model.proofs.FaultLaws.{classes_or_fault, starts_or_stuck}
 use Rattle.hz_answer_model.proofs.ListingTotal.{IsFinite, finite_given, finite_run, has_text}
 use Rattle.hz_rtl_model.specs.Blocks.{Instruction}
 use Rattle.hz_rtl_model.specs.States.{State, Store, run, all_stored}
@@ -128,15 +135,15 @@ forms_one name bytes next one = ⊎_elim
     (λ wrong. wider (Says 2 (fault_line name wrong.1 (form_word wrong.0 ∷ []))) _ (λ s t h. inr (wrong.0, wrong.1, wrong.2, h)) (says_one 2 (fault_line name wrong.1 (form_word wrong.0 ∷ []))))
     (every_text bytes)
 
-description_one : (name bytes : List ℕ) (next : (d : Description) → Next Known) → IsCountedText bytes → ((d : Description) (known : Known) → AreCounted d known → HasOne (next d known)) → HasOne (HasDescription name bytes next)
+description_one : (name bytes : List ℕ) (next : (d : Description) → Next Known) → IsCountedText bytes → ((d : Description) (known : Known) → IsCheckable d → IsSound d known → AreCounted d known → HasOne (next d known)) → HasOne (HasDescription name bytes next)
 description_one name bytes next counted one =
     forms_one name bytes _ (λ read is.
     describes_one name read _ (λ d says formed.
-    checks_one name d (next d) formed (λ known sound. one d known (counted read d known is says sound))))
+    checks_one name d (next d) formed (λ known sound. one d known (can_be_checked d formed) sound (counted read d known is says sound))))
 
 texts_one : (description described trace traced : List ℕ) → IsCountedText described → HasOne (Judges description described trace traced)
 texts_one description described trace traced counted =
-    description_one description described (ReplaysDescription description trace traced) counted (λ d known all.
+    description_one description described (ReplaysDescription description trace traced) counted (λ d known checkable sound all.
     compiles_one description d known (ReplaysTrace trace traced d known) all (traces_one d known trace traced))
 
 -- Blocks and states.
@@ -176,11 +183,40 @@ opens_one (Some bytes) name most next one =
       | false ↦ one bytes refl
     ]
 
+-- Schedules.
+
+classes_one : (name : List ℕ) (d : Description) (block : List Instruction) (next : ℕ → List ℕ → Type 0) → HasOne next → HasOne (HasClasses name d block next)
+classes_one name d block next one = ⊎_elim
+    (λ (all : All (HasClass d) block). wider next _ (λ s t h. inl (all, h)) one)
+    (λ (first : (i : Instruction) × (fault : ClassFault) × IsFirstClassFault d block i fault).
+    let line = class_line name (class_names d) first.0 first.1 in
+    wider (Says 2 line) _ (λ s t h. inr (first.0, first.1, first.2, h)) (says_one 2 line))
+    (classes_or_fault d block)
+
+schedules_one : (name : List ℕ) (d : Description) (known : Known) (block : List Instruction) → IsCheckable d → IsSound d known → HasOne (Schedules name d known block)
+schedules_one name d known block formed sound = ⊎_elim
+    (λ (all : All (StartsAlone d known) block). let (g, slots, is) = some_schedule_of d known block formed sound all in
+    wider (Says 0 (schedule_text d block g slots)) _ (λ s t h. inl (all, g, slots, is, h)) (says_one 0 (schedule_text d block g slots)))
+    (λ (first : (i : Instruction) × IsFirstStuck d known block i). wider (Says 2 (stuck_line name first.0)) _ (λ s t h. inr (first.0, first.1, h)) (says_one 2 (stuck_line name first.0)))
+    (starts_or_stuck d known block)
+
+scheduled_one : (description described block blocked : List ℕ) → IsCountedText described → HasOne (HasDescription description described (SchedulesByDescription description block blocked))
+scheduled_one description described block blocked counted =
+    description_one description described (SchedulesByDescription description block blocked) counted (λ d known formed sound all.
+    compiles_one description d known (SchedulesBlock block blocked d known) all
+    (forms_one block blocked _ (λ read reads.
+    block_one block read _ (λ insns.
+    classes_one block d insns (Schedules block d known insns) (schedules_one block d known insns formed sound)))))
+
 order_one : (held : Held) (order : Order) → IsCountedOrder held order → HasOne (AnswersOrder held order)
 order_one held (replay description trace) counted =
     opens_one (held description) description description_limit (λ described. Opens held trace trace_limit (λ traced. Judges description described trace traced))
     (λ described is. opens_one (held trace) trace trace_limit (λ traced. Judges description described trace traced)
     (λ traced also. texts_one description described trace traced (subst (λ (o : Option (List ℕ)). MatchOption o ⊤ IsCountedText) is counted)))
+order_one held (schedule description block) counted =
+    opens_one (held description) description description_limit (λ described. Opens held block block_limit (λ blocked. HasDescription description described (SchedulesByDescription description block blocked)))
+    (λ described is. opens_one (held block) block block_limit (λ blocked. HasDescription description described (SchedulesByDescription description block blocked))
+    (λ blocked also. scheduled_one description described block blocked (subst (λ (o : Option (List ℕ)). MatchOption o ⊤ IsCountedText) is counted)))
 order_one held (eval block state) counted =
     opens_one (held block) block block_limit (λ blocked. Opens held state state_text_limit (λ stated. JudgesBlock block blocked state stated))
     (λ blocked is. opens_one (held state) state state_text_limit (λ stated. JudgesBlock block blocked state stated)

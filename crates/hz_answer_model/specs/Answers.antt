@@ -18,9 +18,10 @@ use Rattle.hz_base_model.specs.Lines.{lines_of}
 use Rattle.hz_trace_model.specs.Traces.{Trace, TraceFault, TraceFaultAt, event_lines}
 use Rattle.hz_answer_model.specs.Texts.{usage_line, fault_line, states_line, accepted_line, refused_line}
 use Rattle.hz_sexp_model.specs.Trees.{Trees}
-use Rattle.hz_answer_model.specs.Words.{Order, replay, eval, order_of}
+use Rattle.hz_answer_model.specs.Words.{Order, replay, schedule, eval, order_of}
 use Rattle.hz_answer_model.specs.Phases.{Held, Says, Next, Opens, HasForms}
 use Rattle.hz_answer_model.specs.BlockAnswers.{block_limit, state_text_limit, JudgesBlock}
+use Rattle.hz_answer_model.specs.ScheduleAnswers.{SchedulesBlock}
 
 -- the description that forms say, or the first fault of a form
 abbrev pub Describes : List ℕ → Trees → Next Description → ℕ → List ℕ → Type 0
@@ -80,6 +81,17 @@ AnswersReplay held description trace =
     Opens held trace trace_limit (λ traced.
     Judges description described trace traced))
 
+-- a description without a fault is compiled, and then the block is judged and scheduled
+abbrev pub SchedulesByDescription : List ℕ → List ℕ → List ℕ → Description → Known → ℕ → List ℕ → Type 0
+SchedulesByDescription description block blocked d known = Compiles description d known (SchedulesBlock block blocked d known)
+
+-- both files are read, the description first, and then judged in their order
+abbrev pub AnswersSchedule : Held → List ℕ → List ℕ → ℕ → List ℕ → Type 0
+AnswersSchedule held description block =
+    Opens held description description_limit (λ described.
+    Opens held block block_limit (λ blocked.
+    HasDescription description described (SchedulesByDescription description block blocked)))
+
 -- both files are read, the block first, and then judged in their order
 abbrev pub AnswersEval : Held → List ℕ → List ℕ → ℕ → List ℕ → Type 0
 AnswersEval held block state =
@@ -90,6 +102,7 @@ AnswersEval held block state =
 -- what an order answers: one case for each command
 abbrev pub AnswersOrder : Held → Order → ℕ → List ℕ → Type 0
 AnswersOrder held (replay description trace) = AnswersReplay held description trace
+AnswersOrder held (schedule description block) = AnswersSchedule held description block
 AnswersOrder held (eval block state) = AnswersEval held block state
 
 -- What the program answers to its words over files that hold this, where memory is found and nothing fails but the
@@ -106,6 +119,7 @@ IsCountedText bytes = (read : Trees) (d : Description) (known : Known) → forms
 -- the same of the descriptions that an order names and that are held
 abbrev pub IsCountedOrder : Held → Order → Type 0
 IsCountedOrder held (replay description trace) = MatchOption (held description) ⊤ IsCountedText
+IsCountedOrder held (schedule description block) = MatchOption (held description) ⊤ IsCountedText
 IsCountedOrder held (eval block state) = ⊤
 
 -- the same of those that words name

@@ -1,5 +1,6 @@
 -- The texts of faults. This profile, docs/FORMATS.md, 'Answers'.
-use Rattle.std.specs.Prelude.{ℕ, List, [], ◌∷◌, codes, decimal}
+use Rattle.std.specs.Prelude.{ℕ, List, [], ◌∷◌, codes, decimal, slice_index_or}
+use Rattle.std.specs.List.{flat_map}
 use Rattle.hz_sexp_model.specs.Forms.{FormFault}
 use Rattle.hz_sexp_model.specs.Forms as form
 use Rattle.hz_regexp_model.specs.ExpressionTexts.{ExpressionFault}
@@ -11,6 +12,9 @@ use Rattle.hz_check_model.specs.CheckFaults as check
 use Rattle.hz_check_model.specs.Sites.{Site}
 use Rattle.hz_rtltext_model.specs.Operands.{RtlFault}
 use Rattle.hz_rtltext_model.specs.Operands as rtl
+use Rattle.hz_rtl_model.specs.Blocks.{Instruction}
+use Rattle.hz_depend_model.specs.Classes.{ClassFault}
+use Rattle.hz_depend_model.specs.Classes as class
 use Rattle.hz_trace_model.specs.Traces.{TraceFault}
 use Rattle.hz_trace_model.specs.Traces as trace
 use Rattle.hz_answer_model.specs.Texts.{fault_line, passed_line}
@@ -82,6 +86,21 @@ rtl_word rtl.unknown_code = codes "UnknownCode"
 rtl_word rtl.register_range = codes "RegisterRange"
 rtl_word rtl.twice = codes "Twice"
 rtl_word rtl.insn_limit = codes "InsnLimit"
+
+-- a fault of an instruction of a block: its word, the number, and names
+abbrev pub insn_line : List ℕ → Instruction → List ℕ → List (List ℕ) → List ℕ
+insn_line file i word names = fault_line file i.line (word ∷ codes " insn " ∷ decimal i.number ∷ flat_map (λ name. codes " " ∷ name ∷ []) names)
+
+-- the line of an instruction whose class is wrong, of classes with these names
+abbrev pub class_line : List ℕ → List (List ℕ) → Instruction → ClassFault → List ℕ
+class_line file classes i class.unknown_attribute = insn_line file i (codes "UnknownAttribute") []
+class_line file classes i class.unknown_value = insn_line file i (codes "UnknownValue") []
+class_line file classes i class.no_class = insn_line file i (codes "NoClass") []
+class_line file classes i (class.ambiguous a b) = insn_line file i (codes "Ambiguous") (slice_index_or classes a [] ∷ slice_index_or classes b [] ∷ [])
+
+-- the line of an instruction that can't be issued from the start
+abbrev pub stuck_line : List ℕ → Instruction → List ℕ
+stuck_line file i = insn_line file i (codes "CannotStartAlone") []
 
 -- the word of a fault of a trace
 abbrev pub trace_word : TraceFault → List ℕ

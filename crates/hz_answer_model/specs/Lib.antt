@@ -3,4 +3,6 @@ pub mod Texts
 pub mod FaultTexts
 pub mod Phases
 pub mod BlockAnswers
+pub mod ScheduleAnswers
 pub mod Answers
+pub mod Headline

@@ -9,6 +9,14 @@ accepted_line issues cycles = concat (codes "accepted " ∷ decimal issues ∷ c
 abbrev pub refused_line : ℕ → List ℕ → List ℕ
 refused_line line class = concat (codes "refused line " ∷ decimal line ∷ codes " " ∷ class ∷ codes "\n" ∷ [])
 
+-- a slot of a schedule: its cycle, and the number and class of the instruction
+abbrev pub slot_line : ℕ → ℕ → List ℕ → List ℕ
+slot_line cycle number class = concat (decimal cycle ∷ codes " " ∷ decimal number ∷ codes " " ∷ class ∷ codes "\n" ∷ [])
+
+-- the end of a schedule: how many instructions, and the cycle of the last
+abbrev pub scheduled_line : ℕ → ℕ → List ℕ
+scheduled_line count cycles = concat (codes "scheduled " ∷ decimal count ∷ codes " insns " ∷ decimal cycles ∷ codes " cycles\n" ∷ [])
+
 -- a fault of a text: its line, and what it is, in pieces
 abbrev pub fault_line : List ℕ → ℕ → List (List ℕ) → List ℕ
 fault_line file line what = concat (codes "fault " ∷ file ∷ codes " line " ∷ decimal line ∷ codes " " ∷ (what ++ codes "\n" ∷ []))
@@ -31,4 +39,4 @@ abbrev pub memory_line : List ℕ
 memory_line = concat (codes "memory\n" ∷ [])
 
 abbrev pub usage_line : List ℕ
-usage_line = concat (codes "usage: hz replay DESC TRACE | eval BLOCK STATE\n" ∷ [])
+usage_line = concat (codes "usage: hz replay DESC TRACE | schedule DESC BLOCK | eval BLOCK STATE\n" ∷ [])

@@ -5,6 +5,7 @@ use Rattle.std.specs.Str.{bytes_eq}
 -- what the program is asked to do
 pub data Order : Type 0 where
   replay : (description trace : List ℕ) → Order
+  schedule : (description block : List ℕ) → Order
   eval : (block state : List ℕ) → Order
 
 -- the word begins with `-`
@@ -16,9 +17,10 @@ begins_with_dash (b ∷ bs) = b == 45
 abbrev pub order_on : (command first second : List ℕ) → Option Order
 order_on command first second =
     if bytes_eq command (codes "replay") then Some (replay first second)
-    else (if bytes_eq command (codes "eval") then Some (eval first second) else None)
+    else (if bytes_eq command (codes "schedule") then Some (schedule first second)
+    else (if bytes_eq command (codes "eval") then Some (eval first second) else None))
 
--- `replay DESC TRACE` or `eval BLOCK STATE`, where no word begins with `-`
+-- `replay DESC TRACE`, `schedule DESC BLOCK` or `eval BLOCK STATE`, where no word begins with `-`
 abbrev pub order_of : List (List ℕ) → Option Order
 order_of (command ∷ first ∷ second ∷ []) = if begins_with_dash first || begins_with_dash second then None else order_on command first second
 order_of _ = None

@@ -1,12 +1,19 @@
 //! Laws of answers.
 
 ghost use Rattle.std.specs.Prelude.{◌≡◌, ℕ, List};
-ghost use Rattle.hz_answer_model.specs.Answers.{Answer, IsCounted};
+ghost use Rattle.hz_answer_model.specs.Answers.{Answer, AnswersSchedule, IsCounted};
+ghost use Rattle.hz_answer_model.specs.Headline.{WritesSchedule};
 ghost use Rattle.hz_answer_model.specs.Phases.{Held};
 
 /// The words and what is held have one answer at most: one status and one text.
 pub fn one_answer()
     ensures { (words : List (List ℕ)) (held : Held) (s s' : ℕ) (t t' : List ℕ) → Answer words held s t → Answer words held s' t' → (s ≡ s') × (t ≡ t') }
+{}
+
+/// What `schedule` answers with status 0 is the text of a schedule that keeps its block: the instructions each once, every
+/// latency and bypass, in an order that `replay` accepts and that from every state leaves what source order leaves.
+pub fn schedules_keep_their_blocks()
+    ensures { (held : Held) (description block text : List ℕ) → AnswersSchedule held description block 0 text → WritesSchedule held description block text }
 {}
 
 /// All words have an answer, whatever is held, where each count of each automaton of a description that is held is

@@ -1,0 +1,39 @@
+-- What `schedule` answers: this profile, docs/FORMATS.md, 'Answers'.
+use Rattle.std.specs.Prelude.{◌≡◌, ℕ, List, [], ◌++◌, map, length, All, Ok, ◌⊎◌, slice_index, slice_index_or}
+use Rattle.std.specs.List.{flat_map}
+use Rattle.hz_mdread_model.specs.Descriptions.{Description}
+use Rattle.hz_check_model.specs.Places.{Known, class_names}
+use Rattle.hz_rtl_model.specs.Blocks.{Instruction}
+use Rattle.hz_depend_model.specs.Classes.{ClassFault}
+use Rattle.hz_sched_model.specs.Schedules.{Graph, Slot, class_at, present}
+use Rattle.hz_scheduled_model.specs.BlockGraphs.{class_in, IsFirstClassFault}
+use Rattle.hz_scheduled_model.specs.BlockSchedules.{StartsAlone, IsFirstStuck, IsScheduleOf}
+use Rattle.hz_answer_model.specs.BlockAnswers.{IsBlock}
+use Rattle.hz_answer_model.specs.FaultTexts.{class_line, stuck_line}
+use Rattle.hz_answer_model.specs.Phases.{Says, HasForms}
+use Rattle.hz_answer_model.specs.Texts.{slot_line, scheduled_line}
+
+-- the line of a slot: its cycle, and the instruction's number and class
+abbrev pub line_of_slot : Description → List Instruction → Graph → Slot → List ℕ
+line_of_slot d block g x = slot_line x.cycle (slice_index (map (λ i. i.number) block) x.place) (slice_index_or (class_names d) (class_at g x.place) [])
+
+-- the text of a schedule: its slots in their order, then how many they are, and the cycle of the last
+abbrev pub schedule_text : Description → List Instruction → Graph → List Slot → List ℕ
+schedule_text d block g slots = flat_map (line_of_slot d block g) slots ++ scheduled_line (length slots) (present 0 slots)
+
+-- the class of each instruction of a block, or the first that is wrong
+abbrev pub HasClasses : List ℕ → Description → List Instruction → (ℕ → List ℕ → Type 0) → ℕ → List ℕ → Type 0
+HasClasses name d block next status text =
+    (All (λ i. (class : ℕ) × (class_in d i ≡ Ok class)) block × next status text)
+    ⊎ ((i : Instruction) × (fault : ClassFault) × IsFirstClassFault d block i fault × Says 2 (class_line name (class_names d) i fault) status text)
+
+-- the schedule of a block whose instructions have classes, where each of them can be issued from the start, or the first that can't
+abbrev pub Schedules : List ℕ → Description → Known → List Instruction → ℕ → List ℕ → Type 0
+Schedules name d known block status text =
+    (All (StartsAlone d known) block × (g : Graph) × (slots : List Slot) × IsScheduleOf d known block g slots × Says 0 (schedule_text d block g slots) status text)
+    ⊎ ((i : Instruction) × IsFirstStuck d known block i × Says 2 (stuck_line name i) status text)
+
+-- the block of this name is judged, and scheduled
+abbrev pub SchedulesBlock : List ℕ → List ℕ → Description → Known → ℕ → List ℕ → Type 0
+SchedulesBlock block blocked d known =
+    HasForms block blocked (λ read. IsBlock block read (λ insns. HasClasses block d insns (Schedules block d known insns)))

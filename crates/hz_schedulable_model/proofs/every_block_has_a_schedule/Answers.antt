@@ -1,0 +1,8 @@
+use Rattle.hz_schedulable_model.proofs.ScheduleTotal.{some_schedule_of, soon_issued}
+use Rattle.hz_schedulable_model.proofs.every_block_has_a_schedule.Goals as goal
+
+pub returns-clause-some : goal.returns-clause-some
+returns-clause-some c = some_schedule_of
+
+pub returns-clause-soon : goal.returns-clause-soon
+returns-clause-soon c = soon_issued

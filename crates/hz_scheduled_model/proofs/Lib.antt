@@ -1,0 +1,4 @@
+pub mod FirstLaws
+pub mod GraphLaws
+pub mod BlockLaws
+pub mod FaultLaws

@@ -1,0 +1,2 @@
+pub mod BlockGraphs
+pub mod BlockSchedules
