@@ -6,6 +6,8 @@ use Rattle.hz_report.specs.declared.kind.ExpressionKind.{ExpressionKind}
 use Rattle.hz_report.specs.declared.kind.ExpressionKind.TheVariants as expression
 use Rattle.hz_report.specs.declared.kind.NamedKind.{NamedKind}
 use Rattle.hz_report.specs.declared.kind.NamedKind.TheVariants as named
+use Rattle.hz_report.specs.declared.kind.InsnKind.{InsnKind}
+use Rattle.hz_report.specs.declared.kind.InsnKind.TheVariants as insn
 use Rattle.hz_check_model.specs.CheckFaults.{CheckFault}
 use Rattle.hz_check_model.specs.CheckFaults as check
 use Rattle.hz_mdread_model.specs.DescriptionForms.{DescriptionFault}
@@ -62,6 +64,13 @@ named_word named.SetAcrossAutomata = codes "SetAcrossAutomata"
 named_word named.AlternationOfTwoAutomata = codes "AlternationOfTwoAutomata"
 named_word named.AlternationOfTwoLengths = codes "AlternationOfTwoLengths"
 named_word named.BypassTwice = codes "BypassTwice"
+
+-- the word of a fault of an instruction
+abbrev pub insn_word : InsnKind → List ℕ
+insn_word insn.UnknownAttribute = codes "UnknownAttribute"
+insn_word insn.UnknownValue = codes "UnknownValue"
+insn_word insn.NoClass = codes "NoClass"
+insn_word insn.CannotStartAlone = codes "CannotStartAlone"
 
 -- the fault that is told of a name
 abbrev pub named_fault : NamedKind → CheckFault

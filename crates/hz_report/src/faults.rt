@@ -5,9 +5,9 @@ ghost use Rattle.hz_io.specs.Sink.{Writes};
 ghost use Rattle.hz_answer_model.specs.FaultTexts.{limit_word};
 ghost use Rattle.hz_answer_model.specs.Texts as model;
 ghost use Rattle.hz_check.specs.Faults.{limit_of};
-ghost use Rattle.hz_report.specs.Kinds.{kind_word, expression_word, named_word};
+ghost use Rattle.hz_report.specs.Kinds.{kind_word, expression_word, named_word, insn_word};
 
-use super::kind::{ExpressionKind, Kind, NamedKind, limit_word};
+use super::kind::{ExpressionKind, InsnKind, Kind, NamedKind, limit_word};
 use super::pieces::put_all;
 use hz_check::LimitName;
 use hz_io::{Failed, Sink};
@@ -87,6 +87,69 @@ pub fn put_named<S: Sink>(
             kind.word(),
             b" ",
             name.bytes(),
+            b"\n",
+        ],
+    )
+}
+
+/// Writes the line of a fault of an instruction.
+pub fn put_insn<S: Sink>(
+    out: &mut S,
+    file: &str,
+    line: u32,
+    kind: InsnKind,
+    number: u32,
+) -> Result<(), Failed>
+    requires { S.faults out.old < 2 ^ 64 - 1 }
+    ensures { Writes S.written S.room S.faults out.old out.new (model.fault_line file.now line (insn_word kind ∷ codes " insn " ∷ decimal number ∷ [])) result }
+{
+    let mut line_digits = Buffer::new();
+    let mut number_digits = Buffer::new();
+    put_all(
+        out,
+        &[
+            b"fault ",
+            file.as_bytes(),
+            b" line ",
+            line_digits.format(line).as_bytes(),
+            b" ",
+            kind.word(),
+            b" insn ",
+            number_digits.format(number).as_bytes(),
+            b"\n",
+        ],
+    )
+}
+
+/// Writes the line of an instruction of two classes.
+pub fn put_ambiguous<'a, S: Sink>(
+    out: &mut S,
+    file: &'a str,
+    line: u32,
+    number: u32,
+    first: &'a Name,
+    second: &'a Name,
+) -> Result<(), Failed>
+    requires { S.faults out.old < 2 ^ 64 - 1 }
+    ensures { Writes S.written S.room S.faults out.old out.new (model.fault_line file.now line (codes "Ambiguous" ∷ codes " insn " ∷ decimal number ∷ codes " " ∷ first.now ∷ codes " " ∷ second.now ∷ [])) result }
+{
+    let mut line_digits = Buffer::new();
+    let mut number_digits = Buffer::new();
+    put_all(
+        out,
+        &[
+            b"fault ",
+            file.as_bytes(),
+            b" line ",
+            line_digits.format(line).as_bytes(),
+            b" ",
+            b"Ambiguous",
+            b" insn ",
+            number_digits.format(number).as_bytes(),
+            b" ",
+            first.bytes(),
+            b" ",
+            second.bytes(),
             b"\n",
         ],
     )

@@ -128,6 +128,33 @@ impl NamedKind {
     }
 }
 
+/// What is wrong with an instruction of a block.
+#[derive(Clone, Copy, Debug)]
+pub enum InsnKind {
+    /// Faults of its class, with Ambiguous.
+    UnknownAttribute,
+    UnknownValue,
+    NoClass,
+    /// A fault of the schedule.
+    CannotStartAlone,
+}
+
+impl InsnKind {
+    ghost use Rattle.hz_report.specs.Kinds.{insn_word};
+
+    /// Its word.
+    pub fn word(&self) -> &[u8]
+        ensures { result.now ≡ insn_word self.now }
+    {
+        match self {
+            InsnKind::UnknownAttribute => b"UnknownAttribute",
+            InsnKind::UnknownValue => b"UnknownValue",
+            InsnKind::NoClass => b"NoClass",
+            InsnKind::CannotStartAlone => b"CannotStartAlone",
+        }
+    }
+}
+
 /// The word of a limit.
 pub fn limit_word(limit: &LimitName) -> &[u8]
     ensures { result.now ≡ limit_word (limit_of limit.now) }

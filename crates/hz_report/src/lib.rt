@@ -7,8 +7,9 @@ mod listing;
 mod outcomes;
 mod pieces;
 mod report;
+mod scheduled;
 mod writing;
 
-pub use kind::{ExpressionKind, Kind, NamedKind};
+pub use kind::{ExpressionKind, InsnKind, Kind, NamedKind};
 pub use report::Report;
 pub use writing::write_report;

@@ -2,13 +2,16 @@
 
 ghost use Rattle.std.specs.Prelude.{◌≡◌};
 
-use super::kind::{ExpressionKind, Kind, NamedKind};
+use super::kind::{ExpressionKind, InsnKind, Kind, NamedKind};
 use hz_check::LimitName;
+use hz_depend::Graph;
 use hz_regexp::Name;
 use hz_rtl::State;
+use hz_sched::Schedule;
+use hz_tables::Machine;
 
 /// An answer, before it is written. A file goes by the word that names it.
-#[derive(Debug, Drop)]
+#[derive(Drop)]
 pub enum Report<'a> {
     /// Every issue of the trace fits.
     Accepted {
@@ -19,6 +22,12 @@ pub enum Report<'a> {
     Refused {
         line: u64,
         class: Name,
+    },
+    /// The schedule of a block: the machine has the names of its classes, the graph its instructions.
+    Scheduled {
+        machine: Machine,
+        graph: Graph,
+        schedule: Schedule,
     },
     /// The state that a block leaves.
     After {
@@ -43,6 +52,21 @@ pub enum Report<'a> {
         line: u32,
         kind: NamedKind,
         name: Name,
+    },
+    /// A fault of the instruction of that number, whose form begins on that line.
+    Insn {
+        file: &'a str,
+        line: u32,
+        kind: InsnKind,
+        number: u32,
+    },
+    /// An instruction of two classes, the first of them in the description first.
+    Ambiguous {
+        file: &'a str,
+        line: u32,
+        number: u32,
+        first: Name,
+        second: Name,
     },
     /// A limit of a description that the form of that line passes with that name.
     Passed {
@@ -80,10 +104,13 @@ impl Report<'_> {
         match self {
             Report::Accepted { .. } => 0,
             Report::Refused { .. } => 1,
+            Report::Scheduled { .. } => 0,
             Report::After { .. } => 0,
             Report::Fault { .. } => 2,
             Report::Expression { .. } => 2,
             Report::Named { .. } => 2,
+            Report::Insn { .. } => 2,
+            Report::Ambiguous { .. } => 2,
             Report::Passed { .. } => 3,
             Report::States { .. } => 3,
             Report::Long { .. } => 3,
