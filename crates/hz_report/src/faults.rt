@@ -199,4 +199,3 @@ pub fn put_states<S: Sink>(out: &mut S, file: &str, automaton: &Name) -> Result<
         ],
     )
 }
-

@@ -59,7 +59,10 @@ pub fn put_usage<S: Sink>(out: &mut S) -> Result<(), Failed>
     requires { S.faults out.old < 2 ^ 64 - 1 }
     ensures { Writes S.written S.room S.faults out.old out.new model.usage_line result }
 {
-    put_all(out, &[b"usage: hz replay DESC TRACE | schedule DESC BLOCK | eval BLOCK STATE\n"])
+    put_all(
+        out,
+        &[b"usage: hz replay DESC TRACE | schedule DESC BLOCK | eval BLOCK STATE\n"],
+    )
 }
 
 /// Writes the line of memory that ran out.

@@ -1,12 +1,11 @@
 -- The dependence graph of a block, and the first instruction of it whose class is wrong: by what is held of a description, and by
 -- the description.
 use Rattle.std.proofs.Common.{◌≡◌, ℕ, suc, ◌+◌, ◌<◌, ◌≤◌, Bool, true, false, cond, List, [], ◌∷◌, length, map, Option, Some, None, Result, Ok, Err, All, slice_get, refl, sym, ap, ◌∙◌, subst, arith}
-use Rattle.std.specs.Prelude.{⊤, MatchOption, MatchResult, slice_index}
+use Rattle.std.specs.Prelude.{⊤, MatchOption, MatchResult, slice_index, unwrap_or}
 use Rattle.std.specs.List.{cons_option, find, list_any}
 use Rattle.std.specs.Option.{option_map_or}
 use Rattle.std.specs.Str.{bytes_eq}
 use Rattle.std.proofs.lemmas.List.{length-map}
-use Rattle.std.proofs.lemmas.Option.{slice_get_within}
 use Rattle.std.proofs.lemmas.List.Elements.{All-nil, All-cons, All-head, All-tail}
 use Rattle.hz_check.specs.declared.checked.Checked.{Checked}
 use Rattle.hz_check.specs.declared.checked.CheckedClass.{CheckedClass}
@@ -22,6 +21,7 @@ use Rattle.hz_depend_model.specs.Classes.{ClassFault, holding_from, the_one, tim
 use Rattle.hz_depend_model.specs.Classes as classes
 use Rattle.hz_depend_model.specs.Dependences.{Timing}
 use Rattle.hz_depend_model.specs.Graphs.{IsGraph, IsHeight}
+use Rattle.hz_mdread.specs.Shape.{condition}
 use Rattle.hz_mdread_model.specs.Conditions.{holds, value_of}
 use Rattle.hz_mdread_model.specs.Descriptions.{Description, Condition, ClassItem}
 use Rattle.hz_rtl.specs.declared.block.Block.{Block}
@@ -42,6 +42,13 @@ good class = Ok class
 abbrev first_of : ℕ → Result ℕ ClassFault → Option (ℕ × ClassFault) → Option (ℕ × ClassFault)
 first_of n (Err e) later = Some (n, e)
 first_of n (Ok class) later = later
+
+-- two of one pair, and two of one option
+same_pair : (n place : ℕ) (wrong e : ClassFault) → ◌≡◌ {A = Option (ℕ × ClassFault)} (Some (n, wrong)) (Some (place, e)) → (n ≡ place) × (wrong ≡ e)
+same_pair n place wrong e h = (ap (λ (o : Option (ℕ × ClassFault)). (unwrap_or o (place, e)).0) h, ap (λ (o : Option (ℕ × ClassFault)). (unwrap_or o (place, e)).1) h)
+
+same_some : (x y : Insn) → Some x ≡ Some y → x ≡ y
+same_some x y h = cc
 
 -- The instruction at a place, counted from a number on, is the first whose class is wrong.
 pub record IsWrongAt (d : Description) (insns : List Insn) (n place : ℕ) (e : ClassFault) : Type 0 where
@@ -110,27 +117,26 @@ module _ (d : Description) (checked : Checked) (is : IsCheckedOf d checked) wher
       classes = ap (map good) same_nodes ∙ (map_twice good (λ (i : GraphInsn). i.class) insns ∙ (made.classes ∙ classes_same block.insns.items));
       edges = subst (λ (t : Timing). IsGraph (instructions block) t (map edge_of graph.edges.items)) (timing_same (map (λ i. i.class) insns) ∙ ap (timing_in d) (sym same_nodes)) made.edges;
       heights = λ i lt.
-      let within : i < length insns = omega (arith, lt, length-map insns node_of) in
-      subst (λ (heights : List ℕ). IsHeight (map edge_of graph.edges.items) (map (slice_index (latencies_in d)) (classes_of (graph_of graph))) heights i) (sym (map_twice (λ (n : Node). n.height) node_of insns))
-      (subst (λ (ls : List ℕ). IsHeight (map edge_of graph.edges.items) ls (map (λ i. i.height) insns) i) same_latencies (made.heights i within));
+          let within : i < length insns = omega (arith, lt, length-map insns node_of) in
+          subst (λ (heights : List ℕ). IsHeight (map edge_of graph.edges.items) (map (slice_index (latencies_in d)) (classes_of (graph_of graph))) heights i) (sym (map_twice (λ (n : Node). n.height) node_of insns))
+          (subst (λ (ls : List ℕ). IsHeight (map edge_of graph.edges.items) ls (map (λ i. i.height) insns) i) same_latencies (made.heights i within));
     }
 
   -- ---- the first class that is wrong
 
   wrong_from : (n : ℕ) (insns : List Insn) (place : ℕ) (e : ClassFault) → first_class_fault n checked insns ≡ Some (place, e) → IsWrongAt d insns n place e
   wrong_from n [] place e h = absurd (cc)
-  wrong_from n (i ∷ insns) place e h = go (class_for checked i) (sym (class_same i)) h (wrong_from (suc n) insns place e)
+  wrong_from n (i ∷ rest) place e h = go (class_for checked i) (sym (class_same i)) h (wrong_from (suc n) rest place e)
     where
-      go : (r : Result ℕ ClassFault) → class_in d (instruction i) ≡ r → first_of n r (first_class_fault (suc n) checked insns) ≡ Some (place, e) → (first_class_fault (suc n) checked insns ≡ Some (place, e) → IsWrongAt d insns (suc n) place e) → IsWrongAt d (i ∷ insns) n place e
+      go : (r : Result ℕ ClassFault) → class_in d (instruction i) ≡ r → first_of n r (first_class_fault (suc n) checked rest) ≡ Some (place, e) → (first_class_fault (suc n) checked rest ≡ Some (place, e) → IsWrongAt d rest (suc n) place e) → IsWrongAt d (i ∷ rest) n place e
       go (Err wrong) same told further =
-          let here : n ≡ place = cc in
-          let fault : wrong ≡ e = cc in
+          let (here, fault) = same_pair n place wrong e told in
           record {
             behind = 0;
             place_is = omega (arith, here);
             insn = i;
             there = refl;
-            first = record { before = []; after = map instruction insns; parts = refl; good = All-nil (λ j. (class : ℕ) × (class_in d j ≡ Ok class)); wrong = same ∙ ap (λ (w : ClassFault). Err w) fault };
+            first = record { before = []; after = map instruction rest; parts = refl; good = All-nil (λ j. (class : ℕ) × (class_in d j ≡ Ok class)); wrong = same ∙ ap (λ (w : ClassFault). Err w) fault };
           }
       go (Ok class) same told further =
           let later = further told in
@@ -148,21 +154,12 @@ module _ (d : Description) (checked : Checked) (is : IsCheckedOf d checked) wher
             };
           }
 
-  -- the place that is told is one of the block
-  pub wrong_within : (insns : List Insn) (place : ℕ) (e : ClassFault) → Some (place, e) ≡ first_class_fault 0 checked insns → place < length insns
-  wrong_within insns place e told =
-      let found = wrong_from 0 insns place e (sym told) in
-      let low = slice_get_within insns found.behind found.insn found.there in
-      let at = found.place_is in
-      omega (arith, low, at)
-
   -- the first instruction whose class is wrong
-  pub first_wrong : (insns : List Insn) (place : ℕ) (e : ClassFault) (insn : Insn) → Some (place, e) ≡ first_class_fault 0 checked insns → slice_get insns place ≡ Some insn → IsFirstClassFault d (map instruction insns) (instruction insn) e
+  pub first_wrong : (insns : List Insn) (place : ℕ) (e : ClassFault) (insn : Insn) → first_class_fault 0 checked insns ≡ Some (place, e) → slice_get insns place ≡ Some insn → IsFirstClassFault d (map instruction insns) (instruction insn) e
   first_wrong insns place e insn told there =
-      let found = wrong_from 0 insns place e (sym told) in
+      let found = wrong_from 0 insns place e told in
       let at : found.behind ≡ place = let is = found.place_is in omega (arith, is) in
-      let same : Some found.insn ≡ Some insn = sym found.there ∙ (ap (slice_get insns) at ∙ there) in
-      let one : found.insn ≡ insn = cc in
+      let one = same_some found.insn insn (sym found.there ∙ (ap (slice_get insns) at ∙ there)) in
       subst (λ (x : Insn). IsFirstClassFault d (map instruction insns) (instruction x) e) one found.first
 
 -- ---- the classes of a fault are in range
@@ -176,10 +173,10 @@ abbrev sooner : Option ClassFault → Option ClassFault → Option ClassFault
 sooner (Some fault) later = Some fault
 sooner None later = later
 
--- a fault, or else another result
-abbrev decided : Option ClassFault → Result ℕ ClassFault → Result ℕ ClassFault
-decided (Some fault) otherwise = Err fault
-decided None otherwise = otherwise
+-- a fault, or else a result
+abbrev decided : Result ℕ ClassFault → Option ClassFault → Result ℕ ClassFault
+decided otherwise (Some fault) = Err fault
+decided otherwise None = otherwise
 
 attribute_below : (n : ℕ) (defined : List (List ℕ × List (List ℕ))) (given : List ℕ × List ℕ) → FaultBelow n (classes.fault_of_attribute defined given)
 attribute_below n defined given = go (find (λ attribute. bytes_eq attribute.0 given.0) defined)
@@ -215,25 +212,33 @@ one_below m (a ∷ b ∷ others) all =
     let rest = All-tail (λ k. k < m) a (b ∷ others) all in
     (All-head (λ k. k < m) a (b ∷ others) all, All-head (λ k. k < m) b others rest)
 
--- the classes that are told of an instruction are of the description
-pub fault_in_range : (d : Description) (i : Instruction) (e : ClassFault) → class_in d i ≡ Err e → IsFaultIn (length d.classes) e
-fault_in_range d i e wrong = subst (λ (r : Result ℕ ClassFault). MatchResult r (λ _. ⊤) (IsFaultIn n)) wrong (go (classes.first_fault (attributes_of d) i.attributes) (first_below n (attributes_of d) i.attributes))
+-- the classes that are told of an instruction are among those of the conditions
+class_below : (defined : List (List ℕ × List (List ℕ))) (defaults : List (List ℕ × List ℕ)) (conditions : List Condition) (given : List (List ℕ × List ℕ)) → MatchResult (classes.class_of defined defaults conditions given) (λ _. ⊤) (IsFaultIn (length conditions))
+class_below defined defaults conditions given =
+    go (classes.first_fault defined given) (holding_from 0 (value_of given defaults) conditions) (first_below (length conditions) defined given) (holding_below 0 (length conditions) (value_of given defaults) conditions (omega arith))
   where
-    n : ℕ
-    n = length d.classes
+    go : (o : Option ClassFault) (numbers : List ℕ) → FaultBelow (length conditions) o → All (λ k. k < length conditions) numbers → MatchResult (decided (the_one numbers) o) (λ _. ⊤) (IsFaultIn (length conditions))
+    go (Some fault) numbers h all = h
+    go None numbers h all = one_below (length conditions) numbers all
 
-    conditions : List Condition
-    conditions = map (λ c. c.condition) d.classes
+-- of all that is told of a block: the place is one of it, and the classes are of the description
+pub wrong_within : (checked : Checked) (n : ℕ) (insns : List Insn) (place : ℕ) (e : ClassFault) → first_class_fault n checked insns ≡ Some (place, e) → place < n + length insns
+wrong_within checked n [] place e h = absurd (cc)
+wrong_within checked n (i ∷ insns) place e h = go (class_for checked i) h (wrong_within checked (suc n) insns place e)
+  where
+    go : (r : Result ℕ ClassFault) → first_of n r (first_class_fault (suc n) checked insns) ≡ Some (place, e) → (first_class_fault (suc n) checked insns ≡ Some (place, e) → place < suc n + length insns) → place < n + length (i ∷ insns)
+    go (Err wrong) told further = let here = (same_pair n place wrong e told).0 in omega (arith, here)
+    go (Ok class) told further = let low = further told in omega (arith, low)
 
-    value : List ℕ → Option (List ℕ)
-    value = value_of i.attributes (defaults_of d)
+pub wrong_below : (checked : Checked) (n : ℕ) (insns : List Insn) (place : ℕ) (e : ClassFault) → first_class_fault n checked insns ≡ Some (place, e) → IsFaultIn (length checked.classes.items) e
+wrong_below checked n [] place e h = absurd (cc)
+wrong_below checked n (i ∷ insns) place e h = go (class_for checked i) below h (wrong_below checked (suc n) insns place e)
+  where
+    below : MatchResult (class_for checked i) (λ _. ⊤) (IsFaultIn (length checked.classes.items))
+    below =
+        subst (λ (m : ℕ). MatchResult (class_for checked i) (λ _. ⊤) (IsFaultIn m)) (length-map checked.classes.items (λ (c : CheckedClass). condition c.condition))
+        (class_below (map attribute_of checked.attributes.items) checked.defaults.items (conditions_of checked.classes.items) i.attrs.items)
 
-    numbers : List ℕ
-    numbers = holding_from 0 value conditions
-
-    below : All (λ k. k < n) numbers
-    below = holding_below 0 n value conditions (omega (arith, length-map d.classes (λ (c : ClassItem). c.condition)))
-
-    go : (o : Option ClassFault) → FaultBelow n o → MatchResult (decided o (the_one numbers)) (λ _. ⊤) (IsFaultIn n)
-    go (Some fault) h = h
-    go None h = one_below n numbers below
+    go : (r : Result ℕ ClassFault) → MatchResult r (λ _. ⊤) (IsFaultIn (length checked.classes.items)) → first_of n r (first_class_fault (suc n) checked insns) ≡ Some (place, e) → (first_class_fault (suc n) checked insns ≡ Some (place, e) → IsFaultIn (length checked.classes.items) e) → IsFaultIn (length checked.classes.items) e
+    go (Err wrong) fine told further = subst (IsFaultIn (length checked.classes.items)) (same_pair n place wrong e told).1 fine
+    go (Ok class) fine told further = further told

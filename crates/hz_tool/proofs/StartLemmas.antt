@@ -6,7 +6,7 @@ use Rattle.std.proofs.lemmas.Grind.{common_steps}
 use Rattle.std.proofs.lemmas.List.Elements.{All-nil, All-cons, All-head, All-tail}
 use Rattle.std.proofs.lemmas.List.Quantifiers.{position-Some}
 use Rattle.std.proofs.lemmas.List.Sums.{fails_before_first}
-use Rattle.std.proofs.lemmas.Option.{slice_get_within, get_or_from_slice_get}
+use Rattle.std.proofs.lemmas.Option.{slice_get_within, slice_get-get_or, get_or_from_slice_get}
 use Rattle.hz_acceptance_model.specs.Events.{issue, IsOfClass}
 use Rattle.hz_acceptance_model.specs.Replay.{Accepted}
 use Rattle.hz_check_model.specs.Places.{Known}
@@ -28,6 +28,10 @@ not_false false e = absurd (cc)
 not_true : (b : Bool) → not b ≡ true → b ≡ false
 not_true true e = absurd (cc)
 not_true false e = refl
+
+-- a node, read where there is none
+abbrev some_node : Node
+some_node = record { class = 0; height = 0 }
 
 -- a number as a class without a fault
 abbrev good : ℕ → Result ℕ ClassFault
@@ -97,8 +101,9 @@ module _ (d : Description) (known : Known) (m : Machine) (is : IsMachineFor d kn
     each_starts none = all_start g.nodes block e ranges (λ k x at. not_false (can_start m x.class) (none_passes (λ n. not (can_start m n.class)) g.nodes none k x at))
 
     -- the one that is told is the first that can't
-    pub first_stuck : (place : ℕ) (x : Node) (i : Instruction) → cannot_start_alone m g ≡ Some place → slice_get g.nodes place ≡ Some x → slice_get block place ≡ Some i → IsFirstStuck d known block i
-    first_stuck place x i told at there =
-        let told_of = position-Some (λ n. not (can_start m n.class)) g.nodes place x told in
-        stuck_at g.nodes block e ranges place x at (not_true (can_start m x.class) (subst (λ (y : Node). not (can_start m y.class) ≡ true) (get_or_from_slice_get g.nodes place x x at) told_of.1))
-        (λ k y low is. not_false (can_start m y.class) (subst (λ (z : Node). not (can_start m z.class) ≡ false) (get_or_from_slice_get g.nodes k x y is) (told_of.2 k low))) i there
+    pub first_stuck : (place : ℕ) (i : Instruction) → cannot_start_alone m g ≡ Some place → slice_get block place ≡ Some i → IsFirstStuck d known block i
+    first_stuck place i told there =
+        let (low, stops_there, starts_before) = position-Some (λ n. not (can_start m n.class)) g.nodes place some_node told in
+        let x = get_or g.nodes place some_node in
+        stuck_at g.nodes block e ranges place x (slice_get-get_or g.nodes place some_node low) (not_true (can_start m x.class) stops_there)
+        (λ k y before is. not_false (can_start m y.class) (subst (λ (z : Node). not (can_start m z.class) ≡ false) (get_or_from_slice_get g.nodes k y some_node is) (starts_before k before))) i there

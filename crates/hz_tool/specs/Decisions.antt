@@ -121,7 +121,7 @@ IsTraceReport name classes text _ = ⊥
 
 -- a report of texts that were judged: what a schedule names is in range
 abbrev pub IsJudged : Report → Type 0
-IsJudged (Scheduled machine graph schedule) = IsInRange machine graph schedule
+IsJudged (Scheduled machine graph made) = IsInRange machine graph made
 IsJudged (Long file) = ⊥
 IsJudged Usage = ⊥
 IsJudged (File file) = ⊥

@@ -29,11 +29,7 @@ fn judge_said<'a>(alloc: Global, file: &'a str, read: &[Form]) -> Result<Checked
 }
 
 /// The description that a text says, checked, or the report of what is wrong first: a form, what forms say, or the check.
-pub fn judge_described<'a>(
-    alloc: Global,
-    file: &'a str,
-    text: &[u8],
-) -> Result<Checked, Report<'a>>
+pub fn judge_described<'a>(alloc: Global, file: &'a str, text: &[u8]) -> Result<Checked, Report<'a>>
     requires { length text.now < 2 ^ 32 }
     ensures ok { IfOk result (IsCheckedIn text.now) }
     ensures kind { IfErr result IsJudged }

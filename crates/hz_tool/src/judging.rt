@@ -16,7 +16,6 @@ ghost use Rattle.hz_sexp.specs.Shape.{trees};
 ghost use Rattle.hz_tool.specs.Decisions.{IsFormsReport, IsExpressionKind, IsDescriptionReport, IsCheckReport, IsRtlReport, IsTraceReport};
 ghost use Rattle.hz_replay.specs.Traces.{events_in, lines_in};
 
-
 use hz_check::{CheckFault, Checked, check};
 use hz_mdread::{Description, MdFault, read_description};
 use hz_regexp::{ExprFault, Name};

@@ -4,7 +4,6 @@ ghost use Rattle.std.specs.Prelude.{◌≡◌, ◌⊎◌, ◌-◌, ◌^◌, ◌<
 ghost use Rattle.std.specs.Option.{ForSome};
 ghost use Rattle.hz_tool.specs.Decisions.{CountsFile, TellsFile, IsReadReport};
 
-
 use hz_io::{Files, SlurpFault, slurp};
 use hz_report::Report;
 use std::alloc::Global;

@@ -9,7 +9,7 @@ ghost use Rattle.hz_answer_model.specs.ScheduleAnswers.{HasClasses, Schedules, S
 ghost use Rattle.hz_check.specs.Checked.{IsCheckedOf};
 ghost use Rattle.hz_check_model.specs.Places.{Known};
 ghost use Rattle.hz_depend.specs.Faults.{fault as fault_of};
-ghost use Rattle.hz_depend.specs.GraphShape.{IsSchedulable};
+ghost use Rattle.hz_depend.specs.GraphShape.{IsSchedulable, class_fault_in, first_class_fault};
 ghost use Rattle.hz_depend_model.specs.Classes.{ambiguous};
 ghost use Rattle.hz_mdread_model.specs.Descriptions.{Description};
 ghost use Rattle.hz_rtl.specs.Shape.{instruction, instructions};
@@ -67,12 +67,7 @@ fn ambiguous_report<'a>(file: &'a str, machine: &Machine, insn: &Insn, a: u32, b
 }
 
 /// The report of an instruction whose class is wrong.
-fn class_report<'a>(
-    file: &'a str,
-    machine: &Machine,
-    insn: &Insn,
-    fault: ClassFault,
-) -> Report<'a>
+fn class_report<'a>(file: &'a str, machine: &Machine, insn: &Insn, fault: ClassFault) -> Report<'a>
     requires { IsFaultIn (length machine.now.classes.items) (fault_of fault) }
     ensures kind { IsJudged result }
     ensures answer { Agrees (Says 2 (class_line file.entry.now machine.now.classes.items (instruction insn.now) (fault_of fault))) result }
@@ -137,6 +132,27 @@ fn schedule_report<'a>(
     }
 }
 
+/// The report of a block without a graph.
+fn wrong_report<'a>(
+    file: &'a str,
+    checked: &Checked,
+    machine: &Machine,
+    block: &Block,
+    wrong: DependFault,
+) -> Report<'a>
+    requires classes { length machine.now.classes.items ≡ length checked.now.classes.items }
+    requires wrong { class_fault_in (Err wrong) ≡ first_class_fault 0 checked.now block.now.insns.items }
+    ensures kind { IsJudged result }
+    ensures answer { (d : Description) (is : IsCheckedOf d checked.now) → IsMachineFor d is.known (machine_of machine.now) → Agrees (HasClasses file.entry.now d (instructions block.now) (Schedules file.entry.now d is.known (instructions block.now))) result }
+{
+    match wrong {
+        DependFault::Class { place, fault } => {
+            class_report(file, machine, insn_at(block, place), fault)
+        }
+        DependFault::NoMemory => Report::Memory,
+    }
+}
+
 /// The report of a block that is read.
 fn block_report<'a>(
     alloc: Global,
@@ -153,10 +169,7 @@ fn block_report<'a>(
 {
     match graph(alloc, checked, block) {
         Ok(graph) => schedule_report(alloc, file, machine, block, graph),
-        Err(DependFault::Class { place, fault }) => {
-            class_report(file, &machine, insn_at(block, place), fault)
-        }
-        Err(DependFault::NoMemory) => Report::Memory,
+        Err(wrong) => wrong_report(file, checked, &machine, block, wrong),
     }
 }
 

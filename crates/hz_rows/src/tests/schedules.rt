@@ -1,5 +1,7 @@
 //! Schedules: what `schedule` answers. The files `d` and `b` hold the description and the block.
 
+ghost use Rattle.std.specs.Prelude.{◌≡◌, IfOk};
+
 use super::automata::late_text;
 use super::{NEVER, expect, name_of, numbered, replays, words_of};
 use hz_io::{MemFiles, MemSink};
@@ -7,8 +9,6 @@ use hz_tool::run;
 use std::alloc::Global;
 use std::process::Abort;
 use std::test::Fail;
-
-ghost use Rattle.std.specs.Prelude.{◌≡◌, IfOk};
 
 /// The superscalar example of the manual.
 const SUPERSCALAR: &[u8] =
@@ -91,18 +91,8 @@ const SCHEDULE_ROWS: &[(&[u8], &[u8], u8, &[u8])] = &[
         b"0 1 mult\n4 2 simple\nscheduled 2 insns 4 cycles\n",
     ),
     // an empty block, also without a class
-    (
-        SUPERSCALAR,
-        b"",
-        0,
-        b"scheduled 0 insns 0 cycles\n",
-    ),
-    (
-        b"",
-        b"",
-        0,
-        b"scheduled 0 insns 0 cycles\n",
-    ),
+    (SUPERSCALAR, b"", 0, b"scheduled 0 insns 0 cycles\n"),
+    (b"", b"", 0, b"scheduled 0 insns 0 cycles\n"),
     // one pipeline: equal heights in the order of the source, and numbers as they are given
     (
         ONE_UNIT,
@@ -115,12 +105,7 @@ const SCHEDULE_ROWS: &[(&[u8], &[u8], u8, &[u8])] = &[
 /// Blocks with a fault of each kind.
 const FAULT_ROWS: &[(&[u8], &[u8], u8, &[u8])] = &[
     // faults of forms
-    (
-        SUPERSCALAR,
-        b"(insn 1",
-        2,
-        b"fault b line 1 Unclosed\n",
-    ),
+    (SUPERSCALAR, b"(insn 1", 2, b"fault b line 1 Unclosed\n"),
     (
         SUPERSCALAR,
         b"(insn 1 (use (const_int 0)))\n)",
@@ -139,12 +124,7 @@ const FAULT_ROWS: &[(&[u8], &[u8], u8, &[u8])] = &[
         2,
         b"fault b line 1 TooDeep\n",
     ),
-    (
-        SUPERSCALAR,
-        b"{",
-        2,
-        b"fault b line 1 BadByte\n",
-    ),
+    (SUPERSCALAR, b"{", 2, b"fault b line 1 BadByte\n"),
     (
         SUPERSCALAR,
         b"18446744073709551616",
@@ -152,12 +132,7 @@ const FAULT_ROWS: &[(&[u8], &[u8], u8, &[u8])] = &[
         b"fault b line 1 NumberTooLarge\n",
     ),
     // faults of the forms of a block
-    (
-        SUPERSCALAR,
-        b"(insn 1)",
-        2,
-        b"fault b line 1 BadShape\n",
-    ),
+    (SUPERSCALAR, b"(insn 1)", 2, b"fault b line 1 BadShape\n"),
     (
         SUPERSCALAR,
         b"(insn 1 (use (frob (reg 2))))",
@@ -213,18 +188,8 @@ const FAULT_ROWS: &[(&[u8], &[u8], u8, &[u8])] = &[
 /// Two faults, of which the first is told.
 const PAIR_ROWS: &[(&[u8], &[u8], u8, &[u8])] = &[
     // a fault of the description is told before one of the block
-    (
-        b"\n(",
-        b")",
-        2,
-        b"fault d line 2 Unclosed\n",
-    ),
-    (
-        b"(what)",
-        b")",
-        2,
-        b"fault d line 1 UnknownForm\n",
-    ),
+    (b"\n(", b")", 2, b"fault d line 2 Unclosed\n"),
+    (b"(what)", b")", 2, b"fault d line 1 UnknownForm\n"),
     (
         b"(define_reservation \"r\" \"u\")",
         b")",
@@ -238,12 +203,7 @@ const PAIR_ROWS: &[(&[u8], &[u8], u8, &[u8])] = &[
         b"limit d line 1 Cycles x\n",
     ),
     // forms before what they say, and both before classes
-    (
-        TWO_CLASSES,
-        b"(what)\n)",
-        2,
-        b"fault b line 2 Stray\n",
-    ),
+    (TWO_CLASSES, b"(what)\n)", 2, b"fault b line 2 Stray\n"),
     (
         TWO_CLASSES,
         b"(insn 1 (use (const_int 0)))\n(insn 1)",
@@ -362,8 +322,14 @@ fn a_schedule_that_does_not_fit_is_cut(rt: HostRuntime) -> Result<(), Fail> {
 fn files_of_a_schedule_that_are_missing(rt: HostRuntime) -> Result<(), Fail> {
     let alloc = rt.alloc();
     for (words, text) in [
-        (["schedule", "d", "e"], b"file e could not be read\n".as_slice()),
-        (["schedule", "e", "f"], b"file e could not be read\n".as_slice()),
+        (
+            ["schedule", "d", "e"],
+            b"file e could not be read\n".as_slice(),
+        ),
+        (
+            ["schedule", "e", "f"],
+            b"file e could not be read\n".as_slice(),
+        ),
     ] {
         let files = files_with(&rt, alloc, b"(", b"(")?;
         expect(&rt, alloc, &words, files, 1000, 6, text)?;

@@ -1,13 +1,12 @@
-use Rattle.std.proofs.Common.{◌≡◌, ℕ, length, Some, sym, subst}
+use Rattle.std.proofs.Common.{ℕ, sym, subst}
 use Rattle.hz_answer_model.specs.ScheduleAnswers.{Schedules}
-use Rattle.hz_depend.specs.Faults.{fault}
 use Rattle.hz_depend.specs.GraphShape.{IsSchedulable}
-use Rattle.hz_rtl.specs.Shape.{instruction, instructions}
+use Rattle.hz_rtl.specs.Shape.{instructions}
 use Rattle.hz_sched.specs.Shape.{graph_of}
 use Rattle.hz_scheduled_model.specs.BlockGraphs.{classes_of}
 use Rattle.hz_scheduled_model.proofs.GraphLaws.{all_have_classes}
-use Rattle.hz_tool.proofs.BlockLemmas.{graph_size, is_graph, first_wrong, wrong_within, fault_in_range}
-use Rattle.hz_tool.proofs.JudgeLemmas.{classes_on, class_refused}
+use Rattle.hz_tool.proofs.BlockLemmas.{graph_size, is_graph}
+use Rattle.hz_tool.proofs.JudgeLemmas.{classes_on}
 use Rattle.hz_tool.proofs.scheduling.block_report.Goals as goal
 
 pub schedule_report-requires-clause-schedulable : goal.schedule_report-requires-clause-schedulable
