@@ -21,7 +21,7 @@ expect() {
     fi
 }
 
-usage='usage: hz replay DESC TRACE | eval BLOCK STATE'
+usage='usage: hz replay DESC TRACE | schedule DESC BLOCK | eval BLOCK STATE'
 printf '(define_cpu_unit "a")\n(define_insn_reservation "x" 1 (const_int 1) "nothing,a")\n' > d
 printf '(define_automaton "m,n")\n(define_cpu_unit "a" "m")\n(define_cpu_unit "b" "n")\n(define_insn_reservation "x" 1 (const_int 1) "a+b")\n' > two_automata
 printf '(define_cpu_unit "a,b")\n(automata_option "ndfa")\n(define_insn_reservation "x" 1 (const_int 1) "a|b")\n(define_insn_reservation "y" 1 (const_int 1) "a")\n' > ndfa
@@ -43,6 +43,12 @@ printf 'issue x\nadvance 1\nissue x\n' > t
 printf '(insn 1 (set (reg 2) (plus (reg 1) (const_int 1))))\n' > b
 printf '(reg 1 6)\n' > s
 printf '(insn 1 (set (reg 2)\n  (what)))\n' > code
+printf '(define_attr "type" "a,b,c" (const_string "a"))\n(define_cpu_unit "u,v")\n(presence_set "v" "u")\n(define_insn_reservation "x" 2 (eq_attr "type" "a,b") "u")\n(define_insn_reservation "y" 1 (eq_attr "type" "b") "u")\n(define_insn_reservation "z" 1 (const_int 0) "v")\n' > classes
+printf '(insn 1 (use (reg 1)))\n(insn 2 (use (reg 1)) (set_attr "type" "b"))\n' > ambiguous
+printf '(insn 1 (use (reg 1)) (set_attr "type" "c"))\n' > no_class
+printf '(insn 1 (use (reg 1)) (set_attr "kind" "c"))\n' > attribute
+printf '(insn 1 (use (reg 1)) (set_attr "type" "d"))\n' > value
+printf '(define_cpu_unit "u,v")\n(presence_set "v" "u")\n(define_insn_reservation "x" 1 (const_int 1) "v")\n' > never
 printf 'issue x\nissue x\n' > twice
 printf '; no class has this name\nissue z\n' > unknown
 printf '\n  issue x ; late\n' > bad
@@ -62,6 +68,18 @@ expect 1 'refused line 2 x' replay d twice
 expect 0 "$(printf '(reg 1 6)\n(reg 2 7)')" eval b s
 expect 0 '' eval empty empty
 expect 2 'fault code line 2 UnknownCode' eval code s
+expect 0 "$(printf '0 1 x\nscheduled 1 insns 0 cycles')" schedule d b
+expect 0 'scheduled 0 insns 0 cycles' schedule d empty
+expect 2 'fault ambiguous line 2 Ambiguous insn 2 x y' schedule classes ambiguous
+expect 2 'fault no_class line 1 NoClass insn 1' schedule classes no_class
+expect 2 'fault attribute line 1 UnknownAttribute insn 1' schedule classes attribute
+expect 2 'fault value line 1 UnknownValue insn 1' schedule classes value
+expect 2 'fault b line 1 CannotStartAlone insn 1' schedule never b
+expect 2 'fault code line 2 UnknownCode' schedule d code
+expect 2 'fault unclosed line 1 Unclosed' schedule unclosed code
+expect 3 'limit states automaton -' schedule states code
+expect 3 'limit long bytes' schedule d long
+expect 6 'file missing could not be read' schedule d missing
 expect 2 'fault b line 1 BadShape' eval b b
 expect 3 'limit long bytes' eval b long
 expect 6 'file missing could not be read' eval b missing

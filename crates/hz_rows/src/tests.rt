@@ -8,6 +8,7 @@ mod failures;
 mod limits;
 mod machines;
 mod pairs;
+mod schedules;
 mod splits;
 mod texts;
 mod traces;

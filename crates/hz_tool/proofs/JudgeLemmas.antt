@@ -1,14 +1,19 @@
 -- The reports of the phases of judging a description are what is to be answered.
-use Rattle.std.proofs.Common.{◌≡◌, ℕ, List, [], ◌∷◌, inl, inr, MatchOption, codes, decimal, refl, sym, ap, ◌∙◌}
+use Rattle.std.specs.Prelude.{Ok}
+use Rattle.std.proofs.Common.{◌≡◌, ℕ, All, List, [], ◌∷◌, inl, inr, ⊎_elim, MatchOption, codes, decimal, refl, sym, ap, ◌∙◌}
 use Rattle.hz_check.specs.Faults.{limit_of}
-use Rattle.hz_answer_model.specs.Answers.{Describes, Checks}
-use Rattle.hz_answer_model.specs.Phases.{Next, HasForms}
+use Rattle.hz_answer_model.specs.Answers.{Describes, Checks, HasDescription}
+use Rattle.hz_answer_model.specs.Phases.{Says, Next, HasForms}
+use Rattle.hz_answer_model.specs.ScheduleAnswers.{HasClasses, Schedules}
+use Rattle.hz_depend_model.specs.Classes.{ClassFault}
+use Rattle.hz_scheduled_model.specs.BlockGraphs.{class_in, IsFirstClassFault}
+use Rattle.hz_scheduled_model.specs.BlockSchedules.{IsFirstStuck}
 use Rattle.hz_check_model.specs.CheckFaults.{IsSound, limit}
-use Rattle.hz_check_model.specs.Places.{Known}
+use Rattle.hz_check_model.specs.Places.{Known, class_names}
 use Rattle.hz_mdread_model.specs.DescriptionForms.{DescriptionFault}
 use Rattle.hz_mdread_model.specs.DescriptionForms as description_forms
 use Rattle.hz_mdread_model.specs.Descriptions.{Description}
-use Rattle.hz_answer_model.specs.FaultTexts.{form_word, expression_word, description_words, check_line, check_status}
+use Rattle.hz_answer_model.specs.FaultTexts.{form_word, expression_word, description_words, check_line, check_status, class_line, stuck_line}
 use Rattle.hz_answer_model.specs.FaultTexts as texts
 use Rattle.hz_sexp_model.specs.Forms.{FormFault}
 use Rattle.hz_sexp_model.specs.Forms as forms
@@ -24,17 +29,19 @@ use Rattle.hz_rtltext_model.specs.Operands as rtl
 use Rattle.hz_rtltext_model.specs.BlockForms as blocks
 use Rattle.hz_rtltext_model.specs.StateForms as states
 use Rattle.hz_tool.proofs.AnswerLemmas.{agrees_weaker}
+use Rattle.hz_check.specs.declared.checked.Checked.{Checked}
+use Rattle.hz_tool.specs.Fronts.{IsCheckedIn, IsDescribedReport}
 use Rattle.hz_tool.specs.Decisions.{Agrees, IsFormsReport, IsDescriptionReport, IsCheckReport, IsRtlReport}
-use Rattle.hz_tool.specs.Kinds.{kind_word, form_fault, description_fault, expression_fault, named_fault, named_word, rtl_fault}
-use Rattle.hz_tool.specs.Kinds as kinds
-use Rattle.hz_tool.specs.declared.kind.Kind.{Kind}
-use Rattle.hz_tool.specs.declared.kind.Kind.TheVariants as kind
-use Rattle.hz_tool.specs.declared.kind.ExpressionKind.{ExpressionKind}
-use Rattle.hz_tool.specs.declared.kind.ExpressionKind.TheVariants as expression
-use Rattle.hz_tool.specs.declared.kind.NamedKind.{NamedKind}
-use Rattle.hz_tool.specs.declared.kind.NamedKind.TheVariants as named
-use Rattle.hz_tool.specs.declared.report.Report.{Report}
-use Rattle.hz_tool.specs.declared.report.Report.TheVariants.{Fault, Expression, Named, Passed, Memory}
+use Rattle.hz_report.specs.Kinds.{kind_word, form_fault, description_fault, expression_fault, named_fault, named_word, rtl_fault}
+use Rattle.hz_report.specs.Kinds as kinds
+use Rattle.hz_report.specs.declared.kind.Kind.{Kind}
+use Rattle.hz_report.specs.declared.kind.Kind.TheVariants as kind
+use Rattle.hz_report.specs.declared.kind.ExpressionKind.{ExpressionKind}
+use Rattle.hz_report.specs.declared.kind.ExpressionKind.TheVariants as expression
+use Rattle.hz_report.specs.declared.kind.NamedKind.{NamedKind}
+use Rattle.hz_report.specs.declared.kind.NamedKind.TheVariants as named
+use Rattle.hz_report.specs.declared.report.Report.{Report}
+use Rattle.hz_report.specs.declared.report.Report.TheVariants.{Fault, Expression, Named, Passed, Memory}
 
 -- what is said of the fault that a kind tells holds of one with the kind's word
 form_said : (k : Kind) (P : FormFault → Type 0) → MatchOption (form_fault k) ⊥ P → (fault : FormFault) × P fault × (kind_word k ≡ form_word fault)
@@ -136,6 +143,23 @@ description_on name read d next report is = agrees_weaker (next d) (Describes na
 pub check_on : (name : List ℕ) (d : Description) (known : Known) (next : Next Known) (report : Report) → IsSound d known → Agrees (next known) report → Agrees (Checks name d next) report
 check_on name d known next report is = agrees_weaker (next known) (Checks name d next) (λ s t a. inl (known, is, a)) report
 
+-- what is wrong with the text of a description is told
+pub described_refused : (name bytes : List ℕ) (next : (d : Description) → Next Known) (report : Report) → IsDescribedReport name bytes report → Agrees (HasDescription name bytes next) report
+described_refused name bytes next report =
+    ⊎_elim (forms_refused name bytes says report)
+    (λ h. forms_on name bytes h.0 says report h.1
+    (⊎_elim (description_refused name h.0 (λ d. Checks name d (next d)) report)
+    (λ k. description_on name h.0 k.0 (λ d. Checks name d (next d)) report k.1 (check_refused name k.0 (next k.0) report k.2)) h.2))
+  where
+    says : Next Trees
+    says read = Describes name read (λ d. Checks name d (next d))
+
+-- a description without a fault leads on
+pub described_on : (name bytes : List ℕ) (checked : Checked) (next : (d : Description) → Next Known) (report : Report) (is : IsCheckedIn bytes checked) → Agrees (next is.d is.is.known) report → Agrees (HasDescription name bytes next) report
+described_on name bytes checked next report is h =
+    forms_on name bytes is.read (λ read. Describes name read (λ d. Checks name d (next d))) report is.forms
+    (description_on name is.read is.d (λ d. Checks name d (next d)) report is.says (check_on name is.d is.is.known (next is.d) report is.is.sound h))
+
 -- Blocks and states.
 
 rtl_said : (k : Kind) (P : RtlFault → Type 0) → MatchOption (rtl_fault k) ⊥ P → (fault : RtlFault) × P fault × (kind_word k ≡ rtl_word fault)
@@ -167,3 +191,18 @@ block_on name read block next report is = agrees_weaker (next block) (IsBlock na
 
 pub state_on : (name : List ℕ) (read : Trees) (state : State) (next : Next State) (report : Report) → states.Reads read state → Agrees (next state) report → Agrees (IsState name read next) report
 state_on name read state next report is = agrees_weaker (next state) (IsState name read next) (λ s t a. inl (state, is, a)) report
+
+-- the instructions of a block have classes
+pub classes_on : (name : List ℕ) (d : Description) (block : List Instruction) (next : ℕ → List ℕ → Type 0) (report : Report) → All (λ i. (class : ℕ) × (class_in d i ≡ Ok class)) block → Agrees next report → Agrees (HasClasses name d block next) report
+classes_on name d block next report all = agrees_weaker next (HasClasses name d block next) (λ s t a. inl (all, a)) report
+
+-- the first whose class is wrong is told
+pub class_refused : (name : List ℕ) (d : Description) (names : List (List ℕ)) (block : List Instruction) (next : ℕ → List ℕ → Type 0) (report : Report) (i : Instruction) (fault : ClassFault) → names ≡ class_names d → IsFirstClassFault d block i fault
+    → Agrees (Says 2 (class_line name names i fault)) report → Agrees (HasClasses name d block next) report
+class_refused name d names block next report i fault same first =
+    agrees_weaker (Says 2 (class_line name names i fault)) (HasClasses name d block next)
+    (λ s t a. inr (i, fault, first, (a.0, a.1 ∙ ap (λ (ns : List (List ℕ)). class_line name ns i fault) same))) report
+
+-- the first that can't be issued from the start is told
+pub stuck_refused : (name : List ℕ) (d : Description) (known : Known) (block : List Instruction) (report : Report) (i : Instruction) → IsFirstStuck d known block i → Agrees (Says 2 (stuck_line name i)) report → Agrees (Schedules name d known block) report
+stuck_refused name d known block report i first = agrees_weaker (Says 2 (stuck_line name i)) (Schedules name d known block) (λ s t a. inr (i, first, a)) report

@@ -1,7 +1,8 @@
 pub mod AnswerLemmas
+pub mod BlockLemmas
 pub mod JudgeLemmas
-pub mod ListingLemmas
 pub mod MachineLemmas
 pub mod RunLemmas
+pub mod SlotLemmas
+pub mod StartLemmas
 pub mod TraceLemmas
-pub mod WritingLemmas

@@ -4,8 +4,7 @@ use Rattle.std.specs.Prelude.{IsSome, slice_index_or}
 use Rattle.std.proofs.lemmas.List.{length-map}
 use Rattle.hz_acceptance_model.specs.Events.{Event, IsOfClass}
 use Rattle.hz_acceptance_model.specs.Replay.{Accepted, FirstRefused}
-use Rattle.hz_answer_model.specs.Answers.{Replays, ReplaysTrace, ReplaysDescription}
-use Rattle.hz_answer_model.specs.Phases.{Says}
+use Rattle.hz_answer_model.specs.Answers.{Replays, Compiles}
 use Rattle.hz_answer_model.specs.Texts.{states_line}
 use Rattle.hz_answer_model.proofs.EventLaws.{issue_named}
 use Rattle.hz_auto_model.specs.Compiled.{IsCompiled, IsFirstPast, Report as Told}
@@ -23,8 +22,10 @@ use Rattle.hz_replay.specs.Replaying.{FirstUnwalked}
 use Rattle.hz_tables_model.specs.Machines.{Machine, machine_walk}
 use Rattle.hz_tool.proofs.AnswerLemmas.{agrees_weaker}
 use Rattle.hz_tool.specs.Decisions.{Agrees}
+use Rattle.hz_tool.specs.Fronts.{IsStatesReport, IsLimitReport}
 use Rattle.hz_tool.specs.Machines.{IsMachineFor, Refuses}
-use Rattle.hz_tool.specs.declared.report.Report.{Report}
+use Rattle.hz_report.specs.declared.report.Report.{Report}
+use Rattle.hz_report.specs.declared.report.Report.TheVariants.{States, Memory}
 
 pub map_twice : {A B C : Type 0} (f : B → C) (g : A → B) (xs : List A) → map f (map g xs) ≡ map (λ x. f (g x)) xs
 map_twice f g [] = refl
@@ -85,15 +86,10 @@ module _ (d : Description) (checked : Checked) (is : IsCheckedOf d checked) wher
   machine_for m reports h =
       let here = compiled_of m reports h in
       record {
+        keeps = all_keep d is.known m reports here;
         names = here.names ∙ map_twice (λ c. c.name) (class_parts d is.known) d.classes;
         walks = λ t all. machine_accepts d is.known m reports here t all is.sound;
       }
-
-  -- its trace is replayed
-  pub compiled_replays : (description trace traced : List ℕ) (m : Machine) (reports : List Told) → IsCompiled (options_of checked.options) (map automaton_of checked.automata.items) (map class_of checked.classes.items) m reports → (report : Report) → Agrees (ReplaysTrace trace traced d is.known) report → Agrees (ReplaysDescription description trace traced d is.known) report
-  compiled_replays description trace traced m reports h report answers =
-      agrees_weaker (ReplaysTrace trace traced d is.known) (ReplaysDescription description trace traced d is.known)
-      (λ s t x. inl (all_keep d is.known m reports (compiled_of m reports h), x)) report answers
 
   names_from : (n : ℕ) (names : List (List ℕ)) → map (λ (p : AutomatonParts). p.name) (automata_from d n names) ≡ names
   names_from n [] = refl
@@ -105,7 +101,19 @@ module _ (d : Description) (checked : Checked) (is : IsCheckedOf d checked) wher
       ∙ (ap (map (λ (p : AutomatonParts). p.name)) is.automata ∙ names_from 0 (automaton_names d))
 
   -- a limit of its states is told
-  pub limit_told : (description trace traced : List ℕ) (a : ℕ) (kind : Count) → IsFirstPast (options_of checked.options) (map automaton_of checked.automata.items) (map class_of checked.classes.items) a kind → (report : Report) → Agrees (Says 3 (states_line description (slice_index_or (map (λ x. x.name) checked.automata.items) a []))) report → Agrees (ReplaysDescription description trace traced d is.known) report
-  limit_told description trace traced a kind first report says =
-      agrees_weaker (Says 3 (states_line description (slice_index_or (map (λ x. x.name) checked.automata.items) a []))) (ReplaysDescription description trace traced d is.known)
-      (λ s t x. inr (a, first_past d is.known a kind (first_of a kind first), (x.0, x.1 ∙ ap (λ ns. states_line description (slice_index_or ns a [])) names_held))) report says
+  pub limit_told : (name : List ℕ) (a : ℕ) (kind : Count) → IsFirstPast (options_of checked.options) (map automaton_of checked.automata.items) (map class_of checked.classes.items) a kind
+      → (report : Report) → IsStatesReport name (slice_index_or (map (λ x. x.name) checked.automata.items) a []) report → IsLimitReport name d is.known report
+  limit_told name a kind first (States file at) (same, named) = (same, (a, first_past d is.known a kind (first_of a kind first), named ∙ ap (λ ns. slice_index_or ns a []) names_held))
+  limit_told name a kind first Memory h = tt
+  limit_told name a kind first _ h = absurd h
+
+-- a description that is compiled leads on
+pub compiled_on : (name : List ℕ) (d : Description) (known : Known) (m : Machine) → IsMachineFor d known m → (next : ℕ → List ℕ → Type 0) (report : Report) → Agrees next report → Agrees (Compiles name d known next) report
+compiled_on name d known m is next report h = agrees_weaker next (Compiles name d known next) (λ s t x. inl (is.keeps, x)) report h
+
+-- a limit of its states is an answer
+pub limit_refused : (name : List ℕ) (d : Description) (known : Known) (next : ℕ → List ℕ → Type 0) (report : Report) → IsLimitReport name d known report → Agrees (Compiles name d known next) report
+limit_refused name d known next (States file at) (same, (a, first, named)) =
+    inr (a, first, (refl, ap (λ (f : List ℕ). states_line f at) same ∙ ap (states_line name) named))
+limit_refused name d known next Memory h = tt
+limit_refused name d known next _ h = absurd h

@@ -1,17 +1,20 @@
 use Rattle.std.proofs.Common.{◌≡◌, ℕ, ◌<◌, ◌≤◌, ◌⊎◌, inl, inr, Bool, List, length, Option, Some, nat_lt, MatchBool, MatchOption, refl, sym, subst, arith}
 use Rattle.std.proofs.lemmas.Bool.{le-ltb}
-use Rattle.hz_answer_model.specs.Answers.{Answer, Judges, AnswersReplay, AnswersEval}
+use Rattle.hz_answer_model.specs.Answers.{Answer, AnswersOrder, Judges, HasDescription, SchedulesByDescription, AnswersReplay, AnswersSchedule, AnswersEval}
 use Rattle.hz_answer_model.specs.BlockAnswers.{block_limit, state_text_limit, JudgesBlock}
 use Rattle.hz_answer_model.specs.Phases.{Held, Next, Opens, Says}
 use Rattle.hz_base_model.specs.Limits.{description_limit, trace_limit}
-use Rattle.hz_answer_model.specs.Texts.{file_line, limit_line}
+use Rattle.hz_answer_model.specs.Headline.{WritesSchedule}
+use Rattle.hz_answer_model.specs.Texts.{file_line, limit_line, usage_line}
+use Rattle.hz_answer_model.specs.Words.{Order, schedule, order_of}
 use Rattle.hz_tool.specs.Decisions.{Agrees, CountsReport, NamesFile, IsFileWord}
 use Rattle.hz_tool.specs.Endings.{IsAppended, SaysFile, Completes, MayWrite}
-use Rattle.hz_tool.specs.Reports.{text_of, status_of}
-use Rattle.hz_tool.specs.declared.report.Report.{Report}
-use Rattle.hz_tool.specs.declared.report.Report.TheVariants.{Memory, File}
+use Rattle.hz_report.specs.Reports.{text_of, status_of}
+use Rattle.hz_report.specs.declared.report.Report.{Report}
+use Rattle.hz_report.specs.declared.report.Report.TheVariants.{Memory, File}
 use Rattle.hz_tool.proofs.AnswerLemmas.{agrees_weaker}
 use Rattle.hz_answer_model.proofs.AnswerLaws.{answer_single}
+use Rattle.hz_answer_model.proofs.HeadlineLaws.{writes_schedule}
 
 -- a file that is there and not too long leads on
 pub opens_found : (held : Held) (name : List ℕ) (most : ℕ) (bytes : List ℕ) (next : Next (List ℕ)) (s : ℕ) (t : List ℕ) → held name ≡ Some bytes → length bytes ≤ most → next bytes s t → Opens held name most next s t
@@ -25,6 +28,15 @@ pub answers_replay : (held : Held) (description trace described traced : List �
 answers_replay held description trace described traced report found short found' short' h =
     agrees_weaker (Judges description described trace traced) (AnswersReplay held description trace)
     (λ s t j. opens_found held description description_limit described (λ bytes. Opens held trace trace_limit (λ others. Judges description bytes trace others)) s t found short (opens_found held trace trace_limit traced (λ bytes. Judges description described trace bytes) s t found' short' j))
+    report h
+
+-- the same of a description and a block
+pub answers_schedule : (held : Held) (description block described blocked : List ℕ) (report : Report) → held description ≡ Some described → length described ≤ description_limit → held block ≡ Some blocked → length blocked ≤ block_limit
+    → Agrees (HasDescription description described (SchedulesByDescription description block blocked)) report → Agrees (AnswersSchedule held description block) report
+answers_schedule held description block described blocked report found short found' short' h =
+    agrees_weaker (HasDescription description described (SchedulesByDescription description block blocked)) (AnswersSchedule held description block)
+    (λ s t j. opens_found held description description_limit described (λ bytes. Opens held block block_limit (λ others. HasDescription description bytes (SchedulesByDescription description block others))) s t found short
+    (opens_found held block block_limit blocked (λ bytes. HasDescription description described (SchedulesByDescription description block bytes)) s t found' short' j))
     report h
 
 -- the same of a block and a state
@@ -59,3 +71,17 @@ file_answer answer old new _ counts more h = absurd (omega arith)
 pub completes : (words : List (List ℕ)) (held : Held) (report : Report) (old new : Option (List ℕ)) → Agrees (Answer words held) report → IsAppended old new (text_of report) → Completes words held (status_of report) old new
 completes words held Memory old new h appended = inl refl
 completes words held _ old new h appended = inr (_, h, appended)
+
+-- an answer with status 0 on a description and a block keeps the block
+written : (words : List (List ℕ)) (held : Held) (status : ℕ) (text description block : List ℕ) → Answer words held status text → status ≡ 0 → order_of words ≡ Some (schedule description block) → WritesSchedule held description block text
+written words held status text description block h zero is =
+    writes_schedule held description block text
+    (subst (λ (n : ℕ). AnswersSchedule held description block n text) zero
+    (subst (λ (o : Option Order). MatchOption o (Says 4 usage_line status text) (λ order. AnswersOrder held order status text)) is h))
+
+-- a report with status 0 on a description and a block keeps the block
+pub keeps_block : (words : List (List ℕ)) (held : Held) (old new : ℕ) (steady : Type 0) (report : Report) → CountsReport old new report → ((new ≡ old) ⊎ steady → Agrees (Answer words held) report) → status_of report ≡ 0
+    → (description block : List ℕ) → order_of words ≡ Some (schedule description block) → WritesSchedule held description block (text_of report)
+keeps_block words held old new steady Memory same answer zero description block is = absurd (omega (arith, zero))
+keeps_block words held old new steady (File name) same answer zero description block is = absurd (omega (arith, zero))
+keeps_block words held old new steady _ same answer zero description block is = written words held _ _ description block (answer (inl same)) zero is

@@ -18,11 +18,11 @@ use Rattle.hz_trace_model.specs.Traces.{Trace, TraceFault, TraceFaultAt, Line, l
 use Rattle.hz_trace_model.specs.Traces as trace
 use Rattle.hz_tool.proofs.AnswerLemmas.{agrees_weaker}
 use Rattle.hz_tool.specs.Decisions.{Agrees, IsTraceReport}
-use Rattle.hz_tool.specs.Kinds.{kind_word, trace_fault}
-use Rattle.hz_tool.specs.declared.kind.Kind.{Kind}
-use Rattle.hz_tool.specs.declared.kind.Kind.TheVariants as kind
-use Rattle.hz_tool.specs.declared.report.Report.{Report}
-use Rattle.hz_tool.specs.declared.report.Report.TheVariants as report
+use Rattle.hz_report.specs.Kinds.{kind_word, trace_fault}
+use Rattle.hz_report.specs.declared.kind.Kind.{Kind}
+use Rattle.hz_report.specs.declared.kind.Kind.TheVariants as kind
+use Rattle.hz_report.specs.declared.report.Report.{Report}
+use Rattle.hz_report.specs.declared.report.Report.TheVariants as report
 
 -- what is said of the fault that a kind tells holds of one with the kind's word
 trace_said : (k : Kind) (P : TraceFault → Type 0) → MatchOption (trace_fault k) ⊥ P → (fault : TraceFault) × P fault × (kind_word k ≡ trace_word fault)

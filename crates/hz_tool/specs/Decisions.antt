@@ -6,20 +6,21 @@ use Rattle.hz_check.specs.Faults.{limit_of, IsToldAt}
 use Rattle.hz_mdread.specs.Faults.{TellsExpression}
 use Rattle.hz_regexp.specs.declared.fault.ExprFault.{ExprFault}
 use Rattle.hz_regexp.specs.declared.fault.ExprFault.TheVariants as expr
-use Rattle.hz_tool.specs.declared.kind.ExpressionKind.{ExpressionKind}
+use Rattle.hz_report.specs.declared.kind.ExpressionKind.{ExpressionKind}
 use Rattle.hz_answer_model.specs.Phases.{Held}
 use Rattle.hz_check_model.specs.CheckFaults.{limit}
 use Rattle.hz_mdread_model.specs.DescriptionForms as description_forms
 use Rattle.hz_mdread_model.specs.Descriptions.{Description}
 use Rattle.hz_sexp_model.specs.Forms as forms
 use Rattle.hz_sexp_model.specs.Trees.{Trees}
-use Rattle.hz_answer_model.specs.Words.{Order, replay, eval, order_of}
-use Rattle.hz_tool.specs.Kinds.{form_fault, description_fault, expression_fault, named_fault, rtl_fault, trace_fault}
+use Rattle.hz_answer_model.specs.Words.{Order, replay, schedule, eval, order_of}
+use Rattle.hz_report.specs.Kinds.{form_fault, description_fault, expression_fault, named_fault, rtl_fault, trace_fault}
 use Rattle.hz_rtltext_model.specs.Operands.{RtlFault}
 use Rattle.hz_trace_model.specs.Traces.{TraceFaultAt}
-use Rattle.hz_tool.specs.Reports.{status_of, text_of}
-use Rattle.hz_tool.specs.declared.report.Report.{Report}
-use Rattle.hz_tool.specs.declared.report.Report.TheVariants.{Fault, Expression, Named, Passed, Long, Usage, Memory, File}
+use Rattle.hz_report.specs.Reports.{status_of, text_of}
+use Rattle.hz_report.specs.Schedules.{IsInRange}
+use Rattle.hz_report.specs.declared.report.Report.{Report}
+use Rattle.hz_report.specs.declared.report.Report.TheVariants.{Scheduled, Fault, Expression, Named, Passed, Long, Usage, Memory, File}
 
 -- the report is that memory ran out
 abbrev pub is_memory : Report → Bool
@@ -52,6 +53,7 @@ IsOfOrder _ = ⊤
 -- the file words of an order
 abbrev pub IsFileOf : Order → List ℕ → Type 0
 IsFileOf (replay description trace) name = (name ≡ description) ⊎ (name ≡ trace)
+IsFileOf (schedule description block) name = (name ≡ description) ⊎ (name ≡ block)
 IsFileOf (eval block state) name = (name ≡ block) ⊎ (name ≡ state)
 
 -- what reading a file for a report says of the counts
@@ -117,8 +119,9 @@ IsTraceReport name classes text (Fault file line kind) = (file.now ≡ name) × 
 IsTraceReport name classes text Memory = ⊤
 IsTraceReport name classes text _ = ⊥
 
--- a report of texts that were judged
+-- a report of texts that were judged: what a schedule names is in range
 abbrev pub IsJudged : Report → Type 0
+IsJudged (Scheduled machine graph made) = IsInRange machine graph made
 IsJudged (Long file) = ⊥
 IsJudged Usage = ⊥
 IsJudged (File file) = ⊥

@@ -1,6 +1,6 @@
+pub mod Blocks
 pub mod Decisions
 pub mod Endings
-pub mod Kinds
+pub mod Fronts
 pub mod Machines
-pub mod Reports
 pub mod Words

@@ -4,13 +4,16 @@ use Rattle.hz_acceptance_model.specs.Events.{Event, issue, IsOfClass}
 use Rattle.hz_acceptance_model.specs.Replay.{Accepted}
 use Rattle.hz_answer_model.specs.Phases.{Says}
 use Rattle.hz_answer_model.specs.Texts.{refused_line}
+use Rattle.hz_auto_model.specs.DescriptionLimits.{AllKeepLimits}
 use Rattle.hz_check_model.specs.Places.{Known, class_names}
 use Rattle.hz_mdread_model.specs.Descriptions.{Description}
 use Rattle.hz_pipeline_model.specs.Pipelines.{pipeline_with}
 use Rattle.hz_tables_model.specs.Machines.{Machine, machine_walk}
 
--- The machine has the classes of the description, and walks just the events that the description accepts.
+-- The machine has the classes of the description, whose automata are within their limits of states, and walks just the events that the
+-- description accepts.
 pub record IsMachineFor (d : Description) (known : Known) (m : Machine) : Type 0 where
+  pub keeps : AllKeepLimits d known
   pub names : m.classes ≡ class_names d
   pub walks : (t : List Event) → All (IsOfClass (length d.classes)) t → IsSome (machine_walk m t) ↔ Accepted (pipeline_with d known) t
 

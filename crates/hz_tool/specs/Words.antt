@@ -3,7 +3,7 @@ use Rattle.std.specs.String.{string_bytes}
 use Rattle.std.specs.declared.alloc.Global.{Global}
 use Rattle.hz_answer_model.specs.Words as model
 use Rattle.hz_tool.specs.declared.words.Order.{Order}
-use Rattle.hz_tool.specs.declared.words.Order.TheVariants.{Replay, Eval}
+use Rattle.hz_tool.specs.declared.words.Order.TheVariants.{Replay, Schedule, Eval}
 
 -- the bytes of words
 abbrev pub words_in : List (String Global) → List (List ℕ)
@@ -12,4 +12,5 @@ words_in words = map string_bytes words
 -- an order of the program as one of the model
 abbrev pub order_in : Order → model.Order
 order_in (Replay order) = model.replay order.description.now order.trace.now
+order_in (Schedule order) = model.schedule order.description.now order.block.now
 order_in (Eval order) = model.eval order.block.now order.state.now

@@ -17,12 +17,11 @@ ghost use Rattle.hz_sexp.specs.Shape.{trees};
 ghost use Rattle.hz_tool.specs.Decisions.{IsFormsReport, IsExpressionKind, IsDescriptionReport, IsCheckReport, IsRtlReport, IsTraceReport};
 ghost use Rattle.hz_replay.specs.Traces.{events_in, lines_in};
 
-use super::kind::{ExpressionKind, Kind, NamedKind};
-use super::report::Report;
 use hz_check::{CheckFault, Checked, check};
 use hz_mdread::{Description, MdFault, read_description};
 use hz_regexp::{ExprFault, Name};
 use hz_replay::{Event, TraceFault, read_trace};
+use hz_report::{ExpressionKind, Kind, NamedKind, Report};
 use hz_rtl::{Block, RtlFault, State, read_block, read_state};
 use hz_sexp::{Form, SexpFault, read_forms};
 use hz_tables::Machine;

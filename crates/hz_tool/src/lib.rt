@@ -1,15 +1,13 @@
 //! The top call: words, files and phases, and the answer.
 #![tactic(auto)]
 
+mod compiling;
+mod describing;
 mod evaluating;
 mod judging;
-mod kind;
-mod listing;
-mod phases;
-mod pieces;
 mod read;
 mod replaying;
-mod report;
+mod scheduling;
 mod top;
 mod words;
 

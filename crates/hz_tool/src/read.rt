@@ -4,8 +4,8 @@ ghost use Rattle.std.specs.Prelude.{◌≡◌, ◌⊎◌, ◌-◌, ◌^◌, ◌<
 ghost use Rattle.std.specs.Option.{ForSome};
 ghost use Rattle.hz_tool.specs.Decisions.{CountsFile, TellsFile, IsReadReport};
 
-use super::report::Report;
 use hz_io::{Files, SlurpFault, slurp};
+use hz_report::Report;
 use std::alloc::Global;
 
 /// The bytes of the file of this name, at most `most`, or the report that it was not read.

@@ -1,12 +1,9 @@
-//! The replay of a trace over the machine of a checked description.
+//! The phases of `replay`, in their order: the description, its machine, the trace and its replay.
 
-ghost use Rattle.std.specs.Prelude.{◌≡◌, ℕ, ◌<◌, ◌≤◌, ◌^◌, List, [], length, map, slice_index_or, All};
+ghost use Rattle.std.specs.Prelude.{◌≡◌, ℕ, ◌<◌, ◌≤◌, ◌^◌, length, All};
 ghost use Rattle.hz_base_model.specs.Limits.{advance_limit};
 ghost use Rattle.hz_acceptance_model.specs.Events.{issue, cycles_of, IsOfClass};
-ghost use Rattle.hz_answer_model.specs.Answers.{Replays, ReplaysTrace, ReplaysDescription};
-ghost use Rattle.hz_answer_model.specs.Phases.{Says};
-ghost use Rattle.hz_answer_model.specs.Texts.{states_line};
-ghost use Rattle.hz_auto.specs.Machines.{IsFaultOf};
+ghost use Rattle.hz_answer_model.specs.Answers.{Replays, ReplaysTrace, ReplaysDescription, Judges};
 ghost use Rattle.hz_check.specs.Checked.{IsCheckedOf};
 ghost use Rattle.hz_check_model.specs.Places.{Known};
 ghost use Rattle.hz_mdread_model.specs.Descriptions.{Description};
@@ -18,12 +15,13 @@ ghost use Rattle.hz_tables.specs.Machines.{machine_of};
 ghost use Rattle.hz_tool.specs.Decisions.{Agrees, IsJudged};
 ghost use Rattle.hz_tool.specs.Machines.{IsMachineFor, IsIssueIn, Refuses};
 
+use super::compiling::judge_states;
+use super::describing::judge_described;
 use super::judging::judge_trace;
-use super::report::Report;
 use super::words::ReplayOrder;
-use hz_auto::{AutoFault, compile};
 use hz_check::Checked;
 use hz_replay::{Event, Outcome, What, replay};
+use hz_report::Report;
 use hz_tables::{Machine, Steps};
 use std::alloc::Global;
 use std::marker::Brand;
@@ -102,32 +100,8 @@ fn trace_report<'a>(alloc: Global, file: &'a str, machine: &Machine, trace: &[u8
     outcome_report(machine, &events, outcome)
 }
 
-/// The report of the first automaton of a description that has too many states.
-fn states_report<'a>(file: &'a str, checked: &Checked, automaton: u32) -> Report<'a>
-    requires { automaton < length checked.now.automata.items }
-    ensures kind { IsJudged result }
-    ensures answer { Agrees (Says 3 (states_line file.entry.now (slice_index_or (map (λ a. a.name) checked.now.automata.items) automaton []))) result }
-{
-    match checked.automata[automaton as usize].name.copy() {
-        Ok(automaton) => Report::States { file, automaton },
-        Err(_) => Report::Memory,
-    }
-}
-
-/// The report of a description that is not compiled.
-fn fault_report<'a>(file: &'a str, checked: &Checked, fault: AutoFault) -> Report<'a>
-    requires { IsFaultOf checked.now fault }
-    ensures kind { IsJudged result }
-    ensures answer { (d : Description) (is : IsCheckedOf d checked.now) (trace traced : List ℕ) → Agrees (ReplaysDescription file.entry.now trace traced d is.known) result }
-{
-    match fault {
-        AutoFault::Limit { automaton, kind: _ } => states_report(file, checked, automaton),
-        AutoFault::NoMemory => Report::Memory,
-    }
-}
-
 /// The report of the trace of a description without a fault, which is compiled first.
-pub fn replay_report<'a>(
+fn replay_report<'a>(
     alloc: Global,
     order: &ReplayOrder<'a>,
     checked: &Checked,
@@ -137,8 +111,26 @@ pub fn replay_report<'a>(
     ensures kind { IsJudged result }
     ensures answer { (d : Description) (is : IsCheckedOf d checked.now) → Agrees (ReplaysDescription order.now.description.now order.now.trace.now trace.now d is.known) result }
 {
-    match compile(alloc, checked) {
-        Ok(compiled) => trace_report(alloc, order.trace, &compiled.machine, trace),
-        Err(fault) => fault_report(order.description, checked, fault),
+    match judge_states(alloc, order.description, checked) {
+        Ok(machine) => trace_report(alloc, order.trace, &machine, trace),
+        Err(report) => report,
+    }
+}
+
+/// The report of both texts, the description judged first.
+pub fn judge_replay<'a>(
+    alloc: Global,
+    order: &ReplayOrder<'a>,
+    described: &[u8],
+    trace: &[u8],
+) -> Report<'a>
+    requires described { length described.now < 2 ^ 32 }
+    requires trace { length trace.now < 2 ^ 32 }
+    ensures kind { IsJudged result }
+    ensures answer { Agrees (Judges order.now.description.now described.now order.now.trace.now trace.now) result }
+{
+    match judge_described(alloc, order.description, described) {
+        Ok(checked) => replay_report(alloc, order, &checked, trace),
+        Err(report) => report,
     }
 }

@@ -2,19 +2,21 @@
 
 ghost use Rattle.std.specs.Prelude.{◌≡◌, ◌⊎◌, ◌↔◌, ℕ, List, ◌-◌, ◌^◌, ◌<◌, ◌≤◌, None};
 ghost use Rattle.std.specs.Option.{ForSome};
-ghost use Rattle.hz_answer_model.specs.Answers.{Answer, AnswersReplay, AnswersEval, AnswersOrder};
+ghost use Rattle.hz_answer_model.specs.Answers.{Answer, AnswersReplay, AnswersSchedule, AnswersEval, AnswersOrder};
 ghost use Rattle.hz_answer_model.specs.Texts.{usage_line, memory_line};
 ghost use Rattle.hz_answer_model.specs.Words as model;
+ghost use Rattle.hz_report.specs.Reports.{IsTellable};
 ghost use Rattle.hz_tool.specs.Decisions.{Agrees, CountsReport, NamesFile, IsOfOrder, IsFileOf, IsFileWord, ReportsWords};
-ghost use Rattle.hz_tool.specs.Endings.{IsAppended, AppendsFile, Completes, IsCutShort};
+ghost use Rattle.hz_tool.specs.Endings.{IsAppended, AppendsFile, AppendsSchedule, Completes, IsCutShort};
 ghost use Rattle.hz_tool.specs.Words.{words_in, order_in};
 
 use super::evaluating::judge_eval;
-use super::phases::judge;
 use super::read::read_file;
-use super::report::Report;
-use super::words::{EvalOrder, Order, ReplayOrder, order_of};
+use super::replaying::judge_replay;
+use super::scheduling::judge_schedule;
+use super::words::{EvalOrder, Order, ReplayOrder, ScheduleOrder, order_of};
 use hz_io::{Files, Sink};
+use hz_report::{Report, write_report};
 use std::alloc::Global;
 
 /// Bytes of a description, at most.
@@ -34,6 +36,7 @@ fn decide_replay<'a, F: Files>(alloc: Global, order: ReplayOrder<'a>, files: &mu
     requires { F.faults files.old < 2 ^ 64 - 1 }
     ensures counts { CountsReport (F.faults files.old) (F.faults files.new) result }
     ensures order { IsOfOrder result }
+    ensures tells { IsTellable result }
     ensures file { NamesFile (IsFileOf (model.replay order.entry.description.now order.entry.trace.now)) result }
     ensures answer { ForSome (F.held files.old) (λ held. (F.faults files.new ≡ F.faults files.old) ⊎ F.steady files.old → Agrees (AnswersReplay held order.entry.description.now order.entry.trace.now) result) }
 {
@@ -45,7 +48,31 @@ fn decide_replay<'a, F: Files>(alloc: Global, order: ReplayOrder<'a>, files: &mu
         Ok(trace) => trace,
         Err(report) => return report,
     };
-    judge(alloc, &order, description.as_slice(), trace.as_slice())
+    judge_replay(alloc, &order, description.as_slice(), trace.as_slice())
+}
+
+/// The report of a schedule: both files are read before either is judged.
+fn decide_schedule<'a, F: Files>(
+    alloc: Global,
+    order: ScheduleOrder<'a>,
+    files: &mut F,
+) -> Report<'a>
+    requires { F.faults files.old < 2 ^ 64 - 1 }
+    ensures counts { CountsReport (F.faults files.old) (F.faults files.new) result }
+    ensures order { IsOfOrder result }
+    ensures tells { IsTellable result }
+    ensures file { NamesFile (IsFileOf (model.schedule order.entry.description.now order.entry.block.now)) result }
+    ensures answer { ForSome (F.held files.old) (λ held. (F.faults files.new ≡ F.faults files.old) ⊎ F.steady files.old → Agrees (AnswersSchedule held order.entry.description.now order.entry.block.now) result) }
+{
+    let description = match read_file(alloc, files, order.description, DESCRIPTION_LIMIT) {
+        Ok(description) => description,
+        Err(report) => return report,
+    };
+    let block = match read_file(alloc, files, order.block, BLOCK_LIMIT) {
+        Ok(block) => block,
+        Err(report) => return report,
+    };
+    judge_schedule(alloc, &order, description.as_slice(), block.as_slice())
 }
 
 /// The report of an evaluation: both files are read before either is judged.
@@ -53,6 +80,7 @@ fn decide_eval<'a, F: Files>(alloc: Global, order: EvalOrder<'a>, files: &mut F)
     requires { F.faults files.old < 2 ^ 64 - 1 }
     ensures counts { CountsReport (F.faults files.old) (F.faults files.new) result }
     ensures order { IsOfOrder result }
+    ensures tells { IsTellable result }
     ensures file { NamesFile (IsFileOf (model.eval order.entry.block.now order.entry.state.now)) result }
     ensures answer { ForSome (F.held files.old) (λ held. (F.faults files.new ≡ F.faults files.old) ⊎ F.steady files.old → Agrees (AnswersEval held order.entry.block.now order.entry.state.now) result) }
 {
@@ -72,11 +100,13 @@ fn decide_order<'a, F: Files>(alloc: Global, order: Order<'a>, files: &mut F) ->
     requires { F.faults files.old < 2 ^ 64 - 1 }
     ensures counts { CountsReport (F.faults files.old) (F.faults files.new) result }
     ensures order { IsOfOrder result }
+    ensures tells { IsTellable result }
     ensures file { NamesFile (IsFileOf (order_in order.entry)) result }
     ensures answer { ForSome (F.held files.old) (λ held. (F.faults files.new ≡ F.faults files.old) ⊎ F.steady files.old → Agrees (AnswersOrder held (order_in order.entry)) result) }
 {
     match order {
         Order::Replay(order) => decide_replay(alloc, order, files),
+        Order::Schedule(order) => decide_schedule(alloc, order, files),
         Order::Eval(order) => decide_eval(alloc, order, files),
     }
 }
@@ -86,6 +116,7 @@ fn decide<'a, F: Files>(alloc: Global, words: &'a [String], files: &mut F) -> Re
     requires { F.faults files.old < 2 ^ 64 - 1 }
     ensures counts { CountsReport (F.faults files.old) (F.faults files.new) result }
     ensures words { ReportsWords (model.order_of (words_in words.entry.now)) result }
+    ensures tells { IsTellable result }
     ensures file { NamesFile (IsFileWord (words_in words.entry.now)) result }
     ensures answer { ForSome (F.held files.old) (λ held. (F.faults files.new ≡ F.faults files.old) ⊎ F.steady files.old → Agrees (Answer (words_in words.entry.now) held) result) }
 {
@@ -118,9 +149,13 @@ pub fn run<F: Files, S: Sink>(alloc: Global, words: &[String], files: &mut F, ou
     ensures complete { ForSome (F.held files.old) (λ held. S.faults out.new ≡ S.faults out.old → (F.faults files.new ≡ F.faults files.old) ⊎ F.steady files.old → Completes (words_in words.now) held result (S.written out.old) (S.written out.new)) }
     ensures exact { ForSome (F.held files.old) (λ held. S.faults out.new ≡ S.faults out.old → (F.faults files.new ≡ F.faults files.old) ⊎ F.steady files.old → (status : ℕ) (text : List ℕ) → Answer (words_in words.now) held status text → (result ≡ status) ⊎ (result ≡ 5)) }
     ensures cut { ForSome (F.held files.old) (λ held. result ≡ 7 → IsCutShort (words_in words.now) held (F.faults files.old < F.faults files.new) (S.written out.old) (S.written out.new) (S.room out.old)) }
+
+    // A schedule keeps its block: each instruction once, every latency and bypass, in an order that `replay` accepts and that from
+    // every state leaves what source order leaves.
+    ensures schedules { ForSome (F.held files.old) (λ held. result ≡ 0 → (description block : List ℕ) → model.order_of (words_in words.now) ≡ Some (model.schedule description block) → AppendsSchedule held description block (S.written out.old) (S.written out.new)) }
 {
     let report = decide(alloc, words, files);
-    match report.write(out) {
+    match write_report(&report, out) {
         Ok(()) => report.status(),
         Err(_) => 7,
     }

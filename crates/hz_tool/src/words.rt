@@ -13,6 +13,13 @@ pub struct ReplayOrder<'a> {
     pub trace: &'a str,
 }
 
+/// `schedule DESC BLOCK`: the names of the two files.
+#[derive(Clone, Copy, Debug)]
+pub struct ScheduleOrder<'a> {
+    pub description: &'a str,
+    pub block: &'a str,
+}
+
 /// Whether the word begins with `-`, as an option would.
 fn begins_with_dash(word: &str) -> bool
     ensures { result ≡ model.begins_with_dash word.now }
@@ -34,6 +41,7 @@ pub struct EvalOrder<'a> {
 #[derive(Clone, Copy, Debug)]
 pub enum Order<'a> {
     Replay(ReplayOrder<'a>),
+    Schedule(ScheduleOrder<'a>),
     Eval(EvalOrder<'a>),
 }
 
@@ -45,6 +53,12 @@ fn order_on<'a>(command: &[u8], first: &'a str, second: &'a str) -> Option<Order
         return Some(Order::Replay(ReplayOrder {
             description: first,
             trace: second,
+        }));
+    }
+    if command == b"schedule".as_slice() {
+        return Some(Order::Schedule(ScheduleOrder {
+            description: first,
+            block: second,
         }));
     }
     if command == b"eval".as_slice() {

@@ -126,16 +126,8 @@ fn automata_choose_side_by_side(rt: HostRuntime) -> Result<(), Fail> {
     Ok(())
 }
 
-/// Asserts the status and the text of a description of a unit, of classes that take it so many cycles after their issue,
-/// and of what stands behind them.
-fn late(
-    rt: &impl Abort,
-    alloc: Global,
-    classes: u32,
-    end: &str,
-    status: u8,
-    text: &[u8],
-) -> Result<(), Fail> {
+/// A description of a unit, of classes that take it so many cycles after their issue, and of what stands behind them.
+pub fn late_text(alloc: Global, classes: u32, end: &str) -> Result<String, Fail> {
     let head = "(define_cpu_unit \"u\")(define_insn_reservation \"c\" 1 (const_int 1) \"u\")";
     let mut description = String::from_str(alloc, head)?;
     for class in 1..classes {
@@ -145,6 +137,19 @@ fn late(
         description.push_str(&form)?;
     }
     description.push_str(end)?;
+    Ok(description)
+}
+
+/// Asserts its status and its text.
+fn late(
+    rt: &impl Abort,
+    alloc: Global,
+    classes: u32,
+    end: &str,
+    status: u8,
+    text: &[u8],
+) -> Result<(), Fail> {
+    let description = late_text(alloc, classes, end)?;
     answers(rt, alloc, description.as_bytes(), status, text)
 }
 

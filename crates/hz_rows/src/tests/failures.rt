@@ -15,7 +15,7 @@ fn is_usage(rt: &impl Abort, alloc: Global, words: &[&str]) -> Result<(), Fail> 
         files,
         ROOM,
         4,
-        b"usage: hz replay DESC TRACE | eval BLOCK STATE\n",
+        b"usage: hz replay DESC TRACE | schedule DESC BLOCK | eval BLOCK STATE\n",
     )
 }
 

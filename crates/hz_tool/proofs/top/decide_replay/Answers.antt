@@ -8,7 +8,7 @@ returns-clause-answer g c = λ held told which.
     let trace = c.args.order.trace.now in
     let first = c.in-Ok.ensures.tells held told (inl c.in-Ok.ensures.counts) in
     let second = c.in-Ok-read_file.ensures.tells held (c.in-Ok.ensures.held ∙ told) (inl c.in-Ok-read_file.ensures.counts) in
-    answers_replay held description trace c.as_slice.result.now c.as_slice-2.result.now c.judge.result
+    answers_replay held description trace c.as_slice.result.now c.as_slice-2.result.now c.judge_replay.result
     (first ∙ ap Some (sym c.as_slice.ensures.value)) (omega (arith, c.as_slice.ensures.len, c.in-Ok.ensures.length))
     (second ∙ ap Some (sym c.as_slice-2.ensures.value)) (omega (arith, c.as_slice-2.ensures.len, c.in-Ok-read_file.ensures.length))
-    c.judge.ensures.answer
+    c.judge_replay.ensures.answer

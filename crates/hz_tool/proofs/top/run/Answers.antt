@@ -1,6 +1,6 @@
 use Rattle.std.proofs.Common.{◌≡◌, ◌⊎◌, ℕ, inr, sym, subst, ◌∙◌}
 use Rattle.hz_answer_model.specs.Answers.{Answer}
-use Rattle.hz_tool.proofs.RunLemmas.{says_file, may_write, status_exact, file_answer, completes}
+use Rattle.hz_tool.proofs.RunLemmas.{says_file, may_write, status_exact, file_answer, completes, keeps_block}
 use Rattle.hz_tool.specs.Endings.{Completes}
 use Rattle.hz_tool.specs.Words.{words_in}
 use Rattle.hz_tool.proofs.top.run.Goals as goal
@@ -33,9 +33,16 @@ returns-in-Ok-clause-lacks g c = λ held told steady more.
 
 pub returns-in-Ok-clause-complete : goal.returns-in-Ok-clause-complete
 returns-in-Ok-clause-complete g c = λ held told same which.
-    subst (λ (n : ℕ). Completes (words_in c.args.words.now) held n (g.S.Sink.written c.args.out.now) (g.S.Sink.written c.write.new.out)) (sym c.status.ensures)
+    subst (λ (n : ℕ). Completes (words_in c.args.words.now) held n (g.S.Sink.written c.args.out.now) (g.S.Sink.written c.write_report.new.out)) (sym c.status.ensures)
     (completes (words_in c.args.words.now) held c.decide-report.result _ _ (c.decide-report.ensures.answer held told which) c.in-Ok.ensures.appended)
 
 pub returns-clause-lacks : goal.returns-clause-lacks
 returns-clause-lacks g c = λ held told steady more.
     file_answer (Answer (words_in c.args.words.now) held) (g.F.Files.faults c.args.files.now) _ c.decide-report.result c.decide-report.ensures.counts more (c.decide-report.ensures.answer held told (inr steady))
+
+pub returns-in-Ok-clause-schedules : goal.returns-in-Ok-clause-schedules
+returns-in-Ok-clause-schedules g c = λ held told zero description block is. record {
+  text = _;
+  writes = keeps_block (words_in c.args.words.now) held _ _ (g.F.Files.steady c.args.files.now) c.decide-report.result c.decide-report.ensures.counts (c.decide-report.ensures.answer held told) (sym c.status.ensures ∙ zero) description block is;
+  appended = c.in-Ok.ensures.appended;
+}

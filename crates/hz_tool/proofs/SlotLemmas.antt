@@ -1,0 +1,60 @@
+-- The schedule that is made over a machine is the one by the description, and its text is told.
+use Rattle.std.proofs.Common.{◌≡◌, ℕ, ◌<◌, List, length, map, get_or, All, Some, inl, inr, refl, sym, ap, ◌∙◌, subst, arith}
+use Rattle.std.proofs.lemmas.List.{length-map, get_or-map}
+use Rattle.std.proofs.lemmas.List.Elements.{All-map}
+use Rattle.hz_acceptance_model.specs.Events.{Event, IsOfClass}
+use Rattle.hz_acceptance_model.specs.Replay.{Accepted}
+use Rattle.hz_answer_model.specs.ScheduleAnswers.{schedule_text}
+use Rattle.hz_check_model.specs.Places.{Known, class_names}
+use Rattle.hz_depend.specs.declared.parts.Graph as depend
+use Rattle.hz_depend.specs.declared.parts.GraphInsn.{GraphInsn}
+use Rattle.hz_mdread_model.specs.Descriptions.{Description}
+use Rattle.hz_pipeline_model.specs.Pipelines.{pipeline_with}
+use Rattle.hz_report.specs.Schedules.{schedule_by}
+use Rattle.hz_rtl.specs.declared.block.Block.{Block}
+use Rattle.hz_rtl.specs.declared.block.Insn.{Insn}
+use Rattle.hz_rtl.specs.Shape.{instruction, instructions}
+use Rattle.hz_rtl_model.specs.Blocks.{Instruction}
+use Rattle.hz_sched.specs.declared.parts.Slot as declared
+use Rattle.hz_sched.specs.Shape.{graph_of, node_of, slot_of, slots_of}
+use Rattle.hz_sched_model.specs.Machines.{IsWalked}
+use Rattle.hz_sched_model.specs.Schedules.{Graph, Node, Slot, Legal, Greedy}
+use Rattle.hz_sched_model.proofs.SameSchedules.{legal_there, greedy_there, greedy_within}
+use Rattle.hz_scheduled_model.specs.BlockGraphs.{IsGraphOf}
+use Rattle.hz_scheduled_model.specs.BlockSchedules.{IsScheduleOf}
+use Rattle.hz_tables_model.specs.Machines.{Machine}
+use Rattle.hz_tool.specs.Machines.{IsMachineFor}
+use Rattle.hz_tool.proofs.MachineLemmas.{map_twice}
+
+-- slots of instructions of a graph are of what the code holds of it
+pub places_within : (m : Machine) (graph : depend.Graph) (slots : List declared.Slot) → Greedy (IsWalked m) (graph_of graph) (slots_of slots) → All (λ x. x.place < length graph.insns.items) slots
+places_within m graph slots greedy k d low =
+    let all = greedy_within (IsWalked m) (graph_of graph) (slots_of slots) greedy k (slot_of d) (omega (arith, low, length-map slots slot_of)) in
+    let here = subst (λ (x : Slot). x.place < length (graph_of graph).nodes) (get_or-map slot_of slots k d (slot_of d) low) all in
+    omega (arith, here, length-map graph.insns.items node_of)
+
+-- classes of a graph in the range of the description
+pub nodes_below : (n m : ℕ) (graph : depend.Graph) → All (λ i. i.class < n) graph.insns.items → n ≡ m → All (λ x. x.class < m) (graph_of graph).nodes
+nodes_below n m graph all same = subst (λ (k : ℕ). All (λ (x : Node). x.class < k) (graph_of graph).nodes) same (All-map (λ (x : Node). x.class < n) node_of graph.insns.items all)
+
+-- the text by the names and numbers that are held
+pub text_told : (d : Description) (names : List (List ℕ)) (block : Block) (graph : depend.Graph) (slots : List Slot) → names ≡ class_names d → map (λ i. i.number) graph.insns.items ≡ map (λ i. i.number) block.insns.items
+    → schedule_by names (map (λ i. i.number) graph.insns.items) (graph_of graph) slots ≡ schedule_text d (instructions block) (graph_of graph) slots
+text_told d names block graph slots same numbers =
+    ap (λ (ns : List (List ℕ)). schedule_by ns (map (λ i. i.number) graph.insns.items) (graph_of graph) slots) same
+    ∙ ap (λ (ns : List ℕ). schedule_by (class_names d) ns (graph_of graph) slots) (numbers ∙ sym (map_twice (λ (i : Instruction). i.number) instruction block.insns.items))
+
+-- the schedule is legal and greedy by the description
+pub schedule_is : (d : Description) (known : Known) (m : Machine) (block : List Instruction) (g : Graph) (slots : List Slot) → IsMachineFor d known m → IsGraphOf d block g → All (λ n. n.class < length d.classes) g.nodes
+    → Legal (IsWalked m) g slots → Greedy (IsWalked m) g slots → IsScheduleOf d known block g slots
+schedule_is d known m block g slots is graph ranges legal greedy = record {
+  graph = graph;
+  legal = legal_there (length d.classes) (IsWalked m) (Accepted (pipeline_with d known)) there back g ranges slots legal;
+  greedy = greedy_there (length d.classes) (IsWalked m) (Accepted (pipeline_with d known)) there back g ranges slots greedy;
+}
+  where
+    there : (t : List Event) → All (IsOfClass (length d.classes)) t → IsWalked m t → Accepted (pipeline_with d known) t
+    there t all = (is.walks t all).0
+
+    back : (t : List Event) → All (IsOfClass (length d.classes)) t → Accepted (pipeline_with d known) t → IsWalked m t
+    back t all = (is.walks t all).1

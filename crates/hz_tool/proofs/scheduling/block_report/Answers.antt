@@ -1,0 +1,26 @@
+use Rattle.std.proofs.Common.{ℕ, sym, subst}
+use Rattle.hz_answer_model.specs.ScheduleAnswers.{Schedules}
+use Rattle.hz_depend.specs.GraphShape.{IsSchedulable}
+use Rattle.hz_rtl.specs.Shape.{instructions}
+use Rattle.hz_sched.specs.Shape.{graph_of}
+use Rattle.hz_scheduled_model.specs.BlockGraphs.{classes_of}
+use Rattle.hz_scheduled_model.proofs.GraphLaws.{all_have_classes}
+use Rattle.hz_tool.proofs.BlockLemmas.{graph_size, is_graph}
+use Rattle.hz_tool.proofs.JudgeLemmas.{classes_on}
+use Rattle.hz_tool.proofs.scheduling.block_report.Goals as goal
+
+pub schedule_report-requires-clause-schedulable : goal.schedule_report-requires-clause-schedulable
+schedule_report-requires-clause-schedulable c = subst (λ (n : ℕ). IsSchedulable n c.in-Ok.graph) (sym c.requires.classes) c.in-Ok.ensures.schedulable
+
+pub schedule_report-requires-clause-size : goal.schedule_report-requires-clause-size
+schedule_report-requires-clause-size c = graph_size c.args.checked.now c.args.block.now c.in-Ok.graph c.in-Ok.ensures.graph
+
+pub returns-in-Ok-clause-answer : goal.returns-in-Ok-clause-answer
+returns-in-Ok-clause-answer c = λ d is machine.
+    let file = c.args.file.now in
+    let block = c.args.block.now in
+    let graph = graph_of c.in-Ok.graph in
+    let made = c.in-Ok.ensures.graph in
+    let here = is_graph d c.args.checked.now is block c.in-Ok.graph made in
+    classes_on file d (instructions block) (Schedules file d is.known (instructions block)) c.schedule_report.result (all_have_classes d (classes_of graph) (instructions block) here.classes)
+    (c.schedule_report.ensures.answer d is.known machine here made.numbers)

@@ -1,0 +1,59 @@
+//! The machine of a checked description.
+
+ghost use Rattle.std.specs.Prelude.{◌≡◌, ◌<◌, IfOk, IfErr, [], length, map, slice_index_or};
+ghost use Rattle.hz_auto.specs.Machines.{IsFaultOf};
+ghost use Rattle.hz_check.specs.Checked.{IsCheckedOf};
+ghost use Rattle.hz_mdread_model.specs.Descriptions.{Description};
+ghost use Rattle.hz_sched_model.specs.Machines.{Settles};
+ghost use Rattle.hz_tables.specs.Machines.{machine_of};
+ghost use Rattle.hz_tool.specs.Decisions.{IsJudged};
+ghost use Rattle.hz_tool.specs.Fronts.{IsStatesReport, IsLimitReport};
+ghost use Rattle.hz_tool.specs.Machines.{IsMachineFor};
+
+use hz_auto::{AutoFault, compile};
+use hz_check::Checked;
+use hz_report::Report;
+use hz_tables::Machine;
+use std::alloc::Global;
+
+/// The report of an automaton of a description that has too many states.
+fn states_report<'a>(file: &'a str, checked: &Checked, automaton: u32) -> Report<'a>
+    requires { automaton < length checked.now.automata.items }
+    ensures kind { IsJudged result }
+    ensures told { IsStatesReport file.entry.now (slice_index_or (map (λ a. a.name) checked.now.automata.items) automaton []) result }
+{
+    match checked.automata[automaton as usize].name.copy() {
+        Ok(automaton) => Report::States { file, automaton },
+        Err(_) => Report::Memory,
+    }
+}
+
+/// The report of a description that is not compiled.
+fn fault_report<'a>(file: &'a str, checked: &Checked, fault: AutoFault) -> Report<'a>
+    requires { IsFaultOf checked.now fault }
+    ensures kind { IsJudged result }
+    ensures told { (d : Description) (is : IsCheckedOf d checked.now) → IsLimitReport file.entry.now d is.known result }
+{
+    match fault {
+        AutoFault::Limit { automaton, kind: _ } => states_report(file, checked, automaton),
+        AutoFault::NoMemory => Report::Memory,
+    }
+}
+
+/// The machine of a description without a fault, or the report of its first automaton that has too many states.
+pub fn judge_states<'a>(
+    alloc: Global,
+    file: &'a str,
+    checked: &Checked,
+) -> Result<Machine, Report<'a>>
+    ensures ok { IfOk result (λ machine. (d : Description) (is : IsCheckedOf d checked.now) → IsMachineFor d is.known (machine_of machine)) }
+    ensures classes { IfOk result (λ machine. length machine.classes.items ≡ length checked.now.classes.items) }
+    ensures settles { IfOk result (λ machine. Settles (machine_of machine)) }
+    ensures kind { IfErr result IsJudged }
+    ensures err { IfErr result (λ report. (d : Description) (is : IsCheckedOf d checked.now) → IsLimitReport file.entry.now d is.known report) }
+{
+    match compile(alloc, checked) {
+        Ok(compiled) => Ok(compiled.machine),
+        Err(fault) => Err(fault_report(file, checked, fault)),
+    }
+}
