@@ -1,6 +1,6 @@
 -- The first instruction whose class can't be issued from the start.
-use Rattle.std.proofs.Common.{◌≡◌, ℕ, ◌<◌, Bool, true, false, cond, not, List, [], ◌∷◌, length, map, Some, None, All, get_or, ap, ◌∙◌, subst, arith}
-use Rattle.std.specs.Prelude.{position, nat_lt}
+use Rattle.std.proofs.Common.{◌≡◌, ℕ, ◌<◌, Bool, true, false, cond, not, length, Some, None, get_or, ap, ◌∙◌, arith}
+use Rattle.std.specs.Prelude.{nat_lt}
 use Rattle.std.specs.List.{position_or_len}
 use Rattle.std.proofs.lemmas.Bool.{ltb-false}
 use Rattle.std.proofs.lemmas.List.{get_or-map}

@@ -1,6 +1,6 @@
 -- Schedules on a machine that is compiled of a description.
-use Rattle.std.proofs.Common.{◌≡◌, ℕ, ◌<◌, true, false, List, [], ◌∷◌, length, map, All, Some, None, arith}
-use Rattle.std.specs.Prelude.{◌↔◌, is_some}
+use Rattle.std.proofs.Common.{◌≡◌, ℕ, ◌<◌, true, List, [], ◌∷◌, length, map, All, Some, None, arith}
+use Rattle.std.specs.Prelude.{◌↔◌}
 use Rattle.std.proofs.lemmas.List.Elements.{All-nil, All-cons}
 use Rattle.hz_acceptance_model.specs.Events.{Event, issue, IsOfClass}
 use Rattle.hz_acceptance_model.specs.Replay.{Accepted}
@@ -9,7 +9,7 @@ use Rattle.hz_check_model.specs.CheckFaults.{IsSound}
 use Rattle.hz_check_model.specs.Places.{Known}
 use Rattle.hz_check_model.specs.CheckedParts.{automata_of, class_parts}
 use Rattle.hz_pipeline_model.specs.Pipelines.{pipeline_with}
-use Rattle.hz_tables_model.specs.Machines.{Machine, machine_walk}
+use Rattle.hz_tables_model.specs.Machines.{Machine}
 use Rattle.hz_auto_model.specs.Compiled.{Report, IsCompiled}
 use Rattle.hz_auto_model.proofs.DescriptionLaws.{machine_accepts}
 use Rattle.hz_sched_model.specs.Schedules.{Graph, Slot, class_at, Legal, Greedy}

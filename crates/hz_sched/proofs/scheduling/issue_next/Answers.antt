@@ -1,7 +1,6 @@
-use Rattle.std.proofs.Common.{◌≡◌, ◌+◌, ◌<◌, ℕ, List, [], ◌∷◌, ◌++◌, Some, None, length, map, refl, sym, ap, ◌∙◌, subst, arith}
-use Rattle.std.specs.Prelude.{OnOk}
+use Rattle.std.proofs.Common.{◌≡◌, ◌+◌, ◌<◌, ℕ, List, [], ◌∷◌, Some, length, sym, ap, ◌∙◌, subst, arith}
 use Rattle.std.proofs.lemmas.List.{length-map}
-use Rattle.hz_acceptance_model.specs.Events.{issue, advance}
+use Rattle.hz_acceptance_model.specs.Events.{advance}
 use Rattle.hz_tables_model.specs.Machines.{Machine, parts_walk}
 use Rattle.hz_tables.specs.Machines.{machine_of}
 use Rattle.hz_replay.specs.Replaying.{AreStates}
@@ -11,7 +10,7 @@ use Rattle.hz_sched.specs.Shape.{graph_of, slots_of, node_of}
 use Rattle.hz_sched.specs.Waits.{issued_at}
 use Rattle.hz_sched.specs.Standing.{left_below}
 use Rattle.hz_sched.proofs.SlotLemmas.{issued_none}
-use Rattle.hz_sched.proofs.SchedLemmas.{walked_states, IsNext, is_next, none_next, next_fits, board_next, present_next, fewer_next, cycle_next, never, is_taken, on_ok, one_more_slot, upward_of, ranges_of}
+use Rattle.hz_sched.proofs.SchedLemmas.{walked_states, is_next, none_next, next_fits, board_next, present_next, fewer_next, cycle_next, never, is_taken, on_ok, one_more_slot, upward_of, ranges_of}
 use Rattle.hz_sched.proofs.scheduling.issue_next.Goals as goal
 
 pub first-requires-clause-states : goal.first-requires-clause-states
