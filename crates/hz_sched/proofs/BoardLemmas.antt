@@ -4,19 +4,17 @@ use Rattle.std.specs.Prelude.{slice_index, nat_lt, nat_le}
 use Rattle.std.specs.List.{find}
 use Rattle.std.specs.Option.{option_map}
 use Rattle.std.specs.List.Sorted.{IsStrictlySortedBy}
-use Rattle.std.specs.Ordering.{nat_cmp, ordering_then, is_eq}
+use Rattle.std.specs.Ordering.{is_eq}
 use Rattle.std.specs.declared.cmp.Ordering.{Ordering}
 use Rattle.std.specs.declared.cmp.Ordering.TheVariants.{Less, Equal, Greater}
-use Rattle.std.specs.declared.cmp.Reverse.{Reverse}
 use Rattle.std.specs.BTreeSet.{insert_key}
 use Rattle.std.specs.BTreeMap.{is_at}
 use Rattle.std.specs.Set.{remove_key}
 use Rattle.std.proofs.Math.Seq.{take-append_seam}
 use Rattle.std.proofs.lemmas.Bool.{cases_lt, lt-ltb, ltb-true, eqb-true, eq-eqb, leb-true, le-leb}
 use Rattle.std.proofs.lemmas.List.{length-map, get_or-map}
-use Rattle.std.proofs.lemmas.List.Elements.{All-map, All-filter, All-weaker}
-use Rattle.hz_base_model.proofs.Elements.{Contains-nil}
-use Rattle.hz_acceptance_model.specs.Events.{issue, advance}
+use Rattle.std.proofs.lemmas.List.Elements.{All-map, All-filter}
+use Rattle.hz_acceptance_model.specs.Events.{issue}
 use Rattle.hz_tables_model.specs.Machines.{Machine, parts_walk}
 use Rattle.hz_depend.specs.declared.parts.Edge as depend
 use Rattle.hz_depend.specs.declared.parts.GraphInsn.{GraphInsn}
@@ -25,7 +23,7 @@ use Rattle.hz_depend_model.specs.Graphs.{Edge}
 use Rattle.hz_sched_model.specs.Schedules.{Node, Graph, Slot, class_at, height_at, GoesBefore, IsCandidate}
 use Rattle.hz_sched_model.specs.Machines.{IsWalked}
 use Rattle.hz_sched.specs.Shape.{node_of}
-use Rattle.hz_sched.specs.Waits.{IsSoonest, issued_at, and_issued, missing, ripe, leading, ripe_from}
+use Rattle.hz_sched.specs.Waits.{IsSoonest, issued_at, and_issued, ripe, leading, ripe_from}
 use Rattle.hz_sched.specs.Pending.{Key, key_cmp, key_of, AreWaits, AreLeft, may}
 use Rattle.hz_sched.specs.Standing.{IsAt}
 use Rattle.hz_sched.proofs.SlotLemmas.{issued_none, none_issued, same_issued, other_issued}

@@ -8,3 +8,4 @@ pub mod ComesLemmas
 pub mod KeyLemmas
 pub mod BoardLemmas
 pub mod SchedLemmas
+pub mod TraceLemmas

@@ -1,35 +1,35 @@
 -- The board of a schedule, step by step.
-use Rattle.std.proofs.Common.{◌≡◌, ℕ, zero, suc, ◌+◌, ◌-◌, ◌<◌, ◌≤◌, Bool, true, false, not, cond, List, [], ◌∷◌, ◌++◌, length, map, replicate, Option, Some, None, is_some, Result, Ok, Err, All, Contains, get_or, refl, sym, ap, ◌∙◌, subst, arith}
-use Rattle.std.specs.Prelude.{slice_get, slice_index, OnOk, position, nat_lt, IsSome}
+use Rattle.std.proofs.Common.{◌≡◌, ℕ, suc, ◌+◌, ◌<◌, ◌≤◌, Bool, true, false, not, cond, List, [], ◌∷◌, ◌++◌, length, map, replicate, Option, Some, None, is_some, Result, Ok, Err, All, get_or, refl, sym, ap, ◌∙◌, subst, arith}
+use Rattle.std.specs.Prelude.{slice_get, slice_index, OnOk, position, nat_lt}
 use Rattle.std.specs.Bool.{OnTrue, OnFalse}
-use Rattle.std.specs.List.{find, prefix_len, position_or_len}
+use Rattle.std.specs.List.{find, position_or_len, AllPairs}
 use Rattle.std.specs.Option.{option_map}
 use Rattle.std.proofs.lemmas.Bool.{ltb-false}
-use Rattle.std.proofs.lemmas.List.{length-map, length-replicate, get_or-map}
+use Rattle.std.proofs.lemmas.List.{length-map, length-append, get_or-map}
 use Rattle.std.proofs.lemmas.List.Sums.{fails_before_first}
-use Rattle.std.proofs.lemmas.List.Elements.{All-get_or, All-contains, All-map}
+use Rattle.std.proofs.lemmas.List.Elements.{All-get_or, All-contains, All-map, Contains-get_or}
 use Rattle.std.proofs.lemmas.Option.{slice_get-get_or}
+use Rattle.hz_base_model.proofs.Elements.{Contains-map}
 use Rattle.hz_acceptance_model.specs.Events.{Event, issue, advance}
-use Rattle.hz_tables_model.specs.Tables.{Table}
-use Rattle.hz_tables_model.specs.Machines.{Part, Machine, no_part, part_at, part_walk, parts_walk, machine_walk, starts_of, onto_states, word_of, IsPart, IsMachine}
+use Rattle.hz_tables_model.specs.Machines.{Part, Machine, no_part, part_at, parts_walk, machine_walk, starts_of, onto_states, word_of, IsPart, IsMachine}
 use Rattle.hz_tables_model.proofs.TableLaws.{walk_stays}
 use Rattle.hz_tables_model.proofs.MachineLaws.{machine_walk-each, machine_walk-part}
 use Rattle.hz_replay.specs.Replaying.{Standing, AreStates}
-use Rattle.hz_depend.specs.declared.parts.Edge as depend
 use Rattle.hz_depend.specs.declared.parts.Graph as depend_graph
 use Rattle.hz_depend.specs.declared.parts.GraphInsn.{GraphInsn}
 use Rattle.hz_depend.specs.GraphShape.{edge_of, IsSchedulable}
-use Rattle.hz_depend_model.specs.Graphs.{Edge}
-use Rattle.hz_sched_model.specs.Schedules.{Node, Graph, Slot, class_at, present, GoesBefore, Legal, Greedy, IsCandidate}
+use Rattle.hz_sched_model.specs.Schedules.{Node, Graph, Slot, class_at, present, GoesBefore, Greedy, IsCandidate}
 use Rattle.hz_sched_model.specs.Machines.{IsWalked, Settles, can_start}
-use Rattle.hz_sched.specs.Shape.{graph_of, node_of, slots_of}
+use Rattle.hz_sched_model.proofs.SameSchedules.{greedy_within}
+use Rattle.hz_sched.specs.Shape.{graph_of, node_of, slot_of, slots_of}
+use Rattle.hz_sched.specs.declared.parts.Slot as made
 use Rattle.hz_sched.specs.declared.board.Board.{Board}
 use Rattle.hz_sched.specs.Waits.{issued_at, and_issued}
 use Rattle.hz_sched.specs.Standing.{IsAt, IsUpward, AllStart, left_below}
 use Rattle.hz_sched.specs.Pending.{Key, AreWaits, AreLeft, IsBoard, may}
-use Rattle.hz_sched.proofs.SlotLemmas.{left_less, none_yet}
+use Rattle.hz_sched.proofs.SlotLemmas.{left_less, below_present}
 use Rattle.hz_sched.proofs.SpellLemmas.{present-push}
-use Rattle.hz_sched.proofs.StandLemmas.{at_start, next_cycle, next_issue, now_issued, was_left, candidate_fits, is_legal}
+use Rattle.hz_sched.proofs.StandLemmas.{at_start, next_cycle, next_issue, now_issued, was_left, candidate_fits}
 use Rattle.hz_sched.proofs.ComesLemmas.{some_comes}
 use Rattle.hz_sched.proofs.BoardLemmas.{none_may, first_may, classes_of_nodes}
 
@@ -131,6 +131,25 @@ is_taken m s next class k b machine same taken refused fits = go b taken refused
 pub on_ok : {T E A B C D F : Type 0} (r : Result T E) → (A → B → C → D → F) → OnOk r A → OnOk r B → OnOk r C → OnOk r D → OnOk r F
 on_ok (Ok x) f a b c d = f a b c d
 on_ok (Err e) f a b c d = tt
+
+-- ---- slots
+
+pub one_more_slot : (new old : List made.Slot) (x : Slot) → slots_of new ≡ slots_of old ++ x ∷ [] → length new ≡ length old + 1
+one_more_slot new old x e = omega (arith, length-map new slot_of, length-map old slot_of, length-append (slots_of old) (x ∷ []), ap length e)
+
+-- the places of greedy slots are of instructions
+pub all_within : (m : Machine) (g : Graph) (slots : List made.Slot) (count : ℕ) → count ≡ length g.nodes → Greedy (IsWalked m) g (slots_of slots) → All (λ x. x.place < count) slots
+all_within m g slots count all greedy k d lt =
+    let x = get_or slots k d in
+    let below = All-contains (λ (y : Slot). y.place < length g.nodes) (slots_of slots) (slot_of x) (greedy_within (IsWalked m) g (slots_of slots) greedy) (Contains-map slot_of slots x (Contains-get_or slots k d lt)) in
+    omega (arith, all, below)
+
+-- where cycles don't fall, none is above that of the last
+pub all_soon : (slots : List made.Slot) (limit : ℕ) → AllPairs (λ x y. x.cycle ≤ y.cycle) (slots_of slots) → present 0 (slots_of slots) ≤ limit → All (λ x. x.cycle ≤ limit) slots
+all_soon slots limit rising last k d lt =
+    let x = get_or slots k d in
+    let low = below_present (slots_of slots) 0 rising (slot_of x) (Contains-map slot_of slots x (Contains-get_or slots k d lt)) in
+    omega (arith, low, last)
 
 -- ---- what is asked of the graph
 

@@ -5,9 +5,8 @@ use Rattle.std.specs.List.{range_with_len}
 use Rattle.std.proofs.lemmas.List.{map-append, length-append, length-map, get_or-map}
 use Rattle.hz_depend.specs.declared.parts.GraphInsn.{GraphInsn}
 use Rattle.hz_replay.specs.declared.event.Event as trace
-use Rattle.hz_replay.specs.Traces.{lines_in}
 use Rattle.hz_sched.specs.Shape.{node_of, AreNumbered}
-use Rattle.hz_acceptance_model.specs.Events.{Event, issue, advance}
+use Rattle.hz_acceptance_model.specs.Events.{Event, issue}
 use Rattle.hz_sched_model.specs.Schedules.{Node, Graph, Slot, class_at, advance_to, spelled, present}
 
 pub spelled-push : (g : Graph) (cycle : ℕ) (slots : List Slot) (x : Slot) → spelled g cycle (slots ++ x ∷ []) ≡ spelled g cycle slots ++ (advance_to (present cycle slots) x.cycle ++ issue (class_at g x.place) ∷ [])

@@ -1,23 +1,20 @@
 -- One step of a schedule: a cycle, or an issue.
-use Rattle.std.proofs.Common.{◌≡◌, ℕ, zero, suc, ◌+◌, ◌-◌, ◌<◌, ◌≤◌, ◌⊎◌, inl, inr, ⊎_elim, true, List, [], ◌∷◌, ◌++◌, length, map, Option, Some, None, is_some, All, Contains, get_or, refl, sym, ap, ◌∙◌, subst, append_assoc, arith}
+use Rattle.std.proofs.Common.{◌≡◌, ℕ, ◌+◌, ◌-◌, ◌<◌, ◌≤◌, ⊎_elim, true, List, [], ◌∷◌, ◌++◌, length, Option, Some, None, is_some, Contains, refl, sym, ap, ◌∙◌, subst, arith}
 use Rattle.std.specs.Prelude.{IsSome}
-use Rattle.std.specs.List.{AllPairs}
 use Rattle.std.proofs.lemmas.Bool.{cases_lt}
-use Rattle.std.proofs.lemmas.List.{append-nil}
-use Rattle.std.proofs.lemmas.List.Elements.{All-contains, Contains-get_or}
-use Rattle.hz_base_model.proofs.Elements.{Contains-nil, Contains-head, Contains-cons_cases, Contains-map, Contains-from_map}
+use Rattle.std.proofs.lemmas.List.Elements.{All-contains}
+use Rattle.hz_base_model.proofs.Elements.{Contains-nil, Contains-cons_cases, Contains-map, Contains-from_map}
 use Rattle.std.proofs.lemmas.List.Elements.{Contains-append_cases}
-use Rattle.hz_acceptance_model.specs.Events.{Event, issue, advance}
+use Rattle.hz_acceptance_model.specs.Events.{issue, advance}
 use Rattle.hz_tables_model.specs.Machines.{Machine, parts_walk, machine_walk, starts_of}
-use Rattle.hz_depend_model.specs.Orders.{IsOrder}
-use Rattle.hz_sched_model.specs.Schedules.{Graph, Slot, class_at, places, present, advance_to, spelled, spell, GoesBefore, Legal, Greedy, IsCandidate, FollowsGreedily}
+use Rattle.hz_sched_model.specs.Schedules.{Graph, Slot, class_at, places, present, advance_to, spell, GoesBefore, Legal, Greedy, IsCandidate, FollowsGreedily}
 use Rattle.hz_sched_model.specs.Machines.{IsWalked}
-use Rattle.hz_sched_model.proofs.SameSchedules.{AreWithin, greedy_within}
+use Rattle.hz_sched_model.proofs.SameSchedules.{greedy_within}
 use Rattle.hz_sched.specs.Waits.{issued_at, and_issued}
 use Rattle.hz_sched.specs.Standing.{IsAt, left_below}
 use Rattle.hz_sched.proofs.SpellLemmas.{spelled-push, present-push}
-use Rattle.hz_sched.proofs.SlotLemmas.{issued_none, none_issued, slot_of_issue, issued-push, same_issued, other_issued, all_issued, none_yet, rising-push, Split, last, earlier, split, At, at_place}
-use Rattle.hz_sched.proofs.WalkLemmas.{walk_on, front_walked, walk_behind, one_more, walk_to, no_advance}
+use Rattle.hz_sched.proofs.SlotLemmas.{issued_none, slot_of_issue, issued-push, same_issued, other_issued, all_issued, rising-push, Split, last, earlier, split, at_place}
+use Rattle.hz_sched.proofs.WalkLemmas.{front_walked, walk_behind, one_more, walk_to, no_advance}
 
 module _ (m : Machine) (g : Graph) (slots : List Slot) (cycle : ℕ) (states : List ℕ) (at : IsAt m g slots cycle states) where
   -- what is walked behind the advance to the present cycle

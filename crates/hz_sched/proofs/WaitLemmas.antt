@@ -1,6 +1,6 @@
 -- What instructions wait for, before and after an issue, and when they are ready.
-use Rattle.std.proofs.Common.{◌≡◌, ◌≢◌, ℕ, zero, suc, ◌+◌, ◌-◌, ◌<◌, ◌≤◌, ◌==◌, ⊎_elim, Bool, true, false, ◌&&◌, not, cond, max, List, [], ◌∷◌, ◌++◌, length, map, filter, drop, Option, Some, None, is_some, Contains, refl, sym, ap, ◌∙◌, subst, arith}
-use Rattle.std.proofs.lemmas.Bool.{eqb-true, eqb-false, eq-eqb}
+use Rattle.std.proofs.Common.{◌≡◌, ℕ, ◌+◌, ◌≤◌, ◌==◌, ⊎_elim, Bool, true, false, ◌&&◌, not, cond, max, List, [], ◌∷◌, filter, Option, Some, None, is_some, Contains, refl, sym, ap, ◌∙◌, subst, arith}
+use Rattle.std.proofs.lemmas.Bool.{eqb-true, eq-eqb}
 use Rattle.hz_base_model.proofs.Elements.{Contains-nil, Contains-head, Contains-tail, Contains-cons_cases}
 use Rattle.hz_depend_model.specs.Graphs.{Edge}
 use Rattle.hz_sched_model.specs.Schedules.{Graph, Slot, IsReady}

@@ -1,9 +1,9 @@
 -- What a machine walks behind the trace of slots.
-use Rattle.std.proofs.Common.{◌≡◌, ℕ, zero, suc, ◌+◌, ◌-◌, ◌<◌, ◌≤◌, Bool, true, false, cond, List, [], ◌∷◌, ◌++◌, length, replicate, Option, Some, None, is_some, refl, sym, ap, ◌∙◌, subst, append_assoc, arith}
+use Rattle.std.proofs.Common.{◌≡◌, ℕ, ◌+◌, ◌-◌, ◌≤◌, Bool, true, false, cond, List, [], ◌∷◌, ◌++◌, replicate, Option, Some, None, refl, sym, ap, ◌∙◌, append_assoc, arith}
 use Rattle.std.specs.Prelude.{nat_lt, IsSome, option_and_then}
 use Rattle.std.proofs.lemmas.Bool.{ltb-false}
 use Rattle.std.proofs.lemmas.List.{replicate-append-replicate, append-nil}
-use Rattle.hz_acceptance_model.specs.Events.{Event, issue, advance}
+use Rattle.hz_acceptance_model.specs.Events.{Event, advance}
 use Rattle.hz_tables_model.specs.Tables.{walk}
 use Rattle.hz_tables_model.specs.Machines.{Part, Machine, word_of, part_walk, parts_walk, machine_walk, starts_of, onto_states}
 use Rattle.hz_tables_model.proofs.MachineLaws.{word_of-append, parts_walk-append}

@@ -1,13 +1,12 @@
 -- How far a schedule has come. These words are only to prove with.
-use Rattle.std.specs.Prelude.{◌≡◌, ℕ, zero, suc, ◌+◌, ◌-◌, ◌<◌, ◌≤◌, true, is_some, if◌then◌else◌, List, [], ◌∷◌, ◌++◌, length, slice_index, Option, Some, None}
-use Rattle.std.specs.declared.cmp.Reverse.{Reverse}
+use Rattle.std.specs.Prelude.{◌≡◌, ℕ, zero, suc, ◌+◌, ◌-◌, ◌<◌, ◌≤◌, true, is_some, if◌then◌else◌, List, [], ◌∷◌, ◌++◌, length, Option, Some}
 use Rattle.std.specs.List.{Contains, AllPairs}
-use Rattle.hz_acceptance_model.specs.Events.{issue, advance}
+use Rattle.hz_acceptance_model.specs.Events.{advance}
 use Rattle.hz_tables_model.specs.Machines.{Machine, machine_walk}
 use Rattle.hz_depend_model.specs.Graphs.{Edge}
 use Rattle.hz_sched_model.specs.Schedules.{Graph, Slot, class_at, present, spell, Greedy, IsCandidate}
 use Rattle.hz_sched_model.specs.Machines.{IsWalked, can_start}
-use Rattle.hz_sched.specs.Waits.{issued_at, missing, ripe}
+use Rattle.hz_sched.specs.Waits.{issued_at}
 
 -- These slots are greedy, no candidate stands at a cycle behind them and before this one, and the machine is in these states.
 pub record IsAt (m : Machine) (g : Graph) (slots : List Slot) (cycle : ℕ) (states : List ℕ) : Type 0 where

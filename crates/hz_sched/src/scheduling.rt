@@ -1,10 +1,10 @@
 //! The list scheduler.
 
-ghost use Rattle.std.specs.Prelude.{◌≡◌, ◌≤◌, ◌<◌, ◌+◌, ◌==◌, ◌^◌, ℕ, suc, true, filter, length, map, IfOk, OnOk};
+ghost use Rattle.std.specs.Prelude.{◌≡◌, ◌≤◌, ◌<◌, ◌+◌, ◌*◌, ◌==◌, ◌^◌, ℕ, suc, true, filter, length, map, All, IfOk, OnOk};
 ghost use Rattle.hz_tables.specs.Machines.{machine_of};
 ghost use Rattle.hz_depend.specs.GraphShape.{IsSchedulable};
 ghost use Rattle.hz_sched_model.specs.Schedules as model;
-ghost use Rattle.hz_sched_model.specs.Machines.{IsWalked, Settles, can_start, cannot_start_alone};
+ghost use Rattle.hz_sched_model.specs.Machines.{IsWalked, Settles, most_wait, can_start, cannot_start_alone};
 ghost use Rattle.hz_sched.specs.Shape.{graph_of, slots_of, alone_in};
 ghost use Rattle.hz_sched.specs.Rows.{row_at};
 ghost use Rattle.hz_sched.specs.Waits.{issued_at};
@@ -52,6 +52,7 @@ fn issue_next<L: Ledger>(
     ensures board { OnOk result (IsBoard (machine_of machine.now) (graph_of graph.now) board.new replayer.new.states) }
     ensures present { OnOk result (board.new.cycle ≡ model.present 0 (slots_of board.new.slots.items)) }
     ensures fewer { OnOk result (suc (left_below (issued_at (slots_of board.new.slots.items)) (length graph.now.insns.items)) ≡ left_below (issued_at (slots_of board.old.slots.items)) (length graph.now.insns.items)) }
+    ensures more { OnOk result (length board.new.slots.items ≡ length board.old.slots.items + 1) }
     ensures soon { OnOk result (board.new.cycle ≤ board.old.cycle + 1256) }
 {
     let earliest = soonest(&board.counts, &board.ripes);
@@ -89,6 +90,9 @@ fn slots_on<L: Ledger>(
     requires start { AllStart (machine_of machine.now) (graph_of graph.now) }
     ensures legal { IfOk result (λ slots. model.Legal (IsWalked (machine_of machine.now)) (graph_of graph.now) (slots_of slots.items)) }
     ensures greedy { IfOk result (λ slots. model.Greedy (IsWalked (machine_of machine.now)) (graph_of graph.now) (slots_of slots.items)) }
+    ensures counted { IfOk result (λ slots. length slots.items ≡ length graph.now.insns.items) }
+    ensures places { IfOk result (λ slots. All (λ x. x.place < length graph.now.insns.items) slots.items) }
+    ensures soon { IfOk result (λ slots. All (λ x. x.cycle ≤ most_wait * length graph.now.insns.items) slots.items) }
 {
     let mut steps = Steps::<L>::new(blank);
     let rows = outgoing(alloc, graph.insns.len(), &graph.edges)?;
@@ -109,6 +113,9 @@ pub fn schedule(alloc: Global, machine: &Machine, graph: &Graph) -> Result<Sched
     requires schedulable { IsSchedulable (length machine.now.classes.items) graph.now }
     ensures legal { IfOk result (λ made. model.Legal (IsWalked (machine_of machine.now)) (graph_of graph.now) (slots_of made.slots.items)) }
     ensures greedy { IfOk result (λ made. model.Greedy (IsWalked (machine_of machine.now)) (graph_of graph.now) (slots_of made.slots.items)) }
+    ensures counted { IfOk result (λ made. length made.slots.items ≡ length graph.now.insns.items) }
+    ensures places { IfOk result (λ made. All (λ x. x.place < length graph.now.insns.items) made.slots.items) }
+    ensures soon { IfOk result (λ made. All (λ x. x.cycle ≤ most_wait * length graph.now.insns.items) made.slots.items) }
     ensures fault { alone_in result ≡ cannot_start_alone (machine_of machine.now) (graph_of graph.now) }
 {
     if let Some(place) = first_stuck(alloc, machine, &graph.insns) {

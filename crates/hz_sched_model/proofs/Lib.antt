@@ -1,2 +1,4 @@
 pub mod OneSchedule
 pub mod SameSchedules
+pub mod TraceLaws
+pub mod StuckLaws

@@ -1,5 +1,6 @@
 -- What a list scheduler asks of a machine of tables, and what it refuses. This profile, docs/RULES.md, 'List schedules'.
-use Rattle.std.specs.Prelude.{◌≡◌, ℕ, Bool, not, List, [], ◌∷◌, ◌++◌, length, position, All, Option, Some, IsSome, is_some}
+use Rattle.std.specs.Prelude.{◌≡◌, ℕ, ◌+◌, Bool, not, List, [], ◌∷◌, ◌++◌, length, position, All, Option, Some, IsSome, is_some}
+use Rattle.hz_base_model.specs.Limits.{latency_limit, cycle_limit}
 use Rattle.hz_acceptance_model.specs.Events.{Event, issue, advance, IsOfClass}
 use Rattle.hz_tables_model.specs.Machines.{Machine, machine_walk, starts_of}
 use Rattle.hz_sched_model.specs.Schedules.{Graph}
@@ -11,6 +12,10 @@ IsWalked m t = IsSome (machine_walk m t)
 -- A machine settles: behind any events of its classes that it walks, 256 cycles more lead each part to its start.
 pub record Settles (m : Machine) : Type 0 where
   pub settles : (t : List Event) → All (IsOfClass (length m.classes)) t → IsWalked m t → machine_walk m (t ++ advance 256 ∷ []) ≡ Some (starts_of m)
+
+-- A schedule's issue comes at most so many cycles behind the one before it: then all waits are over, and the machine has settled.
+abbrev pub most_wait : ℕ
+most_wait = latency_limit + cycle_limit
 
 -- a class can be issued from the start
 abbrev pub can_start : Machine → ℕ → Bool

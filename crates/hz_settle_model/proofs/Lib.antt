@@ -1,3 +1,4 @@
 pub mod RunLaws
 pub mod PartLaws
 pub mod SettleLaws
+pub mod DescribedLaws

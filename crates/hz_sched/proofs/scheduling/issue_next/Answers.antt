@@ -1,7 +1,6 @@
-use Rattle.std.proofs.Common.{◌≡◌, ◌+◌, ◌<◌, ℕ, List, [], ◌∷◌, ◌++◌, Some, None, length, map, refl, sym, ap, ◌∙◌, subst, arith}
-use Rattle.std.specs.Prelude.{OnOk}
+use Rattle.std.proofs.Common.{◌≡◌, ◌+◌, ◌<◌, ℕ, List, [], ◌∷◌, Some, length, sym, ap, ◌∙◌, subst, arith}
 use Rattle.std.proofs.lemmas.List.{length-map}
-use Rattle.hz_acceptance_model.specs.Events.{issue, advance}
+use Rattle.hz_acceptance_model.specs.Events.{advance}
 use Rattle.hz_tables_model.specs.Machines.{Machine, parts_walk}
 use Rattle.hz_tables.specs.Machines.{machine_of}
 use Rattle.hz_replay.specs.Replaying.{AreStates}
@@ -11,7 +10,7 @@ use Rattle.hz_sched.specs.Shape.{graph_of, slots_of, node_of}
 use Rattle.hz_sched.specs.Waits.{issued_at}
 use Rattle.hz_sched.specs.Standing.{left_below}
 use Rattle.hz_sched.proofs.SlotLemmas.{issued_none}
-use Rattle.hz_sched.proofs.SchedLemmas.{walked_states, IsNext, is_next, none_next, next_fits, board_next, present_next, fewer_next, cycle_next, never, is_taken, on_ok, upward_of, ranges_of}
+use Rattle.hz_sched.proofs.SchedLemmas.{walked_states, is_next, none_next, next_fits, board_next, present_next, fewer_next, cycle_next, never, is_taken, on_ok, one_more_slot, upward_of, ranges_of}
 use Rattle.hz_sched.proofs.scheduling.issue_next.Goals as goal
 
 pub first-requires-clause-states : goal.first-requires-clause-states
@@ -87,6 +86,12 @@ returns-in-Some-clause-fewer g c =
     (next_fits m graph c.loop-wait.board c.loop-wait.replayer.states c.loop-wait.invariant.board c.in-Some.place next) in
     let same = ap (λ xs. left_below (issued_at (slots_of xs)) count) c.loop-wait.invariant.slots in
     on_ok c.issue.result (λ slots waits left done. fewer_next m graph c.loop-wait.board c.loop-wait.replayer.states c.loop-wait.invariant.board c.in-Some.place next c.issue-is_taken.new.self.states step c.issue.new.self slots c.issue.ensures.cycle count (sym (length-map c.args.graph.now.insns.items node_of)) ∙ same)
+    c.issue.ensures.slots c.issue.ensures.waits c.issue.ensures.left c.issue.ensures.slots
+
+pub returns-in-Some-clause-more : goal.returns-in-Some-clause-more
+returns-in-Some-clause-more g c =
+    let same = ap length c.loop-wait.invariant.slots in
+    on_ok c.issue.result (λ slots waits left done. one_more_slot c.issue.new.self.slots.items c.loop-wait.board.slots.items _ slots ∙ ap (λ (n : ℕ). n + 1) same)
     c.issue.ensures.slots c.issue.ensures.waits c.issue.ensures.left c.issue.ensures.slots
 
 pub loop-wait-preserved : goal.loop-wait-preserved

@@ -14,5 +14,6 @@ invariant-loop-turn g l = record {
   board : IsBoard (machine_of l.machine) (graph_of l.graph) l.board l.replayer.states;
   present : l.board.cycle ≡ present 0 (slots_of l.board.slots.items);
   left : left_below (issued_at (slots_of l.board.slots.items)) (length l.graph.insns.items) + l._turn ≡ length l.graph.insns.items;
+  count : length l.board.slots.items ≡ l._turn;
   soon : l.board.cycle ≤ 1256 * l._turn;
 }

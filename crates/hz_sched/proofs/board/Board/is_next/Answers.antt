@@ -1,4 +1,4 @@
-use Rattle.std.proofs.Common.{◌≡◌, ◌<◌, ℕ, length, sym, subst, arith}
+use Rattle.std.proofs.Common.{◌<◌, ℕ, length, sym, subst, arith}
 use Rattle.std.proofs.lemmas.List.{length-map}
 use Rattle.hz_sched_model.proofs.SameSchedules.{class_below}
 use Rattle.hz_sched.specs.Shape.{graph_of, node_of}

@@ -1,0 +1,10 @@
+use Rattle.hz_acceptance_model.specs.Replay.{Accepted}
+use Rattle.hz_sched_model.specs.Machines.{IsWalked}
+use Rattle.hz_sched_model.proofs.OneSchedule.{one_schedule}
+use Rattle.hz_sched_model.proofs.laws.one_schedule_on_each.Goals as goal
+
+pub returns-clause-machine : goal.returns-clause-machine
+returns-clause-machine g c = λ m graph s t legal greedy lawful eager. one_schedule (IsWalked m) graph s t legal greedy lawful eager
+
+pub returns-clause-pipeline : goal.returns-clause-pipeline
+returns-clause-pipeline g c = λ p graph s t legal greedy lawful eager. one_schedule (Accepted p) graph s t legal greedy lawful eager
