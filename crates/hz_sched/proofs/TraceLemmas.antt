@@ -1,10 +1,10 @@
 -- The trace of a schedule can be replayed: its classes are those of the machine, and its advances are few.
-use Rattle.std.proofs.Common.{◌≡◌, ℕ, ◌<◌, ◌≤◌, ◌*◌, List, length, map, All, sym, subst, arith}
+use Rattle.std.proofs.Common.{ℕ, ◌<◌, ◌≤◌, ◌*◌, List, length, All, sym, subst, arith}
 use Rattle.std.specs.List.{AllPairs}
 use Rattle.std.proofs.lemmas.List.{length-map}
 use Rattle.std.proofs.lemmas.List.Elements.{All-map}
 use Rattle.hz_base_model.specs.Limits.{advance_limit}
-use Rattle.hz_acceptance_model.specs.Events.{Event, IsOfClass, cycles_of}
+use Rattle.hz_acceptance_model.specs.Events.{IsOfClass, cycles_of}
 use Rattle.hz_depend.specs.declared.parts.Graph as depend
 use Rattle.hz_depend.specs.GraphShape.{IsSchedulable}
 use Rattle.hz_sched_model.specs.Schedules.{Slot, spell}

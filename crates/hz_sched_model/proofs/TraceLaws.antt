@@ -1,12 +1,12 @@
 -- What the trace of slots counts.
-use Rattle.std.proofs.Common.{◌≡◌, ℕ, ◌+◌, ◌*◌, ◌-◌, ◌<◌, ◌≤◌, Bool, true, false, cond, List, [], ◌∷◌, ◌++◌, length, All, refl, arith}
+use Rattle.std.proofs.Common.{◌≡◌, ℕ, ◌+◌, ◌*◌, ◌-◌, ◌≤◌, Bool, true, false, cond, List, [], ◌∷◌, length, All, refl, arith}
 use Rattle.std.specs.Prelude.{nat_lt}
 use Rattle.std.specs.List.{AllPairs}
 use Rattle.std.proofs.lemmas.Bool.{ltb-false}
 use Rattle.std.proofs.lemmas.List.{length-append}
 use Rattle.std.proofs.lemmas.List.Elements.{All-head, All-tail}
 use Rattle.hz_base_model.proofs.Ascending.{AllPairs-head, AllPairs-tail}
-use Rattle.hz_acceptance_model.specs.Events.{Event, issue, advance, issues_of, cycles_of}
+use Rattle.hz_acceptance_model.specs.Events.{issue, advance, issues_of, cycles_of}
 use Rattle.hz_acceptance_model.proofs.ReplayLaws.{issues_of-append, cycles_of-append}
 use Rattle.hz_sched_model.specs.Schedules.{Graph, Slot, class_at, advance_to, spelled, spell, present}
 use Rattle.hz_sched_model.proofs.OneSchedule.{Rises}

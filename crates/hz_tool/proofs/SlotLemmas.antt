@@ -1,37 +1,26 @@
 -- The schedule that is made over a machine is the one by the description, and its text is told.
-use Rattle.std.proofs.Common.{◌≡◌, ℕ, ◌<◌, List, length, map, get_or, All, Some, inl, inr, refl, sym, ap, ◌∙◌, subst, arith}
-use Rattle.std.proofs.lemmas.List.{length-map, get_or-map}
+use Rattle.std.proofs.Common.{◌≡◌, ℕ, ◌<◌, List, length, map, All, sym, ap, ◌∙◌, subst}
 use Rattle.std.proofs.lemmas.List.Elements.{All-map}
 use Rattle.hz_acceptance_model.specs.Events.{Event, IsOfClass}
 use Rattle.hz_acceptance_model.specs.Replay.{Accepted}
 use Rattle.hz_answer_model.specs.ScheduleAnswers.{schedule_text}
 use Rattle.hz_check_model.specs.Places.{Known, class_names}
 use Rattle.hz_depend.specs.declared.parts.Graph as depend
-use Rattle.hz_depend.specs.declared.parts.GraphInsn.{GraphInsn}
 use Rattle.hz_mdread_model.specs.Descriptions.{Description}
 use Rattle.hz_pipeline_model.specs.Pipelines.{pipeline_with}
 use Rattle.hz_report.specs.Schedules.{schedule_by}
 use Rattle.hz_rtl.specs.declared.block.Block.{Block}
-use Rattle.hz_rtl.specs.declared.block.Insn.{Insn}
 use Rattle.hz_rtl.specs.Shape.{instruction, instructions}
 use Rattle.hz_rtl_model.specs.Blocks.{Instruction}
-use Rattle.hz_sched.specs.declared.parts.Slot as declared
-use Rattle.hz_sched.specs.Shape.{graph_of, node_of, slot_of, slots_of}
+use Rattle.hz_sched.specs.Shape.{graph_of, node_of}
 use Rattle.hz_sched_model.specs.Machines.{IsWalked}
 use Rattle.hz_sched_model.specs.Schedules.{Graph, Node, Slot, Legal, Greedy}
-use Rattle.hz_sched_model.proofs.SameSchedules.{legal_there, greedy_there, greedy_within}
+use Rattle.hz_sched_model.proofs.SameSchedules.{legal_there, greedy_there}
 use Rattle.hz_scheduled_model.specs.BlockGraphs.{IsGraphOf}
 use Rattle.hz_scheduled_model.specs.BlockSchedules.{IsScheduleOf}
 use Rattle.hz_tables_model.specs.Machines.{Machine}
 use Rattle.hz_tool.specs.Machines.{IsMachineFor}
 use Rattle.hz_tool.proofs.MachineLemmas.{map_twice}
-
--- slots of instructions of a graph are of what the code holds of it
-pub places_within : (m : Machine) (graph : depend.Graph) (slots : List declared.Slot) → Greedy (IsWalked m) (graph_of graph) (slots_of slots) → All (λ x. x.place < length graph.insns.items) slots
-places_within m graph slots greedy k d low =
-    let all = greedy_within (IsWalked m) (graph_of graph) (slots_of slots) greedy k (slot_of d) (omega (arith, low, length-map slots slot_of)) in
-    let here = subst (λ (x : Slot). x.place < length (graph_of graph).nodes) (get_or-map slot_of slots k d (slot_of d) low) all in
-    omega (arith, here, length-map graph.insns.items node_of)
 
 -- classes of a graph in the range of the description
 pub nodes_below : (n m : ℕ) (graph : depend.Graph) → All (λ i. i.class < n) graph.insns.items → n ≡ m → All (λ x. x.class < m) (graph_of graph).nodes

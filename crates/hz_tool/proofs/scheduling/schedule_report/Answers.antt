@@ -7,13 +7,13 @@ use Rattle.hz_sched.specs.declared.fault.SchedFault.{SchedFault}
 use Rattle.hz_tables.specs.Machines.{machine_of}
 use Rattle.hz_tool.proofs.JudgeLemmas.{stuck_refused}
 use Rattle.hz_tool.proofs.MachineLemmas.{classes_count}
-use Rattle.hz_tool.proofs.SlotLemmas.{places_within, nodes_below, schedule_is, text_told}
+use Rattle.hz_tool.proofs.SlotLemmas.{nodes_below, schedule_is, text_told}
 use Rattle.hz_tool.proofs.StartLemmas.{each_starts, first_stuck}
 use Rattle.hz_tool.proofs.scheduling.schedule_report.Goals as goal
 
 pub returns-in-Ok-clause-kind : goal.returns-in-Ok-clause-kind
 returns-in-Ok-clause-kind c = record {
-  places = places_within (machine_of c.args.machine) c.args.graph c.in-Ok.schedule.slots.items c.in-Ok.ensures.greedy;
+  places = c.in-Ok.ensures.places;
   classes = c.requires.schedulable.classes;
 }
 
