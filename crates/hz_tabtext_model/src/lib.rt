@@ -1,0 +1,2 @@
+//! The grammar of tables texts, and its faults.
+#![tactic(auto)]
