@@ -11,8 +11,8 @@ use Rattle.hz_base_model.specs.Names.{is_name}
 use Rattle.hz_base_model.specs.Limits.{automaton_limit, class_limit, cycle_limit}
 use Rattle.hz_tables_model.specs.StateLimits.{state_limit, cell_limit}
 use Rattle.hz_tabtext_model.specs.Judging.{Kind, bad_header, bad_line, ◌>>=◌, each_by}
-use Rattle.hz_tabtext_model.specs.Fields.{is_nil, operands, only, number_in, number_where, number_below, entry_in, advance_in, is_colon, has_unit, cycle_in}
-use Rattle.hz_tabtext_model.specs.Lines.{Nothing, header_in, treatment_in, classes_in, is_new, class_in, automata_in, Head, are_states, head_of, three_of, head_in, map_in, counts_of, counts_in, entries_of, row_in, place_of, origin_of, origin_in, grid_in, end_in}
+use Rattle.hz_tabtext_model.specs.Fields.{is_nil, operands, only, three, one_in, three_in, number_in, number_where, number_below, entry_in, advance_in, is_colon, has_unit, cycle_in}
+use Rattle.hz_tabtext_model.specs.Lines.{Nothing, header_in, treatment_in, classes_in, is_new, class_in, automata_in, Head, are_states, head_of, head_in, map_in, counts_of, counts_in, entries_of, row_in, place_of, origin_of, origin_in, grid_in, end_in}
 use Rattle.hz_tabtext_model.specs.Texts.{Counts, AreCounts, joined, entry_field, entries_line, origin_line, pair_field, grid_line, map_line, treatment_line, class_line, IsEntry, IsPair}
 use Rattle.hz_tabtext_model.proofs.Steps.{bind_ok, guard_ok, ok_is, each_takes}
 use Rattle.hz_tabtext_model.proofs.Numbers.{number_takes, where_takes, below_takes, entry_takes, advance_takes}
@@ -30,11 +30,11 @@ unfolding end_in
 end_takes line x e = same_bytes line (codes "end") (guard_ok (bytes_eq line (codes "end")) (Ok tt) bad_line x e).0
 
 -- one field behind a word
-one_takes : {A : Type 0} (word line : List ℕ) (f : List ℕ → Result A Kind) (x : A) → (operands word line >>= λ fields. only fields >>= f) ≡ Ok x → (field : List ℕ) × (line ≡ joined (word ∷ field ∷ [])) × (f field ≡ Ok x)
+one_takes : {A : Type 0} (word line : List ℕ) (f : List ℕ → Result A Kind) (x : A) → (one_in word line >>= f) ≡ Ok x → (field : List ℕ) × (line ≡ joined (word ∷ field ∷ [])) × (f field ≡ Ok x)
 one_takes word line f x e =
-    let a = bind_ok (operands word line) (λ fields. only fields >>= f) x e in
-    let b = bind_ok (only a.0) f x a.2 in
-    (b.0, operands_take word line a.0 a.1 ∙ ap (λ fields. joined (word ∷ fields)) (only_takes a.0 b.0 b.1), b.2)
+    let b = bind_ok (one_in word line) f x e in
+    let a = bind_ok (operands word line) only b.0 b.1 in
+    (b.0, operands_take word line a.0 a.1 ∙ ap (λ fields. joined (word ∷ fields)) (only_takes a.0 b.0 a.2), b.2)
 
 pub treatment_takes : (line : List ℕ) (ndfa : Bool) → treatment_in line ≡ Ok ndfa → line ≡ joined (treatment_line ndfa)
 unfolding treatment_in
@@ -72,13 +72,20 @@ automata_take line count e =
     let parts = and_parts (nat_le 1 count) (nat_le count automaton_limit) t.2 in
     (a.1 ∙ ap (λ f. joined (codes "automata" ∷ f ∷ [])) t.0, leb-true 1 count parts.0, leb-true count automaton_limit parts.1)
 
-three_take : {A : Type 0} (judge : List ℕ → List ℕ → List ℕ → Result A Kind) (fields : List (List ℕ)) (x : A) → three_of judge fields ≡ Ok x
-    → (a b c : List ℕ) × (fields ≡ a ∷ b ∷ c ∷ []) × (judge a b c ≡ Ok x)
-three_take judge [] x e = absurd (cc)
-three_take judge (a ∷ []) x e = absurd (cc)
-three_take judge (a ∷ b ∷ []) x e = absurd (cc)
-three_take judge (a ∷ b ∷ c ∷ []) x e = (a, b, c, refl, e)
-three_take judge (a ∷ b ∷ c ∷ d ∷ fields) x e = absurd (cc)
+three_take : (fields : List (List ℕ)) (x : List ℕ × List ℕ × List ℕ) → three fields ≡ Ok x → fields ≡ x.0 ∷ x.1 ∷ x.2 ∷ []
+three_take [] x e = absurd (cc)
+three_take (a ∷ []) x e = absurd (cc)
+three_take (a ∷ b ∷ []) x e = absurd (cc)
+three_take (a ∷ b ∷ c ∷ []) x e = let made : List ℕ × List ℕ × List ℕ = (a, b, c) in ap (λ (t : List ℕ × List ℕ × List ℕ). t.0 ∷ t.1 ∷ t.2 ∷ []) (ok_is {E = Kind} made x e)
+three_take (a ∷ b ∷ c ∷ d ∷ fields) x e = absurd (cc)
+
+-- three fields behind a word
+three_in_takes : {A : Type 0} (word line : List ℕ) (f : List ℕ × List ℕ × List ℕ → Result A Kind) (x : A) → (three_in word line >>= f) ≡ Ok x
+    → (t : List ℕ × List ℕ × List ℕ) × (line ≡ joined (word ∷ t.0 ∷ t.1 ∷ t.2 ∷ [])) × (f t ≡ Ok x)
+three_in_takes word line f x e =
+    let b = bind_ok (three_in word line) f x e in
+    let a = bind_ok (operands word line) three b.0 b.1 in
+    (b.0, operands_take word line a.0 a.1 ∙ ap (λ fields. joined (word ∷ fields)) (three_take a.0 b.0 a.2), b.2)
 
 -- what holds of the head of an automaton
 pub record IsHead (classes : ℕ) (head : Head) : Type 0 where
@@ -106,10 +113,9 @@ pub head_takes : (classes : ℕ) (line : List ℕ) (head : Head) → head_in cla
     → (line ≡ joined (codes "automaton" ∷ head.name ∷ decimal head.columns ∷ decimal head.states ∷ [])) × IsHead classes head
 unfolding head_in
 head_takes classes line head e =
-    let o = bind_ok (operands (codes "automaton") line) (three_of (head_of classes)) head e in
-    let t = three_take (head_of classes) o.0 head o.2 in
-    let h = head_of_takes classes t.0 t.1 t.2 head t.4 in
-    (operands_take (codes "automaton") line o.0 o.1 ∙ (ap (λ fields. joined (codes "automaton" ∷ fields)) t.3 ∙ fields_are h.1 h.2 h.3), h.0)
+    let t = three_in_takes (codes "automaton") line (λ parts. head_of classes parts.0 parts.1 parts.2) head e in
+    let h = head_of_takes classes t.0.0 t.0.1 t.0.2 head t.2 in
+    (t.1 ∙ fields_are h.1 h.2 h.3, h.0)
   where
     fields_are : {a b c : List ℕ} → a ≡ head.name → b ≡ decimal head.columns → c ≡ decimal head.states → joined (codes "automaton" ∷ a ∷ b ∷ c ∷ []) ≡ joined (codes "automaton" ∷ head.name ∷ decimal head.columns ∷ decimal head.states ∷ [])
     fields_are p q r = cc
@@ -127,17 +133,16 @@ pub counts_take : (line : List ℕ) (x : Nothing) → counts_in line ≡ Ok x
     → (counts : Counts) × AreCounts counts × (line ≡ joined (codes "stats" ∷ decimal counts.grids ∷ decimal counts.states ∷ decimal counts.members ∷ []))
 unfolding counts_in
 counts_take line x e =
-    let o = bind_ok (operands (codes "stats") line) (three_of counts_of) x e in
-    let t = three_take counts_of o.0 x o.2 in
-    let a = bind_ok (number_in t.0) (λ g. number_in t.1 >>= λ s. number_in t.2 >>= λ m. Ok tt) x t.4 in
-    let b = bind_ok (number_in t.1) (λ s. number_in t.2 >>= λ m. Ok tt) x a.2 in
-    let c = bind_ok (number_in t.2) (λ m. Ok tt) x b.2 in
-    let g = number_takes t.0 a.0 a.1 in
-    let s = number_takes t.1 b.0 b.1 in
-    let m = number_takes t.2 c.0 c.1 in (
+    let t = three_in_takes (codes "stats") line (λ counts. counts_of counts.0 counts.1 counts.2) x e in
+    let a = bind_ok (number_in t.0.0) (λ g. number_in t.0.1 >>= λ s. number_in t.0.2 >>= λ m. Ok tt) x t.2 in
+    let b = bind_ok (number_in t.0.1) (λ s. number_in t.0.2 >>= λ m. Ok tt) x a.2 in
+    let c = bind_ok (number_in t.0.2) (λ m. Ok tt) x b.2 in
+    let g = number_takes t.0.0 a.0 a.1 in
+    let s = number_takes t.0.1 b.0 b.1 in
+    let m = number_takes t.0.2 c.0 c.1 in (
       record { grids = a.0; states = b.0; members = c.0 },
       record { grids = g.1; states = s.1; members = m.1 },
-      operands_take (codes "stats") line o.0 o.1 ∙ (ap (λ fields. joined (codes "stats" ∷ fields)) t.3 ∙ fields_are g.0 s.0 m.0),
+      t.1 ∙ fields_are g.0 s.0 m.0,
     )
   where
     fields_are : {a b c p q r : List ℕ} → a ≡ p → b ≡ q → c ≡ r → joined (codes "stats" ∷ a ∷ b ∷ c ∷ []) ≡ joined (codes "stats" ∷ p ∷ q ∷ r ∷ [])

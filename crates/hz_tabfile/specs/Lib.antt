@@ -1,0 +1,5 @@
+pub mod Cutting
+pub mod Numbers
+pub mod Judged
+pub mod Heads
+pub mod Lines
