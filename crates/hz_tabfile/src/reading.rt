@@ -2,8 +2,10 @@
 
 mod cutting;
 pub(crate) mod fault;
+mod each;
 mod head;
 mod lines;
 mod numbers;
 mod operands;
+mod pairs;
 mod wrong;

@@ -6,7 +6,7 @@ ghost use Rattle.std.specs.Str.{bytes_eq};
 ghost use Rattle.hz_tabfile.specs.Cutting.{pieces, fields_in, counted};
 
 /// The place of the first such byte.
-fn place(text: &[u8], byte: u8) -> Option<usize>
+pub fn place(text: &[u8], byte: u8) -> Option<usize>
     ensures { result ≡ position (λ b. b == byte) text.now }
 {
     text.iter().position(|b| *b == byte)

@@ -1,18 +1,16 @@
 //! What each line says at its place.
 
-ghost use Rattle.std.specs.Prelude.{◌≡◌, ◌∷◌, ◌++◌, [], length, IfOk, OnOk, All};
+ghost use Rattle.std.specs.Prelude.{◌≡◌, ◌≤◌};
 ghost use Rattle.hz_base_model.specs.Limits.{class_limit};
-ghost use Rattle.hz_tabtext_model.specs.Judging.{each_by};
-ghost use Rattle.hz_tabtext_model.specs.Fields as fields;
 ghost use Rattle.hz_tabtext_model.specs.Lines as model;
-ghost use Rattle.hz_tabfile.specs.Cutting.{fields_in};
 ghost use Rattle.hz_tabfile.specs.Judged.{Judges};
 ghost use Rattle.hz_tabfile.specs.Heads.{head_said};
 ghost use Rattle.hz_tabfile.specs.Lines.{class_onto};
 
 use super::cutting::{cut, is_word};
+use super::each::{cells, cycles, have_units, numbers_below};
 use super::head::Head;
-use super::numbers::{advance, entry, number, number_below};
+use super::numbers::{number, number_below};
 use super::operands::{next_field, one, operands, three};
 use super::wrong::Wrong;
 use hz_regexp::Name;
@@ -98,25 +96,6 @@ pub fn head(alloc: Global, line: &[u8], classes: u32) -> Result<Head, Wrong>
     })
 }
 
-/// The numbers below a limit that fields are.
-fn numbers_below(
-    alloc: Global,
-    fields: Option<&[u8]>,
-    limit: u32,
-    count: usize,
-) -> Result<Vec<u32>, Wrong>
-    ensures { Judges (λ numbers. numbers.items) result (each_by (fields.number_below limit) (fields_in fields.entry)) }
-{
-    let mut numbers = Vec::with_capacity(alloc, count)?;
-    let mut rest = fields;
-    while let Some(text) = rest {
-        let (field, after) = cut(text, b' ');
-        numbers.push(number_below(field, limit)?)?;
-        rest = after;
-    }
-    Ok(numbers)
-}
-
 /// The column of each class: `map c ..`.
 #[tactic(auto, unfolding(hz_tabtext_model::specs::Lines::map_in))]
 pub fn map(alloc: Global, line: &[u8], classes: u32, columns: u32) -> Result<Vec<u32>, Wrong>
@@ -139,6 +118,68 @@ pub fn counts(line: &[u8]) -> Result<(), Wrong>
     number(states)?;
     number(members)?;
     Ok(())
+}
+
+/// The entries of a state, of which there are so many before the advance, in place of those in `row`: `row t ..`.
+#[tactic(auto, unfolding(hz_tabtext_model::specs::Lines::row_in))]
+pub fn row(
+    line: &[u8],
+    columns: u32,
+    states: u32,
+    row: &mut Vec<Option<u32>>,
+) -> Result<(), Wrong>
+    requires { columns ≤ class_limit }
+    ensures { Judges (λ _. row.new.items) result (model.row_in columns states line.now) }
+{
+    let fields = operands(line, b"row")?;
+    if fields.count != columns as usize + 1 {
+        return Err(Wrong::BadLine);
+    }
+    cells(fields.left, columns, states, row)
+}
+
+/// A row and a column, which are dropped: `from P C`.
+fn place(row: &[u8], column: &[u8], columns: u32, states: u32) -> Result<(), Wrong>
+    ensures { Judges (λ _. tt) result (model.place_of columns states row.now column.now) }
+{
+    number_below(row, states)?;
+    if number(column)? > columns {
+        return Err(Wrong::OutOfRange);
+    }
+    Ok(())
+}
+
+/// The origin of a state, which is dropped: `from -` or `from P C`.
+#[tactic(auto, using(crate::proofs::Pieces::nil_fields), unfolding(hz_tabtext_model::specs::Lines::origin_in))]
+pub fn origin(line: &[u8], columns: u32, states: u32) -> Result<(), Wrong>
+    ensures { Judges (λ _. tt) result (model.origin_in columns states line.now) }
+{
+    let fields = operands(line, b"from")?;
+    let (row, others) = next_field(fields.left)?;
+    let Some(text) = others else {
+        return if is_word(row, b"-") {
+            Ok(())
+        } else {
+            Err(Wrong::BadLine)
+        };
+    };
+    let (column, others) = cut(text, b' ');
+    if others.is_some() {
+        return Err(Wrong::BadLine);
+    }
+    place(row, column, columns, states)
+}
+
+/// A grid of a state, which is dropped: `grid CYCLE:UNIT ..`.
+#[tactic(auto, unfolding(hz_tabtext_model::specs::Lines::grid_in))]
+pub fn grid(line: &[u8]) -> Result<(), Wrong>
+    ensures { Judges (λ _. tt) result (model.grid_in line.now) }
+{
+    let fields = operands(line, b"grid")?;
+    if !have_units(fields.left) {
+        return Err(Wrong::BadLine);
+    }
+    cycles(fields.left)
 }
 
 /// `end`.
