@@ -10,7 +10,7 @@ use Rattle.std.proofs.lemmas.List.Elements.{All-from_get_or}
 use Rattle.std.proofs.lemmas.List.Sums.{fails_before_first}
 use Rattle.std.proofs.lemmas.List.Splits.{slice_split_first, slice_split_none}
 use Rattle.hz_tabtext_model.specs.Fields.{is_nil}
-use Rattle.hz_tabfile.specs.Cutting.{fields_in, counted}
+use Rattle.hz_tabfile.specs.Cutting.{pieces, fields_in, counted}
 
 -- at the place of the first such byte
 pub split_at_place : (p : ℕ → Bool) (xs : List ℕ) (n : ℕ) → position p xs ≡ Some n → slice_split p xs ≡ take n xs ∷ slice_split p (drop (n + 1) xs)
@@ -88,7 +88,10 @@ some_pieces p (x ∷ xs) = by_test (p x) (slice_split p xs)
     by_test false [] = refl
     by_test false (other ∷ others) = refl
 
--- whether a field is left
+-- whether a piece is left
+pub nil_pieces : (byte : ℕ) (rest : Option (Bor (List ℕ))) → is_nil (pieces byte rest) ≡ not (is_some rest)
+nil_pieces byte None = refl
+nil_pieces byte (Some text) = some_pieces (λ b. b == byte) text.now
+
 pub nil_fields : (rest : Option (Bor (List ℕ))) → is_nil (fields_in rest) ≡ not (is_some rest)
-nil_fields None = refl
-nil_fields (Some text) = some_pieces (λ b. b == 32) text.now
+nil_fields rest = nil_pieces 32 rest

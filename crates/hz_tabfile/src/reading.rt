@@ -8,4 +8,6 @@ mod lines;
 mod numbers;
 mod operands;
 mod pairs;
+mod rest;
+mod told;
 mod wrong;

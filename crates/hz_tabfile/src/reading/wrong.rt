@@ -3,6 +3,7 @@
 ghost use Rattle.std.specs.Prelude.{◌≡◌};
 ghost use Rattle.hz_tabfile.specs.declared.reading.wrong.Wrong.TheVariants.{NoMemory as no_memory};
 
+use super::fault::TabFault;
 use std::alloc::{AllocError, AllocFailed};
 
 /// What is wrong with a line, whichever number it has.
@@ -31,5 +32,21 @@ impl<T: Drop> From<AllocFailed<T>> for Wrong {
 
     fn from(_error: AllocFailed<T>) -> Wrong {
         Wrong::NoMemory
+    }
+}
+
+impl Wrong {
+    ghost use Rattle.hz_tabfile.specs.Given.{fault_at};
+
+    /// The fault of a line of this number.
+    pub fn at(self, line: u32) -> TabFault
+        ensures { result ≡ fault_at line self }
+    {
+        match self {
+            Wrong::BadLine => TabFault::BadLine { line },
+            Wrong::BadNumber => TabFault::BadNumber { line },
+            Wrong::OutOfRange => TabFault::OutOfRange { line },
+            Wrong::NoMemory => TabFault::NoMemory,
+        }
     }
 }
