@@ -4,4 +4,4 @@
 mod reading;
 
 pub use reading::fault::TabFault;
-
+pub use reading::machine::read_tables;
