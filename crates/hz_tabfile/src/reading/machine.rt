@@ -1,6 +1,7 @@
 //! The reader of tables texts.
 
 ghost use Rattle.std.specs.Prelude.{◌≡◌, ◌<◌, ◌^◌, Ok, length, map, codes, IfOk};
+ghost use Rattle.std.specs.Bool.{OnTrue};
 ghost use Rattle.std.specs.Str.{bytes_eq};
 ghost use Rattle.hz_tables_model.specs.Machines as machines;
 ghost use Rattle.hz_tables.specs.Machines.{machine_of};
@@ -22,7 +23,8 @@ use std::alloc::Global;
 
 /// Whether a line is the header.
 fn is_header(line: &[u8]) -> bool
-    ensures { result ≡ bytes_eq line.now (codes "hazard-tables 1") }
+    ensures same { result ≡ bytes_eq line.now (codes "hazard-tables 1") }
+    ensures some { OnTrue result (0 < length line.now) }
 {
     is_word(line, b"hazard-tables 1")
 }
@@ -37,7 +39,7 @@ fn behind_header(bytes: &[u8]) -> Result<Rest, TabFault>
     let Some(bytes) = others else {
         return Err(TabFault::Truncated { line: 1 });
     };
-    if line.is_empty() || !is_header(line) {
+    if !is_header(line) {
         return Err(TabFault::BadHeader { line: 1 });
     }
     Ok(Rest { bytes, number: 2 })
