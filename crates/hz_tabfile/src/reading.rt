@@ -1,0 +1,15 @@
+//! Reads tables texts.
+
+mod cutting;
+mod each;
+pub(crate) mod fault;
+mod head;
+mod lines;
+pub(crate) mod machine;
+mod numbers;
+mod operands;
+mod pairs;
+mod rest;
+mod text;
+mod told;
+mod wrong;

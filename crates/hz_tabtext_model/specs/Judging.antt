@@ -1,0 +1,26 @@
+-- Judging: a value, or the first thing that is wrong.
+use Rattle.std.specs.Prelude.{ℕ, List, [], ◌∷◌, ◌++◌, Result, Ok, Err}
+
+-- What can be wrong with a tables text: its first line is another; a line that is no line of its place; a field that is
+-- no number; a number out of its range; the text ends within a line; something stands behind the end.
+pub data Kind : Type 0 where
+  bad_header bad_line bad_number out_of_range truncated trailing : Kind
+
+-- A fault is what is wrong, and the number of its line, from 1.
+pub record Fault : Type 0 where
+  pub kind : Kind
+  pub line : ℕ
+
+infixl 10 ◌>>=◌
+-- one judgement after another: the first fault stands
+abbrev pub ◌>>=◌ : {A B E : Type 0} → Result A E → (A → Result B E) → Result B E
+(Ok x) >>= f = f x
+(Err e) >>= f = Err e
+
+-- each of a list, from left to right
+unfoldable pub each_by : {A B : Type 0} → (A → Result B Kind) → List A → Result (List B) Kind
+each_by judge [] = Ok []
+each_by judge (x ∷ xs) = do
+  first ← judge x
+  others ← each_by judge xs
+  Ok (first ∷ others)

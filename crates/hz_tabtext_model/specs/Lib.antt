@@ -1,0 +1,5 @@
+pub mod Texts
+pub mod Judging
+pub mod Fields
+pub mod Lines
+pub mod Reading
