@@ -13,3 +13,6 @@ mod rest;
 mod text;
 mod told;
 mod wrong;
+
+#[cfg(test)]
+mod tests;
