@@ -1,4 +1,4 @@
--- What `eval` answers: this profile, docs/FORMATS.md, 'Answers'.
+-- What a block is, and what `eval` answers: this profile, docs/FORMATS.md, 'Answers'.
 use Rattle.std.specs.Prelude.{◌≡◌, ℕ, List, [], ◌∷◌, length, ◌⊎◌}
 use Rattle.std.specs.List.{range_with_len}
 use Rattle.hz_sexp_model.specs.Trees.{Trees}

@@ -33,8 +33,8 @@ pub record IsBlockIn (bytes : List ℕ) (block : List Instruction) : Type 0 wher
   pub says : blocks.Reads read block
 
 -- The text is that of a schedule of the block by the description: it has the block's instructions each once, every latency and
--- bypass is kept, the description accepts their trace, which is short enough to be one, and their order leaves from every state what
--- the order of the source leaves.
+-- bypass is kept, the description accepts their trace, which has no more advances than a trace may have, and their order leaves from
+-- every state what the order of the source leaves.
 pub record WritesSchedule (held : Held) (description block : List ℕ) (text : List ℕ) : Type 0 where
   pub described : List ℕ
   pub blocked : List ℕ

@@ -16,8 +16,8 @@ pub fn schedules_keep_their_blocks()
     ensures { (held : Held) (description block text : List ℕ) → AnswersSchedule held description block 0 text → WritesSchedule held description block text }
 {}
 
-/// `replay` accepts each schedule that `schedule` writes: it answers with status 0, and tells as many issues as the block has
-/// instructions, and the cycle of the last.
+/// `replay` accepts each schedule that `schedule` writes: to every trace within its limit of bytes that says the schedule it
+/// answers with status 0, and tells as many issues as the block has instructions, and the cycle of the last.
 pub fn replay_accepts_schedules()
     ensures { (held : Held) (description block text : List ℕ) (w : WritesSchedule held description block text) → AnswersSchedule held description block 0 text → ReplayAccepts held description w.d w.g w.slots }
 {}

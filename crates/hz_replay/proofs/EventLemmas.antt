@@ -1,6 +1,7 @@
 -- Events of a list, one by one, and what a machine walks of them.
-use Rattle.std.proofs.Common.{◌≡◌, ℕ, zero, suc, ◌+◌, ◌<◌, ◌≤◌, List, [], ◌∷◌, ◌++◌, length, take, drop, get_or, Option, Some, None, slice_get, replicate, refl, sym, ap, ◌∙◌, subst, arith}
+use Rattle.std.proofs.Common.{◌≡◌, ℕ, zero, suc, ◌+◌, ◌*◌, ◌<◌, ◌≤◌, List, [], ◌∷◌, ◌++◌, length, take, drop, get_or, Option, Some, None, slice_get, replicate, refl, sym, ap, ◌∙◌, subst, arith}
 use Rattle.std.specs.Prelude.{IsSome, option_and_then}
+use Rattle.std.proofs.Math.Nat.{mul-add, mul-le-mul_left}
 use Rattle.std.proofs.lemmas.List.{map_more, length-map, take-append-drop, map-append, take-map, take_all, append-nil}
 use Rattle.std.proofs.lemmas.Grind.{replicate_next}
 use Rattle.std.proofs.lemmas.Option.{slice_get-get_or, slice_get-map}
@@ -48,9 +49,29 @@ cycles_front es i =
     let parts = ap events_in (sym (take-append-drop i es)) ∙ map-append (λ (e : Event). event_of e.what) (take i es) (drop i es) in
     omega (arith, ap cycles_of parts, cycles_of-append (events_in (take i es)) (events_in (drop i es)))
 
+pub issues_front : (es : List Event) (i : ℕ) → issues_of (events_in (take i es)) ≤ issues_of (events_in es)
+issues_front es i =
+    let parts = ap events_in (sym (take-append-drop i es)) ∙ map-append (λ (e : Event). event_of e.what) (take i es) (drop i es) in
+    omega (arith, ap issues_of parts, issues_of-append (events_in (take i es)) (events_in (drop i es)))
+
 pub one_issue : (e : model.Event) → issues_in e ≤ 1
 one_issue (model.issue k) = omega arith
 one_issue (model.advance n) = omega arith
+
+-- Steps: at most four for each part and each issue or cycle.
+pub steps_more : (parts before more all from now next : ℕ) → all ≡ before + more → now ≤ from + 4 * parts * before → next ≤ now + 4 * parts * more → next ≤ from + 4 * parts * all
+steps_more parts before more all from now next sum h k =
+    let split = mul-add (4 * parts) before more in
+    let same = ap (λ n. 4 * parts * n) sum in
+    omega (arith, split, same, h, k)
+
+pub steps_once : (parts now next : ℕ) → next ≤ now + 4 * parts → next ≤ now + 4 * parts * 1
+steps_once parts now next h = omega (arith, h)
+
+pub steps_within : (parts some all from now : ℕ) → some ≤ all → now ≤ from + 4 * parts * some → now ≤ from + 4 * parts * all
+steps_within parts some all from now within h =
+    let most = mul-le-mul_left {m = some} {n = all} (4 * parts) within in
+    omega (arith, most, h)
 
 -- Advances of parts.
 

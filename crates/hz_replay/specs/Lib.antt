@@ -1,4 +1,5 @@
 pub mod Names
 pub mod Lines
 pub mod Traces
+pub mod Reading
 pub mod Replaying

@@ -6,6 +6,7 @@ mod fault;
 mod lines;
 mod names;
 mod outcome;
+mod reading;
 mod replayer;
 mod replaying;
 mod trace;

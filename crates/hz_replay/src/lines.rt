@@ -1,7 +1,7 @@
 //! A text cut into lines, and a line into its words.
 
-ghost use Rattle.std.specs.Prelude.{◌≡◌, ◌<◌, ◌≤◌, ◌∷◌, ◌-◌, length, take, drop, position, ◌==◌};
-ghost use Rattle.std.specs.List.{prefix_len, suffix_len, position_or_len};
+ghost use Rattle.std.specs.Prelude.{◌≡◌, ◌<◌, ◌≤◌, ◌∷◌, ◌+◌, ◌-◌, length, drop, position, ◌==◌};
+ghost use Rattle.std.specs.List.{prefix_len, suffix_len, position_or_len, slice_range};
 ghost use Rattle.hz_base_model.specs.Lines.{lines_of};
 ghost use Rattle.hz_trace_model.specs.Traces as model;
 
@@ -12,15 +12,16 @@ fn line_feed(text: &[u8]) -> Option<usize>
     text.iter().position(|b| *b == b'\n')
 }
 
-/// The first line of a text that is not empty, without its line feed, and what stands after it.
-pub fn split_line(text: &[u8]) -> (&[u8], &[u8])
-    requires { 0 < length text.now }
-    ensures lines { lines_of text.now ≡ result.0.now ∷ lines_of result.1.now }
-    ensures shorter { length result.1.now < length text.now }
+/// Where the line ends that begins at a place of a text: at its line feed, or at the end of the text.
+pub fn line_end(text: &[u8], from: usize) -> usize
+    requires { from < length text.now }
+    ensures order { from ≤ result }
+    ensures within { result ≤ length text.now }
+    ensures lines { lines_of (drop from text.now) ≡ slice_range text.now from result ∷ lines_of (drop (result + 1) text.now) }
 {
-    match line_feed(text) {
-        Some(end) => (&text[..end], &text[end + 1..]),
-        None => (text, &text[text.len()..]),
+    match line_feed(&text[from..]) {
+        Some(length) => from + length,
+        None => text.len(),
     }
 }
 

@@ -6,19 +6,48 @@ ghost use Rattle.std.specs.Option.{option_map, ForSome};
 ghost use Rattle.hz_tables_model.specs.Machines.{parts_walk, starts_of};
 ghost use Rattle.hz_tables.specs.Machines.{machine_of};
 ghost use Rattle.hz_acceptance_model.specs.Events.{issue, advance};
-ghost use Rattle.hz_replay.specs.Replaying.{event_for};
+ghost use Rattle.hz_replay.specs.Replaying.{event_for, AreStates};
 
 use hz_tables::{Machine, Steps};
 use smallvec::SmallVec;
 use std::alloc::Global;
 use std::marker::Model;
+use std::mem;
 use std::sync::ledger::Ledger;
+
+/// Puts the next states of a machine's parts in the place of `next`: at an issue of a class, or at the advance of one cycle
+/// where there is no class. False where some part has no next state. At most four steps for each part.
+fn walk<L: Ledger>(
+    machine: &Machine,
+    states: &[u32],
+    class: Option<u32>,
+    next: &mut SmallVec<u32, 16>,
+    steps: &mut Steps<L>,
+) -> bool
+    requires states { AreStates (machine_of machine.now) states.now }
+    requires class { ForSome class (λ class. class < length machine.now.classes.items) }
+    requires room { next.old.capacity ≡ 16 }
+    ensures next { OnTrue result (parts_walk (machine_of machine.now).parts states.now (event_for class ∷ []) ≡ Some next.new.items) }
+    ensures none { OnFalse result (parts_walk (machine_of machine.now).parts states.now (event_for class ∷ []) ≡ None) }
+    ensures room { next.new.capacity ≡ 16 }
+    ensures cost { steps.new ≤ steps.old + 4 * length machine.now.parts.items }
+{
+    next.clear();
+    for part in 0..machine.parts.len() {
+        match machine.step(part as u32, states[part], class, steps) {
+            Some(state) => next.push_reserved(state),
+            None => return false,
+        }
+    }
+    true
+}
 
 /// A state for each part of a machine. It takes no memory: it has room for as many parts as a machine may have.
 #[derive(Drop)]
 pub struct Replayer<'m> {
     machine: &'m Machine,
     states: SmallVec<u32, 16>,
+    next: SmallVec<u32, 16>,
 }
 
 impl<'m> Model for Replayer<'m> {
@@ -30,7 +59,7 @@ impl<'m> Model for Replayer<'m> {
 
     ghost view = { λ r. record { machine = machine_of r.machine.now; states = r.states.items } };
 
-    ghost invariant = { λ r. AreStates (machine_of r.machine.now) r.states.items × (r.states.capacity ≡ 16) };
+    ghost invariant = { λ r. AreStates (machine_of r.machine.now) r.states.items × (r.states.capacity ≡ 16) × (r.next.capacity ≡ 16) };
 }
 
 impl<'m> Replayer<'m> {
@@ -42,28 +71,11 @@ impl<'m> Replayer<'m> {
         for _part in 0..machine.parts.len() {
             states.push_reserved(0);
         }
-        Replayer { machine, states }
-    }
-
-    /// The next states: at an issue of a class, or at the advance of one cycle where there is no class. None where some
-    /// part has no next state. At most four steps for each part.
-    fn next<L: Ledger>(&self, class: Option<u32>, steps: &mut Steps<L>) -> Option<SmallVec<u32, 16>>
-        requires class { ForSome class (λ class. class < length self.now.machine.classes) }
-        ensures next { option_map (λ states. states.items) result ≡ parts_walk self.now.machine.parts self.now.states (event_for class ∷ []) }
-        ensures room { IfSome result (λ states. states.capacity ≡ 16) }
-        ensures cost { steps.new ≤ steps.old + 4 * length self.now.machine.parts }
-    {
-        let mut next = SmallVec::new(*self.states.allocator());
-        for part in 0..self.machine.parts.len() {
-            match self
-                .machine
-                .step(part as u32, self.states[part], class, steps)
-            {
-                Some(state) => next.push_reserved(state),
-                None => return None,
-            }
+        Replayer {
+            machine,
+            states,
+            next: SmallVec::new(alloc),
         }
-        Some(next)
     }
 
     /// An issue of a class: true if each part has a next state, which it takes; false changes nothing. It takes no
@@ -76,13 +88,12 @@ impl<'m> Replayer<'m> {
         ensures stays { OnFalse result (self.new ≡ self.old) }
         ensures cost { steps.new ≤ steps.old + 4 * length self.old.machine.parts }
     {
-        match self.next(Some(class), steps) {
-            Some(states) => {
-                self.states = states;
-                true
-            }
-            None => false,
+        let stands = self.states.as_slice();
+        let walks = walk(self.machine, stands, Some(class), &mut self.next, steps);
+        if walks {
+            mem::swap(&mut self.states, &mut self.next);
         }
+        walks
     }
 
     /// One cycle: each part takes its next state. It takes no memory, and at most four steps for each part.
@@ -91,10 +102,11 @@ impl<'m> Replayer<'m> {
         ensures taken { parts_walk self.old.machine.parts self.old.states (advance 1 ∷ []) ≡ Some self.new.states }
         ensures cost { steps.new ≤ steps.old + 4 * length self.old.machine.parts }
     {
-        match self.next(None, steps) {
-            Some(states) => self.states = states,
-            None => unreachable!(),
+        let stands = self.states.as_slice();
+        if !walk(self.machine, stands, None, &mut self.next, steps) {
+            unreachable!();
         }
+        mem::swap(&mut self.states, &mut self.next);
     }
 
     /// The states, one for each part. It takes no memory.

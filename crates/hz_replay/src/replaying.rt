@@ -1,6 +1,6 @@
 //! Replaying a whole trace.
 
-ghost use Rattle.std.specs.Prelude.{◌≡◌, ◌+◌, ◌<◌, ◌≤◌, ◌^◌, ◌∷◌, [], length, All, Some, None};
+ghost use Rattle.std.specs.Prelude.{◌≡◌, ◌+◌, ◌*◌, ◌<◌, ◌≤◌, ◌^◌, ◌∷◌, [], length, All, Some, None};
 ghost use Rattle.std.specs.Bool.{OnTrue, OnFalse};
 ghost use Rattle.hz_base_model.specs.Limits.{advance_limit};
 ghost use Rattle.hz_acceptance_model.specs.Events.{advance, issues_of, cycles_of, IsOfClass};
@@ -22,6 +22,7 @@ fn advance_by<L: Ledger>(replayer: &mut Replayer<'_>, cycles: u32, steps: &mut S
     requires { length replayer.old.states ≡ length replayer.old.machine.parts }
     ensures machine { replayer.new.machine ≡ replayer.old.machine }
     ensures taken { parts_walk replayer.old.machine.parts replayer.old.states (advance cycles ∷ []) ≡ Some replayer.new.states }
+    ensures cost { steps.new ≤ steps.old + 4 * length replayer.old.machine.parts * cycles }
 {
     for _cycle in 0..cycles {
         replayer.advance(steps);
@@ -36,6 +37,7 @@ fn play<L: Ledger>(replayer: &mut Replayer<'_>, what: What, steps: &mut Steps<L>
     ensures taken { OnTrue result (parts_walk replayer.old.machine.parts replayer.old.states (event_of what ∷ []) ≡ Some replayer.new.states) }
     ensures refused { OnFalse result (parts_walk replayer.old.machine.parts replayer.old.states (event_of what ∷ []) ≡ None) }
     ensures issue { OnFalse result (IsIssue (event_of what)) }
+    ensures cost { steps.new ≤ steps.old + 4 * length replayer.old.machine.parts * (issues_in (event_of what) + cycles_of_one (event_of what)) }
 {
     match what {
         What::Issue(class) => replayer.issue(class, steps),
@@ -66,31 +68,8 @@ fn cycles_at(what: What) -> u64
     }
 }
 
-/// How many events are issues.
-fn issue_count(events: &[Event]) -> u64
-    ensures { result ≡ issues_of (events_in events.now) }
-{
-    let mut count = 0;
-    for event in events {
-        count += issues_at(event.what);
-    }
-    count
-}
-
-/// How many cycles are advanced.
-fn cycle_count(events: &[Event]) -> u64
-    requires { cycles_of (events_in events.now) ≤ advance_limit }
-    ensures { result ≡ cycles_of (events_in events.now) }
-{
-    let mut count = 0;
-    for event in events {
-        count += cycles_at(event.what);
-    }
-    count
-}
-
 /// Replays events from the start of every part: all are walked, with how many issues and cycle advances there are, or
-/// the first that is not. It takes no memory.
+/// the first that is not. It takes no memory, and at most four steps for each part and each issue or cycle.
 pub fn replay<L: Ledger>(
     alloc: Global,
     machine: &Machine,
@@ -100,18 +79,20 @@ pub fn replay<L: Ledger>(
     requires classes { All (IsOfClass (length machine.now.classes.items)) (events_in events.now) }
     requires short { cycles_of (events_in events.now) ≤ advance_limit }
     requires few { length events.now < 2 ^ 32 }
-    ensures { IsOutcome (machine_of machine.now) (events_in events.now) result }
+    ensures outcome { IsOutcome (machine_of machine.now) (events_in events.now) result }
+    ensures cost { steps.new ≤ steps.old + 4 * length machine.now.parts.items * (issues_of (events_in events.now) + cycles_of (events_in events.now)) }
 {
     let mut replayer = Replayer::start(alloc, machine);
+    let mut issues = 0;
+    let mut cycles = 0;
     for (place, event) in events.iter().enumerate() {
         if !play(&mut replayer, event.what, steps) {
             return Outcome::Refused {
                 event: place as u32,
             };
         }
+        issues += issues_at(event.what);
+        cycles += cycles_at(event.what);
     }
-    Outcome::Accepted {
-        issues: issue_count(events),
-        cycles: cycle_count(events),
-    }
+    Outcome::Accepted { issues, cycles }
 }

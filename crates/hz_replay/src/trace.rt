@@ -13,9 +13,10 @@ ghost use Rattle.indexmap.specs.IndexSet.{index_set_len};
 
 use super::event::{Event, What};
 use super::fault::TraceFault;
-use super::lines::split_line;
+use super::lines::line_end;
 use super::names::add;
-use super::words::{Wrong, judge};
+use super::reading::Reading;
+use super::words::Wrong;
 use hz_regexp::Name;
 use hz_tables::Machine;
 use indexmap::IndexSet;
@@ -60,19 +61,20 @@ pub fn read_events(
     ensures lines { IfOk result (λ events. lines_in events.items ≡ event_lines (names_in classes.now.keys) 1 (lines_of text.now)) }
     ensures err { IfErr result (IsTraceFault (names_in classes.now.keys) text.now) }
 {
+    let mut reading = Reading::new(alloc, classes, text)?;
     let mut events = Vec::new(alloc);
     let mut advanced = 0;
     let mut number = 0;
-    let mut rest = text;
-    while !rest.is_empty() {
-        let (line, others) = split_line(rest);
+    let mut at = 0;
+    while at < text.len() {
+        let end = line_end(text, at);
         number += 1;
-        let what = match judge(classes, advanced, line) {
+        let what = match reading.judge(advanced, at, end) {
             Ok(what) => what,
             Err(wrong) => return Err(fault_at(number, wrong)),
         };
         advanced += note(&mut events, number, what)?;
-        rest = others;
+        at = end + 1;
     }
     Ok(events)
 }

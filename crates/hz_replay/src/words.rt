@@ -2,11 +2,11 @@
 
 ghost use Rattle.std.specs.Prelude.{◌≡◌, ◌≤◌, ◌+◌};
 ghost use Rattle.std.specs.Option.{option_map};
-ghost use Rattle.hz_base_model.specs.Limits.{advance_limit, class_limit};
+ghost use Rattle.hz_base_model.specs.Limits.{class_limit};
 ghost use Rattle.hz_base_model.specs.Lines.{number_of};
 ghost use Rattle.hz_trace_model.specs.Traces as model;
 ghost use Rattle.hz_replay.specs.Names.{names_in};
-ghost use Rattle.hz_replay.specs.Lines.{capped, said, capped_line, judged, judgement};
+ghost use Rattle.hz_replay.specs.Lines.{capped, said, capped_line};
 ghost use Rattle.indexmap.specs.IndexSet.{index_set_len};
 
 use super::event::What;
@@ -76,7 +76,7 @@ fn says_advance(digits: &[u8]) -> Said
 }
 
 /// What a line says, a number above the limit cut to the limit and one more.
-fn line_says(classes: &IndexSet<Vec<u8>>, line: &[u8]) -> Said
+pub fn line_says(classes: &IndexSet<Vec<u8>>, line: &[u8]) -> Said
     requires { index_set_len classes.now ≤ class_limit }
     ensures { said result ≡ capped_line (model.line_says (names_in classes.now.keys) line.now) }
 {
@@ -91,22 +91,5 @@ fn line_says(classes: &IndexSet<Vec<u8>>, line: &[u8]) -> Said
         says_advance(operand)
     } else {
         Said::Wrong(Wrong::BadLine)
-    }
-}
-
-/// The event of a line behind so many advances, None where it has none, or what is wrong with it.
-pub fn judge(classes: &IndexSet<Vec<u8>>, advanced: u32, line: &[u8]) -> Result<Option<What>, Wrong>
-    requires count { index_set_len classes.now ≤ class_limit }
-    requires short { advanced ≤ advance_limit }
-    ensures { judgement result ≡ judged advanced (model.line_says (names_in classes.now.keys) line.now) }
-{
-    match line_says(classes, line) {
-        Said::Nothing => Ok(None),
-        Said::Event(What::Issue(class)) => Ok(Some(What::Issue(class))),
-        Said::Event(What::Advance(cycles)) if cycles > ADVANCE_LIMIT - advanced => Err(
-            Wrong::AdvanceLimit,
-        ),
-        Said::Event(What::Advance(cycles)) => Ok(Some(What::Advance(cycles))),
-        Said::Wrong(wrong) => Err(wrong),
     }
 }

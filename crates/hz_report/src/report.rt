@@ -60,7 +60,7 @@ pub enum Report<'a> {
         kind: InsnKind,
         number: u32,
     },
-    /// An instruction of two classes, the first of them in the description first.
+    /// An instruction of two classes or more: the first two in the order of the description.
     Ambiguous {
         file: &'a str,
         line: u32,

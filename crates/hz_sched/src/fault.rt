@@ -1,8 +1,8 @@
-//! Why a block has no schedule.
+//! Why a block is not scheduled.
 
 use thiserror::Error;
 
-/// Why a block has no schedule.
+/// Why a block is not scheduled.
 #[derive(Clone, Copy, Debug, PartialEq, Eq, Error)]
 pub enum SchedFault {
     /// The class of the instruction at this place, counted from 0, can't be issued even where nothing else is.

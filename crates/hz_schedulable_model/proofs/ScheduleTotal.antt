@@ -69,7 +69,7 @@ module _ (d : Description) (known : Known) where
       omega (arith, one, other, rise)
 
   module _ (block : List Instruction) (g : Graph) (slots : List Slot) (formed : IsCheckable d) (sound : IsSound d known) (is : IsScheduleOf d known block g slots) where
-    soon_behind : (before after : List Slot) (x : Slot) → slots ≡ before ++ x ∷ after → x.cycle ≤ present 0 before + 1256
+    pub soon_behind : (before after : List Slot) (x : Slot) → slots ≡ before ++ x ∷ after → x.cycle ≤ present 0 before + 1256
     soon_behind before after x e = ⊎_elim
         (λ (late : present 0 before + 1256 < x.cycle). absurd (f.soonest (present 0 before + 1256) x.place (omega arith) late (sooner late)))
         (λ (soon : x.cycle ≤ present 0 before + 1256). soon)
@@ -114,6 +114,10 @@ module _ (d : Description) (known : Known) where
 
 pub soon_issued : (d : Description) (known : Known) (block : List Instruction) (g : Graph) (slots : List Slot) → IsCheckable d → IsSound d known → IsScheduleOf d known block g slots → present 0 slots ≤ 1256 * length slots
 soon_issued d known block g slots formed sound is = soon_all d known block g slots formed sound is
+
+-- each issue comes soon behind the one before it
+pub next_issued : (d : Description) (known : Known) (block : List Instruction) (g : Graph) (slots : List Slot) → IsCheckable d → IsSound d known → IsScheduleOf d known block g slots → (before after : List Slot) (x : Slot) → slots ≡ before ++ x ∷ after → x.cycle ≤ present 0 before + 1256
+next_issued d known block g slots formed sound is = soon_behind d known block g slots formed sound is
 
 -- the trace of a schedule is short
 pub short_trace : (d : Description) (known : Known) (block : List Instruction) (g : Graph) (slots : List Slot) → IsCheckable d → IsSound d known → IsScheduleOf d known block g slots → cycles_of (spell g slots) ≤ 1256 * length block

@@ -1,3 +1,4 @@
+-- What is written, by how it ends: docs/FORMATS.md, 'Answers'.
 use Rattle.std.specs.Prelude.{◌≡◌, ◌⊎◌, ℕ, ◌<◌, List, ◌++◌, length, Option, Some}
 use Rattle.std.specs.Option.{ForSome}
 use Rattle.hz_answer_model.specs.Answers.{Answer}

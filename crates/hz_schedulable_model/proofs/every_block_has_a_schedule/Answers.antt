@@ -1,4 +1,4 @@
-use Rattle.hz_schedulable_model.proofs.ScheduleTotal.{some_schedule_of, soon_issued}
+use Rattle.hz_schedulable_model.proofs.ScheduleTotal.{some_schedule_of, soon_issued, next_issued}
 use Rattle.hz_schedulable_model.proofs.every_block_has_a_schedule.Goals as goal
 
 pub returns-clause-some : goal.returns-clause-some
@@ -6,3 +6,6 @@ returns-clause-some c = some_schedule_of
 
 pub returns-clause-soon : goal.returns-clause-soon
 returns-clause-soon c = soon_issued
+
+pub returns-clause-next : goal.returns-clause-next
+returns-clause-next c = next_issued

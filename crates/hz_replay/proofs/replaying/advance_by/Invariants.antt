@@ -1,4 +1,4 @@
-use Rattle.std.proofs.Common.{◌≡◌, ◌∷◌, [], Some}
+use Rattle.std.proofs.Common.{◌≡◌, ◌+◌, ◌*◌, ◌≤◌, ◌∷◌, [], length, Some}
 use Rattle.hz_acceptance_model.specs.Events.{advance}
 use Rattle.hz_tables_model.specs.Machines.{parts_walk}
 use Rattle.hz_replay.proofs.replaying.advance_by.Given as goal
@@ -7,4 +7,5 @@ abbrev pub invariant-loop-cycle : goal.invariant-loop-cycle
 invariant-loop-cycle g l = record {
   machine : l.replayer.machine ≡ l.fn.replayer.machine;
   walked : parts_walk l.fn.replayer.machine.parts l.fn.replayer.states (advance l._cycle ∷ []) ≡ Some l.replayer.states;
+  cost : l.steps ≤ l.fn.steps + 4 * length l.fn.replayer.machine.parts * l._cycle;
 }

@@ -1,4 +1,5 @@
-use Rattle.std.proofs.Common.{◌≡◌, Some, take}
+use Rattle.std.proofs.Common.{◌≡◌, ◌+◌, ◌*◌, ◌≤◌, length, Some, take}
+use Rattle.hz_acceptance_model.specs.Events.{issues_of, cycles_of}
 use Rattle.hz_tables.specs.Machines.{machine_of}
 use Rattle.hz_tables_model.specs.Machines.{machine_walk}
 use Rattle.hz_replay.specs.Traces.{events_in}
@@ -8,4 +9,8 @@ abbrev pub invariant-loop-place : goal.invariant-loop-place
 invariant-loop-place g l = record {
   machine : l.replayer.machine ≡ machine_of l.machine;
   walked : machine_walk (machine_of l.machine) (events_in (take l.place l.events)) ≡ Some l.replayer.states;
+  issues : l.issues ≡ issues_of (events_in (take l.place l.events));
+  cycles : l.cycles ≡ cycles_of (events_in (take l.place l.events));
+  few : l.issues ≤ l.place;
+  cost : l.steps ≤ l.fn.steps + 4 * length l.machine.parts.items * (l.issues + l.cycles);
 }

@@ -1,22 +1,21 @@
-use Rattle.std.proofs.Common.{◌≡◌, ℕ, List, Some, None, [], ◌∷◌, sym, ap, ◌∙◌, subst}
-use Rattle.std.specs.Option.{option_map}
+use Rattle.std.proofs.Common.{◌≡◌, ℕ, List, Some, None, [], ◌∷◌, subst}
+use Rattle.std.proofs.lemmas.Bool.{OnTrue_at, OnFalse_at}
 use Rattle.hz_acceptance_model.specs.Events.{advance}
 use Rattle.hz_tables_model.specs.Machines.{parts_walk}
 use Rattle.hz_tables.specs.Machines.{machine_of}
-use Rattle.hz_replay.specs.Replaying.{Standing, AreStates}
 use Rattle.hz_replay.proofs.ReplayerLemmas.{states_stay, always_advances}
 use Rattle.hz_replay.proofs.replayer.Replayer.advance.Goals as goal
 
-pub invariant_of-self-in-Some-2 : goal.invariant_of-self-in-Some-2
-invariant_of-self-in-Some-2 g c =
+pub invariant_of-self : goal.invariant_of-self
+invariant_of-self g c =
     let m = machine_of c.self.inside.machine.now in
-    let states = c.self.inside.states.items in
-    let told = subst (λ (r : Standing). Some c.in-Some.states.items ≡ parts_walk r.machine.parts r.states (advance 1 ∷ [])) (sym c.self.view_is) c.in-Some.ensures.next in
-    (states_stay m c.self.inside.machine.now.kept states c.in-Some.states.items (advance 1 ∷ []) c.self.invariant.0 (sym told), c.in-Some.ensures.room)
+    let next = c.walk.new.next.items in
+    let told = subst (λ (states : List ℕ). parts_walk m.parts states (advance 1 ∷ []) ≡ Some next) c.as_slice-stands.ensures (OnTrue_at c.if-not-walk.false c.walk.ensures.next) in
+    rw (c.swap.ensures.x_after, c.swap.ensures.y_after)
+    (states_stay m c.self.inside.machine.now.kept c.self.inside.states.items next (advance 1 ∷ []) c.self.invariant.0 told, c.walk.ensures.room, c.self.invariant.1)
 
 pub unreachable-requires : goal.unreachable-requires
 unreachable-requires g c =
     let m = machine_of c.self.inside.machine.now in
-    let states = c.self.inside.states.items in
-    let told = subst (λ (r : Standing). None ≡ parts_walk r.machine.parts r.states (advance 1 ∷ [])) (sym c.self.view_is) c.in-None.ensures.next in
-    always_advances m c.self.inside.machine.now.kept states c.self.invariant.0 (sym told)
+    let told = subst (λ (states : List ℕ). parts_walk m.parts states (advance 1 ∷ []) ≡ None) c.as_slice-stands.ensures (OnFalse_at c.if-not-walk.true c.walk.ensures.none) in
+    always_advances m c.self.inside.machine.now.kept c.self.inside.states.items c.self.invariant.0 told

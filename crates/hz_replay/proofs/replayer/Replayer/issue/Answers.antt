@@ -1,14 +1,15 @@
-use Rattle.std.proofs.Common.{◌≡◌, ℕ, List, Some, None, [], ◌∷◌, sym, ap, ◌∙◌, subst}
+use Rattle.std.proofs.Common.{◌≡◌, ℕ, List, Some, [], ◌∷◌, subst}
+use Rattle.std.proofs.lemmas.Bool.{OnTrue_at}
 use Rattle.hz_acceptance_model.specs.Events.{issue}
 use Rattle.hz_tables_model.specs.Machines.{parts_walk}
 use Rattle.hz_tables.specs.Machines.{machine_of}
-use Rattle.hz_replay.specs.Replaying.{Standing}
 use Rattle.hz_replay.proofs.ReplayerLemmas.{states_stay}
 use Rattle.hz_replay.proofs.replayer.Replayer.issue.Goals as goal
 
 pub invariant_of-self : goal.invariant_of-self
 invariant_of-self g c =
     let m = machine_of c.self.inside.machine.now in
-    let states = c.self.inside.states.items in
-    let told = subst (λ (r : Standing). Some c.in-Some.states.items ≡ parts_walk r.machine.parts r.states (issue c.args.class ∷ [])) (sym c.self.view_is) c.in-Some.ensures.next in
-    (states_stay m c.self.inside.machine.now.kept states c.in-Some.states.items (issue c.args.class ∷ []) c.self.invariant.0 (sym told), c.in-Some.ensures.room)
+    let next = c.walk-walks.new.next.items in
+    let told = subst (λ (states : List ℕ). parts_walk m.parts states (issue c.args.class ∷ []) ≡ Some next) c.as_slice-stands.ensures (OnTrue_at c.if-walks.true c.walk-walks.ensures.next) in
+    rw (c.swap.ensures.x_after, c.swap.ensures.y_after)
+    (states_stay m c.self.inside.machine.now.kept c.self.inside.states.items next (issue c.args.class ∷ []) c.self.invariant.0 told, c.walk-walks.ensures.room, c.self.invariant.1)

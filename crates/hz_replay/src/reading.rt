@@ -1,0 +1,122 @@
+//! What the lines of a text say. Most traces have few different lines, again and again: what they say is remembered.
+
+ghost use Rattle.std.specs.Prelude.{◌≡◌, ◌<◌, ◌≤◌, length, IfOk};
+ghost use Rattle.std.specs.List.{slice_range};
+ghost use Rattle.hz_base_model.specs.Limits.{advance_limit, class_limit};
+ghost use Rattle.hz_trace_model.specs.Traces as model;
+ghost use Rattle.hz_replay.specs.Lines.{said, capped_line, judged, judgement};
+ghost use Rattle.hz_replay.specs.Names.{names_in};
+ghost use Rattle.indexmap.specs.IndexSet.{index_set_len};
+
+use super::event::What;
+use super::words::{ADVANCE_LIMIT, Said, Wrong, line_says};
+use indexmap::IndexSet;
+use std::alloc::{AllocError, Global};
+use std::hash::{FoldHasher, Hasher};
+use std::marker::Model;
+
+/// How many lines are remembered.
+const PLACES: usize = 256;
+
+/// A line that was read: where in the text it begins and ends, and what it says.
+#[derive(Clone, Copy)]
+pub(crate) struct Seen {
+    from: usize,
+    to: usize,
+    said: Said,
+}
+
+/// A text whose lines are read, and the names of the classes. What a line says is remembered at the line's place, until
+/// another line has that place.
+#[derive(Drop)]
+pub struct Reading<'t> {
+    classes: &'t IndexSet<Vec<u8>>,
+    text: &'t [u8],
+    seen: Vec<Seen>,
+}
+
+impl<'t> Model for Reading<'t> {
+    ghost use Rattle.std.specs.Prelude.{◌≡◌, ◌≤◌, length, All};
+    ghost use Rattle.hz_base_model.specs.Limits.{class_limit};
+    ghost use Rattle.indexmap.specs.IndexSet.{index_set_len};
+    ghost use Rattle.hz_replay.specs.Names.{names_in};
+    ghost use Rattle.hz_replay.specs.Reading.{Source, AreSeen};
+
+    ghost Value = { Source };
+
+    ghost view = { λ r. record { classes = names_in r.classes.now.keys; text = r.text.now } };
+
+    ghost invariant = { λ r. AreSeen (names_in r.classes.now.keys) r.text.now r.seen.items × (index_set_len r.classes.now ≤ class_limit) };
+}
+
+/// The place of a line among those that are remembered.
+fn place_of(line: &[u8]) -> usize
+    ensures { result < 256 }
+{
+    let mut hasher = FoldHasher::default();
+    hasher.write(line);
+    (hasher.finish() % 256) as usize
+}
+
+impl<'t> Reading<'t> {
+    /// A text of which no line is read. Each place remembers that a line without bytes says nothing.
+    pub fn new(
+        alloc: Global,
+        classes: &'t IndexSet<Vec<u8>>,
+        text: &'t [u8],
+    ) -> Result<Reading<'t>, AllocError>
+        requires { index_set_len classes.now ≤ class_limit }
+        ensures { IfOk result (λ reading. reading ≡ record { classes = names_in classes.now.keys; text = text.now }) }
+    {
+        let none = Seen {
+            from: 0,
+            to: 0,
+            said: Said::Nothing,
+        };
+        let seen = vec![in alloc; none; PLACES]?;
+        Ok(Reading {
+            classes,
+            text,
+            seen,
+        })
+    }
+
+    /// What the line between two places of the text says, a number above the limit cut to the limit and one more.
+    pub fn line_says(&mut self, from: usize, to: usize) -> Said
+        requires order { from ≤ to }
+        requires within { to ≤ length self.old.text }
+        ensures source { self.new ≡ self.old }
+        ensures says { said result ≡ capped_line (model.line_says self.old.classes (slice_range self.old.text from to)) }
+    {
+        let text = self.text;
+        let line = &text[from..to];
+        let place = place_of(line);
+        let seen = self.seen[place];
+        if &text[seen.from..seen.to] == line {
+            return seen.said;
+        }
+        let said = line_says(self.classes, line);
+        self.seen[place] = Seen { from, to, said };
+        said
+    }
+
+    /// The event of the line between two places of the text behind so many advances, None where it has none, or what is
+    /// wrong with it.
+    pub fn judge(&mut self, advanced: u32, from: usize, to: usize) -> Result<Option<What>, Wrong>
+        requires short { advanced ≤ advance_limit }
+        requires order { from ≤ to }
+        requires within { to ≤ length self.old.text }
+        ensures source { self.new ≡ self.old }
+        ensures judged { judgement result ≡ judged advanced (model.line_says self.old.classes (slice_range self.old.text from to)) }
+    {
+        match self.line_says(from, to) {
+            Said::Nothing => Ok(None),
+            Said::Event(What::Issue(class)) => Ok(Some(What::Issue(class))),
+            Said::Event(What::Advance(cycles)) if cycles > ADVANCE_LIMIT - advanced => Err(
+                Wrong::AdvanceLimit,
+            ),
+            Said::Event(What::Advance(cycles)) => Ok(Some(What::Advance(cycles))),
+            Said::Wrong(wrong) => Err(wrong),
+        }
+    }
+}
