@@ -4,17 +4,16 @@ use Rattle.hz_answer_model.specs.Answers.{Answer, AnswersOrder, Judges, HasDescr
 use Rattle.hz_answer_model.specs.BlockAnswers.{block_limit, state_text_limit, JudgesBlock}
 use Rattle.hz_answer_model.specs.Phases.{Held, Next, Opens, Says}
 use Rattle.hz_base_model.specs.Limits.{description_limit, trace_limit}
-use Rattle.hz_answer_model.specs.Headline.{WritesSchedule}
 use Rattle.hz_answer_model.specs.Texts.{file_line, limit_line, usage_line}
 use Rattle.hz_answer_model.specs.Words.{Order, schedule, order_of}
 use Rattle.hz_tool.specs.Decisions.{Agrees, CountsReport, NamesFile, IsFileWord}
-use Rattle.hz_tool.specs.Endings.{IsAppended, SaysFile, Completes, MayWrite}
+use Rattle.hz_tool.specs.Endings.{IsAppended, AppendsSchedule, SaysFile, Completes, MayWrite}
 use Rattle.hz_report.specs.Reports.{text_of, status_of}
 use Rattle.hz_report.specs.declared.report.Report.{Report}
 use Rattle.hz_report.specs.declared.report.Report.TheVariants.{Memory, File}
 use Rattle.hz_tool.proofs.AnswerLemmas.{agrees_weaker}
 use Rattle.hz_answer_model.proofs.AnswerLaws.{answer_single}
-use Rattle.hz_answer_model.proofs.HeadlineLaws.{writes_schedule}
+use Rattle.hz_answer_model.proofs.HeadlineLaws.{writes_schedule, accepts_schedule}
 
 -- a file that is there and not too long leads on
 pub opens_found : (held : Held) (name : List ℕ) (most : ℕ) (bytes : List ℕ) (next : Next (List ℕ)) (s : ℕ) (t : List ℕ) → held name ≡ Some bytes → length bytes ≤ most → next bytes s t → Opens held name most next s t
@@ -72,16 +71,23 @@ pub completes : (words : List (List ℕ)) (held : Held) (report : Report) (old n
 completes words held Memory old new h appended = inl refl
 completes words held _ old new h appended = inr (_, h, appended)
 
--- an answer with status 0 on a description and a block keeps the block
-written : (words : List (List ℕ)) (held : Held) (status : ℕ) (text description block : List ℕ) → Answer words held status text → status ≡ 0 → order_of words ≡ Some (schedule description block) → WritesSchedule held description block text
-written words held status text description block h zero is =
-    writes_schedule held description block text
-    (subst (λ (n : ℕ). AnswersSchedule held description block n text) zero
-    (subst (λ (o : Option Order). MatchOption o (Says 4 usage_line status text) (λ order. AnswersOrder held order status text)) is h))
+-- an answer of status 0 to words that schedule a block
+scheduled : (words : List (List ℕ)) (held : Held) (status : ℕ) (text description block : List ℕ) → Answer words held status text → status ≡ 0 → order_of words ≡ Some (schedule description block) → AnswersSchedule held description block 0 text
+scheduled words held status text description block h zero is =
+    subst (λ (n : ℕ). AnswersSchedule held description block n text) zero
+    (subst (λ (o : Option Order). MatchOption o (Says 4 usage_line status text) (λ order. AnswersOrder held order status text)) is h)
 
--- a report with status 0 on a description and a block keeps the block
-pub keeps_block : (words : List (List ℕ)) (held : Held) (old new : ℕ) (steady : Type 0) (report : Report) → CountsReport old new report → ((new ≡ old) ⊎ steady → Agrees (Answer words held) report) → status_of report ≡ 0
-    → (description block : List ℕ) → order_of words ≡ Some (schedule description block) → WritesSchedule held description block (text_of report)
-keeps_block words held old new steady Memory same answer zero description block is = absurd (omega (arith, zero))
-keeps_block words held old new steady (File name) same answer zero description block is = absurd (omega (arith, zero))
-keeps_block words held old new steady _ same answer zero description block is = written words held _ _ description block (answer (inl same)) zero is
+-- a report of status 0 is such an answer
+report_schedules : (words : List (List ℕ)) (held : Held) (old new : ℕ) (steady : Type 0) (report : Report) → CountsReport old new report → ((new ≡ old) ⊎ steady → Agrees (Answer words held) report) → status_of report ≡ 0
+    → (description block : List ℕ) → order_of words ≡ Some (schedule description block) → AnswersSchedule held description block 0 (text_of report)
+report_schedules words held old new steady Memory same answer zero description block is = absurd (omega (arith, zero))
+report_schedules words held old new steady (File name) same answer zero description block is = absurd (omega (arith, zero))
+report_schedules words held old new steady _ same answer zero description block is = scheduled words held _ _ description block (answer (inl same)) zero is
+
+-- what is written of it keeps the block, and `replay` accepts it
+pub appends_schedule : (words : List (List ℕ)) (held : Held) (old new : ℕ) (steady : Type 0) (report : Report) (before after : Option (List ℕ)) → CountsReport old new report → ((new ≡ old) ⊎ steady → Agrees (Answer words held) report) → status_of report ≡ 0
+    → (description block : List ℕ) → order_of words ≡ Some (schedule description block) → IsAppended before after (text_of report) → AppendsSchedule held description block before after
+appends_schedule words held old new steady report before after same answer zero description block is appended =
+    let h = report_schedules words held old new steady report same answer zero description block is in
+    let w = writes_schedule held description block (text_of report) h in
+    record { text = text_of report; writes = w; replays = accepts_schedule held description block (text_of report) w h; appended = appended }

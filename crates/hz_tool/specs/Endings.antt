@@ -2,7 +2,7 @@
 use Rattle.std.specs.Prelude.{◌≡◌, ◌⊎◌, ℕ, ◌<◌, List, ◌++◌, length, Option, Some}
 use Rattle.std.specs.Option.{ForSome}
 use Rattle.hz_answer_model.specs.Answers.{Answer}
-use Rattle.hz_answer_model.specs.Headline.{WritesSchedule}
+use Rattle.hz_answer_model.specs.Headline.{WritesSchedule, ReplayAccepts}
 use Rattle.hz_answer_model.specs.Phases.{Held}
 use Rattle.hz_answer_model.specs.Texts.{memory_line, file_line}
 use Rattle.hz_tool.specs.Decisions.{IsFileWord}
@@ -41,8 +41,9 @@ pub record IsCutShort (words : List (List ℕ)) (held : Held) (failed : Type 0) 
   pub appended : IsAppended old new front
   pub longer : ForSome room (λ most. most < length text)
 
--- The text that was appended is that of a schedule of the block by the description, which keeps the block.
+-- The text that was appended is that of a schedule of the block by the description, which keeps the block and which `replay` accepts.
 pub record AppendsSchedule (held : Held) (description block : List ℕ) (old new : Option (List ℕ)) : Type 0 where
   pub text : List ℕ
   pub writes : WritesSchedule held description block text
+  pub replays : ReplayAccepts held description writes.d writes.g writes.slots
   pub appended : IsAppended old new text

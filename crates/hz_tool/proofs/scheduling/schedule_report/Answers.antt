@@ -25,7 +25,7 @@ returns-in-Ok-clause-answer c = λ d known machine graph numbers.
     let slots = slots_of c.in-Ok.schedule.slots.items in
     let ranges = nodes_below (length m.classes) (length d.classes) c.args.graph c.requires.schedulable.classes (classes_count d known m machine) in
     inl (
-      each_starts d known m machine g block graph.classes ranges (sym c.in-Ok.ensures.fault),
+      each_starts d known m machine g block graph ranges (sym c.in-Ok.ensures.fault),
       g,
       slots,
       schedule_is d known m block g slots machine graph ranges c.in-Ok.ensures.legal c.in-Ok.ensures.greedy,
@@ -42,5 +42,5 @@ returns-in-Err-CannotStartAlone-clause-answer c = λ d known machine graph numbe
     let ranges = nodes_below (length m.classes) (length d.classes) c.args.graph c.requires.schedulable.classes (classes_count d known m machine) in
     let told = sym c.in-Err-CannotStartAlone.ensures.fault ∙ ap (λ (e : SchedFault). alone_in (Err e)) c.in-Err-CannotStartAlone.field-0-is in
     stuck_refused c.args.file.now d known block c.stuck_report.result (instruction insn)
-    (first_stuck d known m machine g block graph.classes ranges place (instruction insn) told (slice_get-map instruction c.args.block.now.insns.items place ∙ ap (option_map instruction) c.insn_at.ensures))
+    (first_stuck d known m machine g block graph ranges place (instruction insn) told (slice_get-map instruction c.args.block.now.insns.items place ∙ ap (option_map instruction) c.insn_at.ensures))
     c.stuck_report.ensures.answer

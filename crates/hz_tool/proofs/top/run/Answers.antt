@@ -1,6 +1,6 @@
 use Rattle.std.proofs.Common.{◌≡◌, ◌⊎◌, ℕ, inr, sym, subst, ◌∙◌}
 use Rattle.hz_answer_model.specs.Answers.{Answer}
-use Rattle.hz_tool.proofs.RunLemmas.{says_file, may_write, status_exact, file_answer, completes, keeps_block}
+use Rattle.hz_tool.proofs.RunLemmas.{says_file, may_write, status_exact, file_answer, completes, appends_schedule}
 use Rattle.hz_tool.specs.Endings.{Completes}
 use Rattle.hz_tool.specs.Words.{words_in}
 use Rattle.hz_tool.proofs.top.run.Goals as goal
@@ -41,8 +41,5 @@ returns-clause-lacks g c = λ held told steady more.
     file_answer (Answer (words_in c.args.words.now) held) (g.F.Files.faults c.args.files.now) _ c.decide-report.result c.decide-report.ensures.counts more (c.decide-report.ensures.answer held told (inr steady))
 
 pub returns-in-Ok-clause-schedules : goal.returns-in-Ok-clause-schedules
-returns-in-Ok-clause-schedules g c = λ held told zero description block is. record {
-  text = _;
-  writes = keeps_block (words_in c.args.words.now) held _ _ (g.F.Files.steady c.args.files.now) c.decide-report.result c.decide-report.ensures.counts (c.decide-report.ensures.answer held told) (sym c.status.ensures ∙ zero) description block is;
-  appended = c.in-Ok.ensures.appended;
-}
+returns-in-Ok-clause-schedules g c = λ held told zero description block is.
+    appends_schedule (words_in c.args.words.now) held _ _ (g.F.Files.steady c.args.files.now) c.decide-report.result _ _ c.decide-report.ensures.counts (c.decide-report.ensures.answer held told) (sym c.status.ensures ∙ zero) description block is c.in-Ok.ensures.appended
