@@ -11,7 +11,7 @@ use Rattle.hz_check.specs.declared.checked.Checked.{Checked}
 use Rattle.hz_check.specs.declared.checked.CheckedClass.{CheckedClass}
 use Rattle.hz_check.specs.Checked.{IsCheckedOf}
 use Rattle.hz_check.specs.Shape.{attribute_of, bypass_of, class_of}
-use Rattle.hz_check_model.specs.CheckedParts.{ClassParts, BypassParts, class_parts, bypass_parts, attributes_of, defaults_of}
+use Rattle.hz_check_model.specs.CheckedParts.{ClassParts, BypassParts, class_parts, attributes_of, defaults_of}
 use Rattle.hz_depend.specs.declared.parts.Graph as declared
 use Rattle.hz_depend.specs.declared.parts.GraphInsn.{GraphInsn}
 use Rattle.hz_depend.specs.GraphShape.{edge_of, latencies_of, first_class_fault}
@@ -23,7 +23,7 @@ use Rattle.hz_depend_model.specs.Dependences.{Timing}
 use Rattle.hz_depend_model.specs.Graphs.{IsGraph, IsHeight}
 use Rattle.hz_mdread.specs.Shape.{condition}
 use Rattle.hz_mdread_model.specs.Conditions.{holds, value_of}
-use Rattle.hz_mdread_model.specs.Descriptions.{Description, Condition, ClassItem}
+use Rattle.hz_mdread_model.specs.Descriptions.{Description, Condition}
 use Rattle.hz_rtl.specs.declared.block.Block.{Block}
 use Rattle.hz_rtl.specs.declared.block.Insn.{Insn}
 use Rattle.hz_rtl.specs.Shape.{instruction, instructions}

@@ -19,8 +19,7 @@ use Rattle.hz_tables_model.specs.Machines.{Machine, machine_walk}
 use Rattle.hz_tool.specs.Machines.{IsMachineFor}
 
 not_both : (b : Bool) → b ≡ true → b ≡ false → ⊥
-not_both true yes no = absurd (cc)
-not_both false yes no = absurd (cc)
+not_both b one other = absurd (cc)
 
 same_some : (i j : Instruction) → Some i ≡ Some j → i ≡ j
 same_some i j e = cc

@@ -1,5 +1,4 @@
-use Rattle.std.proofs.Common.{map, ap, ◌∙◌}
-use Rattle.std.proofs.lemmas.List.{length-map}
+use Rattle.std.proofs.Common.{map}
 use Rattle.hz_auto.specs.Machines.{reports_of}
 use Rattle.hz_check.specs.Shape.{automaton_of, class_of, bypass_of, attribute_of}
 use Rattle.hz_mdread.specs.Shape.{options}

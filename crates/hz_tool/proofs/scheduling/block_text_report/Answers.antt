@@ -2,8 +2,6 @@ use Rattle.std.proofs.Common.{List, subst}
 use Rattle.hz_answer_model.specs.BlockAnswers.{IsBlock}
 use Rattle.hz_answer_model.specs.Phases.{Next}
 use Rattle.hz_answer_model.specs.ScheduleAnswers.{HasClasses, Schedules}
-use Rattle.hz_check.specs.Checked.{IsCheckedOf}
-use Rattle.hz_mdread_model.specs.Descriptions.{Description}
 use Rattle.hz_sexp.specs.Shape.{trees}
 use Rattle.hz_sexp.specs.declared.form.Form.{Form}
 use Rattle.hz_sexp_model.specs.Trees.{Trees}
