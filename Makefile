@@ -34,7 +34,7 @@ examples: bin/hz
 	@sh examples/statuses.sh bin/hz
 	@if command -v python3 > /dev/null; then sh tools/test.sh bin/hz; else echo "no python3: tools/test.sh is not run"; fi
 
-# each pipeline of GCC's back ends; GCC_SOURCE is what Debian's package gcc-12-source installs
+# each pipeline of GCC's back ends; GCC_SOURCE is what Debian's package gcc-12-source installs, or a folder
 check-gcc: bin/hz
 	@python3 tools/check_gcc.py --source '$(GCC_SOURCE)' bin/hz
 

@@ -1,7 +1,8 @@
 #!/usr/bin/env python3
 """Extracts each pipeline of GCC's back ends, gives it to hz, and prints a table of the answers.
 
-The machine descriptions are those of Debian's package gcc-12-source; they are unpacked into a folder that is removed.
+The machine descriptions are those of Debian's package gcc-12-source, unpacked into a folder that is removed, or those of
+a folder with GCC's source.
 """
 import argparse
 import collections
@@ -12,7 +13,6 @@ import subprocess
 import sys
 import tarfile
 import tempfile
-import time
 
 from extract import Reader, extract, written
 from extraction.forms import Fault
@@ -25,24 +25,34 @@ MEMORY = 6 << 30
 Row = collections.namedtuple("Row", "name classes status answer seconds changes")
 
 
+def spent():
+    """Seconds of a processor that ended programs took."""
+    usage = resource.getrusage(resource.RUSAGE_CHILDREN)
+    return usage.ru_utime + usage.ru_stime
+
+
+def limit_memory():
+    resource.setrlimit(resource.RLIMIT_AS, (MEMORY, MEMORY))
+
+
 def answer_of(hz, description, most):
     """The status of hz on a description, the first line of its answer, and seconds; `most` is how many it may take."""
     words = [hz, "replay", description, "/dev/null"]
-    began = time.monotonic()
+    began = spent()
     with tempfile.TemporaryFile() as out:
         try:
-            limit = lambda: resource.setrlimit(resource.RLIMIT_AS, (MEMORY, MEMORY))
-            status = subprocess.run(words, stdout=out, stderr=out, timeout=most, preexec_fn=limit).returncode
+            status = subprocess.run(words, stdout=out, stderr=out, timeout=most, preexec_fn=limit_memory).returncode
         except subprocess.TimeoutExpired:
-            return None, f"none in {most} seconds", time.monotonic() - began
-        seconds = time.monotonic() - began
+            return None, f"none in {most} seconds", spent() - began
         out.seek(0)
         line = out.readline(4096).decode("latin-1").strip()
-    return status, line.replace(f" {description}", ""), seconds
+    return status, line.replace(f" {description}", ""), spent() - began
 
 
 def unpack(source, folder):
-    """The directory of the back ends of a GCC source, of which only machine descriptions are unpacked."""
+    """The directory of the back ends of a GCC source; of a tar file the machine descriptions alone are unpacked."""
+    if os.path.isdir(source):
+        return os.path.join(source, "gcc", "config")
     with tarfile.open(source) as archive:
         for member in archive:
             parts = member.name.split("/")
@@ -150,7 +160,7 @@ def summary(title, found):
 
 def words():
     parser = argparse.ArgumentParser(prog="check_gcc.py", description=__doc__)
-    parser.add_argument("--source", default=SOURCES, help="a GCC source, as a tar file; " + SOURCES)
+    parser.add_argument("--source", default=SOURCES, help="a GCC source, a tar file or a folder; else " + SOURCES)
     parser.add_argument("--seconds", type=int, default=300, help="how long hz may take for one description")
     parser.add_argument("hz")
     parser.add_argument("targets", nargs="*", help="back ends; all where none is named")

@@ -4,7 +4,7 @@ import fnmatch
 import re
 
 from .forms import Form, Place, Text
-from .items import Attribute, Bypass, Class, Options, Units, Values, names
+from .items import Attribute, Bypass, Class, Options, Units, Values, values_in
 
 NOT_BUILT = ["collapse-ndfa"]
 UNKNOWN = "unknown"
@@ -115,7 +115,7 @@ def tests_of_attributes(condition):
     if not isinstance(condition, Form):
         return
     if condition.head() == "eq_attr" and len(condition) == 3:
-        yield str(condition[1]), [name for name in names(condition[2].strip().lstrip("!"))]
+        yield str(condition[1]), values_in(condition[2].strip().lstrip("!"))
     for part in condition[1:]:
         yield from tests_of_attributes(part)
 

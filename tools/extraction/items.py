@@ -33,6 +33,11 @@ def names(text):
     return [piece.strip() for piece in text.split(",")] if text.strip() else []
 
 
+def values_in(text):
+    """The values of an attribute in a list, as GCC reads it: a comma at the end is none of them."""
+    return [value for value in names(text) if value]
+
+
 def names_in(expression):
     """The units and reservations that an expression names."""
     return [name for name in WORD.findall(REPEAT.sub(" ", expression)) if name != "nothing"]
@@ -191,7 +196,7 @@ class Attribute(Item):
 def condition_text(condition):
     """A condition that hz can say."""
     if condition.head() == "eq_attr":
-        return f'(eq_attr "{condition[1]}" {listed(names(condition[2]))})'
+        return f'(eq_attr "{condition[1]}" {listed(values_in(condition[2]))})'
     operands = [condition_text(part) if isinstance(part, Form) else part for part in condition[1:]]
     return f"({' '.join([condition.head()] + operands)})"
 
@@ -233,7 +238,7 @@ def set_in(form):
 
 
 def attribute_in(form):
-    listed_values, enumeration = names(string(form, 2)), None
+    listed_values, enumeration = values_in(string(form, 2)), None
     if form.head() == "define_enum_attr":
         listed_values, enumeration = [], string(form, 2)
     return Attribute(form.place, string(form, 1), listed_values, enumeration, default_in(form))
