@@ -45,6 +45,7 @@ bench: bin/hz
 	@sh bench/alternatives/run.sh bin/hz
 	@sh bench/check/run.sh bin/hz
 	@sh bench/compile/run.sh bin/hz
+	@sh bench/schedule/run.sh bin/hz
 	@sh bench/blocks/run.sh bin/hz
 	@sh bench/states/run.sh
 	@sh bench/determ/run.sh
