@@ -10,9 +10,8 @@ mod numbers;
 mod operands;
 mod pairs;
 mod rest;
+#[cfg(test)]
+mod tests;
 mod text;
 mod told;
 mod wrong;
-
-#[cfg(test)]
-mod tests;

@@ -81,7 +81,11 @@ fn with_line(
 ) -> Result<Vec<u8>, AllocError> {
     let mut text = Vec::new(alloc);
     for (place, old) in lines.iter().enumerate() {
-        let bytes = if place + 1 == number { line.as_bytes() } else { old.as_bytes() };
+        let bytes = if place + 1 == number {
+            line.as_bytes()
+        } else {
+            old.as_bytes()
+        };
         text.extend_from_slice(bytes)?;
         text.push(b'\n')?;
     }
@@ -192,7 +196,11 @@ const K1_LINES: [Row; 62] = [
     (2, "treatment ndfa", None),
     (2, "treatment second", Some(TabFault::BadLine { line: 2 })),
     (2, "treatment", Some(TabFault::BadLine { line: 2 })),
-    (2, "treatment first ndfa", Some(TabFault::BadLine { line: 2 })),
+    (
+        2,
+        "treatment first ndfa",
+        Some(TabFault::BadLine { line: 2 }),
+    ),
     (2, "", Some(TabFault::BadLine { line: 2 })),
     (3, "classes", Some(TabFault::BadLine { line: 3 })),
     (3, "classes 1 2", Some(TabFault::BadLine { line: 3 })),
@@ -200,8 +208,16 @@ const K1_LINES: [Row; 62] = [
     (3, "classes 02", Some(TabFault::BadNumber { line: 3 })),
     (3, "classes -2", Some(TabFault::BadNumber { line: 3 })),
     (3, "classes 1025", Some(TabFault::OutOfRange { line: 3 })),
-    (3, "classes 18446744073709551618", Some(TabFault::OutOfRange { line: 3 })),
-    (3, "classes 18446744073709551618x", Some(TabFault::BadNumber { line: 3 })),
+    (
+        3,
+        "classes 18446744073709551618",
+        Some(TabFault::OutOfRange { line: 3 }),
+    ),
+    (
+        3,
+        "classes 18446744073709551618x",
+        Some(TabFault::BadNumber { line: 3 }),
+    ),
     (3, "classes 1", Some(TabFault::BadLine { line: 5 })),
     (4, "class", Some(TabFault::BadLine { line: 4 })),
     (4, "class a,b", Some(TabFault::BadLine { line: 4 })),
@@ -215,10 +231,18 @@ const K1_LINES: [Row; 62] = [
     (7, "automaton - 2", Some(TabFault::BadLine { line: 7 })),
     (7, "automaton - 2 3 4", Some(TabFault::BadLine { line: 7 })),
     (7, "automaton ( 3 03", Some(TabFault::BadLine { line: 7 })),
-    (7, "automaton - 3 03", Some(TabFault::OutOfRange { line: 7 })),
+    (
+        7,
+        "automaton - 3 03",
+        Some(TabFault::OutOfRange { line: 7 }),
+    ),
     (7, "automaton - 02 0", Some(TabFault::BadNumber { line: 7 })),
     (7, "automaton - 2 0", Some(TabFault::OutOfRange { line: 7 })),
-    (7, "automaton - 2 65537", Some(TabFault::OutOfRange { line: 7 })),
+    (
+        7,
+        "automaton - 2 65537",
+        Some(TabFault::OutOfRange { line: 7 }),
+    ),
     (7, "automaton - 2 03", Some(TabFault::BadNumber { line: 7 })),
     (7, "automaton - 0 3", Some(TabFault::OutOfRange { line: 8 })),
     (8, "map 0", Some(TabFault::BadLine { line: 8 })),
@@ -238,7 +262,11 @@ const K1_LINES: [Row; 62] = [
     (9, "row 1 1 -", Some(TabFault::BadNumber { line: 9 })),
     (9, "row 3 1 -", Some(TabFault::OutOfRange { line: 9 })),
     (9, "row 1 1 3", Some(TabFault::OutOfRange { line: 9 })),
-    (9, "row 1 1 4294967296", Some(TabFault::OutOfRange { line: 9 })),
+    (
+        9,
+        "row 1 1 4294967296",
+        Some(TabFault::OutOfRange { line: 9 }),
+    ),
     (9, "row\t1 1 0", Some(TabFault::BadLine { line: 9 })),
     (9, "grid", Some(TabFault::BadLine { line: 9 })),
     (10, "row 2 - 1", None),
@@ -253,9 +281,21 @@ const K1_LINES: [Row; 62] = [
 const K4_LINES: [Row; 33] = [
     (8, "stats 4 4", Some(TabFault::BadLine { line: 8 })),
     (8, "stats 4 4 4 4", Some(TabFault::BadLine { line: 8 })),
-    (8, "stats 04  4294967296", Some(TabFault::BadLine { line: 8 })),
-    (8, "stats 04 4294967296 4", Some(TabFault::BadNumber { line: 8 })),
-    (8, "stats 4294967296 04 4", Some(TabFault::OutOfRange { line: 8 })),
+    (
+        8,
+        "stats 04  4294967296",
+        Some(TabFault::BadLine { line: 8 }),
+    ),
+    (
+        8,
+        "stats 04 4294967296 4",
+        Some(TabFault::BadNumber { line: 8 }),
+    ),
+    (
+        8,
+        "stats 4294967296 04 4",
+        Some(TabFault::OutOfRange { line: 8 }),
+    ),
     (8, "stats 4294967295 0 0", None),
     (8, "row 1 0", Some(TabFault::BadLine { line: 18 })),
     (10, "from", Some(TabFault::BadLine { line: 10 })),
@@ -274,8 +314,16 @@ const K4_LINES: [Row; 33] = [
     (11, "grid 256:a 1:(", Some(TabFault::BadLine { line: 11 })),
     (11, "grid 0:a ", Some(TabFault::BadLine { line: 11 })),
     (11, "grid :a", Some(TabFault::BadNumber { line: 11 })),
-    (11, "grid 00:a 256:b", Some(TabFault::BadNumber { line: 11 })),
-    (11, "grid 256:a 00:b", Some(TabFault::OutOfRange { line: 11 })),
+    (
+        11,
+        "grid 00:a 256:b",
+        Some(TabFault::BadNumber { line: 11 }),
+    ),
+    (
+        11,
+        "grid 256:a 00:b",
+        Some(TabFault::OutOfRange { line: 11 }),
+    ),
     (11, "grid 255:a:b", None),
     (11, "from -", Some(TabFault::BadLine { line: 11 })),
     (11, "row - 2", Some(TabFault::BadLine { line: 18 })),
@@ -287,7 +335,12 @@ const K4_LINES: [Row; 33] = [
 ];
 
 // Each row of a table holds.
-fn rows_hold(rt: &impl Abort, alloc: Global, lines: &[&str], rows: &[Row]) -> Result<(), AllocError> {
+fn rows_hold(
+    rt: &impl Abort,
+    alloc: Global,
+    lines: &[&str],
+    rows: &[Row],
+) -> Result<(), AllocError> {
     for (number, line, fault) in rows {
         let text = with_line(alloc, lines, *number, line)?;
         assert!(rt; fault_of(alloc, &text) == *fault);
@@ -321,14 +374,21 @@ fn cut_texts_are_truncated(rt: HostRuntime) -> Result<(), Fail> {
 }
 
 // The front of a text of so many classes in as many columns, and so many states, up to its map.
-fn front_of(alloc: Global, classes: usize, columns: usize, states: usize) -> Result<Vec<u8>, AllocError> {
+fn front_of(
+    alloc: Global,
+    classes: usize,
+    columns: usize,
+    states: usize,
+) -> Result<Vec<u8>, AllocError> {
     let mut text = Vec::new(alloc);
     text.extend_from_slice(b"hazard-tables 1\ntreatment first\nclasses ")?;
     text.extend_from_slice(format!(in alloc; "{classes}\n")?.as_bytes())?;
     for class in 0..classes {
         text.extend_from_slice(format!(in alloc; "class c{class}\n")?.as_bytes())?;
     }
-    text.extend_from_slice(format!(in alloc; "automata 1\nautomaton a {columns} {states}\nmap\n")?.as_bytes())?;
+    text.extend_from_slice(format!(in alloc;
+        "automata 1\nautomaton a {columns} {states}\nmap\n"
+    )?.as_bytes())?;
     Ok(text)
 }
 

@@ -70,12 +70,7 @@ fn row_at<'a>(
 }
 
 /// The table of an automaton of so many columns and states.
-fn rows_at(
-    alloc: Global,
-    rest: Rest,
-    columns: u32,
-    states: u32,
-) -> Result<(Plain, Rest), TabFault>
+fn rows_at(alloc: Global, rest: Rest, columns: u32, states: u32) -> Result<(Plain, Rest), TabFault>
     requires columns { columns ≤ class_limit }
     requires states { states ≤ state_limit }
     ensures rows { Gives (λ x. (x.0.rows, left_of x.1)) result (model.so_many states (model.row_at columns states) (left_of rest.entry)) }
