@@ -1,0 +1,6 @@
+//! The tables text of a machine.
+#![tactic(auto)]
+
+mod writing;
+
+pub use writing::write_tables;
