@@ -1,3 +1,7 @@
+pub mod Pieces
+pub mod Numbers
+pub mod Each
+pub mod Told
 pub mod Adding
 pub mod LineTexts
 pub mod GridTexts

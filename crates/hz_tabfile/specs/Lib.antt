@@ -1,2 +1,10 @@
+pub mod Cutting
+pub mod Numbers
+pub mod Judged
+pub mod Heads
+pub mod Lines
+pub mod Given
+pub mod Rests
+pub mod Texts
 pub mod Pages
 pub mod Saying

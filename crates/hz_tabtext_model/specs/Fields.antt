@@ -36,6 +36,21 @@ abbrev pub only : List (List ℕ) → Result (List ℕ) Kind
 only [] = Err bad_line
 only (field ∷ fields) = if is_nil fields then Ok field else Err bad_line
 
+-- three fields, where there are just three
+abbrev pub three : List (List ℕ) → Result (List ℕ × List ℕ × List ℕ) Kind
+three [] = Err bad_line
+three (a ∷ []) = Err bad_line
+three (a ∷ b ∷ []) = Err bad_line
+three (a ∷ b ∷ c ∷ fields) = if is_nil fields then Ok (a, b, c) else Err bad_line
+
+-- the one field behind the word of a line
+abbrev pub one_in : (word line : List ℕ) → Result (List ℕ) Kind
+one_in word line = operands word line >>= only
+
+-- the three fields behind the word of a line
+abbrev pub three_in : (word line : List ℕ) → Result (List ℕ × List ℕ × List ℕ) Kind
+three_in word line = operands word line >>= three
+
 -- decimal digits without a leading zero
 abbrev pub is_decimal : List ℕ → Bool
 is_decimal [] = false

@@ -6,7 +6,7 @@ use Rattle.hz_base_model.specs.Names.{is_name}
 use Rattle.hz_base_model.specs.Limits.{automaton_limit, class_limit}
 use Rattle.hz_tables_model.specs.StateLimits.{state_limit, cell_limit}
 use Rattle.hz_tabtext_model.specs.Judging.{Kind, bad_header, bad_line, ◌>>=◌, each_by}
-use Rattle.hz_tabtext_model.specs.Fields.{is_nil, operands, only, number_where, number_below, number_in, entry_in, advance_in, has_unit, cycle_in}
+use Rattle.hz_tabtext_model.specs.Fields.{is_nil, operands, one_in, three_in, number_where, number_below, number_in, entry_in, advance_in, has_unit, cycle_in}
 
 -- nothing but what is wrong
 abbrev pub Nothing : Type 0
@@ -19,15 +19,13 @@ header_in line = if bytes_eq line (codes "hazard-tables 1") then Ok tt else Err 
 -- whether it is `treatment ndfa`; else `treatment first`
 unfoldable pub treatment_in : List ℕ → Result Bool Kind
 treatment_in line = do
-  fields ← operands (codes "treatment") line
-  name ← only fields
+  name ← one_in (codes "treatment") line
   if bytes_eq name (codes "ndfa") then Ok true else (if bytes_eq name (codes "first") then Ok false else Err bad_line)
 
 -- `classes K`
 unfoldable pub classes_in : List ℕ → Result ℕ Kind
 classes_in line = do
-  fields ← operands (codes "classes") line
-  count ← only fields
+  count ← one_in (codes "classes") line
   number_where (λ n. nat_le n class_limit) count
 
 -- a name that is not among those before
@@ -37,15 +35,13 @@ is_new before name = not (list_any (bytes_eq name) before)
 -- `class NAME`, behind other classes
 unfoldable pub class_in : (before : List (List ℕ)) (line : List ℕ) → Result (List ℕ) Kind
 class_in before line = do
-  fields ← operands (codes "class") line
-  name ← only fields
+  name ← one_in (codes "class") line
   if is_name name && is_new before name then Ok name else Err bad_line
 
 -- `automata N`
 unfoldable pub automata_in : List ℕ → Result ℕ Kind
 automata_in line = do
-  fields ← operands (codes "automata") line
-  count ← only fields
+  count ← one_in (codes "automata") line
   number_where (λ n. nat_le 1 n && nat_le n automaton_limit) count
 
 -- What the line of an automaton says: its name, its columns and its states.
@@ -68,18 +64,11 @@ head_of classes name columns states =
       Ok (record { name = name; columns = c; states = s }))
     else Err bad_line
 
--- three fields, where there are just three
-abbrev pub three_of : {A : Type 0} → (List ℕ → List ℕ → List ℕ → Result A Kind) → List (List ℕ) → Result A Kind
-three_of judge [] = Err bad_line
-three_of judge (a ∷ []) = Err bad_line
-three_of judge (a ∷ b ∷ []) = Err bad_line
-three_of judge (a ∷ b ∷ c ∷ fields) = if is_nil fields then judge a b c else Err bad_line
-
 -- `automaton NAME COLUMNS STATES`
 unfoldable pub head_in : (classes : ℕ) (line : List ℕ) → Result Head Kind
 head_in classes line = do
-  fields ← operands (codes "automaton") line
-  three_of (head_of classes) fields
+  parts ← three_in (codes "automaton") line
+  head_of classes parts.0 parts.1 parts.2
 
 -- `map c ..`: a column for each class
 unfoldable pub map_in : (classes columns : ℕ) (line : List ℕ) → Result (List ℕ) Kind
@@ -98,8 +87,8 @@ counts_of grids states members = do
 -- `stats GRIDS STATES MEMBERS`
 unfoldable pub counts_in : List ℕ → Result Nothing Kind
 counts_in line = do
-  fields ← operands (codes "stats") line
-  three_of counts_of fields
+  counts ← three_in (codes "stats") line
+  counts_of counts.0 counts.1 counts.2
 
 -- the entries of so many columns, and the advance
 abbrev pub entries_of : (columns states : ℕ) → List (List ℕ) → Result (List (Option ℕ)) Kind

@@ -1,2 +1,4 @@
-//! The grammar of tables texts, and its faults.
+//! The grammar of tables texts, its faults, and its laws.
 #![tactic(auto)]
+
+pub mod tables;

@@ -1,0 +1,12 @@
+//! The head of an automaton.
+
+use hz_regexp::Name;
+
+/// What the first line of an automaton says.
+#[derive(Drop)]
+pub struct Head {
+    pub name: Name,
+    /// How many columns stand before the advance.
+    pub columns: u32,
+    pub states: u32,
+}
