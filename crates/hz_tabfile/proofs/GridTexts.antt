@@ -87,14 +87,14 @@ cycle_is_row grid is cycle row n same below =
     let there : Holds grid found.0 cycle = (same found.0).0 unit.1 in
     to_cycle grid cycle p (subst (λ (q : Pair ℕ). Contains grid q) found.2 there) (sym (ap (λ (q : Pair ℕ). q.cycle) found.2)))
 
+kept_text : {X Y : Type 0} (test : X → Bool) (make : X → Y) (text : Y → List ℕ) (x : X) (xs : List X) (b : Bool) → test x ≡ b → flat_map text (map make (filter test xs)) ≡ flat_map (λ y. if test y then text (make y) else []) xs → flat_map text (map make (filter test (x ∷ xs))) ≡ (if test x then text (make x) else []) ++ flat_map (λ y. if test y then text (make y) else []) xs
+kept_text test make text x xs true e rest = rw e (ap (λ (bytes : List ℕ). text (make x) ++ bytes) rest)
+kept_text test make text x xs false e rest = rw e rest
+
 -- what is written of units by a test, item by item
 kept_texts : {X Y : Type 0} (test : X → Bool) (make : X → Y) (text : Y → List ℕ) (xs : List X) → flat_map text (map make (filter test xs)) ≡ flat_map (λ x. if test x then text (make x) else []) xs
 kept_texts test make text [] = refl
-kept_texts {X} {Y} test make text (x ∷ xs) = step (test x) refl
-  where
-    step : (b : Bool) → test x ≡ b → flat_map text (map make (filter test (x ∷ xs))) ≡ (if test x then text (make x) else []) ++ flat_map (λ y. if test y then text (make y) else []) xs
-    step true e = rw (e, e) (ap (λ (bytes : List ℕ). text (make x) ++ bytes) (kept_texts test make text xs))
-    step false e = rw (e, e) (kept_texts test make text xs)
+kept_texts test make text (x ∷ xs) = kept_text test make text x xs (test x) refl (kept_texts test make text xs)
 
 -- the text of the pairs of a cycle, unit by unit
 pub cycle_texts : (units : List (List ℕ)) (grid : List (Pair ℕ)) → IsGrid grid → (cycle row : ℕ) → ((unit : ℕ) → HasUnit row unit ↔ Holds grid unit cycle) → All (λ p. p.unit < length units) grid → flat_map (unit_text units cycle row) (range_with_len 0 (length units)) ≡ pairs_text units (in_cycle grid cycle)

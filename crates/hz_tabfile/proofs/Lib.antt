@@ -5,3 +5,4 @@ pub mod Told
 pub mod Adding
 pub mod LineTexts
 pub mod GridTexts
+pub mod PartTexts

@@ -21,21 +21,31 @@ unfolding joined
 line_spaced word fields = ap (λ (bytes : List ℕ). bytes ++ 10 ∷ []) (by_spaces word fields) ∙ append_assoc word (all_spaced fields) (10 ∷ [])
 
 -- a line of a word and a field
-pub line_one : (word a : List ℕ) → word ++ (32 ∷ (a ++ 10 ∷ [])) ≡ line_text (word ∷ a ∷ [])
-line_one word a = ap (λ (bytes : List ℕ). word ++ (32 ∷ (bytes ++ 10 ∷ []))) (sym (append-nil a)) ∙ sym (line_spaced word (a ∷ []))
+pub line_one : (word a f : List ℕ) → a ≡ f → word ++ (32 ∷ (a ++ 10 ∷ [])) ≡ line_text (word ∷ f ∷ [])
+line_one word a f is = ap (λ (bytes : List ℕ). word ++ (32 ∷ (bytes ++ 10 ∷ []))) (is ∙ sym (append-nil f)) ∙ sym (line_spaced word (f ∷ []))
+
+two_spaced : (word f h : List ℕ) → word ++ (32 ∷ (f ++ (32 ∷ (h ++ 10 ∷ [])))) ≡ line_text (word ∷ f ∷ h ∷ [])
+two_spaced word f h =
+    ap (λ (bytes : List ℕ). word ++ (32 ∷ (f ++ (32 ∷ (bytes ++ 10 ∷ []))))) (sym (append-nil h))
+    ∙ (ap (λ (bytes : List ℕ). word ++ (32 ∷ bytes)) (sym (append_assoc f (32 ∷ (h ++ [])) (10 ∷ []))) ∙ sym (line_spaced word (f ∷ h ∷ [])))
 
 -- a line of a word and two fields
-pub line_two : (word a b : List ℕ) → word ++ (32 ∷ (a ++ (32 ∷ (b ++ 10 ∷ [])))) ≡ line_text (word ∷ a ∷ b ∷ [])
-line_two word a b =
-    ap (λ (bytes : List ℕ). word ++ (32 ∷ (a ++ (32 ∷ (bytes ++ 10 ∷ []))))) (sym (append-nil b))
-    ∙ (ap (λ (bytes : List ℕ). word ++ (32 ∷ bytes)) (sym (append_assoc a (32 ∷ (b ++ [])) (10 ∷ []))) ∙ sym (line_spaced word (a ∷ b ∷ [])))
+pub line_two : (word a b f h : List ℕ) → a ≡ f → b ≡ h → word ++ (32 ∷ (a ++ (32 ∷ (b ++ 10 ∷ [])))) ≡ line_text (word ∷ f ∷ h ∷ [])
+line_two word a b f h is is_too =
+    ap (λ (bytes : List ℕ). word ++ (32 ∷ (bytes ++ (32 ∷ (b ++ 10 ∷ []))))) is ∙ (ap (λ (bytes : List ℕ). word ++ (32 ∷ (f ++ (32 ∷ (bytes ++ 10 ∷ []))))) is_too ∙ two_spaced word f h)
+
+three_spaced : (word f h k : List ℕ) → word ++ (32 ∷ (f ++ (32 ∷ (h ++ (32 ∷ (k ++ 10 ∷ [])))))) ≡ line_text (word ∷ f ∷ h ∷ k ∷ [])
+three_spaced word f h k =
+    ap (λ (bytes : List ℕ). word ++ (32 ∷ (f ++ (32 ∷ (h ++ (32 ∷ (bytes ++ 10 ∷ []))))))) (sym (append-nil k))
+    ∙ (ap (λ (bytes : List ℕ). word ++ (32 ∷ (f ++ (32 ∷ bytes)))) (sym (append_assoc h (32 ∷ (k ++ [])) (10 ∷ [])))
+    ∙ (ap (λ (bytes : List ℕ). word ++ (32 ∷ bytes)) (sym (append_assoc f (32 ∷ (h ++ (32 ∷ (k ++ [])))) (10 ∷ []))) ∙ sym (line_spaced word (f ∷ h ∷ k ∷ []))))
 
 -- a line of a word and three fields
-pub line_three : (word a b d : List ℕ) → word ++ (32 ∷ (a ++ (32 ∷ (b ++ (32 ∷ (d ++ 10 ∷ [])))))) ≡ line_text (word ∷ a ∷ b ∷ d ∷ [])
-line_three word a b d =
-    ap (λ (bytes : List ℕ). word ++ (32 ∷ (a ++ (32 ∷ (b ++ (32 ∷ (bytes ++ 10 ∷ []))))))) (sym (append-nil d))
-    ∙ (ap (λ (bytes : List ℕ). word ++ (32 ∷ (a ++ (32 ∷ bytes)))) (sym (append_assoc b (32 ∷ (d ++ [])) (10 ∷ [])))
-    ∙ (ap (λ (bytes : List ℕ). word ++ (32 ∷ bytes)) (sym (append_assoc a (32 ∷ (b ++ (32 ∷ (d ++ [])))) (10 ∷ []))) ∙ sym (line_spaced word (a ∷ b ∷ d ∷ []))))
+pub line_three : (word a b d f h k : List ℕ) → a ≡ f → b ≡ h → d ≡ k → word ++ (32 ∷ (a ++ (32 ∷ (b ++ (32 ∷ (d ++ 10 ∷ [])))))) ≡ line_text (word ∷ f ∷ h ∷ k ∷ [])
+line_three word a b d f h k is is_too is_last =
+    ap (λ (bytes : List ℕ). word ++ (32 ∷ (bytes ++ (32 ∷ (b ++ (32 ∷ (d ++ 10 ∷ []))))))) is
+    ∙ (ap (λ (bytes : List ℕ). word ++ (32 ∷ (f ++ (32 ∷ (bytes ++ (32 ∷ (d ++ 10 ∷ []))))))) is_too
+    ∙ (ap (λ (bytes : List ℕ). word ++ (32 ∷ (f ++ (32 ∷ (h ++ (32 ∷ (bytes ++ 10 ∷ []))))))) is_last ∙ three_spaced word f h k))
 
 -- fields that are made one by one
 pub spaced_fields : {X : Type 0} (word : List ℕ) (field : X → List ℕ) (xs : List X) → word ++ (flat_map (λ x. spaced (field x)) xs ++ 10 ∷ []) ≡ line_text (word ∷ map field xs)

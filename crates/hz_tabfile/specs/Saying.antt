@@ -43,7 +43,7 @@ pub record IsWritable (units : List (List ℕ)) (part : Part) (shown : Option co
   pub table : IsTable part.rows part.columns
   pub columns : part.columns ≤ class_limit
   pub few_units : length units ≤ unit_limit
-  pub shown : IfSome shown (IsShownOf units part)
+  pub told : IfSome shown (IsShownOf units part)
 
 -- each of these parts, with the automaton and the report of its place
 pub record AreWritable (automata : List CheckedAutomaton) (reports : List AutoReport) (parts : List kept.Part) : Type 0 where

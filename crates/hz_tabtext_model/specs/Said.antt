@@ -1,16 +1,19 @@
 -- What a text says of a machine that was compiled of a description without a fault. This profile, docs/FORMATS.md, 'Tables'.
-use Rattle.std.specs.Prelude.{◌≡◌, ℕ, ◌<◌, ◌≤◌, ◌==◌, Bool, if◌then◌else◌, MatchBool, List, [], Option, Some, None, IsSomeAnd, length, map, All, slice_index_or}
-use Rattle.std.specs.Option.{option_map}
+use Rattle.std.specs.Prelude.{◌≡◌, ℕ, ◌<◌, ◌≤◌, ◌==◌, Bool, if◌then◌else◌, MatchBool, IsTrue, List, [], Option, Some, None, IsSomeAnd, length, map, All, slice_index_or}
+use Rattle.std.specs.Option.{option_map, ForSome}
 use Rattle.std.specs.List.{enumerate_from}
+use Rattle.hz_base_model.specs.Limits.{cycle_limit}
+use Rattle.hz_base_model.specs.Names.{is_name}
 use Rattle.hz_base_model.specs.Pairs.{Pair}
 use Rattle.hz_mdread_model.specs.Descriptions.{Options}
 use Rattle.hz_check_model.specs.CheckedParts.{AutomatonParts}
 use Rattle.hz_tables_model.specs.Machines.{Part, Machine, part_at}
 use Rattle.hz_tables_model.specs.Orders.{place_of}
+use Rattle.hz_tables_model.specs.StateLimits.{state_limit}
 use Rattle.hz_auto_model.specs.AutomatonPipelines.{automaton_at}
 use Rattle.hz_auto_model.specs.Compiled as compiled
 use Rattle.hz_auto_model.specs.Compiled.{Report, report_at, shows_states}
-use Rattle.hz_tabtext_model.specs.Texts.{Shown, RowText, Counts, PartText, TablesText}
+use Rattle.hz_tabtext_model.specs.Texts.{Shown, RowText, Counts, PartText, TablesText, AreCounts}
 
 -- a grid with the names of these units for their numbers
 abbrev pub named_grid : (units : List (List ℕ)) → List (Pair ℕ) → List (ℕ × List ℕ)
@@ -64,3 +67,13 @@ pub record CanBeSaid (options : Options) (automata : List AutomatonParts) (repor
   pub parts : length m.parts ≡ length automata
   pub told : length reports ≡ length automata
   pub shown : (a : ℕ) → a < length automata → MatchBool (shows_states options) (IsSomeAnd (report_at reports a).shown (IsShownOf (automaton_at automata a).units (part_at m a))) ((report_at reports a).shown ≡ None)
+
+-- What holds of a compiled description by the types of what it is made of: names are names, no table has too many rows,
+-- counts are below 2 ^ 32, and the cycles of grids are below their limit.
+pub record IsInRange (automata : List AutomatonParts) (reports : List Report) (m : Machine) : Type 0 where
+  pub classes : All (λ name. IsTrue (is_name name)) m.classes
+  pub parts : All (λ part. IsTrue (is_name part.name)) m.parts
+  pub rows : All (λ part. length part.rows ≤ state_limit) m.parts
+  pub units : All (λ automaton. All (λ name. IsTrue (is_name name)) automaton.units) automata
+  pub counts : All (λ report. AreCounts (counts_said report)) reports
+  pub cycles : All (λ report. ForSome report.shown (λ shown. All (All (All (λ pair. pair.cycle < cycle_limit))) shown.states)) reports

@@ -107,19 +107,11 @@ pub fn add_map<S: Sink>(out: &mut S, page: &mut Page, columns: &[u32]) -> Result
     end_line(out, page)
 }
 
-/// Adds the line of counts, where they are told.
-pub fn add_counts<S: Sink>(
-    out: &mut S,
-    page: &mut Page,
-    told: bool,
-    report: &AutoReport,
-) -> Result<(), Failed>
+/// Adds the line of counts.
+fn add_stats<S: Sink>(out: &mut S, page: &mut Page, report: &AutoReport) -> Result<(), Failed>
     requires { S.faults out.old < 2 ^ 64 - 1 }
-    ensures { Adds S.written S.room S.faults out.old out.new page.old.items page.new.items (flat_map line_text (counts_lines (if told then Some (counts_said (report_of report.now)) else None))) result }
+    ensures { Adds S.written S.room S.faults out.old out.new page.old.items page.new.items (line_text (codes "stats" ∷ decimal report.now.grids ∷ decimal report.now.states ∷ decimal report.now.members ∷ [])) result }
 {
-    if !told {
-        return Ok(());
-    }
     let mut grid_digits = Buffer::new();
     let mut state_digits = Buffer::new();
     let mut member_digits = Buffer::new();
@@ -136,4 +128,21 @@ pub fn add_counts<S: Sink>(
             b"\n",
         ],
     )
+}
+
+/// Adds the line of counts, where they are told.
+pub fn add_counts<S: Sink>(
+    out: &mut S,
+    page: &mut Page,
+    told: bool,
+    report: &AutoReport,
+) -> Result<(), Failed>
+    requires { S.faults out.old < 2 ^ 64 - 1 }
+    ensures { Adds S.written S.room S.faults out.old out.new page.old.items page.new.items (flat_map line_text (counts_lines (if told then Some (counts_said (report_of report.now)) else None))) result }
+{
+    if told {
+        add_stats(out, page, report)
+    } else {
+        Ok(())
+    }
 }

@@ -1,11 +1,11 @@
 //! Lines of what each state is.
 
-ghost use Rattle.std.specs.Prelude.{◌-◌, ◌^◌, ◌<◌, ◌≤◌, ◌==◌, [], if◌then◌else◌, map, length, All};
+ghost use Rattle.std.specs.Prelude.{◌≡◌, ◌-◌, ◌^◌, ◌<◌, ◌≤◌, [], ◌∷◌, if◌then◌else◌, map, length, All, codes, decimal, slice_index_or};
 ghost use Rattle.std.specs.List.{flat_map, range_with_len};
 ghost use Rattle.hz_base_model.specs.Limits.{unit_limit};
 ghost use Rattle.hz_grid.specs.Rows.{has_unit};
 ghost use Rattle.hz_tabtext_model.specs.Texts.{line_text, origin_line, pair_field, grid_line, shown_lines};
-ghost use Rattle.hz_tabtext_model.specs.Said.{named_grid, shown_said};
+ghost use Rattle.hz_tabtext_model.specs.Said.{named_grid, origin_said, shown_said};
 ghost use Rattle.hz_auto.specs.Reports.{shown_of};
 ghost use Rattle.hz_tabfile.specs.Pages.{Adds, spaced, unit_text, pairs_text};
 
@@ -16,19 +16,50 @@ use hz_io::{Failed, Sink};
 use hz_regexp::Name;
 use itoa::Buffer;
 
+/// The place where a state is read first: none for the start.
+fn origin_of(shown: &Shown, state: u32) -> Option<(u32, u32)>
+    requires { state < length shown.now.parents.items }
+    ensures { result ≡ origin_said shown.now.parents.items state }
+{
+    if state == 0 {
+        return None;
+    }
+    Some(shown.parents[state as usize])
+}
+
+/// The grids of a state.
+fn grids_of(shown: &Shown, state: u32) -> &[Grid]
+    requires { state < length shown.now.grids.items }
+    ensures { result.now ≡ slice_index_or (shown_of shown.now).states state [] }
+{
+    &shown.grids[state as usize]
+}
+
 /// Adds the line of the place where a state is read first.
 fn add_origin<S: Sink>(
     out: &mut S,
     page: &mut Page,
-    state: u32,
-    place: (u32, u32),
+    origin: Option<(u32, u32)>,
 ) -> Result<(), Failed>
     requires { S.faults out.old < 2 ^ 64 - 1 }
-    ensures { Adds S.written S.room S.faults out.old out.new page.old.items page.new.items (line_text (origin_line (if state == 0 then None else Some place))) result }
+    ensures { Adds S.written S.room S.faults out.old out.new page.old.items page.new.items (line_text (origin_line origin)) result }
 {
-    if state == 0 {
-        return add(out, page, b"from -\n");
+    match origin {
+        Some(place) => add_place(out, page, place.0, place.1),
+        None => add(out, page, b"from -\n"),
     }
+}
+
+/// Adds the line of a place where a state is read first.
+fn add_place<S: Sink>(
+    out: &mut S,
+    page: &mut Page,
+    row: u32,
+    column: u32,
+) -> Result<(), Failed>
+    requires { S.faults out.old < 2 ^ 64 - 1 }
+    ensures { Adds S.written S.room S.faults out.old out.new page.old.items page.new.items (line_text (codes "from" ∷ decimal row ∷ decimal column ∷ [])) result }
+{
     let mut row_digits = Buffer::new();
     let mut column_digits = Buffer::new();
     add_all(
@@ -36,9 +67,9 @@ fn add_origin<S: Sink>(
         page,
         &[
             b"from ",
-            row_digits.format(place.0).as_bytes(),
+            row_digits.format(row).as_bytes(),
             b" ",
-            column_digits.format(place.1).as_bytes(),
+            column_digits.format(column).as_bytes(),
             b"\n",
         ],
     )
@@ -176,6 +207,6 @@ pub fn add_shown<S: Sink>(
     requires units { All (All (All (λ pair. pair.unit < length units.now))) (shown_of shown.now).states }
     ensures { Adds S.written S.room S.faults out.old out.new page.old.items page.new.items (flat_map line_text (shown_lines (Some (shown_said units.now state (shown_of shown.now))))) result }
 {
-    add_origin(out, page, state, shown.parents[state as usize])?;
-    add_grids(out, page, &shown.grids[state as usize], units)
+    add_origin(out, page, origin_of(shown, state))?;
+    add_grids(out, page, grids_of(shown, state), units)
 }
