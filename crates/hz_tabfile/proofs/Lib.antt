@@ -6,3 +6,4 @@ pub mod Adding
 pub mod LineTexts
 pub mod GridTexts
 pub mod PartTexts
+pub mod Ranges

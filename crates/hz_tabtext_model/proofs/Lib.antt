@@ -7,3 +7,4 @@ pub mod TextTakes
 pub mod TextAgain
 pub mod MachineLaws
 pub mod SaidLaws
+pub mod CompiledSaid
