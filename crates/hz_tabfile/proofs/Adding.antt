@@ -84,5 +84,10 @@ module _ {S : Type 0} {written : S → Option (List ℕ)} {room : S → Option �
   each_done {old = old} {new = new} {before = before} {after = after} f xs i most a =
       subst (λ (ys : List _). Added written room faults old new before after (flat_map f ys)) (take_all i xs most) a
 
+  -- what was added to none that were held, and then what is held is written
+  pub writes_all : {T E : Type 0} {old middle : S} {held text : List ℕ} (new : S) (result : Result T E) → Added written room faults old middle [] held text → Writes written room faults middle new held result → Writes written room faults old new text result
+  writes_all {old = old} new (Ok x) a w = subst (λ (bytes : List ℕ). Wrote written room faults old new bytes) (sym a.parts) (wrote_then a.wrote w)
+  writes_all {old = old} new (Err e) a w = subst (λ (bytes : List ℕ). Cut written room faults old new bytes) (sym a.parts) (wrote_then_cut a.wrote w)
+
 -- for `#[tactic(auto, using(..))]` on a writer
 pub ruleset adding = (added_nothing, added_then, added_then_stopped, stopped_before, adds_then, adds_failed)

@@ -9,6 +9,7 @@ ghost use Rattle.hz_tabfile.specs.Saying.{IsSayable, says};
 mod lines;
 mod page;
 mod parts;
+mod ranges;
 mod rows;
 mod shown;
 #[cfg(test)]
@@ -19,6 +20,7 @@ use hz_check::Checked;
 use hz_io::{Failed, Sink};
 use page::{Page, flush};
 use parts::add_tables;
+use ranges::is_in_range;
 
 /// Writes the text of a compiled machine: its classes and its automata, with the counts of each before minimisation under
 /// `stats`, and what each state is beside both `v` and `no-minimization`. It takes no memory. Where the sink fails, a front
@@ -31,7 +33,9 @@ pub fn write_tables<S: Sink>(
     requires faults { S.faults out.old < 2 ^ 64 - 1 }
     requires sayable { IsSayable compiled.now checked.now }
     ensures written { Writes S.written S.room S.faults out.old out.new (spelled (says compiled.now checked.now)) result }
+    ensures stands { TableText (spelled (says compiled.now checked.now)) (machine_of compiled.now.machine) }
 {
+    is_in_range(compiled, checked);
     let mut page = Page::new();
     match add_tables(out, &mut page, compiled, checked) {
         Ok(()) => flush(out, &mut page),

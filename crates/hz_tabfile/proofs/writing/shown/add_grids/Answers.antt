@@ -1,4 +1,5 @@
 use Rattle.std.proofs.Common.{◌≡◌, ◌<◌, ◌≤◌, ◌+◌, ℕ, List, [], length, map, get_or, refl, ap, sym, subst, ◌∙◌, arith}
+use Rattle.std.specs.Prelude.{All}
 use Rattle.std.specs.List.{flat_map}
 use Rattle.std.proofs.lemmas.List.{get_or_default}
 use Rattle.std.proofs.lemmas.List.Folds.{flat_map-map}
@@ -37,4 +38,4 @@ add_grid-requires-clause-faults g c = let same = c.loop-grid.invariant.wrote.cou
 pub add_grid-requires-clause-units : goal.add_grid-requires-clause-units
 add_grid-requires-clause-units g c =
     let inside : c.loop-grid.grid-index < length c.args.grids.now = omega arith in
-    ?
+    subst (λ (grid : List (Pair ℕ)). All (λ (pair : Pair ℕ). pair.unit < length c.args.units.now) grid) (sym c.grid-item.is) (c.requires.units c.loop-grid.grid-index c.grid-item.result inside)
