@@ -89,5 +89,9 @@ module _ {S : Type 0} {written : S → Option (List ℕ)} {room : S → Option �
   writes_all {old = old} new (Ok x) a w = subst (λ (bytes : List ℕ). Wrote written room faults old new bytes) (sym a.parts) (wrote_then a.wrote w)
   writes_all {old = old} new (Err e) a w = subst (λ (bytes : List ℕ). Cut written room faults old new bytes) (sym a.parts) (wrote_then_cut a.wrote w)
 
+  -- where none were held, a front of the text alone was written
+  pub none_stopped : {old new : S} {text : List ℕ} → Stopped written room faults old new [] text → Cut written room faults old new text
+  none_stopped a = a.cut
+
 -- for `#[tactic(auto, using(..))]` on a writer
 pub ruleset adding = (added_nothing, added_then, added_then_stopped, stopped_before, adds_then, adds_failed)

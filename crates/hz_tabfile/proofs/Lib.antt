@@ -7,3 +7,5 @@ pub mod LineTexts
 pub mod GridTexts
 pub mod PartTexts
 pub mod Ranges
+pub mod Sayable
+pub mod PartsThere

@@ -6,6 +6,7 @@ ghost use Rattle.hz_tabtext_model.specs.Texts.{TableText, spelled};
 ghost use Rattle.hz_tables.specs.Machines.{machine_of};
 ghost use Rattle.hz_tabfile.specs.Saying.{IsSayable, says};
 
+pub mod laws;
 mod lines;
 mod page;
 mod parts;

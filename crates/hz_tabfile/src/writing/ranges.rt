@@ -95,10 +95,10 @@ fn is_shown(shown: &Option<Shown>)
 }
 
 /// Counts are below 2 ^ 32.
-fn are_counts(report: &AutoReport)
-    ensures { AreCounts (counts_said (report_of report.now)) }
+fn are_counts(grids: u32, states: u32, members: u32)
+    ensures { AreCounts (record { grids = grids; states = states; members = members }) }
 {
-    let _counts = (report.grids, report.states, report.members);
+    let _counts = (grids, states, members);
 }
 
 /// The counts of reports are below 2 ^ 32.
@@ -106,7 +106,7 @@ fn are_counted(reports: &[AutoReport])
     ensures { All (λ report. AreCounts (counts_said (report_of report))) reports.now }
 {
     for report in reports {
-        are_counts(report);
+        are_counts(report.grids, report.states, report.members);
     }
 }
 

@@ -1,9 +1,10 @@
 //! Texts of small descriptions, byte by byte.
 
 ghost use Rattle.std.specs.Prelude.{◌<◌, ◌^◌, length};
+ghost use Rattle.hz_tabfile.specs.Saying.{IsSayable};
 
 use crate::write_tables;
-use hz_auto::compile;
+use hz_auto::{Compiled, compile};
 use hz_check::{Checked, check};
 use hz_io::MemSink;
 use hz_mdread::read_description;
@@ -25,14 +26,34 @@ fn checked_of(alloc: Global, text: &[u8]) -> Option<Checked>
     }
 }
 
+/// The tables text of a compiled description.
+fn written(alloc: Global, compiled: &Compiled, checked: &Checked) -> Option<MemSink>
+    requires { IsSayable compiled.now checked.now }
+{
+    match MemSink::new(alloc, 1000) {
+        Ok(mut out) => match write_tables(compiled, checked, &mut out) {
+            Ok(()) => Some(out),
+            Err(_) => None,
+        },
+        Err(_) => None,
+    }
+}
+
+/// The tables text of a checked description.
+fn compiled_text(alloc: Global, checked: &Checked) -> Option<MemSink> {
+    match compile(alloc, checked) {
+        Ok(compiled) => written(alloc, &compiled, checked),
+        Err(_) => None,
+    }
+}
+
 /// The tables text of a description, if it has one.
 fn text_of(rt: &impl Abort, alloc: Global, description: &[u8]) -> Option<MemSink> {
     assert!(rt; description.len() < 1000);
-    let checked = checked_of(alloc, description)?;
-    let compiled = compile(alloc, &checked).ok()?;
-    let mut out = MemSink::new(alloc, 1000).ok()?;
-    write_tables(&compiled, &checked, &mut out).ok()?;
-    Some(out)
+    match checked_of(alloc, description) {
+        Some(checked) => compiled_text(alloc, &checked),
+        None => None,
+    }
 }
 
 /// A unit that is taken a cycle late.
