@@ -1,8 +1,8 @@
 //! Reads tables texts.
 
 mod cutting;
-pub(crate) mod fault;
 mod each;
+pub(crate) mod fault;
 mod head;
 mod lines;
 mod numbers;

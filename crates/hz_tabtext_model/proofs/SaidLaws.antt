@@ -26,9 +26,10 @@ use Rattle.hz_tabtext_model.specs.Said.{named_grid, origin_said, shown_said, row
 each_made : {X Y : Type 0} (P : Y → Type 0) (f : ℕ × X → Y) (d : X) (xs : List X) (n : ℕ) → ((i : ℕ) → i < length xs → P (f (n + i, get_or xs i d))) → AllByRecursion P (map f (enumerate_from n xs))
 each_made P f d [] n h = tt
 each_made P f d (x ∷ xs) n h =
-    let here : n + 0 ≡ n = omega arith in
-    (subst (λ (k : ℕ). P (f (k, x))) here (h zero (omega arith)),
-    each_made P f d xs (n + 1) (λ i low. let there : n + suc i ≡ (n + 1) + i = omega arith in subst (λ (k : ℕ). P (f (k, get_or xs i d))) there (h (suc i) (omega (arith, low)))))
+    let here : n + 0 ≡ n = omega arith in (
+      subst (λ (k : ℕ). P (f (k, x))) here (h zero (omega arith)),
+      each_made P f d xs (n + 1) (λ i low. let there : n + suc i ≡ (n + 1) + i = omega arith in subst (λ (k : ℕ). P (f (k, get_or xs i d))) there (h (suc i) (omega (arith, low)))),
+    )
 
 length_made : {X Y : Type 0} (f : ℕ × X → Y) (xs : List X) → length (map f (enumerate_from 0 xs)) ≡ length xs
 length_made f xs = length-map (enumerate_from 0 xs) f ∙ length-enumerate_from 0 xs
@@ -68,15 +69,17 @@ is_entry states (Some next) h = h next refl
 
 pairs_fit : (units : List (List ℕ)) → All (λ name. IsTrue (is_name name)) units → (grid : List (Pair ℕ)) → All (λ pair. pair.unit < length units) grid → All (λ pair. pair.cycle < cycle_limit) grid → AllByRecursion IsPair (named_grid units grid)
 pairs_fit units names [] of below = tt
-pairs_fit units names (pair ∷ grid) of below =
-    (record { cycle = below zero pair (omega arith); unit = names pair.unit [] (of zero pair (omega arith)) },
-    pairs_fit units names grid (λ i d low. of (suc i) d (omega (arith, low))) (λ i d low. below (suc i) d (omega (arith, low))))
+pairs_fit units names (pair ∷ grid) of below = (
+  record { cycle = below zero pair (omega arith); unit = names pair.unit [] (of zero pair (omega arith)) },
+  pairs_fit units names grid (λ i d low. of (suc i) d (omega (arith, low))) (λ i d low. below (suc i) d (omega (arith, low))),
+)
 
 grids_fit : (units : List (List ℕ)) → All (λ name. IsTrue (is_name name)) units → (grids : List (List (Pair ℕ))) → All (All (λ pair. pair.unit < length units)) grids → All (All (λ pair. pair.cycle < cycle_limit)) grids → AllByRecursion (AllByRecursion IsPair) (map (named_grid units) grids)
 grids_fit units names [] of below = tt
-grids_fit units names (grid ∷ grids) of below =
-    (pairs_fit units names grid (of zero grid (omega arith)) (below zero grid (omega arith)),
-    grids_fit units names grids (λ i d low. of (suc i) d (omega (arith, low))) (λ i d low. below (suc i) d (omega (arith, low))))
+grids_fit units names (grid ∷ grids) of below = (
+  pairs_fit units names grid (of zero grid (omega arith)) (below zero grid (omega arith)),
+  grids_fit units names grids (λ i d low. of (suc i) d (omega (arith, low))) (λ i d low. below (suc i) d (omega (arith, low))),
+)
 
 origin_fits : (Q : ℕ × ℕ → Type 0) (places : List (ℕ × ℕ)) (state : ℕ) → (0 < state → Q (place_of places state)) → IfSome (origin_said places state) Q
 origin_fits Q places zero h = tt
@@ -137,9 +140,9 @@ part_fits classes stats units report part is name few names counts shown =
       within = recursion_from_All (λ column. column < part.columns) part.map is.within;
       counts = counts_fit stats report counts;
       rows = subst (λ (n : ℕ). AllByRecursion (IsRow part.columns n) (map (row_said units report.shown) (enumerate_from 0 part.rows))) (sym long)
-        (each_made (IsRow part.columns (length part.rows)) (row_said units report.shown) [] part.rows 0 (λ state low.
-        let at : 0 + state ≡ state = omega arith in
-        subst (λ (k : ℕ). IsRow part.columns (length part.rows) (row_said units report.shown (k, get_or part.rows state []))) (sym at) (row_fits units names part is.table report.shown shown state low)));
+          (each_made (IsRow part.columns (length part.rows)) (row_said units report.shown) [] part.rows 0 (λ state low.
+          let at : 0 + state ≡ state = omega arith in
+          subst (λ (k : ℕ). IsRow part.columns (length part.rows) (row_said units report.shown (k, get_or part.rows state []))) (sym at) (row_fits units names part is.table report.shown shown state low)));
     }
 
 told_there : (P : compiled.Shown → Type 0) (b : Bool) (o : Option compiled.Shown) → MatchBool b (IsSomeAnd o P) (o ≡ None) → (s : compiled.Shown) → o ≡ Some s → P s

@@ -122,12 +122,7 @@ pub fn counts(line: &[u8]) -> Result<(), Wrong>
 
 /// The entries of a state, of which there are so many before the advance, in place of those in `row`: `row t ..`.
 #[tactic(auto, unfolding(hz_tabtext_model::specs::Lines::row_in))]
-pub fn row(
-    line: &[u8],
-    columns: u32,
-    states: u32,
-    row: &mut Vec<Option<u32>>,
-) -> Result<(), Wrong>
+pub fn row(line: &[u8], columns: u32, states: u32, row: &mut Vec<Option<u32>>) -> Result<(), Wrong>
     requires { columns ≤ class_limit }
     ensures { Judges (λ _. row.new.items) result (model.row_in columns states line.now) }
 {

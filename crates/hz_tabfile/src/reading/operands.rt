@@ -2,7 +2,6 @@
 
 ghost use Rattle.std.specs.Prelude.{◌≡◌, ◌∷◌, [], length, IfOk, IfErr};
 ghost use Rattle.hz_tabtext_model.specs.Fields as model;
-
 ghost use Rattle.hz_tabfile.specs.Cutting.{fields_in};
 ghost use Rattle.hz_tabfile.specs.Judged.{Judges};
 

@@ -11,7 +11,9 @@ ghost use Rattle.hz_tabfile.specs.Texts.{class_read};
 
 use super::fault::TabFault;
 use super::head::Head;
-use super::lines::{automata, class, classes, counts, end, grid, head, map, origin, row, treatment};
+use super::lines::{
+    automata, class, classes, counts, end, grid, head, map, origin, row, treatment,
+};
 use super::rest::Rest;
 use hz_regexp::Name;
 use indexmap::IndexSet;
@@ -68,7 +70,12 @@ pub fn head_at(alloc: Global, rest: Rest, classes: u32) -> Result<(Head, Rest), 
 
 /// The column of each class.
 #[tactic(auto, using(crate::proofs::Told::judged_line))]
-pub fn map_at(alloc: Global, rest: Rest, classes: u32, columns: u32) -> Result<(Vec<u32>, Rest), TabFault>
+pub fn map_at(
+    alloc: Global,
+    rest: Rest,
+    classes: u32,
+    columns: u32,
+) -> Result<(Vec<u32>, Rest), TabFault>
     ensures { Gives (λ x. (x.0.items, left_of x.1)) result (line_by (model.map_in classes columns) (left_of rest.entry)) }
 {
     let (line, after) = rest.line()?;
@@ -92,7 +99,12 @@ pub fn stats_at(rest: Rest) -> Result<Rest, TabFault>
 
 /// The entries of a state, in place of those in `entries`.
 #[tactic(auto, using(crate::proofs::Told::judged_line))]
-pub fn entries_at<'a>(rest: Rest<'a>, columns: u32, states: u32, entries: &mut Vec<Option<u32>>) -> Result<Rest<'a>, TabFault>
+pub fn entries_at<'a>(
+    rest: Rest<'a>,
+    columns: u32,
+    states: u32,
+    entries: &mut Vec<Option<u32>>,
+) -> Result<Rest<'a>, TabFault>
     requires { columns ≤ class_limit }
     ensures { Gives (λ after. (entries.new.items, left_of after)) result (line_by (model.row_in columns states) (left_of rest.entry)) }
 {
@@ -141,7 +153,11 @@ pub fn end_at(rest: Rest) -> Result<Rest, TabFault>
 
 /// The name of a class, behind those before it.
 #[tactic(auto, using(crate::proofs::Told::judged_class))]
-pub fn class_at<'a>(alloc: Global, rest: Rest<'a>, names: &mut IndexSet<Name>) -> Result<Rest<'a>, TabFault>
+pub fn class_at<'a>(
+    alloc: Global,
+    rest: Rest<'a>,
+    names: &mut IndexSet<Name>,
+) -> Result<Rest<'a>, TabFault>
     ensures { Gives (λ after. (names.new.keys, left_of after)) result (class_read names.old.keys (left_of rest.entry)) }
 {
     let (line, after) = rest.line()?;

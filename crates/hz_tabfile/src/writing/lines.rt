@@ -66,7 +66,11 @@ pub fn add_count<S: Sink>(
     ensures { Adds S.written S.room S.faults out.old out.new page.old.items page.new.items (line_text (word.now ∷ decimal count ∷ [])) result }
 {
     let mut digits = Buffer::new();
-    add_all(out, page, &[word, b" ", digits.format(count).as_bytes(), b"\n"])
+    add_all(
+        out,
+        page,
+        &[word, b" ", digits.format(count).as_bytes(), b"\n"],
+    )
 }
 
 /// Adds the first line of an automaton.

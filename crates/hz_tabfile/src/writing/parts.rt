@@ -50,7 +50,13 @@ fn add_part<S: Sink>(
     requires writable { IsWritable units.now (part_of part.now) (option_map shown_of report.now.shown) }
     ensures { Adds S.written S.room S.faults out.old out.new page.old.items page.new.items (flat_map line_text (part_lines (part_said stats units.now (report_of report.now) (part_of part.now)))) result }
 {
-    add_head(out, page, &part.name, part.table.columns(), part.table.states())?;
+    add_head(
+        out,
+        page,
+        &part.name,
+        part.table.columns(),
+        part.table.states(),
+    )?;
     add_map(out, page, &part.map)?;
     add_counts(out, page, stats, report)?;
     add_states(out, page, units, report, part)
@@ -70,7 +76,14 @@ fn add_parts<S: Sink>(
     ensures { Adds S.written S.room S.faults out.old out.new page.old.items page.new.items (flat_map (λ part. flat_map line_text (part_lines part)) (parts_says stats automata.now reports.now parts.now)) result }
 {
     for (number, part) in parts.iter().enumerate() {
-        match add_part(out, page, stats, &automata[number].units, &reports[number], part) {
+        match add_part(
+            out,
+            page,
+            stats,
+            &automata[number].units,
+            &reports[number],
+            part,
+        ) {
             Ok(()) => {}
             Err(failed) => return Err(failed),
         }

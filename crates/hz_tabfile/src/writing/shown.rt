@@ -51,12 +51,7 @@ fn add_origin<S: Sink>(
 }
 
 /// Adds the line of a place where a state is read first.
-fn add_place<S: Sink>(
-    out: &mut S,
-    page: &mut Page,
-    row: u32,
-    column: u32,
-) -> Result<(), Failed>
+fn add_place<S: Sink>(out: &mut S, page: &mut Page, row: u32, column: u32) -> Result<(), Failed>
     requires { S.faults out.old < 2 ^ 64 - 1 }
     ensures { Adds S.written S.room S.faults out.old out.new page.old.items page.new.items (line_text (codes "from" ∷ decimal row ∷ decimal column ∷ [])) result }
 {
@@ -76,12 +71,7 @@ fn add_place<S: Sink>(
 }
 
 /// Adds a pair of a grid behind a space.
-fn add_pair<S: Sink>(
-    out: &mut S,
-    page: &mut Page,
-    cycle: u16,
-    unit: &Name,
-) -> Result<(), Failed>
+fn add_pair<S: Sink>(out: &mut S, page: &mut Page, cycle: u16, unit: &Name) -> Result<(), Failed>
     requires { S.faults out.old < 2 ^ 64 - 1 }
     ensures { Adds S.written S.room S.faults out.old out.new page.old.items page.new.items (spaced (pair_field (cycle, unit.now))) result }
 {

@@ -21,7 +21,7 @@ returns-in_err-add_front g c =
     let classes = c.args.compiled.now.machine.classes.items in
     let number : c.len-automata.result ≡ length said.parts = c.len-automata.ensures ∙ (c.args.compiled.now.machine.parts.ok.0 ∙ sym (says_length stats c.args.checked.now.automata.items c.args.compiled.now.reports.items c.args.compiled.now.machine.parts.items)) in
     let front_is : flat_map line_text (front_lines ndfa c.deref.result.now c.len-automata.result) ≡ flat_map line_text (front_lines ndfa classes (length said.parts)) =
-      ap (λ (names : List (List ℕ)). flat_map line_text (front_lines ndfa names c.len-automata.result)) c.deref.ensures.value ∙ ap (λ (n : ℕ). flat_map line_text (front_lines ndfa classes n)) number in
+    ap (λ (names : List (List ℕ)). flat_map line_text (front_lines ndfa names c.len-automata.result)) c.deref.ensures.value ∙ ap (λ (n : ℕ). flat_map line_text (front_lines ndfa classes n)) number in
     adds_failed c.add_front.new.page.items c.from_residual.result (search rules)
     (subst (λ (text : List ℕ). Stopped g.S.Sink.written g.S.Sink.room g.S.Sink.faults c.args.out.now c.add_front.new.out c.args.page.now.items text) (whole_text said)
     (stopped_before ((flat_map (λ part. flat_map line_text (part_lines part)) said.parts) ++ (line_text (codes "end" ∷ []))) (subst (λ (text : List ℕ). Stopped g.S.Sink.written g.S.Sink.room g.S.Sink.faults c.args.out.now c.add_front.new.out c.args.page.now.items text) front_is c.in_err-add_front.ensures)))
@@ -34,11 +34,11 @@ returns-in_err-add_parts g c =
     let classes = c.args.compiled.now.machine.classes.items in
     let number : c.len-automata.result ≡ length said.parts = c.len-automata.ensures ∙ (c.args.compiled.now.machine.parts.ok.0 ∙ sym (says_length stats c.args.checked.now.automata.items c.args.compiled.now.reports.items c.args.compiled.now.machine.parts.items)) in
     let front_is : flat_map line_text (front_lines ndfa c.deref.result.now c.len-automata.result) ≡ flat_map line_text (front_lines ndfa classes (length said.parts)) =
-      ap (λ (names : List (List ℕ)). flat_map line_text (front_lines ndfa names c.len-automata.result)) c.deref.ensures.value ∙ ap (λ (n : ℕ). flat_map line_text (front_lines ndfa classes n)) number in
+    ap (λ (names : List (List ℕ)). flat_map line_text (front_lines ndfa names c.len-automata.result)) c.deref.ensures.value ∙ ap (λ (n : ℕ). flat_map line_text (front_lines ndfa classes n)) number in
     let parts_is : flat_map (λ part. flat_map line_text (part_lines part)) (parts_says stats c.deref-2.result.now c.deref-3.result.now c.deref-4.result.now) ≡ flat_map (λ part. flat_map line_text (part_lines part)) said.parts =
-      ap (λ (xs : List CheckedAutomaton). flat_map (λ part. flat_map line_text (part_lines part)) (parts_says stats xs c.deref-3.result.now c.deref-4.result.now)) c.deref-2.ensures.value
-      ∙ (ap (λ (xs : List AutoReport). flat_map (λ part. flat_map line_text (part_lines part)) (parts_says stats c.args.checked.now.automata.items xs c.deref-4.result.now)) c.deref-3.ensures.value
-      ∙ ap (λ (xs : List Part). flat_map (λ part. flat_map line_text (part_lines part)) (parts_says stats c.args.checked.now.automata.items c.args.compiled.now.reports.items xs)) c.deref-4.ensures.value) in
+    ap (λ (xs : List CheckedAutomaton). flat_map (λ part. flat_map line_text (part_lines part)) (parts_says stats xs c.deref-3.result.now c.deref-4.result.now)) c.deref-2.ensures.value
+    ∙ (ap (λ (xs : List AutoReport). flat_map (λ part. flat_map line_text (part_lines part)) (parts_says stats c.args.checked.now.automata.items xs c.deref-4.result.now)) c.deref-3.ensures.value
+    ∙ ap (λ (xs : List Part). flat_map (λ part. flat_map line_text (part_lines part)) (parts_says stats c.args.checked.now.automata.items c.args.compiled.now.reports.items xs)) c.deref-4.ensures.value) in
     adds_failed c.add_parts.new.page.items c.from_residual-in_err-add_parts.result (search rules)
     (subst (λ (text : List ℕ). Stopped g.S.Sink.written g.S.Sink.room g.S.Sink.faults c.args.out.now c.add_parts.new.out c.args.page.now.items text) (whole_text said)
     (added_then_stopped (subst (λ (text : List ℕ). Added g.S.Sink.written g.S.Sink.room g.S.Sink.faults c.args.out.now c.add_front.new.out c.args.page.now.items c.add_front.new.page.items text) front_is c.in_ok-add_front.ensures) (stopped_before (line_text (codes "end" ∷ [])) (subst (λ (text : List ℕ). Stopped g.S.Sink.written g.S.Sink.room g.S.Sink.faults c.add_front.new.out c.add_parts.new.out c.add_front.new.page.items text) parts_is c.in_err-add_parts.ensures))))
@@ -51,11 +51,11 @@ returns g c =
     let classes = c.args.compiled.now.machine.classes.items in
     let number : c.len-automata.result ≡ length said.parts = c.len-automata.ensures ∙ (c.args.compiled.now.machine.parts.ok.0 ∙ sym (says_length stats c.args.checked.now.automata.items c.args.compiled.now.reports.items c.args.compiled.now.machine.parts.items)) in
     let front_is : flat_map line_text (front_lines ndfa c.deref.result.now c.len-automata.result) ≡ flat_map line_text (front_lines ndfa classes (length said.parts)) =
-      ap (λ (names : List (List ℕ)). flat_map line_text (front_lines ndfa names c.len-automata.result)) c.deref.ensures.value ∙ ap (λ (n : ℕ). flat_map line_text (front_lines ndfa classes n)) number in
+    ap (λ (names : List (List ℕ)). flat_map line_text (front_lines ndfa names c.len-automata.result)) c.deref.ensures.value ∙ ap (λ (n : ℕ). flat_map line_text (front_lines ndfa classes n)) number in
     let parts_is : flat_map (λ part. flat_map line_text (part_lines part)) (parts_says stats c.deref-2.result.now c.deref-3.result.now c.deref-4.result.now) ≡ flat_map (λ part. flat_map line_text (part_lines part)) said.parts =
-      ap (λ (xs : List CheckedAutomaton). flat_map (λ part. flat_map line_text (part_lines part)) (parts_says stats xs c.deref-3.result.now c.deref-4.result.now)) c.deref-2.ensures.value
-      ∙ (ap (λ (xs : List AutoReport). flat_map (λ part. flat_map line_text (part_lines part)) (parts_says stats c.args.checked.now.automata.items xs c.deref-4.result.now)) c.deref-3.ensures.value
-      ∙ ap (λ (xs : List Part). flat_map (λ part. flat_map line_text (part_lines part)) (parts_says stats c.args.checked.now.automata.items c.args.compiled.now.reports.items xs)) c.deref-4.ensures.value) in
+    ap (λ (xs : List CheckedAutomaton). flat_map (λ part. flat_map line_text (part_lines part)) (parts_says stats xs c.deref-3.result.now c.deref-4.result.now)) c.deref-2.ensures.value
+    ∙ (ap (λ (xs : List AutoReport). flat_map (λ part. flat_map line_text (part_lines part)) (parts_says stats c.args.checked.now.automata.items xs c.deref-4.result.now)) c.deref-3.ensures.value
+    ∙ ap (λ (xs : List Part). flat_map (λ part. flat_map line_text (part_lines part)) (parts_says stats c.args.checked.now.automata.items c.args.compiled.now.reports.items xs)) c.deref-4.ensures.value) in
     subst (λ (text : List ℕ). Adds g.S.Sink.written g.S.Sink.room g.S.Sink.faults c.args.out.now c.add.new.out c.args.page.now.items c.add.new.page.items text c.add.result) (whole_text said)
     (adds_then c.add.new.out c.add.new.page.items ((flat_map (λ part. flat_map line_text (part_lines part)) said.parts) ++ (line_text (codes "end" ∷ []))) c.add.result (subst (λ (text : List ℕ). Added g.S.Sink.written g.S.Sink.room g.S.Sink.faults c.args.out.now c.add_front.new.out c.args.page.now.items c.add_front.new.page.items text) front_is c.in_ok-add_front.ensures)
     (adds_then c.add.new.out c.add.new.page.items (line_text (codes "end" ∷ [])) c.add.result (subst (λ (text : List ℕ). Added g.S.Sink.written g.S.Sink.room g.S.Sink.faults c.add_front.new.out c.add_parts.new.out c.add_front.new.page.items c.add_parts.new.page.items text) parts_is c.in_ok-add_parts.ensures) (subst (λ (text : List ℕ). Adds g.S.Sink.written g.S.Sink.room g.S.Sink.faults c.add_parts.new.out c.add.new.out c.add_parts.new.page.items c.add.new.page.items text c.add.result) (sym (line_spaced (codes "end") [])) c.add.ensures)))

@@ -31,5 +31,5 @@ returns c =
       units = all_made (λ (a : AutomatonParts). All (λ (name : List ℕ). IsTrue (is_name name)) a.units) automaton_of automata (subst (λ (xs : List CheckedAutomaton). All (λ (a : CheckedAutomaton). All (λ (name : List ℕ). IsTrue (is_name name)) a.units.items) xs) c.deref-4.ensures.value c.are_units.ensures);
       counts = all_made (λ (r : Report). AreCounts (counts_said r)) report_of reports (subst (λ (rs : List AutoReport). All (λ (r : AutoReport). AreCounts (counts_said (report_of r))) rs) c.deref-5.ensures.value c.are_counted.ensures);
       cycles = all_made (λ (r : Report). ForSome r.shown (λ shown. All (All (All (λ (pair : Pair ℕ). pair.cycle < cycle_limit))) shown.states)) report_of reports
-        (λ i d low. shown_again (All (All (λ (pair : Pair ℕ). pair.cycle < cycle_limit))) _ (subst (λ (rs : List AutoReport). All (λ (r : AutoReport). ForSome r.shown (λ shown. All (λ grids. All (All (λ (pair : Pair ℕ). pair.cycle < cycle_limit)) grids.items) shown.grids.items)) rs) c.deref-6.ensures.value c.are_shown.ensures i d low));
+          (λ i d low. shown_again (All (All (λ (pair : Pair ℕ). pair.cycle < cycle_limit))) _ (subst (λ (rs : List AutoReport). All (λ (r : AutoReport). ForSome r.shown (λ shown. All (λ grids. All (All (λ (pair : Pair ℕ). pair.cycle < cycle_limit)) grids.items) shown.grids.items)) rs) c.deref-6.ensures.value c.are_shown.ensures i d low));
     }

@@ -24,7 +24,7 @@ returns-in-Err g c =
     let at : 0 + i ≡ i = omega arith in
     let inside : i < length (range_with_len 0 n) = omega (arith, length-range_with_len 0 n, c.loop-cycle-test.true) in
     let whole : flat_map (λ cycle. pairs_text c.args.units.now (in_cycle c.args.grid.now cycle)) (range_with_len 0 n) ≡ pairs_text c.args.units.now c.args.grid.now =
-      grid_texts c.args.units.now c.args.grid.now (range_with_len 0 n) ∙ ap (pairs_text c.args.units.now) (cycle_by_cycle c.args.grid.now c.length-cycle-end.ensures.grid n c.length-cycle-end.ensures.above) in
+    grid_texts c.args.units.now c.args.grid.now (range_with_len 0 n) ∙ ap (pairs_text c.args.units.now) (cycle_by_cycle c.args.grid.now c.length-cycle-end.ensures.grid n c.length-cycle-end.ensures.above) in
     subst (λ (text : List ℕ). Stopped g.S.Sink.written g.S.Sink.room g.S.Sink.faults c.args.out.now c.add_cycle.new.out c.args.page.now.items text) whole
     (each_stopped_as (λ (cycle : ℕ). pairs_text c.args.units.now (in_cycle c.args.grid.now cycle)) (range_with_len 0 n) i 0 _ inside
     (ap (λ (cycle : ℕ). pairs_text c.args.units.now (in_cycle c.args.grid.now cycle)) (get_or-range_with_len 0 n i 0 c.loop-cycle-test.true ∙ at)
@@ -36,7 +36,7 @@ returns g c =
     let n = c.length-cycle-end.result in
     let most : length (range_with_len 0 n) ≤ c.loop-cycle.cycle = omega (arith, length-range_with_len 0 n, c.loop-cycle-test.false) in
     let whole : flat_map (λ cycle. pairs_text c.args.units.now (in_cycle c.args.grid.now cycle)) (range_with_len 0 n) ≡ pairs_text c.args.units.now c.args.grid.now =
-      grid_texts c.args.units.now c.args.grid.now (range_with_len 0 n) ∙ ap (pairs_text c.args.units.now) (cycle_by_cycle c.args.grid.now c.length-cycle-end.ensures.grid n c.length-cycle-end.ensures.above) in
+    grid_texts c.args.units.now c.args.grid.now (range_with_len 0 n) ∙ ap (pairs_text c.args.units.now) (cycle_by_cycle c.args.grid.now c.length-cycle-end.ensures.grid n c.length-cycle-end.ensures.above) in
     subst (λ (text : List ℕ). Added g.S.Sink.written g.S.Sink.room g.S.Sink.faults c.args.out.now c.loop-cycle.out c.args.page.now.items c.loop-cycle.page.items text) whole
     (each_done (λ (cycle : ℕ). pairs_text c.args.units.now (in_cycle c.args.grid.now cycle)) (range_with_len 0 n) c.loop-cycle.cycle most c.loop-cycle.invariant)
 
