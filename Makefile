@@ -44,6 +44,7 @@ bench: bin/hz
 	@sh bench/determ/run.sh
 	@sh bench/depend/run.sh
 	@sh bench/minim/run.sh
+	@sh bench/tables/run.sh
 
 install: bin/hz
 	@install -d "$(DESTDIR)$(PREFIX)/bin"

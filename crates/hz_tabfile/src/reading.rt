@@ -5,9 +5,13 @@ mod each;
 pub(crate) mod fault;
 mod head;
 mod lines;
+pub(crate) mod machine;
 mod numbers;
 mod operands;
 mod pairs;
 mod rest;
+#[cfg(test)]
+mod tests;
+mod text;
 mod told;
 mod wrong;

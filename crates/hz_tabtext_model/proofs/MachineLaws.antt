@@ -1,5 +1,5 @@
 -- What a text says is a machine, and every machine is said by a text.
-use Rattle.std.proofs.Common.{◌≡◌, ◌≢◌, ℕ, zero, suc, ◌+◌, ◌*◌, ◌^◌, ◌<◌, ◌≤◌, List, [], ◌∷◌, ◌++◌, map, length, get_or, take, drop, Option, Some, None, refl, sym, ap, ◌∙◌, subst, arith, inl, inr, ⊎_elim, ◌⊎◌}
+use Rattle.std.proofs.Common.{◌≡◌, ◌≢◌, false, ℕ, zero, suc, ◌+◌, ◌*◌, ◌^◌, ◌<◌, ◌≤◌, List, [], ◌∷◌, ◌++◌, map, length, get_or, take, drop, Option, Some, None, Ok, refl, sym, ap, ◌∙◌, subst, arith, inl, inr, ⊎_elim, ◌⊎◌}
 use Rattle.std.specs.Prelude.{IfSome, IsTrue, All}
 use Rattle.std.specs.List.{AllByRecursion}
 use Rattle.std.proofs.lemmas.Bool.{cases_lt}
@@ -9,7 +9,9 @@ use Rattle.hz_tables_model.specs.StateLimits.{cell_limit}
 use Rattle.hz_tables_model.specs.Tables.{Table, row_of, entry, IsTable}
 use Rattle.hz_tables_model.specs.Machines.{Part, Machine, IsPart, IsMachine}
 use Rattle.hz_tabtext_model.specs.Texts.{RowText, PartText, TablesText, IsEntry, IsRow, IsPartText, IsTables, part_of, machine_of, TableText}
-use Rattle.hz_tabtext_model.proofs.LineTakes.{AreEntries}
+use Rattle.hz_tabtext_model.specs.Fields.{is_nil}
+use Rattle.hz_tabtext_model.specs.Reading.{Rest, row_at, machine_at}
+use Rattle.hz_tabtext_model.proofs.TextTakes.{row_at_takes, machine_at_takes}
 
 -- ---- a part that is said
 
@@ -30,15 +32,15 @@ module _ (columns : ℕ) (rows : List RowText) (fit : AllByRecursion (IsRow colu
   abbrev table_said : Table
   table_said = map (λ row. row.entries) rows
 
-  row_at : (state : ℕ) → state < length rows → IsRow columns (length rows) (get_or rows state no_row)
-  row_at state lt = All-get_or (IsRow columns (length rows)) rows state no_row lt (All-from_recursion (IsRow columns (length rows)) rows fit)
+  row_said : (state : ℕ) → state < length rows → IsRow columns (length rows) (get_or rows state no_row)
+  row_said state lt = All-get_or (IsRow columns (length rows)) rows state no_row lt (All-from_recursion (IsRow columns (length rows)) rows fit)
 
   row_is : (state : ℕ) → state < length rows → row_of table_said state ≡ (get_or rows state no_row).entries
   row_is state lt = get_or-map (λ row. row.entries) rows state no_row [] lt
 
   width_is : (state : ℕ) → state < length rows → length (row_of table_said state) ≡ columns + 1
   width_is state lt =
-      let r = row_at state lt in
+      let r = row_said state lt in
       let width = r.width in
       ap length (row_is state lt ∙ r.entries) ∙ omega (arith, length-append r.classes (Some r.advance ∷ []), width)
 
@@ -47,7 +49,7 @@ module _ (columns : ℕ) (rows : List RowText) (fit : AllByRecursion (IsRow colu
     where
       by_state : ((state < length rows) ⊎ (length rows ≤ state)) → next < length rows
       by_state (inl lt) =
-          let r = row_at state lt in
+          let r = row_said state lt in
           entry_below (length rows) (r.classes ++ Some r.advance ∷ []) (entries_then (length rows) r.classes r.advance r.targets r.goes) column next (sym (ap (λ (row : List (Option ℕ)). get_or row column None) (row_is state lt ∙ r.entries)) ∙ e)
       by_state (inr far) =
           let none : row_of table_said state ≡ [] = get_or_past table_said state [] (omega (arith, length-map rows (λ (row : RowText). row.entries))) in
@@ -56,7 +58,7 @@ module _ (columns : ℕ) (rows : List RowText) (fit : AllByRecursion (IsRow colu
 
   advance_is : (state : ℕ) → state < length rows → entry table_said state columns ≢ None
   advance_is state lt e =
-      let r = row_at state lt in
+      let r = row_said state lt in
       let there : entry table_said state columns ≡ Some r.advance = ap (λ (row : List (Option ℕ)). get_or row columns None) (row_is state lt ∙ r.entries) ∙ get_or_at r.classes (Some r.advance) [] None columns r.width in
       cc
 
@@ -100,3 +102,19 @@ machine_is says h =
 
 pub text_machine : (text : List ℕ) (machine : Machine) → TableText text machine → IsMachine machine
 text_machine text machine t = subst IsMachine (sym t.stands) (machine_is t.says t.fits)
+
+-- ---- what is read line by line
+
+-- a row that is read has an entry for each column and the advance, all of them states
+pub row_shape : (columns states : ℕ) (rest : Rest) (row : List (Option ℕ)) (after : Rest) → is_nil rest.lines ≡ false → row_at columns states rest ≡ Ok (row, after) → (length row ≡ columns + 1) × AllByRecursion (IsEntry states) row
+row_shape columns states rest row after some e =
+    let t = row_at_takes columns states rest (row, after) some e in
+    let h = t.fits in
+    let same : t.said.entries ≡ row = t.is in
+    let width = h.width in
+    let parts : row ≡ h.classes ++ Some h.advance ∷ [] = sym same ∙ h.entries in
+    (ap length parts ∙ omega (arith, length-append h.classes (Some h.advance ∷ []), width), subst (AllByRecursion (IsEntry states)) (sym parts) (entries_then states h.classes h.advance h.targets h.goes))
+
+-- what is read behind the header is a machine
+pub machine_read : (rest : Rest) (machine : Machine) → machine_at rest ≡ Ok machine → IsMachine machine
+machine_read rest machine e = let b = machine_at_takes rest machine e in subst IsMachine (sym b.stands) (machine_is b.says b.fits)

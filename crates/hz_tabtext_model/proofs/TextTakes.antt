@@ -210,7 +210,7 @@ shown_takes columns states rest after some e = by_word (comes (codes "from") res
 
 -- ---- states
 
-row_at_takes : (columns states : ℕ) (rest : Rest) (y : List (Option ℕ) × Rest) → is_nil rest.lines ≡ false → row_at columns states rest ≡ Ok y
+pub row_at_takes : (columns states : ℕ) (rest : Rest) (y : List (Option ℕ) × Rest) → is_nil rest.lines ≡ false → row_at columns states rest ≡ Ok y
     → One (row_at columns states) row_lines (λ row. row.entries) (IsRow columns states) rest y.0 y.1
 unfolding row_at
 row_at_takes columns states rest y some e =
@@ -301,13 +301,13 @@ unfolding joined
 end_is = refl
 
 -- What stands behind the header of a text that is read.
-record Behind (rest : Rest) (machine : machines.Machine) : Type 0 where
-  says : TablesText
-  fits : IsTables says
-  stands : machine ≡ machine_of says
-  parts : rest.lines ≡ map joined (treatment_line says.ndfa ∷ (codes "classes" ∷ decimal (length says.classes) ∷ []) ∷ (map class_line says.classes ++ (codes "automata" ∷ decimal (length says.parts) ∷ []) ∷ (flat_map part_lines says.parts ++ (codes "end" ∷ []) ∷ []))) ++ [] ∷ []
+pub record Behind (rest : Rest) (machine : machines.Machine) : Type 0 where
+  pub says : TablesText
+  pub fits : IsTables says
+  pub stands : machine ≡ machine_of says
+  pub parts : rest.lines ≡ map joined (treatment_line says.ndfa ∷ (codes "classes" ∷ decimal (length says.classes) ∷ []) ∷ (map class_line says.classes ++ (codes "automata" ∷ decimal (length says.parts) ∷ []) ∷ (flat_map part_lines says.parts ++ (codes "end" ∷ []) ∷ []))) ++ [] ∷ []
 
-machine_at_takes : (rest : Rest) (machine : machines.Machine) → machine_at rest ≡ Ok machine → Behind rest machine
+pub machine_at_takes : (rest : Rest) (machine : machines.Machine) → machine_at rest ≡ Ok machine → Behind rest machine
 unfolding machine_at
 machine_at_takes rest machine e =
     let a = bind_ok (line_by treatment_in rest)

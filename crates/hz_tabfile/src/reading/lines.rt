@@ -1,7 +1,8 @@
 //! What each line says at its place.
 
-ghost use Rattle.std.specs.Prelude.{◌≡◌, ◌≤◌};
+ghost use Rattle.std.specs.Prelude.{◌≡◌, ◌≤◌, IfOk};
 ghost use Rattle.hz_base_model.specs.Limits.{class_limit};
+ghost use Rattle.hz_tables_model.specs.StateLimits.{state_limit};
 ghost use Rattle.hz_tabtext_model.specs.Lines as model;
 ghost use Rattle.hz_tabfile.specs.Judged.{Judges};
 ghost use Rattle.hz_tabfile.specs.Heads.{head_said};
@@ -35,7 +36,8 @@ pub fn treatment(line: &[u8]) -> Result<bool, Wrong>
 /// How many classes there are: `classes K`.
 #[tactic(auto, unfolding(hz_tabtext_model::specs::Lines::classes_in))]
 pub fn classes(line: &[u8]) -> Result<u32, Wrong>
-    ensures { Judges (λ count. count) result (model.classes_in line.now) }
+    ensures judged { Judges (λ count. count) result (model.classes_in line.now) }
+    ensures few { IfOk result (λ count. count ≤ class_limit) }
 {
     let count = number(one(line, b"classes")?)?;
     if count > 1024 {
@@ -75,7 +77,9 @@ pub fn automata(line: &[u8]) -> Result<u32, Wrong>
 #[tactic(auto, unfolding(hz_tabtext_model::specs::Lines::head_in))]
 pub fn head(alloc: Global, line: &[u8], classes: u32) -> Result<Head, Wrong>
     requires { classes ≤ class_limit }
-    ensures { Judges head_said result (model.head_in classes line.now) }
+    ensures judged { Judges head_said result (model.head_in classes line.now) }
+    ensures columns { IfOk result (λ head. head.columns ≤ classes) }
+    ensures states { IfOk result (λ head. head.states ≤ state_limit) }
 {
     let (name, columns, states) = three(line, b"automaton")?;
     let Some(name) = Name::of(alloc, name)? else {

@@ -14,7 +14,7 @@ pub struct Rest<'a> {
 }
 
 impl<'a> Rest<'a> {
-    ghost use Rattle.std.specs.Prelude.{◌≡◌, Ok};
+    ghost use Rattle.std.specs.Prelude.{◌≡◌, Ok, IfOk};
     ghost use Rattle.hz_tabtext_model.specs.Reading as model;
     ghost use Rattle.hz_tabfile.specs.Given.{Gives};
     ghost use Rattle.hz_tabfile.specs.Rests.{left_of};
@@ -22,7 +22,8 @@ impl<'a> Rest<'a> {
     #[tactic(auto, using(crate::proofs::Pieces::nil_pieces))]
     /// The next line, and what is left behind it; `Truncated` where it is not ended.
     pub fn line(self) -> Result<(&'a [u8], Rest<'a>), TabFault>
-        ensures { Gives (λ x. (x.0.now, left_of x.1)) result (model.line_by (λ line. Ok line) (left_of self.entry)) }
+        ensures taken { Gives (λ x. (x.0.now, left_of x.1)) result (model.line_by (λ line. Ok line) (left_of self.entry)) }
+        ensures shorter { IfOk result (λ x. length x.1.bytes.now < length self.entry.bytes.now) }
     {
         let (line, others) = cut(self.bytes, b'\n');
         let Some(bytes) = others else {

@@ -1,7 +1,8 @@
 //! Lines of a text, each judged at its number.
 
-ghost use Rattle.std.specs.Prelude.{◌≡◌, ◌≤◌};
+ghost use Rattle.std.specs.Prelude.{◌≡◌, ◌≤◌, ◌<◌, length, IfOk};
 ghost use Rattle.hz_base_model.specs.Limits.{class_limit};
+ghost use Rattle.hz_tables_model.specs.StateLimits.{state_limit};
 ghost use Rattle.hz_tabtext_model.specs.Reading.{line_by};
 ghost use Rattle.hz_tabtext_model.specs.Lines as model;
 ghost use Rattle.hz_tabfile.specs.Given.{Gives};
@@ -34,7 +35,8 @@ pub fn treatment_at(rest: Rest) -> Result<(bool, Rest), TabFault>
 /// How many classes there are.
 #[tactic(auto, using(crate::proofs::Told::judged_line))]
 pub fn classes_at(rest: Rest) -> Result<(u32, Rest), TabFault>
-    ensures { Gives (λ x. (x.0, left_of x.1)) result (line_by model.classes_in (left_of rest.entry)) }
+    ensures judged { Gives (λ x. (x.0, left_of x.1)) result (line_by model.classes_in (left_of rest.entry)) }
+    ensures few { IfOk result (λ x. x.0 ≤ class_limit) }
 {
     let (line, after) = rest.line()?;
     match classes(line) {
@@ -59,7 +61,9 @@ pub fn automata_at(rest: Rest) -> Result<(u32, Rest), TabFault>
 #[tactic(auto, using(crate::proofs::Told::judged_line))]
 pub fn head_at(alloc: Global, rest: Rest, classes: u32) -> Result<(Head, Rest), TabFault>
     requires { classes ≤ class_limit }
-    ensures { Gives (λ x. (head_said x.0, left_of x.1)) result (line_by (model.head_in classes) (left_of rest.entry)) }
+    ensures judged { Gives (λ x. (head_said x.0, left_of x.1)) result (line_by (model.head_in classes) (left_of rest.entry)) }
+    ensures columns { IfOk result (λ x. x.0.columns ≤ classes) }
+    ensures states { IfOk result (λ x. x.0.states ≤ state_limit) }
 {
     let (line, after) = rest.line()?;
     match head(alloc, line, classes) {
@@ -130,7 +134,8 @@ pub fn origin_at(rest: Rest, columns: u32, states: u32) -> Result<Rest, TabFault
 /// A grid of a state, which is dropped.
 #[tactic(auto, using(crate::proofs::Told::judged_line))]
 pub fn grid_at(rest: Rest) -> Result<Rest, TabFault>
-    ensures { Gives (λ after. (tt, left_of after)) result (line_by model.grid_in (left_of rest.entry)) }
+    ensures judged { Gives (λ after. (tt, left_of after)) result (line_by model.grid_in (left_of rest.entry)) }
+    ensures shorter { IfOk result (λ after. length after.bytes.now < length rest.entry.bytes.now) }
 {
     let (line, after) = rest.line()?;
     match grid(line) {

@@ -1,0 +1,96 @@
+//! The reader of tables texts.
+
+ghost use Rattle.std.specs.Prelude.{◌≡◌, ◌<◌, ◌^◌, Ok, length, map, codes, IfOk};
+ghost use Rattle.std.specs.Bool.{OnTrue};
+ghost use Rattle.std.specs.Str.{bytes_eq};
+ghost use Rattle.hz_tables_model.specs.Machines as machines;
+ghost use Rattle.hz_tables.specs.Machines.{machine_of};
+ghost use Rattle.hz_tables.specs.Parts.{part_of};
+ghost use Rattle.hz_tabtext_model.specs.Texts.{TableText};
+ghost use Rattle.hz_tabtext_model.specs.Lines.{header_in};
+ghost use Rattle.hz_tabtext_model.specs.Reading as model;
+ghost use Rattle.hz_tabfile.specs.Given.{Gives, rest_at};
+ghost use Rattle.hz_tabfile.specs.Rests.{left_of};
+
+use super::cutting::{cut, is_word};
+use super::fault::TabFault;
+use super::rest::Rest;
+use super::text::{names_at, parts_at};
+use super::told::{automata_at, classes_at, end_at, treatment_at};
+use hz_regexp::Name;
+use hz_tables::{Machine, Part};
+use std::alloc::Global;
+
+/// Whether a line is the header.
+fn is_header(line: &[u8]) -> bool
+    ensures same { result ≡ bytes_eq line.now (codes "hazard-tables 1") }
+    ensures some { OnTrue result (0 < length line.now) }
+{
+    is_word(line, b"hazard-tables 1")
+}
+
+/// What is left of a text behind its header.
+#[tactic(auto, using(crate::proofs::Pieces::nil_pieces), unfolding(hz_tabtext_model::specs::Lines::header_in))]
+fn behind_header(bytes: &[u8]) -> Result<Rest, TabFault>
+    requires { length bytes.now < 2 ^ 32 }
+    ensures { Gives (λ after. (tt, left_of after)) result (model.line_by header_in (rest_at 1 bytes.now)) }
+{
+    let (line, others) = cut(bytes, b'\n');
+    let Some(bytes) = others else {
+        return Err(TabFault::Truncated { line: 1 });
+    };
+    if !is_header(line) {
+        return Err(TabFault::BadHeader { line: 1 });
+    }
+    Ok(Rest { bytes, number: 2 })
+}
+
+/// The classes and the automata of a text behind its header.
+#[tactic(auto, unfolding(hz_tabtext_model::specs::Reading::machine_at))]
+fn parts_behind(alloc: Global, rest: Rest) -> Result<(Vec<Name>, Vec<Part>), TabFault>
+    ensures { Gives (λ x. record { classes = x.0.items; parts = map part_of x.1.items }) result (model.machine_at (left_of rest.entry)) }
+{
+    let (_ndfa, rest) = treatment_at(rest)?;
+    let (count, rest) = classes_at(rest)?;
+    let (classes, rest) = names_at(alloc, rest, count)?;
+    let (automata, rest) = automata_at(rest)?;
+    let (parts, rest) = parts_at(alloc, rest, count, automata)?;
+    let rest = end_at(rest)?;
+    if !rest.is_over() {
+        return Err(TabFault::Trailing { line: rest.number });
+    }
+    Ok((classes, parts))
+}
+
+/// The machine of a text behind its header.
+fn machine_behind(alloc: Global, rest: Rest) -> Result<Machine, TabFault>
+    ensures { Gives machine_of result (model.machine_at (left_of rest.entry)) }
+{
+    let (classes, parts) = parts_behind(alloc, rest)?;
+    Ok(Machine { classes, parts })
+}
+
+/// The machine of a whole text.
+#[tactic(auto, unfolding(hz_tabtext_model::specs::Reading::tables_in))]
+fn whole(alloc: Global, bytes: &[u8]) -> Result<Machine, TabFault>
+    requires { length bytes.now < 2 ^ 32 }
+    ensures { Gives machine_of result (model.tables_in bytes.now) }
+{
+    let rest = behind_header(bytes)?;
+    let machine = machine_behind(alloc, rest)?;
+    Ok(machine)
+}
+
+/// The machine that a text stands for, or the first fault of the text; which lines of counts, origins and grids it has
+/// makes no difference. Source: this profile, docs/FORMATS.md, 'Tables'.
+pub fn read_tables(alloc: Global, bytes: &[u8]) -> Result<Machine, TabFault>
+    requires { length bytes.now < 2 ^ 32 }
+    // What is read is what the text stands for.
+    ensures found { IfOk result (λ machine. TableText bytes.now (machine_of machine)) }
+    // What stands for a machine is read, unless memory runs out.
+    ensures only { (machine : machines.Machine) → TableText bytes.now machine → Gives machine_of result (Ok machine) }
+    // Which fault it is.
+    ensures exact { Gives machine_of result (model.tables_in bytes.now) }
+{
+    whole(alloc, bytes)
+}

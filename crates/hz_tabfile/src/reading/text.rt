@@ -1,0 +1,150 @@
+//! A text behind its header: classes, automata and their states.
+
+ghost use Rattle.std.specs.Prelude.{◌≡◌, ◌≤◌, [], map, IfOk};
+ghost use Rattle.hz_base_model.specs.Limits.{class_limit};
+ghost use Rattle.hz_tables_model.specs.StateLimits.{state_limit};
+ghost use Rattle.hz_tables.specs.Parts.{part_of};
+ghost use Rattle.hz_tabtext_model.specs.Reading as model;
+ghost use Rattle.hz_tabfile.specs.Given.{Gives};
+ghost use Rattle.hz_tabfile.specs.Rests.{left_of};
+ghost use Rattle.hz_tabfile.specs.Texts.{grids_read};
+
+use super::fault::TabFault;
+use super::rest::Rest;
+use super::told::{class_at, entries_at, grid_at, head_at, map_at, origin_at, stats_at};
+use hz_regexp::{Name, NoMemory};
+use hz_tables::{Part, Plain, Table};
+use indexmap::IndexSet;
+use std::alloc::Global;
+
+/// The counts of an automaton, where they come; they are dropped.
+#[tactic(auto, unfolding(hz_tabtext_model::specs::Reading::counts_at))]
+fn counts_at(rest: Rest) -> Result<Rest, TabFault>
+    ensures { Gives left_of result (model.counts_at (left_of rest.entry)) }
+{
+    if !rest.comes(b"stats") {
+        return Ok(rest);
+    }
+    let after = stats_at(rest)?;
+    Ok(after)
+}
+
+/// The grids of a state, as many as come; they are dropped.
+fn grids_at(rest: Rest) -> Result<Rest, TabFault>
+    ensures { Gives left_of result (grids_read (left_of rest.entry)) }
+{
+    let mut rest = rest;
+    while rest.comes(b"grid") {
+        rest = grid_at(rest)?;
+    }
+    Ok(rest)
+}
+
+/// What is told of a state, where it comes; it is dropped.
+#[tactic(auto, unfolding(hz_tabtext_model::specs::Reading::shown_at, crate::specs::Texts::grids_read))]
+fn shown_at(rest: Rest, columns: u32, states: u32) -> Result<Rest, TabFault>
+    ensures { Gives left_of result (model.shown_at columns states (left_of rest.entry)) }
+{
+    if !rest.comes(b"from") {
+        return Ok(rest);
+    }
+    let after = origin_at(rest, columns, states)?;
+    let after = grids_at(after)?;
+    Ok(after)
+}
+
+/// The entries of a state, in place of those in `entries`.
+#[tactic(auto, unfolding(hz_tabtext_model::specs::Reading::row_at))]
+fn row_at<'a>(
+    rest: Rest<'a>,
+    columns: u32,
+    states: u32,
+    entries: &mut Vec<Option<u32>>,
+) -> Result<Rest<'a>, TabFault>
+    requires { columns ≤ class_limit }
+    ensures { Gives (λ after. (entries.new.items, left_of after)) result (model.row_at columns states (left_of rest.entry)) }
+{
+    let after = entries_at(rest, columns, states, entries)?;
+    let after = shown_at(after, columns, states)?;
+    Ok(after)
+}
+
+/// The table of an automaton of so many columns and states.
+fn rows_at(alloc: Global, rest: Rest, columns: u32, states: u32) -> Result<(Plain, Rest), TabFault>
+    requires columns { columns ≤ class_limit }
+    requires states { states ≤ state_limit }
+    ensures rows { Gives (λ x. (x.0.rows, left_of x.1)) result (model.so_many states (model.row_at columns states) (left_of rest.entry)) }
+    ensures columns { IfOk result (λ x. x.0.columns ≡ columns) }
+{
+    let mut plain = Plain::new(alloc, columns);
+    let mut row = Vec::with_capacity(alloc, columns as usize + 1)?;
+    let mut rest = rest;
+    for _ in 0..states {
+        rest = row_at(rest, columns, states, &mut row)?;
+        plain.push_row(&row)?;
+    }
+    Ok((plain, rest))
+}
+
+/// An automaton beside so many classes.
+#[tactic(auto, unfolding(hz_tabtext_model::specs::Reading::part_at))]
+fn part_at(alloc: Global, rest: Rest, classes: u32) -> Result<(Part, Rest), TabFault>
+    requires { classes ≤ class_limit }
+    ensures { Gives (λ x. (part_of x.0, left_of x.1)) result (model.part_at classes (left_of rest.entry)) }
+{
+    let (head, rest) = head_at(alloc, rest, classes)?;
+    let (map, rest) = map_at(alloc, rest, classes, head.columns)?;
+    let rest = counts_at(rest)?;
+    let (plain, rest) = rows_at(alloc, rest, head.columns, head.states)?;
+    let part = Part {
+        name: head.name,
+        map,
+        table: Table::Rows(plain),
+    };
+    Ok((part, rest))
+}
+
+/// So many automata beside so many classes.
+pub fn parts_at(
+    alloc: Global,
+    rest: Rest,
+    classes: u32,
+    automata: u32,
+) -> Result<(Vec<Part>, Rest), TabFault>
+    requires { classes ≤ class_limit }
+    ensures { Gives (λ x. (map part_of x.0.items, left_of x.1)) result (model.so_many automata (model.part_at classes) (left_of rest.entry)) }
+{
+    let mut parts = Vec::new(alloc);
+    let mut rest = rest;
+    for _ in 0..automata {
+        let (part, after) = part_at(alloc, rest, classes)?;
+        parts.push(part)?;
+        rest = after;
+    }
+    Ok((parts, rest))
+}
+
+/// The names of a set in their order.
+fn listed(alloc: Global, names: &IndexSet<Name>) -> Result<Vec<Name>, NoMemory>
+    ensures { IfOk result (λ list. list.items ≡ names.now.keys) }
+{
+    let names = names.as_slice();
+    let mut list = Vec::with_capacity(alloc, names.len())?;
+    for name in names {
+        list.push(name.copy()?)?;
+    }
+    Ok(list)
+}
+
+/// The names of so many classes.
+pub fn names_at(alloc: Global, rest: Rest, count: u32) -> Result<(Vec<Name>, Rest), TabFault>
+    ensures { Gives (λ x. (x.0.items, left_of x.1)) result (model.classes_at count [] (left_of rest.entry)) }
+{
+    let mut names = IndexSet::new(alloc);
+    let mut rest = rest;
+    for _ in 0..count {
+        rest = class_at(alloc, rest, &mut names)?;
+    }
+    let names = listed(alloc, &names)?;
+    Ok((names, rest))
+}
