@@ -5,3 +5,10 @@ pub mod Told
 pub mod Many
 pub mod Shapes
 pub mod Whole
+pub mod Adding
+pub mod LineTexts
+pub mod GridTexts
+pub mod PartTexts
+pub mod PartsThere
+pub mod Ranges
+pub mod Sayable

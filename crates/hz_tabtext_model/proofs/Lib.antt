@@ -6,3 +6,5 @@ pub mod LineAgain
 pub mod TextTakes
 pub mod TextAgain
 pub mod MachineLaws
+pub mod SaidLaws
+pub mod CompiledSaid

@@ -3,3 +3,4 @@ pub mod Judging
 pub mod Fields
 pub mod Lines
 pub mod Reading
+pub mod Said

@@ -1,0 +1,34 @@
+#!/bin/sh
+# Times the writing of tables texts to the standard output, without compiling: of calendars of a unit, by 1, 4 and 16
+# automata. The least of five runs each, with the greatest memory, the tables' among it.
+. "$(dirname "$0")/../common.sh"
+
+# The program has proofs, which are those of the tests of the crate.
+top=$(pwd)
+rt() {
+    for proof in checked_of; do
+        mkdir -p "proofs/$proof"
+        for file in "$top/crates/hz_tabfile/proofs/writing/tests/$proof"/*.antt; do
+            sed 's/hz_tabfile\.proofs\.writing\.tests\./writing.proofs./' "$file" > "proofs/$proof/$(basename "$file")"
+        done
+    done
+    mkdir -p proofs/main
+    cp "$top/bench/tables/writing.antt.in" proofs/main/Answers.antt
+    command rt "$@"
+}
+
+crates=$(sed -n 's/^\(hz_[a-z_]*\):.*/\1/p' crates.txt | grep -v '^hz\(_rows\|_tool\|_answer_model\)*$')
+build_program writing bench/tables/writing.rt.in \
+    'hz_base_model hz_sexp_model hz_mdread_model hz_check_model hz_auto_model hz_tables_model hz_tabtext_model hz_io hz_sexp hz_mdread hz_check hz_auto hz_tabfile' '1 4 1' $crates
+writing=$room/crates/writing/out/writing
+
+echo "automata classes rounds bytes ms MB_per_s peak_kB"
+for shape in '1 16 16' '4 16 8' '16 15 8'; do
+    set -- $shape
+    bytes=$("$writing" $1 $2 1 | wc -c)
+    made=$(least "$writing" $1 $2 0)
+    whole=$(least "$writing" $1 $2 $3)
+    time=$((whole - made))
+    peak=$(/usr/bin/time -f %M "$writing" $1 $2 $3 2>&1 > /dev/null | tail -n 1)
+    echo "$1 $2 $3 $((bytes * $3)) $((time / 1000000)) $(rate $((bytes * $3)) "$time") $peak"
+done

@@ -1,0 +1,10 @@
+use Rattle.std.proofs.Common.{ℕ, List, Bool, Option, [], ◌∷◌, ◌++◌, codes, decimal, sym, ap, subst, ◌∙◌, refl}
+use Rattle.std.specs.List.{flat_map}
+use Rattle.hz_tabfile.specs.Pages.{Adds}
+use Rattle.hz_tabfile.proofs.LineTexts.{line_one, line_two, line_three}
+use Rattle.hz_tabfile.proofs.writing.lines.add_head.Goals as goal
+
+pub returns : goal.returns
+returns g c =
+    subst (λ (text : List ℕ). Adds g.S.Sink.written g.S.Sink.room g.S.Sink.faults c.args.out.now c.add_all.new.out c.args.page.now.items c.add_all.new.page.items text c.add_all.result)
+    (line_three (codes "automaton") c.bytes.result.now c.as_bytes.result.now c.as_bytes-2.result.now c.args.name.now (decimal c.args.columns) (decimal c.args.states) c.bytes.ensures.value (c.as_bytes.ensures.value ∙ c.format.ensures.text) (c.as_bytes-2.ensures.value ∙ c.format-2.ensures.text)) c.add_all.ensures

@@ -1,0 +1,11 @@
+use Rattle.std.proofs.Common.{◌<◌, ◌≤◌, ◌^◌, take, length}
+use Rattle.std.specs.Prelude.{All, IsTrue}
+use Rattle.std.specs.Option.{ForSome}
+use Rattle.hz_auto.specs.declared.report.AutoReport.{AutoReport}
+use Rattle.hz_auto.specs.Reports.{report_of}
+use Rattle.hz_tabtext_model.specs.Texts.{AreCounts}
+use Rattle.hz_tabtext_model.specs.Said.{counts_said}
+use Rattle.hz_tabfile.proofs.writing.ranges.are_counted.Given as goal
+
+abbrev pub invariant-loop-report : goal.invariant-loop-report
+invariant-loop-report l = All (λ report. AreCounts (counts_said (report_of report))) (take l.report-index l.reports)

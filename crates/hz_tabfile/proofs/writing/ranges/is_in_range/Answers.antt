@@ -1,0 +1,35 @@
+use Rattle.std.proofs.Common.{◌<◌, ◌≤◌, ℕ, List, length, map, subst}
+use Rattle.std.specs.Prelude.{All, IsTrue}
+use Rattle.std.specs.Option.{ForSome}
+use Rattle.hz_base_model.specs.Limits.{cycle_limit}
+use Rattle.hz_base_model.specs.Names.{is_name}
+use Rattle.hz_base_model.specs.Pairs.{Pair}
+use Rattle.hz_check.specs.declared.checked.CheckedAutomaton.{CheckedAutomaton}
+use Rattle.hz_check.specs.Shape.{automaton_of}
+use Rattle.hz_check_model.specs.CheckedParts.{AutomatonParts}
+use Rattle.hz_tables.specs.declared.part.Part.{Part}
+use Rattle.hz_tables.specs.Parts.{rows_of, part_of}
+use Rattle.hz_tables_model.specs.Machines as machines
+use Rattle.hz_tables_model.specs.StateLimits.{state_limit}
+use Rattle.hz_auto.specs.declared.report.AutoReport.{AutoReport}
+use Rattle.hz_auto.specs.Reports.{report_of}
+use Rattle.hz_auto_model.specs.Compiled.{Report}
+use Rattle.hz_tabtext_model.specs.Texts.{AreCounts}
+use Rattle.hz_tabtext_model.specs.Said.{counts_said}
+use Rattle.hz_tabfile.proofs.Ranges.{all_made, shown_again}
+use Rattle.hz_tabfile.proofs.writing.ranges.is_in_range.Goals as goal
+
+pub returns : goal.returns
+returns c =
+    let parts = c.args.compiled.now.machine.parts.items in
+    let automata = c.args.checked.now.automata.items in
+    let reports = c.args.compiled.now.reports.items in
+    record {
+      classes = subst (λ (names : List (List ℕ)). All (λ (name : List ℕ). IsTrue (is_name name)) names) c.deref.ensures.value c.are_names.ensures;
+      parts = all_made (λ (part : machines.Part). IsTrue (is_name part.name)) part_of parts (subst (λ (ps : List Part). All (λ (part : Part). IsTrue (is_name part.name)) ps) c.deref-2.ensures.value c.are_named.ensures);
+      rows = all_made (λ (part : machines.Part). length part.rows ≤ state_limit) part_of parts (subst (λ (ps : List Part). All (λ (part : Part). length (rows_of part.table) ≤ state_limit) ps) c.deref-3.ensures.value c.are_tables.ensures);
+      units = all_made (λ (a : AutomatonParts). All (λ (name : List ℕ). IsTrue (is_name name)) a.units) automaton_of automata (subst (λ (xs : List CheckedAutomaton). All (λ (a : CheckedAutomaton). All (λ (name : List ℕ). IsTrue (is_name name)) a.units.items) xs) c.deref-4.ensures.value c.are_units.ensures);
+      counts = all_made (λ (r : Report). AreCounts (counts_said r)) report_of reports (subst (λ (rs : List AutoReport). All (λ (r : AutoReport). AreCounts (counts_said (report_of r))) rs) c.deref-5.ensures.value c.are_counted.ensures);
+      cycles = all_made (λ (r : Report). ForSome r.shown (λ shown. All (All (All (λ (pair : Pair ℕ). pair.cycle < cycle_limit))) shown.states)) report_of reports
+          (λ i d low. shown_again (All (All (λ (pair : Pair ℕ). pair.cycle < cycle_limit))) _ (subst (λ (rs : List AutoReport). All (λ (r : AutoReport). ForSome r.shown (λ shown. All (λ grids. All (All (λ (pair : Pair ℕ). pair.cycle < cycle_limit)) grids.items) shown.grids.items)) rs) c.deref-6.ensures.value c.are_shown.ensures i d low));
+    }

@@ -1,0 +1,45 @@
+//! Writing the tables text.
+
+ghost use Rattle.std.specs.Prelude.{◌-◌, ◌^◌, ◌<◌};
+ghost use Rattle.hz_io.specs.Sink.{Writes};
+ghost use Rattle.hz_tabtext_model.specs.Texts.{TableText, spelled};
+ghost use Rattle.hz_tables.specs.Machines.{machine_of};
+ghost use Rattle.hz_tabfile.specs.Saying.{IsSayable, says};
+
+pub mod laws;
+mod lines;
+mod page;
+mod parts;
+mod ranges;
+mod rows;
+mod shown;
+#[cfg(test)]
+mod tests;
+
+use hz_auto::Compiled;
+use hz_check::Checked;
+use hz_io::{Failed, Sink};
+use page::{Page, flush};
+use parts::add_tables;
+use ranges::is_in_range;
+
+/// Writes the text of a compiled machine: its classes and its automata, with the counts of each before minimisation under
+/// `stats`, and what each state is beside both `v` and `no-minimization`. It takes no memory. Where the sink fails, a front
+/// of the text was written. docs/FORMATS.md, 'Tables'.
+pub fn write_tables<S: Sink>(
+    compiled: &Compiled,
+    checked: &Checked,
+    out: &mut S,
+) -> Result<(), Failed>
+    requires faults { S.faults out.old < 2 ^ 64 - 1 }
+    requires sayable { IsSayable compiled.now checked.now }
+    ensures written { Writes S.written S.room S.faults out.old out.new (spelled (says compiled.now checked.now)) result }
+    ensures stands { TableText (spelled (says compiled.now checked.now)) (machine_of compiled.now.machine) }
+{
+    is_in_range(compiled, checked);
+    let mut page = Page::new();
+    match add_tables(out, &mut page, compiled, checked) {
+        Ok(()) => flush(out, &mut page),
+        Err(failed) => Err(failed),
+    }
+}

@@ -1,0 +1,152 @@
+//! Lines of numbers and names.
+
+ghost use Rattle.std.specs.Prelude.{◌-◌, ◌^◌, ◌<◌, [], ◌∷◌, if◌then◌else◌, decimal, codes};
+ghost use Rattle.std.specs.List.{flat_map};
+ghost use Rattle.hz_tabtext_model.specs.Texts.{entry_field, line_text, map_line, counts_lines, class_line};
+ghost use Rattle.hz_tabtext_model.specs.Said.{counts_said};
+ghost use Rattle.hz_auto.specs.Reports.{report_of};
+ghost use Rattle.hz_tabfile.specs.Pages.{Adds, spaced};
+
+use crate::writing::page::{Page, add, add_all, end_line};
+use hz_auto::AutoReport;
+use hz_io::{Failed, Sink};
+use hz_regexp::Name;
+use itoa::Buffer;
+
+/// Adds a number behind a space.
+pub fn add_number<S: Sink>(out: &mut S, page: &mut Page, number: u32) -> Result<(), Failed>
+    requires { S.faults out.old < 2 ^ 64 - 1 }
+    ensures { Adds S.written S.room S.faults out.old out.new page.old.items page.new.items (spaced (decimal number)) result }
+{
+    let mut digits = Buffer::new();
+    add_all(out, page, &[b" ", digits.format(number).as_bytes()])
+}
+
+/// Adds an entry behind a space.
+pub fn add_entry<S: Sink>(out: &mut S, page: &mut Page, entry: Option<u32>) -> Result<(), Failed>
+    requires { S.faults out.old < 2 ^ 64 - 1 }
+    ensures { Adds S.written S.room S.faults out.old out.new page.old.items page.new.items (spaced (entry_field entry)) result }
+{
+    match entry {
+        Some(state) => add_number(out, page, state),
+        None => add(out, page, b" -"),
+    }
+}
+
+/// Adds numbers, each behind a space.
+fn add_numbers<S: Sink>(out: &mut S, page: &mut Page, numbers: &[u32]) -> Result<(), Failed>
+    requires { S.faults out.old < 2 ^ 64 - 1 }
+    ensures { Adds S.written S.room S.faults out.old out.new page.old.items page.new.items (flat_map (λ number. spaced (decimal number)) numbers.now) result }
+{
+    for number in numbers {
+        match add_number(out, page, *number) {
+            Ok(()) => {}
+            Err(failed) => return Err(failed),
+        }
+    }
+    Ok(())
+}
+
+/// Adds the line of a class.
+pub fn add_class<S: Sink>(out: &mut S, page: &mut Page, class: &Name) -> Result<(), Failed>
+    requires { S.faults out.old < 2 ^ 64 - 1 }
+    ensures { Adds S.written S.room S.faults out.old out.new page.old.items page.new.items (line_text (class_line class.now)) result }
+{
+    add_all(out, page, &[b"class ", class.bytes(), b"\n"])
+}
+
+/// Adds the line of a word and a number.
+pub fn add_count<S: Sink>(
+    out: &mut S,
+    page: &mut Page,
+    word: &[u8],
+    count: u32,
+) -> Result<(), Failed>
+    requires { S.faults out.old < 2 ^ 64 - 1 }
+    ensures { Adds S.written S.room S.faults out.old out.new page.old.items page.new.items (line_text (word.now ∷ decimal count ∷ [])) result }
+{
+    let mut digits = Buffer::new();
+    add_all(
+        out,
+        page,
+        &[word, b" ", digits.format(count).as_bytes(), b"\n"],
+    )
+}
+
+/// Adds the first line of an automaton.
+pub fn add_head<S: Sink>(
+    out: &mut S,
+    page: &mut Page,
+    name: &Name,
+    columns: u32,
+    states: u32,
+) -> Result<(), Failed>
+    requires { S.faults out.old < 2 ^ 64 - 1 }
+    ensures { Adds S.written S.room S.faults out.old out.new page.old.items page.new.items (line_text (codes "automaton" ∷ name.now ∷ decimal columns ∷ decimal states ∷ [])) result }
+{
+    let mut column_digits = Buffer::new();
+    let mut state_digits = Buffer::new();
+    add_all(
+        out,
+        page,
+        &[
+            b"automaton ",
+            name.bytes(),
+            b" ",
+            column_digits.format(columns).as_bytes(),
+            b" ",
+            state_digits.format(states).as_bytes(),
+            b"\n",
+        ],
+    )
+}
+
+/// Adds the line of the columns of classes.
+pub fn add_map<S: Sink>(out: &mut S, page: &mut Page, columns: &[u32]) -> Result<(), Failed>
+    requires { S.faults out.old < 2 ^ 64 - 1 }
+    ensures { Adds S.written S.room S.faults out.old out.new page.old.items page.new.items (line_text (map_line columns.now)) result }
+{
+    add(out, page, b"map")?;
+    add_numbers(out, page, columns)?;
+    end_line(out, page)
+}
+
+/// Adds the line of counts.
+fn add_stats<S: Sink>(out: &mut S, page: &mut Page, report: &AutoReport) -> Result<(), Failed>
+    requires { S.faults out.old < 2 ^ 64 - 1 }
+    ensures { Adds S.written S.room S.faults out.old out.new page.old.items page.new.items (line_text (codes "stats" ∷ decimal report.now.grids ∷ decimal report.now.states ∷ decimal report.now.members ∷ [])) result }
+{
+    let mut grid_digits = Buffer::new();
+    let mut state_digits = Buffer::new();
+    let mut member_digits = Buffer::new();
+    add_all(
+        out,
+        page,
+        &[
+            b"stats ",
+            grid_digits.format(report.grids).as_bytes(),
+            b" ",
+            state_digits.format(report.states).as_bytes(),
+            b" ",
+            member_digits.format(report.members).as_bytes(),
+            b"\n",
+        ],
+    )
+}
+
+/// Adds the line of counts, where they are told.
+pub fn add_counts<S: Sink>(
+    out: &mut S,
+    page: &mut Page,
+    told: bool,
+    report: &AutoReport,
+) -> Result<(), Failed>
+    requires { S.faults out.old < 2 ^ 64 - 1 }
+    ensures { Adds S.written S.room S.faults out.old out.new page.old.items page.new.items (flat_map line_text (counts_lines (if told then Some (counts_said (report_of report.now)) else None))) result }
+{
+    if told {
+        add_stats(out, page, report)
+    } else {
+        Ok(())
+    }
+}
