@@ -12,8 +12,8 @@ rt() {
             sed 's/hz_tabfile\.proofs\.writing\.tests\./writing.proofs./' "$file" > "proofs/$proof/$(basename "$file")"
         done
     done
-    mkdir -p proofs/main
-    cp "$top/bench/tables/writing.antt.in" proofs/main/Answers.antt
+    mkdir -p proofs/compiled
+    cp "$top/bench/tables/writing.antt.in" proofs/compiled/Answers.antt
     command rt "$@"
 }
 
