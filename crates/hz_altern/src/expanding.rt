@@ -242,9 +242,9 @@ fn listing_together(alloc: Global, parts: &[Expr], known: &Known) -> Result<List
 }
 
 /// The alternatives of a well-formed expression in their order, where each name in it is known. Choices are ordered with
-/// the leftmost part most significant, and equal alternatives stand each time. They are counted before they are made: the
-/// first limit that they pass is told, of number, cycles and size, else `NoMemory` where there was none. This profile,
-/// docs/RULES.md, 'Expressions' and 'Limits'.
+/// the leftmost part most significant, and equal alternatives stand each time. Number and cycles are counted before an
+/// alternative is made, the size while they are: the first limit that they pass is told, of number, cycles and size.
+/// `NoMemory` stands in place of any answer where there was none. This profile, docs/RULES.md, 'Expressions' and 'Limits'.
 pub fn expand(alloc: Global, expr: &Expr, known: &Known) -> Result<Vec<Alt>, AlternFault>
     requires formed { IsTrue (is_expression (expression expr.now)) }
     requires known { IsTrue (all_names (is_held (alternatives_in known.now)) (expression expr.now)) }
