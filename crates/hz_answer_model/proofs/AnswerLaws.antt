@@ -29,7 +29,7 @@ use Rattle.hz_acceptance_model.specs.Replay.{Pipeline, Class}
 use Rattle.hz_acceptance_model.specs.Events.{Event, issue}
 use Rattle.hz_answer_model.specs.Texts.{file_line, limit_line, fault_line, states_line, usage_line, refused_line, slot_line, scheduled_line}
 use Rattle.hz_sexp_model.specs.Trees.{Trees}
-use Rattle.hz_answer_model.specs.Words.{Order, replay, schedule, eval, order_of}
+use Rattle.hz_words_model.specs.Words.{Order, replay, schedule, eval, order_of}
 use Rattle.hz_answer_model.specs.Phases.{Held, Says, Next, Opens, HasForms}
 use Rattle.hz_answer_model.specs.BlockAnswers.{block_limit, state_text_limit, IsBlock, IsState, Evaluates, JudgesBlock}
 use Rattle.hz_answer_model.specs.FaultTexts.{rtl_word}

@@ -32,7 +32,7 @@ use Rattle.hz_trace_model.specs.Traces.{Trace, TraceFault, TraceFaultAt, event_l
 use Rattle.hz_trace_model.proofs.TraceLaws.{trace_of_every_text, counted_lines}
 use Rattle.hz_answer_model.specs.Texts.{file_line, limit_line, fault_line, usage_line, refused_line, accepted_line, states_line}
 use Rattle.hz_sexp_model.specs.Trees.{Trees}
-use Rattle.hz_answer_model.specs.Words.{Order, replay, schedule, eval, order_of}
+use Rattle.hz_words_model.specs.Words.{Order, replay, schedule, eval, order_of}
 use Rattle.hz_answer_model.specs.Phases.{Held, Says, Next, Opens, HasForms}
 use Rattle.hz_answer_model.specs.BlockAnswers.{block_limit, state_text_limit, IsBlock, IsState, Evaluates, JudgesBlock}
 use Rattle.hz_answer_model.specs.FaultTexts.{rtl_word}

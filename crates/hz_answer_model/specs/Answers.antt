@@ -18,7 +18,7 @@ use Rattle.hz_base_model.specs.Lines.{lines_of}
 use Rattle.hz_trace_model.specs.Traces.{Trace, TraceFault, TraceFaultAt, event_lines}
 use Rattle.hz_answer_model.specs.Texts.{usage_line, fault_line, states_line, accepted_line, refused_line}
 use Rattle.hz_sexp_model.specs.Trees.{Trees}
-use Rattle.hz_answer_model.specs.Words.{Order, replay, schedule, eval, order_of}
+use Rattle.hz_words_model.specs.Words.{Order, replay, schedule, eval, order_of}
 use Rattle.hz_answer_model.specs.Phases.{Held, Says, Next, Opens, HasForms}
 use Rattle.hz_answer_model.specs.BlockAnswers.{block_limit, state_text_limit, JudgesBlock}
 use Rattle.hz_answer_model.specs.ScheduleAnswers.{SchedulesBlock}

@@ -5,7 +5,7 @@ use Rattle.hz_answer_model.specs.BlockAnswers.{block_limit, state_text_limit, Ju
 use Rattle.hz_answer_model.specs.Phases.{Held, Next, Opens, Says}
 use Rattle.hz_base_model.specs.Limits.{description_limit, trace_limit}
 use Rattle.hz_answer_model.specs.Texts.{file_line, limit_line, usage_line}
-use Rattle.hz_answer_model.specs.Words.{Order, schedule, order_of}
+use Rattle.hz_words_model.specs.Words.{Order, schedule, order_of}
 use Rattle.hz_tool.specs.Decisions.{Agrees, CountsReport, NamesFile, IsFileWord}
 use Rattle.hz_tool.specs.Endings.{IsAppended, AppendsSchedule, SaysFile, Completes, MayWrite}
 use Rattle.hz_report.specs.Reports.{text_of, status_of}

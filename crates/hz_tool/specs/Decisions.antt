@@ -13,7 +13,7 @@ use Rattle.hz_mdread_model.specs.DescriptionForms as description_forms
 use Rattle.hz_mdread_model.specs.Descriptions.{Description}
 use Rattle.hz_sexp_model.specs.Forms as forms
 use Rattle.hz_sexp_model.specs.Trees.{Trees}
-use Rattle.hz_answer_model.specs.Words.{Order, replay, schedule, eval, order_of}
+use Rattle.hz_words_model.specs.Words.{Order, replay, schedule, eval, order_of}
 use Rattle.hz_report.specs.Kinds.{form_fault, description_fault, expression_fault, named_fault, rtl_fault, trace_fault}
 use Rattle.hz_rtltext_model.specs.Operands.{RtlFault}
 use Rattle.hz_trace_model.specs.Traces.{TraceFaultAt}

@@ -3,4 +3,3 @@ pub mod Decisions
 pub mod Endings
 pub mod Fronts
 pub mod Machines
-pub mod Words

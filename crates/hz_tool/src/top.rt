@@ -4,7 +4,7 @@ ghost use Rattle.std.specs.Prelude.{◌≡◌, ◌⊎◌, ◌↔◌, ℕ, List, 
 ghost use Rattle.std.specs.Option.{ForSome};
 ghost use Rattle.hz_answer_model.specs.Answers.{Answer, AnswersReplay, AnswersSchedule, AnswersEval, AnswersOrder};
 ghost use Rattle.hz_answer_model.specs.Texts.{usage_line, memory_line};
-ghost use Rattle.hz_answer_model.specs.Words as model;
+ghost use Rattle.hz_words_model.specs.Words as model;
 ghost use Rattle.hz_report.specs.Reports.{IsTellable};
 ghost use Rattle.hz_tool.specs.Decisions.{Agrees, CountsReport, NamesFile, IsOfOrder, IsFileOf, IsFileWord, ReportsWords};
 ghost use Rattle.hz_tool.specs.Endings.{IsAppended, AppendsFile, AppendsSchedule, Completes, IsCutShort};

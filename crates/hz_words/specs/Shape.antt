@@ -1,16 +1,18 @@
 use Rattle.std.specs.Prelude.{ℕ, List, map, String}
 use Rattle.std.specs.String.{string_bytes}
 use Rattle.std.specs.declared.alloc.Global.{Global}
-use Rattle.hz_answer_model.specs.Words as model
-use Rattle.hz_tool.specs.declared.words.Order.{Order}
-use Rattle.hz_tool.specs.declared.words.Order.TheVariants.{Replay, Schedule, Eval}
+use Rattle.hz_words_model.specs.Words as model
+use Rattle.hz_words.specs.declared.order.Order.{Order}
+use Rattle.hz_words.specs.declared.order.Order.TheVariants.{Compile, Replay, Walk, Schedule, Eval}
 
 -- the bytes of words
 abbrev pub words_in : List (String Global) → List (List ℕ)
 words_in words = map string_bytes words
 
--- an order of the program as one of the model
+-- an order of the program as one of the definitions
 abbrev pub order_in : Order → model.Order
+order_in (Compile order) = model.compile order.description.now
 order_in (Replay order) = model.replay order.description.now order.trace.now
+order_in (Walk order) = model.walk order.tables.now order.trace.now
 order_in (Schedule order) = model.schedule order.description.now order.block.now
 order_in (Eval order) = model.eval order.block.now order.state.now

@@ -1,0 +1,8 @@
+//! The words of the command line, read with `clap`.
+#![tactic(auto)]
+
+mod order;
+mod reading;
+
+pub use order::{CompileOrder, EvalOrder, Order, ReplayOrder, ScheduleOrder, WalkOrder};
+pub use reading::order_of;

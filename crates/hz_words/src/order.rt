@@ -1,0 +1,45 @@
+//! What the words ask for.
+
+/// `compile DESC`: the name of the file.
+#[derive(Clone, Copy, Debug)]
+pub struct CompileOrder<'a> {
+    pub description: &'a str,
+}
+
+/// `replay DESC TRACE`: the names of the two files.
+#[derive(Clone, Copy, Debug)]
+pub struct ReplayOrder<'a> {
+    pub description: &'a str,
+    pub trace: &'a str,
+}
+
+/// `walk TABLES TRACE`: the names of the two files.
+#[derive(Clone, Copy, Debug)]
+pub struct WalkOrder<'a> {
+    pub tables: &'a str,
+    pub trace: &'a str,
+}
+
+/// `schedule DESC BLOCK`: the names of the two files.
+#[derive(Clone, Copy, Debug)]
+pub struct ScheduleOrder<'a> {
+    pub description: &'a str,
+    pub block: &'a str,
+}
+
+/// `eval BLOCK STATE`: the names of the two files.
+#[derive(Clone, Copy, Debug)]
+pub struct EvalOrder<'a> {
+    pub block: &'a str,
+    pub state: &'a str,
+}
+
+/// A command with the names of its files.
+#[derive(Clone, Copy, Debug)]
+pub enum Order<'a> {
+    Compile(CompileOrder<'a>),
+    Replay(ReplayOrder<'a>),
+    Walk(WalkOrder<'a>),
+    Schedule(ScheduleOrder<'a>),
+    Eval(EvalOrder<'a>),
+}
