@@ -6,12 +6,12 @@ use Rattle.hz_sexp_model.proofs.FormsLaws.{one_reading, one_fault, forms_or_faul
 use Rattle.hz_mdread_model.proofs.DescriptionLaws.{one_description, one_fault_of_descriptions, description_or_fault}
 use Rattle.hz_check_model.proofs.CheckLaws.{fault_one, fault_or_sound, sound_one}
 use Rattle.hz_acceptance_model.proofs.AcceptanceLaws.{one_refused, accepted_or_refused}
-use Rattle.hz_answer_model.specs.Answers.{Describes, Checks, HasDescription, Compiles, Traces, Replays, ReplaysTrace, ReplaysDescription, Judges, SchedulesByDescription, IsIssueOf, AnswersOrder, Answer}
+use Rattle.hz_answer_model.specs.Answers.{Describes, Checks, HasDescription, Compiles, CompilesDescription, Replays, ReplaysTrace, ReplaysDescription, Judges, SchedulesByDescription, IsIssueOf, AnswersOrder, Answer}
 use Rattle.hz_check_model.specs.CheckFaults.{CheckFault}
 use Rattle.hz_check_model.specs.Places.{Known, class_names}
 use Rattle.hz_mdread_model.specs.DescriptionForms.{DescriptionFault}
 use Rattle.hz_mdread_model.specs.Descriptions.{Description}
-use Rattle.hz_answer_model.specs.FaultTexts.{form_word, description_words, check_line, check_status, trace_word, class_line, stuck_line}
+use Rattle.hz_answer_model.specs.FaultTexts.{form_word, description_words, check_line, check_status, trace_word, tables_word, class_line, stuck_line}
 use Rattle.hz_sexp_model.specs.Forms.{FormFault}
 use Rattle.hz_base_model.specs.Limits.{description_limit, trace_limit}
 use Rattle.hz_base_model.specs.Lines.{lines_of}
@@ -29,8 +29,11 @@ use Rattle.hz_acceptance_model.specs.Replay.{Pipeline, Class}
 use Rattle.hz_acceptance_model.specs.Events.{Event, issue}
 use Rattle.hz_answer_model.specs.Texts.{file_line, limit_line, fault_line, states_line, usage_line, refused_line, slot_line, scheduled_line}
 use Rattle.hz_sexp_model.specs.Trees.{Trees}
-use Rattle.hz_words_model.specs.Words.{Order, replay, schedule, eval, order_of}
-use Rattle.hz_answer_model.specs.Phases.{Held, Says, Next, Opens, HasForms}
+use Rattle.hz_words_model.specs.Words.{Order, compile, replay, walk, schedule, eval, order_of}
+use Rattle.hz_answer_model.specs.Phases.{Held, Says, Next, Opens, HasForms, Traces}
+use Rattle.hz_answer_model.specs.TableAnswers.{tables_limit, WritesTablesOf, HasTables, IsFirstUnwalked, IsIssueIn, Walks, WalksTrace}
+use Rattle.hz_answer_model.proofs.TableLaws.{one_unwalked, walked_or_not, one_issue_in}
+use Rattle.hz_answer_model.proofs.OneText.{one_tables_text}
 use Rattle.hz_answer_model.specs.BlockAnswers.{block_limit, state_text_limit, IsBlock, IsState, Evaluates, JudgesBlock}
 use Rattle.hz_answer_model.specs.FaultTexts.{rtl_word}
 use Rattle.hz_answer_model.specs.ScheduleAnswers.{schedule_text, HasClasses, Schedules, SchedulesBlock}
@@ -44,6 +47,10 @@ use Rattle.hz_rtltext_model.specs.Operands.{RtlFault, Judged}
 use Rattle.hz_rtltext_model.specs.BlockForms as blocks
 use Rattle.hz_rtltext_model.specs.StateForms as states
 use Rattle.hz_rtltext_model.proofs.Listings.{same_text}
+use Rattle.hz_tables_model.specs.Machines.{Machine}
+use Rattle.hz_tabtext_model.specs.Judging.{Fault}
+use Rattle.hz_tabtext_model.proofs.TextAgain.{tables_again}
+use Rattle.hz_tabtext_model.proofs.Steps.{ok_is}
 use Rattle.std.specs.List.{range_with_len, flat_map}
 use Rattle.std.specs.Prelude.{Ok, Err, slice_index}
 
@@ -61,7 +68,7 @@ same_wrong wrong other judged h k = cc
 abbrev pub IsSingle : (ℕ → List ℕ → Type 0) → Type 0
 IsSingle answer = (s s' : ℕ) (t t' : List ℕ) → answer s t → answer s' t' → (s ≡ s') × (t ≡ t')
 
-says_single : (status : ℕ) (text : List ℕ) → IsSingle (Says status text)
+pub says_single : (status : ℕ) (text : List ℕ) → IsSingle (Says status text)
 says_single status text s s' t t' a b = (a.0 ∙ sym b.0, a.1 ∙ sym b.1)
 
 -- the same answer, said in two ways
@@ -100,7 +107,7 @@ traces_single classes name text next single s s' t t' (inr (fault, line, wrong, 
     says_same _ _ _ _ (ap (λ (n : ℕ). 2) same.1) (ap (λ (f : TraceFault). fault_line name line (trace_word f ∷ [])) same.0 ∙ ap (λ (n : ℕ). fault_line name n (trace_word other ∷ [])) same.1) s s' t t' a b
 
 -- the first automaton past its limits is one, and then not all keep them
-kept_or_past : (d : Description) (known : Known) (a : ℕ) → KeepsLimits d known a → (kind : Count) → PassesLimit d known a kind → ⊥
+pub kept_or_past : (d : Description) (known : Known) (a : ℕ) → KeepsLimits d known a → (kind : Count) → PassesLimit d known a kind → ⊥
 kept_or_past d known a kept kind past = within_or_past (class_lists d known a) (shows_states d.options) (restricted a (pipeline_with d known)) kind kept past
 
 first_past_one : (d : Description) (known : Known) (a b : ℕ) → IsFirstPastLimit d known a → IsFirstPastLimit d known b → a ≡ b
@@ -239,11 +246,49 @@ scheduled_single description described block blocked =
     block_single block read _ (λ insns.
     classes_single block d insns (Schedules block d known insns) (schedules_single block d known insns)))))
 
+-- Tables.
+
+walks_single : (m : Machine) (lines : List ℕ) (events : List Event) → IsSingle (Walks m lines events)
+walks_single m lines events s s' t t' (inl a) (inl b) = says_single _ _ s s' t t' a.1 b.1
+walks_single m lines events s s' t t' (inl a) (inr b) = absurd (walked_or_not m events b.0 a.0 b.3)
+walks_single m lines events s s' t t' (inr a) (inl b) = absurd (walked_or_not m events a.0 b.0 a.3)
+walks_single m lines events s s' t t' (inr (i, line, class, first, there, named, says)) (inr (j, line', class', first', there', named', says')) =
+    let place = one_unwalked m events i j first first' in
+    let number = same_Some line line' (sym there ∙ (ap (slice_get lines) place ∙ there')) in
+    let name = one_issue_in m (slice_get events i) class class' named (subst (λ (n : ℕ). IsIssueIn m (slice_get events n) class') (sym place) named') in
+    (says.0 ∙ sym says'.0, says.1 ∙ (ap (λ (n : ℕ). refused_line n class) number ∙ (ap (refused_line line') name ∙ sym says'.1)))
+
+tables_single : (name bytes : List ℕ) (next : Next Machine) → ((m : Machine) → IsSingle (next m)) → IsSingle (HasTables name bytes next)
+tables_single name bytes next single s s' t t' (inl (m, is, a)) (inl (other, also, b)) =
+    let same : m ≡ other = ok_is {E = Fault} m other (sym (tables_again bytes m is) ∙ tables_again bytes other also) in
+    single m s s' t t' a (subst (λ (x : Machine). next x s' t') (sym same) b)
+tables_single name bytes next single s s' t t' (inl (m, is, a)) (inr (fault, wrong, b)) = let read = tables_again bytes m is in absurd (cc)
+tables_single name bytes next single s s' t t' (inr (fault, wrong, a)) (inl (m, is, b)) = let read = tables_again bytes m is in absurd (cc)
+tables_single name bytes next single s s' t t' (inr (fault, wrong, a)) (inr (other, also, b)) =
+    let same : fault ≡ other = cc in
+    says_same 2 2 _ _ refl (ap (λ (f : Fault). fault_line name f.line (tables_word f.kind ∷ [])) same) s s' t t' a b
+
+walked_single : (tables tabled trace traced : List ℕ) → IsSingle (HasTables tables tabled (WalksTrace trace traced))
+walked_single tables tabled trace traced =
+    tables_single tables tabled (WalksTrace trace traced) (λ m.
+    traces_single m.classes trace traced (Walks m (event_lines m.classes 1 (lines_of traced))) (walks_single m (event_lines m.classes 1 (lines_of traced))))
+
+compiled_single : (d : Description) (known : Known) → IsSingle (WritesTablesOf d known)
+compiled_single d known s s' t t' (zero, is) (zero', also) = (zero ∙ sym zero', one_tables_text d known t t' is also)
+
 order_single : (held : Held) (order : Order) → IsSingle (AnswersOrder held order)
 order_single held (replay description trace) =
     opens_single (held description) description description_limit (λ described. Opens held trace trace_limit (λ traced. Judges description described trace traced))
     (λ described. opens_single (held trace) trace trace_limit (λ traced. Judges description described trace traced)
     (λ traced. texts_single description described trace traced))
+order_single held (compile description) =
+    opens_single (held description) description description_limit (λ described. HasDescription description described (CompilesDescription description))
+    (λ described. description_single description described (CompilesDescription description) (λ d known.
+    compiles_single description d known (WritesTablesOf d known) (compiled_single d known)))
+order_single held (walk tables trace) =
+    opens_single (held tables) tables tables_limit (λ tabled. Opens held trace trace_limit (λ traced. HasTables tables tabled (WalksTrace trace traced)))
+    (λ tabled. opens_single (held trace) trace trace_limit (λ traced. HasTables tables tabled (WalksTrace trace traced))
+    (λ traced. walked_single tables tabled trace traced))
 order_single held (schedule description block) =
     opens_single (held description) description description_limit (λ described. Opens held block block_limit (λ blocked. HasDescription description described (SchedulesByDescription description block blocked)))
     (λ described. opens_single (held block) block block_limit (λ blocked. HasDescription description described (SchedulesByDescription description block blocked))

@@ -12,28 +12,30 @@ use Rattle.hz_check_model.proofs.CheckTotal.{sound_or_fault}
 use Rattle.hz_acceptance_model.proofs.AcceptanceLaws.{refused_issue}
 use Rattle.hz_acceptance_model.proofs.PlayLaws.{accepted_or_first_refused}
 use Rattle.hz_acceptance_model.proofs.Rows.{same_unit, places_tell}
-use Rattle.hz_answer_model.specs.Answers.{Describes, Checks, HasDescription, Compiles, IsCountedText, IsCountedOrder, IsCounted, Replays, ReplaysTrace, ReplaysDescription, Judges, SchedulesByDescription, IsIssueOf, AnswersOrder, Answer}
+use Rattle.hz_answer_model.specs.Answers.{Describes, Checks, HasDescription, Compiles, CompilesDescription, IsCountedText, HasTablesText, IsCountedOrder, IsCounted, Replays, ReplaysTrace, ReplaysDescription, Judges, SchedulesByDescription, IsIssueOf, AnswersOrder, Answer}
 use Rattle.hz_check_model.specs.CheckFaults.{CheckFault, CheckFaultAt, IsSound}
 use Rattle.hz_check_model.specs.Places.{Known, class_names}
 use Rattle.hz_mdread_model.specs.DescriptionForms as description_forms
 use Rattle.hz_mdread_model.specs.DescriptionShape.{IsWellFormed, IsCheckable}
 use Rattle.hz_mdread_model.specs.Descriptions.{Description}
-use Rattle.hz_answer_model.specs.FaultTexts.{form_word, description_words, check_line, check_status, trace_word, class_line, stuck_line}
+use Rattle.hz_answer_model.specs.FaultTexts.{form_word, description_words, check_line, check_status, trace_word, tables_word, class_line, stuck_line}
 use Rattle.hz_base_model.specs.Limits.{description_limit, trace_limit}
 use Rattle.hz_base_model.specs.Lines.{lines_of}
 use Rattle.hz_sexp_model.specs.Forms as forms
 use Rattle.hz_check_model.specs.CheckedParts.{automaton_names, automaton_count}
 use Rattle.hz_pipeline_model.specs.Pipelines.{pipeline_with}
 use Rattle.hz_reach_model.specs.Counts.{Count}
-use Rattle.hz_auto_model.specs.DescriptionLimits.{KeepsLimits, PassesLimit, IsFirstPastLimit, AreCounted}
+use Rattle.hz_auto_model.specs.DescriptionLimits.{KeepsLimits, AllKeepLimits, PassesLimit, IsFirstPastLimit, AreCounted}
 use Rattle.hz_acceptance_model.specs.Replay.{FirstRefused}
 use Rattle.hz_acceptance_model.specs.Events.{Event, issue, cycles_of, issues_of, IsOfClass}
 use Rattle.hz_trace_model.specs.Traces.{Trace, TraceFault, TraceFaultAt, event_lines}
 use Rattle.hz_trace_model.proofs.TraceLaws.{trace_of_every_text, counted_lines}
 use Rattle.hz_answer_model.specs.Texts.{file_line, limit_line, fault_line, usage_line, refused_line, accepted_line, states_line}
 use Rattle.hz_sexp_model.specs.Trees.{Trees}
-use Rattle.hz_words_model.specs.Words.{Order, replay, schedule, eval, order_of}
-use Rattle.hz_answer_model.specs.Phases.{Held, Says, Next, Opens, HasForms}
+use Rattle.hz_words_model.specs.Words.{Order, compile, replay, walk, schedule, eval, order_of}
+use Rattle.hz_answer_model.specs.Phases.{Held, Says, Next, Opens, HasForms, Traces}
+use Rattle.hz_answer_model.specs.TableAnswers.{tables_limit, IsTablesOf, WritesTablesOf, HasTables, IsFirstUnwalked, IsIssueIn, Walks, WalksTrace}
+use Rattle.hz_answer_model.proofs.TableLaws.{walked_or_first, unwalked_issue}
 use Rattle.hz_answer_model.specs.BlockAnswers.{block_limit, state_text_limit, IsBlock, IsState, Evaluates, JudgesBlock}
 use Rattle.hz_answer_model.specs.FaultTexts.{rtl_word}
 use Rattle.hz_answer_model.specs.ScheduleAnswers.{schedule_text, HasClasses, Schedules, SchedulesBlock}
@@ -49,8 +51,13 @@ use Rattle.hz_rtl_model.specs.States.{State, Store, run, all_stored}
 use Rattle.hz_rtltext_model.specs.Operands.{Judged}
 use Rattle.hz_rtltext_model.specs.BlockForms as blocks
 use Rattle.hz_rtltext_model.specs.StateForms as states
+use Rattle.hz_tables_model.specs.Machines.{Machine, IsMachine, machine_walk}
+use Rattle.hz_tabtext_model.specs.Judging.{Fault}
+use Rattle.hz_tabtext_model.specs.Reading.{tables_in}
+use Rattle.hz_tabtext_model.proofs.MachineLaws.{text_machine}
+use Rattle.hz_tabtext_model.proofs.TextTakes.{tables_take}
 use Rattle.std.specs.List.{range_with_len}
-use Rattle.std.specs.Prelude.{Ok, Err, ⊤, slice_index_or}
+use Rattle.std.specs.Prelude.{Ok, Err, Result, IsSome, ⊤, slice_index_or}
 
 -- some status and text answer
 abbrev pub HasOne : (ℕ → List ℕ → Type 0) → Type 0
@@ -208,11 +215,67 @@ scheduled_one description described block blocked counted =
     block_one block read _ (λ insns.
     classes_one block d insns (Schedules block d known insns) (schedules_one block d known insns formed sound)))))
 
+-- Tables.
+
+walks_one : (m : Machine) → IsMachine m → (lines : List ℕ) (events : List Event) → length lines ≡ length events → All (IsOfClass (length m.classes)) events → HasOne (Walks m lines events)
+walks_one m is lines events each of_class = ⊎_elim
+    (λ (walked : IsSome (machine_walk m events)). wider (Says 0 (accepted_line (issues_of events) (cycles_of events))) _ (λ s t h. inl (walked, h)) (says_one 0 (accepted_line (issues_of events) (cycles_of events))))
+    (λ (found : (i : ℕ) × (i < length events) × IsFirstUnwalked m events i).
+    let i = found.0 in
+    let within = found.1.0 in
+    let issued = unwalked_issue m is events i within found.1.1 in
+    let at : get_or events i (issue 0) ≡ issue issued.0 = get_or_from_slice_get events i (issue issued.0) (issue 0) issued.1 in
+    let low : issued.0 < length m.classes = subst (IsOfClass (length m.classes)) at (All-get_or (IsOfClass (length m.classes)) events i (issue 0) within of_class) in
+    let class = get_or m.classes issued.0 [] in
+    let line = get_or lines i 0 in
+    let there = slice_get-get_or lines i 0 (omega (arith, within, each)) in
+    wider (Says 1 (refused_line line class)) _ (λ s t h. inr (i, line, class, found.1.1, there, (issued.0, issued.1, slice_get-get_or m.classes issued.0 [] low), h)) (says_one 1 (refused_line line class)))
+    (walked_or_first m events)
+
+machine_traces_one : (m : Machine) → IsMachine m → (name text : List ℕ) → HasOne (WalksTrace name text m)
+machine_traces_one m is name text = ⊎_elim
+    (λ (found : (events : List Event) × Trace m.classes text events).
+    wider (Walks m (event_lines m.classes 1 (lines_of text)) found.0) _ (λ s t h. inl (found.0, found.1, h))
+    (walks_one m is (event_lines m.classes 1 (lines_of text)) found.0 (counted_lines m.classes 1 (found.1).lines) (events_known (found.1).lines)))
+    (λ (wrong : (fault : TraceFault) × (line : ℕ) × TraceFaultAt m.classes text fault line).
+    wider (Says 2 (fault_line name wrong.1 (trace_word wrong.0 ∷ []))) _ (λ s t h. inr (wrong.0, wrong.1, wrong.2, h)) (says_one 2 (fault_line name wrong.1 (trace_word wrong.0 ∷ []))))
+    (trace_of_every_text m.classes text)
+
+walked_one : (tables tabled trace traced : List ℕ) → HasOne (HasTables tables tabled (WalksTrace trace traced))
+walked_one tables tabled trace traced = by_read (tables_in tabled) refl
+  where
+    by_read : (r : Result Machine Fault) → tables_in tabled ≡ r → HasOne (HasTables tables tabled (WalksTrace trace traced))
+    by_read (Ok m) is =
+        let stands = tables_take tabled m is in
+        wider (WalksTrace trace traced m) _ (λ s t h. inl (m, stands, h)) (machine_traces_one m (text_machine tabled m stands) trace traced)
+    by_read (Err fault) is = wider (Says 2 (fault_line tables fault.line (tables_word fault.kind ∷ []))) _ (λ s t h. inr (fault, is, h)) (says_one 2 (fault_line tables fault.line (tables_word fault.kind ∷ [])))
+
+compiled_one : (description described : List ℕ) → IsCountedText described → HasTablesText described → HasOne (HasDescription description described (CompilesDescription description))
+compiled_one description described counted tabled =
+    forms_one description described _ (λ read is.
+    describes_one description read _ (λ d says formed.
+    checks_one description d (CompilesDescription description d) formed (λ known sound. limited d known (counted read d known is says sound) (tabled read d known is says sound))))
+  where
+    limited : (d : Description) (known : Known) → AreCounted d known → (AllKeepLimits d known → (text : List ℕ) × IsTablesOf d known text) → HasOne (Compiles description d known (WritesTablesOf d known))
+    limited d known all some = ⊎_elim
+        (λ (kept : AllKeepLimits d known). let found = some kept in (0, found.0, inl (kept, (refl, found.1))))
+        (λ (first : (a : ℕ) × IsFirstPastLimit d known a).
+        let line = states_line description (slice_index_or (automaton_names d) first.0 []) in
+        wider (Says 3 line) _ (λ s t h. inr (first.0, first.1, h)) (says_one 3 line))
+        (limits_one d known all (automaton_count d) (omega arith))
+
 order_one : (held : Held) (order : Order) → IsCountedOrder held order → HasOne (AnswersOrder held order)
 order_one held (replay description trace) counted =
     opens_one (held description) description description_limit (λ described. Opens held trace trace_limit (λ traced. Judges description described trace traced))
     (λ described is. opens_one (held trace) trace trace_limit (λ traced. Judges description described trace traced)
     (λ traced also. texts_one description described trace traced (subst (λ (o : Option (List ℕ)). MatchOption o ⊤ IsCountedText) is counted)))
+order_one held (compile description) counted =
+    opens_one (held description) description description_limit (λ described. HasDescription description described (CompilesDescription description))
+    (λ described is. let both = subst (λ (o : Option (List ℕ)). MatchOption o ⊤ (λ bytes. IsCountedText bytes × HasTablesText bytes)) is counted in compiled_one description described both.0 both.1)
+order_one held (walk tables trace) counted =
+    opens_one (held tables) tables tables_limit (λ tabled. Opens held trace trace_limit (λ traced. HasTables tables tabled (WalksTrace trace traced)))
+    (λ tabled is. opens_one (held trace) trace trace_limit (λ traced. HasTables tables tabled (WalksTrace trace traced))
+    (λ traced also. walked_one tables tabled trace traced))
 order_one held (schedule description block) counted =
     opens_one (held description) description description_limit (λ described. Opens held block block_limit (λ blocked. HasDescription description described (SchedulesByDescription description block blocked)))
     (λ described is. opens_one (held block) block block_limit (λ blocked. HasDescription description described (SchedulesByDescription description block blocked))

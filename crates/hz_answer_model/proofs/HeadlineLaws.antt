@@ -33,80 +33,7 @@ use Rattle.hz_answer_model.specs.BlockAnswers.{block_limit, IsBlock}
 use Rattle.hz_answer_model.specs.Answers.{Describes, Checks, HasDescription, Compiles, Judges, AnswersSchedule, SchedulesByDescription}
 use Rattle.hz_answer_model.specs.ScheduleAnswers.{schedule_text, HasClasses, Schedules, SchedulesBlock}
 use Rattle.hz_answer_model.specs.Headline.{IsDescribed, WritesSchedule, ReplayAccepts}
-
--- ---- what status 0 tells of each phase
-
--- A file that was read.
-record IsOpened (o : Option (List ℕ)) (most : ℕ) (next : List ℕ → ℕ → List ℕ → Type 0) (text : List ℕ) : Type 0 where
-  bytes : List ℕ
-  is : o ≡ Some bytes
-  low : nat_lt most (length bytes) ≡ false
-  answers : next bytes 0 text
-
-opened : (o : Option (List ℕ)) (name : List ℕ) (most : ℕ) (next : List ℕ → ℕ → List ℕ → Type 0) (text : List ℕ) → MatchOption o (Says 6 (file_line name) 0 text) (λ bytes. MatchBool (nat_lt most (length bytes)) (Says 3 (limit_line name) 0 text) (next bytes 0 text)) → IsOpened o most next text
-opened None name most next text h = absurd (omega (arith, h.0))
-opened (Some bytes) name most next text h = go (nat_lt most (length bytes)) refl h
-  where
-    go : (b : Bool) → nat_lt most (length bytes) ≡ b → MatchBool b (Says 3 (limit_line name) 0 text) (next bytes 0 text) → IsOpened (Some bytes) most next text
-    go true is h = absurd (omega (arith, h.0))
-    go false is h = record { bytes = bytes; is = refl; low = is; answers = h }
-
-formed_of : (name bytes : List ℕ) (next : Next Trees) (text : List ℕ) → HasForms name bytes next 0 text → (read : Trees) × forms.Reads bytes read × next read 0 text
-formed_of name bytes next text (inl good) = good
-formed_of name bytes next text (inr (fault, line, wrong, h)) = absurd (omega (arith, h.0))
-
-described_of : (name : List ℕ) (read : Trees) (next : Next Description) (text : List ℕ) → Describes name read next 0 text → (d : Description) × description_forms.Reads read d × next d 0 text
-described_of name read next text (inl good) = good
-described_of name read next text (inr (fault, line, wrong, h)) = absurd (omega (arith, h.0))
-
--- no fault of a check has status 0
-some_status : (fault : CheckFault) → 0 ≡ check_status fault → ⊥
-some_status check.twice_defined e = omega (arith, e)
-some_status check.reserved_name e = omega (arith, e)
-some_status check.unknown_name e = omega (arith, e)
-some_status check.unknown_automaton e = omega (arith, e)
-some_status check.unit_needs_automaton e = omega (arith, e)
-some_status check.circular_reservation e = omega (arith, e)
-some_status check.self_exclusion e = omega (arith, e)
-some_status check.set_across_automata e = omega (arith, e)
-some_status (check.limit what) e = omega (arith, e)
-some_status check.alternation_of_two_automata e = omega (arith, e)
-some_status check.alternation_of_two_lengths e = omega (arith, e)
-some_status check.bypass_twice e = omega (arith, e)
-
-checked_of : (name : List ℕ) (d : Description) (next : Next Known) (text : List ℕ) → Checks name d next 0 text → (known : Known) × IsSound d known × next known 0 text
-checked_of name d next text (inl good) = good
-checked_of name d next text (inr (fault, site, wrong, h)) = absurd (some_status fault h.0)
-
--- A description that was read and checked.
-record IsGiven (bytes : List ℕ) (next : (d : Description) → Next Known) (text : List ℕ) : Type 0 where
-  d : Description
-  known : Known
-  is : IsDescribed bytes d known
-  answers : next d known 0 text
-
-given_of : (name bytes : List ℕ) (next : (d : Description) → Next Known) (text : List ℕ) → HasDescription name bytes next 0 text → IsGiven bytes next text
-given_of name bytes next text h =
-    let (read, forms, more) = formed_of name bytes (λ read. Describes name read (λ d. Checks name d (next d))) text h in
-    let (d, says, others) = described_of name read (λ d. Checks name d (next d)) text more in
-    let (known, sound, last) = checked_of name d (next d) text others in
-    record { d = d; known = known; is = record { read = read; forms = forms; says = says; sound = sound }; answers = last }
-
-compiled_of : (name : List ℕ) (d : Description) (known : Known) (next : ℕ → List ℕ → Type 0) (text : List ℕ) → Compiles name d known next 0 text → AllKeepLimits d known × next 0 text
-compiled_of name d known next text (inl good) = good
-compiled_of name d known next text (inr (a, first, h)) = absurd (omega (arith, h.0))
-
-block_of : (name : List ℕ) (read : Trees) (next : Next (List Instruction)) (text : List ℕ) → IsBlock name read next 0 text → (block : List Instruction) × blocks.Reads read block × next block 0 text
-block_of name read next text (inl good) = good
-block_of name read next text (inr (fault, line, wrong, h)) = absurd (omega (arith, h.0))
-
-classes_of_block : (name : List ℕ) (d : Description) (block : List Instruction) (next : ℕ → List ℕ → Type 0) (text : List ℕ) → HasClasses name d block next 0 text → next 0 text
-classes_of_block name d block next text (inl good) = good.1
-classes_of_block name d block next text (inr (i, fault, first, h)) = absurd (omega (arith, h.0))
-
-schedule_of : (name : List ℕ) (d : Description) (known : Known) (block : List Instruction) (text : List ℕ) → Schedules name d known block 0 text → (g : Graph) × (slots : List Slot) × IsScheduleOf d known block g slots × (text ≡ schedule_text d block g slots)
-schedule_of name d known block text (inl (all, g, slots, is, h)) = (g, slots, is, h.1)
-schedule_of name d known block text (inr (i, first, h)) = absurd (omega (arith, h.0))
+use Rattle.hz_answer_model.proofs.DoneLaws.{opened, formed_of, given_of, compiled_of, block_of, classes_of_block, schedule_of}
 
 -- ---- the promise
 
@@ -144,7 +71,7 @@ writes_schedule held description block text h =
 -- ---- what `replay` answers
 
 -- a text says one description
-one_described : (bytes : List ℕ) (d e : Description) (known other : Known) → IsDescribed bytes d known → IsDescribed bytes e other → (d ≡ e) × (known ≡ other)
+pub one_described : (bytes : List ℕ) (d e : Description) (known other : Known) → IsDescribed bytes d known → IsDescribed bytes e other → (d ≡ e) × (known ≡ other)
 one_described bytes d e known other one two =
     let read = one_reading bytes one.read two.read one.forms two.forms in
     let same : d ≡ e = one_description two.read d e (subst (λ (t : Trees). description_forms.Reads t d) read one.says) two.says in

@@ -1,5 +1,9 @@
+pub mod TableLaws
+pub mod OneText
 pub mod ListingTotal
 pub mod AnswerLaws
 pub mod AnswerTotal
 pub mod EventLaws
+pub mod DoneLaws
 pub mod HeadlineLaws
+pub mod WalkLaws

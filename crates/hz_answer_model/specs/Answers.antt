@@ -5,7 +5,7 @@ use Rattle.hz_check_model.specs.Places.{Known, class_names}
 use Rattle.hz_mdread_model.specs.DescriptionForms.{DescriptionFault}
 use Rattle.hz_mdread_model.specs.DescriptionForms as description_forms
 use Rattle.hz_mdread_model.specs.Descriptions.{Description}
-use Rattle.hz_answer_model.specs.FaultTexts.{description_words, check_line, check_status, trace_word}
+use Rattle.hz_answer_model.specs.FaultTexts.{description_words, check_line, check_status}
 use Rattle.hz_sexp_model.specs.Forms as forms
 use Rattle.hz_base_model.specs.Limits.{description_limit, trace_limit}
 use Rattle.hz_check_model.specs.CheckedParts.{automaton_names}
@@ -15,13 +15,14 @@ use Rattle.hz_acceptance_model.specs.Events.{Event, issue, issues_of, cycles_of}
 use Rattle.hz_acceptance_model.specs.Replay.{Pipeline, Class, Accepted, FirstRefused}
 use Rattle.hz_check_model.specs.Sites.{Site}
 use Rattle.hz_base_model.specs.Lines.{lines_of}
-use Rattle.hz_trace_model.specs.Traces.{Trace, TraceFault, TraceFaultAt, event_lines}
+use Rattle.hz_trace_model.specs.Traces.{event_lines}
 use Rattle.hz_answer_model.specs.Texts.{usage_line, fault_line, states_line, accepted_line, refused_line}
 use Rattle.hz_sexp_model.specs.Trees.{Trees}
-use Rattle.hz_words_model.specs.Words.{Order, replay, schedule, eval, order_of}
-use Rattle.hz_answer_model.specs.Phases.{Held, Says, Next, Opens, HasForms}
+use Rattle.hz_words_model.specs.Words.{Order, compile, replay, walk, schedule, eval, order_of}
+use Rattle.hz_answer_model.specs.Phases.{Held, Says, Next, Opens, HasForms, Traces}
 use Rattle.hz_answer_model.specs.BlockAnswers.{block_limit, state_text_limit, JudgesBlock}
 use Rattle.hz_answer_model.specs.ScheduleAnswers.{SchedulesBlock}
+use Rattle.hz_answer_model.specs.TableAnswers.{tables_limit, IsTablesOf, WritesTablesOf, HasTables, WalksTrace}
 
 -- the description that forms say, or the first fault of a form
 abbrev pub Describes : List ℕ → Trees → Next Description → ℕ → List ℕ → Type 0
@@ -44,12 +45,6 @@ abbrev pub Compiles : List ℕ → Description → Known → (ℕ → List ℕ �
 Compiles name d known next status text =
     (AllKeepLimits d known × next status text)
     ⊎ ((a : ℕ) × IsFirstPastLimit d known a × Says 3 (states_line name (slice_index_or (automaton_names d) a [])) status text)
-
--- the events of a trace of classes with these names, or its first wrong line
-abbrev pub Traces : List (List ℕ) → List ℕ → List ℕ → Next (List Event) → ℕ → List ℕ → Type 0
-Traces classes name bytes next status text =
-    ((events : List Event) × Trace classes bytes events × next events status text)
-    ⊎ ((fault : TraceFault) × (line : ℕ) × TraceFaultAt classes bytes fault line × Says 2 (fault_line name line (trace_word fault ∷ [])) status text)
 
 -- the class that an event issues
 abbrev pub IsIssueOf : {U : Type 0} → Pipeline U → Option Event → List ℕ → Type 0
@@ -74,12 +69,29 @@ ReplaysDescription description trace traced d known = Compiles description d kno
 abbrev pub Judges : List ℕ → List ℕ → List ℕ → List ℕ → ℕ → List ℕ → Type 0
 Judges description described trace traced = HasDescription description described (ReplaysDescription description trace traced)
 
+-- a description without a fault is compiled, and its tables are written
+abbrev pub CompilesDescription : List ℕ → Description → Known → ℕ → List ℕ → Type 0
+CompilesDescription description d known = Compiles description d known (WritesTablesOf d known)
+
+-- the file is read, and then judged
+abbrev pub AnswersCompile : Held → List ℕ → ℕ → List ℕ → Type 0
+AnswersCompile held description =
+    Opens held description description_limit (λ described.
+    HasDescription description described (CompilesDescription description))
+
 -- all files are read, and then judged in their order
 abbrev pub AnswersReplay : Held → List ℕ → List ℕ → ℕ → List ℕ → Type 0
 AnswersReplay held description trace =
     Opens held description description_limit (λ described.
     Opens held trace trace_limit (λ traced.
     Judges description described trace traced))
+
+-- both files are read, the tables first, and then judged in their order
+abbrev pub AnswersWalk : Held → List ℕ → List ℕ → ℕ → List ℕ → Type 0
+AnswersWalk held tables trace =
+    Opens held tables tables_limit (λ tabled.
+    Opens held trace trace_limit (λ traced.
+    HasTables tables tabled (WalksTrace trace traced)))
 
 -- a description without a fault is compiled, and then the block is judged and scheduled
 abbrev pub SchedulesByDescription : List ℕ → List ℕ → List ℕ → Description → Known → ℕ → List ℕ → Type 0
@@ -101,7 +113,9 @@ AnswersEval held block state =
 
 -- what an order answers: one case for each command
 abbrev pub AnswersOrder : Held → Order → ℕ → List ℕ → Type 0
+AnswersOrder held (compile description) = AnswersCompile held description
 AnswersOrder held (replay description trace) = AnswersReplay held description trace
+AnswersOrder held (walk tables trace) = AnswersWalk held tables trace
 AnswersOrder held (schedule description block) = AnswersSchedule held description block
 AnswersOrder held (eval block state) = AnswersEval held block state
 
@@ -116,9 +130,16 @@ Answer words held status text =
 abbrev pub IsCountedText : List ℕ → Type 0
 IsCountedText bytes = (read : Trees) (d : Description) (known : Known) → forms.Reads bytes read → description_forms.Reads read d → IsSound d known → AreCounted d known
 
+-- The description that a text says and that has no fault has tables, where its automata are within their limits: what compiling
+-- it shows.
+abbrev pub HasTablesText : List ℕ → Type 0
+HasTablesText bytes = (read : Trees) (d : Description) (known : Known) → forms.Reads bytes read → description_forms.Reads read d → IsSound d known → AllKeepLimits d known → (text : List ℕ) × IsTablesOf d known text
+
 -- the same of the descriptions that an order names and that are held
 abbrev pub IsCountedOrder : Held → Order → Type 0
+IsCountedOrder held (compile description) = MatchOption (held description) ⊤ (λ bytes. IsCountedText bytes × HasTablesText bytes)
 IsCountedOrder held (replay description trace) = MatchOption (held description) ⊤ IsCountedText
+IsCountedOrder held (walk tables trace) = ⊤
 IsCountedOrder held (schedule description block) = MatchOption (held description) ⊤ IsCountedText
 IsCountedOrder held (eval block state) = ⊤
 

@@ -17,6 +17,8 @@ use Rattle.hz_depend_model.specs.Classes.{ClassFault}
 use Rattle.hz_depend_model.specs.Classes as class
 use Rattle.hz_trace_model.specs.Traces.{TraceFault}
 use Rattle.hz_trace_model.specs.Traces as trace
+use Rattle.hz_tabtext_model.specs.Judging.{Kind}
+use Rattle.hz_tabtext_model.specs.Judging as tables
 use Rattle.hz_answer_model.specs.Texts.{fault_line, passed_line}
 
 -- the word of a fault of forms
@@ -107,3 +109,12 @@ abbrev pub trace_word : TraceFault → List ℕ
 trace_word trace.bad_line = codes "BadLine"
 trace_word trace.unknown_class = codes "UnknownClass"
 trace_word trace.too_many_advances = codes "AdvanceLimit"
+
+-- the word of a fault of a tables text
+abbrev pub tables_word : Kind → List ℕ
+tables_word tables.bad_header = codes "BadHeader"
+tables_word tables.bad_line = codes "BadLine"
+tables_word tables.bad_number = codes "BadNumber"
+tables_word tables.out_of_range = codes "OutOfRange"
+tables_word tables.truncated = codes "Truncated"
+tables_word tables.trailing = codes "Trailing"

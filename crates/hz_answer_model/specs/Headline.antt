@@ -1,5 +1,5 @@
--- What is written of a schedule, and what `replay` answers of it, in the words of the promise: README.md.
-use Rattle.std.specs.Prelude.{◌≡◌, ℕ, ◌≤◌, List, length, Some}
+-- What is written of a schedule and of tables, and what `replay` and `walk` answer of them, in the words of the promise: README.md.
+use Rattle.std.specs.Prelude.{◌≡◌, ◌↔◌, ℕ, ◌≤◌, List, length, Some}
 use Rattle.hz_sexp_model.specs.Trees.{Trees}
 use Rattle.hz_sexp_model.specs.Forms as forms
 use Rattle.hz_mdread_model.specs.Descriptions.{Description}
@@ -14,10 +14,11 @@ use Rattle.hz_sched_model.specs.Schedules.{Graph, Slot, present, spell}
 use Rattle.hz_scheduled_model.specs.BlockGraphs.{IsGraphOf}
 use Rattle.hz_scheduled_model.specs.BlockSchedules.{KeepsBlock}
 use Rattle.hz_trace_model.specs.Traces.{Trace}
-use Rattle.hz_answer_model.specs.Answers.{AnswersReplay}
+use Rattle.hz_answer_model.specs.Answers.{AnswersReplay, AnswersWalk}
 use Rattle.hz_answer_model.specs.Phases.{Held}
 use Rattle.hz_answer_model.specs.Texts.{accepted_line}
 use Rattle.hz_answer_model.specs.ScheduleAnswers.{schedule_text}
+use Rattle.hz_answer_model.specs.TableAnswers.{tables_limit, IsTablesOf}
 
 -- The description that bytes say, and the alternatives of its names.
 pub record IsDescribed (bytes : List ℕ) (d : Description) (known : Known) : Type 0 where
@@ -57,3 +58,18 @@ pub record WritesSchedule (held : Held) (description block : List ℕ) (text : L
 pub record ReplayAccepts (held : Held) (description : List ℕ) (d : Description) (g : Graph) (slots : List Slot) : Type 0 where
   pub answers : (other : Held) (trace traced : List ℕ) → other description ≡ held description → other trace ≡ Some traced → length traced ≤ trace_limit → Trace (class_names d) traced (spell g slots)
       → AnswersReplay other description trace 0 (accepted_line (length slots) (present 0 slots))
+
+-- The text says what is compiled of the description that is held.
+pub record WritesTables (held : Held) (description text : List ℕ) : Type 0 where
+  pub described : List ℕ
+  pub file : held description ≡ Some described
+  pub d : Description
+  pub known : Known
+  pub is_described : IsDescribed described d known
+  pub tables : IsTablesOf d known text
+
+-- `walk` on a text answers to every trace what `replay` answers on the description, the same status and the same text: where the
+-- text is held and not too long.
+pub record WalkIsReplay (held : Held) (description text : List ℕ) : Type 0 where
+  pub answers : (other : Held) (tables trace : List ℕ) → other description ≡ held description → other tables ≡ Some text → length text ≤ tables_limit
+      → (status : ℕ) (said : List ℕ) → AnswersWalk other tables trace status said ↔ AnswersReplay other description trace status said

@@ -1,9 +1,11 @@
--- Phases of an answer: reading files, and forms. The first that refuses decides. This profile, docs/FORMATS.md, 'Answers'.
+-- Phases of an answer: reading files, forms and traces. The first that refuses decides. This profile, docs/FORMATS.md, 'Answers'.
 use Rattle.std.specs.Prelude.{◌≡◌, ℕ, List, [], ◌∷◌, Option, MatchOption, MatchBool, nat_lt, length, ◌⊎◌}
 use Rattle.hz_sexp_model.specs.Forms.{FormFault}
 use Rattle.hz_sexp_model.specs.Forms as forms
 use Rattle.hz_sexp_model.specs.Trees.{Trees}
-use Rattle.hz_answer_model.specs.FaultTexts.{form_word}
+use Rattle.hz_acceptance_model.specs.Events.{Event}
+use Rattle.hz_trace_model.specs.Traces.{Trace, TraceFault, TraceFaultAt}
+use Rattle.hz_answer_model.specs.FaultTexts.{form_word, trace_word}
 use Rattle.hz_answer_model.specs.Texts.{file_line, limit_line, fault_line}
 
 -- the status and the text
@@ -29,3 +31,9 @@ abbrev pub HasForms : List ℕ → List ℕ → Next Trees → ℕ → List ℕ 
 HasForms name bytes next status text =
     ((read : Trees) × forms.Reads bytes read × next read status text)
     ⊎ ((fault : FormFault) × (line : ℕ) × forms.FaultAt bytes fault line × Says 2 (fault_line name line (form_word fault ∷ [])) status text)
+
+-- the events of a trace of classes with these names, or its first wrong line
+abbrev pub Traces : List (List ℕ) → List ℕ → List ℕ → Next (List Event) → ℕ → List ℕ → Type 0
+Traces classes name bytes next status text =
+    ((events : List Event) × Trace classes bytes events × next events status text)
+    ⊎ ((fault : TraceFault) × (line : ℕ) × TraceFaultAt classes bytes fault line × Says 2 (fault_line name line (trace_word fault ∷ [])) status text)

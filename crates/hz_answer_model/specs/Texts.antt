@@ -39,4 +39,4 @@ abbrev pub memory_line : List ℕ
 memory_line = concat (codes "memory\n" ∷ [])
 
 abbrev pub usage_line : List ℕ
-usage_line = concat (codes "usage: hz replay DESC TRACE | schedule DESC BLOCK | eval BLOCK STATE\n" ∷ [])
+usage_line = concat (codes "usage: hz compile DESC | replay DESC TRACE | walk TABLES TRACE | schedule DESC BLOCK | eval BLOCK STATE\n" ∷ [])

@@ -1,8 +1,8 @@
 //! Laws of answers.
 
 ghost use Rattle.std.specs.Prelude.{◌≡◌, ℕ, List};
-ghost use Rattle.hz_answer_model.specs.Answers.{Answer, AnswersSchedule, IsCounted};
-ghost use Rattle.hz_answer_model.specs.Headline.{WritesSchedule, ReplayAccepts};
+ghost use Rattle.hz_answer_model.specs.Answers.{Answer, AnswersCompile, AnswersSchedule, IsCounted};
+ghost use Rattle.hz_answer_model.specs.Headline.{WritesSchedule, ReplayAccepts, WritesTables, WalkIsReplay};
 ghost use Rattle.hz_answer_model.specs.Phases.{Held};
 
 /// The words and what is held have one answer at most: one status and one text.
@@ -22,8 +22,20 @@ pub fn replay_accepts_schedules()
     ensures { (held : Held) (description block text : List ℕ) (w : WritesSchedule held description block text) → AnswersSchedule held description block 0 text → ReplayAccepts held description w.d w.g w.slots }
 {}
 
+/// What `compile` answers with status 0 says what is compiled of the description: it stands for a machine that has its classes and its
+/// automata, each of which walks just what it accepts, with states that are reached, apart unless they stay as they were found, and
+/// numbered breadth-first; and it tells beside that what the options ask for, as it is.
+pub fn compile_writes_tables()
+    ensures { (held : Held) (description text : List ℕ) → AnswersCompile held description 0 text → WritesTables held description text }
+{}
+
+/// `walk` on a text that `compile` wrote of a description has the status and the text of `replay` on the description, for every trace.
+pub fn walk_is_replay()
+    ensures { (held : Held) (description text : List ℕ) → AnswersCompile held description 0 text → WalkIsReplay held description text }
+{}
+
 /// All words have an answer, whatever is held, where each count of each automaton of a description that is held is
-/// within its limit or above it: with `one_answer`, exactly one.
+/// within its limit or above it, and what `compile` is asked for has tables: with `one_answer`, exactly one.
 pub fn some_answer()
     ensures { (words : List (List ℕ)) (held : Held) → IsCounted words held → (status : ℕ) × (text : List ℕ) × Answer words held status text }
 {}

@@ -18,6 +18,8 @@ use Rattle.hz_rtltext_model.specs.Operands.{RtlFault}
 use Rattle.hz_rtltext_model.specs.Operands as rtl
 use Rattle.hz_trace_model.specs.Traces.{TraceFault}
 use Rattle.hz_trace_model.specs.Traces as trace
+use Rattle.hz_tabtext_model.specs.Judging.{Kind as TablesKind}
+use Rattle.hz_tabtext_model.specs.Judging as tables
 use Rattle.hz_sexp_model.specs.Forms.{FormFault}
 use Rattle.hz_sexp_model.specs.Forms as form
 
@@ -42,6 +44,11 @@ kind_word kind.InsnLimit = codes "InsnLimit"
 kind_word kind.BadLine = codes "BadLine"
 kind_word kind.UnknownClass = codes "UnknownClass"
 kind_word kind.AdvanceLimit = codes "AdvanceLimit"
+kind_word kind.BadHeader = codes "BadHeader"
+kind_word kind.BadNumber = codes "BadNumber"
+kind_word kind.OutOfRange = codes "OutOfRange"
+kind_word kind.Truncated = codes "Truncated"
+kind_word kind.Trailing = codes "Trailing"
 
 -- the word of a fault of an expression
 abbrev pub expression_word : ExpressionKind → List ℕ
@@ -121,6 +128,16 @@ trace_fault kind.BadLine = Some trace.bad_line
 trace_fault kind.UnknownClass = Some trace.unknown_class
 trace_fault kind.AdvanceLimit = Some trace.too_many_advances
 trace_fault _ = None
+
+-- what is wrong with a line of a tables text that is told, if it is that
+abbrev pub tables_fault : Kind → Option TablesKind
+tables_fault kind.BadHeader = Some tables.bad_header
+tables_fault kind.BadLine = Some tables.bad_line
+tables_fault kind.BadNumber = Some tables.bad_number
+tables_fault kind.OutOfRange = Some tables.out_of_range
+tables_fault kind.Truncated = Some tables.truncated
+tables_fault kind.Trailing = Some tables.trailing
+tables_fault _ = None
 
 -- the fault of an expression that is told
 abbrev pub expression_fault : ExpressionKind → ExpressionFault

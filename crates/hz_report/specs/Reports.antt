@@ -3,17 +3,20 @@ use Rattle.hz_answer_model.specs.Texts as model
 use Rattle.hz_check.specs.Faults.{limit_of}
 use Rattle.hz_answer_model.specs.FaultTexts.{limit_word}
 use Rattle.hz_report.specs.Schedules.{IsInRange, schedule_by}
+use Rattle.hz_tabfile.specs.Saying.{says, IsSayable}
+use Rattle.hz_tabtext_model.specs.Texts.{spelled}
 use Rattle.hz_rtl.specs.Listings.{listing}
 use Rattle.hz_sched.specs.Shape.{graph_of, slots_of}
 use Rattle.hz_rtltext_model.specs.StateTexts.{listing_text}
 use Rattle.hz_report.specs.Kinds.{kind_word, expression_word, named_word, insn_word}
 use Rattle.hz_report.specs.declared.report.Report.{Report}
-use Rattle.hz_report.specs.declared.report.Report.TheVariants.{Accepted, Refused, Scheduled, After, Fault, Expression, Named, Insn, Ambiguous, Passed, States, Long, Usage, Memory, File}
+use Rattle.hz_report.specs.declared.report.Report.TheVariants.{Accepted, Refused, Tables, Scheduled, After, Fault, Expression, Named, Insn, Ambiguous, Passed, States, Long, Usage, Memory, File}
 
 -- the text of a report
 abbrev pub text_of : Report → List ℕ
 text_of (Accepted issues cycles) = model.accepted_line issues cycles
 text_of (Refused line class) = model.refused_line line class
+text_of (Tables compiled checked) = spelled (says compiled checked)
 text_of (Scheduled machine graph schedule) = schedule_by machine.classes.items (map (λ i. i.number) graph.insns.items) (graph_of graph) (slots_of schedule.slots.items)
 text_of (After state) = listing_text (listing state)
 text_of (Fault file line kind) = model.fault_line file.now line (kind_word kind ∷ [])
@@ -32,6 +35,7 @@ text_of (File file) = model.file_line file.now
 abbrev pub status_of : Report → ℕ
 status_of (Accepted issues cycles) = 0
 status_of (Refused line class) = 1
+status_of (Tables compiled checked) = 0
 status_of (Scheduled machine graph schedule) = 0
 status_of (After state) = 0
 status_of (Fault file line kind) = 2
@@ -46,7 +50,8 @@ status_of Usage = 4
 status_of Memory = 5
 status_of (File file) = 6
 
--- what a report names is there to be told: the instructions and the classes of a schedule
+-- what a report names is there to be told: what is told of each automaton of tables, the instructions and the classes of a schedule
 abbrev pub IsTellable : Report → Type 0
+IsTellable (Tables compiled checked) = IsSayable compiled checked
 IsTellable (Scheduled machine graph schedule) = IsInRange machine graph schedule
 IsTellable _ = ⊤

@@ -33,6 +33,12 @@ pub enum Kind {
     BadLine,
     UnknownClass,
     AdvanceLimit,
+    /// Faults of the lines of a tables text, with BadLine.
+    BadHeader,
+    BadNumber,
+    OutOfRange,
+    Truncated,
+    Trailing,
 }
 
 impl Kind {
@@ -60,6 +66,11 @@ impl Kind {
             Kind::BadLine => b"BadLine",
             Kind::UnknownClass => b"UnknownClass",
             Kind::AdvanceLimit => b"AdvanceLimit",
+            Kind::BadHeader => b"BadHeader",
+            Kind::BadNumber => b"BadNumber",
+            Kind::OutOfRange => b"OutOfRange",
+            Kind::Truncated => b"Truncated",
+            Kind::Trailing => b"Trailing",
         }
     }
 }

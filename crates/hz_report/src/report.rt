@@ -3,7 +3,8 @@
 ghost use Rattle.std.specs.Prelude.{◌≡◌};
 
 use super::kind::{ExpressionKind, InsnKind, Kind, NamedKind};
-use hz_check::LimitName;
+use hz_auto::Compiled;
+use hz_check::{Checked, LimitName};
 use hz_depend::Graph;
 use hz_regexp::Name;
 use hz_rtl::State;
@@ -22,6 +23,11 @@ pub enum Report<'a> {
     Refused {
         line: u64,
         class: Name,
+    },
+    /// The tables of a description: what is compiled of it, and the description as it was checked.
+    Tables {
+        compiled: Compiled,
+        checked: Checked,
     },
     /// The schedule of a block: the machine has the names of its classes, the graph its instructions.
     Scheduled {
@@ -104,6 +110,7 @@ impl Report<'_> {
         match self {
             Report::Accepted { .. } => 0,
             Report::Refused { .. } => 1,
+            Report::Tables { .. } => 0,
             Report::Scheduled { .. } => 0,
             Report::After { .. } => 0,
             Report::Fault { .. } => 2,

@@ -12,9 +12,11 @@ use super::outcomes::{put_accepted, put_file, put_long, put_memory, put_refused,
 use super::report::Report;
 use super::scheduled::put_schedule;
 use hz_io::{Failed, Sink};
+use hz_tabfile::write_tables;
 
 /// Writes the text of a report: all of it, or a front of it where the sink failed, with one more fault. It takes no memory.
-/// The slots of a schedule are of instructions of its graph, and these of classes of its machine.
+/// The slots of a schedule are of instructions of its graph, and these of classes of its machine; tables have an automaton and what
+/// is told of it for each of their description.
 pub fn write_report<S: Sink>(report: &Report<'_>, out: &mut S) -> Result<(), Failed>
     requires sink { S.faults out.old < 2 ^ 64 - 1 }
     requires range { IsTellable report.now }
@@ -23,6 +25,7 @@ pub fn write_report<S: Sink>(report: &Report<'_>, out: &mut S) -> Result<(), Fai
     match report {
         Report::Accepted { issues, cycles } => put_accepted(out, *issues, *cycles),
         Report::Refused { line, class } => put_refused(out, *line, class),
+        Report::Tables { compiled, checked } => write_tables(compiled, checked, out),
         Report::Scheduled {
             machine,
             graph,

@@ -6,4 +6,4 @@ mod writing;
 
 pub use reading::fault::TabFault;
 pub use reading::machine::read_tables;
-pub use writing::write_tables;
+pub use writing::{text_stands, write_tables};

@@ -23,6 +23,14 @@ use page::{Page, flush};
 use parts::add_tables;
 use ranges::is_in_range;
 
+/// The text of a compiled machine stands for it. Nothing is done here.
+pub fn text_stands(compiled: &Compiled, checked: &Checked)
+    requires sayable { IsSayable compiled.now checked.now }
+    ensures { TableText (spelled (says compiled.now checked.now)) (machine_of compiled.now.machine) }
+{
+    is_in_range(compiled, checked);
+}
+
 /// Writes the text of a compiled machine: its classes and its automata, with the counts of each before minimisation under
 /// `stats`, and what each state is beside both `v` and `no-minimization`. It takes no memory. Where the sink fails, a front
 /// of the text was written. docs/FORMATS.md, 'Tables'.
@@ -36,7 +44,7 @@ pub fn write_tables<S: Sink>(
     ensures written { Writes S.written S.room S.faults out.old out.new (spelled (says compiled.now checked.now)) result }
     ensures stands { TableText (spelled (says compiled.now checked.now)) (machine_of compiled.now.machine) }
 {
-    is_in_range(compiled, checked);
+    text_stands(compiled, checked);
     let mut page = Page::new();
     match add_tables(out, &mut page, compiled, checked) {
         Ok(()) => flush(out, &mut page),

@@ -6,3 +6,4 @@ pub mod RunLemmas
 pub mod SlotLemmas
 pub mod StartLemmas
 pub mod TraceLemmas
+pub mod TablesLemmas

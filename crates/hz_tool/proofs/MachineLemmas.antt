@@ -4,11 +4,12 @@ use Rattle.std.specs.Prelude.{IsSome, slice_index_or}
 use Rattle.std.proofs.lemmas.List.{length-map}
 use Rattle.hz_acceptance_model.specs.Events.{Event, IsOfClass}
 use Rattle.hz_acceptance_model.specs.Replay.{Accepted, FirstRefused}
-use Rattle.hz_answer_model.specs.Answers.{Replays, Compiles}
+use Rattle.hz_answer_model.specs.Answers.{ReplaysTrace, Compiles}
+use Rattle.hz_answer_model.specs.TableAnswers.{Walks, WalksTrace}
+use Rattle.hz_answer_model.proofs.WalkLaws.{traced_both}
 use Rattle.hz_answer_model.specs.Texts.{states_line}
-use Rattle.hz_answer_model.proofs.EventLaws.{issue_named}
 use Rattle.hz_auto_model.specs.Compiled.{IsCompiled, IsFirstPast, Report as Told}
-use Rattle.hz_auto_model.proofs.DescriptionLaws.{machine_accepts, unwalked_refused as unwalked_is_refused, all_keep, first_past}
+use Rattle.hz_auto_model.proofs.DescriptionLaws.{machine_accepts, all_keep, first_past}
 use Rattle.hz_check.specs.declared.checked.Checked.{Checked}
 use Rattle.hz_check.specs.Checked.{IsCheckedOf}
 use Rattle.hz_check.specs.Shape.{automaton_of, class_of}
@@ -31,45 +32,23 @@ pub map_twice : {A B C : Type 0} (f : B → C) (g : A → B) (xs : List A) → m
 map_twice f g [] = refl
 map_twice f g (x ∷ xs) = ap (λ (ys : List _). f (g x) ∷ ys) (map_twice f g xs)
 
-module _ (d : Description) (known : Known) (m : Machine) (is : IsMachineFor d known m) where
-  -- as many classes
-  pub classes_count : length m.classes ≡ length d.classes
-  classes_count = ap length is.names ∙ length-map d.classes (λ c. c.name)
+-- what a machine refuses of its walk is told
+pub refusal : (m : Machine) (lines : List ℕ) (events : List Event) (i line : ℕ) (e : Event) (report : Report) → FirstUnwalked m events i → slice_get events i ≡ Some e → slice_get lines i ≡ Some line → Agrees (Refuses m line e) report → Agrees (Walks m lines events) report
+refusal m lines events i line e report first there here h =
+    agrees_weaker (Refuses m line e) (Walks m lines events)
+    (λ s t (class, name, issues, named, says). inr (i, line, name, (first.before, rw add-one first.stops), here, (class, there ∙ ap Some issues, named), says))
+    report h
 
-  module _ (t : List Event) (all : All (IsOfClass (length m.classes)) t) where
-    of_classes : All (IsOfClass (length d.classes)) t
-    of_classes = subst (λ n. All (IsOfClass n) t) classes_count all
-
-    -- what is walked is accepted
-    pub walked_accepted : IsSome (machine_walk m t) → Accepted (pipeline_with d known) t
-    walked_accepted = (is.walks t of_classes).0
-
-    -- the first event that is not walked is the first refused
-    pub unwalked_refused : (i : ℕ) → FirstUnwalked m t i → FirstRefused (pipeline_with d known) t i
-    unwalked_refused i first = unwalked_is_refused (pipeline_with d known) m (length d.classes) is.walks t of_classes i first.within first.before (subst (λ n. machine_walk m (take n t) ≡ None) (sym (add-one i)) first.stops)
-
-  -- a refusal of the machine is the description's
-  pub refusal : (lines : List ℕ) (events : List Event) → All (IsOfClass (length m.classes)) events → (i line : ℕ) (e : Event) (report : Report) → FirstUnwalked m events i → slice_get events i ≡ Some e → slice_get lines i ≡ Some line → Agrees (Refuses m line e) report → Agrees (Replays (pipeline_with d known) lines events) report
-  refusal lines events all i line e report first there here h =
-      agrees_weaker (Refuses m line e) (Replays (pipeline_with d known) lines events)
-      (λ s t (class, name, issues, named, says).
-      inr (
-        i,
-        line,
-        name,
-        unwalked_refused events all i first,
-        here,
-        issue_named d known (slice_get events i) class name (there ∙ ap Some issues) (subst (λ ns. slice_get ns class ≡ Some name) is.names named),
-        says,
-      ))
-      report h
+-- a walk of the machine of a description is a replay by it
+pub walked_on : (d : Description) (known : Known) (m : Machine) → IsMachineFor d known m → (trace traced : List ℕ) (report : Report) → Agrees (WalksTrace trace traced m) report → Agrees (ReplaysTrace trace traced d known) report
+walked_on d known m is trace traced report h = agrees_weaker (WalksTrace trace traced m) (ReplaysTrace trace traced d known) (λ s t. (traced_both d known m is.names is.walks trace traced s t).0) report h
 
 module _ (d : Description) (checked : Checked) (is : IsCheckedOf d checked) where
   abbrev parts : List ClassParts
   parts = map (class_parts d is.known) d.classes
 
   -- what is compiled of what is held is compiled of the description
-  compiled_of : (m : Machine) (reports : List Told) → IsCompiled (options_of checked.options) (map automaton_of checked.automata.items) (map class_of checked.classes.items) m reports → IsCompiled d.options (automata_of d) parts m reports
+  pub compiled_of : (m : Machine) (reports : List Told) → IsCompiled (options_of checked.options) (map automaton_of checked.automata.items) (map class_of checked.classes.items) m reports → IsCompiled d.options (automata_of d) parts m reports
   compiled_of m reports h =
       subst (λ (o : Options). IsCompiled o (automata_of d) parts m reports) is.options
       (subst (λ as'. IsCompiled (options_of checked.options) as' parts m reports) is.automata

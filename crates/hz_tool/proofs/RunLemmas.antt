@@ -1,19 +1,21 @@
 use Rattle.std.proofs.Common.{◌≡◌, ℕ, ◌<◌, ◌≤◌, ◌⊎◌, inl, inr, Bool, List, length, Option, Some, nat_lt, MatchBool, MatchOption, refl, sym, subst, arith}
 use Rattle.std.proofs.lemmas.Bool.{le-ltb}
-use Rattle.hz_answer_model.specs.Answers.{Answer, AnswersOrder, Judges, HasDescription, SchedulesByDescription, AnswersReplay, AnswersSchedule, AnswersEval}
+use Rattle.hz_answer_model.specs.Answers.{Answer, AnswersOrder, Judges, HasDescription, SchedulesByDescription, CompilesDescription, AnswersCompile, AnswersReplay, AnswersWalk, AnswersSchedule, AnswersEval}
 use Rattle.hz_answer_model.specs.BlockAnswers.{block_limit, state_text_limit, JudgesBlock}
 use Rattle.hz_answer_model.specs.Phases.{Held, Next, Opens, Says}
 use Rattle.hz_base_model.specs.Limits.{description_limit, trace_limit}
 use Rattle.hz_answer_model.specs.Texts.{file_line, limit_line, usage_line}
-use Rattle.hz_words_model.specs.Words.{Order, schedule, order_of}
+use Rattle.hz_words_model.specs.Words.{Order, compile, schedule, order_of}
 use Rattle.hz_tool.specs.Decisions.{Agrees, CountsReport, NamesFile, IsFileWord}
-use Rattle.hz_tool.specs.Endings.{IsAppended, AppendsSchedule, SaysFile, Completes, MayWrite}
+use Rattle.hz_tool.specs.Endings.{IsAppended, AppendsSchedule, AppendsTables, SaysFile, Completes, MayWrite}
 use Rattle.hz_report.specs.Reports.{text_of, status_of}
 use Rattle.hz_report.specs.declared.report.Report.{Report}
 use Rattle.hz_report.specs.declared.report.Report.TheVariants.{Memory, File}
 use Rattle.hz_tool.proofs.AnswerLemmas.{agrees_weaker}
 use Rattle.hz_answer_model.proofs.AnswerLaws.{answer_single}
 use Rattle.hz_answer_model.proofs.HeadlineLaws.{writes_schedule, accepts_schedule}
+use Rattle.hz_answer_model.proofs.WalkLaws.{writes_tables, walk_is_replay}
+use Rattle.hz_answer_model.specs.TableAnswers.{tables_limit, HasTables, WalksTrace}
 
 -- a file that is there and not too long leads on
 pub opens_found : (held : Held) (name : List ℕ) (most : ℕ) (bytes : List ℕ) (next : Next (List ℕ)) (s : ℕ) (t : List ℕ) → held name ≡ Some bytes → length bytes ≤ most → next bytes s t → Opens held name most next s t
@@ -27,6 +29,21 @@ pub answers_replay : (held : Held) (description trace described traced : List �
 answers_replay held description trace described traced report found short found' short' h =
     agrees_weaker (Judges description described trace traced) (AnswersReplay held description trace)
     (λ s t j. opens_found held description description_limit described (λ bytes. Opens held trace trace_limit (λ others. Judges description bytes trace others)) s t found short (opens_found held trace trace_limit traced (λ bytes. Judges description described trace bytes) s t found' short' j))
+    report h
+
+-- the same of a description alone
+pub answers_compile : (held : Held) (description described : List ℕ) (report : Report) → held description ≡ Some described → length described ≤ description_limit → Agrees (HasDescription description described (CompilesDescription description)) report → Agrees (AnswersCompile held description) report
+answers_compile held description described report found short h =
+    agrees_weaker (HasDescription description described (CompilesDescription description)) (AnswersCompile held description)
+    (λ s t j. opens_found held description description_limit described (λ bytes. HasDescription description bytes (CompilesDescription description)) s t found short j)
+    report h
+
+-- the same of tables and a trace
+pub answers_walk : (held : Held) (tables trace tabled traced : List ℕ) (report : Report) → held tables ≡ Some tabled → length tabled ≤ tables_limit → held trace ≡ Some traced → length traced ≤ trace_limit → Agrees (HasTables tables tabled (WalksTrace trace traced)) report → Agrees (AnswersWalk held tables trace) report
+answers_walk held tables trace tabled traced report found short found' short' h =
+    agrees_weaker (HasTables tables tabled (WalksTrace trace traced)) (AnswersWalk held tables trace)
+    (λ s t j. opens_found held tables tables_limit tabled (λ bytes. Opens held trace trace_limit (λ others. HasTables tables bytes (WalksTrace trace others))) s t found short
+    (opens_found held trace trace_limit traced (λ bytes. HasTables tables tabled (WalksTrace trace bytes)) s t found' short' j))
     report h
 
 -- the same of a description and a block
@@ -71,23 +88,30 @@ pub completes : (words : List (List ℕ)) (held : Held) (report : Report) (old n
 completes words held Memory old new h appended = inl refl
 completes words held _ old new h appended = inr (_, h, appended)
 
--- an answer of status 0 to words that schedule a block
-scheduled : (words : List (List ℕ)) (held : Held) (status : ℕ) (text description block : List ℕ) → Answer words held status text → status ≡ 0 → order_of words ≡ Some (schedule description block) → AnswersSchedule held description block 0 text
-scheduled words held status text description block h zero is =
-    subst (λ (n : ℕ). AnswersSchedule held description block n text) zero
+-- an answer of status 0 to words that are this order
+ordered : (words : List (List ℕ)) (held : Held) (status : ℕ) (text : List ℕ) (order : Order) → Answer words held status text → status ≡ 0 → order_of words ≡ Some order → AnswersOrder held order 0 text
+ordered words held status text order h zero is =
+    subst (λ (n : ℕ). AnswersOrder held order n text) zero
     (subst (λ (o : Option Order). MatchOption o (Says 4 usage_line status text) (λ order. AnswersOrder held order status text)) is h)
 
 -- a report of status 0 is such an answer
-report_schedules : (words : List (List ℕ)) (held : Held) (old new : ℕ) (steady : Type 0) (report : Report) → CountsReport old new report → ((new ≡ old) ⊎ steady → Agrees (Answer words held) report) → status_of report ≡ 0
-    → (description block : List ℕ) → order_of words ≡ Some (schedule description block) → AnswersSchedule held description block 0 (text_of report)
-report_schedules words held old new steady Memory same answer zero description block is = absurd (omega (arith, zero))
-report_schedules words held old new steady (File name) same answer zero description block is = absurd (omega (arith, zero))
-report_schedules words held old new steady _ same answer zero description block is = scheduled words held _ _ description block (answer (inl same)) zero is
+report_answers : (words : List (List ℕ)) (held : Held) (old new : ℕ) (steady : Type 0) (report : Report) → CountsReport old new report → ((new ≡ old) ⊎ steady → Agrees (Answer words held) report) → status_of report ≡ 0
+    → (order : Order) → order_of words ≡ Some order → AnswersOrder held order 0 (text_of report)
+report_answers words held old new steady Memory same answer zero order is = absurd (omega (arith, zero))
+report_answers words held old new steady (File name) same answer zero order is = absurd (omega (arith, zero))
+report_answers words held old new steady _ same answer zero order is = ordered words held _ _ order (answer (inl same)) zero is
 
--- what is written of it keeps the block, and `replay` accepts it
+-- what is written of a schedule keeps the block, and `replay` accepts it
 pub appends_schedule : (words : List (List ℕ)) (held : Held) (old new : ℕ) (steady : Type 0) (report : Report) (before after : Option (List ℕ)) → CountsReport old new report → ((new ≡ old) ⊎ steady → Agrees (Answer words held) report) → status_of report ≡ 0
     → (description block : List ℕ) → order_of words ≡ Some (schedule description block) → IsAppended before after (text_of report) → AppendsSchedule held description block before after
 appends_schedule words held old new steady report before after same answer zero description block is appended =
-    let h = report_schedules words held old new steady report same answer zero description block is in
+    let h = report_answers words held old new steady report same answer zero (schedule description block) is in
     let w = writes_schedule held description block (text_of report) h in
     record { text = text_of report; writes = w; replays = accepts_schedule held description block (text_of report) w h; appended = appended }
+
+-- what is written of tables is of the description, and `walk` on it answers as `replay`
+pub appends_tables : (words : List (List ℕ)) (held : Held) (old new : ℕ) (steady : Type 0) (report : Report) (before after : Option (List ℕ)) → CountsReport old new report → ((new ≡ old) ⊎ steady → Agrees (Answer words held) report) → status_of report ≡ 0
+    → (description : List ℕ) → order_of words ≡ Some (compile description) → IsAppended before after (text_of report) → AppendsTables held description before after
+appends_tables words held old new steady report before after same answer zero description is appended =
+    let h = report_answers words held old new steady report same answer zero (compile description) is in
+    record { text = text_of report; writes = writes_tables held description (text_of report) h; walks = walk_is_replay held description (text_of report) h; appended = appended }

@@ -5,7 +5,7 @@ use Rattle.std.specs.Option.{option_map}
 use Rattle.std.proofs.lemmas.List.{length-map}
 use Rattle.std.proofs.lemmas.Option.{slice_get-map, slice_get-get_or}
 use Rattle.hz_acceptance_model.specs.Events.{Event}
-use Rattle.hz_answer_model.specs.Answers.{Traces}
+use Rattle.hz_answer_model.specs.Phases.{Traces}
 use Rattle.hz_answer_model.specs.FaultTexts.{trace_word}
 use Rattle.hz_answer_model.specs.Texts.{fault_line}
 use Rattle.std.specs.List.{onto_first}

@@ -1,5 +1,5 @@
 -- What is decided before anything is written.
-use Rattle.std.specs.Prelude.{◌≡◌, ◌⊎◌, ℕ, ◌+◌, ◌<◌, ⊤, List, Option, Some, None, length, Result, MatchResult, MatchOption, MatchBool, Bool, true, false}
+use Rattle.std.specs.Prelude.{◌≡◌, ◌⊎◌, ℕ, ◌+◌, ◌<◌, ⊤, List, Option, Some, None, length, Result, Err, MatchResult, MatchOption, MatchBool, Bool, true, false}
 use Rattle.std.specs.declared.alloc.Global.{Global}
 use Rattle.std.specs.declared.vec.Vec.{Vec}
 use Rattle.hz_check.specs.Faults.{limit_of, IsToldAt}
@@ -13,14 +13,16 @@ use Rattle.hz_mdread_model.specs.DescriptionForms as description_forms
 use Rattle.hz_mdread_model.specs.Descriptions.{Description}
 use Rattle.hz_sexp_model.specs.Forms as forms
 use Rattle.hz_sexp_model.specs.Trees.{Trees}
-use Rattle.hz_words_model.specs.Words.{Order, replay, schedule, eval, order_of}
-use Rattle.hz_report.specs.Kinds.{form_fault, description_fault, expression_fault, named_fault, rtl_fault, trace_fault}
+use Rattle.hz_words_model.specs.Words.{Order, compile, replay, walk, schedule, eval, order_of}
+use Rattle.hz_report.specs.Kinds.{form_fault, description_fault, expression_fault, named_fault, rtl_fault, tables_fault, trace_fault}
 use Rattle.hz_rtltext_model.specs.Operands.{RtlFault}
+use Rattle.hz_tabfile.specs.Saying.{IsSayable}
+use Rattle.hz_tabtext_model.specs.Reading.{tables_in}
 use Rattle.hz_trace_model.specs.Traces.{TraceFaultAt}
 use Rattle.hz_report.specs.Reports.{status_of, text_of}
 use Rattle.hz_report.specs.Schedules.{IsInRange}
 use Rattle.hz_report.specs.declared.report.Report.{Report}
-use Rattle.hz_report.specs.declared.report.Report.TheVariants.{Scheduled, Fault, Expression, Named, Passed, Long, Usage, Memory, File}
+use Rattle.hz_report.specs.declared.report.Report.TheVariants.{Tables, Scheduled, Fault, Expression, Named, Passed, Long, Usage, Memory, File}
 
 -- the report is that memory ran out
 abbrev pub is_memory : Report → Bool
@@ -52,7 +54,9 @@ IsOfOrder _ = ⊤
 
 -- the file words of an order
 abbrev pub IsFileOf : Order → List ℕ → Type 0
+IsFileOf (compile description) name = name ≡ description
 IsFileOf (replay description trace) name = (name ≡ description) ⊎ (name ≡ trace)
+IsFileOf (walk tables trace) name = (name ≡ tables) ⊎ (name ≡ trace)
 IsFileOf (schedule description block) name = (name ≡ description) ⊎ (name ≡ block)
 IsFileOf (eval block state) name = (name ≡ block) ⊎ (name ≡ state)
 
@@ -113,23 +117,30 @@ IsRtlReport name wrong (Fault file line kind) = (file.now ≡ name) × MatchOpti
 IsRtlReport name wrong Memory = ⊤
 IsRtlReport name wrong _ = ⊥
 
+-- a report of a tables text: its first fault, or memory ran out
+abbrev pub IsTablesReport : List ℕ → List ℕ → Report → Type 0
+IsTablesReport name text (Fault file line kind) = (file.now ≡ name) × MatchOption (tables_fault kind) ⊥ (λ wrong. tables_in text ≡ Err (record { kind = wrong; line = line }))
+IsTablesReport name text Memory = ⊤
+IsTablesReport name text _ = ⊥
+
 -- a report of a trace of classes with these names: its first wrong line, or memory ran out
 abbrev pub IsTraceReport : List ℕ → List (List ℕ) → List ℕ → Report → Type 0
 IsTraceReport name classes text (Fault file line kind) = (file.now ≡ name) × MatchOption (trace_fault kind) ⊥ (λ fault. TraceFaultAt classes text fault line)
 IsTraceReport name classes text Memory = ⊤
 IsTraceReport name classes text _ = ⊥
 
--- a report of texts that were judged: what a schedule names is in range
+-- a report of texts that were judged: what tables tell can be said, and what a schedule names is in range
 abbrev pub IsJudged : Report → Type 0
+IsJudged (Tables compiled checked) = IsSayable compiled checked
 IsJudged (Scheduled machine graph made) = IsInRange machine graph made
 IsJudged (Long file) = ⊥
 IsJudged Usage = ⊥
 IsJudged (File file) = ⊥
 IsJudged _ = ⊤
 
--- the report is the usage line exactly where the words are no order
+-- the report is the usage line exactly where the words are no order; memory may run out in its place
 abbrev pub ReportsWords : Option Order → Report → Type 0
-ReportsWords order report = MatchOption order (report ≡ Usage) (λ _. IsOfOrder report)
+ReportsWords order report = MatchOption order ((report ≡ Usage) ⊎ (report ≡ Memory)) (λ _. IsOfOrder report)
 
 -- a file word of the words, where they are an order
 abbrev pub IsFileWord : List (List ℕ) → List ℕ → Type 0

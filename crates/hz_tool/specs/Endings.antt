@@ -2,7 +2,7 @@
 use Rattle.std.specs.Prelude.{◌≡◌, ◌⊎◌, ℕ, ◌<◌, List, ◌++◌, length, Option, Some}
 use Rattle.std.specs.Option.{ForSome}
 use Rattle.hz_answer_model.specs.Answers.{Answer}
-use Rattle.hz_answer_model.specs.Headline.{WritesSchedule, ReplayAccepts}
+use Rattle.hz_answer_model.specs.Headline.{WritesSchedule, ReplayAccepts, WritesTables, WalkIsReplay}
 use Rattle.hz_answer_model.specs.Phases.{Held}
 use Rattle.hz_answer_model.specs.Texts.{memory_line, file_line}
 use Rattle.hz_tool.specs.Decisions.{IsFileWord}
@@ -46,4 +46,11 @@ pub record AppendsSchedule (held : Held) (description block : List ℕ) (old new
   pub text : List ℕ
   pub writes : WritesSchedule held description block text
   pub replays : ReplayAccepts held description writes.d writes.g writes.slots
+  pub appended : IsAppended old new text
+
+-- The text that was appended says what is compiled of the description, and `walk` on it answers as `replay` does on the description.
+pub record AppendsTables (held : Held) (description : List ℕ) (old new : Option (List ℕ)) : Type 0 where
+  pub text : List ℕ
+  pub writes : WritesTables held description text
+  pub walks : WalkIsReplay held description text
   pub appended : IsAppended old new text

@@ -1,4 +1,5 @@
 pub mod Blocks
+pub mod Compiled
 pub mod Decisions
 pub mod Endings
 pub mod Fronts

@@ -2,6 +2,7 @@
 
 ghost use Rattle.std.specs.Prelude.{◌≡◌, ◌<◌, IfOk, IfErr, [], length, map, slice_index_or};
 ghost use Rattle.hz_auto.specs.Machines.{IsFaultOf};
+ghost use Rattle.hz_tool.specs.Compiled.{IsCompiledBy};
 ghost use Rattle.hz_check.specs.Checked.{IsCheckedOf};
 ghost use Rattle.hz_mdread_model.specs.Descriptions.{Description};
 ghost use Rattle.hz_sched_model.specs.Machines.{Settles};
@@ -10,7 +11,7 @@ ghost use Rattle.hz_tool.specs.Decisions.{IsJudged};
 ghost use Rattle.hz_tool.specs.Fronts.{IsStatesReport, IsLimitReport};
 ghost use Rattle.hz_tool.specs.Machines.{IsMachineFor};
 
-use hz_auto::{AutoFault, compile};
+use hz_auto::{AutoFault, Compiled, compile};
 use hz_check::Checked;
 use hz_report::Report;
 use hz_tables::Machine;
@@ -40,6 +41,22 @@ fn fault_report<'a>(file: &'a str, checked: &Checked, fault: AutoFault) -> Repor
     }
 }
 
+/// What is compiled of a description without a fault, or the report of its first automaton that has too many states.
+pub fn judge_compiled<'a>(
+    alloc: Global,
+    file: &'a str,
+    checked: &Checked,
+) -> Result<Compiled, Report<'a>>
+    ensures ok { IfOk result (IsCompiledBy checked.now) }
+    ensures kind { IfErr result IsJudged }
+    ensures err { IfErr result (λ report. (d : Description) (is : IsCheckedOf d checked.now) → IsLimitReport file.entry.now d is.known report) }
+{
+    match compile(alloc, checked) {
+        Ok(compiled) => Ok(compiled),
+        Err(fault) => Err(fault_report(file, checked, fault)),
+    }
+}
+
 /// The machine of a description without a fault, or the report of its first automaton that has too many states.
 pub fn judge_states<'a>(
     alloc: Global,
@@ -52,8 +69,8 @@ pub fn judge_states<'a>(
     ensures kind { IfErr result IsJudged }
     ensures err { IfErr result (λ report. (d : Description) (is : IsCheckedOf d checked.now) → IsLimitReport file.entry.now d is.known report) }
 {
-    match compile(alloc, checked) {
+    match judge_compiled(alloc, file, checked) {
         Ok(compiled) => Ok(compiled.machine),
-        Err(fault) => Err(fault_report(file, checked, fault)),
+        Err(report) => Err(report),
     }
 }

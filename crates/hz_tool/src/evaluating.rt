@@ -11,11 +11,11 @@ ghost use Rattle.hz_sexp.specs.Shape.{trees};
 ghost use Rattle.hz_tool.specs.Decisions.{Agrees, IsJudged};
 
 use super::judging::{judge_block, judge_forms, judge_state};
-use super::words::EvalOrder;
 use hz_regexp::NoMemory;
 use hz_report::Report;
 use hz_rtl::{Block, State, eval};
 use hz_sexp::Form;
+use hz_words::EvalOrder;
 use std::alloc::Global;
 
 /// The state that a block leaves, in the order of its source.

@@ -8,7 +8,8 @@ mod judging;
 mod read;
 mod replaying;
 mod scheduling;
+mod tabulating;
 mod top;
-mod words;
+mod walking;
 
 pub use top::run;

@@ -3,26 +3,25 @@
 ghost use Rattle.std.specs.Prelude.{◌≡◌, ℕ, ◌<◌, ◌≤◌, ◌^◌, length, All};
 ghost use Rattle.hz_base_model.specs.Limits.{advance_limit};
 ghost use Rattle.hz_acceptance_model.specs.Events.{issue, cycles_of, IsOfClass};
-ghost use Rattle.hz_answer_model.specs.Answers.{Replays, ReplaysTrace, ReplaysDescription, Judges};
+ghost use Rattle.hz_answer_model.specs.Answers.{ReplaysDescription, Judges};
+ghost use Rattle.hz_answer_model.specs.TableAnswers.{Walks, WalksTrace};
 ghost use Rattle.hz_check.specs.Checked.{IsCheckedOf};
-ghost use Rattle.hz_check_model.specs.Places.{Known};
 ghost use Rattle.hz_mdread_model.specs.Descriptions.{Description};
-ghost use Rattle.hz_pipeline_model.specs.Pipelines.{pipeline_with};
 ghost use Rattle.hz_replay.specs.Lines.{event_of};
 ghost use Rattle.hz_replay.specs.Replaying.{IsOutcome};
 ghost use Rattle.hz_replay.specs.Traces.{events_in, lines_in};
 ghost use Rattle.hz_tables.specs.Machines.{machine_of};
 ghost use Rattle.hz_tool.specs.Decisions.{Agrees, IsJudged};
-ghost use Rattle.hz_tool.specs.Machines.{IsMachineFor, IsIssueIn, Refuses};
+ghost use Rattle.hz_tool.specs.Machines.{IsIssueIn, Refuses};
 
 use super::compiling::judge_states;
 use super::describing::judge_described;
 use super::judging::judge_trace;
-use super::words::ReplayOrder;
 use hz_check::Checked;
 use hz_replay::{Event, Outcome, What, replay};
 use hz_report::Report;
 use hz_tables::{Machine, Steps};
+use hz_words::ReplayOrder;
 use std::alloc::Global;
 use std::marker::Brand;
 use std::sync::ledger::{Blank, Ledger};
@@ -78,7 +77,7 @@ fn outcome_report<'a>(machine: &Machine, events: &[Event], outcome: Outcome) -> 
     requires classes { All (IsOfClass (length machine.now.classes.items)) (events_in events.now) }
     requires outcome { IsOutcome (machine_of machine.now) (events_in events.now) outcome }
     ensures kind { IsJudged result }
-    ensures answer { (d : Description) (known : Known) → IsMachineFor d known (machine_of machine.now) → Agrees (Replays (pipeline_with d known) (lines_in events.now) (events_in events.now)) result }
+    ensures answer { Agrees (Walks (machine_of machine.now) (lines_in events.now) (events_in events.now)) result }
 {
     match outcome {
         Outcome::Accepted { issues, cycles } => Report::Accepted { issues, cycles },
@@ -86,11 +85,11 @@ fn outcome_report<'a>(machine: &Machine, events: &[Event], outcome: Outcome) -> 
     }
 }
 
-/// The report of a trace over the machine of a description.
-fn trace_report<'a>(alloc: Global, file: &'a str, machine: &Machine, trace: &[u8]) -> Report<'a>
+/// The report of a trace over a machine.
+pub fn trace_report<'a>(alloc: Global, file: &'a str, machine: &Machine, trace: &[u8]) -> Report<'a>
     requires { length trace.now < 2 ^ 32 }
     ensures kind { IsJudged result }
-    ensures answer { (d : Description) (known : Known) → IsMachineFor d known (machine_of machine.now) → Agrees (ReplaysTrace file.entry.now trace.now d known) result }
+    ensures answer { Agrees (WalksTrace file.entry.now trace.now (machine_of machine.now)) result }
 {
     let events = match judge_trace(alloc, file, machine, trace) {
         Ok(events) => events,

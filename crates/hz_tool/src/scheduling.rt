@@ -25,7 +25,6 @@ ghost use Rattle.hz_tool.specs.Blocks.{IsFaultIn};
 use super::compiling::judge_states;
 use super::describing::judge_described;
 use super::judging::{judge_block, judge_forms};
-use super::words::ScheduleOrder;
 use hz_check::Checked;
 use hz_depend::{ClassFault, DependFault, Graph, graph};
 use hz_regexp::{Name, NoMemory};
@@ -34,6 +33,7 @@ use hz_rtl::{Block, Insn};
 use hz_sched::{SchedFault, schedule};
 use hz_sexp::Form;
 use hz_tables::Machine;
+use hz_words::ScheduleOrder;
 use std::alloc::Global;
 
 /// The names of two classes.

@@ -2,21 +2,25 @@
 
 ghost use Rattle.std.specs.Prelude.{◌≡◌, ◌⊎◌, ◌↔◌, ℕ, List, ◌-◌, ◌^◌, ◌<◌, ◌≤◌, None};
 ghost use Rattle.std.specs.Option.{ForSome};
-ghost use Rattle.hz_answer_model.specs.Answers.{Answer, AnswersReplay, AnswersSchedule, AnswersEval, AnswersOrder};
+ghost use Rattle.hz_answer_model.specs.Answers.{Answer, AnswersCompile, AnswersReplay, AnswersWalk, AnswersSchedule, AnswersEval, AnswersOrder};
 ghost use Rattle.hz_answer_model.specs.Texts.{usage_line, memory_line};
 ghost use Rattle.hz_words_model.specs.Words as model;
 ghost use Rattle.hz_report.specs.Reports.{IsTellable};
 ghost use Rattle.hz_tool.specs.Decisions.{Agrees, CountsReport, NamesFile, IsOfOrder, IsFileOf, IsFileWord, ReportsWords};
-ghost use Rattle.hz_tool.specs.Endings.{IsAppended, AppendsFile, AppendsSchedule, Completes, IsCutShort};
-ghost use Rattle.hz_tool.specs.Words.{words_in, order_in};
+ghost use Rattle.hz_tool.specs.Endings.{IsAppended, AppendsFile, AppendsSchedule, AppendsTables, Completes, IsCutShort};
+ghost use Rattle.hz_words.specs.Shape.{words_in, order_in};
 
 use super::evaluating::judge_eval;
 use super::read::read_file;
 use super::replaying::judge_replay;
 use super::scheduling::judge_schedule;
-use super::words::{EvalOrder, Order, ReplayOrder, ScheduleOrder, order_of};
+use super::tabulating::judge_compile;
+use super::walking::judge_walk;
 use hz_io::{Files, Sink};
 use hz_report::{Report, write_report};
+use hz_words::{
+    CompileOrder, EvalOrder, Order, ReplayOrder, ScheduleOrder, WalkOrder, order_of,
+};
 use std::alloc::Global;
 
 /// Bytes of a description, at most.
@@ -25,11 +29,54 @@ const DESCRIPTION_LIMIT: u64 = 4_194_304;
 /// Bytes of a trace, at most.
 const TRACE_LIMIT: u64 = 67_108_864;
 
+/// Bytes of a tables text, at most.
+const TABLES_LIMIT: u64 = 536_870_912;
+
 /// Bytes of a block, at most.
 const BLOCK_LIMIT: u64 = 4_194_304;
 
 /// Bytes of the text of a state, at most.
 const STATE_LIMIT: u64 = 4_194_304;
+
+/// The report of the tables of a description.
+fn decide_compile<'a, F: Files>(
+    alloc: Global,
+    order: CompileOrder<'a>,
+    files: &mut F,
+) -> Report<'a>
+    requires { F.faults files.old < 2 ^ 64 - 1 }
+    ensures counts { CountsReport (F.faults files.old) (F.faults files.new) result }
+    ensures order { IsOfOrder result }
+    ensures tells { IsTellable result }
+    ensures file { NamesFile (IsFileOf (model.compile order.entry.description.now)) result }
+    ensures answer { ForSome (F.held files.old) (λ held. (F.faults files.new ≡ F.faults files.old) ⊎ F.steady files.old → Agrees (AnswersCompile held order.entry.description.now) result) }
+{
+    let description = match read_file(alloc, files, order.description, DESCRIPTION_LIMIT) {
+        Ok(description) => description,
+        Err(report) => return report,
+    };
+    judge_compile(alloc, &order, description.as_slice())
+}
+
+/// The report of a walk: both files are read before either is judged.
+fn decide_walk<'a, F: Files>(alloc: Global, order: WalkOrder<'a>, files: &mut F) -> Report<'a>
+    requires { F.faults files.old < 2 ^ 64 - 1 }
+    ensures counts { CountsReport (F.faults files.old) (F.faults files.new) result }
+    ensures order { IsOfOrder result }
+    ensures tells { IsTellable result }
+    ensures file { NamesFile (IsFileOf (model.walk order.entry.tables.now order.entry.trace.now)) result }
+    ensures answer { ForSome (F.held files.old) (λ held. (F.faults files.new ≡ F.faults files.old) ⊎ F.steady files.old → Agrees (AnswersWalk held order.entry.tables.now order.entry.trace.now) result) }
+{
+    let tables = match read_file(alloc, files, order.tables, TABLES_LIMIT) {
+        Ok(tables) => tables,
+        Err(report) => return report,
+    };
+    let trace = match read_file(alloc, files, order.trace, TRACE_LIMIT) {
+        Ok(trace) => trace,
+        Err(report) => return report,
+    };
+    judge_walk(alloc, &order, tables.as_slice(), trace.as_slice())
+}
 
 /// The report of a replay: both files are read before either is judged.
 fn decide_replay<'a, F: Files>(alloc: Global, order: ReplayOrder<'a>, files: &mut F) -> Report<'a>
@@ -105,7 +152,9 @@ fn decide_order<'a, F: Files>(alloc: Global, order: Order<'a>, files: &mut F) ->
     ensures answer { ForSome (F.held files.old) (λ held. (F.faults files.new ≡ F.faults files.old) ⊎ F.steady files.old → Agrees (AnswersOrder held (order_in order.entry)) result) }
 {
     match order {
+        Order::Compile(order) => decide_compile(alloc, order, files),
         Order::Replay(order) => decide_replay(alloc, order, files),
+        Order::Walk(order) => decide_walk(alloc, order, files),
         Order::Schedule(order) => decide_schedule(alloc, order, files),
         Order::Eval(order) => decide_eval(alloc, order, files),
     }
@@ -120,9 +169,10 @@ fn decide<'a, F: Files>(alloc: Global, words: &'a [String], files: &mut F) -> Re
     ensures file { NamesFile (IsFileWord (words_in words.entry.now)) result }
     ensures answer { ForSome (F.held files.old) (λ held. (F.faults files.new ≡ F.faults files.old) ⊎ F.steady files.old → Agrees (Answer (words_in words.entry.now) held) result) }
 {
-    match order_of(words) {
-        Some(order) => decide_order(alloc, order, files),
-        None => Report::Usage,
+    match order_of(alloc, words) {
+        Ok(Some(order)) => decide_order(alloc, order, files),
+        Ok(None) => Report::Usage,
+        Err(_) => Report::Memory,
     }
 }
 
@@ -138,7 +188,8 @@ pub fn run<F: Files, S: Sink>(alloc: Global, words: &[String], files: &mut F, ou
     ensures lacks { ForSome (F.held files.old) (λ held. F.steady files.old → F.faults files.old < F.faults files.new → (text : List ℕ) × Answer (words_in words.now) held 6 text) }
     ensures rises { F.faults files.old ≤ F.faults files.new }
     ensures fails { S.faults out.old ≤ S.faults out.new }
-    ensures words { F.faults files.new ≡ F.faults files.old → S.faults out.new ≡ S.faults out.old → ((result ≡ 4) ↔ (model.order_of (words_in words.now) ≡ None)) }
+    ensures words { result ≡ 4 → model.order_of (words_in words.now) ≡ None }
+    ensures usage_or_memory { model.order_of (words_in words.now) ≡ None → S.faults out.new ≡ S.faults out.old → (result ≡ 4) ⊎ (result ≡ 5) }
 
     // What is written.
     ensures usage { result ≡ 4 → IsAppended (S.written out.old) (S.written out.new) usage_line }
@@ -149,6 +200,10 @@ pub fn run<F: Files, S: Sink>(alloc: Global, words: &[String], files: &mut F, ou
     ensures complete { ForSome (F.held files.old) (λ held. S.faults out.new ≡ S.faults out.old → (F.faults files.new ≡ F.faults files.old) ⊎ F.steady files.old → Completes (words_in words.now) held result (S.written out.old) (S.written out.new)) }
     ensures exact { ForSome (F.held files.old) (λ held. S.faults out.new ≡ S.faults out.old → (F.faults files.new ≡ F.faults files.old) ⊎ F.steady files.old → (status : ℕ) (text : List ℕ) → Answer (words_in words.now) held status text → (result ≡ status) ⊎ (result ≡ 5)) }
     ensures cut { ForSome (F.held files.old) (λ held. result ≡ 7 → IsCutShort (words_in words.now) held (F.faults files.old < F.faults files.new) (S.written out.old) (S.written out.new) (S.room out.old)) }
+
+    // The tables that are written are of what is compiled of the description, and `walk` on them answers to every trace what `replay`
+    // answers on it.
+    ensures tables { ForSome (F.held files.old) (λ held. result ≡ 0 → (description : List ℕ) → model.order_of (words_in words.now) ≡ Some (model.compile description) → AppendsTables held description (S.written out.old) (S.written out.new)) }
 
     // A schedule keeps its block: each instruction once, every latency and bypass, in an order that `replay` accepts and that from
     // every state leaves what source order leaves.

@@ -1,10 +1,5 @@
-use Rattle.std.proofs.Common.{ℕ, List, [], map, subst}
-use Rattle.hz_check.specs.Shape.{automaton_of}
-use Rattle.hz_mdread.specs.Shape.{options as options_of}
-use Rattle.hz_auto.specs.Machines.{reports_of}
-use Rattle.hz_tables.specs.Machines.{machine_of}
+use Rattle.std.proofs.Common.{ℕ, List, [], subst}
 use Rattle.hz_tabtext_model.specs.Texts.{spelled}
-use Rattle.hz_tabtext_model.proofs.SaidLaws.{said_is_text}
 use Rattle.hz_io.specs.Sink.{Cut}
 use Rattle.hz_tabfile.specs.Pages.{Added, Stopped}
 use Rattle.hz_tabfile.specs.Saying.{says}
@@ -20,9 +15,3 @@ returns-in-Ok-clause-written g c =
 pub returns-in-Err-clause-written : goal.returns-in-Err-clause-written
 returns-in-Err-clause-written g c =
     none_stopped (subst (λ (held : List ℕ). Stopped g.S.Sink.written g.S.Sink.room g.S.Sink.faults c.args.out.now c.add_tables.new.out held (spelled (says c.args.compiled.now c.args.checked.now))) c.new-page.ensures c.in-Err.ensures)
-
-pub returns-in-Ok-clause-stands : goal.returns-in-Ok-clause-stands
-returns-in-Ok-clause-stands g c = said_is_text (options_of c.args.compiled.now.options) (map automaton_of c.args.checked.now.automata.items) (reports_of c.args.compiled.now.reports.items) (machine_of c.args.compiled.now.machine) c.requires.sayable c.args.compiled.now.machine.kept c.is_in_range.ensures
-
-pub returns-in-Err-clause-stands : goal.returns-in-Err-clause-stands
-returns-in-Err-clause-stands g c = said_is_text (options_of c.args.compiled.now.options) (map automaton_of c.args.checked.now.automata.items) (reports_of c.args.compiled.now.reports.items) (machine_of c.args.compiled.now.machine) c.requires.sayable c.args.compiled.now.machine.kept c.is_in_range.ensures

@@ -10,11 +10,10 @@ use Rattle.hz_tool.proofs.MachineLemmas.{refusal}
 use Rattle.hz_tool.proofs.replaying.outcome_report.Goals as goal
 
 pub returns-in-Refused-clause-answer : goal.returns-in-Refused-clause-answer
-returns-in-Refused-clause-answer c = λ d known is.
+returns-in-Refused-clause-answer c =
     let m = machine_of c.args.machine.now in
     let events = events_in c.args.events.now in
     let first = subst (IsOutcome m events) c.in-Refused.is c.requires.outcome in
     let low = first.within in
     let within : c.in-Refused.event < length c.args.events.now = omega (arith, low, length-map c.args.events.now (λ (e : Event). event_of e.what)) in
-    let told = c.refused_report.ensures.answer in
-    refusal d known m is (lines_in c.args.events.now) events c.requires.classes c.in-Refused.event _ _ c.refused_report.result first (event_there c.args.events.now c.in-Refused.event some_event within) (line_there c.args.events.now c.in-Refused.event some_event within) told
+    refusal m (lines_in c.args.events.now) events c.in-Refused.event _ _ c.refused_report.result first (event_there c.args.events.now c.in-Refused.event some_event within) (line_there c.args.events.now c.in-Refused.event some_event within) c.refused_report.ensures.answer

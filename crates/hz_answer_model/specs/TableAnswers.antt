@@ -1,0 +1,57 @@
+-- What `compile` and `walk` answer: this profile, docs/FORMATS.md, 'Answers'.
+use Rattle.std.specs.Prelude.{◌≡◌, ℕ, ◌+◌, List, [], ◌∷◌, map, take, slice_get, Option, Some, None, IsSome, Err, ◌⊎◌}
+use Rattle.hz_acceptance_model.specs.Events.{Event, issue, issues_of, cycles_of}
+use Rattle.hz_auto_model.specs.Compiled.{Report, IsCompiled}
+use Rattle.hz_base_model.specs.Lines.{lines_of}
+use Rattle.hz_check_model.specs.CheckedParts.{automata_of, class_parts}
+use Rattle.hz_check_model.specs.Places.{Known}
+use Rattle.hz_mdread_model.specs.Descriptions.{Description}
+use Rattle.hz_tables_model.specs.Machines.{Machine, machine_walk}
+use Rattle.hz_tabtext_model.specs.Judging.{Fault}
+use Rattle.hz_tabtext_model.specs.Reading.{tables_in}
+use Rattle.hz_tabtext_model.specs.Said.{tables_said}
+use Rattle.hz_tabtext_model.specs.Texts.{TableText, spelled}
+use Rattle.hz_trace_model.specs.Traces.{event_lines}
+use Rattle.hz_answer_model.specs.FaultTexts.{tables_word}
+use Rattle.hz_answer_model.specs.Phases.{Says, Next, Traces}
+use Rattle.hz_answer_model.specs.Texts.{fault_line, accepted_line, refused_line}
+
+-- bytes of a tables text, at most
+abbrev pub tables_limit : ℕ
+tables_limit = 536870912
+
+-- The text says what is compiled of a description: it stands for the machine, and tells beside it what the options ask for.
+pub record IsTablesOf (d : Description) (known : Known) (text : List ℕ) : Type 0 where
+  pub machine : Machine
+  pub reports : List Report
+  pub compiled : IsCompiled d.options (automata_of d) (map (class_parts d known) d.classes) machine reports
+  pub stands : TableText text machine
+  pub spells : text ≡ spelled (tables_said d.options (automata_of d) reports machine)
+
+-- the tables of a description are written
+abbrev pub WritesTablesOf : Description → Known → ℕ → List ℕ → Type 0
+WritesTablesOf d known status text = (status ≡ 0) × IsTablesOf d known text
+
+-- the machine of a tables text, or its first fault
+abbrev pub HasTables : List ℕ → List ℕ → Next Machine → ℕ → List ℕ → Type 0
+HasTables name bytes next status text =
+    ((m : Machine) × TableText bytes m × next m status text)
+    ⊎ ((fault : Fault) × (tables_in bytes ≡ Err fault) × Says 2 (fault_line name fault.line (tables_word fault.kind ∷ [])) status text)
+
+-- the machine walks all events before the one of this place, and not that one
+abbrev pub IsFirstUnwalked : Machine → List Event → ℕ → Type 0
+IsFirstUnwalked m events i = IsSome (machine_walk m (take i events)) × (machine_walk m (take (i + 1) events) ≡ None)
+
+-- the class of a machine that an event issues
+abbrev pub IsIssueIn : Machine → Option Event → List ℕ → Type 0
+IsIssueIn m e name = (class : ℕ) × (e ≡ Some (issue class)) × (slice_get m.classes class ≡ Some name)
+
+-- the walk of events that stand on these lines: accepted, or refused at the first event that is not walked
+abbrev pub Walks : Machine → List ℕ → List Event → ℕ → List ℕ → Type 0
+Walks m lines events status text =
+    (IsSome (machine_walk m events) × Says 0 (accepted_line (issues_of events) (cycles_of events)) status text)
+    ⊎ ((i line : ℕ) × (class : List ℕ) × IsFirstUnwalked m events i × (slice_get lines i ≡ Some line) × IsIssueIn m (slice_get events i) class × Says 1 (refused_line line class) status text)
+
+-- the trace of a machine's classes is judged, and walked
+abbrev pub WalksTrace : List ℕ → List ℕ → Machine → ℕ → List ℕ → Type 0
+WalksTrace trace traced m = Traces m.classes trace traced (Walks m (event_lines m.classes 1 (lines_of traced)))
