@@ -4,3 +4,6 @@ pub mod WordLaws
 pub mod LeftLaws
 pub mod PartLaws
 pub mod MachineLaws
+pub mod OrderLaws
+pub mod ShownLaws
+pub mod ReportLaws

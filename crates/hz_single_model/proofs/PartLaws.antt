@@ -15,7 +15,6 @@ use Rattle.hz_reach_model.specs.Reach.{IsReachedGrid}
 use Rattle.hz_reach_model.specs.Counts.{IsAtMost}
 use Rattle.hz_minim_model.proofs.NormalLaws.{normal_one}
 use Rattle.hz_auto_model.specs.AutomatonPipelines.{lists_at, automaton_pipeline}
-use Rattle.hz_auto_model.specs.ClassColumns.{IsColumns}
 use Rattle.hz_auto_model.specs.CompiledParts.{WalksAccepted, TellsWhatIsLeft}
 use Rattle.hz_auto_model.specs.Compiled.{Report, IsCompiledPart}
 use Rattle.hz_auto_model.proofs.LimitLaws.{columns_same}
@@ -81,12 +80,16 @@ both_ways true b f g = sym (f refl)
 both_ways false true f g = g refl
 both_ways false false f g = refl
 
--- each column is that of a class
-filled_columns : (lists columns : List (List (List (Pair ℕ)))) (classes : ℕ) (part : Part) → length lists ≡ classes → IsColumns lists columns part.map → length columns ≡ part.columns → IsFilled classes part
-filled_columns lists columns classes part count is number column low =
-    let class = is.first column (omega (arith, number, low)) in
+-- each column of a compiled part is that of a class
+pub filled_part : (stay : Bool) (options : Options) (automata : List AutomatonParts) (classes : List ClassParts) (a : ℕ) (part : Part) (report : Report) → IsCompiledPart stay options automata classes a part report → IsFilled (length classes) part
+filled_part stay options automata classes a part report p column low =
+    let class = p.shared.first column (omega (arith, p.number, low)) in
     let inside = class.1 in
-    (class.0, omega (arith, inside, count), get_or_default part.map class.0 (part.columns + 1) 0 (omega (arith, inside, is.each)) ∙ class.2)
+    let count : length (lists_at classes a) ≡ length classes = length-map classes (λ c. _) in (
+      class.0,
+      omega (arith, inside, count),
+      get_or_default part.map class.0 (part.columns + 1) 0 (omega (arith, inside, p.shared.each)) ∙ class.2,
+    )
 
 module _ (stay : Bool) (options : Options) (automata : List AutomatonParts) (classes : List ClassParts) (a : ℕ) (part other : Part) (report report' : Report) (is : IsTable part.rows part.columns) (is' : IsTable other.rows other.columns) (p : IsCompiledPart stay options automata classes a part report) (q : IsCompiledPart stay options automata classes a other report') where
   abbrev m : Pipeline ℕ
@@ -95,17 +98,14 @@ module _ (stay : Bool) (options : Options) (automata : List AutomatonParts) (cla
   maps : part.map ≡ other.map
   maps = one_map (lists_at classes a) p.columns q.columns part.map other.map p.shared q.shared
 
-  pub numbers : part.columns ≡ other.columns
+  numbers : part.columns ≡ other.columns
   numbers = columns_same (lists_at classes a) part.columns other.columns (p.columns, part.map, p.shared, p.number) (q.columns, other.map, q.shared, q.number)
 
-  count : length (lists_at classes a) ≡ length classes
-  count = length-map classes (λ c. _)
-
   filled : IsFilled (length classes) part
-  filled = filled_columns (lists_at classes a) p.columns (length classes) part count p.shared p.number
+  filled = filled_part stay options automata classes a part report p
 
   filled' : IsFilled (length classes) other
-  filled' = filled_columns (lists_at classes a) q.columns (length classes) other count q.shared q.number
+  filled' = filled_part stay options automata classes a other report' q
 
   same_walks : WalkTheSame part.rows other.rows
   same_walks = record {
@@ -129,7 +129,7 @@ module _ (stay : Bool) (options : Options) (automata : List AutomatonParts) (cla
       (record { is = shape; parents = q.numbered.parents; order = order; apart = apart' })
       same_walks
 
-  pub rows : part.rows ≡ other.rows
+  rows : part.rows ≡ other.rows
   rows = rows_by stay p.tells q.tells
 
   pub one_part : part ≡ other
