@@ -1,0 +1,115 @@
+-- What is shown of the states of a part is determined, but for how the pairs of a grid are listed.
+use Rattle.std.proofs.Common.{Ordering, ◌≡◌, ◌≢◌, inl, inr, ℕ, zero, suc, ◌<◌, List, [], length, get_or, Contains, All, Some, refl, sym, ap, ◌∙◌, subst, arith}
+use Rattle.std.specs.Prelude.{slice_index_or}
+use Rattle.std.specs.List.{AllPairs}
+use Rattle.std.specs.List.Sorted.{IsSorted}
+use Rattle.std.specs.Cmp.{IsTotalOrder}
+use Rattle.std.specs.FinMap.{IsAntisymmetric, nat_cmp-IsAntisymmetric, slice_cmp-IsAntisymmetric}
+use Rattle.std.specs.Ordering.{nat_cmp, on, then_cmp}
+use Rattle.std.specs.Cmp.Lexicographic.{lists_total}
+use Rattle.std.specs.declared.cmp.Ordering.TheVariants.{Less, Equal, Greater}
+use Rattle.std.proofs.lemmas.Cmp.{nat_cmp_total, on_total, then_total}
+use Rattle.std.proofs.lemmas.List.{ext_get_or}
+use Rattle.std.proofs.lemmas.List.Elements.{All-contains}
+use Rattle.hz_base_model.specs.Pairs.{Pair, SamePairs}
+use Rattle.hz_base_model.proofs.Ascending.{same_from_ascending}
+use Rattle.hz_acceptance_model.specs.Replay.{Pipeline}
+use Rattle.hz_tables_model.specs.Tables.{Table, walk, IsTable, IsReached}
+use Rattle.hz_tables_model.specs.Orders.{IsFirstRead, place_of, IsBreadthFirst}
+use Rattle.hz_tables_model.specs.Machines.{Part}
+use Rattle.hz_reach_model.specs.Reach.{AreDifferent, IsLeft, SameGrids, HasGrids}
+use Rattle.hz_reach_model.proofs.CountLaws.{same_pairs_itself}
+use Rattle.hz_minim_model.proofs.PlaceLaws.{Order, before, after, at, order}
+use Rattle.hz_auto_model.specs.Compiled.{Shown, IsShown, grid_order}
+use Rattle.hz_auto_model.proofs.CompiledLaws.{left_same}
+use Rattle.hz_single_model.specs.Told.{ShowTheSame, Precedes, IsAscending}
+use Rattle.hz_single_model.proofs.OrderLaws.{sorted_one}
+use Rattle.hz_single_model.proofs.WordLaws.{IsFilled, spells_walked}
+
+-- ---- where states are read first
+
+place_one : (table : Table) (columns state : ℕ) (place mate : ℕ × ℕ) → IsFirstRead table columns state place → IsFirstRead table columns state mate → place ≡ mate
+place_one table columns state place mate read read' = by_order (order place mate)
+  where
+    by_order : Order place mate → place ≡ mate
+    by_order (before h) = absurd (read'.first place.0 place.1 h read.there)
+    by_order (after h) = absurd (read.first mate.0 mate.1 h read'.there)
+    by_order (at row column) = λ i. (row i, column i)
+
+parents_one : (table : Table) (columns : ℕ) (parents others : List (ℕ × ℕ)) → IsBreadthFirst table columns parents → IsBreadthFirst table columns others → parents ≡ others
+parents_one table columns parents others is also = ext_get_or (0, 0) parents others (is.each ∙ sym also.each) places
+  where
+    places : (state : ℕ) → state < length parents → place_of parents state ≡ place_of others state
+    places zero low = is.start ∙ sym also.start
+    places (suc state) low =
+        let row = is.each in
+        place_one table columns (suc state) (place_of parents (suc state)) (place_of others (suc state))
+        (is.read (suc state) (omega arith) (omega (arith, low, row))) (also.read (suc state) (omega arith) (omega (arith, low, row)))
+
+-- ---- grids that are listed in ascending order
+
+precedes_once : (p q : Pair ℕ) → Precedes p q → Precedes q p → ⊥
+precedes_once p q (inl a) (inl b) = omega (arith, a, b)
+precedes_once p q (inl a) (inr b) = omega (arith, a, b.0)
+precedes_once p q (inr a) (inl b) = omega (arith, a.0, b)
+precedes_once p q (inr a) (inr b) = omega (arith, a.1, b.1)
+
+grid_one : (x y : List (Pair ℕ)) → IsAscending x → IsAscending y → SamePairs x y → x ≡ y
+grid_one x y up up' same = same_from_ascending Precedes precedes_once x y up up' (λ p c. (same p).0 c) (λ p c. (same p).1 c)
+
+order_total : IsTotalOrder grid_order
+order_total = lists_total (then_total (on_total (λ (p : Pair ℕ). p.cycle) nat_cmp_total) (on_total (λ (p : Pair ℕ). p.unit) nat_cmp_total))
+
+order_tells : IsAntisymmetric grid_order
+order_tells = slice_cmp-IsAntisymmetric (λ p q e. pair_tells p q (nat_cmp p.cycle q.cycle) refl e)
+  where
+    pair_tells : (p q : Pair ℕ) (o : Ordering) → nat_cmp p.cycle q.cycle ≡ o → then_cmp (on (λ (r : Pair ℕ). r.cycle) nat_cmp) (on (λ (r : Pair ℕ). r.unit) nat_cmp) p q ≡ Equal → p ≡ q
+    pair_tells p q Less e h = absurd (let same = h in cc)
+    pair_tells p q Greater e h = absurd (let same = h in cc)
+    pair_tells p q Equal e h =
+        let cycles = nat_cmp-IsAntisymmetric p.cycle q.cycle e in
+        let units = nat_cmp-IsAntisymmetric p.unit q.unit (rw e at h) in
+        λ i. record { unit = units i; cycle = cycles i }
+
+-- lists of the same grids, each once, in ascending order
+module _ (xs ys : List (List (Pair ℕ))) (up : All IsAscending xs) (up' : All IsAscending ys) where
+  has : (vs ws : List (List (Pair ℕ))) → All IsAscending vs → All IsAscending ws → HasGrids vs ws → (x : List (Pair ℕ)) → Contains vs x → Contains ws x
+  has vs ws ups ups' there x c =
+      let found = there x c in
+      let same = grid_one x found.0 (All-contains IsAscending vs x ups c) (All-contains IsAscending ws found.0 ups' found.1) found.2 in
+      subst (Contains ws) (sym same) found.1
+
+  unequal : (vs : List (List (Pair ℕ))) → AreDifferent SamePairs vs → AllPairs (λ x y. x ≢ y) vs
+  unequal vs different i j d less inside e = different i j d less inside (subst (SamePairs (get_or vs i d)) e (same_pairs_itself (get_or vs i d)))
+
+  grids_one : IsSorted grid_order xs → IsSorted grid_order ys → AreDifferent SamePairs xs → AreDifferent SamePairs ys → SameGrids xs ys → xs ≡ ys
+  grids_one sorted sorted' different different' same = sorted_one grid_order order_total order_tells xs ys sorted sorted' (unequal xs different) (unequal ys different') (has xs ys up up' same.there) (has ys xs up' up same.back)
+
+-- ---- what is shown
+
+module _ (classes : ℕ) (m : Pipeline ℕ) (part : Part) (is : IsTable part.rows part.columns) (filled : IsFilled classes part) (reached : (state : ℕ) → state < length part.rows → IsReached part.rows state) (one other : Shown) (shows : IsShown classes m part one) (shows' : IsShown classes m part other) where
+  -- some events lead to a state, and leave its grids
+  both_left : (state : ℕ) → state < length part.rows → (t : _) × IsLeft m t (slice_index_or one.states state []) × IsLeft m t (slice_index_or other.states state [])
+  both_left state low =
+      let found = reached state low in
+      let s = spells_walked classes part is filled found.0 (Some 0) state found.1 in
+      let ends = ap (walk part.rows (Some 0)) s.word ∙ found.1 in
+      (s.events, shows.left s.events state s.inside ends, shows'.left s.events state s.inside ends)
+
+  pub show_the_same : ShowTheSame one other
+  show_the_same = record {
+    parents = parents_one part.rows part.columns one.parents other.parents shows.parents shows'.parents;
+    each = shows.each ∙ sym shows'.each;
+    states = λ state low.
+        let both = both_left state (omega (arith, low, shows.each)) in
+        left_same m both.0 (slice_index_or one.states state []) (slice_index_or other.states state []) both.1 both.2;
+  }
+
+  pub shown_one : All (λ grids. All IsAscending grids) one.states → All (λ grids. All IsAscending grids) other.states → one ≡ other
+  shown_one up up' = λ i. record { parents = show_the_same.parents i; states = states i }
+    where
+      states : one.states ≡ other.states
+      states = ext_get_or [] one.states other.states (shows.each ∙ sym shows'.each) (λ state low.
+          let both = both_left state (omega (arith, low, shows.each)) in
+          let low' : state < length other.states = omega (arith, low, shows.each, shows'.each) in
+          grids_one (slice_index_or one.states state []) (slice_index_or other.states state []) (up state [] low) (up' state [] low') (shows.ascending state [] low) (shows'.ascending state [] low') both.1.different both.2.different (show_the_same.states state low))
