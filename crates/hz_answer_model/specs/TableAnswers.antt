@@ -1,11 +1,12 @@
 -- What `compile` and `walk` answer: this profile, docs/FORMATS.md, 'Answers'.
-use Rattle.std.specs.Prelude.{◌≡◌, ℕ, ◌+◌, List, [], ◌∷◌, map, take, slice_get, Option, Some, None, IsSome, Err, ◌⊎◌}
+use Rattle.std.specs.Prelude.{◌≡◌, ℕ, ◌+◌, List, [], ◌∷◌, map, All, take, slice_get, Option, Some, None, IsSome, Err, ◌⊎◌}
 use Rattle.hz_acceptance_model.specs.Events.{Event, issue, issues_of, cycles_of}
 use Rattle.hz_auto_model.specs.Compiled.{Report, IsCompiled}
 use Rattle.hz_base_model.specs.Lines.{lines_of}
 use Rattle.hz_check_model.specs.CheckedParts.{automata_of, class_parts}
 use Rattle.hz_check_model.specs.Places.{Known}
 use Rattle.hz_mdread_model.specs.Descriptions.{Description}
+use Rattle.hz_single_model.specs.Told.{ListsAscending}
 use Rattle.hz_tables_model.specs.Machines.{Machine, machine_walk}
 use Rattle.hz_tabtext_model.specs.Judging.{Fault}
 use Rattle.hz_tabtext_model.specs.Reading.{tables_in}
@@ -20,11 +21,13 @@ use Rattle.hz_answer_model.specs.Texts.{fault_line, accepted_line, refused_line}
 abbrev pub tables_limit : ℕ
 tables_limit = 536870912
 
--- The text says what is compiled of a description: it stands for the machine, and tells beside it what the options ask for.
+-- The text says what is compiled of a description: it stands for the machine, and tells beside it what the options ask for, the
+-- pairs of each grid in ascending order.
 pub record IsTablesOf (d : Description) (known : Known) (text : List ℕ) : Type 0 where
   pub machine : Machine
   pub reports : List Report
   pub compiled : IsCompiled d.options (automata_of d) (map (class_parts d known) d.classes) machine reports
+  pub listed : All ListsAscending reports
   pub stands : TableText text machine
   pub spells : text ≡ spelled (tables_said d.options (automata_of d) reports machine)
 

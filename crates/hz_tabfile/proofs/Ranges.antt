@@ -25,6 +25,10 @@ all_made P make xs all = λ i d low. made_at P make xs all i d low
     made_at P make (x ∷ xs) all zero d low = all zero x (omega arith)
     made_at P make (x ∷ xs) all (suc i) d low = made_at P make xs (λ j e under. all (suc j) e (omega (arith, under))) i d (omega (arith, low))
 
+-- what is shown, of which something narrower is known
+pub shown_weaker : (P Q : List (List (Pair ℕ)) → Type 0) → ((grids : List (List (Pair ℕ))) → P grids → Q grids) → (o : Option Shown) → ForSome o (λ shown. All (λ grids. P grids.items) shown.grids.items) → ForSome o (λ shown. All (λ grids. Q grids.items) shown.grids.items)
+shown_weaker P Q f o h = λ x e i d low. f _ (h x e i d low)
+
 -- what holds of lists of grids, as the definitions speak of them
 pub shown_again : (P : List (List (Pair ℕ)) → Type 0) (o : Option Shown) → ForSome o (λ shown. All (λ grids. P grids.items) shown.grids.items) → ForSome (option_map shown_of o) (λ shown. All P shown.states)
 shown_again P None h = λ x e. absurd (cc)

@@ -1,6 +1,8 @@
 //! Writing the tables text.
 
-ghost use Rattle.std.specs.Prelude.{◌-◌, ◌^◌, ◌<◌};
+ghost use Rattle.std.specs.Prelude.{◌-◌, ◌^◌, ◌<◌, All};
+ghost use Rattle.hz_auto.specs.Machines.{reports_of};
+ghost use Rattle.hz_single_model.specs.Told.{ListsAscending};
 ghost use Rattle.hz_io.specs.Sink.{Writes};
 ghost use Rattle.hz_tabtext_model.specs.Texts.{TableText, spelled};
 ghost use Rattle.hz_tables.specs.Machines.{machine_of};
@@ -23,10 +25,12 @@ use page::{Page, flush};
 use parts::add_tables;
 use ranges::is_in_range;
 
-/// The text of a compiled machine stands for it. Nothing is done here.
+/// The text of a compiled machine stands for it, and the grids that are shown in it are listed in ascending order of their pairs.
+/// Nothing is done here.
 pub fn text_stands(compiled: &Compiled, checked: &Checked)
     requires sayable { IsSayable compiled.now checked.now }
-    ensures { TableText (spelled (says compiled.now checked.now)) (machine_of compiled.now.machine) }
+    ensures stands { TableText (spelled (says compiled.now checked.now)) (machine_of compiled.now.machine) }
+    ensures listed { All ListsAscending (reports_of compiled.now.reports.items) }
 {
     is_in_range(compiled, checked);
 }

@@ -1,5 +1,5 @@
 -- Tables that are written, and tables that are read.
-use Rattle.std.proofs.Common.{◌≡◌, ℕ, List, [], ◌∷◌, Err, map, inl, inr, refl, ap, ◌∙◌, subst, MatchOption}
+use Rattle.std.proofs.Common.{◌≡◌, ℕ, List, [], ◌∷◌, Err, All, map, inl, inr, refl, ap, ◌∙◌, subst, MatchOption}
 use Rattle.hz_answer_model.specs.Answers.{CompilesDescription}
 use Rattle.hz_answer_model.specs.FaultTexts.{tables_word}
 use Rattle.hz_answer_model.specs.Phases.{Next}
@@ -15,6 +15,7 @@ use Rattle.hz_check_model.specs.CheckedParts.{AutomatonParts}
 use Rattle.hz_mdread.specs.Shape.{options as options_of}
 use Rattle.hz_mdread_model.specs.Descriptions.{Description, Options}
 use Rattle.hz_tabfile.specs.Saying.{says}
+use Rattle.hz_single_model.specs.Told.{ListsAscending}
 use Rattle.hz_tables.specs.Machines.{machine_of}
 use Rattle.hz_tables_model.specs.Machines.{Machine}
 use Rattle.hz_tabtext_model.specs.Judging.{Kind as Wrong}
@@ -33,8 +34,8 @@ use Rattle.hz_tool.specs.Compiled.{IsCompiledBy}
 use Rattle.hz_tool.specs.Decisions.{Agrees, IsTablesReport}
 
 -- the tables of what is compiled are those of the description
-pub tables_told : (name : List ℕ) (d : Description) (checked : Checked) (is : IsCheckedOf d checked) (all : Compiled) → IsCompiledBy checked all → TableText (spelled (says all checked)) (machine_of all.machine) → Agrees (CompilesDescription name d is.known) (Tables all checked)
-tables_told name d checked is all by stands =
+pub tables_told : (name : List ℕ) (d : Description) (checked : Checked) (is : IsCheckedOf d checked) (all : Compiled) → IsCompiledBy checked all → All ListsAscending (reports_of all.reports.items) → TableText (spelled (says all checked)) (machine_of all.machine) → Agrees (CompilesDescription name d is.known) (Tables all checked)
+tables_told name d checked is all by listed stands =
     let m = machine_of all.machine in
     let reports = reports_of all.reports.items in
     let compiled = compiled_of d checked is m reports by.compiled in
@@ -43,6 +44,7 @@ tables_told name d checked is all by stands =
       machine = m;
       reports = reports;
       compiled = compiled;
+      listed = listed;
       stands = stands;
       spells = ap (λ (o : Options). spelled (tables_said o (map automaton_of checked.automata.items) reports m)) options ∙ ap (λ (parts : List AutomatonParts). spelled (tables_said d.options parts reports m)) is.automata;
     }))

@@ -1,8 +1,7 @@
 //! What holds of a compiled description by the types of what it is made of. Nothing is done here.
 
-ghost use Rattle.std.specs.Prelude.{◌<◌, ◌≤◌, IsTrue, All, length, map};
+ghost use Rattle.std.specs.Prelude.{◌≤◌, IsTrue, All, length, map};
 ghost use Rattle.std.specs.Option.{ForSome};
-ghost use Rattle.hz_base_model.specs.Limits.{cycle_limit};
 ghost use Rattle.hz_base_model.specs.Names.{is_name};
 ghost use Rattle.hz_tables_model.specs.StateLimits.{state_limit};
 ghost use Rattle.hz_tables.specs.Parts.{rows_of};
@@ -10,6 +9,8 @@ ghost use Rattle.hz_tables.specs.Machines.{machine_of};
 ghost use Rattle.hz_check.specs.Shape.{automaton_of};
 ghost use Rattle.hz_auto.specs.Reports.{shown_of, report_of};
 ghost use Rattle.hz_auto.specs.Machines.{reports_of};
+ghost use Rattle.hz_grid.specs.Grids.{IsGrid};
+ghost use Rattle.hz_single_model.specs.Told.{ListsAscending};
 ghost use Rattle.hz_tabtext_model.specs.Texts.{AreCounts};
 ghost use Rattle.hz_tabtext_model.specs.Said.{counts_said, IsInRange};
 
@@ -66,27 +67,27 @@ fn are_tables(parts: &[Part])
     }
 }
 
-/// The cycles of grids are below their limit.
+/// Grids are grids: their pairs ascend, and units and cycles are below their limits.
 fn are_grids(grids: &[Grid])
-    ensures { All (All (λ pair. pair.cycle < cycle_limit)) grids.now }
+    ensures { All IsGrid grids.now }
 {
     for grid in grids {
         grid.kept();
     }
 }
 
-/// The cycles of the grids of states are below their limit.
+/// The grids of states are grids.
 fn are_states(states: &[Vec<Grid>])
-    ensures { All (λ grids. All (All (λ pair. pair.cycle < cycle_limit)) grids.items) states.now }
+    ensures { All (λ grids. All IsGrid grids.items) states.now }
 {
     for grids in states {
         are_grids(grids);
     }
 }
 
-/// The cycles of the grids that are shown are below their limit.
+/// The grids that are shown are grids.
 fn is_shown(shown: &Option<Shown>)
-    ensures { ForSome shown.now (λ shown. All (λ grids. All (All (λ pair. pair.cycle < cycle_limit)) grids.items) shown.grids.items) }
+    ensures { ForSome shown.now (λ shown. All (λ grids. All IsGrid grids.items) shown.grids.items) }
 {
     match shown {
         Some(shown) => are_states(&shown.grids),
@@ -110,18 +111,19 @@ fn are_counted(reports: &[AutoReport])
     }
 }
 
-/// The cycles of the grids that reports show are below their limit.
+/// The grids that reports show are grids.
 fn are_shown(reports: &[AutoReport])
-    ensures { All (λ report. ForSome report.shown (λ shown. All (λ grids. All (All (λ pair. pair.cycle < cycle_limit)) grids.items) shown.grids.items)) reports.now }
+    ensures { All (λ report. ForSome report.shown (λ shown. All (λ grids. All IsGrid grids.items) shown.grids.items)) reports.now }
 {
     for report in reports {
         is_shown(&report.shown);
     }
 }
 
-/// A compiled description is in range.
+/// A compiled description is in range, and the grids that are shown of it are listed in ascending order.
 pub fn is_in_range(compiled: &Compiled, checked: &Checked)
-    ensures { IsInRange (map automaton_of checked.now.automata.items) (reports_of compiled.now.reports.items) (machine_of compiled.now.machine) }
+    ensures range { IsInRange (map automaton_of checked.now.automata.items) (reports_of compiled.now.reports.items) (machine_of compiled.now.machine) }
+    ensures listed { All ListsAscending (reports_of compiled.now.reports.items) }
 {
     are_names(&compiled.machine.classes);
     are_named(&compiled.machine.parts);

@@ -2,8 +2,8 @@ use Rattle.std.proofs.Common.{◌<◌, ◌≤◌, ◌^◌, take, length}
 use Rattle.std.specs.Prelude.{All, IsTrue}
 use Rattle.std.specs.Option.{ForSome}
 use Rattle.hz_base_model.specs.Pairs.{Pair}
-use Rattle.hz_base_model.specs.Limits.{cycle_limit}
+use Rattle.hz_grid.specs.Grids.{IsGrid}
 use Rattle.hz_tabfile.proofs.writing.ranges.are_grids.Given as goal
 
 abbrev pub invariant-loop-grid : goal.invariant-loop-grid
-invariant-loop-grid l = All (All (λ pair. pair.cycle < cycle_limit)) (take l.grid-index l.grids)
+invariant-loop-grid l = All IsGrid (take l.grid-index l.grids)

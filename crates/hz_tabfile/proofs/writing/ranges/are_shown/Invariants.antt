@@ -3,8 +3,8 @@ use Rattle.std.specs.Prelude.{All, IsTrue}
 use Rattle.std.specs.Option.{ForSome}
 use Rattle.hz_auto.specs.declared.report.AutoReport.{AutoReport}
 use Rattle.hz_base_model.specs.Pairs.{Pair}
-use Rattle.hz_base_model.specs.Limits.{cycle_limit}
+use Rattle.hz_grid.specs.Grids.{IsGrid}
 use Rattle.hz_tabfile.proofs.writing.ranges.are_shown.Given as goal
 
 abbrev pub invariant-loop-report : goal.invariant-loop-report
-invariant-loop-report l = All (λ report. ForSome report.shown (λ shown. All (λ grids. All (All (λ pair. pair.cycle < cycle_limit)) grids.items) shown.grids.items)) (take l.report-index l.reports)
+invariant-loop-report l = All (λ report. ForSome report.shown (λ shown. All (λ grids. All IsGrid grids.items) shown.grids.items)) (take l.report-index l.reports)

@@ -16,14 +16,17 @@ use Rattle.hz_auto.specs.Reports.{report_of}
 use Rattle.hz_auto_model.specs.Compiled.{Report}
 use Rattle.hz_tabtext_model.specs.Texts.{AreCounts}
 use Rattle.hz_tabtext_model.specs.Said.{counts_said}
-use Rattle.hz_tabfile.proofs.Ranges.{all_made, shown_again}
+use Rattle.hz_grid.specs.Grids.{IsGrid}
+use Rattle.hz_single_model.specs.Told.{IsAscending, ListsAscending}
+use Rattle.hz_tabfile.proofs.Ranges.{all_made, shown_again, shown_weaker}
 use Rattle.hz_tabfile.proofs.writing.ranges.is_in_range.Goals as goal
 
-pub returns : goal.returns
-returns c =
+pub returns-clause-range : goal.returns-clause-range
+returns-clause-range c =
     let parts = c.args.compiled.now.machine.parts.items in
     let automata = c.args.checked.now.automata.items in
     let reports = c.args.compiled.now.reports.items in
+    let all = subst (λ (rs : List AutoReport). All (λ (r : AutoReport). ForSome r.shown (λ shown. All (λ grids. All IsGrid grids.items) shown.grids.items)) rs) c.deref-6.ensures.value c.are_shown.ensures in
     record {
       classes = subst (λ (names : List (List ℕ)). All (λ (name : List ℕ). IsTrue (is_name name)) names) c.deref.ensures.value c.are_names.ensures;
       parts = all_made (λ (part : machines.Part). IsTrue (is_name part.name)) part_of parts (subst (λ (ps : List Part). All (λ (part : Part). IsTrue (is_name part.name)) ps) c.deref-2.ensures.value c.are_named.ensures);
@@ -31,5 +34,11 @@ returns c =
       units = all_made (λ (a : AutomatonParts). All (λ (name : List ℕ). IsTrue (is_name name)) a.units) automaton_of automata (subst (λ (xs : List CheckedAutomaton). All (λ (a : CheckedAutomaton). All (λ (name : List ℕ). IsTrue (is_name name)) a.units.items) xs) c.deref-4.ensures.value c.are_units.ensures);
       counts = all_made (λ (r : Report). AreCounts (counts_said r)) report_of reports (subst (λ (rs : List AutoReport). All (λ (r : AutoReport). AreCounts (counts_said (report_of r))) rs) c.deref-5.ensures.value c.are_counted.ensures);
       cycles = all_made (λ (r : Report). ForSome r.shown (λ shown. All (All (All (λ (pair : Pair ℕ). pair.cycle < cycle_limit))) shown.states)) report_of reports
-          (λ i d low. shown_again (All (All (λ (pair : Pair ℕ). pair.cycle < cycle_limit))) _ (subst (λ (rs : List AutoReport). All (λ (r : AutoReport). ForSome r.shown (λ shown. All (λ grids. All (All (λ (pair : Pair ℕ). pair.cycle < cycle_limit)) grids.items) shown.grids.items)) rs) c.deref-6.ensures.value c.are_shown.ensures i d low));
+          (λ i d low. shown_again (All (All (λ (pair : Pair ℕ). pair.cycle < cycle_limit))) _ (shown_weaker (All IsGrid) (All (All (λ (pair : Pair ℕ). pair.cycle < cycle_limit))) (λ grids h j e within. (h j e within).cycles) _ (all i d low)));
     }
+
+pub returns-clause-listed : goal.returns-clause-listed
+returns-clause-listed c =
+    let all = subst (λ (rs : List AutoReport). All (λ (r : AutoReport). ForSome r.shown (λ shown. All (λ grids. All IsGrid grids.items) shown.grids.items)) rs) c.deref-6.ensures.value c.are_shown.ensures in
+    all_made ListsAscending report_of c.args.compiled.now.reports.items
+    (λ i d low. shown_again (All IsAscending) _ (shown_weaker (All IsGrid) (All IsAscending) (λ grids h j e within. (h j e within).ascending) _ (all i d low)))
