@@ -1,5 +1,5 @@
--- What two reports have in common that are told of one machine. Grids are sets of pairs; which list stands for such a set
--- is this profile's, docs/RULES.md.
+-- What two reports have in common that are told of one machine. Grids are sets of pairs; that a list of pairs ascends by
+-- cycle, then by unit, each pair once, is this profile's, docs/RULES.md.
 use Rattle.std.specs.Prelude.{◌≡◌, ◌⊎◌, ℕ, ◌<◌, List, [], None, MatchOption, IsSomeAnd, All, length, slice_index_or}
 use Rattle.std.specs.Option.{ForSome}
 use Rattle.std.specs.List.{AllPairs}
