@@ -67,15 +67,15 @@ fn decide_walk<'a, F: Files>(alloc: Global, order: WalkOrder<'a>, files: &mut F)
     ensures file { NamesFile (IsFileOf (model.walk order.entry.tables.now order.entry.trace.now)) result }
     ensures answer { ForSome (F.held files.old) (λ held. (F.faults files.new ≡ F.faults files.old) ⊎ F.steady files.old → Agrees (AnswersWalk held order.entry.tables.now order.entry.trace.now) result) }
 {
-    let tables = match read_file(alloc, files, order.tables, TABLES_LIMIT) {
-        Ok(tables) => tables,
+    let tabled = match read_file(alloc, files, order.tables, TABLES_LIMIT) {
+        Ok(tabled) => tabled,
         Err(report) => return report,
     };
-    let trace = match read_file(alloc, files, order.trace, TRACE_LIMIT) {
-        Ok(trace) => trace,
+    let traced = match read_file(alloc, files, order.trace, TRACE_LIMIT) {
+        Ok(traced) => traced,
         Err(report) => return report,
     };
-    judge_walk(alloc, &order, tables.as_slice(), trace.as_slice())
+    judge_walk(alloc, &order, tabled.as_slice(), traced.as_slice())
 }
 
 /// The report of a replay: both files are read before either is judged.
