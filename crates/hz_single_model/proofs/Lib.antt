@@ -1,4 +1,3 @@
-pub mod NumberedLaws
 pub mod ColumnLaws
 pub mod WordLaws
 pub mod LeftLaws

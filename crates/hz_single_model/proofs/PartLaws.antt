@@ -18,7 +18,7 @@ use Rattle.hz_auto_model.specs.AutomatonPipelines.{lists_at, automaton_pipeline}
 use Rattle.hz_auto_model.specs.CompiledParts.{WalksAccepted, TellsWhatIsLeft}
 use Rattle.hz_auto_model.specs.Compiled.{Report, IsCompiledPart}
 use Rattle.hz_auto_model.proofs.LimitLaws.{columns_same}
-use Rattle.hz_single_model.proofs.NumberedLaws.{MeetAlso, numbered_one}
+use Rattle.hz_minim_model.proofs.NumberedLaws.{MeetAlso, numbered_one}
 use Rattle.hz_single_model.proofs.ColumnLaws.{one_map}
 use Rattle.hz_single_model.proofs.WordLaws.{IsFilled, Spells, spells_walked, same_word}
 use Rattle.hz_single_model.proofs.LeftLaws.{left_not_none}

@@ -30,7 +30,7 @@ one_mate one other meets state mate last both both' =
     let found' = both'.there in
     cc
 
-within : (table : Table) (columns : ℕ) → IsTable table columns → (w : List ℕ) (state : ℕ) → walk table (Some 0) w ≡ Some state → state < length table
+pub within : (table : Table) (columns : ℕ) → IsTable table columns → (w : List ℕ) (state : ℕ) → walk table (Some 0) w ≡ Some state → state < length table
 within table columns is w state e = walk_stays table columns is (Some 0) (λ first h. let same : 0 ≡ first = cc in subst (λ n. n < length table) same is.start) state w e
 
 -- one column behind a list that is walked
@@ -57,7 +57,7 @@ steps one other walks state mate column next both e = by_entry (entry other mate
         absurd (cc)
     by_entry (Some t) at = (t, at, record { word = word; here = here; there = there ∙ ap (λ from. walk other from []) at })
 
-walks_turned : (one other : Table) → WalkTheSame one other → WalkTheSame other one
+pub walks_turned : (one other : Table) → WalkTheSame one other → WalkTheSame other one
 walks_turned one other walks = record { same = λ w. sym (walks.same w) }
 
 module _ (columns : ℕ) (one other : Table) (parents parents' : List (ℕ × ℕ)) (is : IsTable one columns) (is' : IsTable other columns) (order : IsBreadthFirst one columns parents) (order' : IsBreadthFirst other columns parents') (walks : WalkTheSame one other) (meets : MeetAlso one other) (meets' : MeetAlso other one) where
