@@ -222,14 +222,14 @@ walks_one m is lines events each of_class = ⊎_elim
     (λ (walked : IsSome (machine_walk m events)). wider (Says 0 (accepted_line (issues_of events) (cycles_of events))) _ (λ s t h. inl (walked, h)) (says_one 0 (accepted_line (issues_of events) (cycles_of events))))
     (λ (found : (i : ℕ) × (i < length events) × IsFirstUnwalked m events i).
     let i = found.0 in
-    let within = found.1.0 in
-    let issued = unwalked_issue m is events i within found.1.1 in
+    let within = found.1 in
+    let issued = unwalked_issue m is events i within found.2 in
     let at : get_or events i (issue 0) ≡ issue issued.0 = get_or_from_slice_get events i (issue issued.0) (issue 0) issued.1 in
     let low : issued.0 < length m.classes = subst (IsOfClass (length m.classes)) at (All-get_or (IsOfClass (length m.classes)) events i (issue 0) within of_class) in
     let class = get_or m.classes issued.0 [] in
     let line = get_or lines i 0 in
     let there = slice_get-get_or lines i 0 (omega (arith, within, each)) in
-    wider (Says 1 (refused_line line class)) _ (λ s t h. inr (i, line, class, found.1.1, there, (issued.0, issued.1, slice_get-get_or m.classes issued.0 [] low), h)) (says_one 1 (refused_line line class)))
+    wider (Says 1 (refused_line line class)) _ (λ s t h. inr (i, line, class, found.2, there, (issued.0, issued.1, slice_get-get_or m.classes issued.0 [] low), h)) (says_one 1 (refused_line line class)))
     (walked_or_first m events)
 
 machine_traces_one : (m : Machine) → IsMachine m → (name text : List ℕ) → HasOne (WalksTrace name text m)

@@ -3,7 +3,8 @@ use Rattle.std.proofs.Common.{◌≡◌, ◌⊎◌, ℕ, zero, suc, add-one, ◌
 use Rattle.std.specs.Option.{option_and_then}
 use Rattle.std.proofs.lemmas.Bool.{cases_lt}
 use Rattle.std.proofs.lemmas.List.{take_more, take_all, take-append-drop, take-take}
-use Rattle.std.proofs.lemmas.Option.{same_Some, slice_get-get_or, slice_get_within}
+use Rattle.std.proofs.lemmas.Option.{same_Some, slice_get-get_or, slice_get_within, get_or_from_slice_get}
+use Rattle.std.proofs.lemmas.List.Elements.{All-get_or}
 use Rattle.hz_acceptance_model.specs.Events.{Event, issue, advance}
 use Rattle.hz_tables_model.specs.Machines.{Machine, IsMachine, IsPart, Part, part_walk, word_of, machine_walk, parts_walk, starts_of}
 use Rattle.hz_tables_model.specs.Tables.{Table, IsTable, walk, entry}
@@ -12,6 +13,9 @@ use Rattle.hz_tables_model.proofs.MachineLaws.{word_of-append, parts_walk-append
 use Rattle.hz_answer_model.specs.TableAnswers.{IsFirstUnwalked, IsIssueIn}
 
 module _ (m : Machine) where
+  not_both : (t : List Event) → machine_walk m t ≡ None → IsSome (machine_walk m t) → ⊥
+  not_both t none some = let bad = subst IsSome none some in absurd (cc)
+
   -- what is walked is walked up to each place
   prefix_walked : (s t : List Event) → IsSome (machine_walk m (s ++ t)) → IsSome (machine_walk m s)
   prefix_walked s t h = by_states (machine_walk m s) refl
@@ -20,17 +24,13 @@ module _ (m : Machine) where
       by_states (Some states) e = subst IsSome (sym e) refl
       by_states None e =
           let gone : machine_walk m (s ++ t) ≡ None = parts_walk-append m.parts (starts_of m) s t ∙ ap (option_and_then (λ next. parts_walk m.parts next t)) e in
-          let bad : IsSome (None {A = List ℕ}) = subst IsSome gone h in
-          absurd (cc)
+          absurd (not_both (s ++ t) gone h)
 
   shorter_walked : (t : List Event) (i j : ℕ) → i ≤ j → IsSome (machine_walk m (take j t)) → IsSome (machine_walk m (take i t))
   shorter_walked t i j few h =
       let both : take i (take j t) ≡ take i t = take-take i j t few in
       subst (λ (es : List Event). IsSome (machine_walk m es)) both
       (prefix_walked (take i (take j t)) (drop i (take j t)) (subst (λ (es : List Event). IsSome (machine_walk m es)) (sym (take-append-drop i (take j t))) h))
-
-  not_both : (t : List Event) → machine_walk m t ≡ None → IsSome (machine_walk m t) → ⊥
-  not_both t none some = let bad = subst IsSome none some in absurd (cc)
 
   pub one_unwalked : (events : List Event) (i j : ℕ) → IsFirstUnwalked m events i → IsFirstUnwalked m events j → i ≡ j
   one_unwalked events i j (before, stops) (before', stops') = ⊎_elim
@@ -58,18 +58,19 @@ module _ (m : Machine) where
 module _ (table : Table) (columns : ℕ) (is : IsTable table columns) where
   advances : (n state : ℕ) → state < length table → IsSome (walk table (Some state) (replicate n columns ++ []))
   advances zero state low = refl
-  advances (suc n) state low = by_entry (entry table state columns) refl
+  advances (suc n) state low = by_entry (entry table state columns) refl (advances n)
     where
-      by_entry : (o : Option ℕ) → entry table state columns ≡ o → IsSome (walk table (entry table state columns) (replicate n columns ++ []))
-      by_entry None e = absurd (is.advances state low e)
-      by_entry (Some next) e = subst (λ (o : Option ℕ). IsSome (walk table o (replicate n columns ++ []))) (sym e) (advances n next (is.targets state columns next e))
+      by_entry : (o : Option ℕ) → entry table state columns ≡ o → ((next : ℕ) → next < length table → IsSome (walk table (Some next) (replicate n columns ++ []))) → IsSome (walk table (entry table state columns) (replicate n columns ++ []))
+      by_entry None e more = absurd (is.advances state low e)
+      by_entry (Some next) e more = subst (λ (o : Option ℕ). IsSome (walk table o (replicate n columns ++ []))) (sym e) (more next (is.targets state columns next e))
 
 module _ (m : Machine) (is : IsMachine m) (t : List Event) (n : ℕ) (h : IsSome (machine_walk m t)) where
   part_advances : (i : ℕ) (part : Part) → slice_get m.parts i ≡ Some part → IsSome (part_walk part 0 (t ++ advance n ∷ []))
   part_advances i part there = by_states (machine_walk m t) refl
     where
       is_part : IsPart (length m.classes) part
-      is_part = search rules
+      is_part = subst (IsPart (length m.classes)) (get_or_from_slice_get m.parts i part part there) (All-get_or (IsPart (length m.classes)) m.parts i part (slice_get_within m.parts i part there) is.parts)
+
       by_states : (o : Option (List ℕ)) → machine_walk m t ≡ o → IsSome (part_walk part 0 (t ++ advance n ∷ []))
       by_states None e = absurd (not_both m t e h)
       by_states (Some states) e =
@@ -79,7 +80,7 @@ module _ (m : Machine) (is : IsMachine m) (t : List Event) (n : ℕ) (h : IsSome
           let walked : part_walk part 0 t ≡ Some (get_or states i 0) = sym (machine_walk-part m t states e i part there) ∙ here in
           let low = walk_stays part.rows part.columns is_part.table (Some 0) (λ state same. subst (λ (s : ℕ). s < length part.rows) (same_Some 0 state same) (is_part.table).start) (get_or states i 0) (word_of part t) walked in
           let whole : part_walk part 0 (t ++ advance n ∷ []) ≡ walk part.rows (Some (get_or states i 0)) (replicate n part.columns ++ []) =
-              ap (walk part.rows (Some 0)) (word_of-append part t (advance n ∷ [])) ∙ (walk-append part.rows (Some 0) (word_of part t) (replicate n part.columns ++ []) ∙ ap (λ (o : Option ℕ). walk part.rows o (replicate n part.columns ++ [])) walked) in
+          ap (walk part.rows (Some 0)) (word_of-append part t (advance n ∷ [])) ∙ (walk-append part.rows (Some 0) (word_of part t) (replicate n part.columns ++ []) ∙ ap (λ (o : Option ℕ). walk part.rows o (replicate n part.columns ++ [])) walked) in
           subst IsSome (sym whole) (advances part.rows part.columns is_part.table n (get_or states i 0) low)
 
   machine_advances : IsSome (machine_walk m (t ++ advance n ∷ []))
@@ -99,7 +100,7 @@ unwalked_issue m is events i within (before, stops) = by_event (get_or events i 
 -- all events are walked, or one is the first that is not
 pub walked_or_first : (m : Machine) (events : List Event) → IsSome (machine_walk m events) ⊎ ((i : ℕ) × (i < length events) × IsFirstUnwalked m events i)
 walked_or_first m events = ⊎_elim
-    (λ (h : IsSome (machine_walk m (take (length events) events))). inl (subst (λ (es : List Event). IsSome (machine_walk m es)) (take_all events) h))
+    (λ (h : IsSome (machine_walk m (take (length events) events))). inl (subst (λ (es : List Event). IsSome (machine_walk m es)) (take_all (length events) events (omega arith)) h))
     (λ found. inr found)
     (up_to (length events) (omega arith))
   where
@@ -111,5 +112,5 @@ walked_or_first m events = ⊎_elim
         (up_to n (omega (arith, few)))
       where
         by_next : IsSome (machine_walk m (take n events)) → (o : Option (List ℕ)) → machine_walk m (take (n + 1) events) ≡ o → IsSome (machine_walk m (take (suc n) events)) ⊎ ((i : ℕ) × (i < length events) × IsFirstUnwalked m events i)
-        by_next before (Some states) e = inl (subst (λ (k : ℕ). IsSome (machine_walk m (take k events))) add-one (subst IsSome (sym e) refl))
+        by_next before (Some states) e = inl (subst (λ (k : ℕ). IsSome (machine_walk m (take k events))) (add-one n) (subst IsSome (sym e) refl))
         by_next before None e = inr (n, omega (arith, few), (before, e))

@@ -1,5 +1,6 @@
 -- What `compile` writes is said by the description, and `walk` on it answers as `replay` does.
-use Rattle.std.proofs.Common.{◌≡◌, ℕ, ◌+◌, ◌<◌, ◌≤◌, inl, inr, Bool, true, false, List, [], length, map, take, All, Option, Some, None, Err, IsSome, MatchOption, MatchBool, nat_lt, slice_get, refl, sym, ap, ◌∙◌, subst}
+use Rattle.std.proofs.lemmas.List.{length-map}
+use Rattle.std.proofs.Common.{◌∷◌, ◌≡◌, ℕ, ◌+◌, ◌<◌, ◌≤◌, inl, inr, Bool, true, false, List, [], length, map, take, All, Option, Some, None, Ok, Err, IsSome, MatchOption, MatchBool, nat_lt, slice_get, refl, sym, ap, ◌∙◌, subst}
 use Rattle.std.specs.Prelude.{◌↔◌}
 use Rattle.std.specs.Option.{option_map}
 use Rattle.std.proofs.lemmas.Bool.{le-ltb}
@@ -41,6 +42,10 @@ use Rattle.hz_answer_model.proofs.EventLaws.{issue_named, events_known}
 use Rattle.hz_answer_model.proofs.HeadlineLaws.{one_described}
 
 -- ---- one machine, walked and replayed
+
+pub map_twice : {A B C : Type 0} (f : B → C) (g : A → B) (xs : List A) → map f (map g xs) ≡ map (λ x. f (g x)) xs
+map_twice f g [] = refl
+map_twice f g (x ∷ xs) = ap (λ (ys : List _). f (g x) ∷ ys) (map_twice f g xs)
 
 -- a trace hands on what follows it
 traces_map : (classes : List (List ℕ)) (name text : List ℕ) (next other : Next (List Event)) (s : ℕ) (t : List ℕ) → ((events : List Event) → Trace classes text events → next events s t → other events s t) → Traces classes name text next s t → Traces classes name text other s t
@@ -94,8 +99,9 @@ module _ (d : Description) (known : Known) (m : Machine) (names : m.classes ≡ 
     where
       lines : List (List ℕ) → List ℕ
       lines classes = event_lines classes 1 (lines_of traced)
+
       classes_all : (events : List Event) → Trace (class_names d) traced events → All (IsOfClass (length d.classes)) events
-      classes_all events says = subst (λ (n : ℕ). All (IsOfClass n) events) (search rules) (events_known says.lines)
+      classes_all events says = subst (λ (n : ℕ). All (IsOfClass n) events) (length-map d.classes (λ (c : ClassItem). c.name)) (events_known says.lines)
 
 -- ---- the phases before
 
@@ -122,13 +128,14 @@ file_map (Some bytes) most lacks long next other f h = by_length (nat_lt most (l
 behind_tables : (name bytes : List ℕ) (m : Machine) (next : Next Machine) (s : ℕ) (t : List ℕ) → TableText bytes m → HasTables name bytes next s t ↔ next m s t
 behind_tables name bytes m next s t stands = (to, λ h. inl (m, stands, h))
   where
-    read : tables_in bytes ≡ _
+    read : tables_in bytes ≡ Ok m
     read = tables_again bytes m stands
+
     to : HasTables name bytes next s t → next m s t
     to (inl (other, also, h)) =
         let same : other ≡ m = ok_is {E = Fault} other m (sym (tables_again bytes other also) ∙ read) in
         subst (λ (x : Machine). next x s t) same h
-    to (inr (fault, wrong, says)) = absurd (cc)
+    to (inr (fault, wrong, says)) = let again = tables_again bytes m stands in absurd (cc)
 
 -- what follows a description that a text says
 behind_description : (name bytes : List ℕ) (d : Description) (known : Known) (next : (d : Description) → Next Known) (s : ℕ) (t : List ℕ) → IsDescribed bytes d known → HasDescription name bytes next s t ↔ next d known s t
@@ -170,15 +177,17 @@ module _ (held : Held) (description text : List ℕ) (h : AnswersCompile held de
   pub writes_tables : WritesTables held description text
   writes_tables = record { described = first.bytes; file = first.is; d = given.d; known = given.known; is_described = given.is; tables = tables.1.1 }
 
-  d : Description
+  abbrev d : Description
   d = given.d
-  known : Known
+
+  abbrev known : Known
   known = given.known
+
   is : IsTablesOf d known text
   is = tables.1.1
 
   names : (is.machine).classes ≡ class_names d
-  names = (is.compiled).names ∙ search rules
+  names = (is.compiled).names ∙ map_twice (λ c. c.name) (class_parts given.d given.known) given.d.classes
 
   -- the tables are walked as the description is judged
   judged_both : (tables_name trace traced : List ℕ) (s : ℕ) (t : List ℕ) → HasTables tables_name text (WalksTrace trace traced) s t ↔ Judges description first.bytes trace traced s t

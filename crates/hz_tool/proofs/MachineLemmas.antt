@@ -6,7 +6,7 @@ use Rattle.hz_acceptance_model.specs.Events.{Event, IsOfClass}
 use Rattle.hz_acceptance_model.specs.Replay.{Accepted, FirstRefused}
 use Rattle.hz_answer_model.specs.Answers.{ReplaysTrace, Compiles}
 use Rattle.hz_answer_model.specs.TableAnswers.{Walks, WalksTrace}
-use Rattle.hz_answer_model.proofs.WalkLaws.{traced_both}
+use Rattle.hz_answer_model.proofs.WalkLaws.{map_twice, traced_both}
 use Rattle.hz_answer_model.specs.Texts.{states_line}
 use Rattle.hz_auto_model.specs.Compiled.{IsCompiled, IsFirstPast, Report as Told}
 use Rattle.hz_auto_model.proofs.DescriptionLaws.{machine_accepts, all_keep, first_past}
@@ -28,15 +28,11 @@ use Rattle.hz_tool.specs.Machines.{IsMachineFor, Refuses}
 use Rattle.hz_report.specs.declared.report.Report.{Report}
 use Rattle.hz_report.specs.declared.report.Report.TheVariants.{States, Memory}
 
-pub map_twice : {A B C : Type 0} (f : B → C) (g : A → B) (xs : List A) → map f (map g xs) ≡ map (λ x. f (g x)) xs
-map_twice f g [] = refl
-map_twice f g (x ∷ xs) = ap (λ (ys : List _). f (g x) ∷ ys) (map_twice f g xs)
-
 -- what a machine refuses of its walk is told
 pub refusal : (m : Machine) (lines : List ℕ) (events : List Event) (i line : ℕ) (e : Event) (report : Report) → FirstUnwalked m events i → slice_get events i ≡ Some e → slice_get lines i ≡ Some line → Agrees (Refuses m line e) report → Agrees (Walks m lines events) report
 refusal m lines events i line e report first there here h =
     agrees_weaker (Refuses m line e) (Walks m lines events)
-    (λ s t (class, name, issues, named, says). inr (i, line, name, (first.before, rw add-one first.stops), here, (class, there ∙ ap Some issues, named), says))
+    (λ s t (class, name, issues, named, says). inr (i, line, name, (first.before, subst (λ (n : ℕ). machine_walk m (take n events) ≡ None) (sym (add-one i)) first.stops), here, (class, there ∙ ap Some issues, named), says))
     report h
 
 -- a walk of the machine of a description is a replay by it

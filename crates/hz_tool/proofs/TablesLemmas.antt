@@ -40,14 +40,20 @@ tables_told name d checked is all by listed stands =
     let reports = reports_of all.reports.items in
     let compiled = compiled_of d checked is m reports by.compiled in
     let options : options_of all.options ≡ d.options = ap options_of by.options ∙ is.options in
-    inl (all_keep d is.known m reports compiled, (refl, record {
-      machine = m;
-      reports = reports;
-      compiled = compiled;
-      listed = listed;
-      stands = stands;
-      spells = ap (λ (o : Options). spelled (tables_said o (map automaton_of checked.automata.items) reports m)) options ∙ ap (λ (parts : List AutomatonParts). spelled (tables_said d.options parts reports m)) is.automata;
-    }))
+    inl (
+      all_keep d is.known m reports compiled,
+      (
+        refl,
+        record {
+          machine = m;
+          reports = reports;
+          compiled = compiled;
+          listed = listed;
+          stands = stands;
+          spells = ap (λ (o : Options). spelled (tables_said o (map automaton_of checked.automata.items) reports m)) options ∙ ap (λ (parts : List AutomatonParts). spelled (tables_said d.options parts reports m)) is.automata;
+        },
+      ),
+    )
 
 -- what is said of the fault that a kind tells holds of one with the kind's word
 tables_said_by : (k : Kind) (P : Wrong → Type 0) → MatchOption (tables_fault k) ⊥ P → (wrong : Wrong) × P wrong × (kind_word k ≡ tables_word wrong)

@@ -18,9 +18,7 @@ use super::tabulating::judge_compile;
 use super::walking::judge_walk;
 use hz_io::{Files, Sink};
 use hz_report::{Report, write_report};
-use hz_words::{
-    CompileOrder, EvalOrder, Order, ReplayOrder, ScheduleOrder, WalkOrder, order_of,
-};
+use hz_words::{CompileOrder, EvalOrder, Order, ReplayOrder, ScheduleOrder, WalkOrder, order_of};
 use std::alloc::Global;
 
 /// Bytes of a description, at most.
@@ -39,11 +37,7 @@ const BLOCK_LIMIT: u64 = 4_194_304;
 const STATE_LIMIT: u64 = 4_194_304;
 
 /// The report of the tables of a description.
-fn decide_compile<'a, F: Files>(
-    alloc: Global,
-    order: CompileOrder<'a>,
-    files: &mut F,
-) -> Report<'a>
+fn decide_compile<'a, F: Files>(alloc: Global, order: CompileOrder<'a>, files: &mut F) -> Report<'a>
     requires { F.faults files.old < 2 ^ 64 - 1 }
     ensures counts { CountsReport (F.faults files.old) (F.faults files.new) result }
     ensures order { IsOfOrder result }
