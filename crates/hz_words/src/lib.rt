@@ -1,6 +1,8 @@
 //! The words of the command line, read with `clap`.
 #![tactic(auto)]
 
+mod commands;
+mod operands;
 mod order;
 mod reading;
 

@@ -1,0 +1,2 @@
+pub mod OperandLemmas
+pub mod OrderLemmas

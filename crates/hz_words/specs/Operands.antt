@@ -1,0 +1,35 @@
+-- The operands behind a command.
+use Rattle.std.specs.Prelude.{◌≡◌, ◌≢◌, ℕ, Bool, true, List, [], ◌∷◌, Option, Some, None, codes}
+use Rattle.std.specs.List.{list_any}
+use Rattle.clap.specs.Words.{App, HasMatchesOf, Rule, fault_of, is_simple_and_free, new_app, new_rule, takes, with_rule}
+use Rattle.clap.specs.declared.parser.matches.ArgMatches.{ArgMatches}
+use Rattle.hz_words_model.specs.Words as model
+
+-- one of the words begins with `-`
+abbrev pub has_option : List (List ℕ) → Bool
+has_option words = list_any model.begins_with_dash words
+
+-- the one operand
+abbrev pub operand_of : List (List ℕ) → Option (List ℕ)
+operand_of (command ∷ file ∷ []) = Some file
+operand_of _ = None
+
+-- the two operands
+abbrev pub operands_of : List (List ℕ) → Option (List ℕ × List ℕ)
+operands_of (command ∷ first ∷ second ∷ []) = Some (first, second)
+operands_of _ = None
+
+-- what `clap` finds in the words: nothing where it doesn't take them, and its matches where nothing is wrong with them
+abbrev pub Finds : App → List (List ℕ) → Option ArgMatches → Type 0
+Finds app words None = takes app words ≢ true
+Finds app words (Some matches) = (is_simple_and_free app ≡ true → fault_of app words ≡ []) × HasMatchesOf app words matches
+
+-- an operand, and the commands that have one and two
+abbrev pub operand : List ℕ → Rule
+operand id = record (new_rule id) { required = true }
+
+abbrev pub of_one : List ℕ → App
+of_one name = with_rule (new_app name) (operand (codes "first"))
+
+abbrev pub of_two : List ℕ → App
+of_two name = with_rule (of_one name) (operand (codes "second"))

@@ -1,0 +1,71 @@
+//! The operands behind a command, read with `clap`.
+
+ghost use Rattle.std.specs.Prelude.{◌≡◌, IfOk, false};
+ghost use Rattle.std.specs.Option.{option_map};
+ghost use Rattle.clap.specs.Words.{app_of};
+ghost use Rattle.hz_words.specs.Shape.{words_in};
+ghost use Rattle.hz_words.specs.Operands.{Finds, has_option, of_one, of_two, operand_of, operands_of};
+
+use clap::error::ErrorKind;
+use clap::{Arg, ArgMatches, Command};
+use std::alloc::{AllocError, Global};
+
+/// A command with one operand.
+fn of_one<'a>(alloc: Global, name: &'a str) -> Result<Command<'a>, AllocError>
+    ensures { IfOk result (λ command. app_of command ≡ of_one name.entry.now) }
+{
+    Command::new(alloc, name).arg(Arg::new(alloc, "first").required(true))
+}
+
+/// A command with two operands.
+fn of_two<'a>(alloc: Global, name: &'a str) -> Result<Command<'a>, AllocError>
+    ensures { IfOk result (λ command. app_of command ≡ of_two name.entry.now) }
+{
+    of_one(alloc, name)?.arg(Arg::new(alloc, "second").required(true))
+}
+
+/// What `clap` finds in the words, None where it refuses them.
+fn found<'a>(
+    mut command: Command<'a>,
+    words: &'a [String],
+) -> Result<Option<ArgMatches<'a>>, AllocError>
+    ensures { IfOk result (Finds (app_of command.entry) (words_in words.now)) }
+{
+    match command.try_get_matches_from_mut(words) {
+        Ok(matches) => Ok(Some(matches)),
+        Err(error) => match error.kind() {
+            ErrorKind::OutOfMemory => Err(AllocError),
+            _ => Ok(None),
+        },
+    }
+}
+
+/// The operand of a command that has one, None where the words have more or none.
+pub fn one_operand<'a>(
+    alloc: Global,
+    name: &'a str,
+    words: &'a [String],
+) -> Result<Option<&'a str>, AllocError>
+    requires { has_option (words_in words.now) ≡ false }
+    ensures { IfOk result (λ operand. option_map (λ word. word.now) operand ≡ operand_of (words_in words.now)) }
+{
+    let Some(matches) = found(of_one(alloc, name)?, words)? else {
+        return Ok(None);
+    };
+    Ok(matches.get_str("first"))
+}
+
+/// The operands of a command that has two, None where the words have more or fewer.
+pub fn two_operands<'a>(
+    alloc: Global,
+    name: &'a str,
+    words: &'a [String],
+) -> Result<Option<(&'a str, &'a str)>, AllocError>
+    requires { has_option (words_in words.now) ≡ false }
+    ensures { IfOk result (λ pair. option_map (λ words. (words.0.now, words.1.now)) pair ≡ operands_of (words_in words.now)) }
+{
+    let Some(matches) = found(of_two(alloc, name)?, words)? else {
+        return Ok(None);
+    };
+    Ok(matches.get_str("first").zip(matches.get_str("second")))
+}
