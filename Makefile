@@ -2,9 +2,11 @@
 
 PREFIX ?= /usr/local
 GCC_SOURCE ?= /usr/src/gcc-12/gcc-12*.tar.xz
+program = $(DESTDIR)$(PREFIX)/bin
+page = $(DESTDIR)$(PREFIX)/share/man/man1
 SOURCES := crates.txt $(shell find crates -path '*/out' -prune -o \( -name '*.rt' -o -name '*.antt' \) -print)
 
-.PHONY: all try test examples check-gcc bench install clean
+.PHONY: all try test examples check-walk check-gcc bench install uninstall clean
 
 all: bin/hz
 
@@ -28,11 +30,16 @@ try:
 test:
 	@rt ci
 
-# each example and each status of the program, and what tools/extract.py writes, against what is expected
+# each example and each status of the program, the manual page, and what tools/extract.py writes, against what is expected
 examples: bin/hz
 	@sh examples/check.sh bin/hz
 	@sh examples/statuses.sh bin/hz
+	@sh man/check.sh
 	@if command -v python3 > /dev/null; then sh tools/test.sh bin/hz; else echo "no python3: tools/test.sh is not run"; fi
+
+# compile and then walk, beside replay: on all examples, and on descriptions and traces that a seed makes
+check-walk: bin/hz
+	@python3 tools/check_walk.py bin/hz
 
 # each pipeline of GCC's back ends; GCC_SOURCE is what Debian's package gcc-12-source installs, or a folder
 check-gcc: bin/hz
@@ -45,6 +52,8 @@ bench: bin/hz
 	@sh bench/alternatives/run.sh bin/hz
 	@sh bench/check/run.sh bin/hz
 	@sh bench/compile/run.sh bin/hz
+	@sh bench/compile/pipelines.sh bin/hz
+	@sh bench/walk/run.sh bin/hz
 	@sh bench/schedule/run.sh bin/hz
 	@sh bench/blocks/run.sh bin/hz
 	@sh bench/states/run.sh
@@ -54,9 +63,14 @@ bench: bin/hz
 	@sh bench/tables/run.sh
 
 install: bin/hz
-	@install -d "$(DESTDIR)$(PREFIX)/bin"
-	@install -m 755 bin/hz "$(DESTDIR)$(PREFIX)/bin/hz"
-	@echo "hz: installed $(DESTDIR)$(PREFIX)/bin/hz"
+	@install -d "$(program)" "$(page)"
+	@install -m 755 bin/hz "$(program)/hz"
+	@install -m 644 man/hz.1 "$(page)/hz.1"
+	@echo "hz: installed $(program)/hz and $(page)/hz.1"
+
+uninstall:
+	@rm -f "$(program)/hz" "$(page)/hz.1"
+	@echo "hz: removed $(program)/hz and $(page)/hz.1"
 
 clean:
 	@rm -rf bin bench/data

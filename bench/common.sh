@@ -27,6 +27,20 @@ rate() {
     awk -v b="$1" -v t="$2" 'BEGIN { printf "%.1f", b * 1000 / t }'
 }
 
+# make_trace MACHINE EVENTS: a trace that is accepted; on the superscalar machine ten cycles and what they issue, again
+# and again
+make_trace() {
+    case $1 in
+        memory_pipe) awk -v n="$2" 'BEGIN { for (i = 0; i < n; i++) print (i % 3 == 0) ? "issue load" : (i % 3 == 1) ? "issue store" : "advance 1" }' ;;
+        superscalar) awk -v n="$2" 'BEGIN {
+            split("div s - s f - s f - s f - s f - s f - s - s f - s - s -", turn, " ")
+            text["div"] = "issue div"; text["s"] = "issue simple"; text["f"] = "issue float"; text["-"] = "advance 1"
+            for (size = 1; size in turn; size++);
+            for (i = 0; i < n; i++) print text[turn[i % (size - 1) + 1]]
+        }' ;;
+    esac
+}
+
 # build_program PROGRAM SOURCE DEPENDENCIES ARGUMENTS CRATE..: proves and builds a program that measures crates, with
 # these crates copied beside it, into $room/crates/PROGRAM/out, and runs it once with the arguments. The gate stops at a
 # source that no crate of the repository reads, so the source has another ending here and the room is outside the

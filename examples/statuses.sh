@@ -1,10 +1,21 @@
 #!/bin/sh
-# Shows each status of the program on real files, and compares status and text.
+# Shows each status of each command on real files, and each kind of fault of a tables text, and compares status and text.
 hz=$(cd "$(dirname "$1")" && pwd)/$(basename "$1")
 work=$(mktemp -d) || exit 2
 trap 'rm -rf "$work"' EXIT
 cd "$work" || exit 2
 bad=0
+
+# ends STATUS TEXT WORDS..: the program, which has written `text` and ended with `status`, ended so
+ends() {
+    if [ "$status" = "$1" ] && [ "$text" = "$2" ] && [ ! -s errors ]; then
+        shift 2
+        echo "status $status: hz $*: $(printf '%s\n' "$text" | tail -n 1)"
+    else
+        echo "hz: status $status, text '$text', wanted $*"
+        bad=1
+    fi
+}
 
 # expect STATUS TEXT WORDS..: the program, given the words, ends so
 expect() {
@@ -13,61 +24,183 @@ expect() {
     shift 2
     text=$("$hz" "$@" 2> errors)
     status=$?
-    if [ "$status" = "$want_status" ] && [ "$text" = "$want_text" ] && [ ! -s errors ]; then
-        echo "status $status: hz $*: $text"
-    else
-        echo "hz $*: status $status, text '$text', wanted $want_status, '$want_text'"
-        bad=1
-    fi
+    ends "$want_status" "$want_text" "$@"
 }
 
-usage='usage: hz replay DESC TRACE | schedule DESC BLOCK | eval BLOCK STATE'
-printf '(define_cpu_unit "a")\n(define_insn_reservation "x" 1 (const_int 1) "nothing,a")\n' > d
-printf '(define_automaton "m,n")\n(define_cpu_unit "a" "m")\n(define_cpu_unit "b" "n")\n(define_insn_reservation "x" 1 (const_int 1) "a+b")\n' > two_automata
-printf '(define_cpu_unit "a,b")\n(automata_option "ndfa")\n(define_insn_reservation "x" 1 (const_int 1) "a|b")\n(define_insn_reservation "y" 1 (const_int 1) "a")\n' > ndfa
-printf 'issue x\nissue y\n' > both
+# expect_memory KILOBYTES WORDS..: the program, given the words and so much room for all its memory, tells that it ran out
+expect_memory() {
+    room=$1
+    shift
+    text=$(ulimit -v "$room" && "$hz" "$@" 2> errors)
+    status=$?
+    ends 5 memory "$@"
+}
+
+# expect_sink WORDS..: the program, given the words, tells that standard output is closed, and that it is full
+expect_sink() {
+    "$hz" "$@" >&- 2> errors
+    status=$?
+    text=
+    ends 7 '' "$@"
+    [ -e /dev/full ] || return
+    "$hz" "$@" > /dev/full 2> errors
+    status=$?
+    ends 7 '' "$@"
+}
+
+# lines FILE LINE..: makes the file of these lines
+lines() {
+    file=$1
+    shift
+    printf '%s\n' "$@" > "$file"
+}
+
+usage='usage: hz compile DESC | replay DESC TRACE | walk TABLES TRACE | schedule DESC BLOCK | eval BLOCK STATE'
+
+# descriptions
+unit='(define_cpu_unit "u")'
+lines d '(define_cpu_unit "a")' '(define_insn_reservation "x" 1 (const_int 1) "nothing,a")'
+lines two_automata '(define_automaton "m,n")' '(define_cpu_unit "a" "m")' '(define_cpu_unit "b" "n")' \
+    '(define_insn_reservation "x" 1 (const_int 1) "a+b")'
+lines ndfa '(define_cpu_unit "a,b")' '(automata_option "ndfa")' '(define_insn_reservation "x" 1 (const_int 1) "a|b")' \
+    '(define_insn_reservation "y" 1 (const_int 1) "a")'
+lines classes '(define_attr "type" "a,b,c" (const_string "a"))' '(define_cpu_unit "u,v")' '(presence_set "v" "u")' \
+    '(define_insn_reservation "x" 2 (eq_attr "type" "a,b") "u")' '(define_insn_reservation "y" 1 (eq_attr "type" "b") "u")' \
+    '(define_insn_reservation "z" 1 (const_int 0) "v")'
+lines never '(define_cpu_unit "u,v")' '(presence_set "v" "u")' '(define_insn_reservation "x" 1 (const_int 1) "v")'
+printf '(define_cpu_unit "a' > unclosed
+lines shape '; a comment' '(define_cpu_unit "a,")'
+lines comma "$unit" '(define_insn_reservation "x" 1 (const_int 1)' '  "u,,u")'
+lines name "$unit" '(define_reservation "r" "u, v")'
+lines circle '(define_reservation "r" "s")' '(define_reservation "s" "r")'
+lines alternatives "$unit" '(define_insn_reservation "x" 1 (const_int 1) "(u|u)*13")'
+lines most "$unit" '(define_insn_reservation "x" 1 (const_int 1) "(u|u)*65535")'
 {
-    printf '(define_cpu_unit "u")\n(define_insn_reservation "c0" 1 (const_int 1) "u")\n'
-    for j in 1 2 3 4 5 6 7 8 9 10 11 12 13 14 15 16; do
+    printf '%s\n(define_insn_reservation "c0" 1 (const_int 1) "u")\n' "$unit"
+    for j in 1 2 3 4 5 6 7 8 9 10 11 12 13 14 15; do
         printf '(define_insn_reservation "c%s" 1 (const_int 1) "nothing*%s, u")\n' "$j" "$j"
     done
-} > states
-printf '(define_cpu_unit "a' > unclosed
-printf '; a comment\n(define_cpu_unit "a,")\n' > shape
-printf '(define_cpu_unit "u")\n(define_insn_reservation "x" 1 (const_int 1)\n  "u,,u")\n' > comma
-printf '(define_cpu_unit "u")\n(define_reservation "r" "u, v")\n' > name
-printf '(define_reservation "r" "s")\n(define_reservation "s" "r")\n' > circle
-printf '(define_cpu_unit "u")\n(define_insn_reservation "x" 1 (const_int 1) "(u|u)*13")\n' > alternatives
-printf '(define_cpu_unit "u")\n(define_insn_reservation "x" 1 (const_int 1) "(u|u)*65535")\n' > most
-printf 'issue x\nadvance 1\nissue x\n' > t
-printf '(insn 1 (set (reg 2) (plus (reg 1) (const_int 1))))\n' > b
-printf '(reg 1 6)\n' > s
-printf '(insn 1 (set (reg 2)\n  (what)))\n' > code
-printf '(define_attr "type" "a,b,c" (const_string "a"))\n(define_cpu_unit "u,v")\n(presence_set "v" "u")\n(define_insn_reservation "x" 2 (eq_attr "type" "a,b") "u")\n(define_insn_reservation "y" 1 (eq_attr "type" "b") "u")\n(define_insn_reservation "z" 1 (const_int 0) "v")\n' > classes
-printf '(insn 1 (use (reg 1)))\n(insn 2 (use (reg 1)) (set_attr "type" "b"))\n' > ambiguous
-printf '(insn 1 (use (reg 1)) (set_attr "type" "c"))\n' > no_class
-printf '(insn 1 (use (reg 1)) (set_attr "kind" "c"))\n' > attribute
-printf '(insn 1 (use (reg 1)) (set_attr "type" "d"))\n' > value
-printf '(define_cpu_unit "u,v")\n(presence_set "v" "u")\n(define_insn_reservation "x" 1 (const_int 1) "v")\n' > never
-printf 'issue x\nissue x\n' > twice
-printf '; no class has this name\nissue z\n' > unknown
-printf '\n  issue x ; late\n' > bad
-printf 'advance 16777216\nissue x\nadvance 1\n' > far
-printf ' issue\tx\r\n\n; again\nissue x' > spaced
-: > empty
-mkdir folder
+} > most_states
+{ cat most_states; echo '(define_insn_reservation "c16" 1 (const_int 1) "nothing*16, u")'; } > states
 head -c 4194304 /dev/zero | tr '\0' ' ' > longest
 head -c 4194305 /dev/zero | tr '\0' ' ' > long
-head -c 67108865 /dev/zero | tr '\0' '\n' > long_trace
 
+# traces
+lines t 'issue x' 'advance 1' 'issue x'
+lines both 'issue x' 'issue y'
+lines twice 'issue x' 'issue x'
+lines unknown '; no class has this name' 'issue z'
+lines bad '' '  issue x ; late'
+lines far 'advance 16777216' 'issue x' 'advance 1'
+printf ' issue\tx\r\n\n; again\nissue x' > spaced
+head -c 67108864 /dev/zero | tr '\0' '\n' > longest_trace
+{ cat longest_trace; echo; } > long_trace
+
+# blocks and a state
+lines b '(insn 1 (set (reg 2) (plus (reg 1) (const_int 1))))'
+lines code '(insn 1 (set (reg 2)' '  (what)))'
+lines ambiguous '(insn 1 (use (reg 1)))' '(insn 2 (use (reg 1)) (set_attr "type" "b"))'
+lines no_class '(insn 1 (use (reg 1)) (set_attr "type" "c"))'
+lines attribute '(insn 1 (use (reg 1)) (set_attr "kind" "c"))'
+lines value '(insn 1 (use (reg 1)) (set_attr "type" "d"))'
+lines s '(reg 1 6)'
+
+# tables: of the description `ndfa` in the first treatment, with one line or byte changed, and as long as may be
+lines k 'hazard-tables 1' 'treatment first' 'classes 2' 'class x' 'class y' 'automata 1' 'automaton - 2 3' 'map 0 1' \
+    'row 1 1 0' 'row 2 - 0' 'row - - 0' end
+sed '1s/1/2/' k > header
+sed '2s/first/second/' k > treatment
+sed '9s/1 1/01 1/' k > zero
+sed '9s/1 1/3 1/' k > range
+head -c $(($(wc -c < k) - 1)) k > cut
+{ cat k; echo; } > trailing
+truncate -s 536870912 longest_tables
+truncate -s 536870913 long_tables
+
+: > empty
+mkdir folder
+
+# compile
+expect 0 "$(printf '%s\n' 'hazard-tables 1' 'treatment first' 'classes 1' 'class x' 'automata 1' 'automaton - 1 2' 'map 0' \
+    'row 1 0' 'row - 0' end)" compile d
+expect 0 "$(printf '%s\n' 'hazard-tables 1' 'treatment ndfa' 'classes 2' 'class x' 'class y' 'automata 1' 'automaton - 2 4' \
+    'map 0 1' 'row 1 2 0' 'row 3 3 0' 'row 3 - 0' 'row - - 0' end)" compile ndfa
+expect 0 "$(printf '%s\n' 'hazard-tables 1' 'treatment first' 'classes 1' 'class x' 'automata 2' 'automaton m 1 2' 'map 0' \
+    'row 1 0' 'row - 0' 'automaton n 1 2' 'map 0' 'row 1 0' 'row - 0' end)" compile two_automata
+expect 0 "$(printf '%s\n' 'hazard-tables 1' 'treatment first' 'classes 0' 'automata 1' 'automaton - 0 1' map 'row 0' end)" \
+    compile empty
+expect 2 'fault unclosed line 1 Unclosed' compile unclosed
+expect 2 'fault shape line 2 BadShape' compile shape
+expect 2 'fault comma line 2 BadExpression Unexpected 2' compile comma
+expect 2 'fault circle line 1 CircularReservation r' compile circle
+expect 3 'limit alternatives line 2 Alternatives x' compile alternatives
+expect 3 'limit states automaton -' compile states
+expect 3 'limit long bytes' compile long
+expect 6 'file missing could not be read' compile missing
+expect 6 'file folder could not be read' compile folder
+expect_memory 32768 compile most_states
+expect_sink compile d
+
+# replay
 expect 0 'accepted 2 issues 1 cycles' replay d t
 expect 0 'accepted 0 issues 0 cycles' replay d empty
 expect 0 'accepted 0 issues 0 cycles' replay empty empty
 expect 0 'accepted 0 issues 0 cycles' replay longest empty
+expect 0 'accepted 0 issues 0 cycles' replay d longest_trace
+expect 0 'accepted 2 issues 1 cycles' replay two_automata t
+expect 0 'accepted 2 issues 0 cycles' replay ndfa both
 expect 1 'refused line 2 x' replay d twice
-expect 0 "$(printf '(reg 1 6)\n(reg 2 7)')" eval b s
-expect 0 '' eval empty empty
-expect 2 'fault code line 2 UnknownCode' eval code s
+expect 1 'refused line 4 x' replay d spaced
+expect 2 'fault unclosed line 1 Unclosed' replay unclosed t
+expect 2 'fault shape line 2 BadShape' replay shape t
+expect 2 'fault comma line 2 BadExpression Unexpected 2' replay comma t
+expect 2 'fault name line 2 UnknownName v' replay name t
+expect 2 'fault circle line 1 CircularReservation r' replay circle t
+expect 2 'fault unknown line 2 UnknownClass' replay d unknown
+expect 2 'fault bad line 2 BadLine' replay d bad
+expect 2 'fault far line 3 AdvanceLimit' replay d far
+expect 2 'fault t line 1 UnknownClass' replay empty t
+expect 3 'limit alternatives line 2 Alternatives x' replay alternatives t
+expect 3 'limit most line 2 Alternatives x' replay most t
+expect 3 'limit states automaton -' replay states empty
+expect 3 'limit long bytes' replay long t
+expect 3 'limit long bytes' replay long missing
+expect 3 'limit long_trace bytes' replay d long_trace
+expect 3 'limit long_trace bytes' replay ndfa long_trace
+expect 6 'file missing could not be read' replay missing t
+expect 6 'file missing could not be read' replay d missing
+expect 6 'file folder could not be read' replay folder t
+expect 6 'file  could not be read' replay '' t
+expect_memory 65536 replay d longest_trace
+expect_sink replay d t
+
+# walk
+expect 0 'accepted 2 issues 1 cycles' walk k t
+expect 0 'accepted 0 issues 0 cycles' walk k empty
+expect 1 'refused line 2 y' walk k both
+expect 2 'fault header line 1 BadHeader' walk header t
+expect 2 'fault treatment line 2 BadLine' walk treatment t
+expect 2 'fault zero line 9 BadNumber' walk zero t
+expect 2 'fault range line 9 OutOfRange' walk range t
+expect 2 'fault cut line 12 Truncated' walk cut t
+expect 2 'fault empty line 1 Truncated' walk empty t
+expect 2 'fault trailing line 13 Trailing' walk trailing t
+expect 2 'fault d line 1 BadHeader' walk d t
+expect 2 'fault header line 1 BadHeader' walk header bad
+expect 2 'fault unknown line 2 UnknownClass' walk k unknown
+expect 2 'fault bad line 2 BadLine' walk k bad
+expect 2 'fault far line 3 AdvanceLimit' walk k far
+expect 2 'fault longest_tables line 1 Truncated' walk longest_tables t
+expect 3 'limit long_tables bytes' walk long_tables t
+expect 3 'limit long_tables bytes' walk long_tables missing
+expect 3 'limit long_trace bytes' walk k long_trace
+expect 6 'file missing could not be read' walk missing t
+expect 6 'file missing could not be read' walk k missing
+expect 6 'file folder could not be read' walk folder t
+expect_memory 65536 walk longest_tables t
+expect_sink walk k t
+
+# schedule
 expect 0 "$(printf '0 1 x\nscheduled 1 insns 0 cycles')" schedule d b
 expect 0 'scheduled 0 insns 0 cycles' schedule d empty
 expect 2 'fault ambiguous line 2 Ambiguous insn 2 x y' schedule classes ambiguous
@@ -80,50 +213,46 @@ expect 2 'fault unclosed line 1 Unclosed' schedule unclosed code
 expect 3 'limit states automaton -' schedule states code
 expect 3 'limit long bytes' schedule d long
 expect 6 'file missing could not be read' schedule d missing
+expect_memory 32768 schedule most_states b
+expect_sink schedule d b
+
+# eval
+expect 0 "$(printf '(reg 1 6)\n(reg 2 7)')" eval b s
+expect 0 '' eval empty empty
+expect 2 'fault code line 2 UnknownCode' eval code s
 expect 2 'fault b line 1 BadShape' eval b b
 expect 3 'limit long bytes' eval b long
 expect 6 'file missing could not be read' eval b missing
-expect 0 'accepted 2 issues 1 cycles' replay two_automata t
-expect 0 'accepted 2 issues 0 cycles' replay ndfa both
-expect 3 'limit states automaton -' replay states empty
-expect 2 'fault unclosed line 1 Unclosed' replay unclosed t
-expect 2 'fault shape line 2 BadShape' replay shape t
-expect 2 'fault comma line 2 BadExpression Unexpected 2' replay comma t
-expect 2 'fault name line 2 UnknownName v' replay name t
-expect 2 'fault circle line 1 CircularReservation r' replay circle t
-expect 3 'limit alternatives line 2 Alternatives x' replay alternatives t
-expect 3 'limit most line 2 Alternatives x' replay most t
-expect 1 'refused line 4 x' replay d spaced
-expect 2 'fault unknown line 2 UnknownClass' replay d unknown
-expect 2 'fault bad line 2 BadLine' replay d bad
-expect 2 'fault far line 3 AdvanceLimit' replay d far
-expect 2 'fault t line 1 UnknownClass' replay empty t
-expect 3 'limit long bytes' replay long t
-expect 3 'limit long bytes' replay long missing
-expect 3 'limit long_trace bytes' replay d long_trace
-expect 3 'limit long_trace bytes' replay ndfa long_trace
+expect_memory 4096 eval longest s
+expect_sink eval b s
+
+# words
 expect 4 "$usage"
+expect 4 "$usage" compile
+expect 4 "$usage" compile d more
+expect 4 "$usage" compile -d
 expect 4 "$usage" replay d
 expect 4 "$usage" replay d t more
-expect 4 "$usage" --help
 expect 4 "$usage" replay -d t
 expect 4 "$usage" replay d "$(printf '\377')"
-expect 6 'file missing could not be read' replay missing t
-expect 6 'file missing could not be read' replay d missing
-expect 6 'file folder could not be read' replay folder t
-expect 6 'file  could not be read' replay '' t
+expect 4 "$usage" walk k
+expect 4 "$usage" walk k t more
+expect 4 "$usage" walk k --trace
+expect 4 "$usage" schedule d
+expect 4 "$usage" eval b -
+expect 4 "$usage" Compile d
+expect 4 "$usage" comp d
+expect 4 "$usage" drill d 1 1
+expect 4 "$usage" help
+expect 4 "$usage" --help
+expect 4 "$usage" --version
+expect 4 "$usage" -- compile d
+expect 4 "$usage" compile -- d
+
+# a file that may not be read, where the user may not read all files
 if [ "$(id -u)" != 0 ]; then
     : > closed
     chmod 0 closed
     expect 6 'file closed could not be read' replay d closed
-fi
-
-"$hz" replay d t >&- 2> errors
-status=$?
-if [ "$status" = 7 ] && [ ! -s errors ]; then echo "status 7: standard output closed"; else echo "closed output: status $status"; bad=1; fi
-if [ -e /dev/full ]; then
-    "$hz" replay d t > /dev/full 2> errors
-    status=$?
-    if [ "$status" = 7 ] && [ ! -s errors ]; then echo "status 7: standard output full"; else echo "full output: status $status"; bad=1; fi
 fi
 exit $bad

@@ -37,7 +37,7 @@ def limit_memory():
 
 def answer_of(hz, description, most):
     """The status of hz on a description, the first line of its answer, and seconds; `most` is how many it may take."""
-    words = [hz, "replay", description, "/dev/null"]
+    words = [hz, "compile", description]
     began = spent()
     with tempfile.TemporaryFile() as out:
         try:
@@ -46,7 +46,8 @@ def answer_of(hz, description, most):
             return None, f"none in {most} seconds", spent() - began
         out.seek(0)
         line = out.readline(4096).decode("latin-1").strip()
-    return status, line.replace(f" {description}", ""), spent() - began
+    told = "compiled" if status == 0 else line.replace(f" {description}", "")
+    return status, told, spent() - began
 
 
 def unpack(source, folder):
@@ -141,7 +142,7 @@ def kind_of(found):
     """What a row counts as."""
     words = found.answer.split()
     if found.status == 0:
-        return "accepted"
+        return "compiled"
     if found.status == 2:
         return "fault " + words[3]
     if found.status == 3:

@@ -4,20 +4,6 @@
 hz=$1
 . "$(dirname "$0")/../common.sh"
 
-# make_trace MACHINE EVENTS: a trace that is accepted; on the superscalar machine ten cycles and what they issue, again
-# and again
-make_trace() {
-    case $1 in
-        memory_pipe) awk -v n="$2" 'BEGIN { for (i = 0; i < n; i++) print (i % 3 == 0) ? "issue load" : (i % 3 == 1) ? "issue store" : "advance 1" }' ;;
-        superscalar) awk -v n="$2" 'BEGIN {
-            split("div s - s f - s f - s f - s f - s f - s - s f - s - s -", turn, " ")
-            text["div"] = "issue div"; text["s"] = "issue simple"; text["f"] = "issue float"; text["-"] = "advance 1"
-            for (size = 1; size in turn; size++);
-            for (i = 0; i < n; i++) print text[turn[i % (size - 1) + 1]]
-        }' ;;
-    esac
-}
-
 echo "machine events bytes ns_an_event ratio_to_wc doubling peak_kB"
 for kind in memory_pipe superscalar; do
     machine=examples/$kind/machine.md

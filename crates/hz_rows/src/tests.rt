@@ -10,8 +10,10 @@ mod machines;
 mod pairs;
 mod schedules;
 mod splits;
+mod tables;
 mod texts;
 mod traces;
+mod walks;
 
 use hz_io::{FileName, MemFiles, MemSink};
 use hz_tool::run;

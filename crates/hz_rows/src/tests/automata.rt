@@ -6,11 +6,11 @@ use std::process::Abort;
 use std::test::Fail;
 
 /// A class of one of two units, and one of the first alone.
-const EITHER: &str =
+pub const EITHER: &str =
     "(define_cpu_unit \"a,b\")(define_insn_reservation \"x\" 1 (const_int 1) \"a|b\")(define_insn_reservation \"y\" 1 (const_int 1) \"a\")";
 
 /// Rows on that description: what stands behind it, the trace, the status and the text.
-const TREATMENT_ROWS: &[(&str, &[u8], u8, &[u8])] = &[
+pub const TREATMENT_ROWS: &[(&str, &[u8], u8, &[u8])] = &[
     ("", b"issue x\nissue y\n", 1, b"refused line 2 y\n"),
     // under ndfa the first issue may have taken the second unit
     (
@@ -51,11 +51,11 @@ fn issues_take_the_first_that_fits_or_any(rt: HostRuntime) -> Result<(), Fail> {
 }
 
 /// Units of two automata, and a class of the expression of a row on line 4.
-const TWO: &str =
+pub const TWO: &str =
     "(define_automaton \"a,b\")\n(define_cpu_unit \"a0,a1\" \"a\")\n(define_cpu_unit \"b0,b1\" \"b\")\n(define_insn_reservation \"x\" 1 (const_int 1) \"";
 
 /// Rows on two automata: the expression, the trace, the status and the text.
-const TWO_ROWS: &[(&str, &[u8], u8, &[u8])] = &[
+pub const TWO_ROWS: &[(&str, &[u8], u8, &[u8])] = &[
     // each automaton is full after two
     (
         "(a0|a1),(b0|b1)",

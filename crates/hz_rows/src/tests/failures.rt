@@ -15,7 +15,7 @@ fn is_usage(rt: &impl Abort, alloc: Global, words: &[&str]) -> Result<(), Fail> 
         files,
         ROOM,
         4,
-        b"usage: hz replay DESC TRACE | schedule DESC BLOCK | eval BLOCK STATE\n",
+        b"usage: hz compile DESC | replay DESC TRACE | walk TABLES TRACE | schedule DESC BLOCK | eval BLOCK STATE\n",
     )
 }
 
@@ -25,9 +25,19 @@ fn other_words_are_answered_by_the_usage_line(rt: HostRuntime) -> Result<(), Fai
     is_usage(&rt, alloc, &[])?;
     is_usage(&rt, alloc, &["replay", "d"])?;
     is_usage(&rt, alloc, &["replay", "d", "t", "u"])?;
-    is_usage(&rt, alloc, &["compile", "d", "t"])?;
     is_usage(&rt, alloc, &["replay", "-d", "t"])?;
-    is_usage(&rt, alloc, &["--help"])
+    is_usage(&rt, alloc, &["compile"])?;
+    is_usage(&rt, alloc, &["compile", "d", "t"])?;
+    is_usage(&rt, alloc, &["compile", "-d"])?;
+    is_usage(&rt, alloc, &["compile", "--help"])?;
+    is_usage(&rt, alloc, &["walk", "d"])?;
+    is_usage(&rt, alloc, &["walk", "d", "t", "u"])?;
+    is_usage(&rt, alloc, &["walk", "d", "-"])?;
+    is_usage(&rt, alloc, &["walks", "d", "t"])?;
+    is_usage(&rt, alloc, &["", "d", "t"])?;
+    is_usage(&rt, alloc, &["help"])?;
+    is_usage(&rt, alloc, &["--help"])?;
+    is_usage(&rt, alloc, &["--version"])
 }
 
 #[test]

@@ -4,7 +4,7 @@ use super::replays;
 use std::test::Fail;
 
 /// The superscalar example of the manual.
-const SUPERSCALAR: &[u8] =
+pub const SUPERSCALAR: &[u8] =
     b"(define_attr \"type\" \"int,mult,div,float\" (const_string \"int\"))\n(define_cpu_unit \"i0_pipeline, i1_pipeline, f_pipeline\")\n(define_cpu_unit \"port0, port1\")\n(define_cpu_unit \"div\")\n(define_insn_reservation \"simple\" 2 (eq_attr \"type\" \"int\")\n  \"(i0_pipeline | i1_pipeline), (port0 | port1)\")\n(define_insn_reservation \"mult\" 4 (eq_attr \"type\" \"mult\")\n  \"i1_pipeline, nothing*2, (port0 | port1)\")\n(define_insn_reservation \"div\" 9 (eq_attr \"type\" \"div\")\n  \"i1_pipeline, div*7, div + (port0 | port1)\")\n(define_insn_reservation \"float\" 3 (eq_attr \"type\" \"float\")\n  \"f_pipeline, nothing, (port0 | port1)\")\n(define_bypass 4 \"float\" \"simple,mult,div\")\n";
 
 /// The same with a reservation for the ports, which is defined at the end.
@@ -12,7 +12,7 @@ const FINISH: &[u8] =
     b"(define_attr \"type\" \"int,mult,div,float\" (const_string \"int\"))\n(define_cpu_unit \"i0_pipeline, i1_pipeline, f_pipeline\")\n(define_cpu_unit \"port0, port1\")\n(define_cpu_unit \"div\")\n(define_insn_reservation \"simple\" 2 (eq_attr \"type\" \"int\")\n  \"(i0_pipeline | i1_pipeline), finish\")\n(define_insn_reservation \"mult\" 4 (eq_attr \"type\" \"mult\")\n  \"i1_pipeline, nothing*2, finish\")\n(define_insn_reservation \"div\" 9 (eq_attr \"type\" \"div\")\n  \"i1_pipeline, div*7, div + finish\")\n(define_insn_reservation \"float\" 3 (eq_attr \"type\" \"float\")\n  \"f_pipeline, nothing, finish\")\n(define_bypass 4 \"float\" \"simple,mult,div\")\n(define_reservation \"finish\" \"port0 | port1\")\n";
 
 /// Traces of the superscalar example, each with its status and its text.
-const SUPERSCALAR_ROWS: &[(&[u8], u8, &[u8])] = &[
+pub const SUPERSCALAR_ROWS: &[(&[u8], u8, &[u8])] = &[
     (b"", 0, b"accepted 0 issues 0 cycles\n"),
     (
         b"issue simple\nissue simple\nissue simple\n",
@@ -58,7 +58,7 @@ fn the_superscalar_example(rt: HostRuntime) -> Result<(), Fail> {
 }
 
 /// Descriptions and traces, each with its status and its text.
-const MACHINE_ROWS: &[(&[u8], &[u8], u8, &[u8])] = &[
+pub const MACHINE_ROWS: &[(&[u8], &[u8], u8, &[u8])] = &[
     // an alternation takes the first that fits
     (
         b"(define_cpu_unit \"a,b\")\n(define_insn_reservation \"x\" 1 (const_int 1) \"a|b\")\n(define_insn_reservation \"y\" 1 (const_int 1) \"a\")\n",

@@ -4,7 +4,7 @@ use super::{LATE, replays};
 use std::test::Fail;
 
 /// Traces of a class `x` that takes a unit one cycle after its issue, each with its status and its text.
-const TRACE_ROWS: &[(&[u8], u8, &[u8])] = &[
+pub const TRACE_ROWS: &[(&[u8], u8, &[u8])] = &[
     // white space round a line and between its words, with or without a line feed at the end
     (
         b" \tissue  \tx \r\nadvance\t1\r\nissue x",
