@@ -29,7 +29,8 @@ pub fn compile_writes_tables()
     ensures { (held : Held) (description text : List ℕ) → AnswersCompile held description 0 text → WritesTables held description text }
 {}
 
-/// `walk` on a text that `compile` wrote of a description has the status and the text of `replay` on the description, for every trace.
+/// `walk` on a text that `compile` wrote of a description has the status and the text of `replay` on the description, for every trace,
+/// where the text is within its limit of bytes.
 pub fn walk_is_replay()
     ensures { (held : Held) (description text : List ℕ) → AnswersCompile held description 0 text → WalkIsReplay held description text }
 {}

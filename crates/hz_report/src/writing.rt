@@ -15,8 +15,8 @@ use hz_io::{Failed, Sink};
 use hz_tabfile::write_tables;
 
 /// Writes the text of a report: all of it, or a front of it where the sink failed, with one more fault. It takes no memory.
-/// The slots of a schedule are of instructions of its graph, and these of classes of its machine; tables have an automaton and what
-/// is told of it for each of their description.
+/// The slots of a schedule are of instructions of its graph, and these of classes of its machine; what tables tell of each automaton
+/// fits its part and its units, with states shown exactly beside both `v` and `no-minimization` (`CanBeSaid`).
 pub fn write_report<S: Sink>(report: &Report<'_>, out: &mut S) -> Result<(), Failed>
     requires sink { S.faults out.old < 2 ^ 64 - 1 }
     requires range { IsTellable report.now }

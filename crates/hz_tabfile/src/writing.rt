@@ -25,8 +25,9 @@ use page::{Page, flush};
 use parts::add_tables;
 use ranges::is_in_range;
 
-/// The text of a compiled machine stands for it, and the grids that are shown in it are listed in ascending order of their pairs.
-/// Nothing is done here.
+/// The text of a compiled machine stands for it, and the grids that are shown in it are listed in ascending order of their pairs. It
+/// looks at all parts and changes nothing. What is told of each automaton fits its part and its units, and states are shown exactly
+/// beside both `v` and `no-minimization`: the law `compiled_descriptions_are_sayable`.
 pub fn text_stands(compiled: &Compiled, checked: &Checked)
     requires sayable { IsSayable compiled.now checked.now }
     ensures stands { TableText (spelled (says compiled.now checked.now)) (machine_of compiled.now.machine) }
@@ -37,7 +38,7 @@ pub fn text_stands(compiled: &Compiled, checked: &Checked)
 
 /// Writes the text of a compiled machine: its classes and its automata, with the counts of each before minimisation under
 /// `stats`, and what each state is beside both `v` and `no-minimization`. It takes no memory. Where the sink fails, a front
-/// of the text was written. docs/FORMATS.md, 'Tables'.
+/// of the text was written. What is told fits as `text_stands` asks. docs/FORMATS.md, 'Tables'.
 pub fn write_tables<S: Sink>(
     compiled: &Compiled,
     checked: &Checked,

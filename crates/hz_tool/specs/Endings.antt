@@ -48,7 +48,8 @@ pub record AppendsSchedule (held : Held) (description block : List ℕ) (old new
   pub replays : ReplayAccepts held description writes.d writes.g writes.slots
   pub appended : IsAppended old new text
 
--- The text that was appended says what is compiled of the description, and `walk` on it answers as `replay` does on the description.
+-- The text that was appended says what is compiled of the description, and `walk` on it, within its limit of bytes, answers as
+-- `replay` does on the description.
 pub record AppendsTables (held : Held) (description : List ℕ) (old new : Option (List ℕ)) : Type 0 where
   pub text : List ℕ
   pub writes : WritesTables held description text

@@ -195,8 +195,8 @@ pub fn run<F: Files, S: Sink>(alloc: Global, words: &[String], files: &mut F, ou
     ensures exact { ForSome (F.held files.old) (λ held. S.faults out.new ≡ S.faults out.old → (F.faults files.new ≡ F.faults files.old) ⊎ F.steady files.old → (status : ℕ) (text : List ℕ) → Answer (words_in words.now) held status text → (result ≡ status) ⊎ (result ≡ 5)) }
     ensures cut { ForSome (F.held files.old) (λ held. result ≡ 7 → IsCutShort (words_in words.now) held (F.faults files.old < F.faults files.new) (S.written out.old) (S.written out.new) (S.room out.old)) }
 
-    // The tables that are written are of what is compiled of the description, and `walk` on them answers to every trace what `replay`
-    // answers on it.
+    // The tables that are written are of what is compiled of the description, and `walk` on them, within their limit of bytes, answers
+    // to every trace what `replay` answers on it.
     ensures tables { ForSome (F.held files.old) (λ held. result ≡ 0 → (description : List ℕ) → model.order_of (words_in words.now) ≡ Some (model.compile description) → AppendsTables held description (S.written out.old) (S.written out.new)) }
 
     // A schedule keeps its block: each instruction once, every latency and bypass, in an order that `replay` accepts and that from

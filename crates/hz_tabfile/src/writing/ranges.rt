@@ -1,4 +1,4 @@
-//! What holds of a compiled description by the types of what it is made of. Nothing is done here.
+//! What holds of a compiled description by the types of what it is made of: each part is looked at, and nothing changes.
 
 ghost use Rattle.std.specs.Prelude.{◌≤◌, IsTrue, All, length, map};
 ghost use Rattle.std.specs.Option.{ForSome};
