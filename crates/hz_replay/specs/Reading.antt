@@ -18,5 +18,5 @@ pub record IsSeen (classes : List (List ℕ)) (text : List ℕ) (seen : Seen) : 
 
 -- Each place remembers a line.
 pub record AreSeen (classes : List (List ℕ)) (text : List ℕ) (seen : List Seen) : Type 0 where
-  pub places : length seen ≡ 256
+  pub places : length seen ≡ 4096
   pub each : All (IsSeen classes text) seen

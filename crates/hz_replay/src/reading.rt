@@ -15,8 +15,8 @@ use std::alloc::{AllocError, Global};
 use std::hash::{FoldHasher, Hasher};
 use std::marker::Model;
 
-/// How many lines are remembered.
-const PLACES: usize = 256;
+/// How many lines are remembered: four times as many as there may be classes, so that few lines share a place.
+const PLACES: usize = 4096;
 
 /// A line that was read: where in the text it begins and ends, and what it says.
 #[derive(Clone, Copy)]
@@ -51,11 +51,11 @@ impl<'t> Model for Reading<'t> {
 
 /// The place of a line among those that are remembered.
 fn place_of(line: &[u8]) -> usize
-    ensures { result < 256 }
+    ensures { result < 4096 }
 {
     let mut hasher = FoldHasher::default();
     hasher.write(line);
-    (hasher.finish() % 256) as usize
+    (hasher.finish() % 4096) as usize
 }
 
 impl<'t> Reading<'t> {
