@@ -1,5 +1,5 @@
 -- The pairs of a grid, cycle by cycle.
-use Rattle.std.proofs.Common.{◌≡◌, ℕ, zero, suc, ◌+◌, ◌<◌, ◌≤◌, Bool, true, false, ◌==◌, ◌⊎◌, inl, inr, ⊎_elim, ◌↔◌, IsTrue, List, [], ◌∷◌, ◌++◌, length, map, filter, get_or, Contains, All, if◌then◌else◌, refl, sym, ap, subst, ◌∙◌, arith}
+use Rattle.std.proofs.Common.{◌≡◌, ℕ, zero, suc, ◌+◌, ◌<◌, ◌≤◌, Bool, true, false, ◌==◌, inl, inr, ⊎_elim, ◌↔◌, List, [], ◌∷◌, ◌++◌, length, map, filter, Contains, All, if◌then◌else◌, refl, sym, ap, subst, ◌∙◌, arith}
 use Rattle.std.specs.Prelude.{slice_index_or}
 use Rattle.std.specs.List.{flat_map, range_with_len, AllPairs}
 use Rattle.std.proofs.lemmas.Bool.{eqb-true, eq-eqb}
@@ -7,13 +7,12 @@ use Rattle.std.proofs.lemmas.List.{append_assoc}
 use Rattle.std.proofs.lemmas.List.Kept.{AllPairs-filter}
 use Rattle.std.proofs.lemmas.List.Elements.{Contains-append_left, Contains-append_right, Contains-append_cases, All-contains}
 use Rattle.hz_base_model.specs.Pairs.{Pair}
-use Rattle.hz_base_model.proofs.Elements.{Contains-nil, Contains-filter, Contains-from_filter, Contains-map, Contains-from_map, Contains-range, Contains-from_range}
+use Rattle.hz_base_model.proofs.Elements.{Contains-nil, Contains-filter, Contains-from_filter, Contains-map, Contains-from_map, Contains-range}
 use Rattle.hz_base_model.proofs.Ascending.{AllPairs-append, AllPairs-map, AllPairs-range, same_from_ascending}
 use Rattle.hz_grid.specs.Rows.{has_unit, HasUnit}
 use Rattle.hz_grid.specs.Grids.{Holds, Precedes, IsGrid}
 use Rattle.hz_grid.proofs.Pairs.{Precedes_asymmetric}
 use Rattle.hz_tabtext_model.specs.Texts.{pair_field}
-use Rattle.hz_tabtext_model.specs.Said.{named_grid}
 use Rattle.hz_tabfile.specs.Pages.{spaced, unit_text, pairs_text}
 
 -- the pairs of one cycle

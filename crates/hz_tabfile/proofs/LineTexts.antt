@@ -1,5 +1,5 @@
 -- Lines as they are written: the first word, and each other field behind a space.
-use Rattle.std.proofs.Common.{◌≡◌, ℕ, List, [], ◌∷◌, ◌++◌, map, Option, Result, refl, ap, sym, subst, ◌∙◌}
+use Rattle.std.proofs.Common.{◌≡◌, ℕ, List, [], ◌∷◌, ◌++◌, map, Option, Result, ap, sym, subst, ◌∙◌}
 use Rattle.std.specs.List.{flat_map, join_with_byte}
 use Rattle.std.proofs.lemmas.List.{append-nil, append_assoc}
 use Rattle.hz_tabtext_model.specs.Texts.{joined, line_text}

@@ -1,16 +1,11 @@
 -- The texts of automata, piece by piece.
-use Rattle.std.proofs.Common.{◌≡◌, ℕ, ◌+◌, ◌<◌, Bool, List, [], ◌∷◌, ◌++◌, map, length, get_or, Option, Result, codes, decimal, refl, ap, sym, subst, ◌∙◌, arith}
-use Rattle.std.specs.Prelude.{slice_index_or}
-use Rattle.std.specs.Option.{option_map}
+use Rattle.std.proofs.Common.{◌≡◌, ℕ, ◌+◌, ◌<◌, Bool, List, [], ◌∷◌, ◌++◌, map, length, get_or, codes, decimal, refl, ap, sym, ◌∙◌, arith}
 use Rattle.std.specs.List.{flat_map, enumerate_from}
 use Rattle.std.proofs.lemmas.List.{append-nil, append_assoc, length-map, get_or-map}
 use Rattle.std.proofs.lemmas.List.FromFn.{length-enumerate_from, get_or-enumerate_from}
 use Rattle.std.proofs.lemmas.List.Folds.{flat_map-map}
 use Rattle.std.proofs.lemmas.Grind.{flat_map-append}
-use Rattle.hz_auto_model.specs.AutomatonPipelines.{automaton_at}
-use Rattle.hz_auto_model.specs.Compiled.{report_at}
-use Rattle.hz_tabtext_model.specs.Texts.{PartText, TablesText, RowText, line_text, row_lines, counts_lines, head_line, map_line, part_lines, treatment_line, class_line, tables_lines, spelled}
-use Rattle.hz_tabtext_model.specs.Said.{part_said}
+use Rattle.hz_tabtext_model.specs.Texts.{PartText, TablesText, line_text, row_lines, counts_lines, head_line, map_line, part_lines, treatment_line, class_line, spelled}
 use Rattle.hz_tabfile.specs.Saying.{front_lines}
 
 -- an item that is made with its number

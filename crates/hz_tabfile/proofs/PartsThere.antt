@@ -1,9 +1,7 @@
 -- The part of a number with its automaton and its report, as a loop reads them.
-use Rattle.std.proofs.Common.{◌≡◌, ℕ, ◌+◌, ◌<◌, ◌≤◌, Bool, true, false, List, [], Option, Some, None, map, length, get_or, sym, ap, subst, ◌∙◌, arith}
+use Rattle.std.proofs.Common.{◌≡◌, ℕ, ◌<◌, Bool, true, false, List, [], Option, Some, None, map, length, get_or, sym, ap, subst, ◌∙◌, arith}
 use Rattle.std.specs.Prelude.{slice_index_or, IfSome, IsSomeAnd, MatchBool}
-use Rattle.std.specs.List.{enumerate_from}
 use Rattle.std.proofs.lemmas.List.{get_or-map, length-map}
-use Rattle.hz_base_model.specs.Limits.{class_limit, unit_limit}
 use Rattle.hz_check.specs.declared.checked.Checked.{Checked}
 use Rattle.hz_check.specs.declared.checked.CheckedAutomaton.{CheckedAutomaton}
 use Rattle.hz_check.specs.Shape.{automaton_of}

@@ -1,5 +1,5 @@
 -- What compiling answers can be written.
-use Rattle.std.proofs.Common.{◌≡◌, List, map, sym, subst}
+use Rattle.std.proofs.Common.{◌≡◌, map, sym, subst}
 use Rattle.hz_mdread.specs.declared.options.Options.{Options}
 use Rattle.hz_mdread.specs.Shape.{options as options_of}
 use Rattle.hz_check.specs.declared.checked.Checked.{Checked}

@@ -1,6 +1,5 @@
-use Rattle.std.proofs.Common.{ℕ, List, [], subst}
+use Rattle.std.proofs.Common.{ℕ, List, subst}
 use Rattle.hz_tabtext_model.specs.Texts.{spelled}
-use Rattle.hz_io.specs.Sink.{Cut}
 use Rattle.hz_tabfile.specs.Pages.{Added, Stopped}
 use Rattle.hz_tabfile.specs.Saying.{says}
 use Rattle.hz_tabfile.proofs.Adding.{writes_all, none_stopped}

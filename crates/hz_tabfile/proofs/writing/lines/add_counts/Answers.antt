@@ -1,4 +1,4 @@
-use Rattle.std.proofs.Common.{ℕ, List, Bool, Option, [], ◌∷◌, ◌++◌, codes, decimal, sym, ap, subst, ◌∙◌, refl}
+use Rattle.std.proofs.Common.{ℕ, List, Bool, [], ◌∷◌, codes, decimal, sym, subst}
 use Rattle.std.specs.List.{flat_map}
 use Rattle.hz_tabfile.specs.Pages.{Adds}
 use Rattle.std.specs.Prelude.{Some, None, if◌then◌else◌}

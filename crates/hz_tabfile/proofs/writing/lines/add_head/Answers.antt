@@ -1,7 +1,6 @@
-use Rattle.std.proofs.Common.{ℕ, List, Bool, Option, [], ◌∷◌, ◌++◌, codes, decimal, sym, ap, subst, ◌∙◌, refl}
-use Rattle.std.specs.List.{flat_map}
+use Rattle.std.proofs.Common.{ℕ, List, codes, decimal, subst, ◌∙◌}
 use Rattle.hz_tabfile.specs.Pages.{Adds}
-use Rattle.hz_tabfile.proofs.LineTexts.{line_one, line_two, line_three}
+use Rattle.hz_tabfile.proofs.LineTexts.{line_three}
 use Rattle.hz_tabfile.proofs.writing.lines.add_head.Goals as goal
 
 pub returns : goal.returns

@@ -1,4 +1,4 @@
-use Rattle.std.proofs.Common.{ℕ, List, Option, codes, decimal}
+use Rattle.std.proofs.Common.{codes, decimal}
 use Rattle.std.proofs.Common.{rules}
 use Rattle.hz_tabfile.proofs.Adding.{adds_failed}
 use Rattle.hz_tabfile.proofs.LineTexts.{line_word_stopped, line_fields_stopped, line_added}

@@ -1,4 +1,4 @@
-use Rattle.std.proofs.Common.{ℕ, List, decimal, arith}
+use Rattle.std.proofs.Common.{ℕ, decimal, arith}
 use Rattle.hz_tabfile.specs.Pages.{spaced}
 use Rattle.hz_tabfile.proofs.Adding.{each_added, each_stopped, each_done}
 use Rattle.hz_tabfile.proofs.writing.lines.add_numbers.Goals as goal

@@ -1,5 +1,4 @@
-use Rattle.std.proofs.Common.{ℕ, List, subst}
-use Rattle.std.specs.List.{flat_map}
+use Rattle.std.proofs.Common.{ℕ, subst}
 use Rattle.arrayvec.specs.ArrayVec.{ArrayVec}
 use Rattle.hz_tabfile.specs.Pages.{Adds}
 use Rattle.hz_tabfile.proofs.writing.page.add.Goals as goal

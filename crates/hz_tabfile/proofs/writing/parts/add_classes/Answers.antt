@@ -1,4 +1,4 @@
-use Rattle.std.proofs.Common.{◌≡◌, ◌<◌, ◌≤◌, ◌+◌, ℕ, List, [], Option, length, map, get_or, refl, ap, sym, ◌∙◌, arith}
+use Rattle.std.proofs.Common.{◌<◌, ℕ, List, [], length, ap, sym, ◌∙◌, arith}
 use Rattle.hz_tabtext_model.specs.Texts.{line_text, class_line}
 use Rattle.std.proofs.lemmas.List.{get_or_default}
 use Rattle.hz_tabfile.proofs.Adding.{each_added_as, each_stopped_as, each_done}

@@ -1,8 +1,7 @@
-use Rattle.std.proofs.Common.{◌≡◌, ◌<◌, ◌≤◌, ◌+◌, ℕ, List, Bool, Option, [], ◌∷◌, ◌++◌, length, map, get_or, codes, decimal, sym, ap, subst, ◌∙◌, refl, arith, rules}
-use Rattle.std.specs.List.{flat_map, enumerate_from}
-use Rattle.std.specs.Option.{option_map}
+use Rattle.std.proofs.Common.{ℕ, List, [], ◌∷◌, ◌++◌, length, codes, decimal, subst, refl, rules}
+use Rattle.std.specs.List.{flat_map}
 use Rattle.hz_tabfile.specs.Pages.{Adds, Added, Stopped}
-use Rattle.hz_tabfile.proofs.Adding.{added_then_stopped, stopped_before, adds_then, adds_failed, each_added_as, each_stopped_as, each_done}
+use Rattle.hz_tabfile.proofs.Adding.{added_then_stopped, stopped_before, adds_then, adds_failed}
 use Rattle.hz_tabtext_model.specs.Texts.{line_text, treatment_line, class_line}
 use Rattle.hz_tabfile.proofs.LineTexts.{line_one}
 use Rattle.hz_tabfile.proofs.PartTexts.{front_text}

@@ -1,8 +1,6 @@
-use Rattle.std.proofs.Common.{◌≡◌, ◌<◌, ◌≤◌, ◌+◌, ℕ, List, Bool, Option, [], ◌∷◌, ◌++◌, length, map, get_or, codes, decimal, sym, ap, subst, ◌∙◌, refl, arith, rules}
-use Rattle.std.specs.List.{flat_map, enumerate_from}
-use Rattle.std.specs.Option.{option_map}
-use Rattle.hz_tabfile.specs.Pages.{Adds, Added, Stopped}
-use Rattle.hz_tabfile.proofs.Adding.{added_then_stopped, stopped_before, adds_then, adds_failed, each_added_as, each_stopped_as, each_done}
+use Rattle.std.proofs.Common.{◌<◌, length, sym, ap, ◌∙◌, arith}
+use Rattle.std.specs.List.{flat_map}
+use Rattle.hz_tabfile.proofs.Adding.{each_added_as, each_stopped_as, each_done}
 use Rattle.hz_check.specs.declared.checked.CheckedAutomaton.{CheckedAutomaton}
 use Rattle.hz_tabtext_model.specs.Texts.{PartText, line_text, part_lines}
 use Rattle.hz_tabfile.specs.Saying.{parts_says}

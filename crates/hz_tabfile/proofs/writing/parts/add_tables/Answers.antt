@@ -1,12 +1,11 @@
-use Rattle.std.proofs.Common.{◌≡◌, ◌<◌, ◌≤◌, ◌+◌, ℕ, List, Bool, Option, [], ◌∷◌, ◌++◌, length, map, get_or, codes, decimal, sym, ap, subst, ◌∙◌, refl, arith, rules}
-use Rattle.std.specs.List.{flat_map, enumerate_from}
-use Rattle.std.specs.Option.{option_map}
+use Rattle.std.proofs.Common.{◌≡◌, ℕ, List, Bool, [], ◌∷◌, ◌++◌, length, codes, sym, ap, subst, ◌∙◌, arith, rules}
+use Rattle.std.specs.List.{flat_map}
 use Rattle.hz_tabfile.specs.Pages.{Adds, Added, Stopped}
-use Rattle.hz_tabfile.proofs.Adding.{added_then_stopped, stopped_before, adds_then, adds_failed, each_added_as, each_stopped_as, each_done}
+use Rattle.hz_tabfile.proofs.Adding.{added_then_stopped, stopped_before, adds_then, adds_failed}
 use Rattle.hz_check.specs.declared.checked.CheckedAutomaton.{CheckedAutomaton}
 use Rattle.hz_auto.specs.declared.report.AutoReport.{AutoReport}
 use Rattle.hz_tables.specs.declared.part.Part.{Part}
-use Rattle.hz_tabtext_model.specs.Texts.{TablesText, line_text, part_lines, spelled}
+use Rattle.hz_tabtext_model.specs.Texts.{TablesText, line_text, part_lines}
 use Rattle.hz_tabfile.specs.Saying.{says, parts_says, front_lines, AreWritable}
 use Rattle.hz_tabfile.proofs.LineTexts.{line_spaced}
 use Rattle.hz_tabfile.proofs.PartTexts.{whole_text}

@@ -1,5 +1,4 @@
-use Rattle.std.proofs.Common.{ℕ, List, Bool, Option, [], ◌∷◌, ◌++◌, codes, decimal, sym, ap, subst, ◌∙◌, refl}
-use Rattle.std.specs.List.{flat_map}
+use Rattle.std.proofs.Common.{ℕ, List, Bool, codes, sym, subst, refl}
 use Rattle.hz_tabfile.specs.Pages.{Adds}
 use Rattle.hz_tabtext_model.specs.Texts.{line_text, treatment_line}
 use Rattle.hz_tabfile.proofs.LineTexts.{line_one}

@@ -1,7 +1,5 @@
-use Rattle.std.proofs.Common.{◌<◌, ◌≤◌, ◌^◌, take, length}
-use Rattle.std.specs.Prelude.{All, IsTrue}
-use Rattle.std.specs.Option.{ForSome}
-use Rattle.hz_auto.specs.declared.report.AutoReport.{AutoReport}
+use Rattle.std.proofs.Common.{take}
+use Rattle.std.specs.Prelude.{All}
 use Rattle.hz_auto.specs.Reports.{report_of}
 use Rattle.hz_tabtext_model.specs.Texts.{AreCounts}
 use Rattle.hz_tabtext_model.specs.Said.{counts_said}

@@ -1,7 +1,4 @@
-use Rattle.std.proofs.Common.{◌<◌, ◌≤◌, ℕ, List, length, arith}
-use Rattle.std.specs.Prelude.{All, IsTrue}
-use Rattle.std.specs.Option.{ForSome}
-use Rattle.hz_base_model.specs.Pairs.{Pair}
+use Rattle.std.proofs.Common.{arith}
 use Rattle.hz_grid.specs.Grids.{IsGrid}
 use Rattle.hz_tabfile.proofs.Ranges.{all_more, all_done}
 use Rattle.hz_tabfile.proofs.writing.ranges.are_grids.Goals as goal

@@ -1,7 +1,5 @@
-use Rattle.std.proofs.Common.{◌<◌, ◌≤◌, ◌^◌, take, length}
-use Rattle.std.specs.Prelude.{All, IsTrue}
-use Rattle.std.specs.Option.{ForSome}
-use Rattle.hz_base_model.specs.Pairs.{Pair}
+use Rattle.std.proofs.Common.{take}
+use Rattle.std.specs.Prelude.{All}
 use Rattle.hz_grid.specs.Grids.{IsGrid}
 use Rattle.hz_tabfile.proofs.writing.ranges.are_grids.Given as goal
 

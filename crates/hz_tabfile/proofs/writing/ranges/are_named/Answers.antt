@@ -1,6 +1,5 @@
-use Rattle.std.proofs.Common.{◌<◌, ◌≤◌, ℕ, List, length, arith}
-use Rattle.std.specs.Prelude.{All, IsTrue}
-use Rattle.std.specs.Option.{ForSome}
+use Rattle.std.proofs.Common.{arith}
+use Rattle.std.specs.Prelude.{IsTrue}
 use Rattle.hz_base_model.specs.Names.{is_name}
 use Rattle.hz_tables.specs.declared.part.Part.{Part}
 use Rattle.hz_tabfile.proofs.Ranges.{all_more, all_done}

@@ -1,8 +1,6 @@
-use Rattle.std.proofs.Common.{◌<◌, ◌≤◌, ◌^◌, take, length}
+use Rattle.std.proofs.Common.{take}
 use Rattle.std.specs.Prelude.{All, IsTrue}
-use Rattle.std.specs.Option.{ForSome}
 use Rattle.hz_base_model.specs.Names.{is_name}
-use Rattle.hz_tables.specs.declared.part.Part.{Part}
 use Rattle.hz_tabfile.proofs.writing.ranges.are_named.Given as goal
 
 abbrev pub invariant-loop-part : goal.invariant-loop-part

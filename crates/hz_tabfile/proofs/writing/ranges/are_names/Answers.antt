@@ -1,6 +1,5 @@
-use Rattle.std.proofs.Common.{◌<◌, ◌≤◌, ℕ, List, length, arith}
-use Rattle.std.specs.Prelude.{All, IsTrue}
-use Rattle.std.specs.Option.{ForSome}
+use Rattle.std.proofs.Common.{ℕ, List, arith}
+use Rattle.std.specs.Prelude.{IsTrue}
 use Rattle.hz_base_model.specs.Names.{is_name}
 use Rattle.hz_tabfile.proofs.Ranges.{all_more, all_done}
 use Rattle.hz_tabfile.proofs.writing.ranges.are_names.Goals as goal

@@ -1,6 +1,5 @@
-use Rattle.std.proofs.Common.{◌<◌, ◌≤◌, ℕ, List, length, subst, arith}
-use Rattle.std.specs.Prelude.{All, IsTrue}
-use Rattle.std.specs.Option.{ForSome}
+use Rattle.std.proofs.Common.{ℕ, List, subst, arith}
+use Rattle.std.specs.Prelude.{All}
 use Rattle.hz_base_model.specs.Pairs.{Pair}
 use Rattle.hz_grid.specs.Grids.{IsGrid}
 use Rattle.std.specs.declared.alloc.Global.{Global}

@@ -1,10 +1,6 @@
-use Rattle.std.proofs.Common.{◌<◌, ◌≤◌, ◌^◌, take, length}
-use Rattle.std.specs.Prelude.{All, IsTrue}
-use Rattle.std.specs.Option.{ForSome}
-use Rattle.hz_base_model.specs.Pairs.{Pair}
+use Rattle.std.proofs.Common.{take}
+use Rattle.std.specs.Prelude.{All}
 use Rattle.hz_grid.specs.Grids.{IsGrid}
-use Rattle.std.specs.declared.alloc.Global.{Global}
-use Rattle.std.specs.declared.vec.Vec.{Vec}
 use Rattle.hz_tabfile.proofs.writing.ranges.are_states.Given as goal
 
 abbrev pub invariant-loop-grids : goal.invariant-loop-grids

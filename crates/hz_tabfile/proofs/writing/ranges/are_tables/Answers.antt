@@ -1,6 +1,4 @@
-use Rattle.std.proofs.Common.{◌<◌, ◌≤◌, ℕ, List, length, arith}
-use Rattle.std.specs.Prelude.{All, IsTrue}
-use Rattle.std.specs.Option.{ForSome}
+use Rattle.std.proofs.Common.{◌≤◌, length, arith}
 use Rattle.hz_tables_model.specs.StateLimits.{state_limit}
 use Rattle.hz_tables.specs.Parts.{rows_of}
 use Rattle.hz_tables.specs.declared.part.Part.{Part}

@@ -1,9 +1,7 @@
-use Rattle.std.proofs.Common.{◌<◌, ◌≤◌, ◌^◌, take, length}
-use Rattle.std.specs.Prelude.{All, IsTrue}
-use Rattle.std.specs.Option.{ForSome}
+use Rattle.std.proofs.Common.{◌≤◌, take, length}
+use Rattle.std.specs.Prelude.{All}
 use Rattle.hz_tables_model.specs.StateLimits.{state_limit}
 use Rattle.hz_tables.specs.Parts.{rows_of}
-use Rattle.hz_tables.specs.declared.part.Part.{Part}
 use Rattle.hz_tabfile.proofs.writing.ranges.are_tables.Given as goal
 
 abbrev pub invariant-loop-part : goal.invariant-loop-part

@@ -1,4 +1,4 @@
-use Rattle.std.proofs.Common.{◌<◌, ◌≤◌, ℕ, List, length, map, subst}
+use Rattle.std.proofs.Common.{◌<◌, ◌≤◌, ℕ, List, length, subst}
 use Rattle.std.specs.Prelude.{All, IsTrue}
 use Rattle.std.specs.Option.{ForSome}
 use Rattle.hz_base_model.specs.Limits.{cycle_limit}

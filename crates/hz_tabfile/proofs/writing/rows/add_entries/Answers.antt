@@ -1,4 +1,4 @@
-use Rattle.std.proofs.Common.{◌≡◌, ◌<◌, ◌≤◌, ◌+◌, ℕ, List, [], Option, length, map, get_or, refl, ap, sym, ◌∙◌, arith}
+use Rattle.std.proofs.Common.{◌<◌, ℕ, Option, length, ap, sym, arith}
 use Rattle.std.specs.Prelude.{None}
 use Rattle.hz_tables_model.specs.Tables.{row_of}
 use Rattle.hz_tables.specs.Parts.{rows_of}

@@ -1,4 +1,4 @@
-use Rattle.std.proofs.Common.{ℕ, List, Option, codes, decimal}
+use Rattle.std.proofs.Common.{codes}
 use Rattle.hz_tables_model.specs.Tables.{row_of}
 use Rattle.hz_tables.specs.Parts.{rows_of}
 use Rattle.hz_tabtext_model.specs.Texts.{entry_field}

@@ -1,8 +1,8 @@
-use Rattle.std.proofs.Common.{◌≡◌, ◌<◌, ◌≤◌, ◌+◌, ℕ, List, Bool, Option, [], ◌∷◌, ◌++◌, length, map, get_or, codes, decimal, sym, ap, subst, ◌∙◌, refl, arith, rules}
-use Rattle.std.specs.List.{flat_map, enumerate_from}
+use Rattle.std.proofs.Common.{Option, sym, subst, rules}
+use Rattle.std.specs.List.{flat_map}
 use Rattle.std.specs.Option.{option_map}
-use Rattle.hz_tabfile.specs.Pages.{Adds, Added, Stopped}
-use Rattle.hz_tabfile.proofs.Adding.{added_then_stopped, stopped_before, adds_then, adds_failed, each_added_as, each_stopped_as, each_done}
+use Rattle.hz_tabfile.specs.Pages.{Adds}
+use Rattle.hz_tabfile.proofs.Adding.{stopped_before, adds_then, adds_failed}
 use Rattle.hz_tables_model.specs.Tables.{row_of}
 use Rattle.hz_tables.specs.Parts.{rows_of}
 use Rattle.hz_auto.specs.declared.report.Shown.{Shown}

@@ -1,4 +1,4 @@
-use Rattle.std.proofs.Common.{ℕ, List, Option, codes, decimal}
+use Rattle.std.proofs.Common.{codes}
 use Rattle.hz_tabtext_model.specs.Texts.{pair_field}
 use Rattle.hz_tabtext_model.specs.Said.{named_grid}
 use Rattle.std.proofs.Common.{rules}

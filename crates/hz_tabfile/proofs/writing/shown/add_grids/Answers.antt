@@ -1,4 +1,4 @@
-use Rattle.std.proofs.Common.{◌≡◌, ◌<◌, ◌≤◌, ◌+◌, ℕ, List, [], length, map, get_or, refl, ap, sym, subst, ◌∙◌, arith}
+use Rattle.std.proofs.Common.{◌≡◌, ◌<◌, ℕ, List, [], length, map, ap, sym, subst, ◌∙◌, arith}
 use Rattle.std.specs.Prelude.{All}
 use Rattle.std.specs.List.{flat_map}
 use Rattle.std.proofs.lemmas.List.{get_or_default}

@@ -1,6 +1,5 @@
 use Rattle.std.proofs.Common.{take}
 use Rattle.std.specs.List.{flat_map}
-use Rattle.hz_base_model.specs.Pairs.{Pair}
 use Rattle.hz_tabtext_model.specs.Texts.{line_text, grid_line}
 use Rattle.hz_tabtext_model.specs.Said.{named_grid}
 use Rattle.hz_tabfile.specs.Pages.{Added}

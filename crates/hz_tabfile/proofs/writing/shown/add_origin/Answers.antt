@@ -1,7 +1,5 @@
-use Rattle.std.proofs.Common.{ℕ, List, Bool, Option, [], ◌∷◌, ◌++◌, codes, decimal, sym, ap, subst, ◌∙◌, refl}
-use Rattle.std.specs.List.{flat_map}
+use Rattle.std.proofs.Common.{ℕ, List, Option, codes, sym, subst, refl}
 use Rattle.hz_tabfile.specs.Pages.{Adds}
-use Rattle.std.specs.Prelude.{None}
 use Rattle.hz_tabtext_model.specs.Texts.{line_text, origin_line}
 use Rattle.hz_tabfile.proofs.LineTexts.{line_one}
 use Rattle.hz_tabfile.proofs.writing.shown.add_origin.Goals as goal
