@@ -31,7 +31,7 @@ use Rattle.hz_rtl_model.specs.Blocks.{Instruction}
 use Rattle.hz_sched.specs.Shape.{graph_of, node_of}
 use Rattle.hz_sched_model.specs.Schedules.{Node}
 use Rattle.hz_scheduled_model.specs.BlockGraphs.{class_in, latencies_in, timing_in, classes_of, IsGraphOf, IsFirstClassFault}
-use Rattle.hz_tool.proofs.MachineLemmas.{map_twice}
+use Rattle.hz_answer_model.proofs.WalkLaws.{map_twice}
 use Rattle.hz_tool.specs.Blocks.{IsFaultIn}
 
 -- a number as a class without a fault

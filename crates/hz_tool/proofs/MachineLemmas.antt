@@ -28,6 +28,10 @@ use Rattle.hz_tool.specs.Machines.{IsMachineFor, Refuses}
 use Rattle.hz_report.specs.declared.report.Report.{Report}
 use Rattle.hz_report.specs.declared.report.Report.TheVariants.{States, Memory}
 
+-- as many classes
+pub classes_count : (d : Description) (known : Known) (m : Machine) → IsMachineFor d known m → length m.classes ≡ length d.classes
+classes_count d known m is = ap length is.names ∙ length-map d.classes (λ c. c.name)
+
 -- what a machine refuses of its walk is told
 pub refusal : (m : Machine) (lines : List ℕ) (events : List Event) (i line : ℕ) (e : Event) (report : Report) → FirstUnwalked m events i → slice_get events i ≡ Some e → slice_get lines i ≡ Some line → Agrees (Refuses m line e) report → Agrees (Walks m lines events) report
 refusal m lines events i line e report first there here h =

@@ -20,7 +20,7 @@ use Rattle.hz_scheduled_model.specs.BlockGraphs.{IsGraphOf}
 use Rattle.hz_scheduled_model.specs.BlockSchedules.{IsScheduleOf}
 use Rattle.hz_tables_model.specs.Machines.{Machine}
 use Rattle.hz_tool.specs.Machines.{IsMachineFor}
-use Rattle.hz_tool.proofs.MachineLemmas.{map_twice}
+use Rattle.hz_answer_model.proofs.WalkLaws.{map_twice}
 
 -- classes of a graph in the range of the description
 pub nodes_below : (n m : ℕ) (graph : depend.Graph) → All (λ i. i.class < n) graph.insns.items → n ≡ m → All (λ x. x.class < m) (graph_of graph).nodes
