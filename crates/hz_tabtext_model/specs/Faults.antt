@@ -1,0 +1,16 @@
+-- Where a text ends, and the two faults that are told of its end.
+use Rattle.std.specs.Prelude.{ℕ, List, length}
+use Rattle.hz_tabtext_model.specs.Judging.{Fault, truncated, trailing}
+use Rattle.hz_tabtext_model.specs.Reading.{lines_in}
+
+-- the number of the last line of a text, which is not ended: one more than the text has line feeds
+abbrev pub last_line : List ℕ → ℕ
+last_line text = length (lines_in text)
+
+-- the text ends within this line, or before it where it had to come
+abbrev pub truncated_at : ℕ → Fault
+truncated_at line = record { kind = truncated; line = line }
+
+-- something stands behind the end, from this line on
+abbrev pub trailing_at : ℕ → Fault
+trailing_at line = record { kind = trailing; line = line }
