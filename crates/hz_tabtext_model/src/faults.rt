@@ -22,7 +22,7 @@ pub fn faults_are_at_lines()
 {}
 
 /// A text is truncated, at the last line that is left, wherever one of a machine is cut, and wherever one with a fault is
-/// cut before the end of its line.
+/// cut before the end of its line. Nothing that stands behind a text that is truncated makes an earlier line wrong.
 pub fn cut_texts_are_truncated()
     ensures machines { (front more : List ℕ) (machine : Machine) → more ≢ [] → TableText (front ++ more) machine → tables_in front ≡ Err (truncated_at (last_line front)) }
     ensures faults { (front more : List ℕ) (fault : Fault) → fault.kind ≢ trailing → last_line front ≤ fault.line → tables_in (front ++ more) ≡ Err fault → tables_in front ≡ Err (truncated_at (last_line front)) }
