@@ -27,17 +27,17 @@ some_behind [] more some = some
 some_behind (line ∷ lines) more some = refl
 
 -- what was read of a line, with others left
-abbrev left_of : {A : Type 0} → ℕ → List (List ℕ) → A → Result (A × Rest) Fault
-left_of number others x = Ok (x, rest_at number others)
+abbrev pub left_behind : {A : Type 0} → ℕ → List (List ℕ) → A → Result (A × Rest) Fault
+left_behind number others x = Ok (x, rest_at number others)
 
 -- nothing is kept of what was read
 abbrev dropped : Rest → Result (Nothing × Rest) Fault
 dropped after = Ok (tt, after)
 
-abbrev read_part : Head → List ℕ → List (List (Option ℕ)) → Part
+abbrev pub read_part : Head → List ℕ → List (List (Option ℕ)) → Part
 read_part head map rows = record { name = head.name; map = map; columns = head.columns; rows = rows }
 
-abbrev read_machine : List (List ℕ) → List Part → Machine
+abbrev pub read_machine : List (List ℕ) → List Part → Machine
 read_machine classes parts = record { classes = classes; parts = parts }
 
 -- a machine, where nothing is left but the end of the last line
@@ -71,28 +71,28 @@ module _ (last : List ℕ) (more : List (List ℕ)) (some : is_nil more ≡ fals
 
   -- ---- a line
 
-  line_late : {A : Type 0} (number : ℕ) (others : List (List ℕ)) (b : Bool) (r : Result A Kind) → Fine r → edge ≤ number → Late (at_line number (cond b (Err truncated) r) >>= left_of (number + 1) others)
+  line_late : {A : Type 0} (number : ℕ) (others : List (List ℕ)) (b : Bool) (r : Result A Kind) → Fine IsOfLine r → edge ≤ number → Late (at_line number (cond b (Err truncated) r) >>= left_behind (number + 1) others)
   line_late number others true r fine h = (h, cut_goes_on)
   line_late number others false (Ok x) fine h = omega arith
   line_late number others false (Err kind) fine h = (h, goes_on kind fine)
 
-  first_late : {A : Type 0} (judge : List ℕ → Result A Kind) → ((line : List ℕ) → Fine (judge line)) → (number : ℕ) (lines : List (List ℕ)) → edge ≤ number → Late (first_by judge number lines)
+  first_late : {A : Type 0} (judge : List ℕ → Result A Kind) → ((line : List ℕ) → Fine IsOfLine (judge line)) → (number : ℕ) (lines : List (List ℕ)) → edge ≤ number → Late (first_by judge number lines)
   first_late judge fine number [] h = (h, cut_goes_on)
   first_late judge fine number (line ∷ others) h = line_late number others (is_nil others) (judge line) (fine line) h
 
-  line_both : {A : Type 0} (number : ℕ) (lines : List (List ℕ)) (b c : Bool) (r : Result A Kind) → b ≡ false → c ≡ false → Fine r → number + (1 + length lines) ≡ edge
-      → Both (at_line number (cond b (Err truncated) r) >>= left_of (number + 1) (lines ++ more)) (at_line number (cond c (Err truncated) r) >>= left_of (number + 1) (lines ++ last ∷ []))
+  line_both : {A : Type 0} (number : ℕ) (lines : List (List ℕ)) (b c : Bool) (r : Result A Kind) → b ≡ false → c ≡ false → Fine IsOfLine r → number + (1 + length lines) ≡ edge
+      → Both (at_line number (cond b (Err truncated) r) >>= left_behind (number + 1) (lines ++ more)) (at_line number (cond c (Err truncated) r) >>= left_behind (number + 1) (lines ++ last ∷ []))
   line_both number lines true c r p q fine is = absurd (cc)
   line_both number lines false true r p q fine is = absurd (cc)
   line_both number lines false false (Ok x) p q fine is = same x (number + 1) lines (omega (arith, is))
   line_both number lines false false (Err kind) p q fine is = wrong (record { kind = kind; line = number }) (omega (arith, is)) (not_cut kind fine)
 
-  line_along : {A : Type 0} (judge : List ℕ → Result A Kind) → ((line : List ℕ) → Fine (judge line)) → (number : ℕ) (lines : List (List ℕ)) → number + length lines ≡ edge
+  line_along : {A : Type 0} (judge : List ℕ → Result A Kind) → ((line : List ℕ) → Fine IsOfLine (judge line)) → (number : ℕ) (lines : List (List ℕ)) → number + length lines ≡ edge
       → Both (line_by judge (rest_at number (lines ++ more))) (line_by judge (rest_at number (lines ++ last ∷ [])))
   line_along judge fine number [] is = at_edge (line_by judge) (λ rest h. first_late judge fine rest.number rest.lines h) refl number (omega (arith, is))
   line_along judge fine number (line ∷ lines) is = line_both number lines (is_nil (lines ++ more)) (is_nil (lines ++ last ∷ [])) (judge line) (some_behind lines more some) (some_behind lines (last ∷ []) refl) (fine line) (omega (arith, is))
 
-  reads_line : {A : Type 0} (judge : List ℕ → Result A Kind) → ((line : List ℕ) → Fine (judge line)) → Reads (line_by judge)
+  reads_line : {A : Type 0} (judge : List ℕ → Result A Kind) → ((line : List ℕ) → Fine IsOfLine (judge line)) → Reads (line_by judge)
   reads_line judge fine = record { late = λ rest h. first_late judge fine rest.number rest.lines h; stuck = refl; along = line_along judge fine }
 
   -- ---- one after another
@@ -181,7 +181,7 @@ module _ (last : List ℕ) (more : List (List ℕ)) (some : is_nil more ≡ fals
 
   counts_held : Reads (held counts_at)
   unfolding counts_at
-  counts_held = reads_same (λ rest. cond (comes (codes "stats") rest) (line_by counts_in rest) (dropped rest)) (held counts_at) (λ rest. told rest (comes (codes "stats") rest) (line_by counts_in rest)) (reads_where (codes "stats") (line_by counts_in) dropped (reads_line counts_in counts_fine) (reads_done tt))
+  counts_held = reads_same (λ rest. cond (comes (codes "stats") rest) (line_by counts_in rest) (dropped rest)) (held counts_at) (λ rest. told rest (comes (codes "stats") rest) (line_by counts_in rest)) (reads_where (codes "stats") (line_by counts_in) dropped (reads_line counts_in (counts_fine IsOfLine tt tt tt)) (reads_done tt))
     where
       told : (rest : Rest) (b : Bool) (r : Result (Nothing × Rest) Fault) → cond b r (dropped rest) ≡ (cond b (r >>= λ x. Ok x.1) (Ok rest) >>= dropped)
       told rest true (Ok y) = refl
@@ -193,7 +193,7 @@ module _ (last : List ℕ) (more : List (List ℕ)) (some : is_nil more ≡ fals
   abbrev grids_held : Rest → Result (Nothing × Rest) Fault
   grids_held rest = grids_from rest.number rest.lines >>= dropped
 
-  grid_late : (number : ℕ) (line : List ℕ) (others : List (List ℕ)) (b c : Bool) (r : Result Nothing Kind) → Fine r → edge ≤ number → Late (grids_from (number + 1) others >>= dropped)
+  grid_late : (number : ℕ) (line : List ℕ) (others : List (List ℕ)) (b c : Bool) (r : Result Nothing Kind) → Fine IsOfLine r → edge ≤ number → Late (grids_from (number + 1) others >>= dropped)
       → Late (cond b (at_line number (cond c (Err truncated) r) >>= λ x. grids_from (number + 1) others) (Ok (rest_at number (line ∷ others))) >>= dropped)
   grid_late number line others true true r fine h later = (h, cut_goes_on)
   grid_late number line others true false (Ok x) fine h later = later
@@ -203,7 +203,7 @@ module _ (last : List ℕ) (more : List (List ℕ)) (some : is_nil more ≡ fals
   grids_late : (number : ℕ) (lines : List (List ℕ)) → edge ≤ number → Late (grids_from number lines >>= dropped)
   unfolding grids_from
   grids_late number [] h = h
-  grids_late number (line ∷ others) h = grid_late number line others (is_headed (codes "grid") (fields_of line)) (is_nil others) (grid_in line) (grid_fine line) h (grids_late (number + 1) others (omega arith))
+  grids_late number (line ∷ others) h = grid_late number line others (is_headed (codes "grid") (fields_of line)) (is_nil others) (grid_in line) (grid_fine IsOfLine tt tt tt line) h (grids_late (number + 1) others (omega arith))
 
   grids_stuck : Stuck (grids_held (rest_at edge (last ∷ [])))
   unfolding grids_from
@@ -213,7 +213,7 @@ module _ (last : List ℕ) (more : List (List ℕ)) (some : is_nil more ≡ fals
       by_word true = refl
       by_word false = refl
 
-  grid_both : (number : ℕ) (line : List ℕ) (lines : List (List ℕ)) (b c d : Bool) (r : Result Nothing Kind) → c ≡ false → d ≡ false → Fine r → number + (1 + length lines) ≡ edge
+  grid_both : (number : ℕ) (line : List ℕ) (lines : List (List ℕ)) (b c d : Bool) (r : Result Nothing Kind) → c ≡ false → d ≡ false → Fine IsOfLine r → number + (1 + length lines) ≡ edge
       → Both (grids_held (rest_at (number + 1) (lines ++ more))) (grids_held (rest_at (number + 1) (lines ++ last ∷ [])))
       → Both (cond b (at_line number (cond c (Err truncated) r) >>= λ x. grids_from (number + 1) (lines ++ more)) (Ok (rest_at number (line ∷ (lines ++ more)))) >>= dropped)
       (cond b (at_line number (cond d (Err truncated) r) >>= λ x. grids_from (number + 1) (lines ++ last ∷ [])) (Ok (rest_at number (line ∷ (lines ++ last ∷ [])))) >>= dropped)
@@ -226,7 +226,7 @@ module _ (last : List ℕ) (more : List (List ℕ)) (some : is_nil more ≡ fals
   grids_along : (number : ℕ) (lines : List (List ℕ)) → number + length lines ≡ edge → Both (grids_held (rest_at number (lines ++ more))) (grids_held (rest_at number (lines ++ last ∷ [])))
   unfolding grids_from
   grids_along number [] is = at_edge grids_held (λ rest h. grids_late rest.number rest.lines h) grids_stuck number (omega (arith, is))
-  grids_along number (line ∷ lines) is = grid_both number line lines (is_headed (codes "grid") (fields_of line)) (is_nil (lines ++ more)) (is_nil (lines ++ last ∷ [])) (grid_in line) (some_behind lines more some) (some_behind lines (last ∷ []) refl) (grid_fine line) (omega (arith, is)) (grids_along (number + 1) lines (omega (arith, is)))
+  grids_along number (line ∷ lines) is = grid_both number line lines (is_headed (codes "grid") (fields_of line)) (is_nil (lines ++ more)) (is_nil (lines ++ last ∷ [])) (grid_in line) (some_behind lines more some) (some_behind lines (last ∷ []) refl) (grid_fine IsOfLine tt tt tt line) (omega (arith, is)) (grids_along (number + 1) lines (omega (arith, is)))
 
   reads_grids : Reads grids_held
   reads_grids = record { late = λ rest h. grids_late rest.number rest.lines h; stuck = grids_stuck; along = grids_along }
@@ -236,7 +236,7 @@ module _ (last : List ℕ) (more : List (List ℕ)) (some : is_nil more ≡ fals
   shown_held : (columns states : ℕ) → Reads (held (shown_at columns states))
   unfolding shown_at
   shown_held columns states = reads_same (λ rest. cond (comes (codes "from") rest) (line_by (origin_in columns states) rest >>= λ x. grids_held x.1) (dropped rest)) (held (shown_at columns states)) (λ rest. told rest (comes (codes "from") rest) (line_by (origin_in columns states) rest))
-      (reads_where (codes "from") (λ rest. line_by (origin_in columns states) rest >>= λ x. grids_held x.1) dropped (reads_then (λ x rest. grids_held rest) (λ x. reads_grids) (line_by (origin_in columns states)) (reads_line (origin_in columns states) (origin_fine columns states))) (reads_done tt))
+      (reads_where (codes "from") (λ rest. line_by (origin_in columns states) rest >>= λ x. grids_held x.1) dropped (reads_then (λ x rest. grids_held rest) (λ x. reads_grids) (line_by (origin_in columns states)) (reads_line (origin_in columns states) (origin_fine IsOfLine tt tt tt columns states))) (reads_done tt))
     where
       told : (rest : Rest) (b : Bool) (r : Result (Nothing × Rest) Fault) → cond b (r >>= λ x. grids_held x.1) (dropped rest) ≡ (cond b (r >>= λ x. grids_from x.1.number x.1.lines) (Ok rest) >>= dropped)
       told rest true (Ok y) = refl
@@ -245,7 +245,7 @@ module _ (last : List ℕ) (more : List (List ℕ)) (some : is_nil more ≡ fals
 
   reads_row : (columns states : ℕ) → Reads (row_at columns states)
   unfolding row_at
-  reads_row columns states = reads_then (λ row rest. shown_at columns states rest >>= λ after. Ok (row, after)) (λ row. reads_held (shown_at columns states) (λ after. Ok (row, after)) (shown_held columns states) (reads_done row)) (line_by (row_in columns states)) (reads_line (row_in columns states) (row_fine columns states))
+  reads_row columns states = reads_then (λ row rest. shown_at columns states rest >>= λ after. Ok (row, after)) (λ row. reads_held (shown_at columns states) (λ after. Ok (row, after)) (shown_held columns states) (reads_done row)) (line_by (row_in columns states)) (reads_line (row_in columns states) (row_fine IsOfLine tt tt tt columns states))
 
   -- the states of an automaton, behind its two lines
   reads_states : (head : Head) (map : List ℕ) → Reads (λ rest. counts_at rest >>= λ after. so_many head.states (row_at head.columns head.states) after >>= λ rows. Ok (read_part head map rows.0, rows.1))
@@ -256,13 +256,13 @@ module _ (last : List ℕ) (more : List (List ℕ)) (some : is_nil more ≡ fals
   unfolding part_at
   reads_part classes =
       reads_then (λ head rest. line_by (map_in classes head.columns) rest >>= λ columns. counts_at columns.1 >>= λ after. so_many head.states (row_at head.columns head.states) after >>= λ rows. Ok (read_part head columns.0 rows.0, rows.1))
-      (λ head. reads_then (λ map rest. counts_at rest >>= λ after. so_many head.states (row_at head.columns head.states) after >>= λ rows. Ok (read_part head map rows.0, rows.1)) (reads_states head) (line_by (map_in classes head.columns)) (reads_line (map_in classes head.columns) (map_fine classes head.columns)))
-      (line_by (head_in classes)) (reads_line (head_in classes) (head_fine classes))
+      (λ head. reads_then (λ map rest. counts_at rest >>= λ after. so_many head.states (row_at head.columns head.states) after >>= λ rows. Ok (read_part head map rows.0, rows.1)) (reads_states head) (line_by (map_in classes head.columns)) (reads_line (map_in classes head.columns) (map_fine IsOfLine tt tt tt classes head.columns)))
+      (line_by (head_in classes)) (reads_line (head_in classes) (head_fine IsOfLine tt tt tt classes))
 
   reads_classes : (n : ℕ) (before : List (List ℕ)) → Reads (classes_at n before)
   unfolding classes_at
   reads_classes zero before = reads_done before
-  reads_classes (suc n) before = reads_then (λ class. classes_at n (before ++ class ∷ [])) (λ class. reads_classes n (before ++ class ∷ [])) (line_by (class_in before)) (reads_line (class_in before) (class_fine before))
+  reads_classes (suc n) before = reads_then (λ class. classes_at n (before ++ class ∷ [])) (λ class. reads_classes n (before ++ class ∷ [])) (line_by (class_in before)) (reads_line (class_in before) (class_fine IsOfLine tt tt tt before))
 
   -- ---- the end
 
@@ -310,14 +310,14 @@ module _ (last : List ℕ) (more : List (List ℕ)) (some : is_nil more ≡ fals
     over_late number true h = tt
     over_late number false h = (omega arith, λ is. omega arith)
 
-    closed_late : (number : ℕ) (others : List (List ℕ)) (b : Bool) (r : Result Nothing Kind) → Fine r → edge ≤ number → LateEnd ((at_line number (cond b (Err truncated) r) >>= left_of (number + 1) others) >>= λ last. close m last.1.number last.1.lines)
+    closed_late : (number : ℕ) (others : List (List ℕ)) (b : Bool) (r : Result Nothing Kind) → Fine IsOfLine r → edge ≤ number → LateEnd ((at_line number (cond b (Err truncated) r) >>= left_behind (number + 1) others) >>= λ last. close m last.1.number last.1.lines)
     closed_late number others true r fine h = (h, λ is. absurd (cut_goes_on is))
     closed_late number others false (Ok x) fine h = over_late number (is_over others) h
     closed_late number others false (Err kind) fine h = (h, λ is. absurd (goes_on kind fine is))
 
     end_late : (number : ℕ) (lines : List (List ℕ)) → edge ≤ number → LateEnd (first_by end_in number lines >>= λ last. close m last.1.number last.1.lines)
     end_late number [] h = (h, λ is. absurd (cut_goes_on is))
-    end_late number (line ∷ others) h = closed_late number others (is_nil others) (end_in line) (end_fine line) h
+    end_late number (line ∷ others) h = closed_late number others (is_nil others) (end_in line) (end_fine IsOfLine tt tt tt line) h
 
     -- something is left
     not_over : (line : List ℕ) (lines : List (List ℕ)) → is_nil lines ≡ false → is_over (line ∷ lines) ≡ false
@@ -331,8 +331,8 @@ module _ (last : List ℕ) (more : List (List ℕ)) (some : is_nil more ≡ fals
         let second = not_over line (lines ++ last ∷ []) (some_behind lines (last ∷ []) refl) in
         rw (first, second) (wrong_before (trailing_at number) (omega (arith, is)) (λ is. absurd (cc)))
 
-    end_both : (number : ℕ) (lines : List (List ℕ)) (b c : Bool) (r : Result Nothing Kind) → b ≡ false → c ≡ false → Fine r → number + (1 + length lines) ≡ edge
-        → Ends ((at_line number (cond b (Err truncated) r) >>= left_of (number + 1) (lines ++ more)) >>= λ last. close m last.1.number last.1.lines) ((at_line number (cond c (Err truncated) r) >>= left_of (number + 1) (lines ++ last ∷ [])) >>= λ last. close m last.1.number last.1.lines)
+    end_both : (number : ℕ) (lines : List (List ℕ)) (b c : Bool) (r : Result Nothing Kind) → b ≡ false → c ≡ false → Fine IsOfLine r → number + (1 + length lines) ≡ edge
+        → Ends ((at_line number (cond b (Err truncated) r) >>= left_behind (number + 1) (lines ++ more)) >>= λ last. close m last.1.number last.1.lines) ((at_line number (cond c (Err truncated) r) >>= left_behind (number + 1) (lines ++ last ∷ [])) >>= λ last. close m last.1.number last.1.lines)
     end_both number lines true c r p q fine is = absurd (cc)
     end_both number lines false true r p q fine is = absurd (cc)
     end_both number lines false false (Ok x) p q fine is = closed_both (number + 1) lines (omega (arith, is))
@@ -340,7 +340,7 @@ module _ (last : List ℕ) (more : List (List ℕ)) (some : is_nil more ≡ fals
 
     end_along : (number : ℕ) (lines : List (List ℕ)) → number + length lines ≡ edge → Ends (at_the_end (rest_at number (lines ++ more))) (at_the_end (rest_at number (lines ++ last ∷ [])))
     end_along number [] is = let at : edge ≡ number = omega (arith, is) in subst (λ (n : ℕ). Ends (at_the_end (rest_at n more)) (at_the_end (rest_at n (last ∷ [])))) at (goes_past (at_the_end (rest_at edge more)) (end_late edge more (omega arith)))
-    end_along number (line ∷ lines) is = end_both number lines (is_nil (lines ++ more)) (is_nil (lines ++ last ∷ [])) (end_in line) (some_behind lines more some) (some_behind lines (last ∷ []) refl) (end_fine line) (omega (arith, is))
+    end_along number (line ∷ lines) is = end_both number lines (is_nil (lines ++ more)) (is_nil (lines ++ last ∷ [])) (end_in line) (some_behind lines more some) (some_behind lines (last ∷ []) refl) (end_fine IsOfLine tt tt tt line) (omega (arith, is))
 
     closes_end : Closes at_the_end
     closes_end = record { late = λ rest h. end_late rest.number rest.lines h; stuck = refl; along = end_along }
@@ -349,7 +349,7 @@ module _ (last : List ℕ) (more : List (List ℕ)) (some : is_nil more ≡ fals
   closes_automata classes count =
       closes_then (λ automata rest. so_many automata (part_at count) rest >>= λ parts. line_by end_in parts.1 >>= λ last. close (read_machine classes parts.0) last.1.number last.1.lines)
       (λ automata. closes_then (λ parts. at_the_end (read_machine classes parts)) (λ parts. closes_end (read_machine classes parts)) (so_many automata (part_at count)) (reads_many automata (part_at count) (reads_part count)))
-      (line_by automata_in) (reads_line automata_in automata_fine)
+      (line_by automata_in) (reads_line automata_in (automata_fine IsOfLine tt tt tt))
 
   closes_machine : Closes machine_at
   unfolding machine_at
@@ -357,8 +357,8 @@ module _ (last : List ℕ) (more : List (List ℕ)) (some : is_nil more ≡ fals
       closes_then (λ treatment rest. line_by classes_in rest >>= λ count. classes_at count.0 [] count.1 >>= λ classes. line_by automata_in classes.1 >>= λ automata. so_many automata.0 (part_at count.0) automata.1 >>= λ parts. line_by end_in parts.1 >>= λ last. close (read_machine classes.0 parts.0) last.1.number last.1.lines)
       (λ treatment. closes_then (λ count rest. classes_at count [] rest >>= λ classes. line_by automata_in classes.1 >>= λ automata. so_many automata.0 (part_at count) automata.1 >>= λ parts. line_by end_in parts.1 >>= λ last. close (read_machine classes.0 parts.0) last.1.number last.1.lines)
       (λ count. closes_then (λ classes rest. line_by automata_in rest >>= λ automata. so_many automata.0 (part_at count) automata.1 >>= λ parts. line_by end_in parts.1 >>= λ last. close (read_machine classes parts.0) last.1.number last.1.lines) (λ classes. closes_automata classes count) (classes_at count []) (reads_classes count []))
-      (line_by classes_in) (reads_line classes_in classes_fine))
-      (line_by treatment_in) (reads_line treatment_in treatment_fine)
+      (line_by classes_in) (reads_line classes_in (classes_fine IsOfLine tt tt tt)))
+      (line_by treatment_in) (reads_line treatment_in (treatment_fine IsOfLine tt tt tt))
 
   pub closes_text : Closes (λ rest. line_by header_in rest >>= λ header. machine_at header.1)
   closes_text = closes_then (λ x. machine_at) (λ x. closes_machine) (line_by header_in) (reads_line header_in header_fine)

@@ -69,7 +69,7 @@ close_at m number lines f e = by_end (is_over lines) e
     by_end true h = absurd (cc)
     by_end false h = cc
 
-err_is : {A : Type 0} (f g : Fault) → ◌≡◌ {A = Result A Fault} (Err f) (Err g) → f ≡ g
+pub err_is : {A : Type 0} (f g : Fault) → ◌≡◌ {A = Result A Fault} (Err f) (Err g) → f ≡ g
 err_is f g e = cc
 
 module _ {B : Type 0} (last : List ℕ) (more : List (List ℕ)) (some : is_nil more ≡ false) (edge : ℕ) where

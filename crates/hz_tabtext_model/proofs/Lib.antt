@@ -11,3 +11,4 @@ pub mod CompiledSaid
 pub mod FineLines
 pub mod CutReading
 pub mod FaultLaws
+pub mod HeaderLaws

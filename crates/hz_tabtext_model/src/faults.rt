@@ -1,11 +1,11 @@
 //! Laws of the faults of tables texts.
 
-ghost use Rattle.std.specs.Prelude.{◌≡◌, ◌≢◌, ◌<◌, ◌≤◌, ℕ, List, [], ◌++◌, Err};
+ghost use Rattle.std.specs.Prelude.{◌≡◌, ◌≢◌, ◌<◌, ◌≤◌, ℕ, List, [], ◌∷◌, ◌++◌, Err, codes};
 ghost use Rattle.hz_tables_model.specs.Machines.{Machine};
 ghost use Rattle.hz_tabtext_model.specs.Texts.{TableText};
 ghost use Rattle.hz_tabtext_model.specs.Judging.{Fault, truncated, trailing};
 ghost use Rattle.hz_tabtext_model.specs.Reading.{tables_in};
-ghost use Rattle.hz_tabtext_model.specs.Faults.{last_line, truncated_at, trailing_at};
+ghost use Rattle.hz_tabtext_model.specs.Faults.{last_line, bad_header_at, truncated_at, trailing_at};
 
 /// What is told of a line that is ended stays, whatever stands behind that line: no such text stands for a machine.
 pub fn faults_stay()
@@ -33,4 +33,10 @@ pub fn cut_texts_are_truncated()
 pub fn trailing_texts_begin_with_machines()
     ensures told { (front more : List ℕ) (machine : Machine) → more ≢ [] → TableText front machine → tables_in (front ++ more) ≡ Err (trailing_at (last_line front)) }
     ensures found { (text : List ℕ) (line : ℕ) → tables_in text ≡ Err (trailing_at line) → (front : List ℕ) × (more : List ℕ) × (machine : Machine) × (text ≡ front ++ more) × (more ≢ []) × TableText front machine × (line ≡ last_line front) }
+{}
+
+/// A wrong header is told of line 1, exactly where that line is ended and the text does not begin with the header's line.
+pub fn headers_stand_first()
+    ensures told { (text : List ℕ) → 1 < last_line text → ((more : List ℕ) → text ≢ codes "hazard-tables 1" ++ 10 ∷ more) → tables_in text ≡ Err (bad_header_at 1) }
+    ensures found { (text : List ℕ) (line : ℕ) → tables_in text ≡ Err (bad_header_at line) → (line ≡ 1) × (1 < last_line text) × ((more : List ℕ) → text ≢ codes "hazard-tables 1" ++ 10 ∷ more) }
 {}
