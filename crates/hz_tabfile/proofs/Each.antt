@@ -1,9 +1,9 @@
 -- Judging fields one after the other, as a loop does.
-use Rattle.std.proofs.Common.{◌≡◌, ℕ, zero, suc, nat_le, ◌+◌, ◌-◌, ◌<◌, ◌≤◌, Bool, true, false, cond, List, [], ◌∷◌, ◌++◌, length, take, drop, Option, Some, None, Result, Ok, Err, refl, sym, ap, ◌∙◌, subst, append_assoc, arith}
+use Rattle.std.proofs.Common.{◌≡◌, ℕ, zero, suc, nat_le, ◌+◌, ◌-◌, Bool, true, false, List, [], ◌∷◌, ◌++◌, length, take, drop, Option, Some, None, Result, Ok, Err, refl, sym, ap, ◌∙◌, subst, append_assoc, arith}
 use Rattle.std.specs.Borrow.{Bor}
 use Rattle.std.proofs.lemmas.Bool.{leb-true, leb-false}
 use Rattle.std.proofs.lemmas.List.{append-nil, length-append}
-use Rattle.hz_tabtext_model.specs.Judging.{Kind, bad_line, bad_number, out_of_range, ◌>>=◌, each_by}
+use Rattle.hz_tabtext_model.specs.Judging.{Kind, ◌>>=◌, each_by}
 use Rattle.hz_tabfile.specs.declared.reading.wrong.Wrong.{Wrong}
 use Rattle.hz_tabfile.specs.declared.reading.wrong.Wrong.TheVariants.{BadLine, BadNumber, OutOfRange, NoMemory}
 use Rattle.hz_tabfile.specs.Cutting.{fields_in}

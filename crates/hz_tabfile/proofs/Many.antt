@@ -1,9 +1,8 @@
 -- Reading so many, one after the other, as a loop does.
-use Rattle.std.proofs.Common.{◌≡◌, ℕ, zero, suc, ◌+◌, ◌-◌, ◌<◌, ◌≤◌, Bool, true, false, cond, List, [], ◌∷◌, ◌++◌, Result, Ok, Err, refl, sym, ap, ◌∙◌, subst, append_assoc, arith}
+use Rattle.std.proofs.Common.{◌≡◌, ℕ, suc, ◌+◌, ◌-◌, ◌<◌, ◌≤◌, true, false, List, [], ◌∷◌, ◌++◌, Result, Ok, Err, refl, sym, ap, ◌∙◌, subst, append_assoc, arith}
 use Rattle.std.proofs.lemmas.List.{append-nil}
 use Rattle.std.specs.Prelude.{codes}
-use Rattle.hz_tabtext_model.specs.Judging.{Kind, Fault, ◌>>=◌}
-use Rattle.hz_tabtext_model.specs.Fields.{is_nil, fields_of, is_headed}
+use Rattle.hz_tabtext_model.specs.Judging.{Fault, ◌>>=◌}
 use Rattle.hz_tabtext_model.specs.Lines.{Nothing, class_in, grid_in}
 use Rattle.hz_tabtext_model.specs.Reading.{Rest, judged, line_by, so_many, classes_at, comes, grids_from}
 use Rattle.hz_tabfile.specs.declared.reading.fault.TabFault.{TabFault}

@@ -1,10 +1,10 @@
 -- A line that is taken and judged is judged in its text.
-use Rattle.std.proofs.Common.{◌≡◌, ℕ, suc, ◌+◌, ◌==◌, Bool, true, false, cond, List, [], ◌∷◌, ◌++◌, length, Result, Ok, Err, refl, sym, ap, ◌∙◌, subst, arith}
+use Rattle.std.proofs.Common.{◌≡◌, ℕ, ◌+◌, ◌==◌, Bool, true, false, cond, List, [], ◌∷◌, ◌++◌, length, Result, Ok, Err, refl, sym, ap, ◌∙◌, arith}
 use Rattle.std.specs.List.{onto_first}
 use Rattle.std.proofs.lemmas.Bool.{ne_eqb}
 use Rattle.hz_tabtext_model.specs.Judging.{Kind, Fault, truncated, ◌>>=◌}
 use Rattle.hz_tabtext_model.specs.Fields.{is_nil}
-use Rattle.hz_tabtext_model.specs.Reading.{Rest, at_line, judged, first_by, line_by, is_over, lines_in}
+use Rattle.hz_tabtext_model.specs.Reading.{Rest, at_line, first_by, line_by, is_over, lines_in}
 use Rattle.hz_tabtext_model.specs.Lines.{class_in}
 use Rattle.hz_tabfile.specs.Lines.{class_onto}
 use Rattle.hz_tabfile.specs.Texts.{class_read}

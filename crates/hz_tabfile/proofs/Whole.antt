@@ -1,5 +1,5 @@
 -- What is read of a whole text.
-use Rattle.std.proofs.Common.{◌≡◌, ℕ, List, Result, Ok, Err}
+use Rattle.std.proofs.Common.{ℕ, List, Result, Ok, Err}
 use Rattle.std.specs.Prelude.{IfOk}
 use Rattle.hz_tables.specs.declared.machine.Machine.{Machine}
 use Rattle.hz_tables.specs.Machines.{machine_of}

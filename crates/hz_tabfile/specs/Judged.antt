@@ -1,5 +1,5 @@
 -- What a function of the reader answers, beside what the definitions judge. Want of memory says nothing.
-use Rattle.std.specs.Prelude.{◌≡◌, ℕ, Result, Ok, Err}
+use Rattle.std.specs.Prelude.{◌≡◌, Result, Ok, Err}
 use Rattle.hz_tabtext_model.specs.Judging.{Kind, bad_line, bad_number, out_of_range}
 use Rattle.hz_tabfile.specs.declared.reading.wrong.Wrong.{Wrong}
 use Rattle.hz_tabfile.specs.declared.reading.wrong.Wrong.TheVariants.{BadLine, BadNumber, OutOfRange, NoMemory}

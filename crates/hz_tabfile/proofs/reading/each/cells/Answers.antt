@@ -1,4 +1,4 @@
-use Rattle.std.proofs.Common.{◌≡◌, ℕ, nat_le, subst, ◌-◌, ◌++◌, ◌∷◌, [], length, sym, ap, ◌∙◌}
+use Rattle.std.proofs.Common.{ℕ, nat_le, subst, ◌-◌, length, sym, ap, ◌∙◌}
 use Rattle.std.proofs.lemmas.Result.{err_from_is_err_and}
 use Rattle.hz_tabtext_model.specs.Lines.{entries_of}
 use Rattle.hz_tabfile.specs.Judged.{Refuses}

@@ -1,9 +1,5 @@
-use Rattle.std.proofs.Common.{◌≡◌, Result, Ok, Err, subst}
-use Rattle.std.specs.Prelude.{IfOk}
+use Rattle.std.proofs.Common.{subst}
 use Rattle.hz_tables.specs.Machines.{machine_of}
-use Rattle.hz_tabtext_model.specs.Texts.{TableText}
-use Rattle.hz_tabtext_model.specs.Reading.{tables_in}
-use Rattle.hz_tabtext_model.proofs.TextTakes.{tables_take}
 use Rattle.hz_tabtext_model.proofs.TextAgain.{tables_again}
 use Rattle.hz_tabfile.specs.Given.{Gives}
 use Rattle.hz_tabfile.proofs.Whole.{is_found}

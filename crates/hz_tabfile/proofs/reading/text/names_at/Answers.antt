@@ -1,7 +1,6 @@
-use Rattle.std.proofs.Common.{◌≡◌, ℕ, List, [], Result, Ok, sym, ap, ◌∙◌}
+use Rattle.std.proofs.Common.{ℕ, List, [], sym, ap, ◌∙◌}
 use Rattle.std.proofs.lemmas.Result.{err_from_is_err_and}
-use Rattle.hz_tabtext_model.specs.Judging.{Fault}
-use Rattle.hz_tabtext_model.specs.Reading.{Rest, classes_at}
+use Rattle.hz_tabtext_model.specs.Reading.{classes_at}
 use Rattle.hz_tabfile.specs.Rests.{left_of}
 use Rattle.hz_tabfile.proofs.Many.{classes_go, classes_stop, classes_end}
 use Rattle.hz_tabfile.proofs.Told.{placed}
