@@ -17,6 +17,27 @@ least() {
     echo "$best"
 }
 
+# used COMMAND..: the least processor time of five runs, the user's and the system's, in nanoseconds
+used() {
+    for _ in 1 2 3 4 5; do
+        /usr/bin/time -f '%U %S' "$@" 2>&1 > /dev/null | tail -n 1
+    done | awk '{ t = $1 + $2; if (NR == 1 || t < best) best = t } END { printf "%.0f", best * 1000000000 }'
+}
+
+# below CRATE: the crate and all of the repository that it stands on
+below() {
+    awk -F: -v crate="$1" '
+        { needs[$1] = $2 }
+        function reach(name, parts, count, i) {
+            if (!(name in needs) || name in found) return
+            found[name]
+            print name
+            count = split(needs[name], parts, " ")
+            for (i = 1; i <= count; i++) reach(parts[i])
+        }
+        END { reach(crate) }' crates.txt
+}
+
 # doubling TIME BEFORE: how many times the time before, if there is one
 doubling() {
     awk -v t="$1" -v p="${2:-0}" 'BEGIN { print p ? sprintf("%.2f", t / p) : "-" }'

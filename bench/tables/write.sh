@@ -1,6 +1,8 @@
 #!/bin/sh
-# Times the writing of tables texts to the standard output, without compiling: of calendars of a unit, by 1, 4 and 16
-# automata. The least of five runs each, with the greatest memory, the tables' among it.
+# Times the writing of tables texts to the standard output, by processor time and without compiling: of calendars of a
+# unit, by 1, 4 and 16 automata, and of automata of 4,194,304 cells, by 4, 8 and 16 automata, of which the last text has
+# about 400 MB. Wanted: at least 100 MB a second and a doubling of at most 2.2. The least of five runs each, with the
+# greatest memory, the tables' among it.
 . "$(dirname "$0")/../common.sh"
 
 # The program has proofs, which are those of the tests of the crate.
@@ -17,18 +19,20 @@ rt() {
     command rt "$@"
 }
 
-crates=$(sed -n 's/^\(hz_[a-z_]*\):.*/\1/p' crates.txt | grep -v '^hz\(_rows\|_tool\|_answer_model\)*$')
 build_program writing bench/tables/writing.rt.in \
-    'hz_base_model hz_sexp_model hz_mdread_model hz_check_model hz_auto_model hz_tables_model hz_tabtext_model hz_io hz_sexp hz_mdread hz_check hz_auto hz_tabfile' '1 4 1' $crates
+    'hz_base_model hz_sexp_model hz_mdread_model hz_check_model hz_auto_model hz_tables_model hz_tabtext_model hz_io hz_sexp hz_mdread hz_check hz_auto hz_tabfile' '1 4 1' $(below hz_tabfile)
 writing=$room/crates/writing/out/writing
 
-echo "automata classes rounds bytes ms MB_per_s peak_kB"
-for shape in '1 16 16' '4 16 8' '16 15 8'; do
+echo "automata classes rounds bytes ms MB_a_second doubling peak_kB"
+before=
+for shape in '1 16 16' '4 16 8' '16 15 8' '4 62 4 own' '8 62 4 own' '16 62 4 own'; do
     set -- $shape
-    bytes=$("$writing" $1 $2 1 | wc -c)
-    made=$(least "$writing" $1 $2 0)
-    whole=$(least "$writing" $1 $2 $3)
+    bytes=$("$writing" $1 $2 1 $4 | wc -c)
+    made=$(used "$writing" $1 $2 0 $4)
+    whole=$(used "$writing" $1 $2 $3 $4)
     time=$((whole - made))
-    peak=$(/usr/bin/time -f %M "$writing" $1 $2 $3 2>&1 > /dev/null | tail -n 1)
-    echo "$1 $2 $3 $((bytes * $3)) $((time / 1000000)) $(rate $((bytes * $3)) "$time") $peak"
+    peak=$(/usr/bin/time -f %M "$writing" $1 $2 $3 $4 2>&1 > /dev/null | tail -n 1)
+    [ "$4" = own ] || before=
+    echo "$1 $2 $3 $((bytes * $3)) $((time / 1000000)) $(rate $((bytes * $3)) "$time") $(doubling "$time" "$before") $peak"
+    before=$time
 done

@@ -1,12 +1,11 @@
 -- A machine that is compiled of the parts of a description without a fault can be said.
-use Rattle.std.proofs.Common.{◌≡◌, ℕ, zero, suc, ◌+◌, ◌<◌, ◌≤◌, ◌⊎◌, inl, inr, ⊎_elim, Bool, true, false, List, [], ◌∷◌, ◌++◌, map, length, get_or, replicate, Contains, Option, Some, None, slice_get, refl, sym, ap, ◌∙◌, subst, arith}
-use Rattle.std.specs.Prelude.{All, MatchBool, IsSomeAnd, slice_index, slice_index_or}
+use Rattle.std.proofs.Common.{◌≡◌, ℕ, ◌+◌, ◌<◌, ◌≤◌, ⊎_elim, Bool, true, false, List, [], ◌∷◌, map, length, get_or, Contains, Option, Some, None, slice_get, refl, sym, ap, ◌∙◌, subst, arith}
+use Rattle.std.specs.Prelude.{All, MatchBool, IsSomeAnd, slice_index_or}
 use Rattle.std.specs.List.{AllByRecursion}
 use Rattle.std.proofs.lemmas.Bool.{cases_lt}
 use Rattle.std.proofs.lemmas.List.{length-map, get_or-map, get_or_past, get_or_default}
 use Rattle.std.proofs.lemmas.List.Elements.{All-from_recursion, All-contains, All-from_get_or, Contains-get_or, Contains-append_cases}
 use Rattle.std.proofs.lemmas.Option.{slice_get-get_or, slice_get_past, get_or_from_slice_get}
-use Rattle.hz_base_model.specs.Limits.{cycle_limit}
 use Rattle.hz_base_model.specs.Pairs.{Pair, later, placed}
 use Rattle.hz_base_model.proofs.Elements.{Contains-nil, Contains-from_map}
 use Rattle.hz_altern_model.specs.Alternatives.{Alternative}
@@ -16,11 +15,10 @@ use Rattle.hz_acceptance_model.specs.Restricted.{of_pairs}
 use Rattle.hz_mdread_model.specs.Descriptions.{Options}
 use Rattle.hz_check_model.specs.CheckedParts.{AutomatonParts, ClassParts, BypassParts}
 use Rattle.hz_check_model.specs.CheckedShape.{IsKept}
-use Rattle.hz_tables_model.specs.Tables.{Table, row_of, entry, walk, IsTable, IsReached}
-use Rattle.hz_tables_model.specs.Machines.{Part, Machine, IsPart, IsMachine, part_at, no_part, column_of, word_of, part_walk}
-use Rattle.hz_tables_model.specs.Orders.{place_of}
+use Rattle.hz_tables_model.specs.Tables.{row_of, entry, walk, IsTable, IsReached}
+use Rattle.hz_tables_model.specs.Machines.{Part, Machine, IsMachine, part_at, no_part, column_of, word_of, part_walk}
 use Rattle.hz_reach_model.specs.Reach.{Leaves}
-use Rattle.hz_reach_model.specs.Columns.{class_of_grids, pipeline_on}
+use Rattle.hz_reach_model.specs.Columns.{class_of_grids}
 use Rattle.hz_auto_model.specs.AutomatonPipelines.{automaton_at, lists_at, automaton_pipeline}
 use Rattle.hz_auto_model.specs.ClassColumns.{IsColumns}
 use Rattle.hz_auto_model.specs.Compiled as compiled

@@ -8,3 +8,7 @@ pub mod TextAgain
 pub mod MachineLaws
 pub mod SaidLaws
 pub mod CompiledSaid
+pub mod FineLines
+pub mod CutReading
+pub mod FaultLaws
+pub mod HeaderLaws

@@ -1,20 +1,18 @@
 -- What was spelled is judged to be what was said.
-use Rattle.std.proofs.Common.{◌≡◌, ℕ, suc, ◌+◌, ◌*◌, ◌^◌, ◌<◌, ◌≤◌, Bool, true, false, cond, nat_lt, nat_le, List, [], ◌∷◌, ◌++◌, map, length, take, drop, get_or, Option, Some, None, Result, Ok, Err, refl, sym, ap, ◌∙◌, subst, arith, inl, inr, ⊎_elim, ◌⊎◌, decimal, codes}
-use Rattle.std.specs.Prelude.{◌==◌, ◌&&◌, not, IfSome}
+use Rattle.std.proofs.Common.{◌≡◌, ℕ, suc, ◌+◌, ◌*◌, ◌^◌, ◌<◌, ◌≤◌, Bool, true, false, nat_le, List, [], ◌∷◌, ◌++◌, map, length, take, drop, Option, Some, None, Result, Ok, refl, sym, ap, ◌∙◌, subst, arith, decimal, codes}
+use Rattle.std.specs.Prelude.{◌==◌, ◌&&◌, not}
 use Rattle.std.specs.Char.{is_ascii_digit}
-use Rattle.std.specs.List.{AllByRecursion, list_all, before_first, after_first, position_or_len, prefix_len}
-use Rattle.std.specs.Str.{bytes_eq}
+use Rattle.std.specs.List.{AllByRecursion, list_all, before_first, after_first, position_or_len}
 use Rattle.std.proofs.lemmas.Bool.{and_parts, and_from, le-leb, eq-eqb, leb-true, ne_eqb}
 use Rattle.std.proofs.lemmas.List.{take_at, drop_at, map-append, length-map, length-append}
 use Rattle.std.proofs.lemmas.List.Folds.{list_all-append}
 use Rattle.std.proofs.lemmas.Fmt.{decimal_nonempty}
-use Rattle.std.proofs.lemmas.Slice.Eq.{bytes_eq-Decides}
 use Rattle.hz_base_model.specs.Names.{is_name}
 use Rattle.hz_base_model.specs.Limits.{automaton_limit, class_limit, cycle_limit}
 use Rattle.hz_tables_model.specs.StateLimits.{state_limit, cell_limit}
-use Rattle.hz_tabtext_model.specs.Judging.{Kind, bad_line, ◌>>=◌, each_by}
-use Rattle.hz_tabtext_model.specs.Fields.{is_nil, operands, only, number_in, number_where, number_below, entry_in, advance_in, is_colon, has_unit, cycle_in}
-use Rattle.hz_tabtext_model.specs.Lines.{Nothing, header_in, treatment_in, classes_in, is_new, class_in, automata_in, Head, are_states, head_in, map_in, counts_in, entries_of, row_in, origin_in, grid_in, end_in}
+use Rattle.hz_tabtext_model.specs.Judging.{Kind, each_by}
+use Rattle.hz_tabtext_model.specs.Fields.{is_nil, number_below, entry_in, advance_in, is_colon, has_unit, cycle_in}
+use Rattle.hz_tabtext_model.specs.Lines.{header_in, treatment_in, classes_in, is_new, class_in, automata_in, Head, are_states, head_in, map_in, counts_in, row_in, origin_in, grid_in, end_in}
 use Rattle.hz_tabtext_model.specs.Texts.{Counts, AreCounts, joined, entry_field, entries_line, origin_line, pair_field, grid_line, map_line, treatment_line, class_line, IsEntry, IsPair}
 use Rattle.hz_tabtext_model.proofs.Steps.{each_again}
 use Rattle.hz_tabtext_model.proofs.Numbers.{number_again, where_again, below_again, entry_again, advance_again, digits_of_decimal}

@@ -1,6 +1,6 @@
 -- What a line is that was judged to be right: each is the one spelling of what was found.
-use Rattle.std.proofs.Common.{◌≡◌, ℕ, suc, ◌+◌, ◌*◌, ◌^◌, ◌<◌, ◌≤◌, Bool, true, false, cond, nat_lt, nat_le, List, [], ◌∷◌, ◌++◌, map, length, take, drop, Option, Some, None, Result, Ok, Err, refl, sym, ap, ◌∙◌, subst, arith, get_or, inl, inr, ◌⊎◌, decimal, codes}
-use Rattle.std.specs.Prelude.{◌==◌, ◌&&◌, not, IfSome}
+use Rattle.std.proofs.Common.{◌≡◌, ℕ, ◌+◌, ◌*◌, ◌<◌, ◌≤◌, Bool, true, false, cond, nat_le, List, [], ◌∷◌, ◌++◌, map, length, take, drop, Option, Some, None, Result, Ok, Err, refl, sym, ap, ◌∙◌, subst, arith, get_or, inl, inr, ◌⊎◌, decimal, codes}
+use Rattle.std.specs.Prelude.{◌==◌, ◌&&◌, IfSome}
 use Rattle.std.specs.List.{AllByRecursion, list_all, before_first, after_first, position_or_len}
 use Rattle.std.specs.Str.{bytes_eq}
 use Rattle.std.proofs.lemmas.Bool.{and_parts, leb-true, eqb-true, both_ways, cases_lt}
@@ -11,8 +11,8 @@ use Rattle.hz_base_model.specs.Names.{is_name}
 use Rattle.hz_base_model.specs.Limits.{automaton_limit, class_limit, cycle_limit}
 use Rattle.hz_tables_model.specs.StateLimits.{state_limit, cell_limit}
 use Rattle.hz_tabtext_model.specs.Judging.{Kind, bad_header, bad_line, ◌>>=◌, each_by}
-use Rattle.hz_tabtext_model.specs.Fields.{is_nil, operands, only, three, one_in, three_in, number_in, number_where, number_below, entry_in, advance_in, is_colon, has_unit, cycle_in}
-use Rattle.hz_tabtext_model.specs.Lines.{Nothing, header_in, treatment_in, classes_in, is_new, class_in, automata_in, Head, are_states, head_of, head_in, map_in, counts_of, counts_in, entries_of, row_in, place_of, origin_of, origin_in, grid_in, end_in}
+use Rattle.hz_tabtext_model.specs.Fields.{operands, only, three, one_in, three_in, number_in, number_where, number_below, entry_in, advance_in, is_colon, has_unit, cycle_in}
+use Rattle.hz_tabtext_model.specs.Lines.{Nothing, header_in, treatment_in, classes_in, is_new, class_in, automata_in, Head, are_states, head_of, head_in, map_in, counts_of, counts_in, entries_of, row_in, origin_of, origin_in, grid_in, end_in}
 use Rattle.hz_tabtext_model.specs.Texts.{Counts, AreCounts, joined, entry_field, entries_line, origin_line, pair_field, grid_line, map_line, treatment_line, class_line, IsEntry, IsPair}
 use Rattle.hz_tabtext_model.proofs.Steps.{bind_ok, guard_ok, ok_is, each_takes}
 use Rattle.hz_tabtext_model.proofs.Numbers.{number_takes, where_takes, below_takes, entry_takes, advance_takes}

@@ -1,13 +1,12 @@
 -- What a text says is a machine, and every machine is said by a text.
-use Rattle.std.proofs.Common.{◌≡◌, ◌≢◌, false, ℕ, zero, suc, ◌+◌, ◌*◌, ◌^◌, ◌<◌, ◌≤◌, List, [], ◌∷◌, ◌++◌, map, length, get_or, take, drop, Option, Some, None, Ok, refl, sym, ap, ◌∙◌, subst, arith, inl, inr, ⊎_elim, ◌⊎◌}
-use Rattle.std.specs.Prelude.{IfSome, IsTrue, All}
+use Rattle.std.proofs.Common.{◌≡◌, ◌≢◌, false, ℕ, zero, suc, ◌+◌, ◌*◌, ◌<◌, ◌≤◌, List, [], ◌∷◌, ◌++◌, map, length, get_or, Option, Some, None, Ok, sym, ap, ◌∙◌, subst, arith, inl, inr, ◌⊎◌}
 use Rattle.std.specs.List.{AllByRecursion}
 use Rattle.std.proofs.lemmas.Bool.{cases_lt}
-use Rattle.std.proofs.lemmas.List.{get_or-map, length-map, get_or_past, get_or_at, length-append, take-append-drop, length-take, length-drop, nil_from_length, get_or-drop, get_or-take}
-use Rattle.std.proofs.lemmas.List.Elements.{All-from_recursion, recursion_from_All, All-get_or, All-take, All-from_get_or}
+use Rattle.std.proofs.lemmas.List.{get_or-map, length-map, get_or_past, get_or_at, length-append}
+use Rattle.std.proofs.lemmas.List.Elements.{All-from_recursion, All-get_or}
 use Rattle.hz_tables_model.specs.StateLimits.{cell_limit}
 use Rattle.hz_tables_model.specs.Tables.{Table, row_of, entry, IsTable}
-use Rattle.hz_tables_model.specs.Machines.{Part, Machine, IsPart, IsMachine}
+use Rattle.hz_tables_model.specs.Machines.{Machine, IsPart, IsMachine}
 use Rattle.hz_tabtext_model.specs.Texts.{RowText, PartText, TablesText, IsEntry, IsRow, IsPartText, IsTables, part_of, machine_of, TableText}
 use Rattle.hz_tabtext_model.specs.Fields.{is_nil}
 use Rattle.hz_tabtext_model.specs.Reading.{Rest, row_at, machine_at}

@@ -1,5 +1,5 @@
 -- What is said of a compiled description may be said, and stands for its machine.
-use Rattle.std.proofs.Common.{◌≡◌, ◌≢◌, ℕ, zero, suc, ◌+◌, ◌*◌, ◌<◌, ◌≤◌, ◌==◌, Bool, true, false, List, [], ◌∷◌, ◌++◌, map, length, get_or, take, Option, Some, None, if◌then◌else◌, refl, sym, ap, ◌∙◌, subst, arith}
+use Rattle.std.proofs.Common.{◌≡◌, ◌≢◌, ℕ, zero, suc, ◌+◌, ◌*◌, ◌<◌, ◌≤◌, Bool, true, false, List, [], ◌∷◌, ◌++◌, map, length, get_or, take, Option, Some, None, if◌then◌else◌, refl, sym, ap, ◌∙◌, subst, arith}
 use Rattle.std.specs.Prelude.{IfSome, IsTrue, All, MatchBool, IsSomeAnd, slice_index_or}
 use Rattle.std.specs.Option.{option_map}
 use Rattle.std.specs.List.{AllByRecursion, enumerate_from}
@@ -19,7 +19,7 @@ use Rattle.hz_tables_model.specs.Orders.{place_of}
 use Rattle.hz_auto_model.specs.AutomatonPipelines.{automaton_at}
 use Rattle.hz_auto_model.specs.Compiled as compiled
 use Rattle.hz_auto_model.specs.Compiled.{Report, report_at, shows_states}
-use Rattle.hz_tabtext_model.specs.Texts.{Shown, RowText, PartText, TablesText, IsEntry, IsPair, IsShown, IsRow, AreCounts, IsPartText, IsTables, TableText, part_of, machine_of, spelled}
+use Rattle.hz_tabtext_model.specs.Texts.{PartText, IsEntry, IsPair, IsShown, IsRow, AreCounts, IsPartText, IsTables, TableText, part_of, machine_of, spelled}
 use Rattle.hz_tabtext_model.specs.Said.{named_grid, origin_said, shown_said, row_said, counts_said, part_said, tables_said, IsShownOf, CanBeSaid, IsInRange}
 
 -- what holds of each item with its number holds of all that is made of them

@@ -1,23 +1,22 @@
 -- What is spelled is read as what was said.
-use Rattle.std.proofs.Common.{◌≡◌, ◌≢◌, ℕ, zero, suc, ◌+◌, ◌*◌, ◌^◌, ◌<◌, ◌≤◌, Bool, true, false, cond, List, [], ◌∷◌, ◌++◌, map, length, get_or, Option, Some, None, Result, Ok, Err, refl, sym, ap, ◌∙◌, subst, arith, append_assoc, decimal, codes}
-use Rattle.std.specs.Prelude.{◌==◌, ◌&&◌, not, IfSome, IsTrue}
+use Rattle.std.proofs.Common.{◌≡◌, ◌≢◌, ℕ, zero, suc, ◌+◌, ◌^◌, ◌<◌, ◌≤◌, true, false, List, [], ◌∷◌, ◌++◌, map, length, get_or, Option, Some, None, Result, Ok, refl, sym, ap, ◌∙◌, subst, arith, append_assoc, decimal, codes}
+use Rattle.std.specs.Prelude.{IfSome, IsTrue}
 use Rattle.std.specs.List.{AllByRecursion, AllPairs, list_all, list_any, flat_map}
 use Rattle.std.specs.Str.{bytes_eq}
-use Rattle.std.proofs.lemmas.Bool.{and_parts, and_from, or_from, not_from_false, false_from_ne_true}
+use Rattle.std.proofs.lemmas.Bool.{and_from, or_from, not_from_false, false_from_ne_true}
 use Rattle.std.proofs.lemmas.List.{map-append, append-nil, length-append, get_or_append_left, get_or_at}
 use Rattle.std.proofs.lemmas.List.Folds.{list_all-append}
 use Rattle.std.proofs.lemmas.Slice.Eq.{bytes_eq-Decides}
 use Rattle.hz_base_model.specs.Names.{is_name}
 use Rattle.hz_base_model.specs.Limits.{class_limit}
-use Rattle.hz_tables_model.specs.StateLimits.{state_limit}
 use Rattle.hz_tables_model.specs.Machines as machines
-use Rattle.hz_tabtext_model.specs.Judging.{Kind, truncated, trailing, Fault, ◌>>=◌}
+use Rattle.hz_tabtext_model.specs.Judging.{Kind, Fault, ◌>>=◌}
 use Rattle.hz_tabtext_model.specs.Fields.{is_nil, fields_of, is_headed}
-use Rattle.hz_tabtext_model.specs.Lines.{Nothing, header_in, treatment_in, classes_in, is_new, class_in, automata_in, Head, head_in, map_in, counts_in, row_in, origin_in, grid_in, end_in}
-use Rattle.hz_tabtext_model.specs.Reading.{Rest, at_line, judged, line_by, so_many, classes_at, begin_with, comes, counts_at, grids_from, shown_at, row_at, part_at, is_over, machine_at, lines_in, tables_in}
-use Rattle.hz_tabtext_model.specs.Texts.{Shown, RowText, Counts, PartText, TablesText, joined, line_text, entries_line, origin_line, grid_line, shown_lines, row_lines, counts_lines, head_line, map_line, part_lines, treatment_line, class_line, tables_lines, spelled, IsPair, IsShown, IsRow, AreCounts, IsPartText, IsTables, part_of, machine_of, TableText}
+use Rattle.hz_tabtext_model.specs.Lines.{header_in, treatment_in, classes_in, is_new, class_in, automata_in, Head, head_in, map_in, counts_in, row_in, origin_in, end_in}
+use Rattle.hz_tabtext_model.specs.Reading.{Rest, line_by, so_many, classes_at, begin_with, counts_at, grids_from, shown_at, row_at, part_at, machine_at, tables_in}
+use Rattle.hz_tabtext_model.specs.Texts.{Shown, RowText, Counts, PartText, TablesText, joined, entries_line, origin_line, grid_line, shown_lines, row_lines, counts_lines, head_line, map_line, part_lines, treatment_line, class_line, tables_lines, spelled, IsPair, IsShown, IsRow, AreCounts, IsPartText, IsTables, part_of, machine_of, TableText}
 use Rattle.hz_tabtext_model.proofs.FieldLaws.{is_field, fields_joined, lines_spelled}
-use Rattle.hz_tabtext_model.proofs.LineTakes.{IsHead, AreEntries}
+use Rattle.hz_tabtext_model.proofs.LineTakes.{AreEntries}
 use Rattle.hz_tabtext_model.proofs.LineAgain.{Spells, header_again, end_again, treatment_again, classes_again, class_again, automata_again, head_again, map_again, counts_again, row_again, origin_again, grid_again}
 use Rattle.hz_tabtext_model.proofs.TextTakes.{AreNew}
 

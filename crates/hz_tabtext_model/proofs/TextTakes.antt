@@ -1,24 +1,23 @@
 -- A text that is read is the spelling of what it says.
 use Rattle.std.proofs.Common.{◌≡◌, ◌≢◌, ℕ, zero, suc, ◌+◌, ◌*◌, ◌<◌, ◌≤◌, Bool, true, false, cond, List, [], ◌∷◌, ◌++◌, map, length, get_or, Option, Some, None, Result, Ok, Err, refl, sym, ap, ◌∙◌, subst, arith, append_assoc, decimal, codes}
-use Rattle.std.specs.Prelude.{◌==◌, ◌&&◌, not, IfSome, IsTrue}
+use Rattle.std.specs.Prelude.{IfSome, IsTrue}
 use Rattle.std.specs.List.{AllByRecursion, AllPairs, list_any, flat_map}
 use Rattle.std.specs.Str.{bytes_eq}
-use Rattle.std.proofs.lemmas.Bool.{and_parts, or_parts, not-true, both_ways}
-use Rattle.std.proofs.lemmas.List.{map-append, length-map, append-nil, nil_from_length}
+use Rattle.std.proofs.lemmas.Bool.{or_parts, not-true, both_ways}
+use Rattle.std.proofs.lemmas.List.{map-append, append-nil}
 use Rattle.std.proofs.lemmas.List.Quantifiers.{all_pairs_push}
 use Rattle.std.proofs.lemmas.Slice.Eq.{bytes_eq-Decides}
 use Rattle.hz_base_model.specs.Names.{is_name}
-use Rattle.hz_base_model.specs.Limits.{class_limit}
 use Rattle.hz_tables_model.specs.StateLimits.{cell_limit}
 use Rattle.hz_tables_model.specs.Machines as machines
 use Rattle.hz_tabtext_model.specs.Judging.{Kind, truncated, trailing, Fault, ◌>>=◌}
 use Rattle.hz_tabtext_model.specs.Fields.{is_nil, fields_of, is_headed}
 use Rattle.hz_tabtext_model.specs.Lines.{Nothing, header_in, treatment_in, classes_in, is_new, class_in, automata_in, Head, head_in, map_in, counts_in, row_in, origin_in, grid_in, end_in}
 use Rattle.hz_tabtext_model.specs.Reading.{Rest, at_line, judged, first_by, line_by, so_many, classes_at, comes, counts_at, grids_from, shown_at, row_at, part_at, is_over, machine_at, lines_in, tables_in}
-use Rattle.hz_tabtext_model.specs.Texts.{Shown, RowText, Counts, PartText, TablesText, joined, entries_line, origin_line, grid_line, shown_lines, row_lines, counts_lines, head_line, map_line, part_lines, treatment_line, class_line, tables_lines, spelled, IsPair, IsShown, IsRow, AreCounts, IsPartText, IsTables, part_of, machine_of, TableText}
+use Rattle.hz_tabtext_model.specs.Texts.{Shown, RowText, Counts, PartText, TablesText, joined, entries_line, origin_line, grid_line, shown_lines, row_lines, counts_lines, head_line, map_line, part_lines, treatment_line, class_line, tables_lines, IsPair, IsShown, IsRow, AreCounts, IsPartText, IsTables, part_of, machine_of, TableText}
 use Rattle.hz_tabtext_model.proofs.Steps.{bind_ok, guard_ok, unless_ok, ok_is}
-use Rattle.hz_tabtext_model.proofs.FieldLaws.{text_of_lines, some_lines}
-use Rattle.hz_tabtext_model.proofs.LineTakes.{header_takes, end_takes, treatment_takes, classes_take, class_takes, automata_take, IsHead, head_takes, map_takes, counts_take, AreEntries, row_takes, IsOrigin, origin_takes, grid_takes}
+use Rattle.hz_tabtext_model.proofs.FieldLaws.{text_of_lines}
+use Rattle.hz_tabtext_model.proofs.LineTakes.{header_takes, end_takes, treatment_takes, classes_take, class_takes, automata_take, head_takes, map_takes, counts_take, row_takes, origin_takes, grid_takes}
 
 -- ---- one line
 

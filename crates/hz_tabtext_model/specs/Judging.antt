@@ -1,5 +1,5 @@
 -- Judging: a value, or the first thing that is wrong.
-use Rattle.std.specs.Prelude.{ℕ, List, [], ◌∷◌, ◌++◌, Result, Ok, Err}
+use Rattle.std.specs.Prelude.{ℕ, List, [], ◌∷◌, Result, Ok, Err}
 
 -- What can be wrong with a tables text: its first line is another; a line that is no line of its place; a field that is
 -- no number; a number out of its range; the text ends within a line; something stands behind the end.

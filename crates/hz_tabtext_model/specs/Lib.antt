@@ -4,3 +4,4 @@ pub mod Fields
 pub mod Lines
 pub mod Reading
 pub mod Said
+pub mod Faults
