@@ -1,0 +1,4 @@
+pub mod LineSizes
+pub mod TextSizes
+pub mod CountSizes
+pub mod StringSizes
