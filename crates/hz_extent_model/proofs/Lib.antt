@@ -2,3 +2,5 @@ pub mod LineSizes
 pub mod TextSizes
 pub mod CountSizes
 pub mod StringSizes
+pub mod NameSizes
+pub mod TablesSizes
