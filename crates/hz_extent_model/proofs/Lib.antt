@@ -1,0 +1,6 @@
+pub mod LineSizes
+pub mod TextSizes
+pub mod CountSizes
+pub mod StringSizes
+pub mod NameSizes
+pub mod TablesSizes
