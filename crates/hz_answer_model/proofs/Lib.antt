@@ -6,4 +6,5 @@ pub mod AnswerTotal
 pub mod EventLaws
 pub mod DoneLaws
 pub mod HeadlineLaws
+pub mod ShortLaws
 pub mod WalkLaws

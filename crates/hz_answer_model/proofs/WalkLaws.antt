@@ -40,6 +40,7 @@ use Rattle.hz_answer_model.proofs.AnswerLaws.{kept_or_past}
 use Rattle.hz_answer_model.proofs.DoneLaws.{IsOpened, opened, IsGiven, given_of, compiled_of}
 use Rattle.hz_answer_model.proofs.EventLaws.{issue_named, events_known}
 use Rattle.hz_answer_model.proofs.HeadlineLaws.{one_described}
+use Rattle.hz_answer_model.proofs.ShortLaws.{tables_short}
 
 -- ---- one machine, walked and replayed
 
@@ -175,7 +176,7 @@ module _ (held : Held) (description text : List ℕ) (h : AnswersCompile held de
   tables = compiled_of description given.d given.known (WritesTablesOf given.d given.known) text given.answers
 
   pub writes_tables : WritesTables held description text
-  writes_tables = record { described = first.bytes; file = first.is; d = given.d; known = given.known; is_described = given.is; tables = tables.1.1 }
+  writes_tables = record { described = first.bytes; file = first.is; d = given.d; known = given.known; is_described = given.is; tables = tables.1.1; short = tables_short first.bytes given.d given.known text (ltb-false _ _ first.low) given.is tables.1.1 }
 
   abbrev d : Description
   d = given.d

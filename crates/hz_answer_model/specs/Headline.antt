@@ -1,5 +1,5 @@
 -- What is written of a schedule and of tables, and what `replay` and `walk` answer of them, in the words of the promise: README.md.
-use Rattle.std.specs.Prelude.{◌≡◌, ◌↔◌, ℕ, ◌≤◌, List, length, Some}
+use Rattle.std.specs.Prelude.{◌≡◌, ◌↔◌, ℕ, ◌≤◌, false, List, length, Some}
 use Rattle.hz_sexp_model.specs.Trees.{Trees}
 use Rattle.hz_sexp_model.specs.Forms as forms
 use Rattle.hz_mdread_model.specs.Descriptions.{Description}
@@ -8,6 +8,7 @@ use Rattle.hz_check_model.specs.CheckFaults.{IsSound}
 use Rattle.hz_check_model.specs.Places.{Known, class_names}
 use Rattle.hz_base_model.specs.Limits.{advance_limit, trace_limit}
 use Rattle.hz_acceptance_model.specs.Events.{cycles_of}
+use Rattle.hz_auto_model.specs.Compiled.{shows_states}
 use Rattle.hz_rtl_model.specs.Blocks.{Instruction}
 use Rattle.hz_rtltext_model.specs.BlockForms as blocks
 use Rattle.hz_sched_model.specs.Schedules.{Graph, Slot, present, spell}
@@ -59,7 +60,7 @@ pub record ReplayAccepts (held : Held) (description : List ℕ) (d : Description
   pub answers : (other : Held) (trace traced : List ℕ) → other description ≡ held description → other trace ≡ Some traced → length traced ≤ trace_limit → Trace (class_names d) traced (spell g slots)
       → AnswersReplay other description trace 0 (accepted_line (length slots) (present 0 slots))
 
--- The text says what is compiled of the description that is held.
+-- The text says what is compiled of the description that is held, and is within its limit of bytes, unless what each state is is told.
 pub record WritesTables (held : Held) (description text : List ℕ) : Type 0 where
   pub described : List ℕ
   pub file : held description ≡ Some described
@@ -67,6 +68,7 @@ pub record WritesTables (held : Held) (description text : List ℕ) : Type 0 whe
   pub known : Known
   pub is_described : IsDescribed described d known
   pub tables : IsTablesOf d known text
+  pub short : shows_states d.options ≡ false → length text ≤ tables_limit
 
 -- `walk` on a text answers to every trace what `replay` answers on the description, the same status and the same text: where the
 -- text is held and not too long.

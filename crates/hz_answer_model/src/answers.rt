@@ -24,7 +24,8 @@ pub fn replay_accepts_schedules()
 
 /// What `compile` answers with status 0 says what is compiled of the description: it stands for a machine that has its classes and its
 /// automata, each of which walks just what it accepts, with states that are reached, apart unless they stay as they were found, and
-/// numbered breadth-first; and it tells beside that what the options ask for, as it is.
+/// numbered breadth-first; and it tells beside that what the options ask for, as it is. It is within its limit of bytes, unless both
+/// `v` and `no-minimization` ask for what each state is.
 pub fn compile_writes_tables()
     ensures { (held : Held) (description text : List ℕ) → AnswersCompile held description 0 text → WritesTables held description text }
 {}
