@@ -1,12 +1,14 @@
--- The counts that are told of a compiled automaton are small, and where states are not shown nothing is told of them.
-use Rattle.std.proofs.Common.{◌≡◌, ℕ, ◌+◌, ◌^◌, ◌<◌, ◌≤◌, Bool, true, false, List, length, All, Option, None, ⊎_elim, arith}
+-- The counts that are told of a compiled automaton are small, its rows are few, and where states are not shown nothing is told
+-- of them.
+use Rattle.std.proofs.Common.{◌≡◌, ℕ, ◌+◌, ◌^◌, ◌<◌, ◌≤◌, Bool, true, false, List, length, All, Option, None, ⊎_elim, sym, subst, arith}
 use Rattle.std.specs.Prelude.{MatchBool, IsSomeAnd}
 use Rattle.std.proofs.lemmas.Bool.{cases_lt}
+use Rattle.std.proofs.lemmas.List.{get_or_default}
 use Rattle.hz_acceptance_model.specs.Replay.{Pipeline}
 use Rattle.hz_mdread_model.specs.Descriptions.{Options}
 use Rattle.hz_check_model.specs.CheckedParts.{AutomatonParts, ClassParts}
 use Rattle.hz_tables_model.specs.StateLimits.{state_limit}
-use Rattle.hz_tables_model.specs.Machines.{Machine, IsMachine, part_at}
+use Rattle.hz_tables_model.specs.Machines.{Part, Machine, IsMachine, part_at, no_part}
 use Rattle.hz_reach_model.specs.Counts.{Count, grids, states, members, CountIsAtMost}
 use Rattle.hz_reach_model.proofs.CountLaws.{no_count_both}
 use Rattle.hz_auto_model.specs.AutomatonPipelines.{automaton_pipeline}
@@ -15,7 +17,9 @@ use Rattle.hz_auto_model.specs.CompiledParts.{cap_of}
 use Rattle.hz_auto_model.specs.Compiled.{Report, report_at, shows_states, IsShown, IsCompiled}
 use Rattle.hz_tabtext_model.specs.Texts.{spelled}
 use Rattle.hz_tabtext_model.specs.Said.{tables_said}
+use Rattle.hz_single_model.proofs.PartLaws.{filled_part}
 use Rattle.hz_extent_model.specs.Extents.{unnamed_limit, bytes_of_names}
+use Rattle.hz_extent_model.proofs.RowSizes.{rows_few}
 use Rattle.hz_extent_model.proofs.TextSizes.{TellsCounts, spelled_most}
 
 -- a count is no greater than what it is at most
@@ -25,8 +29,8 @@ count_most m columns kind n most is within = ⊎_elim
     (λ (less : n ≤ most). less)
     (cases_lt most n)
 
--- but for the entries each limit is below 2 ^ 32
-caps_low : (shown : Bool) → (cap_of shown grids < 2 ^ 32) × (cap_of shown states < 2 ^ 32) × (cap_of shown members < 2 ^ 32)
+-- the limits, whether states are shown or not
+caps_low : (shown : Bool) → (cap_of shown grids < 2 ^ 32) × (cap_of shown states ≤ state_limit) × (cap_of shown members < 2 ^ 32)
 caps_low true = (omega arith, omega arith, omega arith)
 caps_low false = (omega arith, omega arith, omega arith)
 
@@ -53,5 +57,17 @@ module _ (options : Options) (automata : List AutomatonParts) (classes : List Cl
         nothing = none_shown (IsShown (length classes) pipeline (part_at m a)) (shows_states options) report.shown hidden part.shown;
       }
 
-  pub lines_most : IsMachine m → All (λ part. length part.rows ≤ state_limit) m.parts → shows_states options ≡ false → length (spelled (tables_said options automata reports m)) ≤ unnamed_limit + bytes_of_names m
-  lines_most machine rows hidden = spelled_most options automata reports m machine rows (tells_counts hidden)
+  pub rows_low : IsMachine m → All (λ part. length part.rows ≤ state_limit) m.parts
+  rows_low machine a d low =
+      let each = is.each in
+      let part = is.parts a (omega (arith, low, each)) in
+      let shown = shows_states options in
+      let within = part.within.counts in
+      let few = rows_few (length classes) (automaton_pipeline options automata classes a) (part_at m a) (machine.parts a no_part low).table
+      (filled_part options.no_minimization options automata classes a (part_at m a) (report_at reports a) part) part.walks options.no_minimization part.tells (within grids) part.numbered.reached (cap_of shown states) (within states) in
+      let caps = caps_low shown in
+      let here : length (part_at m a).rows ≤ state_limit = omega (arith, few, caps.1) in
+      subst (λ (p : Part). length p.rows ≤ state_limit) (sym (get_or_default m.parts a d no_part low)) here
+
+  pub lines_most : IsMachine m → shows_states options ≡ false → length (spelled (tables_said options automata reports m)) ≤ unnamed_limit + bytes_of_names m
+  lines_most machine hidden = spelled_most options automata reports m machine (rows_low machine) (tells_counts hidden)

@@ -4,3 +4,4 @@ pub mod CountSizes
 pub mod StringSizes
 pub mod NameSizes
 pub mod TablesSizes
+pub mod RowSizes

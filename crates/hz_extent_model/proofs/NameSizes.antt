@@ -1,5 +1,5 @@
 -- The names of a description's classes and automata together have no more bytes than the strings of its forms.
-use Rattle.std.proofs.Common.{◌≡◌, ℕ, ◌+◌, ◌-◌, ◌≤◌, ◌==◌, Bool, true, false, cond, List, [], ◌∷◌, ◌++◌, map, take, drop, length, Option, Some, None, Result, Ok, Err, refl, sym, ap, ◌∙◌, subst, arith, length-append, length-drop, codes}
+use Rattle.std.proofs.Common.{◌≡◌, ℕ, ◌+◌, ◌-◌, ◌≤◌, ◌==◌, Bool, true, false, cond, List, [], ◌∷◌, map, take, drop, length, Some, None, Ok, refl, sym, ap, arith, length-append, length-drop, codes}
 use Rattle.std.specs.Char.{is_ascii_whitespace}
 use Rattle.std.specs.List.{sum_by, flat_map, slice_split, join_with_byte, prefix_len, suffix_len}
 use Rattle.std.specs.Option.{ok_or}
@@ -9,11 +9,11 @@ use Rattle.std.proofs.lemmas.List.Sums.{sum_by-cons, sum_by-append}
 use Rattle.hz_base_model.specs.Lines.{trimmed, separated}
 use Rattle.hz_base_model.specs.Names.{is_name}
 use Rattle.hz_altern_model.specs.Sets.{SetKind}
-use Rattle.hz_sexp_model.specs.Trees.{Tree, Trees, list, vector, atom, quoted, number, none, more, line_of}
+use Rattle.hz_sexp_model.specs.Trees.{Tree, Trees, list, atom, quoted, none, more, line_of}
 use Rattle.hz_mdread_model.specs.Descriptions.{AutomatonItem, ClassItem, Description, no_options}
 use Rattle.hz_mdread_model.specs.DescriptionShape.{FormKind, define_automaton, define_cpu_unit, define_reservation, define_insn_reservation, define_bypass, automata_option, define_attr, set_form, are_names}
 use Rattle.hz_mdread_model.specs.DescriptionForms.{bad_shape, bad_condition, unknown_form, unknown_option, Said, Addition, automata, units, reservation, class, bypass, set, options, attribute, quoted_bytes, name_in, names_in, names_of, limited_number, condition_in, expression_in, set_patterns, fallback_in, shaped, headed, kind_of, with_options, automaton_items, unit_items, automata_form, units_form, reservation_form, class_form, bypass_form, set_form_of, options_form, attribute_form, form_of_kind, form_says, Reads}
-use Rattle.hz_mdread_model.specs.AddedItems.{Add, nothing, adds, added_automata, added_classes}
+use Rattle.hz_mdread_model.specs.AddedItems.{Add, added_automata, added_classes}
 use Rattle.hz_mdread_model.proofs.AddedLaws.{items_added}
 use Rattle.hz_mdread_model.proofs.DescriptionFormed.{then_ok, or_ok, then_some, kept_some}
 use Rattle.hz_check_model.specs.CheckedParts.{automaton_names}
@@ -196,7 +196,9 @@ names_few forms d reads =
     let (additions, add, has) = items_added forms d reads in
     let all = additions_fit add in
     omega (
-      arith, all, automata_named d,
+      arith,
+      all,
+      automata_named d,
       sum_by-map (λ c. c.name) d.classes,
       ap (sum_by (λ (a : AutomatonItem). length a.name)) has.automata,
       ap (sum_by (λ (c : ClassItem). length c.name)) has.classes,

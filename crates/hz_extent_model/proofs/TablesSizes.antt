@@ -1,21 +1,18 @@
 -- How long the text is that is said of a compiled description.
-use Rattle.std.proofs.Common.{◌≡◌, ℕ, zero, suc, ◌+◌, ◌<◌, ◌≤◌, false, List, [], ◌∷◌, map, length, get_or, All, refl, sym, ap, ◌∙◌, arith}
+use Rattle.std.proofs.Common.{◌≡◌, ℕ, suc, ◌+◌, ◌<◌, ◌≤◌, false, List, [], ◌∷◌, map, length, refl, sym, ap, ◌∙◌, arith}
 use Rattle.std.specs.List.{sum_by}
 use Rattle.std.proofs.lemmas.List.{length-map, get_or-map, ext_get_or}
-use Rattle.hz_base_model.specs.Limits.{description_limit}
 use Rattle.hz_sexp_model.specs.Trees.{Trees}
 use Rattle.hz_sexp_model.specs.Forms as texts
 use Rattle.hz_mdread_model.specs.Descriptions.{Description}
 use Rattle.hz_mdread_model.specs.DescriptionForms.{Reads}
 use Rattle.hz_check_model.specs.Places.{Known, class_names}
 use Rattle.hz_check_model.specs.CheckedParts.{AutomatonParts, automaton_names, automata_from, automata_of, class_parts}
-use Rattle.hz_tables_model.specs.StateLimits.{state_limit}
-use Rattle.hz_tables_model.specs.Machines.{Part, Machine, IsMachine, part_at, no_part}
-use Rattle.hz_auto_model.specs.AutomatonPipelines.{automaton_at}
+use Rattle.hz_tables_model.specs.Machines.{Machine, IsMachine, no_part}
 use Rattle.hz_auto_model.specs.Compiled.{Report, IsCompiled, shows_states}
 use Rattle.hz_tabtext_model.specs.Texts.{spelled}
 use Rattle.hz_tabtext_model.specs.Said.{tables_said}
-use Rattle.hz_extent_model.specs.Extents.{unnamed_limit, bytes_of_names, bytes_of_strings}
+use Rattle.hz_extent_model.specs.Extents.{unnamed_limit, bytes_of_names}
 use Rattle.hz_extent_model.proofs.CountSizes.{lines_most}
 use Rattle.hz_extent_model.proofs.StringSizes.{strings_fit}
 use Rattle.hz_extent_model.proofs.NameSizes.{sum_by-map, names_few}
@@ -53,7 +50,7 @@ module _ (d : Description) (known : Known) (m : Machine) (reports : List Report)
     sum_by-map (λ p. p.name) m.parts,
   )
 
-  pub tables_fit : (bytes : List ℕ) (read : Trees) → length bytes ≤ description_limit → texts.Reads bytes read → Reads read d → IsMachine m → All (λ part. length part.rows ≤ state_limit) m.parts → shows_states d.options ≡ false → length (spelled (tables_said d.options (automata_of d) reports m)) ≤ 536870912
-  tables_fit bytes read few forms says machine rows hidden =
-      let lines = lines_most d.options (automata_of d) (map (class_parts d known) d.classes) m reports is machine rows hidden in
-      omega (arith, lines, few, machine_names, names_few read d says, strings_fit bytes read forms)
+  pub tables_most : (bytes : List ℕ) (read : Trees) → texts.Reads bytes read → Reads read d → IsMachine m → shows_states d.options ≡ false → length (spelled (tables_said d.options (automata_of d) reports m)) ≤ unnamed_limit + (length bytes + 1)
+  tables_most bytes read forms says machine hidden =
+      let lines = lines_most d.options (automata_of d) (map (class_parts d known) d.classes) m reports is machine hidden in
+      omega (arith, lines, machine_names, names_few read d says, strings_fit bytes read forms)

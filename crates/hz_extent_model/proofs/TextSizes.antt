@@ -1,12 +1,12 @@
 -- How long the text of a machine is, beside its names, where nothing is told of its states.
-use Rattle.std.proofs.Common.{◌≡◌, ℕ, zero, suc, ◌+◌, ◌*◌, ◌^◌, ◌<◌, ◌≤◌, Bool, true, false, List, [], ◌∷◌, ◌++◌, map, length, get_or, All, Option, Some, None, if◌then◌else◌, refl, sym, ap, ◌∙◌, subst, arith, decimal, codes, length-append}
+use Rattle.std.proofs.Common.{◌≡◌, ℕ, zero, suc, ◌+◌, ◌*◌, ◌^◌, ◌<◌, ◌≤◌, Bool, true, false, List, [], ◌∷◌, ◌++◌, map, length, get_or, All, Option, Some, None, if◌then◌else◌, refl, sym, ◌∙◌, subst, arith, decimal, codes}
 use Rattle.std.specs.List.{sum_by, flat_map, enumerate_from}
 use Rattle.std.proofs.lemmas.Fmt.{length-decimal-le}
 use Rattle.std.proofs.lemmas.List.{length-map, get_or_default}
 use Rattle.std.proofs.lemmas.List.FromFn.{length-enumerate_from}
-use Rattle.std.proofs.lemmas.List.Elements.{All-map, All-weaker, All-cons, All-nil}
+use Rattle.std.proofs.lemmas.List.Elements.{All-map, All-weaker}
 use Rattle.std.proofs.lemmas.List.Sums.{sum_by-cons}
-use Rattle.hz_base_model.specs.Limits.{automaton_limit, class_limit}
+use Rattle.hz_base_model.specs.Limits.{class_limit}
 use Rattle.hz_mdread_model.specs.Descriptions.{Options}
 use Rattle.hz_check_model.specs.CheckedParts.{AutomatonParts}
 use Rattle.hz_tables_model.specs.StateLimits.{state_limit, cell_limit}
@@ -15,7 +15,7 @@ use Rattle.hz_tables_model.specs.Machines.{Part, Machine, IsPart, IsMachine, no_
 use Rattle.hz_auto_model.specs.AutomatonPipelines.{automaton_at}
 use Rattle.hz_auto_model.specs.Compiled as compiled
 use Rattle.hz_auto_model.specs.Compiled.{Report, report_at}
-use Rattle.hz_tabtext_model.specs.Texts.{RowText, Counts, PartText, AreCounts, entry_field, entries_line, row_lines, counts_lines, head_line, map_line, part_lines, treatment_line, class_line, tables_lines, spelled}
+use Rattle.hz_tabtext_model.specs.Texts.{PartText, AreCounts, entry_field, entries_line, row_lines, counts_lines, head_line, map_line, part_lines, treatment_line, class_line, spelled}
 use Rattle.hz_tabtext_model.specs.Said.{row_said, counts_said, part_said, tables_said}
 use Rattle.hz_extent_model.specs.Extents.{unnamed_limit, bytes_of_names}
 use Rattle.hz_extent_model.proofs.LineSizes.{line_bytes, text_bytes, line_is, line_most, text_more, text_append}
@@ -39,7 +39,7 @@ rows_short table columns is few = λ state d low.
     subst (IsShortRow columns) (sym same) (
       is.width state low,
       λ i e inside. let entry_is : get_or (row_of table state) i e ≡ entry table state i = get_or_default (row_of table state) i e None inside in
-      entry_short (length table) (get_or (row_of table state) i e) few (λ next there. is.targets state i next (sym entry_is ∙ there)),
+          entry_short (length table) (get_or (row_of table state) i e) few (λ next there. is.targets state i next (sym entry_is ∙ there)),
     )
 
 row_most : (columns : ℕ) (row : List (Option ℕ)) → IsShortRow columns row → line_bytes (entries_line row) ≤ 4 + (columns + 1) * 6
@@ -85,7 +85,7 @@ head_most name columns states few few' =
 
 -- the bytes of a part without its name, at most
 abbrev part_limit : ℕ
-part_limit = 25433153
+part_limit = cell_limit * 6 + state_limit * 4 + class_limit * 5 + 65
 
 part_most : (classes : ℕ) (stats : Bool) (units : List (List ℕ)) (report : Report) (part : Part) → classes ≤ class_limit → IsPart classes part → length part.rows ≤ state_limit → AreCounts (counts_said report) → report.shown ≡ None → text_bytes (part_lines (part_said stats units report part)) ≤ length part.name + part_limit
 part_most classes stats units report part few is rows counts none =
@@ -99,7 +99,14 @@ part_most classes stats units report part few is rows counts none =
     let counts = counts_most stats report counts in
     let table : text_bytes rest ≤ length part.rows * (4 + (part.columns + 1) * 6) = subst (λ (o : Option compiled.Shown). text_bytes (flat_map row_lines (map (row_said units o) (enumerate_from 0 part.rows))) ≤ length part.rows * (4 + (part.columns + 1) * 6)) (sym none) (rows_most part.columns units 0 part.rows (rows_short part.rows part.columns is.table rows)) in
     omega (
-      arith, head, maps, counts, table, cells, rows, few,
+      arith,
+      head,
+      maps,
+      counts,
+      table,
+      cells,
+      rows,
+      few,
       text_more (head_line says) (map_line says.map ∷ (counts_lines says.counts ++ rest)),
       text_more (map_line says.map) (counts_lines says.counts ++ rest),
       text_append (counts_lines says.counts) rest,
@@ -149,17 +156,21 @@ module _ (options : Options) (automata : List AutomatonParts) (reports : List Re
       let says = map said_at (enumerate_from 0 m.parts) in
       let long : length says ≡ length m.parts = length-map (enumerate_from 0 m.parts) said_at ∙ length-enumerate_from 0 m.parts in
       let parts : text_bytes (flat_map part_lines says) ≤ length m.parts * part_limit + sum_by (λ part. length part.name) m.parts = parts_most said_at 0 m.parts (λ a low.
-          let at : 0 + a ≡ a = omega arith in
-          let told = tells a low in
-          subst (λ (k : ℕ). text_bytes (part_lines (said_at (k, get_or m.parts a no_part))) ≤ length (get_or m.parts a no_part).name + part_limit) (sym at)
-          (part_most (length m.classes) options.stats (automaton_at automata a).units (report_at reports a) (get_or m.parts a no_part) class_count (is.parts a no_part low) (rows a no_part low) told.counts told.nothing)) in
+      let at : 0 + a ≡ a = omega arith in
+      let told = tells a low in
+      subst (λ (k : ℕ). text_bytes (part_lines (said_at (k, get_or m.parts a no_part))) ≤ length (get_or m.parts a no_part).name + part_limit) (sym at)
+      (part_most (length m.classes) options.stats (automaton_at automata a).units (report_at reports a) (get_or m.parts a no_part) class_count (is.parts a no_part low) (rows a no_part low) told.counts told.nothing)) in
       let title = codes "hazard-tables" ∷ codes "1" ∷ [] in
       let classes = codes "classes" ∷ decimal (length m.classes) ∷ [] in
       let automata_line = codes "automata" ∷ decimal (length says) ∷ [] in
       let behind = flat_map part_lines says ++ (codes "end" ∷ []) ∷ [] in
       let after = map class_line m.classes ++ automata_line ∷ behind in
       omega (
-        arith, few, class_count, long, parts,
+        arith,
+        few,
+        class_count,
+        long,
+        parts,
         text_more title (treatment_line options.ndfa ∷ classes ∷ after),
         line_is (codes "hazard-tables") (codes "1" ∷ []),
         sum_by-cons (λ f. length f + 1) (codes "1") [],
