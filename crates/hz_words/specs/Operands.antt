@@ -1,6 +1,7 @@
 -- The operands behind a command.
 use Rattle.std.specs.Prelude.{◌≡◌, ◌≢◌, ℕ, Bool, true, List, [], ◌∷◌, Option, Some, None, codes}
 use Rattle.std.specs.List.{list_any}
+use Rattle.std.specs.Option.{option_map}
 use Rattle.clap.specs.Words.{App, HasMatchesOf, Rule, fault_of, is_simple_and_free, new_app, new_rule, takes, with_rule}
 use Rattle.clap.specs.declared.parser.matches.ArgMatches.{ArgMatches}
 use Rattle.hz_words_model.specs.Words as model
@@ -18,6 +19,14 @@ operand_of _ = None
 abbrev pub operands_of : List (List ℕ) → Option (List ℕ × List ℕ)
 operands_of (command ∷ first ∷ second ∷ []) = Some (first, second)
 operands_of _ = None
+
+-- what is made of one operand
+abbrev pub with_one : (List ℕ → model.Order) → List (List ℕ) → Option model.Order
+with_one make words = option_map make (operand_of words)
+
+-- what is made of two
+abbrev pub with_two : (List ℕ → List ℕ → model.Order) → List (List ℕ) → Option model.Order
+with_two make words = option_map (λ files. make files.0 files.1) (operands_of words)
 
 -- what `clap` finds in the words: nothing where it doesn't take them, and its matches where nothing is wrong with them
 abbrev pub Finds : App → List (List ℕ) → Option ArgMatches → Type 0

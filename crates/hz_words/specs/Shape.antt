@@ -1,4 +1,5 @@
 use Rattle.std.specs.Prelude.{ℕ, List, map, String}
+use Rattle.std.specs.Borrow.{Bor}
 use Rattle.std.specs.String.{string_bytes}
 use Rattle.std.specs.declared.alloc.Global.{Global}
 use Rattle.hz_words_model.specs.Words as model
@@ -8,6 +9,10 @@ use Rattle.hz_words.specs.declared.order.Order.TheVariants.{Compile, Replay, Wal
 -- the bytes of words
 abbrev pub words_in : List (String Global) → List (List ℕ)
 words_in words = map string_bytes words
+
+-- the bytes of two words
+abbrev pub pair_in : Bor (List ℕ) × Bor (List ℕ) → List ℕ × List ℕ
+pair_in pair = (pair.0.now, pair.1.now)
 
 -- an order of the program as one of the definitions
 abbrev pub order_in : Order → model.Order

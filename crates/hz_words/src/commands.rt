@@ -2,7 +2,7 @@
 
 ghost use Rattle.std.specs.Prelude.{◌≡◌, IfOk, false};
 ghost use Rattle.std.specs.Option.{option_map};
-ghost use Rattle.hz_words.specs.Operands.{has_option, operand_of, operands_of};
+ghost use Rattle.hz_words.specs.Operands.{has_option, with_one, with_two};
 ghost use Rattle.hz_words.specs.Shape.{words_in, order_in};
 ghost use Rattle.hz_words_model.specs.Words as model;
 
@@ -16,7 +16,7 @@ pub fn compile_order<'a>(
     words: &'a [String],
 ) -> Result<Option<Order<'a>>, AllocError>
     requires { has_option (words_in words.now) ≡ false }
-    ensures { IfOk result (λ order. option_map order_in order ≡ option_map model.compile (operand_of (words_in words.now))) }
+    ensures { IfOk result (λ order. option_map order_in order ≡ with_one model.compile (words_in words.now)) }
 {
     let file = one_operand(alloc, "compile", words)?;
     Ok(file.map(|description| Order::Compile(CompileOrder { description })))
@@ -25,7 +25,7 @@ pub fn compile_order<'a>(
 /// `replay DESC TRACE`.
 pub fn replay_order<'a>(alloc: Global, words: &'a [String]) -> Result<Option<Order<'a>>, AllocError>
     requires { has_option (words_in words.now) ≡ false }
-    ensures { IfOk result (λ order. option_map order_in order ≡ option_map (λ files. model.replay files.0 files.1) (operands_of (words_in words.now))) }
+    ensures { IfOk result (λ order. option_map order_in order ≡ with_two model.replay (words_in words.now)) }
 {
     let files = two_operands(alloc, "replay", words)?;
     Ok(files.map(|(description, trace)| Order::Replay(ReplayOrder { description, trace })))
@@ -34,7 +34,7 @@ pub fn replay_order<'a>(alloc: Global, words: &'a [String]) -> Result<Option<Ord
 /// `walk TABLES TRACE`.
 pub fn walk_order<'a>(alloc: Global, words: &'a [String]) -> Result<Option<Order<'a>>, AllocError>
     requires { has_option (words_in words.now) ≡ false }
-    ensures { IfOk result (λ order. option_map order_in order ≡ option_map (λ files. model.walk files.0 files.1) (operands_of (words_in words.now))) }
+    ensures { IfOk result (λ order. option_map order_in order ≡ with_two model.walk (words_in words.now)) }
 {
     let files = two_operands(alloc, "walk", words)?;
     Ok(files.map(|(tables, trace)| Order::Walk(WalkOrder { tables, trace })))
@@ -46,7 +46,7 @@ pub fn schedule_order<'a>(
     words: &'a [String],
 ) -> Result<Option<Order<'a>>, AllocError>
     requires { has_option (words_in words.now) ≡ false }
-    ensures { IfOk result (λ order. option_map order_in order ≡ option_map (λ files. model.schedule files.0 files.1) (operands_of (words_in words.now))) }
+    ensures { IfOk result (λ order. option_map order_in order ≡ with_two model.schedule (words_in words.now)) }
 {
     let files = two_operands(alloc, "schedule", words)?;
     Ok(files.map(|(description, block)| Order::Schedule(ScheduleOrder { description, block })))
@@ -55,7 +55,7 @@ pub fn schedule_order<'a>(
 /// `eval BLOCK STATE`.
 pub fn eval_order<'a>(alloc: Global, words: &'a [String]) -> Result<Option<Order<'a>>, AllocError>
     requires { has_option (words_in words.now) ≡ false }
-    ensures { IfOk result (λ order. option_map order_in order ≡ option_map (λ files. model.eval files.0 files.1) (operands_of (words_in words.now))) }
+    ensures { IfOk result (λ order. option_map order_in order ≡ with_two model.eval (words_in words.now)) }
 {
     let files = two_operands(alloc, "eval", words)?;
     Ok(files.map(|(block, state)| Order::Eval(EvalOrder { block, state })))

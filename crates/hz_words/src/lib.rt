@@ -5,6 +5,8 @@ mod commands;
 mod operands;
 mod order;
 mod reading;
+#[cfg(test)]
+mod tests;
 
 pub use order::{CompileOrder, EvalOrder, Order, ReplayOrder, ScheduleOrder, WalkOrder};
 pub use reading::order_of;

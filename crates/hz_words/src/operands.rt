@@ -3,7 +3,7 @@
 ghost use Rattle.std.specs.Prelude.{◌≡◌, IfOk, false};
 ghost use Rattle.std.specs.Option.{option_map};
 ghost use Rattle.clap.specs.Words.{app_of};
-ghost use Rattle.hz_words.specs.Shape.{words_in};
+ghost use Rattle.hz_words.specs.Shape.{pair_in, words_in};
 ghost use Rattle.hz_words.specs.Operands.{Finds, has_option, of_one, of_two, operand_of, operands_of};
 
 use clap::error::ErrorKind;
@@ -62,7 +62,7 @@ pub fn two_operands<'a>(
     words: &'a [String],
 ) -> Result<Option<(&'a str, &'a str)>, AllocError>
     requires { has_option (words_in words.now) ≡ false }
-    ensures { IfOk result (λ pair. option_map (λ words. (words.0.now, words.1.now)) pair ≡ operands_of (words_in words.now)) }
+    ensures { IfOk result (λ pair. option_map pair_in pair ≡ operands_of (words_in words.now)) }
 {
     let Some(matches) = found(of_two(alloc, name)?, words)? else {
         return Ok(None);

@@ -1,6 +1,6 @@
 use Rattle.std.proofs.Common.{◌∙◌, refl, ap, ap₂}
 use Rattle.std.specs.Option.{option_map, option_zip}
-use Rattle.hz_words.specs.Shape.{words_in}
+use Rattle.hz_words.specs.Shape.{pair_in, words_in}
 use Rattle.hz_words.proofs.OperandLemmas.{no_fault, no_operands, nothing_found, operands_found, value_found, zipped}
 use Rattle.hz_words.proofs.operands.two_operands.Goals as goal
 
@@ -14,5 +14,5 @@ returns c =
     let f = c.in_ok-matches.ensures in
     let first = c.get_str.ensures ∙ value_found _ _ _ _ is f _ c.in-Some.is refl _ in
     let second = c.get_str-2.ensures ∙ value_found _ _ _ _ is f _ c.in-Some.is refl _ in
-    ap (option_map (λ p. (p.0.now, p.1.now))) c.zip.ensures ∙ zipped (λ w. w.now) (λ w. w.now) c.get_str.result c.get_str-2.result ∙ ap₂ option_zip first second
+    ap (option_map pair_in) c.zip.ensures ∙ zipped (λ w. w.now) (λ w. w.now) c.get_str.result c.get_str-2.result ∙ ap₂ option_zip first second
     ∙ operands_found c.args.name.now (words_in c.args.words.now) c.requires (no_fault _ _ _ _ is f _ c.in-Some.is refl)

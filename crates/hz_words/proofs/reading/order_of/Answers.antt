@@ -1,33 +1,32 @@
 use Rattle.std.proofs.Common.{refl, codes}
-use Rattle.std.specs.Option.{option_map}
-use Rattle.hz_words.specs.Operands.{operand_of, operands_of}
+use Rattle.hz_words.specs.Operands.{with_one, with_two}
 use Rattle.hz_words.proofs.OrderLemmas.{known, unknown}
 use Rattle.hz_words_model.specs.Words as model
 use Rattle.hz_words.proofs.reading.order_of.Goals as goal
 
 pub returns-then-eq : goal.returns-then-eq
 returns-then-eq c =
-    known c.args.words.now _ _ c.in-Some.ensures.value c.as_str-command.ensures.value c.if-has_option.ensures (codes "compile") (λ v. option_map model.compile (operand_of v))
+    known c.args.words.now _ _ c.in-Some.ensures.value c.as_str-command.ensures.value c.if-has_option.ensures (codes "compile") (with_one model.compile)
     (record { none = refl; one = λ a. refl; two = λ a b. refl; more = λ a b d rest. refl }) c.if-eq.ensures c.compile_order.result c.compile_order.ensures
 
 pub returns-then-eq-2 : goal.returns-then-eq-2
 returns-then-eq-2 c =
-    known c.args.words.now _ _ c.in-Some.ensures.value c.as_str-command.ensures.value c.if-has_option.ensures (codes "replay") (λ v. option_map (λ p. model.replay p.0 p.1) (operands_of v))
+    known c.args.words.now _ _ c.in-Some.ensures.value c.as_str-command.ensures.value c.if-has_option.ensures (codes "replay") (with_two model.replay)
     (record { none = refl; one = λ a. refl; two = λ a b. refl; more = λ a b d rest. refl }) c.if-eq-2.ensures c.replay_order.result c.replay_order.ensures
 
 pub returns-then-eq-3 : goal.returns-then-eq-3
 returns-then-eq-3 c =
-    known c.args.words.now _ _ c.in-Some.ensures.value c.as_str-command.ensures.value c.if-has_option.ensures (codes "walk") (λ v. option_map (λ p. model.walk p.0 p.1) (operands_of v))
+    known c.args.words.now _ _ c.in-Some.ensures.value c.as_str-command.ensures.value c.if-has_option.ensures (codes "walk") (with_two model.walk)
     (record { none = refl; one = λ a. refl; two = λ a b. refl; more = λ a b d rest. refl }) c.if-eq-3.ensures c.walk_order.result c.walk_order.ensures
 
 pub returns-then-eq-4 : goal.returns-then-eq-4
 returns-then-eq-4 c =
-    known c.args.words.now _ _ c.in-Some.ensures.value c.as_str-command.ensures.value c.if-has_option.ensures (codes "schedule") (λ v. option_map (λ p. model.schedule p.0 p.1) (operands_of v))
+    known c.args.words.now _ _ c.in-Some.ensures.value c.as_str-command.ensures.value c.if-has_option.ensures (codes "schedule") (with_two model.schedule)
     (record { none = refl; one = λ a. refl; two = λ a b. refl; more = λ a b d rest. refl }) c.if-eq-4.ensures c.schedule_order.result c.schedule_order.ensures
 
 pub returns-then-eq-5 : goal.returns-then-eq-5
 returns-then-eq-5 c =
-    known c.args.words.now _ _ c.in-Some.ensures.value c.as_str-command.ensures.value c.if-has_option.ensures (codes "eval") (λ v. option_map (λ p. model.eval p.0 p.1) (operands_of v))
+    known c.args.words.now _ _ c.in-Some.ensures.value c.as_str-command.ensures.value c.if-has_option.ensures (codes "eval") (with_two model.eval)
     (record { none = refl; one = λ a. refl; two = λ a b. refl; more = λ a b d rest. refl }) c.if-eq-5.ensures c.eval_order.result c.eval_order.ensures
 
 pub returns : goal.returns
