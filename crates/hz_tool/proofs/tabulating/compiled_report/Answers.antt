@@ -3,7 +3,7 @@ use Rattle.hz_tool.proofs.TablesLemmas.{tables_told}
 use Rattle.hz_tool.proofs.tabulating.compiled_report.Goals as goal
 
 pub text_stands-requires : goal.text_stands-requires
-text_stands-requires c = compiled_is_sayable c.args.compiled c.args.checked c.requires.compiled c.requires.options
+text_stands-requires c = record { sayable = compiled_is_sayable c.args.compiled c.args.checked c.requires.compiled c.requires.options }
 
 pub returns-clause-kind : goal.returns-clause-kind
 returns-clause-kind c = compiled_is_sayable c.args.compiled c.args.checked c.requires.compiled c.requires.options
