@@ -223,7 +223,7 @@ expect 2 'fault code line 2 UnknownCode' eval code s
 expect 2 'fault b line 1 BadShape' eval b b
 expect 3 'limit long bytes' eval b long
 expect 6 'file missing could not be read' eval b missing
-expect_memory 4096 eval longest s
+expect_memory 8192 eval longest longest
 expect_sink eval b s
 
 # words
