@@ -1,7 +1,7 @@
 #!/bin/sh
-# Times compiling whole descriptions, by `hz replay` of an empty trace: of delays, whose states double with each class; of
-# choices under `ndfa`, whose members nearly treble with each unit; and of 60 classes over 8,192 grids and 2,305 sets. The
-# least of five runs each, with the greatest memory.
+# Times `hz compile` on whole descriptions: of delays, whose states double with each class; of choices under `ndfa`, whose members
+# nearly treble with each unit; and of 60 classes over 8,192 grids and 2,305 sets. The least of five runs each, with the greatest
+# memory.
 hz=$1
 . "$(dirname "$0")/../common.sh"
 
@@ -43,9 +43,9 @@ for kind in delays members wide; do
         members) choices "$number" $((number - 2)) 0 > "$text" ;;
         wide) choices "$number" 8 51 > "$text" ;;
         esac
-        "$hz" replay "$text" "$data/empty" | grep -q '^accepted' || { echo "$text is not compiled"; exit 1; }
-        time=$(least "$hz" replay "$text" "$data/empty")
-        peak=$(/usr/bin/time -f %M "$hz" replay "$text" "$data/empty" 2>&1 > /dev/null | tail -n 1)
+        "$hz" compile "$text" > "$data/compiled" || { echo "$text is not compiled"; exit 1; }
+        time=$(least "$hz" compile "$text")
+        peak=$(/usr/bin/time -f %M "$hz" compile "$text" 2>&1 > /dev/null | tail -n 1)
         echo "$kind $number $(awk -v t="$time" 'BEGIN { printf "%.0f", t / 1000000 }') $(doubling "$time" "$before") $peak"
         before=$time
     done
