@@ -4,7 +4,7 @@ use Rattle.std.specs.Option.{option_map}
 use Rattle.std.specs.List.{sum_by}
 use Rattle.hz_base_model.specs.Pairs.{Pair}
 use Rattle.hz_reach_model.specs.Built.{grid_at}
-use Rattle.hz_tables.specs.Rows.{KeepsRows}
+use Rattle.hz_plain.specs.Rows.{KeepsRows}
 use Rattle.hz_grid.specs.Grids.{IsGrid}
 use Rattle.hz_grid.specs.Orders.{grid_cmp}
 use Rattle.hz_determ.specs.declared.build.Explored.{Explored}

@@ -3,7 +3,7 @@ use Rattle.std.proofs.Common.{◌≡◌, ℕ, ◌<◌, ◌≤◌, Some, None, le
 use Rattle.std.proofs.lemmas.Bool.{cases_lt}
 use Rattle.std.proofs.lemmas.List.{get_or_past}
 use Rattle.hz_tables_model.specs.Tables.{row_of, IsTable}
-use Rattle.hz_tables.specs.Rows.{Rows, KeepsRows}
+use Rattle.hz_plain.specs.Rows.{Rows, KeepsRows}
 use Rattle.hz_minim.specs.Examples.{AreRows}
 
 none_some : (next : ℕ) → None ≡ Some next → ⊥

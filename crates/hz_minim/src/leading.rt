@@ -4,7 +4,7 @@ ghost use Rattle.std.specs.Prelude.{◌≡◌, ◌+◌, ◌<◌, ◌≤◌, All,
 ghost use Rattle.hz_tables_model.specs.StateLimits.{state_limit};
 ghost use Rattle.hz_minim.specs.Leading.{HasFirst, IsLed};
 
-use hz_tables::NoMemory;
+use hz_plain::NoMemory;
 use std::alloc::Global;
 
 // A number above all blocks.

@@ -12,8 +12,8 @@ mod settling;
 
 use folding::fold;
 use hz_refine::refine;
-pub use hz_tables::NoMemory;
-use hz_tables::Plain;
+pub use hz_plain::NoMemory;
+use hz_plain::Plain;
 use leading::leaders_of;
 use settling::settle;
 use std::alloc::Global;

@@ -4,7 +4,7 @@ ghost use Rattle.std.specs.Prelude.{◌≡◌, ◌+◌, ◌<◌, ◌≤◌, Matc
 ghost use Rattle.hz_tables_model.specs.Tables.{IsTable};
 ghost use Rattle.hz_minim.specs.Leading.{leader_of, led_entry, IsCoarse, Strays, Follows, AllFollow, IsSettled, IsPartedTo, IsParted};
 
-use hz_tables::{NoMemory, Plain};
+use hz_plain::{NoMemory, Plain};
 use std::alloc::Global;
 
 /// The leader to which a column leads from a state, and none where the table has none.

@@ -3,11 +3,11 @@
 ghost use Rattle.std.specs.Prelude.{◌<◌, length};
 ghost use Rattle.std.specs.Bool.{OnTrue};
 ghost use Rattle.hz_tables_model.specs.Tables.{IsTable};
-ghost use Rattle.hz_tables.specs.Rows.{AreStates};
+ghost use Rattle.hz_plain.specs.Rows.{AreStates};
 ghost use Rattle.hz_minim.specs.Examples.{IsRow};
 
 use super::{NoMemory, minimise};
-use hz_tables::Plain;
+use hz_plain::Plain;
 use std::alloc::Global;
 use std::process::Abort;
 use std::test::Fail;

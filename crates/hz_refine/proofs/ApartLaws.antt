@@ -5,7 +5,7 @@ use Rattle.std.proofs.lemmas.List.Elements.{All-from_get_or}
 use Rattle.hz_tables_model.specs.Tables.{Table, entry, IsTable}
 use Rattle.hz_tables_model.specs.Apart.{Apart}
 use Rattle.hz_minim_model.specs.Blocks.{KeepsApart, block_of}
-use Rattle.hz_tables.specs.Rows.{Rows}
+use Rattle.hz_plain.specs.Rows.{Rows}
 use Rattle.hz_refine.specs.declared.arrows.Arrow.{Arrow}
 use Rattle.hz_refine.specs.Arrows.{AreArrows, arrow_from}
 use Rattle.hz_refine.specs.Buckets.{AreBuckets}

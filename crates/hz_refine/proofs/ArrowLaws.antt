@@ -3,7 +3,7 @@ use Rattle.std.proofs.Common.{◌≡◌, ◌≢◌, ℕ, ◌+◌, ◌<◌, ◌�
 use Rattle.std.proofs.lemmas.Bool.{cases_eq}
 use Rattle.hz_base_model.proofs.Elements.{Contains-nil}
 use Rattle.hz_tables_model.specs.Tables.{Table, entry, IsTable}
-use Rattle.hz_tables.specs.Rows.{Rows}
+use Rattle.hz_plain.specs.Rows.{Rows}
 use Rattle.hz_refine.specs.declared.arrows.Arrow.{Arrow}
 use Rattle.hz_refine.specs.Lists.{list_at, added}
 use Rattle.hz_refine.specs.Arrows.{arrow_from, AreArrows, AreWithin, HasRead}

@@ -4,7 +4,7 @@ use Rattle.std.proofs.lemmas.Bool.{cases_lt, false≢true}
 use Rattle.std.proofs.lemmas.List.{get_or_past}
 use Rattle.std.proofs.lemmas.List.Elements.{All-get_or, All-from_get_or}
 use Rattle.hz_tables_model.specs.Tables.{Table, row_of, entry, IsTable}
-use Rattle.hz_tables.specs.Rows.{AreStates, IsState}
+use Rattle.hz_plain.specs.Rows.{AreStates, IsState}
 use Rattle.hz_refine.specs.Examples.{IsRow}
 
 -- all entries that are there are seen to be states

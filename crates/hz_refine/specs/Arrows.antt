@@ -3,7 +3,7 @@ use Rattle.std.specs.Prelude.{◌≡◌, ℕ, ◌<◌, List, Some, length}
 use Rattle.std.specs.List.{Contains}
 use Rattle.hz_tables_model.specs.Tables.{Table, entry}
 use Rattle.hz_tables_model.specs.Orders.{IsReadBefore}
-use Rattle.hz_tables.specs.Rows.{Rows}
+use Rattle.hz_plain.specs.Rows.{Rows}
 use Rattle.hz_refine.specs.declared.arrows.Arrow.{Arrow}
 use Rattle.hz_refine.specs.Lists.{list_at}
 

@@ -6,7 +6,7 @@ ghost use Rattle.hz_refine.specs.Lists.{lists_of};
 ghost use Rattle.hz_refine.specs.Arrows.{AreArrows, HasRead};
 
 use crate::lists::{add, roomy_lists};
-use hz_tables::{NoMemory, Plain};
+use hz_plain::{NoMemory, Plain};
 use std::alloc::Global;
 
 /// An entry that isn't none: its column, and the state that has it.

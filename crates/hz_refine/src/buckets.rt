@@ -10,7 +10,7 @@ ghost use Rattle.hz_refine.specs.Moves.{IsListed};
 use crate::arrows::Arrow;
 use crate::lists::{add, at, clear_all};
 use crate::partition::Partition;
-use hz_tables::NoMemory;
+use hz_plain::NoMemory;
 
 // Adds the source of each arrow to the bucket of its column.
 fn add_arrows(buckets: &mut Vec<Vec<u32>>, arrows: &[Arrow]) -> Result<(), NoMemory>

@@ -18,8 +18,8 @@ use crate::lists::empty_lists;
 use crate::marks::Marks;
 use crate::partition::Partition;
 use crate::splitting::turn;
-pub use hz_tables::NoMemory;
-use hz_tables::Plain;
+pub use hz_plain::NoMemory;
+use hz_plain::Plain;
 use std::alloc::Global;
 
 /// The block of each state. States of different blocks are apart; that states of one block are alike is not promised,

@@ -3,7 +3,7 @@
 ghost use Rattle.std.specs.Prelude.{◌≡◌, ◌<◌, ◌≤◌, ℕ, [], IfOk, OnOk, length, vec_len};
 ghost use Rattle.hz_refine.specs.Lists.{lists_of, list_at, added};
 
-use hz_tables::NoMemory;
+use hz_plain::NoMemory;
 use std::alloc::Global;
 
 /// Adds empty lists behind the others, until there are so many.

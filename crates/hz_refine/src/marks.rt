@@ -5,7 +5,7 @@ ghost use Rattle.std.specs.Prelude.{◌≡◌, ◌<◌, ◌≤◌, ℕ, IfOk, On
 ghost use Rattle.std.specs.List.{Contains};
 ghost use Rattle.hz_minim_model.specs.Blocks.{block_limit};
 
-use hz_tables::NoMemory;
+use hz_plain::NoMemory;
 use std::alloc::Global;
 
 // Numbers of blocks are below this.

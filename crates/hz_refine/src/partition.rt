@@ -8,7 +8,7 @@ ghost use Rattle.hz_refine.specs.Moves.{IsListed, IsMoved, goes_to};
 
 use crate::lists::add;
 use crate::marks::Mark;
-use hz_tables::NoMemory;
+use hz_plain::NoMemory;
 use std::alloc::Global;
 
 /// The states in blocks.

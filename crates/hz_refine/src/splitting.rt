@@ -3,7 +3,7 @@
 ghost use Rattle.std.specs.Prelude.{◌≡◌, ℕ, OnOk, length, vec_len};
 ghost use Rattle.hz_tables_model.specs.Tables.{IsTable};
 ghost use Rattle.hz_minim_model.specs.Blocks.{KeepsApart};
-ghost use Rattle.hz_tables.specs.Rows.{Rows};
+ghost use Rattle.hz_plain.specs.Rows.{Rows};
 ghost use Rattle.hz_refine.specs.Arrows.{AreArrows, AreWithin};
 ghost use Rattle.hz_refine.specs.Kept.{AreBelow, IsKept, StayApart, StaysApart};
 ghost use Rattle.hz_refine.specs.Lists.{lists_of, list_at};
@@ -13,7 +13,7 @@ use crate::buckets::fill;
 use crate::lists::grow;
 use crate::marks::Marks;
 use crate::partition::Partition;
-use hz_tables::NoMemory;
+use hz_plain::NoMemory;
 use std::alloc::Global;
 
 // Splits each block that has some of these states, and not these alone.

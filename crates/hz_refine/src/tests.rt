@@ -4,7 +4,7 @@ ghost use Rattle.hz_tables_model.specs.Tables.{IsTable};
 ghost use Rattle.hz_refine.specs.Examples.{IsRow};
 
 use crate::{NoMemory, refine};
-use hz_tables::Plain;
+use hz_plain::Plain;
 use std::alloc::Global;
 use std::process::Abort;
 use std::test::Fail;

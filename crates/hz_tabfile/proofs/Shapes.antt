@@ -3,7 +3,7 @@ use Rattle.std.proofs.Common.{ℕ, ◌≤◌, List, [], ◌∷◌, Option, Some,
 use Rattle.std.specs.List.{AllByRecursion}
 use Rattle.std.proofs.lemmas.List.Elements.{All-from_recursion}
 use Rattle.hz_tables_model.specs.StateLimits.{state_limit}
-use Rattle.hz_tables.specs.Rows.{IsState, AreStates}
+use Rattle.hz_plain.specs.Rows.{IsState, AreStates}
 use Rattle.hz_tabtext_model.specs.Texts.{IsEntry}
 
 entry_is_state : (states : ℕ) → states ≤ state_limit → (entry : Option ℕ) → IsEntry states entry → IsState entry

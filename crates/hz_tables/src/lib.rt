@@ -3,14 +3,11 @@
 
 mod machine;
 mod part;
-mod plain;
-mod steps;
 mod table;
 
 pub use machine::Machine;
 pub use part::Part;
-pub use plain::{NoMemory, Plain};
-pub use steps::Steps;
+pub use hz_plain::{NoMemory, Plain, Steps};
 pub use table::Table;
 
 #[cfg(test)]

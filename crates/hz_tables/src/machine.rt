@@ -7,7 +7,7 @@ ghost use Rattle.hz_tables_model.specs.Machines.{IsMachine};
 ghost use Rattle.hz_tables.specs.Parts.{part_of};
 
 use crate::part::Part;
-use crate::steps::Steps;
+use hz_plain::Steps;
 use hz_regexp::Name;
 use std::sync::ledger::Ledger;
 

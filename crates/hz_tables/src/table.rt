@@ -3,8 +3,8 @@
 ghost use Rattle.std.specs.Prelude.{◌≡◌, ◌+◌, ◌<◌, ◌≤◌, length};
 ghost use Rattle.hz_tables_model.specs.Tables.{entry};
 
-use crate::plain::Plain;
-use crate::steps::Steps;
+use hz_plain::Plain;
+use hz_plain::Steps;
 use std::sync::ledger::Ledger;
 
 /// A table of states. What it means is its rows, in whichever form they are kept.

@@ -1,7 +1,7 @@
 ghost use Rattle.std.specs.Prelude.{◌≡◌, ◌<◌, IfOk};
 ghost use Rattle.hz_tables_model.specs.Machines.{IsPart};
 ghost use Rattle.hz_tables.specs.Parts.{part_of};
-ghost use Rattle.hz_tables.specs.Examples.{shared};
+ghost use Rattle.hz_plain.specs.Examples.{shared};
 
 use crate::{Machine, NoMemory, Part, Plain, Steps, Table};
 use hz_regexp::Name;
@@ -19,22 +19,6 @@ fn shared(alloc: Global) -> Result<Plain, NoMemory>
     plain.push_row(&[Some(1), Some(0)])?;
     plain.push_row(&[None, Some(0)])?;
     Ok(plain)
-}
-
-#[test]
-fn tables_step_by_rows(rt: HostRuntime) -> Result<(), Fail> {
-    let plain = shared(rt.alloc())?;
-    assert!(rt; plain.states() == 2 && plain.columns() == 1);
-    for (state, column, next) in [
-        (0, 0, Some(1)),
-        (0, 1, Some(0)),
-        (1, 0, None),
-        (1, 1, Some(0)),
-    ] {
-        assert!(rt; state < plain.states() && column <= plain.columns());
-        assert!(rt; plain.step(state, column) == next);
-    }
-    Ok(())
 }
 
 // The machine of that unit alone.

@@ -1,8 +1,8 @@
 use Rattle.std.proofs.Common.{◌+◌, ◌*◌, ◌<◌, ◌≤◌, length, sym, ◌∙◌, arith, None}
 use Rattle.std.proofs.lemmas.List.{get_or_default}
-use Rattle.hz_tables.specs.Stored.{rows_in}
-use Rattle.hz_tables.proofs.RowLaws.{length-rows_in, entry-rows_in, place_below}
-use Rattle.hz_tables.proofs.plain.Plain.step.Goals as goal
+use Rattle.hz_plain.specs.Stored.{rows_in}
+use Rattle.hz_plain.proofs.RowLaws.{length-rows_in, entry-rows_in, place_below}
+use Rattle.hz_plain.proofs.plain.Plain.step.Goals as goal
 
 pub index-requires : goal.index-requires
 index-requires c =

@@ -4,7 +4,7 @@ ghost use Rattle.std.specs.Prelude.{◌≡◌, ◌+◌, ◌*◌, ◌<◌, ◌≤
 ghost use Rattle.hz_base_model.specs.Limits.{class_limit};
 ghost use Rattle.hz_tables_model.specs.StateLimits.{state_limit};
 ghost use Rattle.hz_tables_model.specs.Tables.{entry};
-ghost use Rattle.hz_tables.specs.Rows.{AreStates, KeepsRows};
+ghost use Rattle.hz_plain.specs.Rows.{AreStates, KeepsRows};
 
 /// No memory was left for the answer.
 pub use std::alloc::AllocError as NoMemory;
@@ -22,8 +22,8 @@ pub struct Plain {
 
 impl Model for Plain {
     ghost use Rattle.std.specs.Prelude.{◌+◌};
-    ghost use Rattle.hz_tables.specs.Rows.{Rows};
-    ghost use Rattle.hz_tables.specs.Stored.{rows_in, AreCells};
+    ghost use Rattle.hz_plain.specs.Rows.{Rows};
+    ghost use Rattle.hz_plain.specs.Stored.{rows_in, AreCells};
 
     ghost Value = { Rows };
 

@@ -3,7 +3,7 @@ use Rattle.std.specs.Prelude.{◌≡◌, ℕ, zero, suc, ◌+◌, ◌*◌, ◌�
 use Rattle.hz_base_model.specs.Limits.{class_limit}
 use Rattle.hz_tables_model.specs.StateLimits.{state_limit}
 use Rattle.hz_tables_model.specs.Tables.{Table}
-use Rattle.hz_tables.specs.Rows.{AreStates}
+use Rattle.hz_plain.specs.Rows.{AreStates}
 
 -- so many rows of one width
 abbrev pub rows_in : ℕ → ℕ → List (Option ℕ) → Table

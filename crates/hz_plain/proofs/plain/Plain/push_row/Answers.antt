@@ -1,7 +1,7 @@
 use Rattle.std.proofs.Common.{◌≡◌, ◌+◌, ◌<◌, length, subst, sym}
-use Rattle.hz_tables.specs.Stored.{rows_in, AreCells}
-use Rattle.hz_tables.proofs.RowLaws.{keeps_rows, cells_pushed, rows_pushed}
-use Rattle.hz_tables.proofs.plain.Plain.push_row.Goals as goal
+use Rattle.hz_plain.specs.Stored.{rows_in, AreCells}
+use Rattle.hz_plain.proofs.RowLaws.{keeps_rows, cells_pushed, rows_pushed}
+use Rattle.hz_plain.proofs.plain.Plain.push_row.Goals as goal
 
 pub returns-in_err-extend_from_slice-clause-kept : goal.returns-in_err-extend_from_slice-clause-kept
 returns-in_err-extend_from_slice-clause-kept c =

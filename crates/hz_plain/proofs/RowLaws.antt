@@ -4,8 +4,8 @@ use Rattle.std.proofs.lemmas.List.{length-append, length-drop, length-take-le, g
 use Rattle.std.proofs.lemmas.List.Elements.{All-take, All-drop, All-cons, All-nil, All-append}
 use Rattle.std.proofs.Math.Nat.{mul-le-mul_right}
 use Rattle.hz_tables_model.specs.Tables.{entry}
-use Rattle.hz_tables.specs.Rows.{IsState, AreStates, KeepsRows}
-use Rattle.hz_tables.specs.Stored.{rows_in, AreCells}
+use Rattle.hz_plain.specs.Rows.{IsState, AreStates, KeepsRows}
+use Rattle.hz_plain.specs.Stored.{rows_in, AreCells}
 
 pub length-rows_in : (width states : ℕ) (cells : List (Option ℕ)) → length (rows_in width states cells) ≡ states
 length-rows_in width zero cells = refl
