@@ -1,0 +1,4 @@
+pub mod Widths
+pub mod Laying
+pub mod Shape
+pub mod Packing
