@@ -7,3 +7,6 @@ mod packed;
 
 pub use cells::Cells;
 pub use packed::Packed;
+
+#[cfg(test)]
+mod tests;

@@ -1,5 +1,5 @@
 -- What a machine's types are as definitions.
-use Rattle.std.specs.Prelude.{ℕ}
+use Rattle.std.specs.Prelude.{ℕ, ◌<◌, ◌≤◌, ◌^◌, Bool, true, false, length}
 use Rattle.hz_tables_model.specs.Tables.{Table}
 use Rattle.hz_tables_model.specs.Machines as model
 use Rattle.hz_tables.specs.declared.table.Table as kept
@@ -9,10 +9,30 @@ use Rattle.hz_tables.specs.declared.part.Part as declared
 -- the rows of a table, however it is kept
 abbrev pub rows_of : kept.Table → Table
 rows_of (forms.Rows plain) = plain.rows
+rows_of (forms.One packed) = packed.rows
+rows_of (forms.Two packed) = packed.rows
+rows_of (forms.Four packed) = packed.rows
 
 -- how many columns stand before the advance
 abbrev pub columns_of : kept.Table → ℕ
 columns_of (forms.Rows plain) = plain.columns
+columns_of (forms.One packed) = packed.columns
+columns_of (forms.Two packed) = packed.columns
+columns_of (forms.Four packed) = packed.columns
+
+-- a table is packed, over cells of the least of the widths 1, 2 and 4 that have room for the number of its states
+abbrev pub IsLeastWidth : kept.Table → Type 0
+IsLeastWidth (forms.Rows plain) = ⊥
+IsLeastWidth (forms.One packed) = length packed.rows < 256
+IsLeastWidth (forms.Two packed) = (256 ≤ length packed.rows) × (length packed.rows < 65536)
+IsLeastWidth (forms.Four packed) = 65536 ≤ length packed.rows
+
+-- a table is kept as plain rows
+abbrev pub IsPlain : kept.Table → Type 0
+IsPlain (forms.Rows plain) = Unit {0}
+IsPlain (forms.One packed) = ⊥
+IsPlain (forms.Two packed) = ⊥
+IsPlain (forms.Four packed) = ⊥
 
 -- a part as a definition
 abbrev pub part_of : declared.Part → model.Part

@@ -7,6 +7,7 @@ mod table;
 
 pub use machine::Machine;
 pub use part::Part;
+pub use hz_comb::{Cells, Packed};
 pub use hz_plain::{NoMemory, Plain, Steps};
 pub use table::Table;
 
