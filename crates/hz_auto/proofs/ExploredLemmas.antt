@@ -22,7 +22,6 @@ use Rattle.hz_unitsets.specs.declared.set_rules.SetRule.{SetRule}
 use Rattle.hz_unitsets.specs.SetRules.{statements_of}
 use Rattle.hz_tables_model.specs.Machines.{Part, IsPart}
 use Rattle.hz_tables_model.specs.StateLimits.{member_limit, grid_limit}
-use Rattle.hz_tables.specs.Parts.{part_of}
 use Rattle.hz_determ.specs.declared.build.Caps.{Caps}
 use Rattle.hz_determ.specs.declared.build.Explored.{Explored}
 use Rattle.hz_determ.specs.Explored.{IsCaps, IsBuilt, AreWithin, PassesCap}
@@ -31,9 +30,9 @@ use Rattle.hz_states.specs.declared.fault.StateFault.{StateFault}
 use Rattle.hz_auto_model.specs.AutomatonPipelines.{automaton_at, lists_at}
 use Rattle.hz_auto_model.specs.ClassColumns.{IsColumns}
 use Rattle.hz_auto_model.specs.Compiled.{IsCompiledPart}
-use Rattle.hz_auto.specs.declared.part.Automaton.{Automaton}
+use Rattle.hz_auto.specs.declared.part.Found.{Found}
 use Rattle.hz_auto.specs.declared.report.Shown.{Shown}
-use Rattle.hz_auto.specs.Parts.{IsCapped, IsPastAt, IsWhole, shows}
+use Rattle.hz_auto.specs.Parts.{IsCapped, IsPastAt, IsWhole, found_part_of, shows}
 use Rattle.hz_auto.specs.Reports.{AreArranged, IsShownOf, report_of, shown_of}
 use Rattle.hz_auto.proofs.CheckedFacts.{automaton_there, lists_count, few_classes}
 use Rattle.hz_auto.proofs.ColumnLemmas.{few_columns}
@@ -103,7 +102,7 @@ module _ (checked : Checked) (a : ℕ) (low : a < length checked.automata.items)
         subst (All (λ number. number < length explored.grids.items)) (get_or-map (λ (set : Vec ℕ Global). set.items) explored.sets.items k e [] below)
         (built.within k (omega (arith, below, length-map explored.sets.items (λ set. set.items))))
 
-    module _ (capped : IsCapped (shows checked.options) caps) (name : List ℕ) (all : Automaton) (whole : IsWhole name (shows checked.options) maps explored all) where
+    module _ (capped : IsCapped (shows checked.options) caps) (name : List ℕ) (all : Found) (whole : IsWhole name (shows checked.options) maps explored all) where
       -- the table has as many columns
       columns_same : explored.plain.columns ≡ length columns
       columns_same =
@@ -112,23 +111,23 @@ module _ (checked : Checked) (a : ℕ) (low : a < length checked.automata.items)
           let other = ((whole.told).kept).width 0 [] start in
           omega (arith, one, other)
 
-      is_part : named_part (part_of all.part).name ≡ part_of all.part
-      is_part = same_part (named_part (part_of all.part).name) (part_of all.part) refl (sym whole.mapped) (sym (whole.columns ∙ columns_same)) (sym whole.rows)
+      is_part : named_part (found_part_of all).name ≡ found_part_of all
+      is_part = same_part (named_part (found_part_of all).name) (found_part_of all) refl (sym whole.mapped) (sym (whole.columns ∙ columns_same)) (sym whole.rows)
 
-      pub kept : IsPart (length checked.classes.items) (part_of all.part)
-      kept = subst (λ n. IsPart n (part_of all.part)) (length-map checked.classes.items class_of)
+      pub kept : IsPart (length checked.classes.items) (found_part_of all)
+      kept = subst (λ n. IsPart n (found_part_of all)) (length-map checked.classes.items class_of)
           (subst (IsPart (length classes)) is_part
-          (part_kept options automata classes a rules asked (lists_of columns) (named_part (part_of all.part).name) is number explored.grids.items sets explored.parents.items built caps is_caps.cells within))
+          (part_kept options automata classes a rules asked (lists_of columns) (named_part (found_part_of all).name) is number explored.grids.items sets explored.parents.items built caps is_caps.cells within))
 
       shown_told : (b : Bool) (o : Option Shown) → MatchBool b (IsSomeAnd o (IsShownOf explored)) (o ≡ None) → MatchBool b (IsSomeAnd (option_map shown_of o) (λ s. (s.parents ≡ explored.parents.items) × AreArranged explored.grids.items sets s.states)) (option_map shown_of o ≡ None)
       shown_told false o h = ap (option_map shown_of) h
       shown_told true None h = h
       shown_told true (Some shown) h = (h.parents, h.states)
 
-      pub whole_compiled : name ≡ (automaton_at automata a).name → IsCompiledPart true options automata classes a (part_of all.part) (report_of all.report)
+      pub whole_compiled : name ≡ (automaton_at automata a).name → IsCompiledPart true options automata classes a (found_part_of all) (report_of all.report)
       whole_compiled named =
           subst (λ part. IsCompiledPart true options automata classes a part (report_of all.report)) is_part
-          (compiled_part options automata classes a rules asked (lists_of columns) (named_part (part_of all.part).name) is number explored.grids.items sets explored.parents.items built (report_of all.report)
+          (compiled_part options automata classes a rules asked (lists_of columns) (named_part (found_part_of all).name) is number explored.grids.items sets explored.parents.items built (report_of all.report)
           (whole.named ∙ named)
           (whole.told).grids (whole.told).states ((whole.told).members ∙ sum_by_items explored.sets.items)
           (shown_told (shows checked.options) all.report.shown (whole.told).shown)

@@ -1,5 +1,5 @@
 -- One automaton, explored and compiled.
-use Rattle.std.specs.Prelude.{◌≡◌, ℕ, ◌≤◌, Bool, ◌&&◌, List, length}
+use Rattle.std.specs.Prelude.{◌≡◌, ℕ, ◌≤◌, Bool, true, false, ◌&&◌, List, length}
 use Rattle.hz_mdread.specs.declared.options.Options.{Options}
 use Rattle.hz_mdread_model.specs.Descriptions as model
 use Rattle.hz_check_model.specs.CheckedParts.{AutomatonParts, ClassParts}
@@ -7,7 +7,6 @@ use Rattle.hz_reach_model.specs.Counts.{Count}
 use Rattle.hz_reach_model.specs.Counts as count
 use Rattle.hz_states.specs.declared.fault.StateFault.{StateFault}
 use Rattle.hz_states.specs.declared.fault.StateFault.TheVariants.{GridLimit, SetLimit, MemberLimit, CellLimit, NoMemory}
-use Rattle.hz_tables.specs.Parts.{part_of}
 use Rattle.hz_tables_model.specs.Machines.{Part}
 use Rattle.hz_determ.specs.declared.build.Caps.{Caps}
 use Rattle.hz_determ.specs.declared.build.Explored.{Explored}
@@ -16,7 +15,9 @@ use Rattle.hz_auto_model.specs.Compiled.{shows_states}
 use Rattle.hz_auto_model.specs.CompiledParts.{cap_of, IsPastLimit}
 use Rattle.hz_tables_model.specs.Apart.{WalkTheSame}
 use Rattle.hz_minim_model.specs.Normal.{IsNormal}
-use Rattle.hz_auto.specs.declared.part.Automaton.{Automaton}
+use Rattle.hz_tables.specs.declared.table.Table.{Table}
+use Rattle.hz_tables.specs.Parts.{IsPlain, IsLeastWidth}
+use Rattle.hz_auto.specs.declared.part.Found.{Found}
 use Rattle.hz_auto.specs.Reports.{IsReportOf}
 
 -- whether what each state is is to be shown
@@ -38,13 +39,22 @@ IsPastAt options automata classes a MemberLimit = IsPastLimit (shows_states opti
 IsPastAt options automata classes a CellLimit = IsPastLimit (shows_states options) (lists_at classes a) (automaton_pipeline options automata classes a) count.cells
 IsPastAt options automata classes a NoMemory = Unit {0}
 
--- the part of an explored automaton, with this name and map, and what is told of it
-pub record IsWhole (name : List ℕ) (shown : Bool) (maps : List ℕ) (explored : Explored) (all : Automaton) : Type 0 where
-  pub named : (part_of all.part).name ≡ name
-  pub mapped : (part_of all.part).map ≡ maps
-  pub columns : (part_of all.part).columns ≡ explored.plain.columns
-  pub rows : (part_of all.part).rows ≡ explored.plain.rows
-  pub told : IsReportOf shown explored all.report
+-- a part whose table is plain rows, as a definition
+abbrev pub found_part_of : Found → Part
+found_part_of found = record { name = found.name; map = found.map.items; columns = found.plain.columns; rows = found.plain.rows }
+
+-- A table is kept as the options ask: as plain rows under `no-comb-vect`, else packed over cells of the least width.
+abbrev pub IsKept : Bool → Table → Type 0
+IsKept true table = IsPlain table
+IsKept false table = IsLeastWidth table
+
+-- an explored automaton, with this name and map, and what is told of it
+pub record IsWhole (name : List ℕ) (shown : Bool) (maps : List ℕ) (explored : Explored) (found : Found) : Type 0 where
+  pub named : (found_part_of found).name ≡ name
+  pub mapped : (found_part_of found).map ≡ maps
+  pub columns : (found_part_of found).columns ≡ explored.plain.columns
+  pub rows : (found_part_of found).rows ≡ explored.plain.rows
+  pub told : IsReportOf shown explored found.report
 
 -- the least part that walks what a part walks, of which the same is told
 pub record IsLeast (part : Part) (least : Part) : Type 0 where

@@ -7,6 +7,7 @@ ghost use Rattle.hz_mdread.specs.Shape.{options as options_of};
 ghost use Rattle.hz_tables_model.specs.Machines.{IsPart};
 ghost use Rattle.hz_tables.specs.Machines.{machine_of};
 ghost use Rattle.hz_tables.specs.Parts.{part_of};
+ghost use Rattle.hz_auto.specs.Parts.{IsKept};
 ghost use Rattle.hz_auto.specs.Machines.{IsFaultOf, IsFaultAt, AreCompiled, reports_of};
 
 use crate::fault::{AutoFault, kind_of};
@@ -77,6 +78,7 @@ impl Automata {
 fn compile_parts(alloc: Global, checked: &Checked) -> Result<Automata, AutoFault>
     ensures compiled { IfOk result (λ all. AreCompiled checked.now (length checked.now.automata.items) all.parts.items all.reports.items) }
     ensures kept { IfOk result (λ all. All (λ part. IsPart (length checked.now.classes.items) (part_of part)) all.parts.items) }
+    ensures forms { IfOk result (λ all. All (λ part. IsKept checked.now.options.no_comb_vect part.table) all.parts.items) }
     ensures fault { IfErr result (IsFaultOf checked.now) }
 {
     let mut all = Automata {
@@ -100,7 +102,8 @@ fn compile_parts(alloc: Global, checked: &Checked) -> Result<Automata, AutoFault
 fn machine_on(alloc: Global, checked: &Checked, parts: Vec<Part>) -> Result<Machine, NoMemory>
     requires each { length parts.items ≡ length checked.now.automata.items }
     requires kept { All (λ part. IsPart (length checked.now.classes.items) (part_of part)) parts.items }
-    ensures { IfOk result (λ machine. machine_of machine ≡ record { classes = map (λ c. c.name) checked.now.classes.items; parts = map part_of parts.items }) }
+    ensures machine { IfOk result (λ machine. machine_of machine ≡ record { classes = map (λ c. c.name) checked.now.classes.items; parts = map part_of parts.items }) }
+    ensures parts { IfOk result (λ machine. machine.parts.items ≡ parts.items) }
 {
     let classes = names_of(alloc, &checked.classes)?;
     Ok(Machine { classes, parts })
@@ -109,11 +112,12 @@ fn machine_on(alloc: Global, checked: &Checked, parts: Vec<Part>) -> Result<Mach
 /// The machine of a checked description: for each automaton, in their order, a part that walks just what the automaton
 /// accepts, and the counts of its grids, states and members before minimisation. Classes with equal lists share a column,
 /// numbered by the first class of each. States are apart from one another, or with `no-minimization` what accepted events
-/// leave, and numbered breadth-first. `Limit` exactly where some automaton has a count above its limit; it tells the first
+/// leave, and numbered breadth-first. Tables are packed over cells of the least width, or under `no-comb-vect` kept as rows. `Limit` exactly where some automaton has a count above its limit; it tells the first
 /// such automaton. docs/RULES.md, 'States and tables'.
 pub fn compile(alloc: Global, checked: &Checked) -> Result<Compiled, AutoFault>
     ensures compiled { IfOk result (λ all. IsCompiled (options_of checked.now.options) (map automaton_of checked.now.automata.items) (map class_of checked.now.classes.items) (machine_of all.machine) (reports_of all.reports.items)) }
     ensures options { IfOk result (λ all. all.options ≡ checked.now.options) }
+    ensures forms { IfOk result (λ all. All (λ part. IsKept checked.now.options.no_comb_vect part.table) all.machine.parts.items) }
     ensures fault { IfErr result (IsFaultOf checked.now) }
 {
     let Automata { parts, reports } = match compile_parts(alloc, checked) {

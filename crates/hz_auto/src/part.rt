@@ -7,13 +7,13 @@ ghost use Rattle.hz_base_model.specs.Limits.{class_limit};
 ghost use Rattle.hz_tables_model.specs.Machines.{IsPart};
 ghost use Rattle.hz_tables_model.specs.Tables.{IsTable};
 ghost use Rattle.hz_tables_model.specs.StateLimits.{grid_limit, member_limit};
-ghost use Rattle.hz_tables.specs.Parts.{part_of};
+ghost use Rattle.hz_tables.specs.Parts.{part_of, rows_of, columns_of};
 ghost use Rattle.hz_auto_model.specs.Compiled.{IsCompiledPart};
 ghost use Rattle.hz_check.specs.Shape.{automaton_of, class_of};
 ghost use Rattle.hz_mdread.specs.Shape.{options as options_of};
 ghost use Rattle.hz_determ.specs.Explored.{IsCaps, IsBuilt, AreWithin, PassesCap};
 ghost use Rattle.hz_explore.specs.Spaces.{pipeline_of};
-ghost use Rattle.hz_auto.specs.Parts.{IsCapped, IsLeast, IsPastAt, IsWhole, shows};
+ghost use Rattle.hz_auto.specs.Parts.{IsCapped, IsKept, IsLeast, IsPastAt, IsWhole, found_part_of, shows};
 ghost use Rattle.hz_auto.specs.Reports.{report_of};
 
 use crate::columns::{Columns, columns_of};
@@ -24,14 +24,23 @@ use hz_grid::Grid;
 use hz_mdread::Options;
 use hz_minim::minimise;
 use hz_regexp::{Name, NoMemory};
-use hz_tables::{Part, Table};
+use hz_tables::{Part, Plain, Table};
 use hz_unitsets::Rules;
 use std::alloc::Global;
 
-/// The table of an automaton, and what is told of it.
+/// The part of an automaton, and what is told of it.
 #[derive(Drop)]
 pub(crate) struct Automaton {
     pub part: Part,
+    pub report: AutoReport,
+}
+
+/// The same while its table is plain rows.
+#[derive(Drop)]
+pub(crate) struct Found {
+    pub name: Name,
+    pub map: Vec<u32>,
+    pub plain: Plain,
     pub report: AutoReport,
 }
 
@@ -85,14 +94,14 @@ fn explored(
     }
 }
 
-// The part and the report of an automaton that is explored.
+// An automaton that is explored, and its report.
 fn whole(
     alloc: Global,
     name: &Name,
     shown: bool,
     map: Vec<u32>,
     explored: Explored,
-) -> Result<Automaton, NoMemory>
+) -> Result<Found, NoMemory>
     requires members { sum_by (λ set. length set.items) explored.sets.items ≤ member_limit }
     requires numbers { All (λ set. All (λ number. number < length explored.grids.items) set.items) explored.sets.items }
     requires few { length explored.grids.items ≤ grid_limit }
@@ -105,19 +114,19 @@ fn whole(
         sets: _,
         parents: _,
     } = explored;
-    let part = Part {
+    Ok(Found {
         name: name.copy()?,
         map,
-        table: Table::Rows(plain),
-    };
-    Ok(Automaton { part, report })
+        plain,
+        report,
+    })
 }
 
 // The automaton of this number with its states as they were found; else a count of it that is above its limit.
-fn found_part(alloc: Global, checked: &Checked, automaton: usize) -> Result<Automaton, StateFault>
+fn found_part(alloc: Global, checked: &Checked, automaton: usize) -> Result<Found, StateFault>
     requires { automaton < length checked.now.automata.items }
-    ensures compiled { IfOk result (λ all. IsCompiledPart true (options_of checked.now.options) (map automaton_of checked.now.automata.items) (map class_of checked.now.classes.items) automaton (part_of all.part) (report_of all.report)) }
-    ensures kept { IfOk result (λ all. IsPart (length checked.now.classes.items) (part_of all.part)) }
+    ensures compiled { IfOk result (λ all. IsCompiledPart true (options_of checked.now.options) (map automaton_of checked.now.automata.items) (map class_of checked.now.classes.items) automaton (found_part_of all) (report_of all.report)) }
+    ensures kept { IfOk result (λ all. IsPart (length checked.now.classes.items) (found_part_of all)) }
     ensures fault { IfErr result (IsPastAt (options_of checked.now.options) (map automaton_of checked.now.automata.items) (map class_of checked.now.classes.items) automaton) }
 {
     let columns = columns_of(alloc, &checked.classes, automaton)?;
@@ -137,30 +146,64 @@ fn found_part(alloc: Global, checked: &Checked, automaton: usize) -> Result<Auto
     }
 }
 
-// The least part that walks what a part walks.
-fn least_part(alloc: Global, part: Part) -> Result<Part, NoMemory>
-    requires { IsTable (part_of part).rows (part_of part).columns }
-    ensures { IfOk result (λ least. IsLeast (part_of part) (part_of least)) }
+// The automaton with the least table that walks what its table walks.
+fn least(alloc: Global, found: Found) -> Result<Found, NoMemory>
+    requires { IsTable found.plain.rows found.plain.columns }
+    ensures part { IfOk result (λ least. IsLeast (found_part_of found) (found_part_of least)) }
+    ensures report { IfOk result (λ least. report_of least.report ≡ report_of found.report) }
 {
-    let Part { name, map, table } = part;
-    match table {
-        Table::Rows(plain) => {
-            let table = Table::Rows(minimise(alloc, &plain)?);
-            Ok(Part { name, map, table })
-        }
+    let Found {
+        name,
+        map,
+        plain,
+        report,
+    } = found;
+    let plain = minimise(alloc, &plain)?;
+    Ok(Found {
+        name,
+        map,
+        plain,
+        report,
+    })
+}
+
+// The table, kept as the options ask.
+fn table_of(alloc: Global, no_comb_vect: bool, plain: Plain) -> Result<Table, NoMemory>
+    requires { IsTable plain.rows plain.columns }
+    ensures rows { IfOk result (λ table. rows_of table ≡ plain.rows) }
+    ensures columns { IfOk result (λ table. columns_of table ≡ plain.columns) }
+    ensures form { IfOk result (IsKept no_comb_vect) }
+{
+    if no_comb_vect {
+        Ok(Table::Rows(plain))
+    } else {
+        Table::packed(alloc, &plain)
     }
 }
 
-/// The automaton of this number, compiled: minimised unless the options have `no-minimization`. Else a count of it that is
-/// above its limit.
-pub(crate) fn compile_part(
-    alloc: Global,
-    checked: &Checked,
-    automaton: usize,
-) -> Result<Automaton, StateFault>
+// The automaton, its table kept as the options ask.
+fn kept(alloc: Global, no_comb_vect: bool, found: Found) -> Result<Automaton, NoMemory>
+    requires { IsTable found.plain.rows found.plain.columns }
+    ensures part { IfOk result (λ all. part_of all.part ≡ found_part_of found) }
+    ensures report { IfOk result (λ all. report_of all.report ≡ report_of found.report) }
+    ensures form { IfOk result (λ all. IsKept no_comb_vect all.part.table) }
+{
+    let Found {
+        name,
+        map,
+        plain,
+        report,
+    } = found;
+    let table = table_of(alloc, no_comb_vect, plain)?;
+    let part = Part { name, map, table };
+    Ok(Automaton { part, report })
+}
+
+// The automaton of this number: minimised unless the options have `no-minimization`. Else a count of it that is above its limit.
+fn minimised(alloc: Global, checked: &Checked, automaton: usize) -> Result<Found, StateFault>
     requires { automaton < length checked.now.automata.items }
-    ensures compiled { IfOk result (λ all. IsCompiledPart checked.now.options.no_minimization (options_of checked.now.options) (map automaton_of checked.now.automata.items) (map class_of checked.now.classes.items) automaton (part_of all.part) (report_of all.report)) }
-    ensures kept { IfOk result (λ all. IsPart (length checked.now.classes.items) (part_of all.part)) }
+    ensures compiled { IfOk result (λ all. IsCompiledPart checked.now.options.no_minimization (options_of checked.now.options) (map automaton_of checked.now.automata.items) (map class_of checked.now.classes.items) automaton (found_part_of all) (report_of all.report)) }
+    ensures kept { IfOk result (λ all. IsPart (length checked.now.classes.items) (found_part_of all)) }
     ensures fault { IfErr result (IsPastAt (options_of checked.now.options) (map automaton_of checked.now.automata.items) (map class_of checked.now.classes.items) automaton) }
 {
     let found = match found_part(alloc, checked, automaton) {
@@ -170,7 +213,25 @@ pub(crate) fn compile_part(
     if checked.options.no_minimization {
         return Ok(found);
     }
-    let Automaton { part, report } = found;
-    let part = least_part(alloc, part)?;
-    Ok(Automaton { part, report })
+    Ok(least(alloc, found)?)
+}
+
+/// The automaton of this number, compiled: minimised unless the options have `no-minimization`, and its table packed unless
+/// they have `no-comb-vect`. Else a count of it that is above its limit.
+pub(crate) fn compile_part(
+    alloc: Global,
+    checked: &Checked,
+    automaton: usize,
+) -> Result<Automaton, StateFault>
+    requires { automaton < length checked.now.automata.items }
+    ensures compiled { IfOk result (λ all. IsCompiledPart checked.now.options.no_minimization (options_of checked.now.options) (map automaton_of checked.now.automata.items) (map class_of checked.now.classes.items) automaton (part_of all.part) (report_of all.report)) }
+    ensures kept { IfOk result (λ all. IsPart (length checked.now.classes.items) (part_of all.part)) }
+    ensures form { IfOk result (λ all. IsKept checked.now.options.no_comb_vect all.part.table) }
+    ensures fault { IfErr result (IsPastAt (options_of checked.now.options) (map automaton_of checked.now.automata.items) (map class_of checked.now.classes.items) automaton) }
+{
+    let found = match minimised(alloc, checked, automaton) {
+        Ok(found) => found,
+        Err(fault) => return Err(fault),
+    };
+    Ok(kept(alloc, checked.options.no_comb_vect, found)?)
 }

@@ -2,6 +2,7 @@ use Rattle.std.proofs.Common.{All, length, sym, subst, arith}
 use Rattle.std.proofs.lemmas.List.Elements.{All-push}
 use Rattle.hz_tables_model.specs.Machines.{IsPart}
 use Rattle.hz_tables.specs.Parts.{part_of}
+use Rattle.hz_auto.specs.Parts.{IsKept}
 use Rattle.hz_auto.proofs.MachineLemmas.{fault_told, compiled_more}
 use Rattle.hz_auto.proofs.compiled.compile_parts.Goals as goal
 
@@ -12,4 +13,5 @@ pub loop-automaton-preserved : goal.loop-automaton-preserved
 loop-automaton-preserved c = record {
   compiled = compiled_more c.args.checked.now c.loop-automaton.automaton c.loop-automaton.all.parts.items c.add.new.self.parts.items c.loop-automaton.all.reports.items c.add.new.self.reports.items c.in-Ok.compiled.part c.in-Ok.compiled.report c.loop-automaton.invariant.compiled c.in-Ok-add.ensures.parts c.in-Ok-add.ensures.reports c.in-Ok.ensures.compiled;
   kept = subst (All (λ part. IsPart (length c.args.checked.now.classes.items) (part_of part))) (sym c.in-Ok-add.ensures.parts) (All-push (λ part. IsPart (length c.args.checked.now.classes.items) (part_of part)) c.loop-automaton.all.parts.items c.in-Ok.compiled.part c.loop-automaton.invariant.kept c.in-Ok.ensures.kept);
+  forms = subst (All (λ part. IsKept c.args.checked.now.options.no_comb_vect part.table)) (sym c.in-Ok-add.ensures.parts) (All-push (λ part. IsKept c.args.checked.now.options.no_comb_vect part.table) c.loop-automaton.all.parts.items c.in-Ok.compiled.part c.loop-automaton.invariant.forms c.in-Ok.ensures.form);
 }

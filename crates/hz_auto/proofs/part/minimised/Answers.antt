@@ -1,0 +1,15 @@
+use Rattle.std.proofs.Common.{map, sym, subst}
+use Rattle.hz_mdread.specs.Shape.{options as options_of}
+use Rattle.hz_check.specs.Shape.{automaton_of, class_of}
+use Rattle.hz_auto.specs.Parts.{found_part_of}
+use Rattle.hz_auto_model.specs.Compiled.{IsCompiledPart}
+use Rattle.hz_auto.specs.Reports.{report_of}
+use Rattle.hz_auto.proofs.LeastLemmas.{least_compiled}
+use Rattle.hz_auto.proofs.part.minimised.Goals as goal
+
+pub returns-clause-compiled : goal.returns-clause-compiled
+returns-clause-compiled c =
+    let checked = c.args.checked.now in
+    subst (IsCompiledPart checked.options.no_minimization (options_of checked.options) (map automaton_of checked.automata.items) (map class_of checked.classes.items) c.args.automaton (found_part_of c.in_ok-least.field-0)) (sym c.in_ok-least.ensures.report)
+    (least_compiled (found_part_of c.in-Ok.found) (found_part_of c.in_ok-least.field-0) c.in_ok-least.ensures.part (options_of checked.options) (map automaton_of checked.automata.items) (map class_of checked.classes.items) c.args.automaton
+      (report_of c.in-Ok.found.report) c.in-Ok.ensures.compiled c.if-checked.false)
