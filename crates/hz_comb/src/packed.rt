@@ -1,6 +1,7 @@
 //! A table whose rows are laid into one another.
 
 ghost use Rattle.std.specs.Prelude.{◌≡◌, ℕ, ◌+◌, ◌*◌, ◌<◌, ◌≤◌, ◌^◌, Some, length, IfOk, All, IsTrue};
+ghost use Rattle.hz_tables_model.specs.StateLimits.{state_limit};
 ghost use Rattle.hz_tables_model.specs.Tables.{entry};
 ghost use Rattle.hz_comb_model.specs.Combs.{entries_of};
 ghost use Rattle.hz_comb.specs.Packing.{packing_of, IsPacked};
@@ -67,7 +68,8 @@ impl<const W: usize> Packed<W> {
 
     /// How many states there are. It takes no memory.
     pub fn states(&self) -> u32
-        ensures { result ≡ length self.now.rows }
+        ensures states { result ≡ length self.now.rows }
+        ensures few { result ≤ state_limit }
     {
         self.bases.count() as u32
     }

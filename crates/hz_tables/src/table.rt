@@ -1,6 +1,7 @@
 //! A table, however it is kept.
 
 ghost use Rattle.std.specs.Prelude.{◌≡◌, ◌+◌, ◌<◌, ◌≤◌, ℕ, Some, length, IfOk};
+ghost use Rattle.hz_tables_model.specs.StateLimits.{state_limit};
 ghost use Rattle.hz_tables_model.specs.Tables.{entry};
 
 use hz_comb::Packed;
@@ -56,7 +57,8 @@ impl Table {
 
     /// How many states there are. It takes no memory.
     pub fn states(&self) -> u32
-        ensures { result ≡ length (rows_of self.now) }
+        ensures states { result ≡ length (rows_of self.now) }
+        ensures few { result ≤ state_limit }
     {
         in_form!(self, plain => plain.states(), packed => packed.states())
     }

@@ -80,6 +80,7 @@ pub fn head(alloc: Global, line: &[u8], classes: u32) -> Result<Head, Wrong>
     ensures judged { Judges head_said result (model.head_in classes line.now) }
     ensures columns { IfOk result (λ head. head.columns ≤ classes) }
     ensures states { IfOk result (λ head. head.states ≤ state_limit) }
+    ensures some { IfOk result (λ head. 1 ≤ head.states) }
 {
     let (name, columns, states) = three(line, b"automaton")?;
     let Some(name) = Name::of(alloc, name)? else {

@@ -1,11 +1,11 @@
 //! The reader of tables texts.
 
-ghost use Rattle.std.specs.Prelude.{◌≡◌, ◌<◌, ◌^◌, Ok, length, map, codes, IfOk};
+ghost use Rattle.std.specs.Prelude.{◌≡◌, ◌<◌, ◌^◌, Ok, length, map, codes, All, IfOk};
 ghost use Rattle.std.specs.Bool.{OnTrue};
 ghost use Rattle.std.specs.Str.{bytes_eq};
 ghost use Rattle.hz_tables_model.specs.Machines as machines;
 ghost use Rattle.hz_tables.specs.Machines.{machine_of};
-ghost use Rattle.hz_tables.specs.Parts.{part_of};
+ghost use Rattle.hz_tables.specs.Parts.{part_of, IsLeastWidth};
 ghost use Rattle.hz_tabtext_model.specs.Texts.{TableText};
 ghost use Rattle.hz_tabtext_model.specs.Lines.{header_in};
 ghost use Rattle.hz_tabtext_model.specs.Reading as model;
@@ -48,7 +48,8 @@ fn behind_header(bytes: &[u8]) -> Result<Rest, TabFault>
 /// The classes and the automata of a text behind its header.
 #[tactic(auto, unfolding(hz_tabtext_model::specs::Reading::machine_at))]
 fn parts_behind(alloc: Global, rest: Rest) -> Result<(Vec<Name>, Vec<Part>), TabFault>
-    ensures { Gives (λ x. record { classes = x.0.items; parts = map part_of x.1.items }) result (model.machine_at (left_of rest.entry)) }
+    ensures read { Gives (λ x. record { classes = x.0.items; parts = map part_of x.1.items }) result (model.machine_at (left_of rest.entry)) }
+    ensures packed { IfOk result (λ x. All (λ part. IsLeastWidth part.table) x.1.items) }
 {
     let (_ndfa, rest) = treatment_at(rest)?;
     let (count, rest) = classes_at(rest)?;
@@ -64,7 +65,8 @@ fn parts_behind(alloc: Global, rest: Rest) -> Result<(Vec<Name>, Vec<Part>), Tab
 
 /// The machine of a text behind its header.
 fn machine_behind(alloc: Global, rest: Rest) -> Result<Machine, TabFault>
-    ensures { Gives machine_of result (model.machine_at (left_of rest.entry)) }
+    ensures read { Gives machine_of result (model.machine_at (left_of rest.entry)) }
+    ensures packed { IfOk result (λ machine. All (λ part. IsLeastWidth part.table) machine.parts.items) }
 {
     let (classes, parts) = parts_behind(alloc, rest)?;
     Ok(Machine { classes, parts })
@@ -74,7 +76,8 @@ fn machine_behind(alloc: Global, rest: Rest) -> Result<Machine, TabFault>
 #[tactic(auto, unfolding(hz_tabtext_model::specs::Reading::tables_in))]
 fn whole(alloc: Global, bytes: &[u8]) -> Result<Machine, TabFault>
     requires { length bytes.now < 2 ^ 32 }
-    ensures { Gives machine_of result (model.tables_in bytes.now) }
+    ensures read { Gives machine_of result (model.tables_in bytes.now) }
+    ensures packed { IfOk result (λ machine. All (λ part. IsLeastWidth part.table) machine.parts.items) }
 {
     let rest = behind_header(bytes)?;
     let machine = machine_behind(alloc, rest)?;
@@ -82,7 +85,7 @@ fn whole(alloc: Global, bytes: &[u8]) -> Result<Machine, TabFault>
 }
 
 /// The machine that a text stands for, or the first fault of the text; which lines of counts, origins and grids it has
-/// makes no difference. Source: this profile, docs/FORMATS.md, 'Tables'.
+/// makes no difference. Its tables are packed. Source: this profile, docs/FORMATS.md, 'Tables'.
 pub fn read_tables(alloc: Global, bytes: &[u8]) -> Result<Machine, TabFault>
     requires { length bytes.now < 2 ^ 32 }
     // What is read is what the text stands for.
@@ -91,6 +94,8 @@ pub fn read_tables(alloc: Global, bytes: &[u8]) -> Result<Machine, TabFault>
     ensures only { (machine : machines.Machine) → TableText bytes.now machine → Gives machine_of result (Ok machine) }
     // Which fault it is.
     ensures exact { Gives machine_of result (model.tables_in bytes.now) }
+    // Each table is packed, over cells of the least width that has room for the number of its states.
+    ensures packed { IfOk result (λ machine. All (λ part. IsLeastWidth part.table) machine.parts.items) }
 {
     whole(alloc, bytes)
 }

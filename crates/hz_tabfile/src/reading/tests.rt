@@ -1,5 +1,5 @@
 use crate::{TabFault, read_tables};
-use hz_tables::{Machine, Part, Table};
+use hz_tables::{Machine, Part, Steps, Table};
 use std::alloc::{AllocError, Global};
 use std::process::Abort;
 use std::test::Fail;
@@ -105,26 +105,35 @@ fn fault_of(alloc: Global, text: &[u8]) -> Option<TabFault> {
     read_tables(alloc, text).err()
 }
 
-// Whether a part has this map and these rows.
-fn is_part(part: &Part, map: &[u32], rows: &[&[Option<u32>]]) -> bool {
-    let Table::Rows(plain) = &part.table;
-    if part.map.as_slice() != map || plain.states() as usize != rows.len() {
+// Whether a table has these rows.
+fn has_rows<L: Ledger>(table: &Table, rows: &[&[Option<u32>]], blank: Blank) -> bool
+    requires name { blank.name ≡ L.name }
+    requires parts { blank.parts ≡ L.parts }
+    requires some { 0 < blank.parts }
+{
+    let mut steps = Steps::<L>::new(blank);
+    if table.states() as usize != rows.len() {
         return false;
     }
     for (state, row) in rows.iter().enumerate() {
         for (column, next) in row.iter().enumerate() {
-            if state >= plain.states() as usize || column > plain.columns() as usize {
+            if state >= table.states() as usize || column > table.columns() as usize {
                 return false;
             }
-            if plain.step(state as u32, column as u32) != *next {
+            if table.step(state as u32, column as u32, &mut steps) != *next {
                 return false;
             }
         }
-        if row.len() != plain.columns() as usize + 1 {
+        if row.len() != table.columns() as usize + 1 {
             return false;
         }
     }
     true
+}
+
+// Whether a part has this map and these rows.
+fn is_part(part: &Part, map: &[u32], rows: &[&[Option<u32>]]) -> bool {
+    part.map.as_slice() == map && has_rows::<Brand>(&part.table, rows, Blank::new(1))
 }
 
 // Whether a machine has these classes and one nameless part, with this map and these rows.

@@ -1,13 +1,13 @@
 //! A text behind its header: classes, automata and their states.
 
-ghost use Rattle.std.specs.Prelude.{◌≡◌, ◌≤◌, [], map, IfOk};
+ghost use Rattle.std.specs.Prelude.{◌≡◌, ◌≤◌, [], length, map, All, IfOk};
 ghost use Rattle.hz_base_model.specs.Limits.{class_limit};
 ghost use Rattle.hz_tables_model.specs.StateLimits.{state_limit};
-ghost use Rattle.hz_tables.specs.Parts.{part_of};
+ghost use Rattle.hz_tables.specs.Parts.{part_of, IsLeastWidth};
 ghost use Rattle.hz_tabtext_model.specs.Reading as model;
 ghost use Rattle.hz_tabfile.specs.Given.{Gives};
 ghost use Rattle.hz_tabfile.specs.Rests.{left_of};
-ghost use Rattle.hz_tabfile.specs.Texts.{grids_read};
+ghost use Rattle.hz_tabfile.specs.Texts.{grids_read, AreTargets};
 
 use super::fault::TabFault;
 use super::rest::Rest;
@@ -75,6 +75,8 @@ fn rows_at(alloc: Global, rest: Rest, columns: u32, states: u32) -> Result<(Plai
     requires states { states ≤ state_limit }
     ensures rows { Gives (λ x. (x.0.rows, left_of x.1)) result (model.so_many states (model.row_at columns states) (left_of rest.entry)) }
     ensures columns { IfOk result (λ x. x.0.columns ≡ columns) }
+    ensures each { IfOk result (λ x. length x.0.rows ≡ states) }
+    ensures targets { IfOk result (λ x. AreTargets states x.0.rows) }
 {
     let mut plain = Plain::new(alloc, columns);
     let mut row = Vec::with_capacity(alloc, columns as usize + 1)?;
@@ -86,11 +88,12 @@ fn rows_at(alloc: Global, rest: Rest, columns: u32, states: u32) -> Result<(Plai
     Ok((plain, rest))
 }
 
-/// An automaton beside so many classes.
+/// An automaton beside so many classes. Its table is packed, over cells of the least width.
 #[tactic(auto, unfolding(hz_tabtext_model::specs::Reading::part_at))]
 fn part_at(alloc: Global, rest: Rest, classes: u32) -> Result<(Part, Rest), TabFault>
     requires { classes ≤ class_limit }
-    ensures { Gives (λ x. (part_of x.0, left_of x.1)) result (model.part_at classes (left_of rest.entry)) }
+    ensures read { Gives (λ x. (part_of x.0, left_of x.1)) result (model.part_at classes (left_of rest.entry)) }
+    ensures packed { IfOk result (λ x. IsLeastWidth x.0.table) }
 {
     let (head, rest) = head_at(alloc, rest, classes)?;
     let (map, rest) = map_at(alloc, rest, classes, head.columns)?;
@@ -99,7 +102,7 @@ fn part_at(alloc: Global, rest: Rest, classes: u32) -> Result<(Part, Rest), TabF
     let part = Part {
         name: head.name,
         map,
-        table: Table::Rows(plain),
+        table: Table::packed(alloc, &plain)?,
     };
     Ok((part, rest))
 }
@@ -112,7 +115,8 @@ pub fn parts_at(
     automata: u32,
 ) -> Result<(Vec<Part>, Rest), TabFault>
     requires { classes ≤ class_limit }
-    ensures { Gives (λ x. (map part_of x.0.items, left_of x.1)) result (model.so_many automata (model.part_at classes) (left_of rest.entry)) }
+    ensures read { Gives (λ x. (map part_of x.0.items, left_of x.1)) result (model.so_many automata (model.part_at classes) (left_of rest.entry)) }
+    ensures packed { IfOk result (λ x. All (λ part. IsLeastWidth part.table) x.0.items) }
 {
     let mut parts = Vec::new(alloc);
     let mut rest = rest;

@@ -64,6 +64,7 @@ pub fn head_at(alloc: Global, rest: Rest, classes: u32) -> Result<(Head, Rest), 
     ensures judged { Gives (λ x. (head_said x.0, left_of x.1)) result (line_by (model.head_in classes) (left_of rest.entry)) }
     ensures columns { IfOk result (λ x. x.0.columns ≤ classes) }
     ensures states { IfOk result (λ x. x.0.states ≤ state_limit) }
+    ensures some { IfOk result (λ x. 1 ≤ x.0.states) }
 {
     let (line, after) = rest.line()?;
     match head(alloc, line, classes) {

@@ -42,11 +42,7 @@ fn are_units(automata: &[CheckedAutomaton])
 fn is_table(table: &Table)
     ensures { length (rows_of table.now) ≤ state_limit }
 {
-    match table {
-        Table::Rows(plain) => {
-            let _states = plain.states();
-        }
-    }
+    let _states = table.states();
 }
 
 /// Parts have names.

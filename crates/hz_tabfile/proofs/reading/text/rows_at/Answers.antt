@@ -6,8 +6,9 @@ use Rattle.hz_tabtext_model.specs.Reading.{so_many, row_at}
 use Rattle.hz_tabtext_model.proofs.FieldLaws.{some_lines}
 use Rattle.hz_tabtext_model.proofs.MachineLaws.{row_shape}
 use Rattle.hz_tabfile.specs.Rests.{left_of}
+use Rattle.hz_tabfile.specs.Texts.{AreTargets}
 use Rattle.hz_tabfile.proofs.Many.{with_front, many_goes, many_stops, many_ends}
-use Rattle.hz_tabfile.proofs.Shapes.{are_states}
+use Rattle.hz_tabfile.proofs.Shapes.{are_states, targets_pushed}
 use Rattle.hz_tabfile.proofs.reading.text.rows_at.Goals as goal
 
 pub returns-in_err-rest-clause-rows : goal.returns-in_err-rest-clause-rows
@@ -33,6 +34,9 @@ loop-preserved c =
           ∙ many_goes (row_at c.args.columns c.args.states) c.loop.plain.rows c.args.states c.loop.counter (left_of c.loop.rest) (so_many c.args.states (row_at c.args.columns c.args.states) (left_of c.args.rest)) c.loop.invariant.rows c.row_at.new.entries.items (left_of c.in_ok-rest.rest) c.loop-test.true c.in_ok-rest.ensures;
       columns = c.in_ok-push_row.ensures.columns ∙ c.loop.invariant.columns;
       count = ap length pushed ∙ (length-append c.loop.plain.rows (c.row_at.new.entries.items ∷ []) ∙ ap (λ n. n + 1) c.loop.invariant.count);
+      targets =
+        let shape = row_shape c.args.columns c.args.states (left_of c.loop.rest) c.row_at.new.entries.items (left_of c.in_ok-rest.rest) (some_lines c.loop.rest.bytes.now) c.in_ok-rest.ensures in
+        subst (AreTargets c.args.states) (sym pushed) (targets_pushed c.args.states c.loop.plain.rows c.row_at.new.entries.items c.loop.invariant.targets shape.1);
     }
 
 pub returns-clause-rows : goal.returns-clause-rows

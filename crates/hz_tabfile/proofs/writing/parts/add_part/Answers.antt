@@ -14,7 +14,7 @@ returns-in_err-add_head g c =
     let said : PartText = (part_said c.args.stats c.args.units.now (report_of c.args.report.now) (part_of c.args.part.now)) in
     let head : line_text (codes "automaton" ∷ c.args.part.now.name ∷ decimal c.columns.result ∷ decimal c.states.result ∷ []) ≡ line_text (head_line said) =
     ap (λ (n : ℕ). line_text (codes "automaton" ∷ c.args.part.now.name ∷ decimal n ∷ decimal c.states.result ∷ [])) c.columns.ensures
-    ∙ ap (λ (n : ℕ). line_text (codes "automaton" ∷ c.args.part.now.name ∷ decimal (columns_of c.args.part.now.table) ∷ decimal n ∷ [])) (c.states.ensures ∙ sym (made_length (row_said c.args.units.now (report_of c.args.report.now).shown) (rows_of c.args.part.now.table))) in
+    ∙ ap (λ (n : ℕ). line_text (codes "automaton" ∷ c.args.part.now.name ∷ decimal (columns_of c.args.part.now.table) ∷ decimal n ∷ [])) (c.states.ensures.states ∙ sym (made_length (row_said c.args.units.now (report_of c.args.report.now).shown) (rows_of c.args.part.now.table))) in
     adds_failed c.add_head.new.page.items c.from_residual.result (search rules)
     (subst (λ (text : List ℕ). Stopped g.S.Sink.written g.S.Sink.room g.S.Sink.faults c.args.out.now c.add_head.new.out c.args.page.now.items text) (part_text said)
     (stopped_before ((line_text (map_line said.map)) ++ ((flat_map line_text (counts_lines said.counts)) ++ (flat_map (λ row. flat_map line_text (row_lines row)) said.rows))) (subst (λ (text : List ℕ). Stopped g.S.Sink.written g.S.Sink.room g.S.Sink.faults c.args.out.now c.add_head.new.out c.args.page.now.items text) head c.in_err-add_head.ensures)))
@@ -24,7 +24,7 @@ returns-in_err-add_map g c =
     let said : PartText = (part_said c.args.stats c.args.units.now (report_of c.args.report.now) (part_of c.args.part.now)) in
     let head : line_text (codes "automaton" ∷ c.args.part.now.name ∷ decimal c.columns.result ∷ decimal c.states.result ∷ []) ≡ line_text (head_line said) =
     ap (λ (n : ℕ). line_text (codes "automaton" ∷ c.args.part.now.name ∷ decimal n ∷ decimal c.states.result ∷ [])) c.columns.ensures
-    ∙ ap (λ (n : ℕ). line_text (codes "automaton" ∷ c.args.part.now.name ∷ decimal (columns_of c.args.part.now.table) ∷ decimal n ∷ [])) (c.states.ensures ∙ sym (made_length (row_said c.args.units.now (report_of c.args.report.now).shown) (rows_of c.args.part.now.table))) in
+    ∙ ap (λ (n : ℕ). line_text (codes "automaton" ∷ c.args.part.now.name ∷ decimal (columns_of c.args.part.now.table) ∷ decimal n ∷ [])) (c.states.ensures.states ∙ sym (made_length (row_said c.args.units.now (report_of c.args.report.now).shown) (rows_of c.args.part.now.table))) in
     adds_failed c.add_map.new.page.items c.from_residual-in_err-add_map.result (search rules)
     (subst (λ (text : List ℕ). Stopped g.S.Sink.written g.S.Sink.room g.S.Sink.faults c.args.out.now c.add_map.new.out c.args.page.now.items text) (part_text said)
     (added_then_stopped (subst (λ (text : List ℕ). Added g.S.Sink.written g.S.Sink.room g.S.Sink.faults c.args.out.now c.add_head.new.out c.args.page.now.items c.add_head.new.page.items text) head c.in_ok-add_head.ensures) (stopped_before ((flat_map line_text (counts_lines said.counts)) ++ (flat_map (λ row. flat_map line_text (row_lines row)) said.rows)) (subst (λ (columns : List ℕ). Stopped g.S.Sink.written g.S.Sink.room g.S.Sink.faults c.add_head.new.out c.add_map.new.out c.add_head.new.page.items (line_text (map_line columns))) c.deref.ensures.value c.in_err-add_map.ensures))))
@@ -34,7 +34,7 @@ returns-in_err-add_counts g c =
     let said : PartText = (part_said c.args.stats c.args.units.now (report_of c.args.report.now) (part_of c.args.part.now)) in
     let head : line_text (codes "automaton" ∷ c.args.part.now.name ∷ decimal c.columns.result ∷ decimal c.states.result ∷ []) ≡ line_text (head_line said) =
     ap (λ (n : ℕ). line_text (codes "automaton" ∷ c.args.part.now.name ∷ decimal n ∷ decimal c.states.result ∷ [])) c.columns.ensures
-    ∙ ap (λ (n : ℕ). line_text (codes "automaton" ∷ c.args.part.now.name ∷ decimal (columns_of c.args.part.now.table) ∷ decimal n ∷ [])) (c.states.ensures ∙ sym (made_length (row_said c.args.units.now (report_of c.args.report.now).shown) (rows_of c.args.part.now.table))) in
+    ∙ ap (λ (n : ℕ). line_text (codes "automaton" ∷ c.args.part.now.name ∷ decimal (columns_of c.args.part.now.table) ∷ decimal n ∷ [])) (c.states.ensures.states ∙ sym (made_length (row_said c.args.units.now (report_of c.args.report.now).shown) (rows_of c.args.part.now.table))) in
     adds_failed c.add_counts.new.page.items c.from_residual-in_err-add_counts.result (search rules)
     (subst (λ (text : List ℕ). Stopped g.S.Sink.written g.S.Sink.room g.S.Sink.faults c.args.out.now c.add_counts.new.out c.args.page.now.items text) (part_text said)
     (added_then_stopped (subst (λ (text : List ℕ). Added g.S.Sink.written g.S.Sink.room g.S.Sink.faults c.args.out.now c.add_head.new.out c.args.page.now.items c.add_head.new.page.items text) head c.in_ok-add_head.ensures) (added_then_stopped (subst (λ (columns : List ℕ). Added g.S.Sink.written g.S.Sink.room g.S.Sink.faults c.add_head.new.out c.add_map.new.out c.add_head.new.page.items c.add_map.new.page.items (line_text (map_line columns))) c.deref.ensures.value c.in_ok-add_map.ensures) (stopped_before (flat_map (λ row. flat_map line_text (row_lines row)) said.rows) c.in_err-add_counts.ensures))))
@@ -44,7 +44,7 @@ returns g c =
     let said : PartText = (part_said c.args.stats c.args.units.now (report_of c.args.report.now) (part_of c.args.part.now)) in
     let head : line_text (codes "automaton" ∷ c.args.part.now.name ∷ decimal c.columns.result ∷ decimal c.states.result ∷ []) ≡ line_text (head_line said) =
     ap (λ (n : ℕ). line_text (codes "automaton" ∷ c.args.part.now.name ∷ decimal n ∷ decimal c.states.result ∷ [])) c.columns.ensures
-    ∙ ap (λ (n : ℕ). line_text (codes "automaton" ∷ c.args.part.now.name ∷ decimal (columns_of c.args.part.now.table) ∷ decimal n ∷ [])) (c.states.ensures ∙ sym (made_length (row_said c.args.units.now (report_of c.args.report.now).shown) (rows_of c.args.part.now.table))) in
+    ∙ ap (λ (n : ℕ). line_text (codes "automaton" ∷ c.args.part.now.name ∷ decimal (columns_of c.args.part.now.table) ∷ decimal n ∷ [])) (c.states.ensures.states ∙ sym (made_length (row_said c.args.units.now (report_of c.args.report.now).shown) (rows_of c.args.part.now.table))) in
     subst (λ (text : List ℕ). Adds g.S.Sink.written g.S.Sink.room g.S.Sink.faults c.args.out.now c.add_states.new.out c.args.page.now.items c.add_states.new.page.items text c.add_states.result) (part_text said)
     (adds_then c.add_states.new.out c.add_states.new.page.items ((line_text (map_line said.map)) ++ ((flat_map line_text (counts_lines said.counts)) ++ (flat_map (λ row. flat_map line_text (row_lines row)) said.rows))) c.add_states.result (subst (λ (text : List ℕ). Added g.S.Sink.written g.S.Sink.room g.S.Sink.faults c.args.out.now c.add_head.new.out c.args.page.now.items c.add_head.new.page.items text) head c.in_ok-add_head.ensures)
     (adds_then c.add_states.new.out c.add_states.new.page.items ((flat_map line_text (counts_lines said.counts)) ++ (flat_map (λ row. flat_map line_text (row_lines row)) said.rows)) c.add_states.result (subst (λ (columns : List ℕ). Added g.S.Sink.written g.S.Sink.room g.S.Sink.faults c.add_head.new.out c.add_map.new.out c.add_head.new.page.items c.add_map.new.page.items (line_text (map_line columns))) c.deref.ensures.value c.in_ok-add_map.ensures)
