@@ -6,6 +6,7 @@ use crate::{Compiled, compile};
 use hz_check::{Checked, check};
 use hz_mdread::read_description;
 use hz_sexp::read_forms;
+use hz_tables::Table;
 use std::alloc::Global;
 use std::process::Abort;
 use std::test::Fail;
@@ -25,7 +26,7 @@ fn checked_of(alloc: Global, text: &[u8]) -> Option<Checked>
 
 /// The machine of a text, if it has one.
 fn compiled_of(rt: &impl Abort, alloc: Global, text: &[u8]) -> Option<Compiled> {
-    assert!(rt; text.len() < 1000);
+    assert!(rt; text.len() < 4000);
     let checked = checked_of(alloc, text)?;
     compile(alloc, &checked).ok()
 }
@@ -97,6 +98,55 @@ fn states_are_shown_beside_both_options(rt: HostRuntime) -> Result<(), Fail> {
                     }
                     None => assert!(rt; false),
                 }
+            }
+            None => assert!(rt; false),
+        }
+    }
+    Ok(())
+}
+
+/// A unit, and so many classes that take it in a cycle of their own, behind an option: each set of cycles is a state.
+fn calendar(alloc: Global, option: &str, classes: u32) -> Result<String, Fail> {
+    let mut text = format!(in alloc; "{option}(define_cpu_unit \"u\")(define_insn_reservation \"c\" 1 (const_int 1) \"u\")")?;
+    for class in 1..classes {
+        let form = format!(in alloc;
+            "(define_insn_reservation \"c{class}\" 1 (const_int 1) \"nothing*{class}, u\")"
+        )?;
+        text.push_str(&form)?;
+    }
+    Ok(text)
+}
+
+/// The bytes of a cell of a table, or none where its rows are plain.
+fn width_of(table: &Table) -> Option<u32> {
+    match table {
+        Table::Rows(_) => None,
+        Table::One(_) => Some(1),
+        Table::Two(_) => Some(2),
+        Table::Four(_) => Some(4),
+    }
+}
+
+/// Options, how many classes, how many states, and the bytes of a cell.
+const WIDTHS: [(&str, u32, u32, Option<u32>); 5] = [
+    ("", 7, 128, Some(1)),
+    ("", 8, 256, Some(2)),
+    ("(automata_option \"no-comb-vect\")", 8, 256, None),
+    ("", 15, 32_768, Some(2)),
+    ("", 16, 65_536, Some(4)),
+];
+
+#[test]
+fn tables_are_kept_over_the_least_width(rt: HostRuntime) -> Result<(), Fail> {
+    let alloc = rt.alloc();
+    for (option, classes, states, width) in WIDTHS {
+        let text = calendar(alloc, option, classes)?;
+        match compiled_of(&rt, alloc, text.as_bytes()) {
+            Some(all) => {
+                assert!(rt; all.machine.parts.len() == 1);
+                let table = &all.machine.parts[0].table;
+                assert!(rt; table.states() == states);
+                assert!(rt; width_of(table) == width);
             }
             None => assert!(rt; false),
         }

@@ -3,7 +3,7 @@ ghost use Rattle.hz_tables_model.specs.Machines.{IsPart};
 ghost use Rattle.hz_tables.specs.Parts.{part_of};
 ghost use Rattle.hz_plain.specs.Examples.{shared};
 
-use crate::{Machine, NoMemory, Part, Plain, Steps, Table};
+use crate::{Machine, NoMemory, Packed, Part, Plain, Steps, Table};
 use hz_regexp::Name;
 use std::alloc::Global;
 use std::marker::Brand;
@@ -76,6 +76,43 @@ fn machines_step_by_their_parts(rt: HostRuntime) -> Result<(), Fail> {
             steps_of::<Brand>(&rt, &machine(alloc, class, name)?, Blank::new(1))
         }
         _ => assert!(rt; false),
+    }
+    Ok(())
+}
+
+// A table in each form, packed over cells of each width.
+fn forms(alloc: Global) -> Result<[Table; 4], NoMemory> {
+    let plain = shared(alloc)?;
+    let one = Table::One(Packed::pack(alloc, &plain)?);
+    let two = Table::Two(Packed::pack(alloc, &plain)?);
+    let four = Table::Four(Packed::pack(alloc, &plain)?);
+    Ok([Table::Rows(plain), one, two, four])
+}
+
+// Steps of a table of that unit.
+fn table_steps<L: Ledger>(rt: &impl Abort, table: &Table, blank: Blank)
+    requires name { blank.name ≡ L.name }
+    requires parts { blank.parts ≡ L.parts }
+    requires some { 0 < blank.parts }
+{
+    let mut steps = Steps::<L>::new(blank);
+    assert!(rt; table.states() == 2 && table.columns() == 1);
+    for (state, column, next) in [
+        (0, 0, Some(1)),
+        (0, 1, Some(0)),
+        (1, 0, None),
+        (1, 1, Some(0)),
+    ] {
+        assert!(rt; state < table.states() && column <= table.columns());
+        assert!(rt; table.step(state, column, &mut steps) == next);
+    }
+}
+
+#[test]
+fn every_form_steps_alike(rt: HostRuntime) -> Result<(), Fail> {
+    let alloc = rt.alloc();
+    for table in &forms(alloc)? {
+        table_steps::<Brand>(&rt, table, Blank::new(1));
     }
     Ok(())
 }
