@@ -1,8 +1,6 @@
 -- The instructions that wait for no other, step by step.
-use Rattle.std.proofs.Common.{◌≡◌, ◌≢◌, ℕ, zero, suc, ◌+◌, ◌<◌, ◌≤◌, ◌==◌, ◌⊎◌, inl, inr, ⊎_elim, Bool, true, false, ◌&&◌, cond, max, List, [], ◌∷◌, length, map, Option, Some, None, is_some, All, Contains, refl, sym, ap, ◌∙◌, subst, arith}
+use Rattle.std.proofs.Common.{◌≡◌, ◌≢◌, ℕ, zero, suc, ◌+◌, ◌<◌, ◌≤◌, ◌==◌, ◌⊎◌, inl, inr, ⊎_elim, Bool, true, false, cond, max, List, [], ◌∷◌, length, Option, Some, None, Contains, refl, sym, ap, ◌∙◌, subst, arith}
 use Rattle.std.specs.Prelude.{slice_get, slice_index, nat_le, IsSome, IfSome}
-use Rattle.std.specs.List.{find}
-use Rattle.std.specs.Option.{option_map}
 use Rattle.std.specs.List.Sorted.{IsStrictlySortedBy}
 use Rattle.std.specs.Ordering.{nat_cmp, ordering_then, is_eq}
 use Rattle.std.specs.declared.cmp.Ordering.{Ordering}
@@ -10,12 +8,11 @@ use Rattle.std.specs.declared.cmp.Ordering.TheVariants.{Less, Equal, Greater}
 use Rattle.std.specs.BTreeSet.{BTreeSet, insert_key}
 use Rattle.std.specs.BTreeMap.{is_at}
 use Rattle.std.specs.Set.{remove_key}
-use Rattle.std.proofs.lemmas.Bool.{ltb-true, lt-ltb, eqb-true, eqb-false, eq-eqb, ne_eqb, leb-true, le-leb}
-use Rattle.std.proofs.lemmas.List.Elements.{All-contains}
+use Rattle.std.proofs.lemmas.Bool.{eqb-true, eqb-false, eq-eqb, leb-true, le-leb}
 use Rattle.std.proofs.lemmas.Map.Keys.{sorted_tail}
 use Rattle.hz_base_model.proofs.Elements.{Contains-nil, Contains-head, Contains-tail, Contains-cons_cases}
 use Rattle.hz_depend_model.specs.Graphs.{Edge}
-use Rattle.hz_sched_model.specs.Schedules.{Graph, class_at, height_at}
+use Rattle.hz_sched_model.specs.Schedules.{Graph, class_at}
 use Rattle.hz_sched.specs.Waits.{issued_at, and_issued, missing, ripe, leading, ripe_from}
 use Rattle.hz_sched.specs.Pending.{Key, key_cmp, key_of, Wait, wait_cmp, keys_at, ripe_front, one_waits, all_wait, free_below, without_head, with_head, ChangesRow, AreWaits, IsFree, IsWaiting, IsRipe, AreHeads, AreInRange, AreQueued, AreLater}
 use Rattle.hz_sched.proofs.SlotLemmas.{same_issued, other_issued}

@@ -1,5 +1,5 @@
 -- What instructions wait for. These words are only to prove with.
-use Rattle.std.specs.Prelude.{◌≡◌, ℕ, ◌+◌, ◌==◌, ◌&&◌, not, is_some, if◌then◌else◌, max, List, [], ◌∷◌, Option, Some, None}
+use Rattle.std.specs.Prelude.{ℕ, ◌+◌, ◌==◌, ◌&&◌, not, is_some, if◌then◌else◌, max, List, [], ◌∷◌, Option, Some, None}
 use Rattle.hz_depend_model.specs.Graphs.{Edge}
 use Rattle.hz_sched_model.specs.Schedules.{Slot}
 

@@ -1,12 +1,12 @@
 //! A schedule that is made, and what is left for it.
 
-ghost use Rattle.std.specs.Prelude.{◌≡◌, ◌≤◌, ◌<◌, ◌+◌, ◌==◌, ◌++◌, ◌∷◌, [], ℕ, Some, None, length, map, All, IfOk, OnOk, slice_index, filter, replicate, ◌^◌};
+ghost use Rattle.std.specs.Prelude.{◌≡◌, ◌≤◌, ◌<◌, ◌+◌, ◌==◌, ◌++◌, ◌∷◌, [], None, length, All, IfOk, OnOk, filter, replicate, ◌^◌};
 ghost use Rattle.std.specs.List.{Contains};
 ghost use Rattle.hz_base_model.specs.Limits.{latency_limit};
 ghost use Rattle.hz_sched_model.specs.Schedules as model;
-ghost use Rattle.hz_sched.specs.Shape.{graph_of, slots_of, slot_of};
+ghost use Rattle.hz_sched.specs.Shape.{graph_of, slots_of};
 ghost use Rattle.hz_sched.specs.Waits.{issued_at, and_issued};
-ghost use Rattle.hz_sched.specs.Pending.{Key, key_of, keys_at, AreWaits, IsQueue, AreLater};
+ghost use Rattle.hz_sched.specs.Pending.{key_of, keys_at, AreWaits, IsQueue, AreLater};
 
 use crate::parts::Slot;
 use crate::queue::{Queue, height_at};

@@ -1,6 +1,6 @@
 //! The instructions that wait for no other: those whose first cycle is to come, and those that are issued as soon as they fit.
 
-ghost use Rattle.std.specs.Prelude.{◌≡◌, ◌≤◌, ◌<◌, ◌+◌, ◌==◌, ◌∷◌, [], ℕ, Some, None, length, map, drop, All, IfOk, OnOk, slice_index, slice_get, Option};
+ghost use Rattle.std.specs.Prelude.{◌≡◌, ◌≤◌, ◌<◌, [], ℕ, Option, length, map, All, IfOk, OnOk, slice_get};
 ghost use Rattle.std.specs.List.{find};
 ghost use Rattle.std.specs.List.Sorted.{IsStrictlySortedBy};
 ghost use Rattle.std.specs.Option.{option_map};
@@ -10,9 +10,9 @@ ghost use Rattle.std.specs.Set.{remove_key};
 ghost use Rattle.hz_tables.specs.Machines.{machine_of};
 ghost use Rattle.hz_replay.specs.Replaying.{AreStates};
 ghost use Rattle.hz_sched_model.specs.Schedules as model;
-ghost use Rattle.hz_sched.specs.Shape.{graph_of};
 ghost use Rattle.hz_depend.specs.GraphShape.{edge_of};
-ghost use Rattle.hz_sched.specs.Pending.{Key, Wait, key_cmp, wait_cmp, key_of, may, keys_at, ripe_front, one_waits, all_wait, free_below, with_head, without_head, ChangesRow, IsInRange, IsQueue, AreLater};
+ghost use Rattle.hz_sched.specs.Shape.{graph_of};
+ghost use Rattle.hz_sched.specs.Pending.{key_cmp, wait_cmp, may, keys_at, ripe_front, one_waits, all_wait, free_below, with_head, without_head, ChangesRow, IsInRange, IsQueue, AreLater};
 
 use crate::fitting::fits;
 use crate::spelling::class_at;
@@ -35,10 +35,7 @@ pub struct Queue {
 }
 
 /// No instruction for each of so many classes.
-fn none_ready(
-    alloc: Global,
-    classes: usize,
-) -> Result<Vec<BTreeSet<(Reverse<u32>, u32)>>, NoMemory>
+fn none_ready(alloc: Global, classes: usize) -> Result<Vec<BTreeSet<(Reverse<u32>, u32)>>, NoMemory>
     ensures size { IfOk result (λ ready. length ready.items ≡ classes) }
     ensures none { IfOk result (λ ready. (class : ℕ) → keys_at ready.items class ≡ []) }
 {
@@ -192,13 +189,7 @@ impl Queue {
         ensures { result ≡ ripe_front cycle self.now.waiting.keys }
     {
         match self.waiting.first() {
-            Some(wait) => {
-                if wait.0 <= cycle {
-                    Some(wait.1)
-                } else {
-                    None
-                }
-            }
+            Some(wait) => { if wait.0 <= cycle { Some(wait.1) } else { None } }
             None => None,
         }
     }

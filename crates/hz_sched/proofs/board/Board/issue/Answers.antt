@@ -1,4 +1,4 @@
-use Rattle.std.proofs.Common.{◌≡◌, ◌<◌, ◌≤◌, ℕ, List, length, map, Contains, sym, ap, ◌∙◌, subst, arith}
+use Rattle.std.proofs.Common.{◌<◌, ◌≤◌, ℕ, List, length, map, Contains, sym, ap, ◌∙◌, subst, arith}
 use Rattle.std.proofs.lemmas.List.{length-map}
 use Rattle.std.proofs.lemmas.List.Elements.{All-map, All-contains}
 use Rattle.hz_base_model.specs.Limits.{latency_limit}
@@ -49,6 +49,6 @@ returns-clause-queued c =
     let within = subst (λ (es : List Edge). (j : ℕ) → 0 < leading j es → j < length g.nodes) whole (λ j led. led_within (length g.nodes) j row to_within led) in
     let more = c.in_ok-wait_behind.ensures.waiting ∙ (ap (λ (es : List Edge). all_wait c.deref.result.now c.deref-2.result.now es ended.waiting.keys) whole ∙ ap (all_wait c.deref.result.now c.deref-2.result.now (edges_from c.args.place g.edges)) c.in_ok-end.ensures.waiting) in
     let done = issued_queue g at c.args.place c.args.self.now.cycle queue.waiting.keys queue.ready.items queue.heads.keys queued later ready ended.ready.items ended.heads.keys key c.class_at.result is c.class_at.ensures c.in_ok-end.ensures.row
-        c.deref.result.now c.deref-2.result.now waits within now.waiting.keys more c.in_ok-wait_behind.ensures.ordered in
+    c.deref.result.now c.deref-2.result.now waits within now.waiting.keys more c.in_ok-wait_behind.ensures.ordered in
     subst (λ (hs : List Key). AreQueued g next c.args.self.now.cycle now.waiting.keys now.ready.items hs) (sym c.wait_behind.ensures.heads)
     (subst (λ (rows : List (BTreeSet Key)). AreQueued g next c.args.self.now.cycle now.waiting.keys rows ended.heads.keys) (sym c.wait_behind.ensures.ready) done)

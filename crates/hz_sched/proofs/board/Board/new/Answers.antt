@@ -29,10 +29,10 @@ returns-clause-queued c =
     let ripes = c.in_ok-ripes.ripes.items in
     let count : c.len-count.result ≡ length g.nodes = omega (arith, long, c.len-count.ensures, c.args.graph.now.insns.ok.0) in
     let waits = none_waited g counts ripes
-        (c.in_ok-counts.ensures.size ∙ count)
-        (ap (λ (xs : List ℕ). length xs) c.in_ok-ripes.ensures ∙ (length-replicate c.len-count.result 0 ∙ count))
-        (λ j. c.in_ok-counts.ensures.counted j ∙ ap (λ (es : List Edge). leading j (map edge_of es)) c.deref.ensures.value)
-        (c.in_ok-ripes.ensures ∙ ap (λ (n : ℕ). replicate n 0) count) in
+    (c.in_ok-counts.ensures.size ∙ count)
+    (ap (λ (xs : List ℕ). length xs) c.in_ok-ripes.ensures ∙ (length-replicate c.len-count.result 0 ∙ count))
+    (λ j. c.in_ok-counts.ensures.counted j ∙ ap (λ (es : List Edge). leading j (map edge_of es)) c.deref.ensures.value)
+    (c.in_ok-ripes.ensures ∙ ap (λ (n : ℕ). replicate n 0) count) in
     board_queue g counts ripes _ _ queue waits c.deref-2.ensures.value c.deref-3.ensures.value
     (λ j lt. omega (arith, c.in_ok-queue.ensures.size, class_below c.args.classes g (classes_of_nodes c.args.classes insns c.requires.classes) j lt))
     c.in_ok-queue.ensures.waiting c.in_ok-queue.ensures.ordered c.in_ok-queue.ensures.none c.in_ok-queue.ensures.heads
