@@ -1,17 +1,13 @@
 -- What is left, step by step.
 use Rattle.std.proofs.Common.{◌≡◌, ◌≢◌, ℕ, zero, suc, ◌+◌, ◌<◌, ◌≤◌, ◌==◌, ◌⊎◌, inl, inr, ⊎_elim, Bool, true, false, ◌&&◌, cond, max, List, [], ◌∷◌, ◌++◌, length, map, filter, replicate, take, Option, Some, None, is_some, All, Contains, get_or, refl, sym, ap, ◌∙◌, subst, arith}
-use Rattle.std.specs.Prelude.{slice_index, nat_lt, nat_le}
+use Rattle.std.specs.Prelude.{slice_index, nat_lt}
 use Rattle.std.specs.List.{find}
-use Rattle.std.specs.Option.{option_map}
 use Rattle.std.specs.List.Sorted.{IsStrictlySortedBy}
-use Rattle.std.specs.Ordering.{is_eq}
-use Rattle.std.specs.declared.cmp.Ordering.{Ordering}
-use Rattle.std.specs.declared.cmp.Ordering.TheVariants.{Less, Equal, Greater}
-use Rattle.std.specs.BTreeSet.{insert_key}
-use Rattle.std.specs.BTreeMap.{is_at}
-use Rattle.std.specs.Set.{remove_key}
+use Rattle.std.specs.Option.{option_map}
+use Rattle.std.specs.declared.cmp.Ordering.TheVariants.{Less}
+use Rattle.std.specs.BTreeSet.{BTreeSet}
 use Rattle.std.proofs.Math.Seq.{take-append_seam}
-use Rattle.std.proofs.lemmas.Bool.{cases_lt, lt-ltb, ltb-true, eqb-true, eq-eqb, leb-true, le-leb}
+use Rattle.std.proofs.lemmas.Bool.{lt-ltb}
 use Rattle.std.proofs.lemmas.List.{length-map, get_or-map}
 use Rattle.std.proofs.lemmas.List.Elements.{All-map, All-filter}
 use Rattle.hz_acceptance_model.specs.Events.{issue}
@@ -23,13 +19,15 @@ use Rattle.hz_depend_model.specs.Graphs.{Edge}
 use Rattle.hz_sched_model.specs.Schedules.{Node, Graph, Slot, class_at, height_at, GoesBefore, IsCandidate}
 use Rattle.hz_sched_model.specs.Machines.{IsWalked}
 use Rattle.hz_sched.specs.Shape.{node_of}
-use Rattle.hz_sched.specs.Waits.{IsSoonest, issued_at, and_issued, ripe, leading, ripe_from}
-use Rattle.hz_sched.specs.Pending.{Key, key_cmp, key_of, AreWaits, AreLeft, may}
+use Rattle.hz_sched.specs.Waits.{issued_at, and_issued, ripe, leading, ripe_from}
+use Rattle.hz_sched.specs.Pending.{Key, key_cmp, key_of, Wait, wait_cmp, keys_at, free_below, AreWaits, AreQueued, IsQueue, AreLater, may}
+use Rattle.hz_sched.specs.declared.queue.Queue.{Queue}
 use Rattle.hz_sched.specs.Standing.{IsAt}
 use Rattle.hz_sched.proofs.SlotLemmas.{issued_none, none_issued, same_issued, other_issued}
 use Rattle.hz_sched.proofs.WaitLemmas.{edges_from, missing_issued, ripe_issued, missing_none, ripe_none, ready_there, ready_back}
 use Rattle.hz_sched.proofs.StandLemmas.{candidate_fits, fits_candidate}
-use Rattle.hz_sched.proofs.KeyLemmas.{insert_old, insert_only, insert_new, remove_old, remove_only, remove_gone, found_first, found_passes, none_passes, exact_key, same_key, less_key}
+use Rattle.hz_sched.proofs.KeyLemmas.{found_first, found_passes, none_passes, exact_key, same_key, less_key}
+use Rattle.hz_sched.proofs.QueueLemmas.{first_there, first_some, first_before, queue_start}
 
 -- ---- fields of instructions
 
@@ -43,29 +41,7 @@ height_of_node insns place x within is =
 pub classes_of_nodes : (classes : ℕ) (insns : List GraphInsn) → All (λ i. i.class < classes) insns → All (λ n. n.class < classes) (map node_of insns)
 classes_of_nodes classes insns all = All-map (λ n. n.class < classes) node_of insns all
 
--- ---- all instructions
-
-module _ (g : Graph) (place : ℕ) (key : Key) (is : key ≡ key_of g place) (old : List Key) where
-  pub each_more : ((j : ℕ) → j < place → Contains old (key_of g j)) → (j : ℕ) → j < place + 1 → Contains (insert_key key_cmp old key) (key_of g j)
-  each_more each j lt = ⊎_elim
-      (λ (less : j < place). insert_old key_cmp old key (key_of g j) (each j less))
-      (λ (ge : place ≤ j). let same : place ≡ j = omega arith in subst (Contains (insert_key key_cmp old key)) (is ∙ ap (key_of g) same) (insert_new key_cmp exact_key same_key old key))
-      (cases_lt j place)
-
-  pub only_more : ((k : Key) → Contains old k → (k.1 < place) × (k ≡ key_of g k.1)) → (k : Key) → Contains (insert_key key_cmp old key) k → (k.1 < place + 1) × (k ≡ key_of g k.1)
-  only_more only k h = ⊎_elim
-      (λ (e : key ≡ k).
-      let at : place ≡ k.1 = ap (λ (x : Key). x.1) (sym is ∙ e) in
-      (omega arith, sym e ∙ (is ∙ ap (key_of g) at)))
-      (λ (m : Contains old k). let was = only k m in (omega (arith, was.0), was.1))
-      (insert_only key_cmp old key k h)
-
-pub all_left : (g : Graph) (place : ℕ) (keys : List Key) → place ≡ length g.nodes → IsStrictlySortedBy key_cmp keys → ((j : ℕ) → j < place → Contains keys (key_of g j)) → ((k : Key) → Contains keys k → (k.1 < place) × (k ≡ key_of g k.1)) → AreLeft g (issued_at []) keys
-all_left g place keys whole ordered each only = record {
-  each = λ j lt none. each j (omega arith);
-  ordered = ordered;
-  only = λ k h. let was = only k h in (omega (arith, was.0), refl, was.1);
-}
+-- ---- nothing is issued
 
 zero_at : (n j : ℕ) → slice_index (replicate n 0) j ≡ 0
 zero_at zero j = refl
@@ -91,11 +67,6 @@ edges_of_filter place (e ∷ edges) = go (e.from == place) (edges_of_filter plac
     go true h = ap (λ (es : List Edge). edge_of e ∷ es) h
     go false h = h
 
-not_equal : (o : Ordering) → (o ≡ Equal → ⊥) → is_eq o ≡ false
-not_equal Equal ne = absurd (ne refl)
-not_equal Less ne = refl
-not_equal Greater ne = refl
-
 module _ (g : Graph) (at : ℕ → Option ℕ) (place cycle : ℕ) (left : at place ≡ None) where
   pub enough : (counts ripes : List ℕ) (row : List Edge) → row ≡ edges_from place g.edges → AreWaits g at counts ripes → (j : ℕ) → leading j row ≤ slice_index counts j
   enough counts ripes row is waits j =
@@ -105,7 +76,7 @@ module _ (g : Graph) (at : ℕ → Option ℕ) (place cycle : ℕ) (left : at pl
       omega arith
 
   pub waits_next : (counts ripes fresh later : List ℕ) (row : List Edge) → row ≡ edges_from place g.edges → AreWaits g at counts ripes → length fresh ≡ length counts → length later ≡ length ripes
-      → ((j : ℕ) → slice_index counts j ≡ slice_index fresh j + leading j row) → ((j : ℕ) → j ≢ place → slice_index later j ≡ max (slice_index ripes j) (ripe_from cycle j row)) → AreWaits g (and_issued at place cycle) fresh later
+      → ((j : ℕ) → slice_index counts j ≡ slice_index fresh j + leading j row) → ((j : ℕ) → slice_index later j ≡ max (slice_index ripes j) (ripe_from cycle j row)) → AreWaits g (and_issued at place cycle) fresh later
   waits_next counts ripes fresh later row is waits wide long fewer riper = record {
     counts_size = wide ∙ waits.counts_size;
     ripes_size = long ∙ waits.ripes_size;
@@ -117,30 +88,11 @@ module _ (g : Graph) (at : ℕ → Option ℕ) (place cycle : ℕ) (left : at pl
         omega arith;
     waited = λ j none.
         let ne : j ≢ place = λ (e : j ≡ place). let some = ap (and_issued at place cycle) e ∙ same_issued at place cycle in absurd (cc) in
-        riper j ne
+        riper j
         ∙ (ap (λ (n : ℕ). max n (ripe_from cycle j row)) (waits.waited j (sym (other_issued at place cycle j ne) ∙ none))
         ∙ (ap (λ (es : List Edge). max (ripe at j g.edges) (ripe_from cycle j es)) is
         ∙ sym (ripe_issued at place cycle left j g.edges)));
   }
-
-  pub left_next : (keys fresh : List Key) (key : Key) → key ≡ key_of g place → fresh ≡ remove_key (is_at (key_cmp key)) keys → IsStrictlySortedBy key_cmp fresh → AreLeft g at keys → AreLeft g (and_issued at place cycle) fresh
-  left_next keys fresh key is removed ordered l = record { each = each; ordered = ordered; only = only }
-    where
-      each : (j : ℕ) → j < length g.nodes → and_issued at place cycle j ≡ None → Contains fresh (key_of g j)
-      each j lt none =
-          let ne : j ≢ place = λ (e : j ≡ place). let some = ap (and_issued at place cycle) e ∙ same_issued at place cycle in absurd (cc) in
-          let was = l.each j lt (sym (other_issued at place cycle j ne) ∙ none) in
-          let differs : is_at (key_cmp key) (key_of g j) ≡ false = not_equal (key_cmp key (key_of g j)) (λ (e : key_cmp key (key_of g j) ≡ Equal). ne (ap (λ (x : Key). x.1) (sym (exact_key key (key_of g j) e) ∙ is))) in
-          subst (λ (ks : List Key). Contains ks (key_of g j)) (sym removed) (remove_old key_cmp (is_at (key_cmp key)) keys (key_of g j) differs was)
-
-      only : (k : Key) → Contains fresh k → (k.1 < length g.nodes) × (and_issued at place cycle k.1 ≡ None) × (k ≡ key_of g k.1)
-      only k h =
-          let there = subst (λ (ks : List Key). Contains ks k) removed h in
-          let (within, none, whole) = l.only k (remove_only key_cmp (is_at (key_cmp key)) keys k there) in
-          let ne : k.1 ≢ place = λ (e : k.1 ≡ place).
-          let same : k ≡ key = whole ∙ (ap (key_of g) e ∙ sym is) in
-          remove_gone key_cmp exact_key same_key keys key l.ordered (subst (Contains (remove_key (is_at (key_cmp key)) keys)) same there) in
-          (within, other_issued at place cycle k.1 ne ∙ none, whole)
 
 -- ---- what may be issued
 
@@ -156,71 +108,96 @@ and_both : (a b : Bool) → a ≡ true → b ≡ true → (a && b) ≡ true
 and_both true b h k = k
 and_both false b h k = h
 
+-- what goes before one that goes before a third
+goes_before : (g : Graph) (k h : Key) (j : ℕ) → k ≡ key_of g k.1 → (k ≡ h) ⊎ (key_cmp k h ≡ Less) → (h ≡ key_of g j) ⊎ (key_cmp h (key_of g j) ≡ Less) → GoesBefore g k.1 j
+goes_before g k h j whole first then = go (order k h first) (order h (key_of g j) then)
+  where
+    order : (x y : Key) → (x ≡ y) ⊎ (key_cmp x y ≡ Less) → ((y.0).0 < (x.0).0) ⊎ (((x.0).0 ≡ (y.0).0) × (x.1 ≤ y.1))
+    order x y (inl e) = let height : (x.0).0 ≡ (y.0).0 = ap (λ (k : Key). (k.0).0) e in let spot : x.1 ≡ y.1 = ap (λ (k : Key). k.1) e in inr (height, omega (arith, spot))
+    order x y (inr e) = ⊎_elim
+        (λ (more : (y.0).0 < (x.0).0). inl more)
+        (λ (same : ((x.0).0 ≡ (y.0).0) × (x.1 < y.1)). inr (same.0, omega (arith, same.1)))
+        (less_key x y e)
+
+    height : (k.0).0 ≡ height_at g k.1
+    height = ap (λ (x : Key). (x.0).0) whole
+
+    go : ((h.0).0 < (k.0).0) ⊎ (((k.0).0 ≡ (h.0).0) × (k.1 ≤ h.1)) → (height_at g j < (h.0).0) ⊎ (((h.0).0 ≡ height_at g j) × (h.1 ≤ j)) → GoesBefore g k.1 j
+    go (inl a) (inl b) = inl (omega (arith, height, a, b))
+    go (inl a) (inr b) = inl (omega (arith, height, a, b.0))
+    go (inr a) (inl b) = inl (omega (arith, height, a.0, b))
+    go (inr a) (inr b) = inr (omega (arith, height, a.0, b.0), omega (arith, a.1, b.1))
+
 module _ (m : Machine) (g : Graph) (slots : List Slot) (cycle : ℕ) (states : List ℕ) (at : IsAt m g slots cycle states)
-    (counts ripes : List ℕ) (waits : AreWaits g (issued_at slots) counts ripes) (keys : List Key) (left : AreLeft g (issued_at slots) keys) where
+    (waiting : List Wait) (rows : List (BTreeSet Key)) (heads : List Key) (q : AreQueued g (issued_at slots) cycle waiting rows heads) (later : AreLater cycle waiting) where
   abbrev test : Key → Bool
-  test k = may m g counts ripes cycle states k.1
+  test k = may m g states k.1
 
-  candidate_there : (j : ℕ) → IsCandidate (IsWalked m) g slots cycle j → Contains keys (key_of g j)
-  candidate_there j c = left.each j c.within (issued_none slots j c.left)
+  abbrev fit : ℕ → Bool
+  fit class = is_some (parts_walk m.parts states (issue class ∷ []))
 
-  candidate_passes : (j : ℕ) → IsCandidate (IsWalked m) g slots cycle j → test (key_of g j) ≡ true
-  candidate_passes j c =
+  -- a candidate stands behind the first of its class
+  pub candidate_ready : (j : ℕ) → IsCandidate (IsWalked m) g slots cycle j → Contains (keys_at rows (class_at g j)) (key_of g j)
+  candidate_ready j c =
       let (none, low) = ready_back g slots cycle j at.told c.ready in
-      let zero : (slice_index counts j == 0) ≡ true = eq-eqb (slice_index counts j) 0 (waits.counted j ∙ none) in
-      let ripe_now : nat_le (slice_index ripes j) cycle ≡ true = le-leb (slice_index ripes j) cycle (omega (arith, waits.waited j (issued_none slots j c.left), low)) in
-      and_both (nat_lt j (length g.nodes)) (((slice_index counts j == 0) && nat_le (slice_index ripes j) cycle) && is_some (parts_walk m.parts states (issue (class_at g j) ∷ [])))
-      (lt-ltb j (length g.nodes) c.within)
-      (and_both ((slice_index counts j == 0) && nat_le (slice_index ripes j) cycle) (is_some (parts_walk m.parts states (issue (class_at g j) ∷ [])))
-      (and_both (slice_index counts j == 0) (nat_le (slice_index ripes j) cycle) zero ripe_now)
-      (candidate_fits m g slots cycle states at j c))
+      ⊎_elim
+      (λ (m : Contains waiting (ripe (issued_at slots) j g.edges, j)). let high = later (ripe (issued_at slots) j g.edges, j) m in absurd (omega (arith, high, low)))
+      (λ (m : Contains (keys_at rows (class_at g j)) (key_of g j)). m)
+      (q.each j (record { within = c.within; left = issued_none slots j c.left; none = none }))
 
-  passes_candidate : (k : Key) → Contains keys k → test k ≡ true → IsCandidate (IsWalked m) g slots cycle k.1
-  passes_candidate k there passes =
-      let j : ℕ = k.1 in
-      let (within, none, whole) = left.only k there in
-      let rest = and_right (nat_lt j (length g.nodes)) (((slice_index counts j == 0) && nat_le (slice_index ripes j) cycle) && is_some (parts_walk m.parts states (issue (class_at g j) ∷ []))) passes in
-      let now = and_left ((slice_index counts j == 0) && nat_le (slice_index ripes j) cycle) (is_some (parts_walk m.parts states (issue (class_at g j) ∷ []))) rest in
-      let fit = and_right ((slice_index counts j == 0) && nat_le (slice_index ripes j) cycle) (is_some (parts_walk m.parts states (issue (class_at g j) ∷ []))) rest in
-      let zero = eqb-true (slice_index counts j) 0 (and_left (slice_index counts j == 0) (nat_le (slice_index ripes j) cycle) now) in
-      let low = leb-true (slice_index ripes j) cycle (and_right (slice_index counts j == 0) (nat_le (slice_index ripes j) cycle) now) in
+  pub record IsHead (j : ℕ) : Type 0 where
+    pub head : Key
+    pub held : Contains heads head
+    pub before : (head ≡ key_of g j) ⊎ (key_cmp head (key_of g j) ≡ Less)
+    pub passes : test head ≡ true
+
+  head_of : (j : ℕ) → IsCandidate (IsWalked m) g slots cycle j → IsHead j
+  head_of j c =
+      let there = candidate_ready j c in
+      let (h, first) = first_some (keys_at rows (class_at g j)) (key_of g j) there in
+      let mine = q.ready (class_at g j) h (first_there (keys_at rows (class_at g j)) h first) in
       record {
-        within = within;
-        left = none_issued slots j none;
-        ready = ready_there g slots cycle j (sym (waits.counted j) ∙ zero) (omega (arith, waits.waited j none, low));
-        fits = fits_candidate m g slots cycle states at j fit;
+        head = h;
+        held = (q.first).each (class_at g j) h first;
+        before = first_before (keys_at rows (class_at g j)) h (q.ready_ordered (class_at g j)) first (key_of g j) there;
+        passes = and_both (nat_lt h.1 (length g.nodes)) (fit (class_at g h.1)) (lt-ltb h.1 (length g.nodes) (mine.free).within) (ap fit mine.classed ∙ candidate_fits m g slots cycle states at j c);
+      }
+
+  ready_of : (k : Key) → Contains heads k → Contains (keys_at rows (class_at g k.1)) k
+  ready_of k held = first_there (keys_at rows (class_at g k.1)) k ((q.first).only k held)
+
+  passes_candidate : (k : Key) → Contains heads k → test k ≡ true → IsCandidate (IsWalked m) g slots cycle k.1
+  passes_candidate k held passes =
+      let mine = q.ready (class_at g k.1) k (ready_of k held) in
+      record {
+        within = (mine.free).within;
+        left = none_issued slots k.1 (mine.free).left;
+        ready = ready_there g slots cycle k.1 (mine.free).none mine.waited;
+        fits = fits_candidate m g slots cycle states at k.1 (and_right (nat_lt k.1 (length g.nodes)) (fit (class_at g k.1)) passes);
       }
 
   -- none is found where none may be issued
-  pub none_may : option_map (λ k. k.1) (find test keys) ≡ None → (j : ℕ) → IsCandidate (IsWalked m) g slots cycle j → ⊥
-  none_may e j c = go (find test keys) refl e
+  pub none_may : option_map (λ k. k.1) (find test heads) ≡ None → (j : ℕ) → IsCandidate (IsWalked m) g slots cycle j → ⊥
+  none_may e j c = go (find test heads) refl e
     where
-      go : (o : Option Key) → find test keys ≡ o → option_map (λ k. k.1) o ≡ None → ⊥
-      go None is e = none_passes test keys is (key_of g j) (candidate_there j c) (candidate_passes j c)
+      go : (o : Option Key) → find test heads ≡ o → option_map (λ k. k.1) o ≡ None → ⊥
+      go None is e = let h = head_of j c in none_passes test heads is h.head h.held h.passes
       go (Some k) is e = cc
 
   -- the one that is found is the first that may be issued
-  pub first_may : (place : ℕ) → option_map (λ k. k.1) (find test keys) ≡ Some place → IsCandidate (IsWalked m) g slots cycle place × ((j : ℕ) → IsCandidate (IsWalked m) g slots cycle j → GoesBefore g place j)
-  first_may place e = go (find test keys) refl e
+  pub first_may : (place : ℕ) → option_map (λ k. k.1) (find test heads) ≡ Some place → IsCandidate (IsWalked m) g slots cycle place × ((j : ℕ) → IsCandidate (IsWalked m) g slots cycle j → GoesBefore g place j)
+  first_may place e = go (find test heads) refl e
     where
-      go : (o : Option Key) → find test keys ≡ o → option_map (λ k. k.1) o ≡ Some place → IsCandidate (IsWalked m) g slots cycle place × ((j : ℕ) → IsCandidate (IsWalked m) g slots cycle j → GoesBefore g place j)
+      go : (o : Option Key) → find test heads ≡ o → option_map (λ k. k.1) o ≡ Some place → IsCandidate (IsWalked m) g slots cycle place × ((j : ℕ) → IsCandidate (IsWalked m) g slots cycle j → GoesBefore g place j)
       go None is e = absurd (cc)
       go (Some k) is e =
           let same : k.1 ≡ place = cc in
-          let (there, passes) = found_passes test keys k is in
-          let (within, none, whole) = left.only k there in
+          let (held, passes) = found_passes test heads k is in
+          let mine = q.ready (class_at g k.1) k (ready_of k held) in
           let before : (j : ℕ) → IsCandidate (IsWalked m) g slots cycle j → GoesBefore g k.1 j = λ j c.
-          ordered k j whole (found_first key_cmp exact_key same_key test keys k left.ordered is (key_of g j) (candidate_there j c) (candidate_passes j c)) in
-          subst (λ (i : ℕ). IsCandidate (IsWalked m) g slots cycle i × ((j : ℕ) → IsCandidate (IsWalked m) g slots cycle j → GoesBefore g i j)) same (passes_candidate k there passes, before)
-        where
-          ordered : (k : Key) (j : ℕ) → k ≡ key_of g k.1 → (k ≡ key_of g j) ⊎ (key_cmp k (key_of g j) ≡ Less) → GoesBefore g k.1 j
-          ordered k j whole (inl e) = let at : k.1 ≡ j = ap (λ (x : Key). x.1) e in inr (ap (height_at g) at, omega arith)
-          ordered k j whole (inr e) =
-              let height : (k.0).0 ≡ height_at g k.1 = ap (λ (x : Key). (x.0).0) whole in
-              ⊎_elim
-              (λ (more : height_at g j < (k.0).0). inl (omega arith))
-              (λ (same : ((k.0).0 ≡ height_at g j) × (k.1 < j)). inr (omega (arith, same.0), omega (arith, same.1)))
-              (less_key k (key_of g j) e)
+          let h = head_of j c in
+          goes_before g k h.head j mine.key (found_first key_cmp exact_key same_key test heads k (q.first).ordered is h.head h.held h.passes) h.before in
+          subst (λ (i : ℕ). IsCandidate (IsWalked m) g slots cycle i × ((j : ℕ) → IsCandidate (IsWalked m) g slots cycle j → GoesBefore g i j)) same (passes_candidate k held passes, before)
 
 -- ---- rows
 
@@ -238,26 +215,12 @@ pub both_written : (g : Graph) (at : ℕ → Option ℕ) (n k : ℕ) (fresh rest
 both_written g at n k fresh rest later tail e f h =
     subst (λ (xs : List ℕ). AreWaits g at xs (take k (later ++ tail))) (sym (written n fresh rest e)) (subst (AreWaits g at fresh) (sym (written k later tail f)) h)
 
--- ---- waiting
+-- ---- the queue of a board
 
-none_found : {K : Type 0} (p : K → Bool) (ks : List K) → ((x : K) → p x ≡ true → ⊥) → find p ks ≡ None
-none_found p [] fails = refl
-none_found p (x ∷ ks) fails = go (p x) refl (none_found p ks fails)
-  where
-    go : (b : Bool) → p x ≡ b → find p ks ≡ None → cond b (Some x) (find p ks) ≡ None
-    go true h rest = absurd (fails x h)
-    go false h rest = rest
-
--- before the earliest cycle none may be issued
-pub none_before : (m : Machine) (g : Graph) (counts ripes : List ℕ) (cycle earliest : ℕ) (states : List ℕ) (keys : List Key) → length counts ≡ length g.nodes → IsSoonest counts ripes earliest → cycle < earliest → None ≡ option_map (λ (k : Key). k.1) (find (λ (k : Key). may m g counts ripes cycle states k.1) keys)
-none_before m g counts ripes cycle earliest states keys wide soonest early = sym (ap (option_map (λ (k : Key). k.1)) (none_found (λ (k : Key). may m g counts ripes cycle states k.1) keys (λ k. fails k.1)))
-  where
-    fails : (j : ℕ) → may m g counts ripes cycle states j ≡ true → ⊥
-    fails j passes =
-        let within = ltb-true j (length g.nodes) (and_left (nat_lt j (length g.nodes)) (((slice_index counts j == 0) && nat_le (slice_index ripes j) cycle) && is_some (parts_walk m.parts states (issue (class_at g j) ∷ []))) passes) in
-        let rest = and_right (nat_lt j (length g.nodes)) (((slice_index counts j == 0) && nat_le (slice_index ripes j) cycle) && is_some (parts_walk m.parts states (issue (class_at g j) ∷ []))) passes in
-        let now = and_left ((slice_index counts j == 0) && nat_le (slice_index ripes j) cycle) (is_some (parts_walk m.parts states (issue (class_at g j) ∷ []))) rest in
-        let zero = eqb-true (slice_index counts j) 0 (and_left (slice_index counts j == 0) (nat_le (slice_index ripes j) cycle) now) in
-        let low = leb-true (slice_index ripes j) cycle (and_right (slice_index counts j == 0) (nat_le (slice_index ripes j) cycle) now) in
-        let high = soonest j (omega (arith, wide, within)) zero in
-        omega (arith, low, high, early)
+-- the first instructions wait, and none is ready
+pub board_queue : (g : Graph) (counts ripes seen late : List ℕ) (queue : Queue) → AreWaits g (issued_at []) counts ripes → seen ≡ counts → late ≡ ripes → ((j : ℕ) → j < length g.nodes → class_at g j < length queue.ready.items)
+    → queue.waiting.keys ≡ free_below seen late (length seen) → IsStrictlySortedBy wait_cmp queue.waiting.keys → ((class : ℕ) → keys_at queue.ready.items class ≡ []) → queue.heads.keys ≡ [] → IsQueue g (issued_at []) 0 queue
+board_queue g counts ripes seen late queue waits same alike classes waiting ordered none heads =
+    let held : queue.waiting.keys ≡ free_below counts ripes (length counts) = waiting ∙ (ap (λ (xs : List ℕ). free_below xs late (length xs)) same ∙ ap (λ (xs : List ℕ). free_below counts xs (length counts)) alike) in
+    let start = queue_start g counts ripes waits queue.ready.items none classes (length counts) waits.counts_size (subst (IsStrictlySortedBy wait_cmp) held ordered) in
+    subst (λ (hs : List Key). AreQueued g (issued_at []) 0 queue.waiting.keys queue.ready.items hs) (sym heads) (subst (λ (ws : List Wait). AreQueued g (issued_at []) 0 ws queue.ready.items []) (sym held) start)

@@ -1,3 +1,4 @@
+pub mod ResultLemmas
 pub mod RowLemmas
 pub mod SpellLemmas
 pub mod SlotLemmas
@@ -6,6 +7,7 @@ pub mod WalkLemmas
 pub mod StandLemmas
 pub mod ComesLemmas
 pub mod KeyLemmas
+pub mod QueueLemmas
 pub mod BoardLemmas
 pub mod SchedLemmas
 pub mod TraceLemmas

@@ -1,12 +1,16 @@
 -- Edges by the instruction that they lead from.
-use Rattle.std.proofs.Common.{◌≡◌, ℕ, zero, suc, ◌<◌, ◌==◌, Bool, true, false, cond, List, [], ◌∷◌, ◌++◌, length, get_or, set, map, filter, refl, sym, ap, ◌∙◌, append_assoc, arith}
+use Rattle.std.proofs.Common.{◌≡◌, ◌≢◌, ℕ, zero, suc, ◌<◌, ◌==◌, Bool, true, false, cond, List, [], ◌∷◌, ◌++◌, length, get_or, set, map, filter, refl, sym, ap, ◌∙◌, append_assoc, subst, arith}
 use Rattle.std.specs.declared.alloc.Global.{Global}
 use Rattle.std.specs.declared.vec.Vec.{Vec}
 use Rattle.std.proofs.lemmas.Bool.{eqb-true, eqb-false}
-use Rattle.std.proofs.lemmas.List.{length-map, map-set, get_or-set_same, get_or-set_other, get_or-map, append-nil}
+use Rattle.std.proofs.lemmas.List.{length-map, length-set, map-set, get_or-set_same, get_or-set_other, get_or-map, append-nil}
 use Rattle.std.proofs.lemmas.List.Elements.{filter-append}
 use Rattle.hz_depend.specs.declared.parts.Edge.{Edge}
+use Rattle.std.specs.Prelude.{slice_get}
+use Rattle.std.specs.List.Sorted.{IsStrictlySortedBy}
+use Rattle.std.specs.BTreeSet.{BTreeSet}
 use Rattle.hz_sched.specs.Rows.{row_at}
+use Rattle.hz_sched.specs.Pending.{Key, key_cmp, keys_at, with_head, without_head, ChangesRow}
 
 abbrev Rows : Type 0
 Rows = List (Vec Edge Global)
@@ -49,3 +53,52 @@ row_next old new rest all edge i more was =
     ap (λ (xs : List Edge). xs ++ filter (λ e. e.from == i) rest) more
     ∙ (append_assoc old (filter (λ e. e.from == i) (edge ∷ [])) (filter (λ e. e.from == i) rest)
     ∙ (ap (λ (xs : List Edge). old ++ xs) (sym (filter-append (λ e. e.from == i) (edge ∷ []) rest)) ∙ was))
+
+-- ---- ready instructions by class
+
+abbrev Sets : Type 0
+Sets = List (BTreeSet Key)
+
+pub no_keys_more : (rows : Sets) (row : BTreeSet Key) → row.keys ≡ [] → ((i : ℕ) → keys_at rows i ≡ []) → (i : ℕ) → keys_at (rows ++ row ∷ []) i ≡ []
+no_keys_more [] row e none zero = e
+no_keys_more [] row e none (suc i) = refl
+no_keys_more (r ∷ rows) row e none zero = none 0
+no_keys_more (r ∷ rows) row e none (suc i) = no_keys_more rows row e (λ k. none (suc k)) i
+
+module _ (rows : Sets) (class : ℕ) (old new : BTreeSet Key) (within : class < length rows) where
+  abbrev keys : List (List Key)
+  keys = map (λ (row : BTreeSet Key). row.keys) rows
+
+  long : length keys ≡ length rows
+  long = length-map rows (λ (row : BTreeSet Key). row.keys)
+
+  -- the keys of a set that is changed
+  was_there : old ≡ get_or rows class old → keys_at rows class ≡ old.keys
+  was_there is = get_or-map (λ (row : BTreeSet Key). row.keys) rows class old [] within ∙ ap (λ (row : BTreeSet Key). row.keys) (sym is)
+
+  now_at : (i : ℕ) → keys_at (set rows class new) i ≡ get_or (set keys class new.keys) i []
+  now_at i = ap (λ (xs : List (List Key)). get_or xs i []) (map-set (λ (row : BTreeSet Key). row.keys) rows class new)
+
+  now_there : keys_at (set rows class new) class ≡ new.keys
+  now_there = now_at class ∙ get_or-set_same keys class new.keys [] (omega (arith, long, within))
+
+  now_apart : (i : ℕ) → i ≢ class → keys_at (set rows class new) i ≡ keys_at rows i
+  now_apart i ne = now_at i ∙ get_or-set_other keys class i new.keys [] ne
+
+  -- one set is changed, and with it the first of its class
+  pub row_changed : (row : List Key → List Key) (heads others : List Key) → old ≡ get_or rows class old → new.keys ≡ row old.keys → IsStrictlySortedBy key_cmp new.keys
+      → others ≡ with_head (slice_get new.keys 0) (without_head (slice_get old.keys 0) heads) → IsStrictlySortedBy key_cmp others
+      → ChangesRow class (row (keys_at rows class)) rows (set rows class new) heads others
+  row_changed row heads others is changed sorted first ordered =
+      let was = was_there is in
+      let here : new.keys ≡ row (keys_at rows class) = changed ∙ ap row (sym was) in
+      record {
+        size = length-set rows class new;
+        here = now_there ∙ here;
+        ordered = subst (IsStrictlySortedBy key_cmp) here sorted;
+        apart = now_apart;
+        first = first
+            ∙ (ap (λ (ks : List Key). with_head (slice_get ks 0) (without_head (slice_get old.keys 0) heads)) here
+            ∙ ap (λ (ks : List Key). with_head (slice_get (row (keys_at rows class)) 0) (without_head (slice_get ks 0) heads)) (sym was));
+        heads_ordered = ordered;
+      }

@@ -1,6 +1,6 @@
 -- The board of a schedule, step by step.
-use Rattle.std.proofs.Common.{◌≡◌, ℕ, suc, ◌+◌, ◌<◌, ◌≤◌, Bool, true, false, not, cond, List, [], ◌∷◌, ◌++◌, length, map, replicate, Option, Some, None, is_some, Result, Ok, Err, All, get_or, refl, sym, ap, ◌∙◌, subst, arith}
-use Rattle.std.specs.Prelude.{slice_get, slice_index, OnOk, position, nat_lt}
+use Rattle.std.proofs.Common.{◌≡◌, ℕ, suc, ◌+◌, ◌<◌, ◌≤◌, Bool, true, false, not, cond, List, [], ◌∷◌, ◌++◌, length, map, replicate, Option, Some, None, is_some, All, Contains, get_or, refl, sym, ap, ◌∙◌, subst, arith}
+use Rattle.std.specs.Prelude.{slice_get, slice_index, position, nat_lt}
 use Rattle.std.specs.Bool.{OnTrue, OnFalse}
 use Rattle.std.specs.List.{find, position_or_len, AllPairs}
 use Rattle.std.specs.Option.{option_map}
@@ -24,14 +24,15 @@ use Rattle.hz_sched_model.proofs.SameSchedules.{greedy_within}
 use Rattle.hz_sched.specs.Shape.{graph_of, node_of, slot_of, slots_of}
 use Rattle.hz_sched.specs.declared.parts.Slot as made
 use Rattle.hz_sched.specs.declared.board.Board.{Board}
+use Rattle.hz_sched.specs.declared.queue.Queue.{Queue}
 use Rattle.hz_sched.specs.Waits.{issued_at, and_issued}
 use Rattle.hz_sched.specs.Standing.{IsAt, IsUpward, AllStart, left_below}
-use Rattle.hz_sched.specs.Pending.{Key, AreWaits, AreLeft, IsBoard, may}
+use Rattle.hz_sched.specs.Pending.{Key, key_of, keys_at, AreWaits, IsInRange, IsQueue, AreLater, IsBoard, may}
 use Rattle.hz_sched_model.proofs.SlotLaws.{present-push, below_present}
 use Rattle.hz_sched.proofs.SlotLemmas.{left_less}
 use Rattle.hz_sched.proofs.StandLemmas.{at_start, next_cycle, next_issue, now_issued, was_left, candidate_fits}
 use Rattle.hz_sched.proofs.ComesLemmas.{some_comes}
-use Rattle.hz_sched.proofs.BoardLemmas.{none_may, first_may, classes_of_nodes}
+use Rattle.hz_sched.proofs.BoardLemmas.{none_may, first_may, candidate_ready, classes_of_nodes}
 
 -- ---- states
 
@@ -56,13 +57,13 @@ nothing_walked (part ∷ parts) = ap (onto_states (Some 0)) (nothing_walked part
 
 -- ---- the board
 
-pub board_start : (m : Machine) (g : Graph) (board : Board) (states : List ℕ) → board.slots.items ≡ [] → board.cycle ≡ 0 → states ≡ starts_of m → AreWaits g (issued_at []) board.counts.items board.ripes.items → AreLeft g (issued_at []) board.left.keys → IsBoard m g board states
-board_start m g board states none at_zero start waits left =
+pub board_start : (m : Machine) (g : Graph) (board : Board) (states : List ℕ) → board.slots.items ≡ [] → board.cycle ≡ 0 → states ≡ starts_of m → AreWaits g (issued_at []) board.counts.items board.ripes.items → IsQueue g (issued_at []) 0 board.queue → IsBoard m g board states
+board_start m g board states none at_zero start waits queued =
     let slots : [] ≡ slots_of board.slots.items = ap slots_of (sym none) in
     record {
       at = subst (λ (ss : List ℕ). IsAt m g (slots_of board.slots.items) board.cycle ss) (sym start) (subst (λ (c : ℕ). IsAt m g (slots_of board.slots.items) c (starts_of m)) (sym at_zero) (subst (λ (xs : List Slot). IsAt m g xs 0 (starts_of m)) slots (at_start m g (nothing_walked m.parts))));
       waits = subst (λ (xs : List Slot). AreWaits g (issued_at xs) board.counts.items board.ripes.items) slots waits;
-      left = subst (λ (xs : List Slot). AreLeft g (issued_at xs) board.left.keys) slots left;
+      queued = subst (λ (xs : List Slot). IsQueue g (issued_at xs) board.cycle board.queue) slots (subst (λ (c : ℕ). IsQueue g (issued_at []) c board.queue) (sym at_zero) queued);
     }
 
 -- The instruction that is issued next.
@@ -71,17 +72,21 @@ pub record IsNext (m : Machine) (g : Graph) (board : Board) (place : ℕ) : Type
   pub first : (j : ℕ) → IsCandidate (IsWalked m) g (slots_of board.slots.items) board.cycle j → GoesBefore g place j
 
 module _ (m : Machine) (g : Graph) (board : Board) (states : List ℕ) (b : IsBoard m g board states) where
-  -- the place that the set of the board tells
+  -- the place that the queue of the board tells
   abbrev pub told : List ℕ → Option ℕ
-  told seen = option_map (λ (k : Key). k.1) (find (λ (k : Key). may m g board.counts.items board.ripes.items board.cycle seen k.1) board.left.keys)
+  told seen = option_map (λ (k : Key). k.1) (find (λ (k : Key). may m g seen k.1) board.queue.heads.keys)
 
-  pub is_next : (seen : List ℕ) → seen ≡ states → (place : ℕ) → Some place ≡ told seen → IsNext m g board place
-  is_next seen same place e =
-      let found = first_may m g (slots_of board.slots.items) board.cycle states b.at board.counts.items board.ripes.items b.waits board.left.keys b.left place (sym (e ∙ ap told same)) in
-      record { may = found.0; first = found.1 }
+  module _ (later : AreLater board.cycle board.queue.waiting.keys) where
+    pub is_next : (seen : List ℕ) → seen ≡ states → (place : ℕ) → Some place ≡ told seen → IsNext m g board place
+    is_next seen same place e =
+        let found = first_may m g (slots_of board.slots.items) board.cycle states b.at board.queue.waiting.keys board.queue.ready.items board.queue.heads.keys b.queued later place (sym (e ∙ ap told same)) in
+        record { may = found.0; first = found.1 }
 
-  pub none_next : (seen : List ℕ) → seen ≡ states → None ≡ told seen → (j : ℕ) → IsCandidate (IsWalked m) g (slots_of board.slots.items) board.cycle j → ⊥
-  none_next seen same e j c = none_may m g (slots_of board.slots.items) board.cycle states b.at board.counts.items board.ripes.items b.waits board.left.keys b.left (sym (e ∙ ap told same)) j c
+    pub none_next : (seen : List ℕ) → seen ≡ states → None ≡ told seen → (j : ℕ) → IsCandidate (IsWalked m) g (slots_of board.slots.items) board.cycle j → ⊥
+    none_next seen same e j c = none_may m g (slots_of board.slots.items) board.cycle states b.at board.queue.waiting.keys board.queue.ready.items board.queue.heads.keys b.queued later (sym (e ∙ ap told same)) j c
+
+    pub next_ready : (place : ℕ) → IsNext m g board place → Contains (keys_at board.queue.ready.items (class_at g place)) (key_of g place)
+    next_ready place n = candidate_ready m g (slots_of board.slots.items) board.cycle states b.at board.queue.waiting.keys board.queue.ready.items board.queue.heads.keys b.queued later place n.may
 
   pub next_fits : (place : ℕ) → IsNext m g board place → is_some (parts_walk m.parts states (issue (class_at g place) ∷ [])) ≡ true
   next_fits place n = candidate_fits m g (slots_of board.slots.items) board.cycle states b.at place n.may
@@ -91,11 +96,11 @@ module _ (m : Machine) (g : Graph) (board : Board) (states : List ℕ) (b : IsBo
     now : issued_at (slots_of new.slots.items) ≡ and_issued (issued_at (slots_of board.slots.items)) place board.cycle
     now = ap issued_at slots ∙ now_issued m g (slots_of board.slots.items) board.cycle states b.at place n.may n.first
 
-    pub board_next : AreWaits g (and_issued (issued_at (slots_of board.slots.items)) place board.cycle) new.counts.items new.ripes.items → AreLeft g (and_issued (issued_at (slots_of board.slots.items)) place board.cycle) new.left.keys → IsBoard m g new next
-    board_next waits left = record {
+    pub board_next : AreWaits g (and_issued (issued_at (slots_of board.slots.items)) place board.cycle) new.counts.items new.ripes.items → IsQueue g (and_issued (issued_at (slots_of board.slots.items)) place board.cycle) board.cycle new.queue → IsBoard m g new next
+    board_next waits queued = record {
       at = subst (λ (c : ℕ). IsAt m g (slots_of new.slots.items) c next) (sym cycle) (subst (λ (xs : List Slot). IsAt m g xs board.cycle next) (sym slots) (next_issue m g (slots_of board.slots.items) board.cycle states b.at place n.may n.first next step));
       waits = subst (λ (f : ℕ → Option ℕ). AreWaits g f new.counts.items new.ripes.items) (sym now) waits;
-      left = subst (λ (f : ℕ → Option ℕ). AreLeft g f new.left.keys) (sym now) left;
+      queued = subst (λ (f : ℕ → Option ℕ). IsQueue g f new.cycle new.queue) (sym now) (subst (λ (c : ℕ). IsQueue g (and_issued (issued_at (slots_of board.slots.items)) place board.cycle) c new.queue) (sym cycle) queued);
     }
 
     pub present_next : new.cycle ≡ present 0 (slots_of new.slots.items)
@@ -116,6 +121,31 @@ module _ (m : Machine) (g : Graph) (board : Board) (states : List ℕ) (b : IsBo
       let (j, c) = some_comes m g settles upward ranges start.alone (slots_of board.slots.items) board.cycle states b.at left 1000 256 257 (present 0 (slots_of board.slots.items) + 1256) refl refl (omega (arith, late)) (omega arith) in
       (b.at).barren (present 0 (slots_of board.slots.items) + 1256) j (omega arith) (omega (arith, late)) c
 
+-- the queue is another, which holds the same
+pub queue_next : (m : Machine) (g : Graph) (board : Board) (states : List ℕ) (queue : Queue) → IsBoard m g board states → ((at : ℕ → Option ℕ) → IsQueue g at board.cycle board.queue → IsQueue g at board.cycle queue) → IsBoard m g (record board { queue = queue }) states
+queue_next m g board states queue b holds = record { at = b.at; waits = b.waits; queued = holds (issued_at (slots_of board.slots.items)) b.queued }
+
+pub queue_in_range : (g : Graph) (at : ℕ → Option ℕ) (cycle : ℕ) (queue : Queue) → IsQueue g at cycle queue → IsInRange g queue
+queue_in_range g at cycle queue q = record {
+  places = λ w h. ((q.waits w h).free).within;
+  waiting_ordered = q.waiting_ordered;
+  classes = q.classes;
+  heads_ordered = (q.first).ordered;
+}
+
+-- a cycle later those that are ready are so too
+pub queue_later : (g : Graph) (at : ℕ → Option ℕ) (cycle : ℕ) (queue : Queue) → IsQueue g at cycle queue → IsQueue g at (cycle + 1) queue
+queue_later g at cycle queue q = record {
+  done = q.done;
+  classes = q.classes;
+  each = q.each;
+  waiting_ordered = q.waiting_ordered;
+  waits = q.waits;
+  ready_ordered = q.ready_ordered;
+  ready = λ class k h. let r = q.ready class k h in let early = r.waited in record { free = r.free; waited = omega arith; classed = r.classed; key = r.key };
+  first = q.first;
+}
+
 -- an issue that fits is taken
 pub is_taken : (m : Machine) (s : Standing) (next : List ℕ) (class k : ℕ) (b : Bool) → s.machine ≡ m → k ≡ class → OnTrue b (parts_walk (s.machine).parts s.states (issue k ∷ []) ≡ Some next) → OnFalse b (parts_walk (s.machine).parts s.states (issue k ∷ []) ≡ None)
     → is_some (parts_walk m.parts s.states (issue class ∷ [])) ≡ true → parts_walk m.parts s.states (issue class ∷ []) ≡ Some next
@@ -127,10 +157,6 @@ is_taken m s next class k b machine same taken refused fits = go b taken refused
     go : (b : Bool) → OnTrue b (parts_walk (s.machine).parts s.states (issue k ∷ []) ≡ Some next) → OnFalse b (parts_walk (s.machine).parts s.states (issue k ∷ []) ≡ None) → parts_walk m.parts s.states (issue class ∷ []) ≡ Some next
     go true t r = sym walk ∙ t
     go false t r = let none = sym walk ∙ r in absurd (cc)
-
-pub on_ok : {T E A B C D F : Type 0} (r : Result T E) → (A → B → C → D → F) → OnOk r A → OnOk r B → OnOk r C → OnOk r D → OnOk r F
-on_ok (Ok x) f a b c d = f a b c d
-on_ok (Err e) f a b c d = tt
 
 -- ---- slots
 

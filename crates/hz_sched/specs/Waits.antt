@@ -1,5 +1,5 @@
 -- What instructions wait for. These words are only to prove with.
-use Rattle.std.specs.Prelude.{◌≡◌, ℕ, ◌+◌, ◌<◌, ◌≤◌, ◌==◌, ◌&&◌, not, is_some, if◌then◌else◌, max, length, slice_index, List, [], ◌∷◌, Option, Some, None}
+use Rattle.std.specs.Prelude.{ℕ, ◌+◌, ◌==◌, ◌&&◌, not, is_some, if◌then◌else◌, max, List, [], ◌∷◌, Option, Some, None}
 use Rattle.hz_depend_model.specs.Graphs.{Edge}
 use Rattle.hz_sched_model.specs.Schedules.{Slot}
 
@@ -36,7 +36,3 @@ leading j (e ∷ edges) = (if e.to == j then 1 else 0) + leading j edges
 abbrev pub ripe_from : ℕ → ℕ → List Edge → ℕ
 ripe_from cycle j [] = 0
 ripe_from cycle j (e ∷ edges) = max (if e.to == j then cycle + e.cost else 0) (ripe_from cycle j edges)
-
--- before this cycle no instruction has waited for all others
-abbrev pub IsSoonest : List ℕ → List ℕ → ℕ → Type 0
-IsSoonest counts ripes cycle = (j : ℕ) → j < length counts → slice_index counts j ≡ 0 → cycle ≤ slice_index ripes j

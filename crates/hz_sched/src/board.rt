@@ -1,29 +1,21 @@
 //! A schedule that is made, and what is left for it.
 
-ghost use Rattle.std.specs.Prelude.{◌≡◌, ◌≤◌, ◌<◌, ◌+◌, ◌==◌, ◌++◌, ◌∷◌, [], ℕ, Some, None, length, map, All, IfOk, OnOk, slice_index, filter, nat_le, replicate, is_some, ◌&&◌, ◌^◌};
-ghost use Rattle.std.specs.List.{find, Contains};
-ghost use Rattle.std.specs.Option.{option_map};
+ghost use Rattle.std.specs.Prelude.{◌≡◌, ◌≤◌, ◌<◌, ◌+◌, ◌==◌, ◌++◌, ◌∷◌, [], None, length, All, IfOk, OnOk, filter, replicate, ◌^◌};
+ghost use Rattle.std.specs.List.{Contains};
 ghost use Rattle.hz_base_model.specs.Limits.{latency_limit};
-ghost use Rattle.hz_acceptance_model.specs.Events.{issue};
-ghost use Rattle.hz_tables_model.specs.Machines.{parts_walk};
-ghost use Rattle.hz_tables.specs.Machines.{machine_of};
-ghost use Rattle.hz_replay.specs.Replaying.{AreStates};
 ghost use Rattle.hz_sched_model.specs.Schedules as model;
-ghost use Rattle.hz_sched.specs.Shape.{graph_of, slots_of, slot_of};
-ghost use Rattle.hz_sched.specs.Rows.{row_at};
-ghost use Rattle.hz_sched.specs.Waits.{IsSoonest, issued_at, and_issued};
-ghost use Rattle.hz_sched.specs.Pending.{Key, AreWaits, AreLeft, may, key_of};
+ghost use Rattle.hz_sched.specs.Shape.{graph_of, slots_of};
+ghost use Rattle.hz_sched.specs.Waits.{issued_at, and_issued};
+ghost use Rattle.hz_sched.specs.Pending.{key_of, keys_at, AreWaits, IsQueue, AreLater};
 
-use crate::fitting::fits;
 use crate::parts::Slot;
+use crate::queue::{Queue, height_at};
 use crate::spelling::class_at;
-use crate::waiting::{counts_of, end_waits};
+use crate::waiting::{counts_of, release};
 use hz_depend::{Edge, Graph};
 use hz_regexp::NoMemory;
-use hz_tables::Machine;
 use std::alloc::Global;
 use std::cmp::Reverse;
-use std::collections::BTreeSet;
 
 /// The slots so far, the present cycle, and the instructions that are left.
 #[derive(Drop)]
@@ -34,20 +26,8 @@ pub struct Board {
     pub counts: Vec<usize>,
     /// For each instruction the first cycle at which it has waited for those that are issued.
     pub ripes: Vec<u32>,
-    /// The instructions that are left: the greatest height first, and of equal ones the first in the source.
-    pub left: BTreeSet<(Reverse<u32>, u32)>,
-}
-
-/// The heights and places of all instructions.
-fn all_of(alloc: Global, graph: &Graph) -> Result<BTreeSet<(Reverse<u32>, u32)>, NoMemory>
-    requires { length graph.now.insns.items ≤ 4096 }
-    ensures { IfOk result (λ all. AreLeft (graph_of graph.now) (issued_at []) all.keys) }
-{
-    let mut all = BTreeSet::new(alloc);
-    for place in 0..graph.insns.len() as u32 {
-        all.insert((Reverse(height_at(graph, place)), place))?;
-    }
-    Ok(all)
+    /// The instructions that are left and wait for no other.
+    pub queue: Queue,
 }
 
 /// No instruction waits for an issue.
@@ -58,25 +38,26 @@ fn no_waits(alloc: Global, count: usize) -> Result<Vec<u32>, NoMemory>
 }
 
 impl Board {
-    /// Nothing is issued yet.
-    pub fn new(alloc: Global, graph: &Graph) -> Result<Board, NoMemory>
+    /// Nothing is issued yet. The classes are numbers below this one.
+    pub fn new(alloc: Global, graph: &Graph, classes: usize) -> Result<Board, NoMemory>
         requires few { length graph.now.insns.items ≤ 4096 }
+        requires classes { All (λ i. i.class < classes) graph.now.insns.items }
         requires edges { All (λ e. e.to < length graph.now.insns.items) graph.now.edges.items }
         ensures slots { IfOk result (λ board. board.slots.items ≡ []) }
         ensures cycle { IfOk result (λ board. board.cycle ≡ 0) }
         ensures waits { IfOk result (λ board. AreWaits (graph_of graph.now) (issued_at []) board.counts.items board.ripes.items) }
-        ensures left { IfOk result (λ board. AreLeft (graph_of graph.now) (issued_at []) board.left.keys) }
+        ensures queued { IfOk result (λ board. IsQueue (graph_of graph.now) (issued_at []) 0 board.queue) }
     {
         let count = graph.insns.len();
         let counts = counts_of(alloc, count, &graph.edges)?;
         let ripes = no_waits(alloc, count)?;
-        let left = all_of(alloc, graph)?;
+        let queue = Queue::new(alloc, classes, &counts, &ripes)?;
         Ok(Board {
             slots: Vec::new(alloc),
             cycle: 0,
             counts,
             ripes,
-            left,
+            queue,
         })
     }
 
@@ -87,92 +68,43 @@ impl Board {
         self.slots
     }
 
-    /// Whether an instruction has waited for all others, and fits.
-    fn is_next(&self, machine: &Machine, graph: &Graph, states: &[u32], place: u32) -> bool
-        requires states { AreStates (machine_of machine.now) states.now }
-        requires classes { All (λ i. i.class < length machine.now.classes.items) graph.now.insns.items }
-        requires counts { length self.now.counts.items ≡ length graph.now.insns.items }
-        requires ripes { length self.now.ripes.items ≡ length graph.now.insns.items }
-        requires place { place < length graph.now.insns.items }
-        ensures { result ≡ ((slice_index self.now.counts.items place == 0) && nat_le (slice_index self.now.ripes.items place) self.now.cycle) && is_some (parts_walk (machine_of machine.now).parts states.now (issue (model.class_at (graph_of graph.now) place) ∷ [])) }
-    {
-        if self.counts[place as usize] > 0 || self.ripes[place as usize] > self.cycle {
-            return false;
-        }
-        fits(machine, states, class_at(graph, place))
-    }
-
-    /// Whether an instruction may be issued now.
-    fn may_issue(&self, machine: &Machine, graph: &Graph, states: &[u32], place: u32) -> bool
-        requires states { AreStates (machine_of machine.now) states.now }
-        requires classes { All (λ i. i.class < length machine.now.classes.items) graph.now.insns.items }
-        requires counts { length self.now.counts.items ≡ length graph.now.insns.items }
-        requires ripes { length self.now.ripes.items ≡ length graph.now.insns.items }
-        ensures { result ≡ may (machine_of machine.now) (graph_of graph.now) self.now.counts.items self.now.ripes.items self.now.cycle states.now place }
-    {
-        if (place as usize) < graph.insns.len() {
-            self.is_next(machine, graph, states, place)
-        } else {
-            false
-        }
-    }
-
-    /// The first instruction that may be issued now. Before the earliest cycle no instruction has waited for all others.
-    pub fn first(
-        &self,
-        earliest: u32,
-        machine: &Machine,
-        graph: &Graph,
-        states: &[u32],
-    ) -> Option<u32>
-        requires earliest { IsSoonest self.now.counts.items self.now.ripes.items earliest }
-        requires states { AreStates (machine_of machine.now) states.now }
-        requires classes { All (λ i. i.class < length machine.now.classes.items) graph.now.insns.items }
-        requires counts { length self.now.counts.items ≡ length graph.now.insns.items }
-        requires ripes { length self.now.ripes.items ≡ length graph.now.insns.items }
-        ensures { result ≡ option_map (λ k. k.1) (find (λ k. may (machine_of machine.now) (graph_of graph.now) self.now.counts.items self.now.ripes.items self.now.cycle states.now k.1) self.now.left.keys) }
-    {
-        if self.cycle < earliest {
-            return None;
-        }
-        match self
-            .left
-            .iter()
-            .find(|key| self.may_issue(machine, graph, states, key.1))
-        {
-            Some(key) => Some(key.1),
-            None => None,
-        }
-    }
-
-    /// Issues an instruction that is left, where these edges lead from it.
-    pub fn issue(&mut self, graph: &Graph, row: &[Edge], place: u32) -> Result<(), NoMemory>
+    /// An instruction that is left is issued at the present cycle, where these edges lead from it: no other waits for it more.
+    fn end_waits(&mut self, graph: &Graph, row: &[Edge], place: u32)
         requires place { place < length graph.now.insns.items }
         requires row { row.now ≡ filter (λ e. e.from == place) graph.now.edges.items }
         requires edges { All (λ e. (e.to < length graph.now.insns.items) × (e.cost ≤ latency_limit)) graph.now.edges.items }
         requires small { self.old.cycle + latency_limit < 2 ^ 32 }
         requires unissued { issued_at (slots_of self.old.slots.items) place ≡ None }
         requires waits { AreWaits (graph_of graph.now) (issued_at (slots_of self.old.slots.items)) self.old.counts.items self.old.ripes.items }
-        requires left { AreLeft (graph_of graph.now) (issued_at (slots_of self.old.slots.items)) self.old.left.keys }
+        ensures waits { AreWaits (graph_of graph.now) (and_issued (issued_at (slots_of self.old.slots.items)) place self.old.cycle) self.new.counts.items self.new.ripes.items }
+        ensures slots { self.new.slots.items ≡ self.old.slots.items }
+        ensures cycle { self.new.cycle ≡ self.old.cycle }
+        ensures queue { self.new.queue ≡ self.old.queue }
+    {
+        release(&mut self.counts, &mut self.ripes, row, self.cycle);
+    }
+
+    /// Issues a ready instruction, where these edges lead from it, and all that wait for their cycles have to wait longer.
+    pub fn issue(&mut self, graph: &Graph, row: &[Edge], place: u32) -> Result<(), NoMemory>
+        requires place { place < length graph.now.insns.items }
+        requires row { row.now ≡ filter (λ e. e.from == place) graph.now.edges.items }
+        requires edges { All (λ e. (e.to < length graph.now.insns.items) × (e.cost ≤ latency_limit)) graph.now.edges.items }
+        requires small { self.old.cycle + latency_limit < 2 ^ 32 }
+        requires waits { AreWaits (graph_of graph.now) (issued_at (slots_of self.old.slots.items)) self.old.counts.items self.old.ripes.items }
+        requires queued { IsQueue (graph_of graph.now) (issued_at (slots_of self.old.slots.items)) self.old.cycle self.old.queue }
+        requires later { AreLater self.old.cycle self.old.queue.waiting.keys }
+        requires ready { Contains (keys_at self.old.queue.ready.items (model.class_at (graph_of graph.now) place)) (key_of (graph_of graph.now) place) }
         ensures slots { OnOk result (slots_of self.new.slots.items ≡ slots_of self.old.slots.items ++ record { place = place; cycle = self.old.cycle } ∷ []) }
         ensures cycle { self.new.cycle ≡ self.old.cycle }
         ensures waits { OnOk result (AreWaits (graph_of graph.now) (and_issued (issued_at (slots_of self.old.slots.items)) place self.old.cycle) self.new.counts.items self.new.ripes.items) }
-        ensures left { OnOk result (AreLeft (graph_of graph.now) (and_issued (issued_at (slots_of self.old.slots.items)) place self.old.cycle) self.new.left.keys) }
+        ensures queued { OnOk result (IsQueue (graph_of graph.now) (and_issued (issued_at (slots_of self.old.slots.items)) place self.old.cycle) self.old.cycle self.new.queue) }
     {
         let cycle = self.cycle;
+        self.end_waits(graph, row, place);
+        let key = (Reverse(height_at(graph, place)), place);
+        self.queue.end(class_at(graph, place), key)?;
+        self.queue.wait_behind(&self.counts, &self.ripes, row)?;
         self.slots.push(Slot { place, cycle })?;
-        let height = height_at(graph, place);
-        self.left.remove(&(Reverse(height), place));
-        end_waits(&mut self.counts, &mut self.ripes, row, place, cycle);
         Ok(())
     }
-}
-
-/// The height of an instruction.
-fn height_at(graph: &Graph, place: u32) -> u32
-    requires { place < length graph.now.insns.items }
-    ensures { result ≡ model.height_at (graph_of graph.now) place }
-{
-    let insn = &graph.insns[place as usize];
-    insn.height
 }

@@ -6,6 +6,7 @@ mod fault;
 mod fitting;
 mod outgoing;
 mod parts;
+mod queue;
 mod scheduling;
 mod spelling;
 mod waiting;

@@ -17,7 +17,6 @@ use crate::fitting::first_stuck;
 use crate::outgoing::outgoing;
 use crate::parts::{Schedule, Slot};
 use crate::spelling::class_at;
-use crate::waiting::soonest;
 use hz_depend::{Edge, Graph};
 use hz_regexp::NoMemory;
 use hz_replay::Replayer;
@@ -55,9 +54,9 @@ fn issue_next<L: Ledger>(
     ensures more { OnOk result (length board.new.slots.items ≡ length board.old.slots.items + 1) }
     ensures soon { OnOk result (board.new.cycle ≤ board.old.cycle + 1256) }
 {
-    let earliest = soonest(&board.counts, &board.ripes);
     for _wait in 0..MOST_WAIT {
-        if let Some(place) = board.first(earliest, machine, graph, replayer.states()) {
+        board.queue.ripen(graph, board.cycle)?;
+        if let Some(place) = board.queue.first(machine, graph, replayer.states()) {
             let _is_taken = replayer.issue(class_at(graph, place), steps);
             return board.issue(graph, row_of(rows, place), place);
         }
@@ -96,7 +95,7 @@ fn slots_on<L: Ledger>(
 {
     let mut steps = Steps::<L>::new(blank);
     let rows = outgoing(alloc, graph.insns.len(), &graph.edges)?;
-    let mut board = Board::new(alloc, graph)?;
+    let mut board = Board::new(alloc, graph, machine.classes.len())?;
     let mut replayer = Replayer::start(alloc, machine);
     for _turn in 0..graph.insns.len() {
         issue_next(machine, graph, &rows, &mut board, &mut replayer, &mut steps)?;

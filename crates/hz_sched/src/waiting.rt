@@ -1,10 +1,10 @@
 //! What instructions wait for: for each, how many edges lead to it from instructions that aren't issued, and the first cycle at
 //! which it has waited for the others.
 
-ghost use Rattle.std.specs.Prelude.{◌≡◌, ◌≢◌, ◌≤◌, ◌<◌, ◌+◌, ◌-◌, ◌^◌, ◌==◌, ℕ, if◌then◌else◌, max, length, map, slice_index, All, IfOk};
+ghost use Rattle.std.specs.Prelude.{◌≡◌, ◌≤◌, ◌<◌, ◌+◌, ◌-◌, ◌^◌, ◌==◌, ℕ, if◌then◌else◌, max, length, map, slice_index, All, IfOk};
 ghost use Rattle.hz_base_model.specs.Limits.{latency_limit};
 ghost use Rattle.hz_depend.specs.GraphShape.{edge_of};
-ghost use Rattle.hz_sched.specs.Waits.{IsSoonest, leading, ripe_from};
+ghost use Rattle.hz_sched.specs.Waits.{leading, ripe_from};
 
 use hz_depend::Edge;
 use hz_regexp::NoMemory;
@@ -47,7 +47,7 @@ fn wait_for(counts: &mut [usize], ripes: &mut [u32], edge: &Edge, cycle: u32)
 }
 
 /// An instruction is issued from which these edges lead.
-fn release(counts: &mut [usize], ripes: &mut [u32], row: &[Edge], cycle: u32)
+pub fn release(counts: &mut [usize], ripes: &mut [u32], row: &[Edge], cycle: u32)
     requires size { length counts.old ≡ length ripes.old }
     requires within { All (λ e. e.to < length counts.old) row.now }
     requires some { (j : ℕ) → leading j (map edge_of row.now) ≤ slice_index counts.old j }
@@ -59,33 +59,4 @@ fn release(counts: &mut [usize], ripes: &mut [u32], row: &[Edge], cycle: u32)
     for edge in row {
         wait_for(counts, ripes, edge, cycle);
     }
-}
-
-/// An instruction is issued, and waits no more. These edges lead from it.
-pub fn end_waits(counts: &mut [usize], ripes: &mut [u32], row: &[Edge], place: u32, cycle: u32)
-    requires size { length counts.old ≡ length ripes.old }
-    requires place { place < length ripes.old }
-    requires within { All (λ e. e.to < length counts.old) row.now }
-    requires some { (j : ℕ) → leading j (map edge_of row.now) ≤ slice_index counts.old j }
-    requires costs { All (λ e. e.cost ≤ latency_limit) row.now }
-    requires small { cycle + latency_limit < 2 ^ 32 }
-    ensures counts { (j : ℕ) → slice_index counts.old j ≡ slice_index counts.new j + leading j (map edge_of row.now) }
-    ensures ripes { (j : ℕ) → j ≢ place → slice_index ripes.new j ≡ max (slice_index ripes.old j) (ripe_from cycle j (map edge_of row.now)) }
-{
-    ripes[place as usize] = u32::MAX;
-    release(counts, ripes, row, cycle);
-}
-
-/// A cycle before which no instruction has waited for all others.
-pub fn soonest(counts: &[usize], ripes: &[u32]) -> u32
-    requires { length counts.now ≡ length ripes.now }
-    ensures { IsSoonest counts.now ripes.now result }
-{
-    let mut soonest = u32::MAX;
-    for (place, count) in counts.iter().enumerate() {
-        if *count == 0 {
-            soonest = soonest.min(ripes[place]);
-        }
-    }
-    soonest
 }

@@ -4,17 +4,19 @@ ghost use Rattle.std.specs.Prelude.{◌≡◌, ◌≤◌, ◌<◌, ◌^◌, leng
 ghost use Rattle.hz_base_model.specs.Limits.{advance_limit};
 ghost use Rattle.hz_acceptance_model.specs.Events.{cycles_of, IsOfClass};
 ghost use Rattle.hz_replay.specs.Traces.{events_in};
+ghost use Rattle.hz_tables.specs.Machines.{machine_of};
 
 use hz_auto::compile;
 use hz_check::{Checked, check};
-use hz_depend::{Graph, graph};
+use hz_depend::{Edge, Graph, graph};
 use hz_mdread::read_description;
-use hz_replay::{Event, Outcome, What, replay};
+use hz_replay::{Event, Outcome, Replayer, What, replay};
 use hz_rtl::{Block, read_block};
 use hz_sched::{Slot, schedule, spell};
 use hz_sexp::read_forms;
 use hz_tables::{Machine, Steps};
 use std::alloc::Global;
+use std::cmp::Reverse;
 use std::marker::Brand;
 use std::sync::ledger::{Blank, Ledger};
 use std::test::Fail;
@@ -300,6 +302,176 @@ const ROWS: [(&str, &str, &[&str], &str); 17] = [
     ),
 ];
 
+/// Two units: one class takes either, the other the first for two cycles.
+const TWO_CLASSES: &str = "(define_attr \"type\" \"one,two\" (const_string \"one\"))
+(define_cpu_unit \"a, b\")
+(define_insn_reservation \"one\" 2 (eq_attr \"type\" \"one\") \"a | b\")
+(define_insn_reservation \"two\" 5 (eq_attr \"type\" \"two\") \"a*2\")
+";
+
+/// The next of a row of numbers that a seed makes, below a bound.
+fn next_below(number: &mut u32, bound: u32) -> u32
+    requires { 0 < bound }
+{
+    *number = number.wrapping_mul(1_664_525).wrapping_add(1_013_904_223);
+    (*number >> 16) % bound
+}
+
+/// The text of a block of at most 40 instructions over eight registers, each of one of two classes.
+fn block_text(alloc: Global, seed: u32) -> Result<String, Fail> {
+    let mut number = seed;
+    let count = next_below(&mut number, 41);
+    let mut text = String::new(alloc);
+    for place in 0..count {
+        let to = next_below(&mut number, 8);
+        let from = next_below(&mut number, 8);
+        let class = if next_below(&mut number, 2) == 0 {
+            "one"
+        } else {
+            "two"
+        };
+        let one = format!(in alloc; "(insn {place} (set (reg {to}) (reg {from})) (set_attr \"type\" \"{class}\"))\n")?;
+        text.push_str(one.as_str())?;
+    }
+    Ok(text)
+}
+
+/// The places of a graph in the order in which they are tried: the greatest height first, and of equal ones the first in the source.
+fn tried_order(alloc: Global, graph: &Graph) -> Result<Vec<(Reverse<u32>, u32)>, Fail> {
+    let mut order = Vec::new(alloc);
+    for (place, insn) in graph.insns.iter().enumerate() {
+        order.push((Reverse(insn.height), u32::try_from(place)?))?;
+    }
+    order.sort()?;
+    Ok(order)
+}
+
+/// Whether an instruction is issued.
+fn is_issued(slots: &[Slot], place: u32) -> bool {
+    slots.iter().any(|slot| slot.place == place)
+}
+
+/// Whether an edge has been waited for at a cycle.
+fn is_waited_for(slots: &[Slot], edge: &Edge, cycle: u32) -> bool {
+    slots
+        .iter()
+        .any(|slot| slot.place == edge.from && slot.cycle.saturating_add(edge.cost) <= cycle)
+}
+
+/// Whether an instruction is left, and all edges to it have been waited for at a cycle.
+fn is_ready(graph: &Graph, slots: &[Slot], place: u32, cycle: u32) -> bool {
+    !is_issued(slots, place)
+        && graph
+            .edges
+            .iter()
+            .all(|edge| edge.to != place || is_waited_for(slots, edge, cycle))
+}
+
+/// Issues an instruction, if it fits.
+fn takes<L: Ledger>(
+    machine: &Machine,
+    graph: &Graph,
+    place: u32,
+    replayer: &mut Replayer<'_>,
+    steps: &mut Steps<L>,
+) -> bool
+    requires { replayer.old.machine ≡ machine_of machine.now }
+    ensures { replayer.new.machine ≡ machine_of machine.now }
+{
+    match graph.insns.get(place as usize) {
+        Some(insn) => {
+            (insn.class as usize) < machine.classes.len() && replayer.issue(insn.class, steps)
+        }
+        None => false,
+    }
+}
+
+/// Issues the first instruction of an order that is ready and fits.
+fn first_taken<L: Ledger>(
+    machine: &Machine,
+    graph: &Graph,
+    order: &[(Reverse<u32>, u32)],
+    slots: &[Slot],
+    cycle: u32,
+    replayer: &mut Replayer<'_>,
+    steps: &mut Steps<L>,
+) -> Option<u32>
+    requires { replayer.old.machine ≡ machine_of machine.now }
+    ensures { replayer.new.machine ≡ machine_of machine.now }
+{
+    for key in order {
+        if is_ready(graph, slots, key.1, cycle) && takes(machine, graph, key.1, replayer, steps) {
+            return Some(key.1);
+        }
+    }
+    None
+}
+
+/// Issues at a cycle as long as one that is left is ready and fits.
+fn scan_cycle<L: Ledger>(
+    machine: &Machine,
+    graph: &Graph,
+    order: &[(Reverse<u32>, u32)],
+    slots: &mut Vec<Slot>,
+    cycle: u32,
+    replayer: &mut Replayer<'_>,
+    steps: &mut Steps<L>,
+) -> Result<(), Fail>
+    requires { replayer.old.machine ≡ machine_of machine.now }
+    ensures { replayer.new.machine ≡ machine_of machine.now }
+{
+    for _turn in 0..order.len() {
+        match first_taken(machine, graph, order, slots, cycle, replayer, steps) {
+            Some(place) => slots.push(Slot { place, cycle })?,
+            None => return Ok(()),
+        }
+    }
+    Ok(())
+}
+
+/// The slots of a plain scan: at each of a thousand cycles all instructions that are left are looked through, in their order.
+fn scanned<L: Ledger>(
+    alloc: Global,
+    machine: &Machine,
+    graph: &Graph,
+    blank: Blank,
+) -> Result<Vec<Slot>, Fail>
+    requires name { blank.name ≡ L.name }
+    requires parts { blank.parts ≡ L.parts }
+    requires some { 0 < blank.parts }
+{
+    let order = tried_order(alloc, graph)?;
+    let mut steps = Steps::<L>::new(blank);
+    let mut replayer = Replayer::start(alloc, machine);
+    let mut slots = Vec::new(alloc);
+    for cycle in 0..1_000 {
+        scan_cycle(
+            machine,
+            graph,
+            &order,
+            &mut slots,
+            cycle,
+            &mut replayer,
+            &mut steps,
+        )?;
+        replayer.advance(&mut steps);
+    }
+    Ok(slots)
+}
+
+/// The slots of a block, as the scheduler makes them and as the scan does.
+fn both_ways(alloc: Global, checked: &Checked, block: &Block) -> Result<(String, String), Fail>
+    requires { length block.now.insns.items ≤ 4096 }
+{
+    let compiled = compile(alloc, checked)?;
+    let graph = graph(alloc, checked, block)?;
+    let made = schedule(alloc, &compiled.machine, &graph)?;
+    let found = scanned::<Brand>(alloc, &compiled.machine, &graph, Blank::new(1))?;
+    let queued = slots_text(alloc, &compiled.machine, &graph, &made.slots)?;
+    let looked = slots_text(alloc, &compiled.machine, &graph, &found)?;
+    Ok((queued, looked))
+}
+
 #[test]
 fn blocks_are_scheduled_and_their_traces_accepted(rt: HostRuntime) -> Result<(), Fail> {
     let alloc = rt.alloc();
@@ -314,6 +486,24 @@ fn blocks_are_scheduled_and_their_traces_accepted(rt: HostRuntime) -> Result<(),
         assert!(rt; block.insns.len() <= 4096);
         let found = scheduled(alloc, &checked, &block)?;
         assert_eq!(rt; found.as_str(), *expected, "{name}");
+    }
+    Ok(())
+}
+
+#[test]
+fn queue_and_scan_make_the_same_schedules(rt: HostRuntime) -> Result<(), Fail> {
+    let alloc = rt.alloc();
+    let bytes = TWO_CLASSES.as_bytes();
+    assert!(rt; bytes.len() < 100_000);
+    let checked = checked_of(alloc, bytes).ok_or("no description")?;
+    for seed in 0..30 {
+        let text = block_text(alloc, seed)?;
+        let bytes = text.as_bytes();
+        assert!(rt; bytes.len() < 100_000);
+        let block = block_of(alloc, bytes).ok_or("no block")?;
+        assert!(rt; block.insns.len() <= 4096);
+        let (queued, looked) = both_ways(alloc, &checked, &block)?;
+        assert_eq!(rt; queued.as_str(), looked.as_str(), "{seed}");
     }
     Ok(())
 }

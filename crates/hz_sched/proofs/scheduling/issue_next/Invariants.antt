@@ -1,7 +1,6 @@
 use Rattle.std.proofs.Common.{◌≡◌, ◌+◌}
 use Rattle.hz_tables.specs.Machines.{machine_of}
 use Rattle.hz_sched.specs.Shape.{graph_of}
-use Rattle.hz_sched.specs.Waits.{IsSoonest}
 use Rattle.hz_sched.specs.Pending.{IsBoard}
 use Rattle.hz_sched.proofs.scheduling.issue_next.Given as goal
 
@@ -10,7 +9,6 @@ abbrev pub invariant-loop-wait : goal.invariant-loop-wait
 invariant-loop-wait g l = record {
   machine : l.replayer.machine ≡ machine_of l.machine;
   board : IsBoard (machine_of l.machine) (graph_of l.graph) l.board l.replayer.states;
-  soon : IsSoonest l.board.counts.items l.board.ripes.items l.earliest;
   slots : l.board.slots.items ≡ l.initial.board.slots.items;
   cycle : l.board.cycle ≡ l.initial.board.cycle + l._wait;
 }

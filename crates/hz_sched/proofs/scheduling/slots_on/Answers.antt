@@ -21,7 +21,7 @@ loop-turn-init g c =
     let none = c.in_ok-board.ensures.slots in
     record {
       machine = ap (λ (r : Standing). r.machine) c.start-replayer.ensures;
-      board = board_start m graph c.in_ok-board.board c.start-replayer.result.states none c.in_ok-board.ensures.cycle (ap (λ (r : Standing). r.states) c.start-replayer.ensures) c.in_ok-board.ensures.waits c.in_ok-board.ensures.left;
+      board = board_start m graph c.in_ok-board.board c.start-replayer.result.states none c.in_ok-board.ensures.cycle (ap (λ (r : Standing). r.states) c.start-replayer.ensures) c.in_ok-board.ensures.waits c.in_ok-board.ensures.queued;
       present = c.in_ok-board.ensures.cycle ∙ sym (ap (λ (xs : List Slot). present 0 (slots_of xs)) none);
       left = omega (arith, ap (λ (xs : List Slot). left_below (issued_at (slots_of xs)) count) none, none_yet count);
       count = ap length none;

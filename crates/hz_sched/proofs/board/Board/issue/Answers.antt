@@ -1,54 +1,54 @@
-use Rattle.std.proofs.Common.{◌≡◌, ◌≢◌, ◌<◌, ◌≤◌, ◌+◌, max, ℕ, List, length, map, sym, ap, subst, arith}
-use Rattle.std.specs.Prelude.{slice_index}
+use Rattle.std.proofs.Common.{◌<◌, ◌≤◌, ℕ, List, length, map, Contains, sym, ap, ◌∙◌, subst, arith}
 use Rattle.std.proofs.lemmas.List.{length-map}
+use Rattle.std.proofs.lemmas.List.Elements.{All-map, All-contains}
 use Rattle.hz_base_model.specs.Limits.{latency_limit}
+use Rattle.hz_depend_model.specs.Graphs.{Edge}
 use Rattle.hz_depend.specs.GraphShape.{edge_of}
+use Rattle.hz_sched_model.specs.Schedules.{class_at}
 use Rattle.hz_sched.specs.Shape.{graph_of, slots_of, node_of}
-use Rattle.hz_sched.specs.Waits.{issued_at, and_issued, leading, ripe_from}
-use Rattle.hz_sched.specs.Pending.{Key}
-use Rattle.hz_sched.proofs.BoardLemmas.{enough, waits_next, left_next, row_all, row_edges, both_written}
+use Rattle.hz_sched.specs.Waits.{issued_at, and_issued, leading}
+use Rattle.std.specs.BTreeSet.{BTreeSet}
+use Rattle.hz_sched.specs.declared.queue.Queue.{Queue}
+use Rattle.hz_sched.specs.Pending.{Key, key_of, keys_at, all_wait, AreWaits, AreLater, AreQueued, IsQueue}
+use Rattle.hz_sched.proofs.WaitLemmas.{edges_from}
+use Rattle.hz_sched.proofs.BoardLemmas.{row_all, row_edges}
+use Rattle.hz_sched.proofs.QueueLemmas.{was_left, led_within, issued_queue}
 use Rattle.hz_sched.proofs.board.Board.issue.Goals as goal
 
-pub end_waits-requires-clause-within : goal.end_waits-requires-clause-within
-end_waits-requires-clause-within c = λ k d lt.
+pub end_waits-requires-clause-unissued : goal.end_waits-requires-clause-unissued
+end_waits-requires-clause-unissued c =
+    let queue = c.args.self.now.queue in
+    was_left (graph_of c.args.graph.now) (issued_at (slots_of c.args.self.now.slots.items)) c.args.place c.args.self.now.cycle queue.waiting.keys queue.ready.items queue.heads.keys c.requires.queued c.requires.later c.requires.ready
+
+pub wait_behind-requires-clause-within : goal.wait_behind-requires-clause-within
+wait_behind-requires-clause-within c = λ k d lt.
     let n = length c.args.graph.now.insns.items in
     let e = row_all (λ e. (e.to < n) × (e.cost ≤ latency_limit)) c.args.row.now c.args.graph.now.edges.items c.args.place c.requires.row c.requires.edges k d lt in
-    omega (arith, e.0, ap (λ (xs : List ℕ). length xs) c.deref_mut.ensures.value, c.requires.waits.counts_size, length-map c.args.graph.now.insns.items node_of)
+    omega (arith, e.0, ap (λ (xs : List ℕ). length xs) c.deref.ensures.value, c.end_waits.ensures.waits.counts_size, length-map c.args.graph.now.insns.items node_of)
 
-pub end_waits-requires-clause-some : goal.end_waits-requires-clause-some
-end_waits-requires-clause-some c = λ j.
+pub returns-clause-queued : goal.returns-clause-queued
+returns-clause-queued c =
     let g = graph_of c.args.graph.now in
-    let row = row_edges c.args.row.now c.args.graph.now.edges.items c.args.place c.requires.row in
-    subst (λ (xs : List ℕ). leading j (map edge_of c.args.row.now) ≤ slice_index xs j) (sym c.deref_mut.ensures.value)
-    (enough g (issued_at (slots_of c.args.self.now.slots.items)) c.args.place c.args.self.now.cycle c.requires.unissued c.args.self.now.counts.items c.args.self.now.ripes.items (map edge_of c.args.row.now) row c.requires.waits j)
-
-pub end_waits-requires-clause-costs : goal.end_waits-requires-clause-costs
-end_waits-requires-clause-costs c = λ k d lt.
     let n = length c.args.graph.now.insns.items in
-    let e = row_all (λ e. (e.to < n) × (e.cost ≤ latency_limit)) c.args.row.now c.args.graph.now.edges.items c.args.place c.requires.row c.requires.edges k d lt in
-    e.1
-
-pub returns-clause-waits : goal.returns-clause-waits
-returns-clause-waits c =
-    let g = graph_of c.args.graph.now in
     let at = issued_at (slots_of c.args.self.now.slots.items) in
-    let row = row_edges c.args.row.now c.args.graph.now.edges.items c.args.place c.requires.row in
-    let counts = c.deref_mut.ensures.value in
-    let ripes = c.deref_mut-2.ensures.value in
-    let wide : length c.end_waits.new.counts ≡ length c.args.self.now.counts.items = omega (arith, c.end_waits.auto.counts, ap (λ (xs : List ℕ). length xs) counts) in
-    let long : length c.end_waits.new.ripes ≡ length c.args.self.now.ripes.items = omega (arith, c.end_waits.auto.ripes, ap (λ (xs : List ℕ). length xs) ripes) in
-    both_written g (and_issued at c.args.place c.args.self.now.cycle) _ _ c.end_waits.new.counts _ c.end_waits.new.ripes _
-    (omega (arith, wide, c.args.self.now.counts.ok.0)) (omega (arith, long, c.args.self.now.ripes.ok.0))
-    (waits_next g at c.args.place c.args.self.now.cycle c.requires.unissued c.args.self.now.counts.items c.args.self.now.ripes.items c.end_waits.new.counts c.end_waits.new.ripes (map edge_of c.args.row.now) row c.requires.waits wide long
-    (subst (λ (xs : List ℕ). (j : ℕ) → slice_index xs j ≡ slice_index c.end_waits.new.counts j + leading j (map edge_of c.args.row.now)) counts c.end_waits.ensures.counts)
-    (subst (λ (xs : List ℕ). (j : ℕ) → j ≢ c.args.place → slice_index c.end_waits.new.ripes j ≡ max (slice_index xs j) (ripe_from c.args.self.now.cycle j (map edge_of c.args.row.now))) ripes c.end_waits.ensures.ripes))
-
-pub returns-clause-left : goal.returns-clause-left
-returns-clause-left c =
-    let g = graph_of c.args.graph.now in
-    let at = issued_at (slots_of c.args.self.now.slots.items) in
-    let is = ap (λ (h : ℕ). let k : Key = (record { 0 = h }, c.args.place) in k) c.height_at-height.ensures in
-    left_next g at c.args.place c.args.self.now.cycle c.requires.unissued c.args.self.now.left.keys c.remove.new.self.keys _ is c.remove.ensures.keys c.remove.ensures.ordered c.requires.left
-
-pub end_waits-requires-clause-place : goal.end_waits-requires-clause-place
-end_waits-requires-clause-place c = omega (arith, c.requires.place, ap (λ (xs : List ℕ). length xs) c.deref_mut-2.ensures.value, c.requires.waits.ripes_size, length-map c.args.graph.now.insns.items node_of)
+    let row = map edge_of c.args.row.now in
+    let whole = row_edges c.args.row.now c.args.graph.now.edges.items c.args.place c.requires.row in
+    let queue = c.end_waits.new.self.queue in
+    let was = sym c.end_waits.ensures.queue in
+    let queued = subst (λ (q : Queue). IsQueue g at c.args.self.now.cycle q) was c.requires.queued in
+    let later = subst (λ (q : Queue). AreLater c.args.self.now.cycle q.waiting.keys) was c.requires.later in
+    let ready = subst (λ (q : Queue). Contains (keys_at q.ready.items (class_at g c.args.place)) (key_of g c.args.place)) was c.requires.ready in
+    let key : Key = (record { 0 = c.height_at.result }, c.args.place) in
+    let is = ap (λ (h : ℕ). let k : Key = (record { 0 = h }, c.args.place) in k) c.height_at.ensures in
+    let ended = c.end.new.self in
+    let now = c.wait_behind.new.self in
+    let next = and_issued at c.args.place c.args.self.now.cycle in
+    let waits = subst (λ (xs : List ℕ). AreWaits g next c.deref.result.now xs) (sym c.deref-2.ensures.value) (subst (λ (xs : List ℕ). AreWaits g next xs c.end_waits.new.self.ripes.items) (sym c.deref.ensures.value) c.end_waits.ensures.waits) in
+    let edges = All-map (λ e. (e.to < n) × (e.cost ≤ latency_limit)) edge_of c.args.row.now (row_all (λ e. (e.to < n) × (e.cost ≤ latency_limit)) c.args.row.now c.args.graph.now.edges.items c.args.place c.requires.row c.requires.edges) in
+    let to_within = λ (e : Edge) (h : Contains row e). (let (to, cost) = All-contains (λ (f : Edge). (f.to < n) × (f.cost ≤ latency_limit)) row e edges h in let long = length-map c.args.graph.now.insns.items node_of in let fit : e.to < length g.nodes = omega (arith, to, long) in fit) in
+    let within = subst (λ (es : List Edge). (j : ℕ) → 0 < leading j es → j < length g.nodes) whole (λ j led. led_within (length g.nodes) j row to_within led) in
+    let more = c.in_ok-wait_behind.ensures.waiting ∙ (ap (λ (es : List Edge). all_wait c.deref.result.now c.deref-2.result.now es ended.waiting.keys) whole ∙ ap (all_wait c.deref.result.now c.deref-2.result.now (edges_from c.args.place g.edges)) c.in_ok-end.ensures.waiting) in
+    let done = issued_queue g at c.args.place c.args.self.now.cycle queue.waiting.keys queue.ready.items queue.heads.keys queued later ready ended.ready.items ended.heads.keys key c.class_at.result is c.class_at.ensures c.in_ok-end.ensures.row
+    c.deref.result.now c.deref-2.result.now waits within now.waiting.keys more c.in_ok-wait_behind.ensures.ordered in
+    subst (λ (hs : List Key). AreQueued g next c.args.self.now.cycle now.waiting.keys now.ready.items hs) (sym c.wait_behind.ensures.heads)
+    (subst (λ (rows : List (BTreeSet Key)). AreQueued g next c.args.self.now.cycle now.waiting.keys rows ended.heads.keys) (sym c.wait_behind.ensures.ready) done)

@@ -4,7 +4,8 @@ use Rattle.hz_depend.specs.declared.parts.Edge.{Edge}
 use Rattle.hz_depend.specs.GraphShape.{edge_of}
 use Rattle.hz_sched.specs.Shape.{graph_of, node_of}
 use Rattle.hz_sched.specs.Waits.{leading}
-use Rattle.hz_sched.proofs.BoardLemmas.{none_waited}
+use Rattle.hz_sched.proofs.BoardLemmas.{none_waited, classes_of_nodes, board_queue}
+use Rattle.hz_sched_model.proofs.SameSchedules.{class_below}
 use Rattle.hz_sched.proofs.board.Board.new.Goals as goal
 
 pub returns-clause-waits : goal.returns-clause-waits
@@ -17,3 +18,21 @@ returns-clause-waits c =
     (ap (λ (xs : List ℕ). length xs) c.in_ok-ripes.ensures ∙ (length-replicate c.len-count.result 0 ∙ count))
     (λ j. c.in_ok-counts.ensures.counted j ∙ ap (λ (es : List Edge). leading j (map edge_of es)) c.deref.ensures.value)
     (c.in_ok-ripes.ensures ∙ ap (λ (n : ℕ). replicate n 0) count)
+
+pub returns-clause-queued : goal.returns-clause-queued
+returns-clause-queued c =
+    let g = graph_of c.args.graph.now in
+    let insns = c.args.graph.now.insns.items in
+    let long = length-map insns node_of in
+    let queue = c.in_ok-queue.queue in
+    let counts = c.in_ok-counts.counts.items in
+    let ripes = c.in_ok-ripes.ripes.items in
+    let count : c.len-count.result ≡ length g.nodes = omega (arith, long, c.len-count.ensures, c.args.graph.now.insns.ok.0) in
+    let waits = none_waited g counts ripes
+    (c.in_ok-counts.ensures.size ∙ count)
+    (ap (λ (xs : List ℕ). length xs) c.in_ok-ripes.ensures ∙ (length-replicate c.len-count.result 0 ∙ count))
+    (λ j. c.in_ok-counts.ensures.counted j ∙ ap (λ (es : List Edge). leading j (map edge_of es)) c.deref.ensures.value)
+    (c.in_ok-ripes.ensures ∙ ap (λ (n : ℕ). replicate n 0) count) in
+    board_queue g counts ripes _ _ queue waits c.deref-2.ensures.value c.deref-3.ensures.value
+    (λ j lt. omega (arith, c.in_ok-queue.ensures.size, class_below c.args.classes g (classes_of_nodes c.args.classes insns c.requires.classes) j lt))
+    c.in_ok-queue.ensures.waiting c.in_ok-queue.ensures.ordered c.in_ok-queue.ensures.none c.in_ok-queue.ensures.heads
