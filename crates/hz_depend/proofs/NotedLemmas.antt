@@ -1,13 +1,15 @@
 -- Places that are noted hold each instruction that has what they are noted for.
-use Rattle.std.proofs.Common.{◌≡◌, ◌≢◌, ℕ, zero, suc, ◌+◌, ◌-◌, ◌<◌, ◌≤◌, ◌==◌, Bool, true, false, cond, ◌||◌, ⊎_elim, List, [], ◌∷◌, ◌++◌, Contains, refl, sym, ap, ◌∙◌, subst, append_assoc, arith}
+use Rattle.std.proofs.Common.{◌≡◌, ◌≢◌, ℕ, zero, suc, ◌+◌, ◌-◌, ◌<◌, ◌≤◌, ◌==◌, Bool, true, false, cond, ◌||◌, ◌⊎◌, inl, inr, ⊎_elim, List, [], ◌∷◌, ◌++◌, length, Option, Some, None, Contains, refl, sym, ap, ◌∙◌, subst, append_assoc, arith}
+use Rattle.std.specs.Prelude.{slice_get}
 use Rattle.std.specs.List.{flat_map, list_any}
+use Rattle.std.specs.Option.{option_map_or}
 use Rattle.std.proofs.lemmas.Bool.{cases_lt, lt-ltb, eqb-true}
 use Rattle.std.proofs.lemmas.List.{append-nil}
-use Rattle.std.proofs.lemmas.List.Elements.{Contains-append_left, Contains-append_right, Contains-append_cases}
+use Rattle.std.proofs.lemmas.List.Elements.{Contains-append_left, Contains-append_right, Contains-append_cases, Contains-push_cases}
 use Rattle.hz_base_model.proofs.Elements.{Contains-nil, Contains-head, Contains-tail, Contains-cons_cases}
 use Rattle.hz_depend.specs.Lists.{list_at}
 use Rattle.hz_depend.specs.Marks.{below, all_lists, other_lists}
-use Rattle.hz_depend.specs.Noted.{hits, places}
+use Rattle.hz_depend.specs.Noted.{hits, ends_with, put, put_all, places}
 
 -- one that passes
 pub record Passes {X : Type 0} (p : X → Bool) (xs : List X) : Type 0 where
@@ -57,6 +59,72 @@ other_lists_has number n (list ∷ lists) zero i ne c = Contains-append_left (co
 other_lists_has number n (list ∷ lists) (suc b) i ne c =
     Contains-append_right (cond (n == number) [] list) (other_lists number (suc n) lists) i (other_lists_has number (suc n) lists b i (λ e. ne (omega arith)) c)
 
+get_there : (xs : List ℕ) (k x : ℕ) → slice_get xs k ≡ Some x → Contains xs x
+get_there [] k x e = absurd (cc)
+get_there (y ∷ xs) zero x e = let same : y ≡ x = cc in subst (λ (z : ℕ). Contains (y ∷ xs) z) same (Contains-head y xs)
+get_there (y ∷ xs) (suc k) x e = Contains-tail y x xs (get_there xs k x e)
+
+-- a list that another begins with
+pub record Begins (xs zs : List ℕ) : Type 0 where
+  pub rest : List ℕ
+  pub is : zs ≡ xs ++ rest
+
+begins_then : (xs ys zs : List ℕ) → Begins xs ys → Begins ys zs → Begins xs zs
+begins_then xs ys zs a b = record { rest = a.rest ++ b.rest; is = b.is ∙ (ap (λ (ws : List ℕ). ws ++ b.rest) a.is ∙ append_assoc xs a.rest b.rest) }
+
+put_begins : (list : List ℕ) (p : ℕ) → Begins list (put list p)
+put_begins list p = go (ends_with list p)
+  where
+    go : (b : Bool) → Begins list (cond b list (list ++ p ∷ []))
+    go true = record { rest = []; is = sym (append-nil list) }
+    go false = record { rest = p ∷ []; is = refl }
+
+all_begins : (list more : List ℕ) → Begins list (put_all list more)
+all_begins list [] = record { rest = []; is = sym (append-nil list) }
+all_begins list (p ∷ more) = begins_then list (put list p) (put_all (put list p) more) (put_begins list p) (all_begins (put list p) more)
+
+put_kept : (list more : List ℕ) (i : ℕ) → Contains list i → Contains (put_all list more) i
+put_kept list more i c = let b = all_begins list more in subst (λ (xs : List ℕ). Contains xs i) (sym b.is) (Contains-append_left list b.rest i c)
+
+put_here : (list : List ℕ) (p : ℕ) → Contains (put list p) p
+put_here list p = go (ends_with list p) refl
+  where
+    last_there : (o : Option ℕ) → slice_get list (length list - 1) ≡ o → option_map_or (λ (last : ℕ). last == p) o false ≡ true → Contains list p
+    last_there None at e = absurd (cc)
+    last_there (Some last) at e = subst (λ (q : ℕ). Contains list q) (eqb-true last p e) (get_there list (length list - 1) last at)
+
+    go : (b : Bool) → ends_with list p ≡ b → Contains (cond b list (list ++ p ∷ [])) p
+    go true is = last_there (slice_get list (length list - 1)) refl is
+    go false is = Contains-append_right list (p ∷ []) p (Contains-head p [])
+
+put_has : (list more : List ℕ) (i : ℕ) → Contains more i → Contains (put_all list more) i
+put_has list [] i c = absurd (Contains-nil i c)
+put_has list (p ∷ more) i c = ⊎_elim
+    (λ (same : p ≡ i). put_kept (put list p) more i (subst (λ (q : ℕ). Contains (put list p) q) same (put_here list p)))
+    (λ (further : Contains more i). put_has (put list p) more i further)
+    (Contains-cons_cases p i more c)
+
+put_one_only : (list : List ℕ) (p i : ℕ) → Contains (put list p) i → Contains list i ⊎ (p ≡ i)
+put_one_only list p i c = go (ends_with list p) c
+  where
+    go : (b : Bool) → Contains (cond b list (list ++ p ∷ [])) i → Contains list i ⊎ (p ≡ i)
+    go true h = inl h
+    go false h = Contains-push_cases list p i h
+
+put_only : (list more : List ℕ) (i : ℕ) → Contains (put_all list more) i → Contains list i ⊎ Contains more i
+put_only list [] i c = inl c
+put_only list (p ∷ more) i c = ⊎_elim
+    (λ (h : Contains (put list p) i). ⊎_elim
+    (λ (there : Contains list i). inl there)
+    (λ (same : p ≡ i). inr (subst (λ (q : ℕ). Contains (p ∷ more) q) same (Contains-head p more)))
+    (put_one_only list p i h))
+    (λ (further : Contains more i). inr (Contains-tail p i more further))
+    (put_only (put list p) more i c)
+
+pub put_append : (list xs ys : List ℕ) → put_all (put_all list xs) ys ≡ put_all list (xs ++ ys)
+put_append list [] ys = refl
+put_append list (x ∷ xs) ys = put_append (put list x) xs ys
+
 module _ {X : Type 0} (test : X → Bool) where
   hits_has : (items : List X) (place : ℕ) (x : X) → Contains items x → test x ≡ true → Contains (hits test items place) place
   hits_has [] place x c e = absurd (Contains-nil x c)
@@ -81,10 +149,10 @@ module _ {X : Type 0} (test : X → Bool) where
     pub places_has : (n i : ℕ) (x : X) → i < n → Contains (items i) x → test x ≡ true → Contains (places test items n) i
     places_has zero i x lt c e = absurd (omega arith)
     places_has (suc n) i x lt c e = ⊎_elim
-        (λ (less : i < n). Contains-append_left (places test items n) (hits test (items n) n) i (places_has n i x less c e))
+        (λ (less : i < n). put_kept (places test items n) (hits test (items n) n) i (places_has n i x less c e))
         (λ (more : n ≤ i).
         let same : n ≡ i = omega arith in
-        Contains-append_right (places test items n) (hits test (items n) n) i
+        put_has (places test items n) (hits test (items n) n) i
         (rw same (hits_has (items i) i x c e)))
         (cases_lt i n)
 
@@ -93,21 +161,18 @@ module _ {X : Type 0} (test : X → Bool) where
     places_low (suc n) p c = ⊎_elim
         (λ (there : Contains (places test items n) p). let h = places_low n p there in omega arith)
         (λ (here : Contains (hits test (items n) n) p). let h = hits_only (items n) n p here in omega arith)
-        (Contains-append_cases (places test items n) (hits test (items n) n) p c)
+        (put_only (places test items n) (hits test (items n) n) p c)
 
-    -- what stands behind a front
-    abbrev behind : ℕ → ℕ → List ℕ
-    behind m zero = []
-    behind m (suc k) = behind m k ++ hits test (items (m + k)) (m + k)
-
-    front : (m k : ℕ) → places test items (m + k) ≡ places test items m ++ behind m k
-    front m zero = let z : m + zero ≡ m = omega arith in rw z (sym (append-nil (places test items m)))
+    front : (m k : ℕ) → Begins (places test items m) (places test items (m + k))
+    front m zero = let z : m + zero ≡ m = omega arith in record { rest = []; is = ap (places test items) z ∙ sym (append-nil (places test items m)) }
     front m (suc k) =
-        let s : m + suc k ≡ suc (m + k) = omega arith in
-        ap (places test items) s ∙ (ap (λ (xs : List ℕ). xs ++ hits test (items (m + k)) (m + k)) (front m k) ∙ append_assoc (places test items m) (behind m k) (hits test (items (m + k)) (m + k)))
+        let s : suc (m + k) ≡ m + suc k = omega arith in
+        subst (λ (n : ℕ). Begins (places test items m) (places test items n)) s
+        (begins_then (places test items m) (places test items (m + k)) (places test items (suc (m + k))) (front m k) (all_begins (places test items (m + k)) (hits test (items (m + k)) (m + k))))
 
     pub below_has : (n m i : ℕ) (x : X) → i < m → m ≤ n → Contains (items i) x → test x ≡ true → Contains (below m (places test items n)) i
     below_has n m i x lt le c e =
         let s : m + (n - m) ≡ n = omega arith in
-        subst (λ (xs : List ℕ). Contains (below m xs) i) (sym (front m (n - m)) ∙ ap (places test items) s)
-        (below_front m (places test items m) (behind m (n - m)) i (places_low m) (places_has m i x lt c e))
+        let f = front m (n - m) in
+        subst (λ (xs : List ℕ). Contains (below m xs) i) (sym f.is ∙ ap (places test items) s)
+        (below_front m (places test items m) f.rest i (places_low m) (places_has m i x lt c e))

@@ -1,5 +1,5 @@
 -- The tables and the marks, instruction by instruction.
-use Rattle.std.proofs.Common.{◌≡◌, ℕ, suc, ◌+◌, ◌<◌, ◌==◌, Bool, true, false, List, [], ◌++◌, length, map, take, Option, Some, Contains, sym, ap, ◌∙◌, subst, arith}
+use Rattle.std.proofs.Common.{◌≡◌, ℕ, suc, ◌+◌, ◌<◌, ◌==◌, Bool, true, false, List, [], length, map, take, Option, Some, Contains, sym, ap, ◌∙◌, subst, arith}
 use Rattle.std.specs.Prelude.{slice_get, slice_index}
 use Rattle.std.specs.Option.{option_map, option_map_or}
 use Rattle.std.proofs.Math.Path.{fun_ext}
@@ -12,7 +12,7 @@ use Rattle.hz_depend.specs.declared.nodes.Node.{Node}
 use Rattle.hz_depend.specs.Held.{Held, held, found, found_among, cost_held, last_of}
 use Rattle.hz_depend.specs.Lists.{list_at}
 use Rattle.hz_depend.specs.Marks.{marked}
-use Rattle.hz_depend.specs.Noted.{hits, places, is_unknown, has_base, has_key, had, CellPlaces, Places, IsBlank, HasMore, HasNoted, AreCells, AreNoted, candidates}
+use Rattle.hz_depend.specs.Noted.{hits, put_all, places, is_unknown, has_base, has_key, had, CellPlaces, Places, IsBlank, HasMore, HasNoted, AreCells, AreNoted, candidates}
 use Rattle.hz_depend.proofs.FoundLemmas.{slice_get-take, length-take_at}
 use Rattle.hz_depend.proofs.MarkLemmas.{has_mark}
 use Rattle.hz_depend.proofs.CandidateLemmas.{no_cost, found_same}
@@ -26,14 +26,14 @@ blank_noted nodes p b = record {
 }
 
 -- one more of what is held, where the list has a place for each item that passes
-one_more : {X : Type 0} (test : X → Bool) (nodes : List Held) (what : Held → List X) (j : ℕ) (h : Held) (old new : List ℕ) → slice_get nodes j ≡ Some h → old ≡ places test (had what nodes) j → new ≡ old ++ hits test (what h) j
+one_more : {X : Type 0} (test : X → Bool) (nodes : List Held) (what : Held → List X) (j : ℕ) (h : Held) (old new : List ℕ) → slice_get nodes j ≡ Some h → old ≡ places test (had what nodes) j → new ≡ put_all old (hits test (what h) j)
     → new ≡ places test (had what nodes) (j + 1)
 one_more {X} test nodes what j h old new at is more =
     let one : j + 1 ≡ suc j = omega arith in
     let what_it_had : had what nodes j ≡ what h = ap (λ (o : Option Held). option_map_or what o []) at in
     more
-    ∙ (ap (λ (xs : List ℕ). xs ++ hits test (what h) j) is
-    ∙ (ap (λ (items : List X). places test (had what nodes) j ++ hits test items j) (sym what_it_had)
+    ∙ (ap (λ (xs : List ℕ). put_all xs (hits test (what h) j)) is
+    ∙ (ap (λ (items : List X). put_all (places test (had what nodes) j) (hits test items j)) (sym what_it_had)
     ∙ ap (places test (had what nodes)) (sym one)))
 
 more_cells : (nodes : List Held) (what : Held → List (Option Based)) (j : ℕ) (h : Held) (old new : CellPlaces) → slice_get nodes j ≡ Some h → AreCells (had what nodes) j old → HasMore j (what h) old new → AreCells (had what nodes) (j + 1) new

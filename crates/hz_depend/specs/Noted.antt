@@ -1,6 +1,6 @@
 -- The places of instructions by what they read and write, and from them those that an instruction may depend on. These words are
 -- only to prove with.
-use Rattle.std.specs.Prelude.{◌≡◌, ℕ, zero, suc, ◌%◌, ◌==◌, Bool, true, false, ◌&&◌, if◌then◌else◌, List, [], ◌∷◌, ◌++◌, Option, Some, None, slice_get}
+use Rattle.std.specs.Prelude.{◌≡◌, ℕ, zero, suc, ◌-◌, ◌%◌, ◌==◌, Bool, true, false, ◌&&◌, if◌then◌else◌, List, [], ◌∷◌, ◌++◌, Option, Some, None, length, slice_get}
 use Rattle.std.specs.List.{flat_map}
 use Rattle.std.specs.Option.{option_map_or}
 use Rattle.hz_rtl_model.specs.Operators.{word_count}
@@ -14,10 +14,23 @@ abbrev pub hits : {X : Type 0} → (X → Bool) → List X → ℕ → List ℕ
 hits test [] place = []
 hits test (x ∷ items) place = (if test x then place ∷ [] else []) ++ hits test items place
 
--- below an end, each place for each of its items that pass a test
+-- whether a list ends with a place
+abbrev pub ends_with : List ℕ → ℕ → Bool
+ends_with list place = option_map_or (λ last. last == place) (slice_get list (length list - 1)) false
+
+-- a list with a place behind it, unless it ends with that
+abbrev pub put : List ℕ → ℕ → List ℕ
+put list place = if ends_with list place then list else list ++ place ∷ []
+
+-- a list with some places put behind it
+abbrev pub put_all : List ℕ → List ℕ → List ℕ
+put_all list [] = list
+put_all list (p ∷ more) = put_all (put list p) more
+
+-- below an end, each place once if it has items that pass a test
 abbrev pub places : {X : Type 0} → (X → Bool) → (ℕ → List X) → ℕ → List ℕ
 places test items zero = []
-places test items (suc n) = places test items n ++ hits test (items n) n
+places test items (suc n) = put_all (places test items n) (hits test (items n) n)
 
 -- a base register with a constant
 abbrev pub Key : Type 0
@@ -69,14 +82,14 @@ pub record IsBlank (p : Places) : Type 0 where
 
 -- a place more for each of some cells
 pub record HasMore (place : ℕ) (touched : List (Option Based)) (old new : CellPlaces) : Type 0 where
-  pub unknown : new.unknown ≡ old.unknown ++ hits is_unknown touched place
-  pub bases : (b : ℕ) → list_at new.bases b ≡ list_at old.bases b ++ hits (has_base b) touched place
-  pub keys : (k : Key) → new.keys k ≡ old.keys k ++ hits (has_key k) touched place
+  pub unknown : new.unknown ≡ put_all old.unknown (hits is_unknown touched place)
+  pub bases : (b : ℕ) → list_at new.bases b ≡ put_all (list_at old.bases b) (hits (has_base b) touched place)
+  pub keys : (k : Key) → new.keys k ≡ put_all (old.keys k) (hits (has_key k) touched place)
 
 -- an instruction more, at a place
 pub record HasNoted (place : ℕ) (h : Held) (old new : Places) : Type 0 where
-  pub readers : (r : ℕ) → list_at new.readers r ≡ list_at old.readers r ++ hits (λ n. n == r) h.registers_read place
-  pub writers : (r : ℕ) → list_at new.writers r ≡ list_at old.writers r ++ hits (λ n. n == r) h.registers_written place
+  pub readers : (r : ℕ) → list_at new.readers r ≡ put_all (list_at old.readers r) (hits (λ n. n == r) h.registers_read place)
+  pub writers : (r : ℕ) → list_at new.writers r ≡ put_all (list_at old.writers r) (hits (λ n. n == r) h.registers_written place)
   pub read : HasMore place h.cells_read old.read new.read
   pub written : HasMore place h.cells_written old.written new.written
 

@@ -1,18 +1,18 @@
 //! Places in a block by cells.
 
-ghost use Rattle.std.specs.Prelude.{◌≡◌, ◌%◌, false, [], ◌∷◌, ◌++◌, if◌then◌else◌, length, slice_index, IfOk, OnOk};
+ghost use Rattle.std.specs.Prelude.{◌≡◌, ◌%◌, false, [], ◌∷◌, if◌then◌else◌, length, slice_index, IfOk, OnOk};
 ghost use Rattle.std.specs.List.{flat_map};
 ghost use Rattle.std.specs.Option.{option_map};
 ghost use Rattle.hz_rtl_model.specs.Operators.{word_count};
 ghost use Rattle.hz_depend.specs.Cells.{based, cells};
 ghost use Rattle.hz_depend.specs.Noted as model;
-ghost use Rattle.hz_depend.specs.Noted.{Key, IsEmpty, HasMore, same_key, cell_candidates};
+ghost use Rattle.hz_depend.specs.Noted.{Key, IsEmpty, HasMore, put_all, same_key, cell_candidates};
 ghost use Rattle.hz_depend.specs.Marks.{marked};
 ghost use Rattle.hz_depend.specs.Tables.{places_at, cell_places};
 
 use crate::access::Based;
 use crate::by_register::ByRegister;
-use crate::marks::mark;
+use crate::marks::{mark, put};
 use crate::pairs::after;
 use hz_regexp::NoMemory;
 use std::alloc::Global;
@@ -61,12 +61,12 @@ impl ByKey {
         }
     }
 
-    /// Adds a place for a key.
+    /// Adds a place for a key, unless it was the last one added for it.
     fn add(&mut self, key: (u8, u64), place: u32) -> Result<(), NoMemory>
-        ensures { OnOk result ((k : Key) → places_at self.new k ≡ places_at self.old k ++ (if same_key key k then place ∷ [] else [])) }
+        ensures { OnOk result ((k : Key) → places_at self.new k ≡ put_all (places_at self.old k) (if same_key key k then place ∷ [] else [])) }
     {
         let mut places = self.take(key);
-        places.push(place)?;
+        put(&mut places, place)?;
         self.places.insert(key, places)?;
         Ok(())
     }
@@ -82,7 +82,7 @@ impl ByKey {
     }
 }
 
-/// The places of instructions by the cells that they touch. An instruction stands once for each of its cells.
+/// The places of instructions by the cells that they touch.
 #[derive(Drop)]
 pub struct ByCell {
     /// For cells without a base.
@@ -110,7 +110,7 @@ impl ByCell {
         ensures { OnOk result (HasMore place (option_map based cell.now ∷ []) (cell_places self.old) (cell_places self.new)) }
     {
         match cell {
-            None => self.unknown.push(place)?,
+            None => put(&mut self.unknown, place)?,
             Some(known) => {
                 self.bases.add(known.base, place)?;
                 self.keys.add(key_of(known), place)?;
@@ -120,6 +120,7 @@ impl ByCell {
     }
 
     /// Adds a place for each of some cells.
+    #[tactic(auto, using(crate::proofs::NotedLemmas::put_append))]
     pub fn add_all(&mut self, touched: &[Option<Based>], place: u32) -> Result<(), NoMemory>
         ensures { OnOk result (HasMore place (cells touched.now) (cell_places self.old) (cell_places self.new)) }
     {

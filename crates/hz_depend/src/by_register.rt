@@ -3,7 +3,7 @@
 ghost use Rattle.std.specs.Prelude.{◌≡◌, ℕ, [], IfOk, vec_len};
 ghost use Rattle.hz_depend.specs.Lists.{list_at, lists_of};
 
-use crate::marks::{mark, mark_below};
+use crate::marks::{mark, mark_below, put};
 use crate::pairs::REGISTERS;
 use hz_regexp::NoMemory;
 use std::alloc::Global;
@@ -28,11 +28,11 @@ fn empty_lists(alloc: Global, count: usize) -> Result<Vec<Vec<u32>>, NoMemory>
 }
 
 impl ByRegister {
-    ghost use Rattle.std.specs.Prelude.{◌≡◌, ◌++◌, ℕ, [], ◌∷◌, ◌==◌, if◌then◌else◌, IfOk, OnOk};
+    ghost use Rattle.std.specs.Prelude.{◌≡◌, ℕ, [], ◌∷◌, ◌==◌, if◌then◌else◌, IfOk, OnOk};
     ghost use Rattle.std.specs.List.{flat_map};
     ghost use Rattle.hz_depend.specs.Lists.{list_at, lists_of};
     ghost use Rattle.hz_depend.specs.Marks.{marked, below, all_lists, other_lists};
-    ghost use Rattle.hz_depend.specs.Noted.{hits};
+    ghost use Rattle.hz_depend.specs.Noted.{hits, put_all};
     ghost use Rattle.hz_depend.specs.Tables.{lists_in};
 
     /// No place for any register.
@@ -43,17 +43,18 @@ impl ByRegister {
         Ok(ByRegister { lists })
     }
 
-    /// Adds a place for a register.
+    /// Adds a place for a register, unless it was the last one added for it.
     pub fn add(&mut self, register: u8, place: u32) -> Result<(), NoMemory>
-        ensures { OnOk result ((r : ℕ) → list_at (lists_in self.new) r ≡ list_at (lists_in self.old) r ++ (if register == r then place ∷ [] else [])) }
+        ensures { OnOk result ((r : ℕ) → list_at (lists_in self.new) r ≡ put_all (list_at (lists_in self.old) r) (if register == r then place ∷ [] else [])) }
     {
-        self.lists[usize::from(register)].push(place)?;
+        put(&mut self.lists[usize::from(register)], place)?;
         Ok(())
     }
 
-    /// Adds a place for each of some registers.
+    /// Adds a place for each of some registers, unless it was the last one added for it.
+    #[tactic(auto, using(crate::proofs::NotedLemmas::put_append))]
     pub fn add_all(&mut self, registers: &[u8], place: u32) -> Result<(), NoMemory>
-        ensures { OnOk result ((r : ℕ) → list_at (lists_in self.new) r ≡ list_at (lists_in self.old) r ++ hits (λ n. n == r) registers.now place) }
+        ensures { OnOk result ((r : ℕ) → list_at (lists_in self.new) r ≡ put_all (list_at (lists_in self.old) r) (hits (λ n. n == r) registers.now place)) }
     {
         for register in registers {
             self.add(*register, place)?;

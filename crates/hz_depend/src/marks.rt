@@ -1,8 +1,31 @@
-//! Marks at the places of a block. Each place has a stamp, and is marked in the turn that has this stamp.
+//! Lists of places in a block, and marks at them. Each place has a stamp, and is marked in the turn that has this stamp.
 
-ghost use Rattle.std.specs.Prelude.{◌≡◌};
+ghost use Rattle.std.specs.Prelude.{◌≡◌, OnOk};
+ghost use Rattle.hz_depend.specs.Noted as noted;
 ghost use Rattle.hz_depend.specs.Marks as model;
 ghost use Rattle.hz_depend.specs.Marks.{marked, below};
+
+use hz_regexp::NoMemory;
+
+/// Whether a list ends with a place.
+fn ends_with(list: &[u32], place: u32) -> bool
+    ensures { result ≡ noted.ends_with list.now place }
+{
+    match list.last() {
+        Some(last) => *last == place,
+        None => false,
+    }
+}
+
+/// Adds a place to a list, unless it ends with that.
+pub fn put(list: &mut Vec<u32>, place: u32) -> Result<(), NoMemory>
+    ensures { OnOk result (list.new.items ≡ noted.put list.old.items place) }
+{
+    if !ends_with(list, place) {
+        list.push(place)?;
+    }
+    Ok(())
+}
 
 /// Marks a place, if there is one.
 fn mark_one(stamps: &mut [u32], stamp: u32, place: u32)
