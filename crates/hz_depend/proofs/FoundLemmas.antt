@@ -96,14 +96,14 @@ module _ (last : ℕ → ℕ) (bypasses : List BypassParts) (j : ℕ) (s : Held)
       let h = r.is_to in
       omega arith)
 
-slice_get-take : {X : Type 0} (xs : List X) (n k : ℕ) → k < n → slice_get (take n xs) k ≡ slice_get xs k
+pub slice_get-take : {X : Type 0} (xs : List X) (n k : ℕ) → k < n → slice_get (take n xs) k ≡ slice_get xs k
 slice_get-take [] zero k lt = absurd (omega arith)
 slice_get-take [] (suc n) k lt = refl
 slice_get-take (x ∷ xs) zero k lt = absurd (omega arith)
 slice_get-take (x ∷ xs) (suc n) zero lt = refl
 slice_get-take (x ∷ xs) (suc n) (suc k) lt = slice_get-take xs n k (omega arith)
 
-length-take_at : {X : Type 0} (xs : List X) (n : ℕ) → length (take n xs) ≤ n
+pub length-take_at : {X : Type 0} (xs : List X) (n : ℕ) → length (take n xs) ≤ n
 length-take_at [] zero = omega arith
 length-take_at [] (suc n) = omega arith
 length-take_at (x ∷ xs) zero = omega arith

@@ -15,7 +15,7 @@ use Rattle.hz_depend.specs.Held.{Held, node_for, writes, last_of}
 
 module _ (nodes : List Held) (r : ℕ) where
   -- none writes it from the place on that `last_of` tells
-  none_after : (j m : ℕ) → last_of nodes j r ≤ m → m < j → writes (slice_get nodes m) r ≡ false
+  pub none_after : (j m : ℕ) → last_of nodes j r ≤ m → m < j → writes (slice_get nodes m) r ≡ false
   none_after zero m le lt = absurd (omega arith)
   none_after (suc j) m le lt = go (writes (slice_get nodes j) r) refl le (none_after j m)
     where

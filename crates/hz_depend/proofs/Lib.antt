@@ -9,3 +9,8 @@ pub mod EdgeLemmas
 pub mod BoundLemmas
 pub mod GraphLemmas
 pub mod MadeLemmas
+pub mod MarkLemmas
+pub mod NotedLemmas
+pub mod CandidateLemmas
+pub mod TableLemmas
+pub mod ListLemmas

@@ -97,6 +97,11 @@ abbrev pub found : (ℕ → ℕ) → List BypassParts → ℕ → Held → ℕ �
 found last bypasses j s i [] = []
 found last bypasses j s i (f ∷ firsts) = edge_by i j (cost_held last i f s bypasses) ++ found last bypasses j s (suc i) firsts
 
+-- those of them from instructions that are marked
+abbrev pub found_among : (ℕ → Bool) → (ℕ → ℕ) → List BypassParts → ℕ → Held → ℕ → List Held → List Edge
+found_among is_marked last bypasses j s i [] = []
+found_among is_marked last bypasses j s i (f ∷ firsts) = (if is_marked i then edge_by i j (cost_held last i f s bypasses) else []) ++ found_among is_marked last bypasses j s (suc i) firsts
+
 -- whether an instruction writes a register
 abbrev pub writes : Option Held → ℕ → Bool
 writes (Some h) r = is_among h.registers_written r

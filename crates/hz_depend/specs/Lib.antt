@@ -5,3 +5,7 @@ pub mod AccessShape
 pub mod GraphShape
 pub mod Held
 pub mod Relaxing
+pub mod Lists
+pub mod Marks
+pub mod Noted
+pub mod Tables

@@ -1,22 +1,24 @@
-//! The edges of a block's dependence graph, pair by pair.
+//! The edges of a block's dependence graph: to each instruction from those that its tables tell.
 
-ghost use Rattle.std.specs.Prelude.{◌≡◌, ◌≤◌, ◌<◌, ◌+◌, ◌++◌, ℕ, if◌then◌else◌, length, map, slice_index, IfOk, OnOk};
+ghost use Rattle.std.specs.Prelude.{◌≡◌, ◌≤◌, ◌<◌, ◌==◌, ◌+◌, ◌++◌, ℕ, if◌then◌else◌, length, map, slice_index, IfOk, OnOk};
 ghost use Rattle.hz_check.specs.Shape.{bypass_of};
 ghost use Rattle.hz_depend_model.specs.Accesses.{is_among};
 ghost use Rattle.hz_depend.specs.GraphShape.{edge_of};
-ghost use Rattle.hz_depend.specs.Held.{held, found, all_found};
+ghost use Rattle.hz_depend.specs.Held.{held, found_among, all_found};
 
 use crate::access::Touched;
 use crate::nodes::Node;
 use crate::pairs::{REGISTERS, cost};
 use crate::parts::Edge;
+use crate::tables::Tables;
 use hz_check::CheckedBypass;
 use hz_regexp::NoMemory;
 use std::alloc::Global;
 
-/// Adds the edges from these instructions to the one at a place.
+/// Adds the edges to the instruction at a place from those before it that are marked.
 fn add_edges(
     edges: &mut Vec<Edge>,
+    stamps: &[u32],
     last: &[u32],
     bypasses: &[CheckedBypass],
     firsts: &[Node],
@@ -25,12 +27,16 @@ fn add_edges(
 ) -> Result<(), NoMemory>
     requires registers { length last.now ≡ 256 }
     requires few { length firsts.now ≤ 4096 }
-    ensures { OnOk result (map edge_of edges.new.items ≡ map edge_of edges.old.items ++ found (slice_index last.now) (map bypass_of bypasses.now) to (held second.now) 0 (map held firsts.now)) }
+    requires place { to < 4096 }
+    requires stamps { length firsts.now ≤ length stamps.now }
+    ensures { OnOk result (map edge_of edges.new.items ≡ map edge_of edges.old.items ++ found_among (λ i. slice_index stamps.now i == to + 1) (slice_index last.now) (map bypass_of bypasses.now) to (held second.now) 0 (map held firsts.now)) }
 {
     for (place, first) in firsts.iter().enumerate() {
-        let from = place as u32;
-        if let Some(cost) = cost(last, bypasses, from, first, second) {
-            edges.push(Edge { from, to, cost })?;
+        if stamps[place] == to + 1 {
+            let from = place as u32;
+            if let Some(cost) = cost(last, bypasses, from, first, second) {
+                edges.push(Edge { from, to, cost })?;
+            }
         }
     }
     Ok(())
@@ -56,10 +62,16 @@ pub fn edges_of(
     ensures { IfOk result (λ edges. map edge_of edges.items ≡ all_found (map bypass_of bypasses.now) (map held nodes.now) (length nodes.now)) }
 {
     let mut last = [0; REGISTERS];
+    let mut tables = Tables::new(alloc)?;
+    let mut held = vec![in alloc; 0; nodes.len()]?;
+    let stamps = held.as_mut_slice();
     let mut edges = Vec::new(alloc);
     for (place, node) in nodes.iter().enumerate() {
         let to = place as u32;
-        add_edges(&mut edges, &last, bypasses, &nodes[..place], to, node)?;
+        let firsts = &nodes[..place];
+        tables.mark(stamps, to + 1, &last, node);
+        add_edges(&mut edges, stamps, &last, bypasses, firsts, to, node)?;
+        tables.note(node, to)?;
         note_written(&mut last, &node.access.written, to + 1);
     }
     Ok(edges)

@@ -19,7 +19,7 @@ use hz_check::CheckedBypass;
 pub const REGISTERS: usize = 256;
 
 /// The place after the last instruction that writes a register.
-fn after(last: &[u32], register: u8) -> u32
+pub fn after(last: &[u32], register: u8) -> u32
     requires { length last.now ≡ 256 }
     ensures { result ≡ slice_index last.now register }
 {

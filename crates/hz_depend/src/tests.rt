@@ -1,9 +1,11 @@
 //! Instructions with their classes, or what is wrong with them.
 
-ghost use Rattle.std.specs.Prelude.{◌<◌, ◌^◌, length};
+ghost use Rattle.std.specs.Prelude.{◌<◌, ◌≤◌, ◌^◌, length};
 
-use crate::{Graph, class_of, graph};
-use hz_check::{Checked, check};
+use crate::nodes::{Node, first_class_fault, nodes_of};
+use crate::pairs::{REGISTERS, cost};
+use crate::{Edge, Graph, class_of, graph};
+use hz_check::{Checked, CheckedBypass, check};
 use hz_mdread::read_description;
 use hz_rtl::{Block, read_block};
 use hz_sexp::read_forms;
@@ -316,6 +318,98 @@ fn instructions_depend_on_others(rt: HostRuntime) -> Result<(), Fail> {
         let found = shown(alloc, &made)?;
         assert_eq!(rt; found.as_str(), *expected, "{name}");
     }
+    Ok(())
+}
+
+/// The next number of a seed.
+fn next(seed: &mut u32) -> u32 {
+    *seed = seed.wrapping_mul(1664525).wrapping_add(1013904223);
+    *seed >> 16
+}
+
+/// The effects of an instruction that a seed makes, of few registers and cells.
+fn made_effects(alloc: Global, seed: &mut u32) -> Result<String, Fail> {
+    let shape = next(seed) % 9;
+    let a = next(seed) % 4;
+    let b = next(seed) % 4;
+    let k = next(seed) % 3 * 8;
+    Ok(match shape {
+        0 => format!(in alloc; "(set (reg {a}) (plus (reg {b}) (const_int {k})))")?,
+        1 => format!(in alloc; "(set (mem (plus (reg {a}) (const_int {k}))) (reg {b}))")?,
+        2 => format!(in alloc; "(set (reg {a}) (mem (plus (reg {b}) (const_int {k}))))")?,
+        3 => format!(in alloc; "(set (mem (reg {a})) (mem (plus (reg {b}) (const_int {k}))))")?,
+        4 => format!(in alloc; "(clobber (reg {a}))")?,
+        5 => format!(in alloc; "(set (mem (mult (reg {a}) (reg {b}))) (const_int {k}))")?,
+        6 => format!(in alloc; "(use (mem (mult (reg {a}) (reg {b}))))")?,
+        7 => format!(in alloc; "(use (mem (plus (reg {a}) (const_int {k}))))")?,
+        _ => {
+            format!(in alloc;
+                "(parallel [(set (mem (reg {a})) (reg {b})) (set (reg {a}) (const_int {k}))])"
+            )?
+        }
+    })
+}
+
+/// A block that a seed makes.
+fn made_text(alloc: Global, seed: &mut u32) -> Result<String, Fail> {
+    let mut text = String::new(alloc);
+    for number in 0..48 {
+        let effects = made_effects(alloc, seed)?;
+        let one = format!(in alloc; "(insn {number} {effects})\n")?;
+        text.push_str(one.as_str())?;
+    }
+    Ok(text)
+}
+
+/// All edges, pair by pair.
+fn all_pairs(alloc: Global, bypasses: &[CheckedBypass], nodes: &[Node]) -> Result<Vec<Edge>, Fail>
+    requires { length nodes.now ≤ 4096 }
+{
+    let mut last = [0; REGISTERS];
+    let mut edges = Vec::new(alloc);
+    for (place, second) in nodes.iter().enumerate() {
+        let to = place as u32;
+        for (before, first) in nodes[..place].iter().enumerate() {
+            let from = before as u32;
+            if let Some(cost) = cost(&last, bypasses, from, first, second) {
+                edges.push(Edge { from, to, cost })?;
+            }
+        }
+        for register in &second.access.written.registers {
+            last[usize::from(*register)] = to + 1;
+        }
+    }
+    Ok(edges)
+}
+
+#[test]
+fn tables_find_what_all_pairs_do(rt: HostRuntime) -> Result<(), Fail> {
+    let alloc = rt.alloc();
+    let bytes = SUPERSCALAR.as_bytes();
+    assert!(rt; bytes.len() < 100_000);
+    let checked = checked_of(alloc, bytes).ok_or("no description")?;
+    let mut seed = 1;
+    let mut count = 0usize;
+    for _ in 0..32 {
+        let text = made_text(alloc, &mut seed)?;
+        let bytes = text.as_bytes();
+        assert!(rt; bytes.len() < 100_000);
+        let block = block_of(alloc, bytes).ok_or("no block")?;
+        assert!(rt; block.insns.len() <= 4096);
+        assert!(rt; first_class_fault(&checked, &block.insns).is_none());
+        let nodes = nodes_of(alloc, &checked, &block.insns)?;
+        assert!(rt; nodes.len() <= 4096);
+        let made = graph(alloc, &checked, &block)?;
+        let found = all_pairs(alloc, &checked.bypasses, &nodes)?;
+        assert_eq!(rt;
+            made.edges.as_slice(),
+            found.as_slice(),
+            "{}",
+            text.as_str()
+        );
+        count = count.saturating_add(found.len());
+    }
+    assert!(rt; count > 10_000);
     Ok(())
 }
 
