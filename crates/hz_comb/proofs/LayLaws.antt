@@ -1,12 +1,12 @@
 -- Laying a row, entry by entry.
-use Rattle.std.proofs.Common.{◌≡◌, ◌≢◌, ℕ, ◌+◌, ◌-◌, ◌<◌, ◌≤◌, ◌==◌, ◌&&◌, ◌||◌, not, nat_le, nat_lt, if◌then◌else◌, is_some, zero, suc, List, [], ◌∷◌, ◌++◌, replicate, length, slice_index, Option, None, Some, IfSome, Bool, true, false, ◌⊎◌, inl, inr, ⊎_elim, refl, sym, ap, ◌∙◌, subst, arith}
+use Rattle.std.proofs.Common.{◌≡◌, ◌≢◌, ℕ, ◌+◌, ◌-◌, ◌<◌, ◌≤◌, ◌==◌, ◌&&◌, ◌||◌, not, nat_le, nat_lt, if◌then◌else◌, is_some, List, [], ◌∷◌, ◌++◌, replicate, length, slice_index, Option, None, Some, IfSome, Bool, true, false, ◌⊎◌, inl, inr, ⊎_elim, refl, sym, ap, ◌∙◌, subst, arith}
 use Rattle.std.proofs.lemmas.Bool.{cases_Bool, eqb-true, eqb-false, ltb-true, ltb-false, eq-eqb, ne_eqb}
 use Rattle.std.proofs.lemmas.List.{length-append, length-replicate, get_or_append_left, get_or-append-add, get_or-replicate, get_or_push}
 use Rattle.std.proofs.lemmas.Bool.Decides.{nat_tests}
 use Rattle.std.proofs.lemmas.List.Sums.{AllPass-from_list_all}
 use Rattle.std.specs.List.{Contains, list_all}
 use Rattle.hz_tables_model.specs.Tables.{Table, entry}
-use Rattle.hz_comb_model.specs.Combs.{Comb, HasPlaces, place_at, laid_at, laid}
+use Rattle.hz_comb_model.specs.Combs.{Comb, place_at, laid_at, laid}
 use Rattle.hz_comb.specs.Laying.{is_free, is_laid, Lays, IsLaid}
 
 none_laid : (row : ℕ → Option ℕ) (base place : ℕ) → is_laid row 0 base place ≡ false
@@ -32,12 +32,12 @@ laid_other row count base place other = shape (is_some (row (place - base)))
 -- nothing is laid yet
 pub lays_none : (row : ℕ → Option ℕ) (base state : ℕ) (owners targets : List ℕ) → Lays row 0 base state owners targets owners targets
 lays_none row base state owners targets = record {
-    each = refl;
-    same = refl;
-    owner = λ place. ap (λ b. if b then state else slice_index owners place) (sym (none_laid row base place));
-    target = λ place next there. let none = none_laid row base place in cc;
-    other = λ place there. refl;
-  }
+  each = refl;
+  same = refl;
+  owner = λ place. ap (λ b. if b then state else slice_index owners place) (sym (none_laid row base place));
+  target = λ place next there. let none = none_laid row base place in cc;
+  other = λ place there. refl;
+}
 
 lay_owner : (test some now was : Bool) (state first old new : ℕ) → old ≡ (if was then state else first) → new ≡ (if test && some then state else old)
     → (test ≡ true → (now ≡ some) × (was ≡ false)) → (test ≡ false → now ≡ was) → new ≡ (if now then state else first)
@@ -57,16 +57,16 @@ pub lays_more : (row : ℕ → Option ℕ) (count base state : ℕ) (owners targ
     → length owners_2 ≡ length owners_1 → length targets_2 ≡ length targets_1
     → Lays row (count + 1) base state owners targets owners_2 targets_2
 lays_more row count base state owners targets owners_1 targets_1 owners_2 targets_2 lays next_read read owner target others each same = record {
-    each = each ∙ lays.each;
-    same = same ∙ lays.same;
-    owner = λ place. lay_owner (place == base + count) (is_some (row count)) (is_laid row (count + 1) base place) (is_laid row count base place)
+  each = each ∙ lays.each;
+  same = same ∙ lays.same;
+  owner = λ place. lay_owner (place == base + count) (is_some (row count)) (is_laid row (count + 1) base place) (is_laid row count base place)
       state (slice_index owners place) (slice_index owners_1 place) (slice_index owners_2 place) (lays.owner place) (owner place ∙ ap (λ n. if (place == base + count) && is_some n then state else slice_index owners_1 place) read)
       (λ e. let at : place ≡ base + count = eqb-true place (base + count) e in
-        (ap (is_laid row (count + 1) base) at ∙ laid_here row count base, ap (is_laid row count base) at ∙ laid_before row count base))
+      (ap (is_laid row (count + 1) base) at ∙ laid_here row count base, ap (is_laid row count base) at ∙ laid_before row count base))
       (λ e. laid_other row count base place (eqb-false place (base + count) e));
-    target = λ place next laid there. target_at place next laid there (place == base + count) refl;
-    other = λ place none. other_at place none (place == base + count) refl;
-  }
+  target = λ place next laid there. target_at place next laid there (place == base + count) refl;
+  other = λ place none. other_at place none (place == base + count) refl;
+}
   where
     target_at : (place next : ℕ) → is_laid row (count + 1) base place ≡ true → row (place - base) ≡ Some next → (test : Bool) → (place == base + count) ≡ test → slice_index targets_2 place ≡ next
     target_at place next laid there true e =
@@ -76,6 +76,7 @@ lays_more row count base state owners targets owners_1 targets_1 owners_2 target
     target_at place next laid there false e =
         let before = sym (laid_other row count base place (eqb-false place (base + count) e)) ∙ laid in
         others place (ap (λ b. b && is_some next_read) e) ∙ lays.target place next before there
+
     other_at : (place : ℕ) → is_laid row (count + 1) base place ≡ false → (test : Bool) → (place == base + count) ≡ test → slice_index targets_2 place ≡ slice_index targets place
     other_at place none true e =
         let at : place ≡ base + count = eqb-true place (base + count) e in
@@ -128,15 +129,15 @@ laid_grown table comb n some is =
       owners = λ place within. owner place within (cases_Bool (nat_lt place (length comb.owners)));
       targets = λ place within. target place within (cases_Bool (nat_lt place (length comb.owners)));
       entries = λ state column within among.
-        let place = is.places.within state within in
-        let at = place_at comb state column in
-        let own = grown_at comb.owners n (length table) at (omega arith) in
-        let next = grown_at comb.targets n 0 at (omega arith) in
-        (λ i. if own i == state then Some (next i) else None) ∙ is.entries state column within among;
+          let place = is.places.within state within in
+          let at = place_at comb state column in
+          let own = grown_at comb.owners n (length table) at (omega arith) in
+          let next = grown_at comb.targets n 0 at (omega arith) in
+          (λ i. if own i == state then Some (next i) else None) ∙ is.entries state column within among;
     }
   where
     owner : (place : ℕ) → place < length (comb.owners ++ replicate n (length table)) → (nat_lt place (length comb.owners) ≡ true) ⊎ (nat_lt place (length comb.owners) ≡ false)
-      → (slice_index (comb.owners ++ replicate n (length table)) place < length comb.bases) ⊎ (slice_index (comb.owners ++ replicate n (length table)) place ≡ length table)
+        → (slice_index (comb.owners ++ replicate n (length table)) place < length comb.bases) ⊎ (slice_index (comb.owners ++ replicate n (length table)) place ≡ length table)
     owner place within (inl here) =
         let same = grown_at comb.owners n (length table) place (ltb-true place (length comb.owners) here) in
         subst (λ o. (o < length comb.bases) ⊎ (o ≡ length table)) (sym same) (is.owners place (ltb-true place (length comb.owners) here))
@@ -145,8 +146,9 @@ laid_grown table comb n some is =
         let more = length-replicate n (length table) in
         let behind = ltb-false place (length comb.owners) past in
         inr (grown_past comb.owners n (length table) place (omega arith) (omega arith))
+
     target : (place : ℕ) → place < length (comb.owners ++ replicate n (length table)) → (nat_lt place (length comb.owners) ≡ true) ⊎ (nat_lt place (length comb.owners) ≡ false)
-      → slice_index (comb.targets ++ replicate n 0) place < length table
+        → slice_index (comb.targets ++ replicate n 0) place < length table
     target place within (inl here) =
         let lower = ltb-true place (length comb.owners) here in
         let same = is.places.same in
@@ -214,6 +216,7 @@ laid_more table comb base owners targets within_table is next room free lays =
   where
     row_at : ℕ → Bool
     row_at place = is_laid (entry table (length comb.bases)) (comb.columns + 1) base place
+
     place_within : (s : ℕ) → s < length comb.bases + 1 → (nat_lt s (length comb.bases) ≡ true) ⊎ (nat_lt s (length comb.bases) ≡ false) → slice_index (comb.bases ++ base ∷ []) s + comb.columns < length owners
     place_within s among (inl h) =
         let lower = ltb-true s (length comb.bases) h in
@@ -227,6 +230,7 @@ laid_more table comb base owners targets within_table is next room free lays =
         let same = get_or_push comb.bases base 0 s (sym at) in
         let each = lays.each in
         omega arith
+
     owner : (place : ℕ) → place < length comb.owners → (row_at place ≡ true) ⊎ (row_at place ≡ false) → (slice_index owners place < length (comb.bases ++ base ∷ [])) ⊎ (slice_index owners place ≡ length table)
     owner place among (inl h) =
         let long = length-append comb.bases (base ∷ []) in
@@ -236,6 +240,7 @@ laid_more table comb base owners targets within_table is next room free lays =
         let long = length-append comb.bases (base ∷ []) in
         let own : slice_index owners place ≡ slice_index comb.owners place = lays.owner place ∙ ap (λ b. if b then length comb.bases else slice_index comb.owners place) h in
         ⊎_elim (λ low. inl (omega (arith, own, low))) (λ e. inr (own ∙ e)) (is.owners place among)
+
     target : (place : ℕ) → place < length comb.owners → (row_at place ≡ true) ⊎ (row_at place ≡ false) → slice_index targets place < length table
     target place among (inl h) =
         let parts = laid_within (entry table (length comb.bases)) (comb.columns + 1) base place h in
@@ -244,8 +249,9 @@ laid_more table comb base owners targets within_table is next room free lays =
         let low = within_table (length comb.bases) (place - base) there.0 there.1 in
         omega arith
     target place among (inr h) = let same = lays.other place h in let low = is.targets place among in omega arith
+
     older : (s column : ℕ) → s < length comb.bases → column ≤ comb.columns → (row_at (place_at comb s column) ≡ true) ⊎ (row_at (place_at comb s column) ≡ false)
-      → laid_at owners targets s (place_at comb s column) ≡ entry table s column
+        → laid_at owners targets s (place_at comb s column) ≡ entry table s column
     older s column lower in_row (inl h) =
         let place = place_at comb s column in
         let own : slice_index owners place ≡ length comb.bases = lays.owner place ∙ ap (λ b. if b then length comb.bases else slice_index comb.owners place) h in
@@ -261,8 +267,9 @@ laid_more table comb base owners targets within_table is next room free lays =
         let own : slice_index owners place ≡ slice_index comb.owners place = lays.owner place ∙ ap (λ b. if b then length comb.bases else slice_index comb.owners place) h in
         let same = lays.other place h in
         (λ i. if own i == s then Some (same i) else None) ∙ is.entries s column lower in_row
+
     newest : (column : ℕ) → column ≤ comb.columns → (is_some (entry table (length comb.bases) column) ≡ true) ⊎ (is_some (entry table (length comb.bases) column) ≡ false)
-      → laid_at owners targets (length comb.bases) (base + column) ≡ entry table (length comb.bases) column
+        → laid_at owners targets (length comb.bases) (base + column) ≡ entry table (length comb.bases) column
     newest column in_row (inl h) =
         let laid_there = laid_in (entry table (length comb.bases)) (comb.columns + 1) base column (omega arith) ∙ h in
         let there = is_some_of (entry table (length comb.bases) column) h in
@@ -274,10 +281,11 @@ laid_more table comb base owners targets within_table is next room free lays =
         let not_laid = laid_in (entry table (length comb.bases)) (comb.columns + 1) base column (omega arith) ∙ h in
         let own : slice_index owners (base + column) ≡ slice_index comb.owners (base + column) = lays.owner (base + column) ∙ ap (λ b. if b then length comb.bases else slice_index comb.owners (base + column)) not_laid in
         not_owned_by owners targets (length comb.bases) (base + column)
-          (λ e. ⊎_elim (λ low. omega (arith, own, e, low)) (λ is_free. omega (arith, own, e, is_free, next)) (is.owners (base + column) (omega arith)))
+        (λ e. ⊎_elim (λ low. omega (arith, own, e, low)) (λ is_free. omega (arith, own, e, is_free, next)) (is.owners (base + column) (omega arith)))
         ∙ sym (none_of (entry table (length comb.bases) column) h)
+
     entry_at : (s column : ℕ) → s < length comb.bases + 1 → column ≤ comb.columns → (nat_lt s (length comb.bases) ≡ true) ⊎ (nat_lt s (length comb.bases) ≡ false)
-      → laid_at owners targets s (slice_index (comb.bases ++ base ∷ []) s + column) ≡ entry table s column
+        → laid_at owners targets s (slice_index (comb.bases ++ base ∷ []) s + column) ≡ entry table s column
     entry_at s column among in_row (inl h) =
         let lower = ltb-true s (length comb.bases) h in
         let same = get_or_append_left comb.bases (base ∷ []) 0 s lower in
@@ -309,7 +317,7 @@ free_grown : (owners : List ℕ) (n free base column : ℕ) (listed : List ℕ) 
     → base + column < length owners + n → slice_index (owners ++ replicate n free) (base + column) ≡ free
 free_grown owners n free base column listed all there within = ⊎_elim
     (λ h. let lower = ltb-true (base + column) (length owners) h in
-      grown_at owners n free (base + column) lower ∙ free_at owners free (base + column) (each_passes (λ c. is_free owners free (base + c)) listed column all there) lower)
+    grown_at owners n free (base + column) lower ∙ free_at owners free (base + column) (each_passes (λ c. is_free owners free (base + c)) listed column all there) lower)
     (λ h. grown_past owners n free (base + column) (ltb-false (base + column) (length owners) h) within)
     (cases_Bool (nat_lt (base + column) (length owners)))
 
@@ -339,9 +347,9 @@ row_more table columns state free base places bases owners targets listed grown_
     subst (λ xs. Lays (entry table (length bases)) (columns + 1) base (length bases) (owners ++ replicate n (length table)) xs new_owners new_targets) targets_grown lays_2 in
     subst (λ xs. IsLaid table (record { columns = columns; bases = xs; owners = new_owners; targets = new_targets })) (sym pushed)
     (laid_more table (record { columns = columns; bases = bases; owners = owners ++ replicate n (length table); targets = targets ++ replicate n 0 }) base new_owners new_targets
-      within
-      (laid_grown table (record { columns = columns; bases = bases; owners = owners; targets = targets }) n (omega arith) is)
-      (omega arith)
-      (omega arith)
-      (λ column among there. free_grown owners n (length table) base column listed fits_all (listed_all column among (λ none. there (ap (λ s. entry table s column) next ∙ none))) (omega arith))
-      lays_3)
+    within
+    (laid_grown table (record { columns = columns; bases = bases; owners = owners; targets = targets }) n (omega arith) is)
+    (omega arith)
+    (omega arith)
+    (λ column among there. free_grown owners n (length table) base column listed fits_all (listed_all column among (λ none. there (ap (λ s. entry table s column) next ∙ none))) (omega arith))
+    lays_3)

@@ -1,11 +1,11 @@
 -- What a packed table keeps of its comb.
-use Rattle.std.proofs.Common.{◌≡◌, ℕ, ◌+◌, ◌*◌, ◌<◌, ◌≤◌, ◌==◌, ◌≢◌, if◌then◌else◌, List, [], length, slice_index, slice_index_or, All, ⊎_elim, Option, Some, None, Bool, refl, sym, ap, ◌∙◌, subst, arith}
+use Rattle.std.proofs.Common.{◌≡◌, ℕ, ◌+◌, ◌*◌, ◌<◌, ◌≤◌, ◌≢◌, if◌then◌else◌, List, [], length, slice_index, All, ⊎_elim, Some, None, sym, ap, ◌∙◌, subst, arith}
 use Rattle.std.proofs.lemmas.Bool.{eq-eqb, ne_eqb}
 use Rattle.std.proofs.lemmas.List.Elements.{All-from_get_or}
 use Rattle.std.proofs.lemmas.Nat.{mul-le}
 use Rattle.hz_plain.specs.Rows.{Rows, KeepsRows}
 use Rattle.hz_tables_model.specs.Tables.{Table, row_of, entry}
-use Rattle.hz_comb_model.specs.Combs.{Comb, HasPlaces, place_at, laid, rows_in, entries_of}
+use Rattle.hz_comb_model.specs.Combs.{Comb, place_at, laid, rows_in, entries_of}
 use Rattle.hz_comb_model.proofs.CombLaws.{rows_in-each, rows_in-entry, rows_in-entries, rows_in-table}
 use Rattle.hz_comb.specs.Laying.{IsLaid}
 use Rattle.hz_comb.specs.Packing.{Packing, packing_of, IsPacked}
@@ -52,12 +52,12 @@ most_kept comb seen is packed =
 pub small_owners : (table : Table) (comb : Comb) (bound : ℕ) → length table < bound → IsLaid table comb → (owners : List ℕ) → owners ≡ comb.owners → All (λ owner. owner < bound) owners
 small_owners table comb bound small is owners same =
     subst (All (λ owner. owner < bound)) (sym same) (All-from_get_or (λ owner. owner < bound) comb.owners 0 (λ place within.
-      ⊎_elim (λ lower. let few = is.few in omega (arith, lower)) (λ free. omega (arith, free)) (is.owners place within)))
+    ⊎_elim (λ lower. let few = is.few in omega (arith, lower)) (λ free. omega (arith, free)) (is.owners place within)))
 
 pub small_targets : (table : Table) (comb : Comb) (bound : ℕ) → length table < bound → IsLaid table comb → (targets : List ℕ) → targets ≡ comb.targets → All (λ target. target < bound) targets
 small_targets table comb bound small is targets same =
     subst (All (λ target. target < bound)) (sym same) (All-from_get_or (λ target. target < bound) comb.targets 0 (λ place within.
-      let long = is.places.same in let low = is.targets place (omega arith) in omega arith))
+    let long = is.places.same in let low = is.targets place (omega arith) in omega arith))
 
 pub small_bases : (rows : Rows) → KeepsRows rows → (comb : Comb) → IsLaid rows.rows comb → length comb.bases ≡ length rows.rows
     → length comb.owners ≤ length rows.rows * (rows.columns + 1) → (bases : List ℕ) → bases ≡ comb.bases → All (λ base. base < 4294967296) bases
@@ -66,7 +66,7 @@ small_bases rows keeps comb is all few bases same =
     let high = keeps.few in
     let most : length rows.rows * (rows.columns + 1) ≤ 65536 * 1025 = mul-le (length rows.rows) (rows.columns + 1) 65536 1025 high (omega arith) in
     subst (All (λ base. base < 4294967296)) (sym same) (All-from_get_or (λ base. base < 4294967296) comb.bases 0 (λ state within.
-      let place = is.places.within state within in omega arith))
+    let place = is.places.within state within in omega arith))
 
 row_width : (rows : Rows) → KeepsRows rows → (state : ℕ) → state < length rows.rows → length (row_of rows.rows state) ≡ rows.columns + 1
 row_width rows keeps state within = keeps.width state [] within

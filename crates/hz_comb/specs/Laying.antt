@@ -1,6 +1,5 @@
 -- Rows that are laid into a comb, one after the other. These words are only to prove with.
-use Rattle.std.specs.Prelude.{◌≡◌, ℕ, ◌+◌, ◌-◌, ◌*◌, ◌<◌, ◌≤◌, ◌==◌, ◌&&◌, ◌||◌, not, nat_le, nat_lt, if◌then◌else◌, is_some, Bool, true, false, ◌⊎◌, List, Option, Some, None, length, slice_index, slice_index_or}
-use Rattle.std.specs.Option.{unwrap_or}
+use Rattle.std.specs.Prelude.{◌≡◌, ℕ, ◌-◌, ◌<◌, ◌≤◌, ◌==◌, ◌&&◌, ◌||◌, not, nat_le, nat_lt, if◌then◌else◌, is_some, Bool, true, false, ◌⊎◌, List, Option, Some, length, slice_index}
 use Rattle.hz_tables_model.specs.Tables.{Table, entry}
 use Rattle.hz_comb_model.specs.Combs.{Comb, HasPlaces, laid}
 

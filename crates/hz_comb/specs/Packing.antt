@@ -1,5 +1,5 @@
 -- A table that is kept as a comb.
-use Rattle.std.specs.Prelude.{◌≡◌, ℕ, ◌+◌, ◌*◌, ◌<◌, ◌≤◌, ◌^◌, List, length, slice_index}
+use Rattle.std.specs.Prelude.{ℕ, ◌+◌, ◌*◌, ◌≤◌, length}
 use Rattle.hz_base_model.specs.Limits.{class_limit}
 use Rattle.hz_tables_model.specs.StateLimits.{state_limit}
 use Rattle.hz_tables_model.specs.Tables.{Table}

@@ -35,7 +35,9 @@ fn fits(owners: &[u32], free: u32, base: usize, columns: &[u32]) -> bool
     requires base { base < 2 ^ 32 }
     ensures { result ≡ list_all (λ column. is_free owners.now free (base + column)) columns.now }
 {
-    columns.iter().all(|column| is_open(owners, free, base + *column as usize))
+    columns
+        .iter()
+        .all(|column| is_open(owners, free, base + *column as usize))
 }
 
 /// The first base from which on the places of these columns have no owner, of those that are looked at.
@@ -91,7 +93,13 @@ fn lay(owners: &mut [u32], targets: &mut [u32], plain: &Plain, state: u32, base:
     ensures lays { Lays (entry plain.now.rows state) (plain.now.columns + 1) base state owners.old targets.old owners.new targets.new }
 {
     for column in 0..plain.columns() + 1 {
-        lay_entry(owners, targets, base + column as usize, state, plain.step(state, column));
+        lay_entry(
+            owners,
+            targets,
+            base + column as usize,
+            state,
+            plain.step(state, column),
+        );
     }
 }
 

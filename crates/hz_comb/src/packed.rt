@@ -36,7 +36,12 @@ impl<const W: usize> Model for Packed<W> {
 }
 
 /// What is laid, packed.
-fn packed_of<const W: usize>(columns: u32, bases: Cells<4>, owners: Cells<W>, targets: Cells<W>) -> Packed<W>
+fn packed_of<const W: usize>(
+    columns: u32,
+    bases: Cells<4>,
+    owners: Cells<W>,
+    targets: Cells<W>,
+) -> Packed<W>
     requires { IsPacked (record { columns = columns; bases = bases; owners = owners; targets = targets }) }
     ensures { result ≡ packing_of (record { columns = columns; bases = bases; owners = owners.entry; targets = targets.entry }) }
 {

@@ -33,7 +33,7 @@ same_rows : (columns : ℕ) (one other : Table) → length one ≡ length other
     → one ≡ other
 same_rows columns one other each width width_other same = ext_get_or [] one other each (λ state within.
     ext_get_or None (row_of one state) (row_of other state) (width state within ∙ sym (width_other state within))
-      (λ column among. let wide = width state within in same state column within (omega arith)))
+    (λ column among. let wide = width state within in same state column within (omega arith)))
 
 pub rows_in-table : (table : Table) (comb : Comb) → length table ≡ length comb.bases
     → ((state : ℕ) → state < length table → length (row_of table state) ≡ comb.columns + 1)
@@ -42,9 +42,9 @@ pub rows_in-table : (table : Table) (comb : Comb) → length table ≡ length co
 rows_in-table table comb each width same =
     let long = rows_in-each comb in
     same_rows comb.columns (rows_in comb) table (omega arith)
-      (λ state within. rows_in-width comb state (omega arith))
-      (λ state within. width state (omega arith))
-      (λ state column within among. rows_in-entry comb state column (omega arith) among ∙ same state column (omega arith) among)
+    (λ state within. rows_in-width comb state (omega arith))
+    (λ state within. width state (omega arith))
+    (λ state column within among. rows_in-entry comb state column (omega arith) among ∙ same state column (omega arith) among)
 
 -- ---- a place for each entry
 
@@ -82,9 +82,9 @@ owned_from-lower state (suc count) owner owners lower =
 owned_from-one : (state count owner : ℕ) (owners : List ℕ) → owned_from state count (owner ∷ owners) ≤ suc (owned_from state count owners)
 owned_from-one state zero owner owners = omega arith
 owned_from-one state (suc count) owner owners = elim (counts_one owner state) [
-    | inl none ↦ let rest = owned_from-one (state + 1) count owner owners in omega arith
-    | inr once ↦ let one = once.0 in let rest = owned_from-lower (state + 1) count owner owners once.1 in omega arith
-  ]
+  | inl none ↦ let rest = owned_from-one (state + 1) count owner owners in omega arith
+  | inr once ↦ let one = once.0 in let rest = owned_from-lower (state + 1) count owner owners once.1 in omega arith
+]
 
 owned_from-all : (state count : ℕ) (owners : List ℕ) → owned_from state count owners ≤ length owners
 owned_from-all state zero [] = omega arith

@@ -1,5 +1,5 @@
 -- What a machine's types are as definitions.
-use Rattle.std.specs.Prelude.{ℕ, ◌<◌, ◌≤◌, ◌^◌, Bool, true, false, length}
+use Rattle.std.specs.Prelude.{ℕ, ◌<◌, ◌≤◌, length}
 use Rattle.hz_tables_model.specs.Tables.{Table}
 use Rattle.hz_tables_model.specs.Machines as model
 use Rattle.hz_tables.specs.declared.table.Table as kept

@@ -5,10 +5,10 @@ mod machine;
 mod part;
 mod table;
 
-pub use machine::Machine;
-pub use part::Part;
 pub use hz_comb::{Cells, Packed};
 pub use hz_plain::{NoMemory, Plain, Steps};
+pub use machine::Machine;
+pub use part::Part;
 pub use table::Table;
 
 #[cfg(test)]

@@ -1,4 +1,4 @@
-use Rattle.std.proofs.Common.{◌≤◌, length, arith}
+use Rattle.std.proofs.Common.{arith}
 use Rattle.hz_comb.proofs.LayLaws.{all_past}
 use Rattle.hz_comb.proofs.laying.base_for.Goals as goal
 

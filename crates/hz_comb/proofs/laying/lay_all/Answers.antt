@@ -1,4 +1,4 @@
-use Rattle.std.proofs.Common.{◌≤◌, length, ap, arith}
+use Rattle.std.proofs.Common.{length, ap, arith}
 use Rattle.hz_comb.proofs.LayLaws.{laid_none}
 use Rattle.hz_comb.proofs.laying.lay_all.Goals as goal
 

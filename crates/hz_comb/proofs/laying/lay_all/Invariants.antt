@@ -1,4 +1,4 @@
-use Rattle.std.proofs.Common.{◌≡◌, ◌+◌, ◌*◌, ◌≤◌, ℕ, length}
+use Rattle.std.proofs.Common.{◌≡◌, ◌+◌, ◌*◌, ◌≤◌, length}
 use Rattle.hz_comb.specs.Laying.{IsLaid}
 use Rattle.hz_comb.specs.Shape.{comb_of}
 use Rattle.hz_comb.proofs.laying.lay_all.Given as goal

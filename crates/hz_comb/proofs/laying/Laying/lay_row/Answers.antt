@@ -1,4 +1,4 @@
-use Rattle.std.proofs.Common.{◌≡◌, ◌+◌, ◌≤◌, ◌++◌, ◌∷◌, [], ap, ◌∙◌}
+use Rattle.std.proofs.Common.{◌+◌, ◌++◌, ◌∷◌, [], ap, ◌∙◌}
 use Rattle.hz_comb.proofs.LayLaws.{row_more}
 use Rattle.hz_comb.proofs.laying.Laying.lay_row.Goals as goal
 

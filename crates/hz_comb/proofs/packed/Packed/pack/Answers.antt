@@ -15,5 +15,5 @@ of-requires-3 g c = (omega arith, (c.requires.width, small_targets c.args.plain.
 pub returns-clause-rows : goal.returns-clause-rows
 returns-clause-rows g c = ap (λ p. p.rows) c.packed_of.ensures
     ∙ packed_are_rows c.args.plain.now c.columns-columns.ensures.kept (comb_of c.args.plain.now.columns c.in_ok-laid.laid) c.in_ok-laid.ensures.laid c.in_ok-laid.ensures.all refl
-      c.columns-columns.result _ _ _ c.columns-columns.ensures.columns
-      (c.in_ok-bases.ensures ∙ c.deref.ensures.value) (c.in_ok-owners.ensures ∙ c.deref-2.ensures.value) (c.in_ok-targets.ensures ∙ c.deref-3.ensures.value)
+    c.columns-columns.result _ _ _ c.columns-columns.ensures.columns
+    (c.in_ok-bases.ensures ∙ c.deref.ensures.value) (c.in_ok-owners.ensures ∙ c.deref-2.ensures.value) (c.in_ok-targets.ensures ∙ c.deref-3.ensures.value)

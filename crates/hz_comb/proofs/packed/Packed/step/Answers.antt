@@ -14,7 +14,7 @@ pub returns-then-get-state-clause-next : goal.returns-then-get-state-clause-next
 returns-then-get-state-clause-next g c =
     ap Some (c.get-then-get-state.ensures.number ∙ ap (λ base. slice_index c.self.inside.targets (base + c.args.column)) c.get.ensures.number)
     ∙ owned_entry (record { columns = c.self.inside.columns; bases = c.self.inside.bases; owners = c.self.inside.owners; targets = c.self.inside.targets }) c.args.self.now c.self.view_is c.args.state c.args.column c.requires.state c.requires.column
-      (ap (λ base. slice_index c.self.inside.owners (base + c.args.column)) (sym c.get.ensures.number) ∙ (sym c.get-2.ensures.number ∙ c.if-get-state.true))
+    (ap (λ base. slice_index c.self.inside.owners (base + c.args.column)) (sym c.get.ensures.number) ∙ (sym c.get-2.ensures.number ∙ c.if-get-state.true))
 
 pub returns-else-get-state-clause-next : goal.returns-else-get-state-clause-next
 returns-else-get-state-clause-next g c =
