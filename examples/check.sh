@@ -1,6 +1,6 @@
 #!/bin/sh
 # Replays each example trace, walks it on the tables of its machine, schedules each example block that has a machine beside it,
-# evaluates each that has a state, and compares status and text with its .answer file: the status on the first line, then the
+# evaluates each that has a state, draws each drill, and compares status and text with its .answer file: the status on the first line, then the
 # text. The trace of each schedule is replayed on its machine. Each .tables file is the text that its description compiles to.
 hz=$1
 cd "$(dirname "$0")/.." || exit 2
@@ -62,6 +62,10 @@ for machine in examples/*/machine.md; do
         compare "$trace" replay "$machine" "$trace"
         compare "$trace" walk "$work/kept" "$trace"
     done
+done
+for drill in examples/*/*.drill; do
+    # its words are the number and the turns
+    compare "$drill" drill "$(dirname "$drill")/machine.md" $(cat "$drill")
 done
 for block in examples/*/*.block; do
     machine=$(dirname "$block")/machine.md

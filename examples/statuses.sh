@@ -55,7 +55,7 @@ lines() {
     printf '%s\n' "$@" > "$file"
 }
 
-usage='usage: hz compile DESC | replay DESC TRACE | walk TABLES TRACE | schedule DESC BLOCK | eval BLOCK STATE'
+usage='usage: hz compile DESC | replay DESC TRACE | walk TABLES TRACE | schedule DESC BLOCK | eval BLOCK STATE | drill DESC NUMBER COUNT'
 
 # descriptions
 unit='(define_cpu_unit "u")'
@@ -226,6 +226,22 @@ expect 6 'file missing could not be read' eval b missing
 expect_memory 8192 eval longest longest
 expect_sink eval b s
 
+# drill
+expect 0 "$(printf 'drill 4 turns\naccepted 2 issues 2 cycles\nstates 0')" drill d 1 4
+expect 0 "$(printf 'drill 3 turns\naccepted 2 issues 1 cycles\nstates 1 1')" drill two_automata 0000000001 3
+expect 0 "$(printf 'drill 4 turns\naccepted 3 issues 1 cycles\nstates 2')" drill ndfa 1 4
+expect 0 "$(printf 'drill 3 turns\naccepted 0 issues 3 cycles\nstates 0')" drill empty 5 3
+expect 0 "$(printf 'drill 0 turns\naccepted 0 issues 0 cycles\nstates 0')" drill d 2147483647 0
+expect 2 'fault unclosed line 1 Unclosed' drill unclosed 1 4
+expect 2 'fault circle line 1 CircularReservation r' drill circle 1 0
+expect 3 'limit alternatives line 2 Alternatives x' drill alternatives 1 4
+expect 3 'limit states automaton -' drill states 1 4
+expect 3 'limit long bytes' drill long 1 4
+expect 6 'file missing could not be read' drill missing 1 4
+expect 6 'file folder could not be read' drill folder 1 4
+expect_memory 32768 drill most_states 1 4
+expect_sink drill d 1 4
+
 # words
 expect 4 "$usage"
 expect 4 "$usage" compile
@@ -242,7 +258,14 @@ expect 4 "$usage" schedule d
 expect 4 "$usage" eval b -
 expect 4 "$usage" Compile d
 expect 4 "$usage" comp d
-expect 4 "$usage" drill d 1 1
+expect 4 "$usage" drill d 1
+expect 4 "$usage" drill d 1 4 more
+expect 4 "$usage" drill d 2147483648 4
+expect 4 "$usage" drill d 1 1000001
+expect 4 "$usage" drill d -1 4
+expect 4 "$usage" drill d 1 ''
+expect 4 "$usage" drill d 00000000001 4
+expect 4 "$usage" drill missing 1 1000001
 expect 4 "$usage" help
 expect 4 "$usage" --help
 expect 4 "$usage" --version

@@ -6,7 +6,7 @@ use Rattle.hz_sexp_model.proofs.FormsLaws.{one_reading, one_fault, forms_or_faul
 use Rattle.hz_mdread_model.proofs.DescriptionLaws.{one_description, one_fault_of_descriptions, description_or_fault}
 use Rattle.hz_check_model.proofs.CheckLaws.{fault_one, fault_or_sound, sound_one}
 use Rattle.hz_acceptance_model.proofs.AcceptanceLaws.{one_refused, accepted_or_refused}
-use Rattle.hz_answer_model.specs.Answers.{Describes, Checks, HasDescription, Compiles, CompilesDescription, Replays, ReplaysTrace, ReplaysDescription, Judges, SchedulesByDescription, IsIssueOf, AnswersOrder, Answer}
+use Rattle.hz_answer_model.specs.Answers.{Describes, Checks, HasDescription, Compiles, CompilesDescription, DrillsDescription, Replays, ReplaysTrace, ReplaysDescription, Judges, SchedulesByDescription, IsIssueOf, AnswersOrder, Answer}
 use Rattle.hz_check_model.specs.CheckFaults.{CheckFault}
 use Rattle.hz_check_model.specs.Places.{Known, class_names}
 use Rattle.hz_mdread_model.specs.DescriptionForms.{DescriptionFault}
@@ -29,11 +29,13 @@ use Rattle.hz_acceptance_model.specs.Replay.{Pipeline, Class}
 use Rattle.hz_acceptance_model.specs.Events.{Event, issue}
 use Rattle.hz_answer_model.specs.Texts.{file_line, limit_line, fault_line, states_line, usage_line, refused_line, slot_line, scheduled_line}
 use Rattle.hz_sexp_model.specs.Trees.{Trees}
-use Rattle.hz_words_model.specs.Words.{Order, compile, replay, walk, schedule, eval, order_of}
+use Rattle.hz_words_model.specs.Words.{Order, compile, replay, walk, schedule, eval, drill, order_of}
 use Rattle.hz_answer_model.specs.Phases.{Held, Says, Next, Opens, HasForms, Traces}
 use Rattle.hz_answer_model.specs.TableAnswers.{tables_limit, WritesTablesOf, HasTables, IsFirstUnwalked, IsIssueIn, Walks, WalksTrace}
 use Rattle.hz_answer_model.proofs.TableLaws.{one_unwalked, walked_or_not, one_issue_in}
 use Rattle.hz_answer_model.proofs.OneText.{one_tables_text}
+use Rattle.hz_answer_model.proofs.DrillLaws.{one_drill_text}
+use Rattle.hz_answer_model.specs.DrillAnswers.{Drills}
 use Rattle.hz_answer_model.specs.BlockAnswers.{block_limit, state_text_limit, IsBlock, IsState, Evaluates, JudgesBlock}
 use Rattle.hz_answer_model.specs.FaultTexts.{rtl_word}
 use Rattle.hz_answer_model.specs.ScheduleAnswers.{schedule_text, HasClasses, Schedules, SchedulesBlock}
@@ -276,6 +278,9 @@ walked_single tables tabled trace traced =
 compiled_single : (d : Description) (known : Known) → IsSingle (WritesTablesOf d known)
 compiled_single d known s s' t t' (zero, is) (zero', also) = (zero ∙ sym zero', one_tables_text d known t t' is also)
 
+drilled_single : (d : Description) (known : Known) (number turns : ℕ) → IsSingle (Drills d known number turns)
+drilled_single d known number turns s s' t t' (zero, is) (zero', also) = (zero ∙ sym zero', one_drill_text d known number turns t t' is also)
+
 order_single : (held : Held) (order : Order) → IsSingle (AnswersOrder held order)
 order_single held (replay description trace) =
     opens_single (held description) description description_limit (λ described. Opens held trace trace_limit (λ traced. Judges description described trace traced))
@@ -297,6 +302,10 @@ order_single held (eval block state) =
     opens_single (held block) block block_limit (λ blocked. Opens held state state_text_limit (λ stated. JudgesBlock block blocked state stated))
     (λ blocked. opens_single (held state) state state_text_limit (λ stated. JudgesBlock block blocked state stated)
     (λ stated. blocks_single block blocked state stated))
+order_single held (drill description number turns) =
+    opens_single (held description) description description_limit (λ described. HasDescription description described (DrillsDescription description number turns))
+    (λ described. description_single description described (DrillsDescription description number turns) (λ d known.
+    compiles_single description d known (Drills d known number turns) (drilled_single d known number turns)))
 
 -- the words and what is held have one answer at most
 pub answer_single : (words : List (List ℕ)) (held : Held) → IsSingle (Answer words held)

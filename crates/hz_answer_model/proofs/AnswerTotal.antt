@@ -12,7 +12,7 @@ use Rattle.hz_check_model.proofs.CheckTotal.{sound_or_fault}
 use Rattle.hz_acceptance_model.proofs.AcceptanceLaws.{refused_issue}
 use Rattle.hz_acceptance_model.proofs.PlayLaws.{accepted_or_first_refused}
 use Rattle.hz_acceptance_model.proofs.Rows.{same_unit, places_tell}
-use Rattle.hz_answer_model.specs.Answers.{Describes, Checks, HasDescription, Compiles, CompilesDescription, IsCountedText, HasTablesText, IsCountedOrder, IsCounted, Replays, ReplaysTrace, ReplaysDescription, Judges, SchedulesByDescription, IsIssueOf, AnswersOrder, Answer}
+use Rattle.hz_answer_model.specs.Answers.{Describes, Checks, HasDescription, Compiles, CompilesDescription, DrillsDescription, IsCountedText, HasTablesText, IsCountedOrder, IsCounted, Replays, ReplaysTrace, ReplaysDescription, Judges, SchedulesByDescription, IsIssueOf, AnswersOrder, Answer}
 use Rattle.hz_check_model.specs.CheckFaults.{CheckFault, CheckFaultAt, IsSound}
 use Rattle.hz_check_model.specs.Places.{Known, class_names}
 use Rattle.hz_mdread_model.specs.DescriptionForms as description_forms
@@ -32,10 +32,12 @@ use Rattle.hz_trace_model.specs.Traces.{Trace, TraceFault, TraceFaultAt, event_l
 use Rattle.hz_trace_model.proofs.TraceLaws.{trace_of_every_text, counted_lines}
 use Rattle.hz_answer_model.specs.Texts.{file_line, limit_line, fault_line, usage_line, refused_line, accepted_line, states_line}
 use Rattle.hz_sexp_model.specs.Trees.{Trees}
-use Rattle.hz_words_model.specs.Words.{Order, compile, replay, walk, schedule, eval, order_of}
+use Rattle.hz_words_model.specs.Words.{Order, compile, replay, walk, schedule, eval, drill, order_of}
 use Rattle.hz_answer_model.specs.Phases.{Held, Says, Next, Opens, HasForms, Traces}
 use Rattle.hz_answer_model.specs.TableAnswers.{tables_limit, IsTablesOf, WritesTablesOf, HasTables, IsFirstUnwalked, IsIssueIn, Walks, WalksTrace}
 use Rattle.hz_answer_model.proofs.TableLaws.{walked_or_first, unwalked_issue}
+use Rattle.hz_answer_model.proofs.DrillLaws.{some_drill}
+use Rattle.hz_answer_model.specs.DrillAnswers.{Drills}
 use Rattle.hz_answer_model.specs.BlockAnswers.{block_limit, state_text_limit, IsBlock, IsState, Evaluates, JudgesBlock}
 use Rattle.hz_answer_model.specs.FaultTexts.{rtl_word}
 use Rattle.hz_answer_model.specs.ScheduleAnswers.{schedule_text, HasClasses, Schedules, SchedulesBlock}
@@ -250,19 +252,31 @@ walked_one tables tabled trace traced = by_read (tables_in tabled) refl
         wider (WalksTrace trace traced m) _ (λ s t h. inl (m, stands, h)) (machine_traces_one m (text_machine tabled m stands) trace traced)
     by_read (Err fault) is = wider (Says 2 (fault_line tables fault.line (tables_word fault.kind ∷ []))) _ (λ s t h. inr (fault, is, h)) (says_one 2 (fault_line tables fault.line (tables_word fault.kind ∷ [])))
 
-compiled_one : (description described : List ℕ) → IsCountedText described → HasTablesText described → HasOne (HasDescription description described (CompilesDescription description))
-compiled_one description described counted tabled =
+-- a description without a fault that has tables is compiled, where what follows has an answer for them
+tabled_one : (description described : List ℕ) (next : Description → Known → ℕ → List ℕ → Type 0) → IsCountedText described → HasTablesText described
+    → ((d : Description) (known : Known) (text : List ℕ) → IsSound d known → IsTablesOf d known text → HasOne (next d known)) → HasOne (HasDescription description described (λ d known. Compiles description d known (next d known)))
+tabled_one description described next counted tabled one =
     forms_one description described _ (λ read is.
     describes_one description read _ (λ d says formed.
-    checks_one description d (CompilesDescription description d) formed (λ known sound. limited d known (counted read d known is says sound) (tabled read d known is says sound))))
+    checks_one description d (λ known. Compiles description d known (next d known)) formed (λ known sound. limited d known sound (counted read d known is says sound) (tabled read d known is says sound))))
   where
-    limited : (d : Description) (known : Known) → AreCounted d known → (AllKeepLimits d known → (text : List ℕ) × IsTablesOf d known text) → HasOne (Compiles description d known (WritesTablesOf d known))
-    limited d known all some = ⊎_elim
-        (λ (kept : AllKeepLimits d known). let found = some kept in (0, found.0, inl (kept, (refl, found.1))))
+    limited : (d : Description) (known : Known) → IsSound d known → AreCounted d known → (AllKeepLimits d known → (text : List ℕ) × IsTablesOf d known text) → HasOne (Compiles description d known (next d known))
+    limited d known sound all some = ⊎_elim
+        (λ (kept : AllKeepLimits d known).
+        let found = some kept in
+        wider (next d known) _ (λ s t h. inl (kept, h)) (one d known found.0 sound found.1))
         (λ (first : (a : ℕ) × IsFirstPastLimit d known a).
         let line = states_line description (slice_index_or (automaton_names d) first.0 []) in
         wider (Says 3 line) _ (λ s t h. inr (first.0, first.1, h)) (says_one 3 line))
         (limits_one d known all (automaton_count d) (omega arith))
+
+compiled_one : (description described : List ℕ) → IsCountedText described → HasTablesText described → HasOne (HasDescription description described (CompilesDescription description))
+compiled_one description described counted tabled = tabled_one description described WritesTablesOf counted tabled (λ d known text sound is. (0, text, (refl, is)))
+
+drilled_one : (description described : List ℕ) (number turns : ℕ) → IsCountedText described → HasTablesText described → HasOne (HasDescription description described (DrillsDescription description number turns))
+drilled_one description described number turns counted tabled =
+    tabled_one description described (λ d known. Drills d known number turns) counted tabled (λ d known text sound is.
+    let found = some_drill d known number turns text sound is in (0, found.0, (refl, found.1)))
 
 order_one : (held : Held) (order : Order) → IsCountedOrder held order → HasOne (AnswersOrder held order)
 order_one held (replay description trace) counted =
@@ -284,6 +298,11 @@ order_one held (eval block state) counted =
     opens_one (held block) block block_limit (λ blocked. Opens held state state_text_limit (λ stated. JudgesBlock block blocked state stated))
     (λ blocked is. opens_one (held state) state state_text_limit (λ stated. JudgesBlock block blocked state stated)
     (λ stated also. blocks_one block blocked state stated))
+order_one held (drill description number turns) counted =
+    opens_one (held description) description description_limit (λ described. HasDescription description described (DrillsDescription description number turns))
+    (λ described is.
+    let both = subst (λ (o : Option (List ℕ)). MatchOption o ⊤ (λ bytes. IsCountedText bytes × HasTablesText bytes)) is counted in
+    drilled_one description described number turns both.0 both.1)
 
 -- all words have an answer, whatever is held
 pub answer_one : (words : List (List ℕ)) (held : Held) → IsCounted words held → HasOne (Answer words held)

@@ -78,7 +78,7 @@ one_described bytes d e known other one two =
     (same, sound_one e known other (subst (λ (x : Description). IsSound x known) same one.sound) two.sound)
 
 -- what follows the reading of a file
-opens : (o : Option (List ℕ)) (name : List ℕ) (most : ℕ) (next : List ℕ → ℕ → List ℕ → Type 0) (bytes text : List ℕ) → o ≡ Some bytes → nat_lt most (length bytes) ≡ false → next bytes 0 text
+pub opens : (o : Option (List ℕ)) (name : List ℕ) (most : ℕ) (next : List ℕ → ℕ → List ℕ → Type 0) (bytes text : List ℕ) → o ≡ Some bytes → nat_lt most (length bytes) ≡ false → next bytes 0 text
     → MatchOption o (Says 6 (file_line name) 0 text) (λ bytes. MatchBool (nat_lt most (length bytes)) (Says 3 (limit_line name) 0 text) (next bytes 0 text))
 opens o name most next bytes text is low h =
     subst (λ (p : Option (List ℕ)). MatchOption p (Says 6 (file_line name) 0 text) (λ bytes. MatchBool (nat_lt most (length bytes)) (Says 3 (limit_line name) 0 text) (next bytes 0 text))) (sym is)

@@ -8,3 +8,5 @@ pub mod DoneLaws
 pub mod HeadlineLaws
 pub mod ShortLaws
 pub mod WalkLaws
+pub mod DrillLaws
+pub mod DrillHeadline

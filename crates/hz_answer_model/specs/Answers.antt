@@ -18,10 +18,11 @@ use Rattle.hz_base_model.specs.Lines.{lines_of}
 use Rattle.hz_trace_model.specs.Traces.{event_lines}
 use Rattle.hz_answer_model.specs.Texts.{usage_line, fault_line, states_line, accepted_line, refused_line}
 use Rattle.hz_sexp_model.specs.Trees.{Trees}
-use Rattle.hz_words_model.specs.Words.{Order, compile, replay, walk, schedule, eval, order_of}
+use Rattle.hz_words_model.specs.Words.{Order, compile, replay, walk, schedule, eval, drill, order_of}
 use Rattle.hz_answer_model.specs.Phases.{Held, Says, Next, Opens, HasForms, Traces}
 use Rattle.hz_answer_model.specs.BlockAnswers.{block_limit, state_text_limit, JudgesBlock}
 use Rattle.hz_answer_model.specs.ScheduleAnswers.{SchedulesBlock}
+use Rattle.hz_answer_model.specs.DrillAnswers.{Drills}
 use Rattle.hz_answer_model.specs.TableAnswers.{tables_limit, IsTablesOf, WritesTablesOf, HasTables, WalksTrace}
 
 -- the description that forms say, or the first fault of a form
@@ -111,6 +112,16 @@ AnswersEval held block state =
     Opens held state state_text_limit (λ stated.
     JudgesBlock block blocked state stated))
 
+-- a description without a fault is compiled, and its drill is told
+abbrev pub DrillsDescription : List ℕ → (number turns : ℕ) → Description → Known → ℕ → List ℕ → Type 0
+DrillsDescription description number turns d known = Compiles description d known (Drills d known number turns)
+
+-- the file is read, and then judged
+abbrev pub AnswersDrill : Held → List ℕ → (number turns : ℕ) → ℕ → List ℕ → Type 0
+AnswersDrill held description number turns =
+    Opens held description description_limit (λ described.
+    HasDescription description described (DrillsDescription description number turns))
+
 -- what an order answers: one case for each command
 abbrev pub AnswersOrder : Held → Order → ℕ → List ℕ → Type 0
 AnswersOrder held (compile description) = AnswersCompile held description
@@ -118,6 +129,7 @@ AnswersOrder held (replay description trace) = AnswersReplay held description tr
 AnswersOrder held (walk tables trace) = AnswersWalk held tables trace
 AnswersOrder held (schedule description block) = AnswersSchedule held description block
 AnswersOrder held (eval block state) = AnswersEval held block state
+AnswersOrder held (drill description number turns) = AnswersDrill held description number turns
 
 -- What the program answers to its words over files that hold this, where memory is found and nothing fails but the
 -- opening of a name that is not held. The first phase that refuses decides.
@@ -142,6 +154,7 @@ IsCountedOrder held (replay description trace) = MatchOption (held description) 
 IsCountedOrder held (walk tables trace) = ⊤
 IsCountedOrder held (schedule description block) = MatchOption (held description) ⊤ IsCountedText
 IsCountedOrder held (eval block state) = ⊤
+IsCountedOrder held (drill description number turns) = MatchOption (held description) ⊤ (λ bytes. IsCountedText bytes × HasTablesText bytes)
 
 -- the same of those that words name
 abbrev pub IsCounted : List (List ℕ) → Held → Type 0

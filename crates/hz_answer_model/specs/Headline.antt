@@ -1,4 +1,4 @@
--- What is written of a schedule and of tables, and what `replay` and `walk` answer of them, in the words of the promise: README.md.
+-- What is written of a schedule, of tables and of a drill, and what `replay` and `walk` answer of them, in the words of the promise: README.md.
 use Rattle.std.specs.Prelude.{◌≡◌, ◌↔◌, ℕ, ◌≤◌, false, List, length, Some}
 use Rattle.hz_sexp_model.specs.Trees.{Trees}
 use Rattle.hz_sexp_model.specs.Forms as forms
@@ -7,15 +7,19 @@ use Rattle.hz_mdread_model.specs.DescriptionForms as description_forms
 use Rattle.hz_check_model.specs.CheckFaults.{IsSound}
 use Rattle.hz_check_model.specs.Places.{Known, class_names}
 use Rattle.hz_base_model.specs.Limits.{advance_limit, trace_limit}
-use Rattle.hz_acceptance_model.specs.Events.{cycles_of}
+use Rattle.hz_acceptance_model.specs.Events.{Event, issues_of, cycles_of}
+use Rattle.hz_acceptance_model.specs.Replay.{Accepted}
 use Rattle.hz_auto_model.specs.Compiled.{shows_states}
+use Rattle.hz_pipeline_model.specs.Pipelines.{pipeline_with}
 use Rattle.hz_rtl_model.specs.Blocks.{Instruction}
 use Rattle.hz_rtltext_model.specs.BlockForms as blocks
 use Rattle.hz_sched_model.specs.Schedules.{Graph, Slot, present, spell}
 use Rattle.hz_scheduled_model.specs.BlockGraphs.{IsGraphOf}
 use Rattle.hz_scheduled_model.specs.BlockSchedules.{KeepsBlock}
 use Rattle.hz_trace_model.specs.Traces.{Trace}
-use Rattle.hz_answer_model.specs.Answers.{AnswersReplay, AnswersWalk}
+use Rattle.hz_tabtext_model.specs.Texts.{TableText}
+use Rattle.hz_answer_model.specs.Answers.{AnswersCompile, AnswersReplay, AnswersWalk}
+use Rattle.hz_answer_model.specs.DrillAnswers.{IsDrillOf}
 use Rattle.hz_answer_model.specs.Phases.{Held}
 use Rattle.hz_answer_model.specs.Texts.{accepted_line}
 use Rattle.hz_answer_model.specs.ScheduleAnswers.{schedule_text}
@@ -75,3 +79,21 @@ pub record WritesTables (held : Held) (description text : List ℕ) : Type 0 whe
 pub record WalkIsReplay (held : Held) (description text : List ℕ) : Type 0 where
   pub answers : (other : Held) (tables trace : List ℕ) → other description ≡ held description → other tables ≡ Some text → length text ≤ tables_limit
       → (status : ℕ) (said : List ℕ) → AnswersWalk other tables trace status said ↔ AnswersReplay other description trace status said
+
+-- The text tells of the drill of the description that is held, which accepts its trace. Its states are those of the tables that
+-- `compile` writes.
+pub record WritesDrill (held : Held) (description : List ℕ) (number turns : ℕ) (text : List ℕ) : Type 0 where
+  pub described : List ℕ
+  pub file : held description ≡ Some described
+  pub d : Description
+  pub known : Known
+  pub is_described : IsDescribed described d known
+  pub drill : IsDrillOf d known number turns text
+  pub accepted : Accepted (pipeline_with d known) drill.events
+  pub tables : (other : Held) (written : List ℕ) → other description ≡ Some described → AnswersCompile other description 0 written → TableText written drill.machine
+
+-- `replay` accepts events, by whatever text it is given: where the same description is held, and a text that is not too long, whose
+-- events these are, it answers with status 0 how many issues and how many cycles there are.
+pub record ReplayAcceptsEvents (held : Held) (description : List ℕ) (d : Description) (events : List Event) : Type 0 where
+  pub answers : (other : Held) (trace traced : List ℕ) → other description ≡ held description → other trace ≡ Some traced → length traced ≤ trace_limit → Trace (class_names d) traced events
+      → AnswersReplay other description trace 0 (accepted_line (issues_of events) (cycles_of events))

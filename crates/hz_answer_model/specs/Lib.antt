@@ -4,5 +4,6 @@ pub mod Phases
 pub mod BlockAnswers
 pub mod ScheduleAnswers
 pub mod TableAnswers
+pub mod DrillAnswers
 pub mod Answers
 pub mod Headline

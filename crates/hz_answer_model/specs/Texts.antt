@@ -1,6 +1,6 @@
 -- The texts of answers: this profile, docs/FORMATS.md, 'Answers'.
 use Rattle.std.specs.Prelude.{ℕ, List, [], ◌∷◌, ◌++◌, codes, decimal}
-use Rattle.std.specs.List.{concat}
+use Rattle.std.specs.List.{concat, flat_map}
 
 -- The texts that the program writes, each one line. A file goes by the word that names it.
 abbrev pub accepted_line : ℕ → ℕ → List ℕ
@@ -16,6 +16,22 @@ slot_line cycle number class = concat (decimal cycle ∷ codes " " ∷ decimal n
 -- the end of a schedule: how many instructions, and the cycle of the last
 abbrev pub scheduled_line : ℕ → ℕ → List ℕ
 scheduled_line count cycles = concat (codes "scheduled " ∷ decimal count ∷ codes " insns " ∷ decimal cycles ∷ codes " cycles\n" ∷ [])
+
+-- the beginning of a drill: how many turns
+abbrev pub turns_line : ℕ → List ℕ
+turns_line turns = concat (codes "drill " ∷ decimal turns ∷ codes " turns\n" ∷ [])
+
+-- a state behind the word that a line of states begins with
+abbrev pub state_field : ℕ → List ℕ
+state_field state = concat (codes " " ∷ decimal state ∷ [])
+
+-- the end of a drill: the state of each automaton
+abbrev pub left_line : List ℕ → List ℕ
+left_line states = codes "states" ++ (flat_map state_field states ++ codes "\n")
+
+-- a drill: its turns, the issues and the cycles of its trace, and the states that the trace leaves
+abbrev pub drill_text : (turns issues cycles : ℕ) → (states : List ℕ) → List ℕ
+drill_text turns issues cycles states = turns_line turns ++ (accepted_line issues cycles ++ left_line states)
 
 -- a fault of a text: its line, and what it is, in pieces
 abbrev pub fault_line : List ℕ → ℕ → List (List ℕ) → List ℕ
@@ -39,4 +55,4 @@ abbrev pub memory_line : List ℕ
 memory_line = concat (codes "memory\n" ∷ [])
 
 abbrev pub usage_line : List ℕ
-usage_line = concat (codes "usage: hz compile DESC | replay DESC TRACE | walk TABLES TRACE | schedule DESC BLOCK | eval BLOCK STATE\n" ∷ [])
+usage_line = concat (codes "usage: hz compile DESC | replay DESC TRACE | walk TABLES TRACE | schedule DESC BLOCK | eval BLOCK STATE | drill DESC NUMBER COUNT\n" ∷ [])

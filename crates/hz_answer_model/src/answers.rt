@@ -1,8 +1,8 @@
 //! Laws of answers.
 
 ghost use Rattle.std.specs.Prelude.{◌≡◌, ℕ, List};
-ghost use Rattle.hz_answer_model.specs.Answers.{Answer, AnswersCompile, AnswersSchedule, IsCounted};
-ghost use Rattle.hz_answer_model.specs.Headline.{WritesSchedule, ReplayAccepts, WritesTables, WalkIsReplay};
+ghost use Rattle.hz_answer_model.specs.Answers.{Answer, AnswersCompile, AnswersDrill, AnswersSchedule, IsCounted};
+ghost use Rattle.hz_answer_model.specs.Headline.{WritesSchedule, ReplayAccepts, ReplayAcceptsEvents, WritesDrill, WritesTables, WalkIsReplay};
 ghost use Rattle.hz_answer_model.specs.Phases.{Held};
 
 /// The words and what is held have one answer at most: one status and one text.
@@ -36,8 +36,20 @@ pub fn walk_is_replay()
     ensures { (held : Held) (description text : List ℕ) → AnswersCompile held description 0 text → WalkIsReplay held description text }
 {}
 
+/// What `drill` answers with status 0 tells of the trace that is drawn by what the description accepts, which accepts it, and of the
+/// states that the trace leaves in the tables that `compile` writes of the description.
+pub fn drills_are_of_accepted_traces()
+    ensures { (held : Held) (description : List ℕ) (number turns : ℕ) (text : List ℕ) → AnswersDrill held description number turns 0 text → WritesDrill held description number turns text }
+{}
+
+/// `replay` accepts the trace of each drill: to every trace within its limit of bytes that says it, it answers with status 0, and tells
+/// as many issues and cycles as the drill does.
+pub fn replay_accepts_drills()
+    ensures { (held : Held) (description : List ℕ) (number turns : ℕ) (text : List ℕ) (w : WritesDrill held description number turns text) → AnswersDrill held description number turns 0 text → ReplayAcceptsEvents held description w.d w.drill.events }
+{}
+
 /// All words have an answer, whatever is held, where each count of each automaton of a description that is held is
-/// within its limit or above it, and what `compile` is asked for has tables: with `one_answer`, exactly one.
+/// within its limit or above it, and what `compile` and `drill` are asked for has tables: with `one_answer`, exactly one.
 pub fn some_answer()
     ensures { (words : List (List ℕ)) (held : Held) → IsCounted words held → (status : ℕ) × (text : List ℕ) × Answer words held status text }
 {}

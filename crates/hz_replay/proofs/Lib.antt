@@ -2,3 +2,4 @@ mod NameLemmas
 mod TraceLemmas
 mod ReplayerLemmas
 mod EventLemmas
+mod DrillLemmas

@@ -3,3 +3,4 @@ pub mod Lines
 pub mod Traces
 pub mod Reading
 pub mod Replaying
+pub mod Drilling

@@ -1,6 +1,7 @@
 //! Traces: reading them, and replaying them over a machine of tables.
 #![tactic(auto)]
 
+mod drilling;
 mod event;
 mod fault;
 mod lines;
@@ -12,6 +13,7 @@ mod replaying;
 mod trace;
 mod words;
 
+pub use drilling::{drill, drill_from};
 pub use event::{Event, What};
 pub use fault::TraceFault;
 pub use outcome::Outcome;

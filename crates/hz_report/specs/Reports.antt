@@ -10,7 +10,7 @@ use Rattle.hz_sched.specs.Shape.{graph_of, slots_of}
 use Rattle.hz_rtltext_model.specs.StateTexts.{listing_text}
 use Rattle.hz_report.specs.Kinds.{kind_word, expression_word, named_word, insn_word}
 use Rattle.hz_report.specs.declared.report.Report.{Report}
-use Rattle.hz_report.specs.declared.report.Report.TheVariants.{Accepted, Refused, Tables, Scheduled, After, Fault, Expression, Named, Insn, Ambiguous, Passed, States, Long, Usage, Memory, File}
+use Rattle.hz_report.specs.declared.report.Report.TheVariants.{Accepted, Refused, Tables, Scheduled, Drill, After, Fault, Expression, Named, Insn, Ambiguous, Passed, States, Long, Usage, Memory, File}
 
 -- the text of a report
 abbrev pub text_of : Report → List ℕ
@@ -18,6 +18,7 @@ text_of (Accepted issues cycles) = model.accepted_line issues cycles
 text_of (Refused line class) = model.refused_line line class
 text_of (Tables compiled checked) = spelled (says compiled checked)
 text_of (Scheduled machine graph schedule) = schedule_by machine.classes.items (map (λ i. i.number) graph.insns.items) (graph_of graph) (slots_of schedule.slots.items)
+text_of (Drill turns issues cycles states) = model.drill_text turns issues cycles states.items
 text_of (After state) = listing_text (listing state)
 text_of (Fault file line kind) = model.fault_line file.now line (kind_word kind ∷ [])
 text_of (Expression file line kind at) = model.fault_line file.now line (codes "BadExpression " ∷ expression_word kind ∷ codes " " ∷ decimal at ∷ [])
@@ -37,6 +38,7 @@ status_of (Accepted issues cycles) = 0
 status_of (Refused line class) = 1
 status_of (Tables compiled checked) = 0
 status_of (Scheduled machine graph schedule) = 0
+status_of (Drill turns issues cycles states) = 0
 status_of (After state) = 0
 status_of (Fault file line kind) = 2
 status_of (Expression file line kind at) = 2

@@ -1,6 +1,7 @@
 //! The texts of the program: what it answers, before it is written, and the one call that writes it.
 #![tactic(auto)]
 
+mod drilled;
 mod faults;
 mod kind;
 mod listing;

@@ -62,7 +62,7 @@ pub fn put_usage<S: Sink>(out: &mut S) -> Result<(), Failed>
     put_all(
         out,
         &[
-            b"usage: hz compile DESC | replay DESC TRACE | walk TABLES TRACE | schedule DESC BLOCK | eval BLOCK STATE\n",
+            b"usage: hz compile DESC | replay DESC TRACE | walk TABLES TRACE | schedule DESC BLOCK | eval BLOCK STATE | drill DESC NUMBER COUNT\n",
         ],
     )
 }

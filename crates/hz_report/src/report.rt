@@ -35,6 +35,14 @@ pub enum Report<'a> {
         graph: Graph,
         schedule: Schedule,
     },
+    /// The drill of a description: how many turns, the issues and cycles of its trace, and the state of each automaton that the trace
+    /// leaves.
+    Drill {
+        turns: u32,
+        issues: u64,
+        cycles: u64,
+        states: Vec<u32>,
+    },
     /// The state that a block leaves.
     After {
         state: State,
@@ -112,6 +120,7 @@ impl Report<'_> {
             Report::Refused { .. } => 1,
             Report::Tables { .. } => 0,
             Report::Scheduled { .. } => 0,
+            Report::Drill { .. } => 0,
             Report::After { .. } => 0,
             Report::Fault { .. } => 2,
             Report::Expression { .. } => 2,

@@ -4,6 +4,7 @@ ghost use Rattle.std.specs.Prelude.{◌-◌, ◌^◌, ◌<◌};
 ghost use Rattle.hz_io.specs.Sink.{Writes};
 ghost use Rattle.hz_report.specs.Reports.{text_of, IsTellable};
 
+use super::drilled::put_drill;
 use super::faults::{
     put_ambiguous, put_expression, put_fault, put_insn, put_named, put_passed, put_states,
 };
@@ -31,6 +32,12 @@ pub fn write_report<S: Sink>(report: &Report<'_>, out: &mut S) -> Result<(), Fai
             graph,
             schedule,
         } => put_schedule(out, machine, graph, schedule),
+        Report::Drill {
+            turns,
+            issues,
+            cycles,
+            states,
+        } => put_drill(out, *turns, *issues, *cycles, states),
         Report::After { state } => put_state(out, state),
         Report::Fault { file, line, kind } => put_fault(out, file, *line, *kind),
         Report::Expression {

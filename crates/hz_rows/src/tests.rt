@@ -4,6 +4,7 @@ ghost use Rattle.std.specs.Prelude.{◌≡◌, ◌<◌, IfOk};
 mod automata;
 mod blocks;
 mod checks;
+mod drills;
 mod failures;
 mod limits;
 mod machines;

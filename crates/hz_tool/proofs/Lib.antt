@@ -7,3 +7,4 @@ pub mod SlotLemmas
 pub mod StartLemmas
 pub mod TraceLemmas
 pub mod TablesLemmas
+pub mod DrillLemmas

@@ -1,19 +1,20 @@
 use Rattle.std.proofs.Common.{◌≡◌, ℕ, ◌<◌, ◌≤◌, ◌⊎◌, inl, inr, Bool, List, length, Option, Some, nat_lt, MatchBool, MatchOption, refl, sym, subst, arith}
 use Rattle.std.proofs.lemmas.Bool.{le-ltb}
-use Rattle.hz_answer_model.specs.Answers.{Answer, AnswersOrder, Judges, HasDescription, SchedulesByDescription, CompilesDescription, AnswersCompile, AnswersReplay, AnswersWalk, AnswersSchedule, AnswersEval}
+use Rattle.hz_answer_model.specs.Answers.{Answer, AnswersOrder, Judges, HasDescription, SchedulesByDescription, CompilesDescription, DrillsDescription, AnswersCompile, AnswersReplay, AnswersWalk, AnswersSchedule, AnswersEval, AnswersDrill}
 use Rattle.hz_answer_model.specs.BlockAnswers.{block_limit, state_text_limit, JudgesBlock}
 use Rattle.hz_answer_model.specs.Phases.{Held, Next, Opens, Says}
 use Rattle.hz_base_model.specs.Limits.{description_limit, trace_limit}
 use Rattle.hz_answer_model.specs.Texts.{file_line, limit_line, usage_line}
-use Rattle.hz_words_model.specs.Words.{Order, compile, schedule, order_of}
+use Rattle.hz_words_model.specs.Words.{Order, compile, schedule, drill, order_of}
 use Rattle.hz_tool.specs.Decisions.{Agrees, CountsReport, NamesFile, IsFileWord}
-use Rattle.hz_tool.specs.Endings.{IsAppended, AppendsSchedule, AppendsTables, SaysFile, Completes, MayWrite}
+use Rattle.hz_tool.specs.Endings.{IsAppended, AppendsDrill, AppendsSchedule, AppendsTables, SaysFile, Completes, MayWrite}
 use Rattle.hz_report.specs.Reports.{text_of, status_of}
 use Rattle.hz_report.specs.declared.report.Report.{Report}
 use Rattle.hz_report.specs.declared.report.Report.TheVariants.{Memory, File}
 use Rattle.hz_tool.proofs.AnswerLemmas.{agrees_weaker}
 use Rattle.hz_answer_model.proofs.AnswerLaws.{answer_single}
 use Rattle.hz_answer_model.proofs.HeadlineLaws.{writes_schedule, accepts_schedule}
+use Rattle.hz_answer_model.proofs.DrillHeadline.{writes_drill, accepts_drill}
 use Rattle.hz_answer_model.proofs.WalkLaws.{writes_tables, walk_is_replay}
 use Rattle.hz_answer_model.specs.TableAnswers.{tables_limit, HasTables, WalksTrace}
 
@@ -36,6 +37,13 @@ pub answers_compile : (held : Held) (description described : List ℕ) (report :
 answers_compile held description described report found short h =
     agrees_weaker (HasDescription description described (CompilesDescription description)) (AnswersCompile held description)
     (λ s t j. opens_found held description description_limit described (λ bytes. HasDescription description bytes (CompilesDescription description)) s t found short j)
+    report h
+
+-- the same of the drill of a description
+pub answers_drill : (held : Held) (description described : List ℕ) (number turns : ℕ) (report : Report) → held description ≡ Some described → length described ≤ description_limit → Agrees (HasDescription description described (DrillsDescription description number turns)) report → Agrees (AnswersDrill held description number turns) report
+answers_drill held description described number turns report found short h =
+    agrees_weaker (HasDescription description described (DrillsDescription description number turns)) (AnswersDrill held description number turns)
+    (λ s t j. opens_found held description description_limit described (λ bytes. HasDescription description bytes (DrillsDescription description number turns)) s t found short j)
     report h
 
 -- the same of tables and a trace
@@ -115,3 +123,11 @@ pub appends_tables : (words : List (List ℕ)) (held : Held) (old new : ℕ) (st
 appends_tables words held old new steady report before after same answer zero description is appended =
     let h = report_answers words held old new steady report same answer zero (compile description) is in
     record { text = text_of report; writes = writes_tables held description (text_of report) h; walks = walk_is_replay held description (text_of report) h; appended = appended }
+
+-- what is written of a drill is of the description, and `replay` accepts its trace
+pub appends_drill : (words : List (List ℕ)) (held : Held) (old new : ℕ) (steady : Type 0) (report : Report) (before after : Option (List ℕ)) → CountsReport old new report → ((new ≡ old) ⊎ steady → Agrees (Answer words held) report) → status_of report ≡ 0
+    → (description : List ℕ) (number turns : ℕ) → order_of words ≡ Some (drill description number turns) → IsAppended before after (text_of report) → AppendsDrill held description number turns before after
+appends_drill words held old new steady report before after same answer zero description number turns is appended =
+    let h = report_answers words held old new steady report same answer zero (drill description number turns) is in
+    let w = writes_drill held description number turns (text_of report) h in
+    record { text = text_of report; writes = w; replays = accepts_drill held description number turns (text_of report) w h; appended = appended }

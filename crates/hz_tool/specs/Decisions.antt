@@ -13,7 +13,7 @@ use Rattle.hz_mdread_model.specs.DescriptionForms as description_forms
 use Rattle.hz_mdread_model.specs.Descriptions.{Description}
 use Rattle.hz_sexp_model.specs.Forms as forms
 use Rattle.hz_sexp_model.specs.Trees.{Trees}
-use Rattle.hz_words_model.specs.Words.{Order, compile, replay, walk, schedule, eval, order_of}
+use Rattle.hz_words_model.specs.Words.{Order, compile, replay, walk, schedule, eval, drill, order_of}
 use Rattle.hz_report.specs.Kinds.{form_fault, description_fault, expression_fault, named_fault, rtl_fault, tables_fault, trace_fault}
 use Rattle.hz_rtltext_model.specs.Operands.{RtlFault}
 use Rattle.hz_tabfile.specs.Saying.{IsSayable}
@@ -59,6 +59,7 @@ IsFileOf (replay description trace) name = (name ≡ description) ⊎ (name ≡ 
 IsFileOf (walk tables trace) name = (name ≡ tables) ⊎ (name ≡ trace)
 IsFileOf (schedule description block) name = (name ≡ description) ⊎ (name ≡ block)
 IsFileOf (eval block state) name = (name ≡ block) ⊎ (name ≡ state)
+IsFileOf (drill description number turns) name = name ≡ description
 
 -- what reading a file for a report says of the counts
 abbrev pub CountsFile : ℕ → ℕ → Result (Vec ℕ Global) Report → Type 0

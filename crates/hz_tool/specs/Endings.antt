@@ -2,7 +2,7 @@
 use Rattle.std.specs.Prelude.{◌≡◌, ◌⊎◌, ℕ, ◌<◌, List, ◌++◌, length, Option, Some}
 use Rattle.std.specs.Option.{ForSome}
 use Rattle.hz_answer_model.specs.Answers.{Answer}
-use Rattle.hz_answer_model.specs.Headline.{WritesSchedule, ReplayAccepts, WritesTables, WalkIsReplay}
+use Rattle.hz_answer_model.specs.Headline.{WritesSchedule, ReplayAccepts, ReplayAcceptsEvents, WritesDrill, WritesTables, WalkIsReplay}
 use Rattle.hz_answer_model.specs.Phases.{Held}
 use Rattle.hz_answer_model.specs.Texts.{memory_line, file_line}
 use Rattle.hz_tool.specs.Decisions.{IsFileWord}
@@ -54,4 +54,11 @@ pub record AppendsTables (held : Held) (description : List ℕ) (old new : Optio
   pub text : List ℕ
   pub writes : WritesTables held description text
   pub walks : WalkIsReplay held description text
+  pub appended : IsAppended old new text
+
+-- The text that was appended tells of the drill of the description, whose trace `replay` accepts.
+pub record AppendsDrill (held : Held) (description : List ℕ) (number turns : ℕ) (old new : Option (List ℕ)) : Type 0 where
+  pub text : List ℕ
+  pub writes : WritesDrill held description number turns text
+  pub replays : ReplayAcceptsEvents held description writes.d writes.drill.events
   pub appended : IsAppended old new text

@@ -3,6 +3,7 @@
 
 mod compiling;
 mod describing;
+mod drilling;
 mod evaluating;
 mod judging;
 mod read;

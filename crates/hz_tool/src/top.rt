@@ -2,14 +2,15 @@
 
 ghost use Rattle.std.specs.Prelude.{◌≡◌, ◌⊎◌, ◌↔◌, ℕ, List, ◌-◌, ◌^◌, ◌<◌, ◌≤◌, None};
 ghost use Rattle.std.specs.Option.{ForSome};
-ghost use Rattle.hz_answer_model.specs.Answers.{Answer, AnswersCompile, AnswersReplay, AnswersWalk, AnswersSchedule, AnswersEval, AnswersOrder};
+ghost use Rattle.hz_answer_model.specs.Answers.{Answer, AnswersCompile, AnswersReplay, AnswersWalk, AnswersSchedule, AnswersEval, AnswersDrill, AnswersOrder};
 ghost use Rattle.hz_answer_model.specs.Texts.{usage_line, memory_line};
 ghost use Rattle.hz_words_model.specs.Words as model;
 ghost use Rattle.hz_report.specs.Reports.{IsTellable};
 ghost use Rattle.hz_tool.specs.Decisions.{Agrees, CountsReport, NamesFile, IsOfOrder, IsFileOf, IsFileWord, ReportsWords};
-ghost use Rattle.hz_tool.specs.Endings.{IsAppended, AppendsFile, AppendsSchedule, AppendsTables, Completes, IsCutShort};
+ghost use Rattle.hz_tool.specs.Endings.{IsAppended, AppendsFile, AppendsDrill, AppendsSchedule, AppendsTables, Completes, IsCutShort};
 ghost use Rattle.hz_words.specs.Shape.{words_in, order_in};
 
+use super::drilling::judge_drill;
 use super::evaluating::judge_eval;
 use super::read::read_file;
 use super::replaying::judge_replay;
@@ -18,7 +19,9 @@ use super::tabulating::judge_compile;
 use super::walking::judge_walk;
 use hz_io::{Files, Sink};
 use hz_report::{Report, write_report};
-use hz_words::{CompileOrder, EvalOrder, Order, ReplayOrder, ScheduleOrder, WalkOrder, order_of};
+use hz_words::{
+    CompileOrder, DrillOrder, EvalOrder, Order, ReplayOrder, ScheduleOrder, WalkOrder, order_of,
+};
 use std::alloc::Global;
 
 /// Bytes of a description, at most.
@@ -136,6 +139,22 @@ fn decide_eval<'a, F: Files>(alloc: Global, order: EvalOrder<'a>, files: &mut F)
     judge_eval(alloc, &order, block.as_slice(), state.as_slice())
 }
 
+/// The report of a drill of a description.
+fn decide_drill<'a, F: Files>(alloc: Global, order: DrillOrder<'a>, files: &mut F) -> Report<'a>
+    requires { F.faults files.old < 2 ^ 64 - 1 }
+    ensures counts { CountsReport (F.faults files.old) (F.faults files.new) result }
+    ensures order { IsOfOrder result }
+    ensures tells { IsTellable result }
+    ensures file { NamesFile (IsFileOf (model.drill order.entry.description.now order.entry.number order.entry.turns)) result }
+    ensures answer { ForSome (F.held files.old) (λ held. (F.faults files.new ≡ F.faults files.old) ⊎ F.steady files.old → Agrees (AnswersDrill held order.entry.description.now order.entry.number order.entry.turns) result) }
+{
+    let description = match read_file(alloc, files, order.description, DESCRIPTION_LIMIT) {
+        Ok(description) => description,
+        Err(report) => return report,
+    };
+    judge_drill(alloc, &order, description.as_slice())
+}
+
 /// The report of an order.
 fn decide_order<'a, F: Files>(alloc: Global, order: Order<'a>, files: &mut F) -> Report<'a>
     requires { F.faults files.old < 2 ^ 64 - 1 }
@@ -151,6 +170,7 @@ fn decide_order<'a, F: Files>(alloc: Global, order: Order<'a>, files: &mut F) ->
         Order::Walk(order) => decide_walk(alloc, order, files),
         Order::Schedule(order) => decide_schedule(alloc, order, files),
         Order::Eval(order) => decide_eval(alloc, order, files),
+        Order::Drill(order) => decide_drill(alloc, order, files),
     }
 }
 
@@ -202,6 +222,10 @@ pub fn run<F: Files, S: Sink>(alloc: Global, words: &[String], files: &mut F, ou
     // A schedule keeps its block: each instruction once, every latency and bypass, in an order that `replay` accepts and that from
     // every state leaves what source order leaves.
     ensures schedules { ForSome (F.held files.old) (λ held. result ≡ 0 → (description block : List ℕ) → model.order_of (words_in words.now) ≡ Some (model.schedule description block) → AppendsSchedule held description block (S.written out.old) (S.written out.new)) }
+
+    // A drill tells of a trace that is drawn by what the description accepts, which accepts it, as `replay` does, and of the states
+    // that it leaves in the tables that `compile` writes.
+    ensures drills { ForSome (F.held files.old) (λ held. result ≡ 0 → (description : List ℕ) (number turns : ℕ) → model.order_of (words_in words.now) ≡ Some (model.drill description number turns) → AppendsDrill held description number turns (S.written out.old) (S.written out.new)) }
 {
     let report = decide(alloc, words, files);
     match write_report(&report, out) {

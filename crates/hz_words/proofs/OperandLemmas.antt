@@ -9,7 +9,7 @@ use Rattle.clap.specs.Words.{App, fault_of, first_of, first_value, found_of, is_
 use Rattle.clap.specs.declared.parser.matches.ArgMatches.{ArgMatches}
 use Rattle.clap.proofs.OnLiterals.{clap_on_literals}
 use Rattle.clap.proofs.WalkLemmas.{first_value-rows}
-use Rattle.hz_words.specs.Operands.{Finds, has_option, of_one, of_two, operand_of, operands_of}
+use Rattle.hz_words.specs.Operands.{Finds, has_option, of_one, of_two, of_three, operand_of, operands_of, triple_of}
 use Rattle.hz_words_model.specs.Words.{begins_with_dash}
 
 abbrev pub Word : Type 0
@@ -105,6 +105,55 @@ module _ (name : Word) where
       go (c ∷ a ∷ []) p e = absurd (true≢false (sym e))
       go (c ∷ a ∷ b ∷ []) p e = let t = taken_two c a b p.1.0 p.1.1.0 in ap₂ option_zip t.1 t.2
       go (c ∷ a ∷ b ∷ d ∷ rest) p e = absurd (true≢false (sym e))
+
+  -- ---- three operands
+
+  taken_three : (c a b d : Word) → IsPlain a → IsPlain b → IsPlain d → (takes (of_three name) (c ∷ a ∷ b ∷ d ∷ []) ≡ true)
+      × (first_of (codes "first") (matches_of (of_three name) (c ∷ a ∷ b ∷ d ∷ [])) ≡ Some a) × (first_of (codes "second") (matches_of (of_three name) (c ∷ a ∷ b ∷ d ∷ [])) ≡ Some b)
+      × (first_of (codes "third") (matches_of (of_three name) (c ∷ a ∷ b ∷ d ∷ [])) ≡ Some d)
+  unfolding clap_on_literals
+  taken_three c a b d p q r = (
+    simp (p.long, p.short, p.dashes, q.long, q.short, q.dashes, r.long, r.short, r.dashes) refl,
+    simp (p.long, p.short, p.dashes, q.long, q.short, q.dashes, r.long, r.short, r.dashes) refl,
+    simp (p.long, p.short, p.dashes, q.long, q.short, q.dashes, r.long, r.short, r.dashes) refl,
+    simp (p.long, p.short, p.dashes, q.long, q.short, q.dashes, r.long, r.short, r.dashes) refl,
+  )
+
+  faultless_three : (words : List Word) → ArePlain words → is_empty (fault_of (of_three name) words) ≡ is_some (triple_of words)
+  unfolding clap_on_literals
+  faultless_three [] p = refl
+  faultless_three (c ∷ []) p = refl
+  faultless_three (c ∷ a ∷ []) p = simp (p.1.0.long, p.1.0.short, p.1.0.dashes) refl
+  faultless_three (c ∷ a ∷ b ∷ []) p = simp (p.1.0.long, p.1.0.short, p.1.0.dashes, p.1.1.0.long, p.1.1.0.short, p.1.1.0.dashes) refl
+  faultless_three (c ∷ a ∷ b ∷ d ∷ []) p =
+      simp (p.1.0.long, p.1.0.short, p.1.0.dashes, p.1.1.0.long, p.1.1.0.short, p.1.1.0.dashes, p.1.1.1.0.long, p.1.1.1.0.short, p.1.1.1.0.dashes) refl
+  faultless_three (c ∷ a ∷ b ∷ d ∷ e ∷ rest) p =
+      simp (p.1.0.long, p.1.0.short, p.1.0.dashes, p.1.1.0.long, p.1.1.0.short, p.1.1.0.dashes, p.1.1.1.0.long, p.1.1.1.0.short, p.1.1.1.0.dashes, p.1.1.1.1.0.long, p.1.1.1.1.0.short, p.1.1.1.1.0.dashes) refl
+
+  pub no_triple : (words : List Word) → has_option words ≡ false → takes (of_three name) words ≢ true → None ≡ triple_of words
+  no_triple [] h n = refl
+  no_triple (c ∷ []) h n = refl
+  no_triple (c ∷ a ∷ []) h n = refl
+  no_triple (c ∷ a ∷ b ∷ []) h n = refl
+  no_triple (c ∷ a ∷ b ∷ d ∷ []) h n = let p = plain_words (c ∷ a ∷ b ∷ d ∷ []) h in absurd (n (taken_three c a b d p.1.0 p.1.1.0 p.1.1.1.0).0)
+  no_triple (c ∷ a ∷ b ∷ d ∷ e ∷ rest) h n = refl
+
+  -- what `clap` has of three operands
+  abbrev pub triple_matched : List Word → Option (Word × (Word × Word))
+  triple_matched words =
+      option_zip (first_of (codes "first") (matches_of (of_three name) words))
+      (option_zip (first_of (codes "second") (matches_of (of_three name) words)) (first_of (codes "third") (matches_of (of_three name) words)))
+
+  pub triple_found : (words : List Word) → has_option words ≡ false → fault_of (of_three name) words ≡ [] → triple_matched words ≡ triple_of words
+  triple_found words h f = go words (plain_words words h) (sym (faultless_three words (plain_words words h)) ∙ ap is_empty f)
+    where
+      go : (ws : List Word) → ArePlain ws → is_some (triple_of ws) ≡ true → triple_matched ws ≡ triple_of ws
+      go [] p e = absurd (true≢false (sym e))
+      go (c ∷ []) p e = absurd (true≢false (sym e))
+      go (c ∷ a ∷ []) p e = absurd (true≢false (sym e))
+      go (c ∷ a ∷ b ∷ []) p e = absurd (true≢false (sym e))
+      go (c ∷ a ∷ b ∷ d ∷ []) p e = let t = taken_three c a b d p.1.0 p.1.1.0 p.1.1.1.0 in ap₂ option_zip t.1 (ap₂ option_zip t.2 t.3)
+      go (c ∷ a ∷ b ∷ d ∷ e' ∷ rest) p e = absurd (true≢false (sym e))
 
 -- ---- what was found
 

@@ -11,7 +11,7 @@ use Rattle.hz_words.specs.Operands.{has_option}
 use Rattle.hz_words.specs.Shape.{order_in, words_in}
 use Rattle.hz_words.specs.declared.order.Order.{Order}
 use Rattle.hz_words.proofs.OperandLemmas.{Word, either}
-use Rattle.hz_words_model.specs.Words.{begins_with_dash, order_of, order_on_one, order_on_two}
+use Rattle.hz_words_model.specs.Words.{begins_with_dash, order_of, order_on_one, order_on_two, order_on_three}
 use Rattle.hz_words_model.specs.Words as model
 
 -- what holds of the name and any words behind it holds of the words
@@ -24,7 +24,8 @@ pub record Makes (name : Word) (made : List Word → Option model.Order) : Type 
   pub none : made (name ∷ []) ≡ None
   pub one : (a : Word) → made (name ∷ a ∷ []) ≡ order_on_one name a
   pub two : (a b : Word) → made (name ∷ a ∷ b ∷ []) ≡ order_on_two name a b
-  pub more : (a b d : Word) (rest : List Word) → made (name ∷ a ∷ b ∷ d ∷ rest) ≡ None
+  pub three : (a b d : Word) → made (name ∷ a ∷ b ∷ d ∷ []) ≡ order_on_three name a b d
+  pub more : (a b d e : Word) (rest : List Word) → made (name ∷ a ∷ b ∷ d ∷ e ∷ rest) ≡ None
 
 made_is : (words : List Word) (name : Word) (made : List Word → Option model.Order) → slice_get words 0 ≡ Some name → has_option words ≡ false → Makes name made
     → made words ≡ order_of words
@@ -40,7 +41,15 @@ made_is words name made at plain makes = from_front (λ ws. has_option ws ≡ fa
         let first : begins_with_dash a ≡ false = (either _ _ rest).0 in
         let second : begins_with_dash b ≡ false = (either _ _ (either _ _ rest).1).0 in
         rw (first, second) (makes.two a b)
-    go (a ∷ b ∷ d ∷ rest) h = makes.more a b d rest
+    go (a ∷ b ∷ d ∷ []) h =
+        let all = (either _ _ h).1 in
+        let rest = (either _ _ all).1 in
+        let last = (either _ _ rest).1 in
+        let first : begins_with_dash a ≡ false = (either _ _ all).0 in
+        let second : begins_with_dash b ≡ false = (either _ _ rest).0 in
+        let third : begins_with_dash d ≡ false = (either _ _ last).0 in
+        rw (first, second, third) (makes.three a b d)
+    go (a ∷ b ∷ d ∷ e ∷ rest) h = makes.more a b d e rest
 
 module _ (words : List (String Global)) (first : String Global) (command : Word) (at : Some first ≡ slice_get words 0) (is : command ≡ string_bytes first)
     (plain : false ≡ has_option (words_in words)) where
@@ -60,11 +69,12 @@ module _ (words : List (String Global)) (first : String Global) (command : Word)
 
   -- or with none of the names
   pub unknown : false ≡ bytes_eq command (codes "compile") → false ≡ bytes_eq command (codes "replay") → false ≡ bytes_eq command (codes "walk")
-      → false ≡ bytes_eq command (codes "schedule") → false ≡ bytes_eq command (codes "eval") → None ≡ order_of (words_in words)
-  unknown compile replay walk schedule eval =
+      → false ≡ bytes_eq command (codes "schedule") → false ≡ bytes_eq command (codes "eval") → false ≡ bytes_eq command (codes "drill") → None ≡ order_of (words_in words)
+  unknown compile replay walk schedule eval drill =
       made_is (words_in words) command (λ _. None) first_is (sym plain) (record {
         none = refl;
         one = λ a. rw (← compile) refl;
         two = λ a b. rw (← replay, ← walk, ← schedule, ← eval) refl;
-        more = λ a b d rest. refl;
+        three = λ a b d. rw (← drill) refl;
+        more = λ a b d e rest. refl;
       })

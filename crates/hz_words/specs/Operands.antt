@@ -1,7 +1,7 @@
 -- The operands behind a command.
 use Rattle.std.specs.Prelude.{◌≡◌, ◌≢◌, ℕ, Bool, true, List, [], ◌∷◌, Option, Some, None, codes}
 use Rattle.std.specs.List.{list_any}
-use Rattle.std.specs.Option.{option_map}
+use Rattle.std.specs.Option.{option_map, option_and_then}
 use Rattle.clap.specs.Words.{App, HasMatchesOf, Rule, fault_of, is_simple_and_free, new_app, new_rule, takes, with_rule}
 use Rattle.clap.specs.declared.parser.matches.ArgMatches.{ArgMatches}
 use Rattle.hz_words_model.specs.Words as model
@@ -20,6 +20,11 @@ abbrev pub operands_of : List (List ℕ) → Option (List ℕ × List ℕ)
 operands_of (command ∷ first ∷ second ∷ []) = Some (first, second)
 operands_of _ = None
 
+-- the three operands, the first apart
+abbrev pub triple_of : List (List ℕ) → Option (List ℕ × (List ℕ × List ℕ))
+triple_of (command ∷ first ∷ second ∷ third ∷ []) = Some (first, (second, third))
+triple_of _ = None
+
 -- what is made of one operand
 abbrev pub with_one : (List ℕ → model.Order) → List (List ℕ) → Option model.Order
 with_one make words = option_map make (operand_of words)
@@ -28,12 +33,16 @@ with_one make words = option_map make (operand_of words)
 abbrev pub with_two : (List ℕ → List ℕ → model.Order) → List (List ℕ) → Option model.Order
 with_two make words = option_map (λ files. make files.0 files.1) (operands_of words)
 
+-- what is made of three, if anything
+abbrev pub with_three : (List ℕ → List ℕ → List ℕ → Option model.Order) → List (List ℕ) → Option model.Order
+with_three make words = option_and_then (λ operands. make operands.0 operands.1.0 operands.1.1) (triple_of words)
+
 -- what `clap` finds in the words: nothing where it doesn't take them, and its matches where nothing is wrong with them
 abbrev pub Finds : App → List (List ℕ) → Option ArgMatches → Type 0
 Finds app words None = takes app words ≢ true
 Finds app words (Some matches) = (is_simple_and_free app ≡ true → fault_of app words ≡ []) × HasMatchesOf app words matches
 
--- an operand, and the commands that have one and two
+-- an operand, and the commands that have one, two and three
 abbrev pub operand : List ℕ → Rule
 operand id = record (new_rule id) { required = true }
 
@@ -42,3 +51,6 @@ of_one name = with_rule (new_app name) (operand (codes "first"))
 
 abbrev pub of_two : List ℕ → App
 of_two name = with_rule (of_one name) (operand (codes "second"))
+
+abbrev pub of_three : List ℕ → App
+of_three name = with_rule (of_two name) (operand (codes "third"))

@@ -4,7 +4,7 @@ use Rattle.std.specs.String.{string_bytes}
 use Rattle.std.specs.declared.alloc.Global.{Global}
 use Rattle.hz_words_model.specs.Words as model
 use Rattle.hz_words.specs.declared.order.Order.{Order}
-use Rattle.hz_words.specs.declared.order.Order.TheVariants.{Compile, Replay, Walk, Schedule, Eval}
+use Rattle.hz_words.specs.declared.order.Order.TheVariants.{Compile, Replay, Walk, Schedule, Eval, Drill}
 
 -- the bytes of words
 abbrev pub words_in : List (String Global) → List (List ℕ)
@@ -14,6 +14,10 @@ words_in words = map string_bytes words
 abbrev pub pair_in : Bor (List ℕ) × Bor (List ℕ) → List ℕ × List ℕ
 pair_in pair = (pair.0.now, pair.1.now)
 
+-- the bytes of three words
+abbrev pub triple_in : Bor (List ℕ) × (Bor (List ℕ) × Bor (List ℕ)) → List ℕ × (List ℕ × List ℕ)
+triple_in triple = (triple.0.now, pair_in triple.1)
+
 -- an order of the program as one of the definitions
 abbrev pub order_in : Order → model.Order
 order_in (Compile order) = model.compile order.description.now
@@ -21,3 +25,4 @@ order_in (Replay order) = model.replay order.description.now order.trace.now
 order_in (Walk order) = model.walk order.tables.now order.trace.now
 order_in (Schedule order) = model.schedule order.description.now order.block.now
 order_in (Eval order) = model.eval order.block.now order.state.now
+order_in (Drill order) = model.drill order.description.now order.number order.turns

@@ -2,11 +2,12 @@
 #![tactic(auto)]
 
 mod commands;
+mod numbers;
 mod operands;
 mod order;
 mod reading;
 #[cfg(test)]
 mod tests;
 
-pub use order::{CompileOrder, EvalOrder, Order, ReplayOrder, ScheduleOrder, WalkOrder};
+pub use order::{CompileOrder, DrillOrder, EvalOrder, Order, ReplayOrder, ScheduleOrder, WalkOrder};
 pub use reading::order_of;

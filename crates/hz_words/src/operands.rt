@@ -3,8 +3,8 @@
 ghost use Rattle.std.specs.Prelude.{◌≡◌, IfOk, false};
 ghost use Rattle.std.specs.Option.{option_map};
 ghost use Rattle.clap.specs.Words.{app_of};
-ghost use Rattle.hz_words.specs.Shape.{pair_in, words_in};
-ghost use Rattle.hz_words.specs.Operands.{Finds, has_option, of_one, of_two, operand_of, operands_of};
+ghost use Rattle.hz_words.specs.Shape.{pair_in, triple_in, words_in};
+ghost use Rattle.hz_words.specs.Operands.{Finds, has_option, of_one, of_two, of_three, operand_of, operands_of, triple_of};
 
 use clap::error::ErrorKind;
 use clap::{Arg, ArgMatches, Command};
@@ -22,6 +22,13 @@ fn of_two<'a>(alloc: Global, name: &'a str) -> Result<Command<'a>, AllocError>
     ensures { IfOk result (λ command. app_of command ≡ of_two name.entry.now) }
 {
     of_one(alloc, name)?.arg(Arg::new(alloc, "second").required(true))
+}
+
+/// A command with three operands.
+fn of_three<'a>(alloc: Global, name: &'a str) -> Result<Command<'a>, AllocError>
+    ensures { IfOk result (λ command. app_of command ≡ of_three name.entry.now) }
+{
+    of_two(alloc, name)?.arg(Arg::new(alloc, "third").required(true))
 }
 
 /// What `clap` finds in the words, None where it refuses them.
@@ -68,4 +75,23 @@ pub fn two_operands<'a>(
         return Ok(None);
     };
     Ok(matches.get_str("first").zip(matches.get_str("second")))
+}
+
+/// Three operands: the first, and then the other two.
+pub type Triple<'a> = (&'a str, (&'a str, &'a str));
+
+/// The operands of a command that has three, None where the words have more or fewer.
+pub fn three_operands<'a>(
+    alloc: Global,
+    name: &'a str,
+    words: &'a [String],
+) -> Result<Option<Triple<'a>>, AllocError>
+    requires { has_option (words_in words.now) ≡ false }
+    ensures { IfOk result (λ triple. option_map triple_in triple ≡ triple_of (words_in words.now)) }
+{
+    let Some(matches) = found(of_three(alloc, name)?, words)? else {
+        return Ok(None);
+    };
+    let others = matches.get_str("second").zip(matches.get_str("third"));
+    Ok(matches.get_str("first").zip(others))
 }

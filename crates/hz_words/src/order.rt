@@ -34,7 +34,15 @@ pub struct EvalOrder<'a> {
     pub state: &'a str,
 }
 
-/// A command with the names of its files.
+/// `drill DESC NUMBER COUNT`: the name of the file, the number that is drawn from, and how many turns there are.
+#[derive(Clone, Copy, Debug)]
+pub struct DrillOrder<'a> {
+    pub description: &'a str,
+    pub number: u32,
+    pub turns: u32,
+}
+
+/// A command with the names of its files and its numbers.
 #[derive(Clone, Copy, Debug)]
 pub enum Order<'a> {
     Compile(CompileOrder<'a>),
@@ -42,4 +50,5 @@ pub enum Order<'a> {
     Walk(WalkOrder<'a>),
     Schedule(ScheduleOrder<'a>),
     Eval(EvalOrder<'a>),
+    Drill(DrillOrder<'a>),
 }

@@ -6,7 +6,9 @@ ghost use Rattle.hz_words.specs.Operands.{has_option};
 ghost use Rattle.hz_words.specs.Shape.{words_in, order_in};
 ghost use Rattle.hz_words_model.specs.Words as model;
 
-use super::commands::{compile_order, eval_order, replay_order, schedule_order, walk_order};
+use super::commands::{
+    compile_order, drill_order, eval_order, replay_order, schedule_order, walk_order,
+};
 use super::order::Order;
 use std::alloc::{AllocError, Global};
 
@@ -53,6 +55,9 @@ pub fn order_of<'a>(alloc: Global, words: &'a [String]) -> Result<Option<Order<'
     }
     if command == "eval" {
         return eval_order(alloc, words);
+    }
+    if command == "drill" {
+        return drill_order(alloc, words);
     }
     Ok(None)
 }

@@ -39,10 +39,16 @@ fn told(alloc: Global, line: &str) -> Result<String, AllocError> {
         Some(Order::Eval(order)) => {
             format!(in alloc; "eval block={} state={}", order.block, order.state)
         }
+        Some(Order::Drill(order)) => {
+            format!(in alloc;
+                "drill description={} number={} turns={}",
+                order.description, order.number, order.turns
+            )
+        }
     }
 }
 
-const COMMANDS: [(&str, &str); 17] = [
+const COMMANDS: [(&str, &str); 23] = [
     ("compile d", "compile description=d"),
     ("compile ", "compile description="),
     ("compile d-", "compile description=d-"),
@@ -59,6 +65,21 @@ const COMMANDS: [(&str, &str); 17] = [
     ("schedule d b", "schedule description=d block=b"),
     ("schedule eval walk", "schedule description=eval block=walk"),
     ("eval b s", "eval block=b state=s"),
+    ("drill d 1 4", "drill description=d number=1 turns=4"),
+    ("drill d 0 0", "drill description=d number=0 turns=0"),
+    ("drill  5 3", "drill description= number=5 turns=3"),
+    (
+        "drill drill 2147483647 1000000",
+        "drill description=drill number=2147483647 turns=1000000",
+    ),
+    (
+        "drill d 0000000001 0001000000",
+        "drill description=d number=1 turns=1000000",
+    ),
+    (
+        "drill help 2147483646 999999",
+        "drill description=help number=2147483646 turns=999999",
+    ),
     (
         "eval \u{e9}- \u{2212}s",
         "eval block=\u{e9}- state=\u{2212}s",
@@ -73,7 +94,7 @@ fn commands_take_their_operands(rt: HostRuntime) -> Result<(), Fail> {
     Ok(())
 }
 
-const OTHERS: [&str; 31] = [
+const OTHERS: [&str; 54] = [
     "",
     "compile",
     "compile d t",
@@ -105,6 +126,29 @@ const OTHERS: [&str; 31] = [
     "repla d t",
     "Compile d",
     "REPLAY d t",
+    "drill",
+    "drill d",
+    "drill d 1",
+    "drill d 1 4 x",
+    "drill d 1 4 ",
+    "drill d 2147483648 4",
+    "drill d 1 1000001",
+    "drill d 4294967297 4",
+    "drill d 9999999999 4",
+    "drill d 1 9999999999",
+    "drill d 00000000001 4",
+    "drill d 1 00000000004",
+    "drill d  4",
+    "drill d 1 ",
+    "drill d +1 4",
+    "drill d 1 4x",
+    "drill d x 4",
+    "drill d 1 \u{661}",
+    "compile d 1 4",
+    "replay d t 4",
+    "drills d 1 4",
+    "Drill d 1 4",
+    " d 1 4",
 ];
 
 #[test]
@@ -130,7 +174,7 @@ const DASHED: [&str; 9] = [
 ];
 
 /// What stands before and behind a word that begins with `-`.
-const PLACES: [(&str, &str); 15] = [
+const PLACES: [(&str, &str); 19] = [
     ("", ""),
     ("", " d"),
     ("", " compile d"),
@@ -146,6 +190,10 @@ const PLACES: [(&str, &str); 15] = [
     ("walk ", " t"),
     ("schedule d ", ""),
     ("eval ", " s"),
+    ("drill ", " 1 4"),
+    ("drill d ", " 4"),
+    ("drill d 1 ", ""),
+    ("", " drill d 1 4"),
 ];
 
 #[test]

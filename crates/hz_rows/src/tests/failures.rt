@@ -6,7 +6,7 @@ use std::process::Abort;
 use std::test::Fail;
 
 /// Asserts that these words are answered by the usage line.
-fn is_usage(rt: &impl Abort, alloc: Global, words: &[&str]) -> Result<(), Fail> {
+pub fn is_usage(rt: &impl Abort, alloc: Global, words: &[&str]) -> Result<(), Fail> {
     let files = files_of(rt, alloc, LATE, b"", NEVER, 64)?;
     expect(
         rt,
@@ -15,7 +15,7 @@ fn is_usage(rt: &impl Abort, alloc: Global, words: &[&str]) -> Result<(), Fail> 
         files,
         ROOM,
         4,
-        b"usage: hz compile DESC | replay DESC TRACE | walk TABLES TRACE | schedule DESC BLOCK | eval BLOCK STATE\n",
+        b"usage: hz compile DESC | replay DESC TRACE | walk TABLES TRACE | schedule DESC BLOCK | eval BLOCK STATE | drill DESC NUMBER COUNT\n",
     )
 }
 

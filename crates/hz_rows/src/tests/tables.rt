@@ -9,15 +9,15 @@ use std::process::Abort;
 use std::test::Fail;
 
 /// A class of one of two units, and one of the first alone.
-const EITHER: &[u8] =
+pub const EITHER: &[u8] =
     b"(define_cpu_unit \"a,b\")\n(define_insn_reservation \"x\" 1 (const_int 1) \"a|b\")\n(define_insn_reservation \"y\" 1 (const_int 1) \"a\")\n";
 
 /// The same where any alternative is taken that fits.
-const ANY: &[u8] =
+pub const ANY: &[u8] =
     b"(automata_option \"ndfa\")\n(define_cpu_unit \"a,b\")\n(define_insn_reservation \"x\" 1 (const_int 1) \"a|b\")\n(define_insn_reservation \"y\" 1 (const_int 1) \"a\")\n";
 
 /// The class that takes a unit one cycle after its issue, with each state as it was found, what it is, and the counts.
-const SHOWN: &[u8] =
+pub const SHOWN: &[u8] =
     b"(automata_option \"no-minimization,v,stats\")\n(define_cpu_unit \"a\")\n(define_insn_reservation \"x\" 1 (const_int 1) \"nothing,a\")\n";
 
 /// Descriptions, each with the status and the text of its tables.

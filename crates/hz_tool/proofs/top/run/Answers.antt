@@ -1,6 +1,6 @@
 use Rattle.std.proofs.Common.{◌≡◌, ◌⊎◌, ℕ, inr, sym, subst, ◌∙◌}
 use Rattle.hz_answer_model.specs.Answers.{Answer}
-use Rattle.hz_tool.proofs.RunLemmas.{says_file, may_write, status_exact, file_answer, completes, appends_schedule, appends_tables}
+use Rattle.hz_tool.proofs.RunLemmas.{says_file, may_write, status_exact, file_answer, completes, appends_schedule, appends_tables, appends_drill}
 use Rattle.hz_tool.specs.Endings.{Completes}
 use Rattle.hz_words.specs.Shape.{words_in}
 use Rattle.hz_tool.proofs.top.run.Goals as goal
@@ -47,3 +47,7 @@ returns-in-Ok-clause-schedules g c = λ held told zero description block is.
 pub returns-in-Ok-clause-tables : goal.returns-in-Ok-clause-tables
 returns-in-Ok-clause-tables g c = λ held told zero description is.
     appends_tables (words_in c.args.words.now) held _ _ (g.F.Files.steady c.args.files.now) c.decide-report.result _ _ c.decide-report.ensures.counts (c.decide-report.ensures.answer held told) (sym c.status.ensures ∙ zero) description is c.in-Ok.ensures.appended
+
+pub returns-in-Ok-clause-drills : goal.returns-in-Ok-clause-drills
+returns-in-Ok-clause-drills g c = λ held told zero description number turns is.
+    appends_drill (words_in c.args.words.now) held _ _ (g.F.Files.steady c.args.files.now) c.decide-report.result _ _ c.decide-report.ensures.counts (c.decide-report.ensures.answer held told) (sym c.status.ensures ∙ zero) description number turns is c.in-Ok.ensures.appended

@@ -1,0 +1,13 @@
+use Rattle.std.proofs.Common.{◌≡◌, ℕ, List, length, IfOk, sym, ap, ◌∙◌, subst, arith}
+use Rattle.hz_acceptance_model.specs.Events as model
+use Rattle.hz_drill_model.specs.Drills.{Drawn}
+use Rattle.hz_tables.specs.Machines.{machine_of}
+use Rattle.hz_replay.specs.Drilling.{IsWalked, WalksFrom}
+use Rattle.hz_replay.specs.Replaying.{Standing}
+use Rattle.hz_replay.specs.Traces.{events_in}
+use Rattle.hz_replay.proofs.drilling.drill_uncounted.Goals as goal
+
+pub returns-clause-drawn : goal.returns-clause-drawn
+returns-clause-drawn g c =
+    let numbered = subst (λ (s : Standing). IfOk c.drill_from.result (λ events. Drawn (WalksFrom s) c.len.result c.args.number c.args.turns (events_in events.items))) c.start-replayer.ensures c.drill_from.ensures.drawn in
+    subst (λ (n : ℕ). IfOk c.drill_from.result (λ events. Drawn (IsWalked (machine_of c.args.machine.now)) n c.args.number c.args.turns (events_in events.items))) (c.len.ensures ∙ c.args.machine.now.classes.ok.0) numbered
