@@ -3,7 +3,7 @@
 ghost use Rattle.std.specs.Prelude.{◌≡◌, IfOk};
 
 use super::automata::late_text;
-use super::{NEVER, expect, name_of, numbered, replays, words_of};
+use super::{NEVER, expect, name_of, numbered, replays, unpacked, words_of};
 use hz_io::{MemFiles, MemSink};
 use hz_tool::run;
 use std::alloc::Global;
@@ -257,7 +257,7 @@ fn files_with(
     Ok(MemFiles::new(files, vec![in alloc; NEVER]?, 65_536))
 }
 
-/// Asserts the status and the text of a schedule with this room.
+/// Asserts the status and the text of a schedule with this room, and of a whole one also without packed tables.
 fn schedules(
     rt: &impl Abort,
     alloc: Global,
@@ -267,16 +267,15 @@ fn schedules(
     status: u8,
     text: &[u8],
 ) -> Result<(), Fail> {
+    let words = ["schedule", "d", "b"];
     let files = files_with(rt, alloc, description, block)?;
-    expect(
-        rt,
-        alloc,
-        &["schedule", "d", "b"],
-        files,
-        room,
-        status,
-        text,
-    )
+    expect(rt, alloc, &words, files, room, status, text)?;
+    if status != 0 {
+        return Ok(());
+    }
+    let rows = unpacked(alloc, description)?;
+    let files = files_with(rt, alloc, rows.as_slice(), block)?;
+    expect(rt, alloc, &words, files, room, status, text)
 }
 
 #[test]

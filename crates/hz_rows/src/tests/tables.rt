@@ -1,7 +1,7 @@
 //! Tables: what `compile` answers. The file `d` holds the description.
 
 use super::automata::late_text;
-use super::{LATE, NEVER, ROOM, expect, files_of, numbered, words_of};
+use super::{LATE, NEVER, ROOM, expect, files_of, numbered, unpacked, words_of};
 use hz_io::MemSink;
 use hz_tool::run;
 use std::alloc::Global;
@@ -87,7 +87,8 @@ const COMPILE_ROWS: &[(&[u8], u8, &[u8])] = &[
     ),
 ];
 
-/// Asserts the status and the text of the tables of a description with this room.
+/// Asserts the status and the text of the tables of a description with this room, and what is written whole also without
+/// packed tables.
 fn compiles(
     rt: &impl Abort,
     alloc: Global,
@@ -97,6 +98,12 @@ fn compiles(
     text: &[u8],
 ) -> Result<(), Fail> {
     let files = files_of(rt, alloc, description, b"", NEVER, 65_536)?;
+    expect(rt, alloc, &["compile", "d"], files, room, status, text)?;
+    if status != 0 {
+        return Ok(());
+    }
+    let rows = unpacked(alloc, description)?;
+    let files = files_of(rt, alloc, rows.as_slice(), b"", NEVER, 65_536)?;
     expect(rt, alloc, &["compile", "d"], files, room, status, text)
 }
 
