@@ -61,6 +61,7 @@ bench: bin/hz
 	@sh bench/depend/run.sh
 	@sh bench/minim/run.sh
 	@sh bench/tables/run.sh
+	@sh bench/tables/pack.sh
 
 install: bin/hz
 	@install -d "$(program)" "$(page)"
