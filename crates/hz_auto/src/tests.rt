@@ -107,7 +107,9 @@ fn states_are_shown_beside_both_options(rt: HostRuntime) -> Result<(), Fail> {
 
 /// A unit, and so many classes that take it in a cycle of their own, behind an option: each set of cycles is a state.
 fn calendar(alloc: Global, option: &str, classes: u32) -> Result<String, Fail> {
-    let mut text = format!(in alloc; "{option}(define_cpu_unit \"u\")(define_insn_reservation \"c\" 1 (const_int 1) \"u\")")?;
+    let mut text = format!(in alloc;
+        "{option}(define_cpu_unit \"u\")(define_insn_reservation \"c\" 1 (const_int 1) \"u\")"
+    )?;
     for class in 1..classes {
         let form = format!(in alloc;
             "(define_insn_reservation \"c{class}\" 1 (const_int 1) \"nothing*{class}, u\")"

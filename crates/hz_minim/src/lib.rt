@@ -11,9 +11,9 @@ mod leading;
 mod settling;
 
 use folding::fold;
-use hz_refine::refine;
 pub use hz_plain::NoMemory;
 use hz_plain::Plain;
+use hz_refine::refine;
 use leading::leaders_of;
 use settling::settle;
 use std::alloc::Global;

@@ -330,7 +330,9 @@ fn block_text(alloc: Global, seed: u32) -> Result<String, Fail> {
         } else {
             "two"
         };
-        let one = format!(in alloc; "(insn {place} (set (reg {to}) (reg {from})) (set_attr \"type\" \"{class}\"))\n")?;
+        let one = format!(in alloc;
+            "(insn {place} (set (reg {to}) (reg {from})) (set_attr \"type\" \"{class}\"))\n"
+        )?;
         text.push_str(one.as_str())?;
     }
     Ok(text)
@@ -353,18 +355,14 @@ fn is_issued(slots: &[Slot], place: u32) -> bool {
 
 /// Whether an edge has been waited for at a cycle.
 fn is_waited_for(slots: &[Slot], edge: &Edge, cycle: u32) -> bool {
-    slots
-        .iter()
-        .any(|slot| slot.place == edge.from && slot.cycle.saturating_add(edge.cost) <= cycle)
+    slots.iter().any(|slot| slot.place == edge.from
+        && slot.cycle.saturating_add(edge.cost) <= cycle)
 }
 
 /// Whether an instruction is left, and all edges to it have been waited for at a cycle.
 fn is_ready(graph: &Graph, slots: &[Slot], place: u32, cycle: u32) -> bool {
     !is_issued(slots, place)
-        && graph
-            .edges
-            .iter()
-            .all(|edge| edge.to != place || is_waited_for(slots, edge, cycle))
+        && graph.edges.iter().all(|edge| edge.to != place || is_waited_for(slots, edge, cycle))
 }
 
 /// Issues an instruction, if it fits.

@@ -12,4 +12,4 @@ returns-clause-compiled c =
     let checked = c.args.checked.now in
     subst (IsCompiledPart checked.options.no_minimization (options_of checked.options) (map automaton_of checked.automata.items) (map class_of checked.classes.items) c.args.automaton (found_part_of c.in_ok-least.field-0)) (sym c.in_ok-least.ensures.report)
     (least_compiled (found_part_of c.in-Ok.found) (found_part_of c.in_ok-least.field-0) c.in_ok-least.ensures.part (options_of checked.options) (map automaton_of checked.automata.items) (map class_of checked.classes.items) c.args.automaton
-      (report_of c.in-Ok.found.report) c.in-Ok.ensures.compiled c.if-checked.false)
+    (report_of c.in-Ok.found.report) c.in-Ok.ensures.compiled c.if-checked.false)

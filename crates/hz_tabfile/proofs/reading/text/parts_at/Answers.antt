@@ -16,8 +16,8 @@ returns-in_err-part-clause-read c =
 pub loop-preserved : goal.loop-preserved
 loop-preserved c = record {
   read =
-    ap (λ parts. with_front parts (so_many (c.args.automata - (c.loop.counter + 1)) (part_at c.args.classes) (left_of c.in_ok-part.after))) (ap (map part_of) c.in_ok-push.ensures.items ∙ map_push part_of c.loop.parts.items c.in_ok-part.part)
-    ∙ many_goes (part_at c.args.classes) (map part_of c.loop.parts.items) c.args.automata c.loop.counter (left_of c.loop.rest) (so_many c.args.automata (part_at c.args.classes) (left_of c.args.rest)) c.loop.invariant.read (part_of c.in_ok-part.part) (left_of c.in_ok-part.after) c.loop-test.true c.in_ok-part.ensures.read;
+      ap (λ parts. with_front parts (so_many (c.args.automata - (c.loop.counter + 1)) (part_at c.args.classes) (left_of c.in_ok-part.after))) (ap (map part_of) c.in_ok-push.ensures.items ∙ map_push part_of c.loop.parts.items c.in_ok-part.part)
+      ∙ many_goes (part_at c.args.classes) (map part_of c.loop.parts.items) c.args.automata c.loop.counter (left_of c.loop.rest) (so_many c.args.automata (part_at c.args.classes) (left_of c.args.rest)) c.loop.invariant.read (part_of c.in_ok-part.part) (left_of c.in_ok-part.after) c.loop-test.true c.in_ok-part.ensures.read;
   packed = subst (All (λ part. IsLeastWidth part.table)) (sym c.in_ok-push.ensures.items) (All-push (λ part. IsLeastWidth part.table) c.loop.parts.items c.in_ok-part.part c.loop.invariant.packed c.in_ok-part.ensures.packed);
 }
 

@@ -35,8 +35,8 @@ loop-preserved c =
       columns = c.in_ok-push_row.ensures.columns ∙ c.loop.invariant.columns;
       count = ap length pushed ∙ (length-append c.loop.plain.rows (c.row_at.new.entries.items ∷ []) ∙ ap (λ n. n + 1) c.loop.invariant.count);
       targets =
-        let shape = row_shape c.args.columns c.args.states (left_of c.loop.rest) c.row_at.new.entries.items (left_of c.in_ok-rest.rest) (some_lines c.loop.rest.bytes.now) c.in_ok-rest.ensures in
-        subst (AreTargets c.args.states) (sym pushed) (targets_pushed c.args.states c.loop.plain.rows c.row_at.new.entries.items c.loop.invariant.targets shape.1);
+          let shape = row_shape c.args.columns c.args.states (left_of c.loop.rest) c.row_at.new.entries.items (left_of c.in_ok-rest.rest) (some_lines c.loop.rest.bytes.now) c.in_ok-rest.ensures in
+          subst (AreTargets c.args.states) (sym pushed) (targets_pushed c.args.states c.loop.plain.rows c.row_at.new.entries.items c.loop.invariant.targets shape.1);
     }
 
 pub returns-clause-rows : goal.returns-clause-rows
