@@ -2,7 +2,6 @@
 use Rattle.std.proofs.Common.{◌≡◌, ℕ, ◌+◌, ◌*◌, ◌<◌, ◌≤◌, Bool, true, false, List, [], ◌∷◌, ◌++◌, length, replicate, All, Option, Some, None, refl, sym, ap, ◌∙◌, subst, arith}
 use Rattle.std.specs.Prelude.{is_some, MatchBool, IsSomeAnd, slice_index_or, ◌&&◌}
 use Rattle.std.proofs.Math.Nat.{mul-le-mul_left}
-use Rattle.hz_base_model.specs.Pairs.{Pair}
 use Rattle.hz_acceptance_model.specs.Events.{Event, issue, advance}
 use Rattle.hz_acceptance_model.specs.Replay.{Pipeline}
 use Rattle.hz_mdread_model.specs.Descriptions.{Options}
@@ -16,7 +15,6 @@ use Rattle.hz_reach_model.specs.Counts as count
 use Rattle.hz_auto_model.specs.AutomatonPipelines.{automaton_pipeline, lists_at}
 use Rattle.hz_auto_model.specs.ClassColumns.{IsColumns}
 use Rattle.hz_auto_model.specs.Compiled.{shows_states, IsCompiledPart, IsShown, Shown, Report}
-use Rattle.hz_auto_model.specs.CompiledParts.{WalksAccepted}
 use Rattle.hz_auto_model.specs.Counted.{CountIs}
 use Rattle.hz_auto.specs.Parts.{IsLeast}
 
