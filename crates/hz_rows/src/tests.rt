@@ -6,6 +6,7 @@ mod blocks;
 mod checks;
 mod drills;
 mod failures;
+mod hostile;
 mod limits;
 mod machines;
 mod pairs;
