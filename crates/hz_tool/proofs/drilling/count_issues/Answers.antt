@@ -1,4 +1,4 @@
-use Rattle.std.proofs.Common.{◌≡◌, ◌+◌, ◌<◌, ℕ, length, take, sym, ap, ◌∙◌, arith}
+use Rattle.std.proofs.Common.{◌≡◌, ◌+◌, ◌<◌, ℕ, length, get_or, take, sym, ap, ◌∙◌, arith}
 use Rattle.hz_acceptance_model.specs.Events.{issues_of}
 use Rattle.hz_replay.specs.Lines.{event_of}
 use Rattle.hz_replay.specs.Replaying.{issues_in}
@@ -17,5 +17,5 @@ loop-event-preserved c =
     let one = c.issues_at-issues.ensures in
     record {
       counted = omega (arith, more, before.counted, one);
-      few = omega (arith, before.few, one, one_issue (event_of _));
+      few = omega (arith, before.few, one, one_issue (event_of (get_or es i some_event).what));
     }
