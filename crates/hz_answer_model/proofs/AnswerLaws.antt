@@ -31,7 +31,7 @@ use Rattle.hz_answer_model.specs.Texts.{file_line, limit_line, fault_line, state
 use Rattle.hz_sexp_model.specs.Trees.{Trees}
 use Rattle.hz_words_model.specs.Words.{Order, compile, replay, walk, schedule, eval, drill, order_of}
 use Rattle.hz_answer_model.specs.Phases.{Held, Says, Next, Opens, HasForms, Traces}
-use Rattle.hz_answer_model.specs.TableAnswers.{tables_limit, WritesTablesOf, HasTables, IsFirstUnwalked, IsIssueIn, Walks, WalksTrace}
+use Rattle.hz_answer_model.specs.TableAnswers.{tables_limit, WritesTablesOf, HasTables, IsIssueIn, Walks, WalksTrace}
 use Rattle.hz_answer_model.proofs.TableLaws.{one_unwalked, walked_or_not, one_issue_in}
 use Rattle.hz_answer_model.proofs.OneText.{one_tables_text}
 use Rattle.hz_answer_model.proofs.DrillLaws.{one_drill_text}

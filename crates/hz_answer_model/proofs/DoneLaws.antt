@@ -1,38 +1,24 @@
 -- What status 0 tells of each phase of an answer.
-use Rattle.std.proofs.Common.{◌≡◌, ℕ, inl, inr, Bool, true, false, List, [], length, Option, Some, None, MatchOption, MatchBool, nat_lt, ◌≤◌, refl, sym, ap, ◌∙◌, subst, arith}
-use Rattle.std.specs.List.{AllPairs}
-use Rattle.std.proofs.lemmas.Bool.{le-ltb}
-use Rattle.std.proofs.lemmas.Option.{same_Some}
-use Rattle.hz_sexp_model.proofs.FormsLaws.{one_reading}
-use Rattle.hz_mdread_model.proofs.DescriptionLaws.{one_description}
-use Rattle.hz_check_model.proofs.CheckLaws.{sound_one}
-use Rattle.hz_acceptance_model.specs.Events.{issues_of, cycles_of}
+use Rattle.std.proofs.Common.{◌≡◌, ℕ, inl, inr, Bool, true, false, List, length, Option, Some, None, MatchOption, MatchBool, nat_lt, refl, arith}
 use Rattle.hz_auto_model.specs.DescriptionLimits.{AllKeepLimits}
-use Rattle.hz_sched_model.proofs.TraceLaws.{issues_spelled, cycles_spelled}
 use Rattle.hz_sexp_model.specs.Trees.{Trees}
 use Rattle.hz_sexp_model.specs.Forms as forms
 use Rattle.hz_mdread_model.specs.Descriptions.{Description}
 use Rattle.hz_mdread_model.specs.DescriptionForms as description_forms
-use Rattle.hz_mdread_model.proofs.CheckableLaws.{can_be_checked}
-use Rattle.hz_mdread_model.proofs.DescriptionFormedAll.{well_formed}
-use Rattle.hz_base_model.specs.Limits.{description_limit, trace_limit}
 use Rattle.hz_check_model.specs.CheckFaults as check
 use Rattle.hz_check_model.specs.CheckFaults.{CheckFault, IsSound}
 use Rattle.hz_check_model.specs.Places.{Known}
 use Rattle.hz_rtl_model.specs.Blocks.{Instruction}
 use Rattle.hz_rtltext_model.specs.BlockForms as blocks
-use Rattle.hz_rtltext_model.proofs.Numbers.{all_few}
-use Rattle.hz_sched_model.specs.Schedules.{Graph, Slot, present, spell}
+use Rattle.hz_sched_model.specs.Schedules.{Graph, Slot}
 use Rattle.hz_scheduled_model.specs.BlockSchedules.{IsScheduleOf}
-use Rattle.hz_scheduled_model.proofs.BlockLaws.{legal_keeps}
-use Rattle.hz_schedulable_model.proofs.ScheduleTotal.{short_trace}
-use Rattle.hz_answer_model.specs.Texts.{file_line, limit_line, accepted_line}
+use Rattle.hz_answer_model.specs.Texts.{file_line, limit_line}
 use Rattle.hz_answer_model.specs.FaultTexts.{check_status}
-use Rattle.hz_answer_model.specs.Phases.{Held, Says, Next, Opens, HasForms}
-use Rattle.hz_answer_model.specs.BlockAnswers.{block_limit, IsBlock}
-use Rattle.hz_answer_model.specs.Answers.{Describes, Checks, HasDescription, Compiles, Judges, AnswersSchedule, SchedulesByDescription}
-use Rattle.hz_answer_model.specs.ScheduleAnswers.{schedule_text, HasClasses, Schedules, SchedulesBlock}
-use Rattle.hz_answer_model.specs.Headline.{IsDescribed, WritesSchedule, ReplayAccepts}
+use Rattle.hz_answer_model.specs.Phases.{Says, Next, HasForms}
+use Rattle.hz_answer_model.specs.BlockAnswers.{IsBlock}
+use Rattle.hz_answer_model.specs.Answers.{Describes, Checks, HasDescription, Compiles}
+use Rattle.hz_answer_model.specs.ScheduleAnswers.{schedule_text, HasClasses, Schedules}
+use Rattle.hz_answer_model.specs.Headline.{IsDescribed}
 
 -- A file that was read.
 pub record IsOpened (o : Option (List ℕ)) (most : ℕ) (next : List ℕ → ℕ → List ℕ → Type 0) (text : List ℕ) : Type 0 where

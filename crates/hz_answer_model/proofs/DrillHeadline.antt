@@ -1,5 +1,5 @@
 -- What `drill` answers with status 0 is of a trace that the description and `replay` accept, and of the tables that `compile` writes.
-use Rattle.std.proofs.Common.{◌≡◌, ℕ, inl, inr, false, List, length, Option, Some, nat_lt, refl, sym, ◌∙◌, subst}
+use Rattle.std.proofs.Common.{◌≡◌, ℕ, inl, false, List, length, Some, nat_lt, refl, sym, ◌∙◌, subst}
 use Rattle.std.proofs.lemmas.Bool.{le-ltb}
 use Rattle.std.proofs.lemmas.Option.{same_Some}
 use Rattle.hz_acceptance_model.specs.Events.{issues_of, cycles_of}
@@ -11,7 +11,7 @@ use Rattle.hz_tables_model.specs.Machines.{Machine}
 use Rattle.hz_tabtext_model.specs.Texts.{TableText}
 use Rattle.hz_answer_model.specs.Answers.{HasDescription, Judges, DrillsDescription, AnswersCompile, AnswersDrill}
 use Rattle.hz_answer_model.specs.DrillAnswers.{Drills, IsDrillOf}
-use Rattle.hz_answer_model.specs.Headline.{IsDescribed, WritesDrill, WritesTables, ReplayAcceptsEvents}
+use Rattle.hz_answer_model.specs.Headline.{IsDescribed, WritesDrill, ReplayAcceptsEvents}
 use Rattle.hz_answer_model.specs.Phases.{Held, Opens}
 use Rattle.hz_answer_model.specs.TableAnswers.{IsTablesOf}
 use Rattle.hz_answer_model.specs.Texts.{accepted_line}

@@ -1,8 +1,8 @@
 -- The drill of a description: there is one text of it, and one where there are tables.
-use Rattle.std.proofs.Common.{◌≡◌, ◌⊎◌, ⊎_elim, inl, inr, ℕ, List, [], ◌∷◌, ◌++◌, map, length, All, Option, Some, None, refl, sym, ap, ◌∙◌, subst}
+use Rattle.std.proofs.Common.{◌≡◌, ◌⊎◌, ⊎_elim, inl, inr, ℕ, List, [], map, length, Option, Some, None, refl, sym, ap, ◌∙◌, subst}
 use Rattle.std.specs.Prelude.{IsSome}
 use Rattle.std.proofs.lemmas.Option.{same_Some}
-use Rattle.hz_acceptance_model.specs.Events.{Event, advance, issues_of, cycles_of, IsOfClass}
+use Rattle.hz_acceptance_model.specs.Events.{Event, issues_of, cycles_of}
 use Rattle.hz_acceptance_model.specs.Replay.{Accepted, start}
 use Rattle.hz_acceptance_model.proofs.AcceptanceLaws.{accepted_or_refused, advance_accepted}
 use Rattle.hz_acceptance_model.proofs.PlayLaws.{accepted_or_first_refused}

@@ -1,5 +1,5 @@
 -- What `schedule` answers with status 0 is a schedule that keeps its block.
-use Rattle.std.proofs.Common.{◌≡◌, ℕ, inl, inr, Bool, true, false, List, [], length, Option, Some, None, MatchOption, MatchBool, nat_lt, ◌≤◌, refl, sym, ap, ◌∙◌, subst, arith}
+use Rattle.std.proofs.Common.{◌≡◌, ℕ, inl, Bool, false, List, [], length, Option, Some, MatchOption, MatchBool, nat_lt, ◌≤◌, refl, sym, ap, ◌∙◌, subst, arith}
 use Rattle.std.specs.List.{AllPairs}
 use Rattle.std.proofs.lemmas.Bool.{le-ltb}
 use Rattle.std.proofs.lemmas.Option.{same_Some}
@@ -10,28 +10,22 @@ use Rattle.hz_acceptance_model.specs.Events.{issues_of, cycles_of}
 use Rattle.hz_auto_model.specs.DescriptionLimits.{AllKeepLimits}
 use Rattle.hz_sched_model.proofs.TraceLaws.{issues_spelled, cycles_spelled}
 use Rattle.hz_sexp_model.specs.Trees.{Trees}
-use Rattle.hz_sexp_model.specs.Forms as forms
 use Rattle.hz_mdread_model.specs.Descriptions.{Description}
 use Rattle.hz_mdread_model.specs.DescriptionForms as description_forms
 use Rattle.hz_mdread_model.proofs.CheckableLaws.{can_be_checked}
 use Rattle.hz_mdread_model.proofs.DescriptionFormedAll.{well_formed}
 use Rattle.hz_base_model.specs.Limits.{description_limit, trace_limit}
-use Rattle.hz_check_model.specs.CheckFaults as check
-use Rattle.hz_check_model.specs.CheckFaults.{CheckFault, IsSound}
+use Rattle.hz_check_model.specs.CheckFaults.{IsSound}
 use Rattle.hz_check_model.specs.Places.{Known}
-use Rattle.hz_rtl_model.specs.Blocks.{Instruction}
-use Rattle.hz_rtltext_model.specs.BlockForms as blocks
 use Rattle.hz_rtltext_model.proofs.Numbers.{all_few}
 use Rattle.hz_sched_model.specs.Schedules.{Graph, Slot, present, spell}
-use Rattle.hz_scheduled_model.specs.BlockSchedules.{IsScheduleOf}
 use Rattle.hz_scheduled_model.proofs.BlockLaws.{legal_keeps}
 use Rattle.hz_schedulable_model.proofs.ScheduleTotal.{short_trace}
 use Rattle.hz_answer_model.specs.Texts.{file_line, limit_line, accepted_line}
-use Rattle.hz_answer_model.specs.FaultTexts.{check_status}
-use Rattle.hz_answer_model.specs.Phases.{Held, Says, Next, Opens, HasForms}
+use Rattle.hz_answer_model.specs.Phases.{Held, Says, Opens}
 use Rattle.hz_answer_model.specs.BlockAnswers.{block_limit, IsBlock}
-use Rattle.hz_answer_model.specs.Answers.{Describes, Checks, HasDescription, Compiles, Judges, AnswersSchedule, SchedulesByDescription}
-use Rattle.hz_answer_model.specs.ScheduleAnswers.{schedule_text, HasClasses, Schedules, SchedulesBlock}
+use Rattle.hz_answer_model.specs.Answers.{HasDescription, Judges, AnswersSchedule, SchedulesByDescription}
+use Rattle.hz_answer_model.specs.ScheduleAnswers.{HasClasses, Schedules, SchedulesBlock}
 use Rattle.hz_answer_model.specs.Headline.{IsDescribed, WritesSchedule, ReplayAccepts}
 use Rattle.hz_answer_model.proofs.DoneLaws.{opened, formed_of, given_of, compiled_of, block_of, classes_of_block, schedule_of}
 

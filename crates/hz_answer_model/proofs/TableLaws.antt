@@ -1,5 +1,5 @@
 -- Walks of machines, and the tables of a description: there is one.
-use Rattle.std.proofs.Common.{◌≡◌, ◌⊎◌, ℕ, zero, suc, add-one, ◌+◌, ◌<◌, ◌≤◌, ⊎_elim, inl, inr, arith, List, [], ◌∷◌, ◌++◌, map, take, drop, length, replicate, get_or, Option, Some, None, IsSome, slice_get, refl, sym, ap, ◌∙◌, subst}
+use Rattle.std.proofs.Common.{◌≡◌, ◌⊎◌, ℕ, zero, suc, add-one, ◌+◌, ◌<◌, ◌≤◌, ⊎_elim, inl, inr, arith, List, [], ◌∷◌, ◌++◌, take, drop, length, replicate, get_or, Option, Some, None, IsSome, slice_get, refl, sym, ap, ◌∙◌, subst}
 use Rattle.std.specs.Option.{option_and_then}
 use Rattle.std.proofs.lemmas.Bool.{cases_lt}
 use Rattle.std.proofs.lemmas.List.{take_more, take_all, take-append-drop, take-take}

@@ -1,6 +1,6 @@
 -- What `compile` writes is said by the description, and `walk` on it answers as `replay` does.
 use Rattle.std.proofs.lemmas.List.{length-map}
-use Rattle.std.proofs.Common.{◌∷◌, ◌≡◌, ℕ, ◌+◌, ◌<◌, ◌≤◌, inl, inr, Bool, true, false, List, [], length, map, take, All, Option, Some, None, Ok, Err, IsSome, MatchOption, MatchBool, nat_lt, slice_get, refl, sym, ap, ◌∙◌, subst}
+use Rattle.std.proofs.Common.{◌∷◌, ◌≡◌, ℕ, ◌+◌, ◌<◌, inl, inr, Bool, true, false, List, [], length, map, take, All, Option, Some, None, Ok, IsSome, MatchOption, MatchBool, nat_lt, slice_get, refl, sym, ap, ◌∙◌, subst}
 use Rattle.std.specs.Prelude.{◌↔◌}
 use Rattle.std.specs.Option.{option_map}
 use Rattle.std.proofs.lemmas.Bool.{le-ltb, ltb-false}
@@ -12,13 +12,12 @@ use Rattle.hz_check_model.proofs.CheckLaws.{fault_or_sound}
 use Rattle.hz_acceptance_model.specs.Events.{Event, issue, IsOfClass}
 use Rattle.hz_acceptance_model.specs.Replay.{Accepted, FirstRefused, Class}
 use Rattle.hz_altern_model.specs.Automata.{UnitPlace}
-use Rattle.hz_auto_model.specs.Compiled.{Report, IsCompiled}
 use Rattle.hz_auto_model.specs.DescriptionLimits.{AllKeepLimits}
 use Rattle.hz_auto_model.proofs.DescriptionLaws.{machine_accepts, unwalked_refused}
 use Rattle.hz_base_model.specs.Limits.{description_limit, trace_limit}
 use Rattle.hz_base_model.specs.Lines.{lines_of}
-use Rattle.hz_check_model.specs.CheckedParts.{automata_of, class_parts}
-use Rattle.hz_check_model.specs.CheckFaults.{CheckFaultAt, IsSound}
+use Rattle.hz_check_model.specs.CheckedParts.{class_parts}
+use Rattle.hz_check_model.specs.CheckFaults.{CheckFaultAt}
 use Rattle.hz_check_model.specs.Places.{Known, class_names}
 use Rattle.hz_mdread_model.specs.Descriptions.{Description, ClassItem}
 use Rattle.hz_mdread_model.specs.DescriptionForms as description_forms
@@ -31,10 +30,10 @@ use Rattle.hz_tabtext_model.specs.Texts.{TableText}
 use Rattle.hz_tabtext_model.proofs.TextAgain.{tables_again}
 use Rattle.hz_tabtext_model.proofs.Steps.{ok_is}
 use Rattle.hz_trace_model.specs.Traces.{Trace, event_lines}
-use Rattle.hz_answer_model.specs.Answers.{HasDescription, Compiles, Replays, ReplaysTrace, ReplaysDescription, Judges, IsIssueOf, CompilesDescription, AnswersCompile}
+use Rattle.hz_answer_model.specs.Answers.{HasDescription, Compiles, Replays, ReplaysTrace, ReplaysDescription, Judges, CompilesDescription, AnswersCompile}
 use Rattle.hz_answer_model.specs.Headline.{IsDescribed, WritesTables, WalkIsReplay}
 use Rattle.hz_answer_model.specs.Phases.{Held, Says, Next, Opens, Traces}
-use Rattle.hz_answer_model.specs.TableAnswers.{tables_limit, IsTablesOf, WritesTablesOf, HasTables, IsFirstUnwalked, IsIssueIn, Walks, WalksTrace}
+use Rattle.hz_answer_model.specs.TableAnswers.{tables_limit, IsTablesOf, WritesTablesOf, HasTables, IsFirstUnwalked, Walks, WalksTrace}
 use Rattle.hz_answer_model.specs.Texts.{file_line, limit_line}
 use Rattle.hz_answer_model.proofs.AnswerLaws.{kept_or_past}
 use Rattle.hz_answer_model.proofs.DoneLaws.{IsOpened, opened, IsGiven, given_of, compiled_of}

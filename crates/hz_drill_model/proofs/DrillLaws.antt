@@ -1,9 +1,9 @@
 -- Laws of drawn traces, over whatever accepts.
 use Rattle.std.proofs.Common.{◌≡◌, ◌⊎◌, ⊎_elim, inl, inr, ℕ, zero, suc, ◌+◌, ◌%◌, ◌/◌, ◌<◌, Bool, true, false, cond, List, [], ◌∷◌, ◌++◌, length, All, Option, Some, None, refl, sym, ap, ◌∙◌, subst, add-one, append_assoc, arith}
-use Rattle.std.specs.Prelude.{◌↔◌, ◌==◌, ◌≢◌}
+use Rattle.std.specs.Prelude.{◌==◌, ◌≢◌}
 use Rattle.std.proofs.lemmas.Bool.{eqb-false}
 use Rattle.std.proofs.lemmas.List.{append-nil}
-use Rattle.std.proofs.lemmas.List.Elements.{All-nil, All-cons, All-append, All-push}
+use Rattle.std.proofs.lemmas.List.Elements.{All-nil, All-cons, All-push}
 use Rattle.hz_acceptance_model.specs.Events.{Event, issue, advance, issues_of, cycles_of, IsOfClass}
 use Rattle.hz_drill_model.specs.Drills.{next_number, number_after, upper_from, draw, IsTurn, Draws, Drawn}
 

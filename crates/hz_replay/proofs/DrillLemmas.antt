@@ -1,11 +1,10 @@
 -- Turns of a trace that is drawn over a machine, one more at a time.
-use Rattle.std.proofs.Common.{◌≡◌, ℕ, zero, suc, add-one, ◌+◌, List, [], ◌∷◌, ◌++◌, map, length, Option, Some, None, inl, inr, refl, sym, ap, ◌∙◌, subst, arith}
+use Rattle.std.proofs.Common.{◌≡◌, ℕ, zero, suc, add-one, ◌+◌, List, [], ◌∷◌, ◌++◌, Option, Some, None, inl, inr, sym, ap, ◌∙◌, subst, arith}
 use Rattle.std.specs.Prelude.{IsSome, option_and_then}
 use Rattle.std.specs.List.{range_with_len}
 use Rattle.std.proofs.lemmas.List.{map-append}
 use Rattle.hz_acceptance_model.specs.Events as model
-use Rattle.hz_drill_model.specs.Drills.{next_number, number_after, draw, IsTurn, Draws, Drawn}
-use Rattle.hz_drill_model.proofs.DrillLaws.{draws_more}
+use Rattle.hz_drill_model.specs.Drills.{IsTurn}
 use Rattle.hz_tables_model.specs.Machines.{Machine, parts_walk}
 use Rattle.hz_tables_model.proofs.MachineLaws.{parts_walk-append}
 use Rattle.hz_replay.specs.Drilling.{WalksFrom}

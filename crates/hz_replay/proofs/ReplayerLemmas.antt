@@ -1,12 +1,10 @@
 -- The states of a machine's parts, part by part.
-use Rattle.std.proofs.Common.{◌≡◌, ℕ, zero, suc, ◌+◌, ◌<◌, ◌≤◌, List, [], ◌∷◌, ◌++◌, length, get_or, drop, map, Option, Some, None, replicate, refl, sym, ap, ◌∙◌, subst, arith, append_assoc}
-use Rattle.std.specs.Prelude.{slice_index, slice_index_or, All}
-use Rattle.std.specs.Option.{option_map}
+use Rattle.std.proofs.Common.{◌≡◌, ℕ, zero, suc, ◌<◌, List, [], ◌∷◌, length, get_or, Option, Some, None, replicate, refl, sym, ap, ◌∙◌, subst, arith}
+use Rattle.std.specs.Prelude.{All}
 use Rattle.std.proofs.lemmas.List.{length-replicate}
 use Rattle.std.proofs.lemmas.List.Elements.{All-get_or, All-head, All-tail}
-use Rattle.hz_acceptance_model.specs.Events.{Event, issue, advance}
-use Rattle.hz_tables_model.specs.Tables.{Table, row_of, entry, IsTable}
-use Rattle.hz_tables_model.specs.Machines.{Part, Machine, no_part, part_at, next_of, column_of, part_walk, parts_walk, onto_states, word_of, starts_of, IsPart, IsMachine}
+use Rattle.hz_acceptance_model.specs.Events.{Event, advance}
+use Rattle.hz_tables_model.specs.Machines.{Part, Machine, no_part, part_at, next_of, part_walk, parts_walk, onto_states, word_of, starts_of, IsPart, IsMachine}
 use Rattle.hz_tables_model.proofs.TableLaws.{walk_stays}
 use Rattle.hz_tables_model.proofs.MachineLaws.{issue_alone, advance_alone}
 use Rattle.hz_replay.specs.Replaying.{event_for, AreStates}

@@ -21,7 +21,9 @@ use std::sync::ledger::{Blank, Ledger};
 
 /// The numbers are those of a linear congruential generator.
 const MULTIPLIER: u64 = 1_103_515_245;
+
 const INCREMENT: u64 = 12_345;
+
 const MODULUS: u64 = 2_147_483_648;
 
 /// What is drawn are the upper bits of a number.

@@ -16,7 +16,10 @@ fn put_turns<S: Sink>(out: &mut S, turns: u32) -> Result<(), Failed>
     ensures { Writes S.written S.room S.faults out.old out.new (model.turns_line turns) result }
 {
     let mut digits = Buffer::new();
-    put_all(out, &[b"drill ", digits.format(turns).as_bytes(), b" turns\n"])
+    put_all(
+        out,
+        &[b"drill ", digits.format(turns).as_bytes(), b" turns\n"],
+    )
 }
 
 /// Writes a state behind a blank.
@@ -65,12 +68,7 @@ fn put_left<S: Sink>(out: &mut S, states: &[u32]) -> Result<(), Failed>
 }
 
 /// Writes the lines behind the first: the issues and cycles of the trace, and the states that it leaves.
-fn put_trace<S: Sink>(
-    out: &mut S,
-    issues: u64,
-    cycles: u64,
-    states: &[u32],
-) -> Result<(), Failed>
+fn put_trace<S: Sink>(out: &mut S, issues: u64, cycles: u64, states: &[u32]) -> Result<(), Failed>
     requires { S.faults out.old < 2 ^ 64 - 1 }
     ensures { Writes S.written S.room S.faults out.old out.new (model.accepted_line issues cycles ++ model.left_line states.now) result }
 {

@@ -8,7 +8,9 @@ ghost use Rattle.hz_words_model.specs.Words as model;
 
 use super::numbers::number_in;
 use super::operands::{one_operand, three_operands, two_operands};
-use super::order::{CompileOrder, DrillOrder, EvalOrder, Order, ReplayOrder, ScheduleOrder, WalkOrder};
+use super::order::{
+    CompileOrder, DrillOrder, EvalOrder, Order, ReplayOrder, ScheduleOrder, WalkOrder,
+};
 use std::alloc::{AllocError, Global};
 
 /// The greatest number that a drill draws from.

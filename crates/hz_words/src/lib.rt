@@ -9,5 +9,7 @@ mod reading;
 #[cfg(test)]
 mod tests;
 
-pub use order::{CompileOrder, DrillOrder, EvalOrder, Order, ReplayOrder, ScheduleOrder, WalkOrder};
+pub use order::{
+    CompileOrder, DrillOrder, EvalOrder, Order, ReplayOrder, ScheduleOrder, WalkOrder,
+};
 pub use reading::order_of;

@@ -1,4 +1,4 @@
-use Rattle.std.proofs.Common.{◌≡◌, ◌+◌, ◌*◌, ◌≤◌, [], length, Some}
+use Rattle.std.proofs.Common.{◌≡◌, ◌+◌, ◌*◌, ◌≤◌, length, Some}
 use Rattle.std.specs.List.{range_with_len}
 use Rattle.hz_drill_model.specs.Drills.{number_after, Drawn}
 use Rattle.hz_tables_model.specs.Machines.{parts_walk}

@@ -1,5 +1,4 @@
-use Rattle.std.proofs.Common.{◌≡◌, ℕ, List, length, IfOk, sym, ap, ◌∙◌, subst, arith}
-use Rattle.hz_acceptance_model.specs.Events as model
+use Rattle.std.proofs.Common.{ℕ, IfOk, ◌∙◌, subst}
 use Rattle.hz_drill_model.specs.Drills.{Drawn}
 use Rattle.hz_tables.specs.Machines.{machine_of}
 use Rattle.hz_replay.specs.Drilling.{IsWalked, WalksFrom}

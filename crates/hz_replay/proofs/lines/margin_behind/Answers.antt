@@ -1,5 +1,5 @@
-use Rattle.std.proofs.Common.{◌≡◌, ◌<◌, ◌≤◌, ◌-◌, length, sym, ◌∙◌, arith}
-use Rattle.std.proofs.lemmas.List.Sums.{suffix_len_is, suffix_len-le-length}
+use Rattle.std.proofs.Common.{sym, ◌∙◌, arith}
+use Rattle.std.proofs.lemmas.List.Sums.{suffix_len_is}
 use Rattle.hz_trace_model.specs.Traces.{is_margin}
 use Rattle.hz_replay.proofs.lines.margin_behind.Goals as goal
 

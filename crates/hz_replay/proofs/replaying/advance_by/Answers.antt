@@ -1,4 +1,4 @@
-use Rattle.std.proofs.Common.{◌≡◌, ℕ, ◌+◌, ◌*◌, ◌≤◌, List, Some, [], ◌∷◌, length, refl, sym, ap, ◌∙◌, subst, arith}
+use Rattle.std.proofs.Common.{◌≡◌, ◌+◌, ◌*◌, ◌≤◌, Some, [], ◌∷◌, length, refl, ◌∙◌, subst, arith}
 use Rattle.hz_acceptance_model.specs.Events.{advance}
 use Rattle.hz_tables_model.specs.Machines.{Machine, parts_walk}
 use Rattle.hz_replay.proofs.EventLemmas.{none_advanced, one_cycle_more, steps_more, steps_once}

@@ -1,8 +1,7 @@
-use Rattle.std.proofs.Common.{◌≡◌, ◌<◌, ◌≤◌, ◌+◌, ℕ, List, length, map, replicate, sym, ap, ◌∙◌, subst, arith}
+use Rattle.std.proofs.Common.{◌≡◌, ◌<◌, ◌≤◌, ◌+◌, ℕ, List, length, replicate, sym, ap, ◌∙◌, subst, arith}
 use Rattle.std.proofs.lemmas.List.{length-map}
 use Rattle.hz_tables.specs.Machines.{machine_of}
 use Rattle.hz_tables.specs.Parts.{part_of}
-use Rattle.hz_tables_model.specs.Machines.{starts_of}
 use Rattle.hz_replay.specs.Replaying.{Standing, AreStates}
 use Rattle.hz_replay.proofs.ReplayerLemmas.{starts_stand, zeros}
 use Rattle.hz_replay.proofs.replayer.Replayer.start.Goals as goal
