@@ -1,5 +1,5 @@
 -- The drill over a machine that is compiled is that of its description.
-use Rattle.std.proofs.Common.{◌≡◌, ℕ, ◌+◌, ◌<◌, ◌≤◌, List, [], ◌∷◌, ◌++◌, length, take, get_or, Some, refl, sym, ap, ◌∙◌, subst, arith}
+use Rattle.std.proofs.Common.{◌≡◌, ℕ, ◌+◌, ◌<◌, ◌≤◌, List, [], ◌∷◌, ◌++◌, length, take, get_or, Some, refl, ap, ◌∙◌, subst, arith}
 use Rattle.std.proofs.lemmas.List.{map_more}
 use Rattle.hz_acceptance_model.specs.Events.{Event, issue, advance, issues_of, cycles_of}
 use Rattle.hz_acceptance_model.proofs.ReplayLaws.{issues_of-append}

@@ -1,9 +1,8 @@
 -- The machine of a checked description.
-use Rattle.std.proofs.Common.{◌≡◌, ℕ, suc, List, [], ◌∷◌, length, map, take, All, Some, None, slice_get, inl, inr, refl, sym, ap, ◌∙◌, subst, add-one}
-use Rattle.std.specs.Prelude.{IsSome, slice_index_or}
+use Rattle.std.proofs.Common.{◌≡◌, ℕ, suc, List, [], ◌∷◌, length, map, take, Some, None, slice_get, inl, inr, refl, sym, ap, ◌∙◌, subst, add-one}
+use Rattle.std.specs.Prelude.{slice_index_or}
 use Rattle.std.proofs.lemmas.List.{length-map}
-use Rattle.hz_acceptance_model.specs.Events.{Event, IsOfClass}
-use Rattle.hz_acceptance_model.specs.Replay.{Accepted, FirstRefused}
+use Rattle.hz_acceptance_model.specs.Events.{Event}
 use Rattle.hz_answer_model.specs.Answers.{ReplaysTrace, Compiles}
 use Rattle.hz_answer_model.specs.TableAnswers.{Walks, WalksTrace}
 use Rattle.hz_answer_model.proofs.WalkLaws.{map_twice, traced_both}
@@ -17,7 +16,6 @@ use Rattle.hz_check_model.specs.CheckedParts.{AutomatonParts, ClassParts, automa
 use Rattle.hz_check_model.specs.Places.{Known}
 use Rattle.hz_mdread.specs.Shape.{options as options_of}
 use Rattle.hz_mdread_model.specs.Descriptions.{Description, Options}
-use Rattle.hz_pipeline_model.specs.Pipelines.{pipeline_with}
 use Rattle.hz_reach_model.specs.Counts.{Count}
 use Rattle.hz_replay.specs.Replaying.{FirstUnwalked}
 use Rattle.hz_tables_model.specs.Machines.{Machine, machine_walk}

@@ -1,5 +1,5 @@
 -- Tables that are written, and tables that are read.
-use Rattle.std.proofs.Common.{◌≡◌, ℕ, List, [], ◌∷◌, Err, All, map, inl, inr, refl, ap, ◌∙◌, subst, MatchOption}
+use Rattle.std.proofs.Common.{◌≡◌, ℕ, List, [], ◌∷◌, Err, All, map, inl, inr, refl, ap, ◌∙◌, MatchOption}
 use Rattle.hz_answer_model.specs.Answers.{CompilesDescription}
 use Rattle.hz_answer_model.specs.FaultTexts.{tables_word}
 use Rattle.hz_answer_model.specs.Phases.{Next}

@@ -1,8 +1,5 @@
-use Rattle.std.proofs.Common.{◌≡◌, ◌+◌, ◌<◌, ℕ, length, take, sym, ap, ◌∙◌, arith}
-use Rattle.hz_acceptance_model.specs.Events.{issues_of}
+use Rattle.std.proofs.Common.{◌<◌, length, get_or, arith}
 use Rattle.hz_replay.specs.Lines.{event_of}
-use Rattle.hz_replay.specs.Replaying.{issues_in}
-use Rattle.hz_replay.specs.Traces.{events_in}
 use Rattle.hz_tool.proofs.DrillLemmas.{issues_more, one_issue}
 use Rattle.hz_tool.proofs.TraceLemmas.{some_event}
 use Rattle.hz_tool.proofs.drilling.count_issues.Goals as goal
@@ -17,5 +14,5 @@ loop-event-preserved c =
     let one = c.issues_at-issues.ensures in
     record {
       counted = omega (arith, more, before.counted, one);
-      few = omega (arith, before.few, one, one_issue (event_of _));
+      few = omega (arith, before.few, one, one_issue (event_of (get_or es i some_event).what));
     }

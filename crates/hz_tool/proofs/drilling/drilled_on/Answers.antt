@@ -1,4 +1,4 @@
-use Rattle.std.proofs.Common.{ℕ, length, ◌∙◌, subst}
+use Rattle.std.proofs.Common.{ℕ, ◌∙◌, subst}
 use Rattle.hz_drill_model.specs.Drills.{Drawn}
 use Rattle.hz_replay.specs.Drilling.{IsWalked, WalksFrom}
 use Rattle.hz_replay.specs.Replaying.{Standing}
