@@ -112,8 +112,9 @@ fn machine_on(alloc: Global, checked: &Checked, parts: Vec<Part>) -> Result<Mach
 /// The machine of a checked description: for each automaton, in their order, a part that walks just what the automaton
 /// accepts, and the counts of its grids, states and members before minimisation. Classes with equal lists share a column,
 /// numbered by the first class of each. States are apart from one another, or with `no-minimization` what accepted events
-/// leave, and numbered breadth-first. Tables are packed over cells of the least width, or under `no-comb-vect` kept as rows. `Limit` exactly where some automaton has a count above its limit; it tells the first
-/// such automaton. docs/RULES.md, 'States and tables'.
+/// leave, and numbered breadth-first. Tables are packed over cells of the least width, or under `no-comb-vect` kept as rows.
+/// `Limit` exactly where some automaton has a count above its limit; it tells the first such automaton. docs/RULES.md,
+/// 'States and tables'.
 pub fn compile(alloc: Global, checked: &Checked) -> Result<Compiled, AutoFault>
     ensures compiled { IfOk result (λ all. IsCompiled (options_of checked.now.options) (map automaton_of checked.now.automata.items) (map class_of checked.now.classes.items) (machine_of all.machine) (reports_of all.reports.items)) }
     ensures options { IfOk result (λ all. all.options ≡ checked.now.options) }

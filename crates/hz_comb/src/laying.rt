@@ -9,8 +9,8 @@ ghost use Rattle.hz_comb.specs.Shape.{comb_of};
 use hz_plain::{NoMemory, Plain};
 use std::alloc::Global;
 
-/// How far before the end a row's base is looked for: nearly all room is there, and the search costs the same at each row.
-const WINDOW: usize = 1_024;
+/// How many places are looked at for a row: so many bases before the end are tried for one entry, half of them for two.
+const LOOKS: usize = 1_024;
 
 /// A comb that is being made.
 #[derive(Drop)]
@@ -23,8 +23,8 @@ pub struct Laying {
     pub targets: Vec<u32>,
 }
 
-/// Whether a place has no owner.
-fn is_open(owners: &[u32], free: u32, place: usize) -> bool
+/// Whether a place has no owner, which is told by the number `free`. Behind the end no place has one.
+fn is_free(owners: &[u32], free: u32, place: usize) -> bool
     ensures { result ≡ is_free owners.now free place }
 {
     place >= owners.len() || owners[place] == free
@@ -37,17 +37,23 @@ fn fits(owners: &[u32], free: u32, base: usize, columns: &[u32]) -> bool
 {
     columns
         .iter()
-        .all(|column| is_open(owners, free, base + *column as usize))
+        .all(|column| is_free(owners, free, base + *column as usize))
 }
 
-/// The first base from which on the places of these columns have no owner, of those that are looked at.
-fn base_for(owners: &[u32], free: u32, columns: &[u32]) -> usize
+/// How many bases before the end are tried for a row of so many places with so many entries: those of a row like it, and more
+/// where there are few entries. So the search of a row costs about the same, however full rows are.
+fn tries(width: usize, entries: usize) -> usize {
+    width.max(LOOKS / entries.max(1))
+}
+
+/// The first base from which on the places of these columns have no owner, of those that are tried.
+fn base_for(owners: &[u32], free: u32, width: usize, columns: &[u32]) -> usize
     requires few { length owners.now < 2 ^ 32 }
     ensures low { result ≤ length owners.now }
     ensures fits { list_all (λ column. is_free owners.now free (result + column)) columns.now ≡ true }
 {
     let end = owners.len();
-    for base in end.saturating_sub(WINDOW)..end {
+    for base in end.saturating_sub(tries(width, columns.len()))..end {
         if fits(owners, free, base, columns) {
             return base;
         }
@@ -131,13 +137,13 @@ impl Laying {
         Ok(())
     }
 
-    /// A base from which on the places of these columns have no owner.
-    fn base_of(&self, free: u32, columns: &Vec<u32>) -> usize
+    /// A base from which on the places of these columns have no owner, for a row of so many places.
+    fn base_of(&self, free: u32, width: usize, columns: &Vec<u32>) -> usize
         requires few { length self.now.owners.items < 2 ^ 32 }
         ensures low { result ≤ length self.now.owners.items }
         ensures fits { list_all (λ column. is_free self.now.owners.items free (result + column)) columns.now.items ≡ true }
     {
-        base_for(&self.owners, free, columns)
+        base_for(&self.owners, free, width, columns)
     }
 
     /// Lays the entries of a row from a base on.
@@ -164,8 +170,9 @@ impl Laying {
     {
         let free = plain.states();
         columns_of(plain, state, columns)?;
-        let base = self.base_of(free, columns);
-        self.grow(base + plain.columns() as usize + 1, free)?;
+        let width = plain.columns() as usize + 1;
+        let base = self.base_of(free, width, columns);
+        self.grow(base + width, free)?;
         self.lay_at(plain, state, base);
         self.bases.push(base as u32)?;
         Ok(())

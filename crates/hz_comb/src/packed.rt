@@ -16,7 +16,7 @@ use std::sync::ledger::Ledger;
 
 /// A table of states whose rows are laid into one another, over cells of `W` bytes: 1, 2 or 4. At each place stands the state
 /// that owns it, and that state's next one; a state's entry in a column is looked up so many places behind its base. So a step
-/// is three reads. GCC Internals, 'Specifying processor pipeline description', on `no-comb-vect`.
+/// is two reads, and a third where the state owns the place. GCC Internals, 'Specifying processor pipeline description', on `no-comb-vect`.
 #[derive(Drop)]
 pub struct Packed<const W: usize> {
     columns: u32,
