@@ -14,7 +14,7 @@ rt() {
         done
     done
     mkdir -p proofs/run
-    printf 'use Rattle.packing.proofs.run.Given as goal\n\nabbrev pub ghosts-walk : goal.ghosts-walk\nghosts-walk g a = record { name = a.blank.name; parts = a.blank.parts }\n' > proofs/run/Invariants.antt
+    printf 'use Rattle.packing.proofs.run.Given as goal\n\nabbrev pub ghosts-walk : goal.ghosts-walk\nghosts-walk a = record { name = a.blank.name; parts = a.blank.parts }\n' > proofs/run/Invariants.antt
     command rt "$@"
 }
 
