@@ -1,0 +1,2 @@
+pub mod OnceLaws
+pub mod ListingLaws

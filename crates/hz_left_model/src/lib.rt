@@ -1,0 +1,22 @@
+//! For every pipeline and every list of events there is a list of what the events leave. No definition of its own.
+#![tactic(auto)]
+
+ghost use Rattle.std.specs.Prelude.{ℕ, Bool, List};
+ghost use Rattle.hz_base_model.specs.Pairs.{Pair};
+ghost use Rattle.hz_altern_model.specs.Automata.{UnitPlace};
+ghost use Rattle.hz_acceptance_model.specs.Events.{Event};
+ghost use Rattle.hz_acceptance_model.specs.Plays.{Tells};
+ghost use Rattle.hz_acceptance_model.specs.Replay.{Pipeline};
+ghost use Rattle.hz_reach_model.specs.Reach.{IsLeft};
+
+/// Where a test tells units apart, there is for every pipeline and every list of events, accepted or not, a list of all grids
+/// that the events leave, each once as a set of pairs.
+pub fn what_events_leave_can_be_listed<U>()
+    ensures listed { (same : U → U → Bool) → Tells same → (m : Pipeline U) (t : List Event) → (grids : List (List (Pair U))) × IsLeft m t grids }
+{}
+
+/// So there is such a list in each automaton, whose units are numbers, and in all automata of a description together.
+pub fn what_automata_leave_can_be_listed()
+    ensures each { (m : Pipeline ℕ) (t : List Event) → (grids : List (List (Pair ℕ))) × IsLeft m t grids }
+    ensures together { (m : Pipeline UnitPlace) (t : List Event) → (grids : List (List (Pair UnitPlace))) × IsLeft m t grids }
+{}
