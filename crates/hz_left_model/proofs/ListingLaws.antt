@@ -26,7 +26,7 @@ module _ {U : Type 0} (same : U → U → Bool) (tells : Tells same) where
   within_told : (xs ys : List (Pair U)) → IsTold ((p : Pair U) → Contains xs p → Contains ys p)
   within_told xs ys = each_told (Contains ys) (λ p. told_by (has same ys p) (has_decides same tells ys p)) xs
 
-  pairs_told : (xs ys : List (Pair U)) → IsTold (SamePairs xs ys)
+  pub pairs_told : (xs ys : List (Pair U)) → IsTold (SamePairs xs ys)
   pairs_told xs ys = go (within_told xs ys) (within_told ys xs)
     where
       go : IsTold ((p : Pair U) → Contains xs p → Contains ys p) → IsTold ((p : Pair U) → Contains ys p → Contains xs p) → IsTold (SamePairs xs ys)

@@ -1,13 +1,15 @@
-//! For every pipeline and every list of events there is a list of what the events leave. No definition of its own.
+//! For every pipeline: every list of events has a list of what it leaves, and each count of what events reach is at most a
+//! number or above it. No definition of its own.
 #![tactic(auto)]
 
-ghost use Rattle.std.specs.Prelude.{ℕ, Bool, List};
+ghost use Rattle.std.specs.Prelude.{◌⊎◌, ℕ, Bool, List};
 ghost use Rattle.hz_base_model.specs.Pairs.{Pair};
 ghost use Rattle.hz_altern_model.specs.Automata.{UnitPlace};
 ghost use Rattle.hz_acceptance_model.specs.Events.{Event};
 ghost use Rattle.hz_acceptance_model.specs.Plays.{Tells};
 ghost use Rattle.hz_acceptance_model.specs.Replay.{Pipeline};
 ghost use Rattle.hz_reach_model.specs.Reach.{IsLeft};
+ghost use Rattle.hz_reach_model.specs.Counts.{Count, CountIsAbove, CountIsAtMost};
 
 /// Where a test tells units apart, there is for every pipeline and every list of events, accepted or not, a list of all grids
 /// that the events leave, each once as a set of pairs.
@@ -19,4 +21,14 @@ pub fn what_events_leave_can_be_listed<U>()
 pub fn what_automata_leave_can_be_listed()
     ensures each { (m : Pipeline ℕ) (t : List Event) → (grids : List (List (Pair ℕ))) × IsLeft m t grids }
     ensures together { (m : Pipeline UnitPlace) (t : List Event) → (grids : List (List (Pair UnitPlace))) × IsLeft m t grids }
+{}
+
+/// Where a test tells units apart, each count of every pipeline is at most a number or above it, for every number.
+pub fn every_count_is_told<U>()
+    ensures told { (same : U → U → Bool) → Tells same → (m : Pipeline U) (columns : ℕ) (count : Count) (n : ℕ) → CountIsAtMost m columns count n ⊎ CountIsAbove m columns count n }
+{}
+
+/// So each count of each automaton, whose units are numbers, is at most a number or above it.
+pub fn every_count_of_an_automaton_is_told()
+    ensures told { (m : Pipeline ℕ) (columns : ℕ) (count : Count) (n : ℕ) → CountIsAtMost m columns count n ⊎ CountIsAbove m columns count n }
 {}
