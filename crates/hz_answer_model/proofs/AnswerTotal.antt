@@ -12,7 +12,7 @@ use Rattle.hz_check_model.proofs.CheckTotal.{sound_or_fault}
 use Rattle.hz_acceptance_model.proofs.AcceptanceLaws.{refused_issue}
 use Rattle.hz_acceptance_model.proofs.PlayLaws.{accepted_or_first_refused}
 use Rattle.hz_acceptance_model.proofs.Rows.{same_unit, places_tell}
-use Rattle.hz_answer_model.specs.Answers.{Describes, Checks, HasDescription, Compiles, CompilesDescription, DrillsDescription, IsCountedText, HasTablesText, IsCountedOrder, IsCounted, Replays, ReplaysTrace, ReplaysDescription, Judges, SchedulesByDescription, IsIssueOf, AnswersOrder, Answer}
+use Rattle.hz_answer_model.specs.Answers.{Describes, Checks, HasDescription, Compiles, CompilesDescription, DrillsDescription, TextHasTables, OrderHasTables, WordsHaveTables, Replays, ReplaysTrace, ReplaysDescription, Judges, SchedulesByDescription, IsIssueOf, AnswersOrder, Answer}
 use Rattle.hz_check_model.specs.CheckFaults.{CheckFault, CheckFaultAt, IsSound}
 use Rattle.hz_check_model.specs.Places.{Known, class_names}
 use Rattle.hz_mdread_model.specs.DescriptionForms as description_forms
@@ -25,7 +25,7 @@ use Rattle.hz_sexp_model.specs.Forms as forms
 use Rattle.hz_check_model.specs.CheckedParts.{automaton_names, automaton_count}
 use Rattle.hz_pipeline_model.specs.Pipelines.{pipeline_with}
 use Rattle.hz_reach_model.specs.Counts.{Count}
-use Rattle.hz_auto_model.specs.DescriptionLimits.{KeepsLimits, AllKeepLimits, PassesLimit, IsFirstPastLimit, AreCounted}
+use Rattle.hz_auto_model.specs.DescriptionLimits.{KeepsLimits, AllKeepLimits, PassesLimit, IsFirstPastLimit}
 use Rattle.hz_acceptance_model.specs.Replay.{FirstRefused}
 use Rattle.hz_acceptance_model.specs.Events.{Event, issue, cycles_of, issues_of, IsOfClass}
 use Rattle.hz_trace_model.specs.Traces.{Trace, TraceFault, TraceFaultAt, event_lines}
@@ -44,6 +44,7 @@ use Rattle.hz_answer_model.specs.ScheduleAnswers.{schedule_text, HasClasses, Sch
 use Rattle.hz_depend_model.specs.Classes.{ClassFault}
 use Rattle.hz_scheduled_model.specs.BlockGraphs.{IsFirstClassFault}
 use Rattle.hz_scheduled_model.specs.BlockSchedules.{StartsAlone, IsFirstStuck}
+use Rattle.hz_left_model.proofs.LimitsTold.{are_counted}
 use Rattle.hz_schedulable_model.proofs.ScheduleTotal.{some_schedule_of}
 use Rattle.hz_scheduled_model.proofs.GraphLaws.{HasClass}
 use Rattle.hz_scheduled_model.proofs.FaultLaws.{classes_or_fault, starts_or_stuck}
@@ -103,26 +104,26 @@ module _ (d : Description) (known : Known) where
       (trace_of_every_text (class_names d) text)
 
 -- All of the first automata keep their limits, or some is the first that does not.
-limits_one : (d : Description) (known : Known) → AreCounted d known → (n : ℕ) → n ≤ automaton_count d → ((a : ℕ) → a < n → KeepsLimits d known a) ⊎ ((a : ℕ) × IsFirstPastLimit d known a)
-limits_one d known counted zero few = inl (λ a low. absurd (omega (arith, low)))
-limits_one d known counted (suc n) few = ⊎_elim
+limits_one : (d : Description) (known : Known) → (n : ℕ) → n ≤ automaton_count d → ((a : ℕ) → a < n → KeepsLimits d known a) ⊎ ((a : ℕ) × IsFirstPastLimit d known a)
+limits_one d known zero few = inl (λ a low. absurd (omega (arith, low)))
+limits_one d known (suc n) few = ⊎_elim
     (λ (kept : (a : ℕ) → a < n → KeepsLimits d known a). ⊎_elim
     (λ (here : KeepsLimits d known n). inl (λ a low. ⊎_elim
     (λ (less : a < n). kept a less)
     (λ (high : n ≤ a). let same : n ≡ a = omega (arith, low, high) in subst (KeepsLimits d known) same here)
     (cases_lt a n)))
     (λ (past : (kind : Count) × PassesLimit d known n kind). inr (n, record { there = omega (arith, few); before = kept; kind = past.0; past = past.1 }))
-    (counted n (omega (arith, few))))
+    (are_counted d known n (omega (arith, few))))
     (λ first. inr first)
-    (limits_one d known counted n (omega (arith, few)))
+    (limits_one d known n (omega (arith, few)))
 
-compiles_one : (name : List ℕ) (d : Description) (known : Known) (next : ℕ → List ℕ → Type 0) → AreCounted d known → HasOne next → HasOne (Compiles name d known next)
-compiles_one name d known next counted one = ⊎_elim
-    (λ (kept : (a : ℕ) → a < automaton_count d → KeepsLimits d known a). wider next _ (λ s t h. inl (kept, h)) one)
+compiles_one : (name : List ℕ) (d : Description) (known : Known) (next : ℕ → List ℕ → Type 0) → (AllKeepLimits d known → HasOne next) → HasOne (Compiles name d known next)
+compiles_one name d known next one = ⊎_elim
+    (λ (kept : AllKeepLimits d known). wider next _ (λ s t h. inl (kept, h)) (one kept))
     (λ (first : (a : ℕ) × IsFirstPastLimit d known a).
     let line = states_line name (slice_index_or (automaton_names d) first.0 []) in
     wider (Says 3 line) _ (λ s t h. inr (first.0, first.1, h)) (says_one 3 line))
-    (limits_one d known counted (automaton_count d) (omega arith))
+    (limits_one d known (automaton_count d) (omega arith))
 
 checks_one : (name : List ℕ) (d : Description) (next : Next Known) → IsWellFormed d → ((known : Known) → IsSound d known → HasOne (next known)) → HasOne (Checks name d next)
 checks_one name d next formed one = ⊎_elim
@@ -144,16 +145,16 @@ forms_one name bytes next one = ⊎_elim
     (λ wrong. wider (Says 2 (fault_line name wrong.1 (form_word wrong.0 ∷ []))) _ (λ s t h. inr (wrong.0, wrong.1, wrong.2, h)) (says_one 2 (fault_line name wrong.1 (form_word wrong.0 ∷ []))))
     (every_text bytes)
 
-description_one : (name bytes : List ℕ) (next : (d : Description) → Next Known) → IsCountedText bytes → ((d : Description) (known : Known) → IsCheckable d → IsSound d known → AreCounted d known → HasOne (next d known)) → HasOne (HasDescription name bytes next)
-description_one name bytes next counted one =
+description_one : (name bytes : List ℕ) (next : (d : Description) → Next Known) → ((d : Description) (known : Known) → IsCheckable d → IsSound d known → HasOne (next d known)) → HasOne (HasDescription name bytes next)
+description_one name bytes next one =
     forms_one name bytes _ (λ read is.
     describes_one name read _ (λ d says formed.
-    checks_one name d (next d) formed (λ known sound. one d known (can_be_checked d formed) sound (counted read d known is says sound))))
+    checks_one name d (next d) formed (λ known sound. one d known (can_be_checked d formed) sound)))
 
-texts_one : (description described trace traced : List ℕ) → IsCountedText described → HasOne (Judges description described trace traced)
-texts_one description described trace traced counted =
-    description_one description described (ReplaysDescription description trace traced) counted (λ d known checkable sound all.
-    compiles_one description d known (ReplaysTrace trace traced d known) all (traces_one d known trace traced))
+texts_one : (description described trace traced : List ℕ) → HasOne (Judges description described trace traced)
+texts_one description described trace traced =
+    description_one description described (ReplaysDescription description trace traced) (λ d known checkable sound.
+    compiles_one description d known (ReplaysTrace trace traced d known) (λ kept. traces_one d known trace traced))
 
 -- Blocks and states.
 
@@ -209,11 +210,11 @@ schedules_one name d known block formed sound = ⊎_elim
     (λ (first : (i : Instruction) × IsFirstStuck d known block i). wider (Says 2 (stuck_line name first.0)) _ (λ s t h. inr (first.0, first.1, h)) (says_one 2 (stuck_line name first.0)))
     (starts_or_stuck d known block)
 
-scheduled_one : (description described block blocked : List ℕ) → IsCountedText described → HasOne (HasDescription description described (SchedulesByDescription description block blocked))
-scheduled_one description described block blocked counted =
-    description_one description described (SchedulesByDescription description block blocked) counted (λ d known formed sound all.
-    compiles_one description d known (SchedulesBlock block blocked d known) all
-    (forms_one block blocked _ (λ read reads.
+scheduled_one : (description described block blocked : List ℕ) → HasOne (HasDescription description described (SchedulesByDescription description block blocked))
+scheduled_one description described block blocked =
+    description_one description described (SchedulesByDescription description block blocked) (λ d known formed sound.
+    compiles_one description d known (SchedulesBlock block blocked d known) (λ kept.
+    forms_one block blocked _ (λ read reads.
     block_one block read _ (λ insns.
     classes_one block d insns (Schedules block d known insns) (schedules_one block d known insns formed sound)))))
 
@@ -253,61 +254,50 @@ walked_one tables tabled trace traced = by_read (tables_in tabled) refl
     by_read (Err fault) is = wider (Says 2 (fault_line tables fault.line (tables_word fault.kind ∷ []))) _ (λ s t h. inr (fault, is, h)) (says_one 2 (fault_line tables fault.line (tables_word fault.kind ∷ [])))
 
 -- a description without a fault that has tables is compiled, where what follows has an answer for them
-tabled_one : (description described : List ℕ) (next : Description → Known → ℕ → List ℕ → Type 0) → IsCountedText described → HasTablesText described
+tabled_one : (description described : List ℕ) (next : Description → Known → ℕ → List ℕ → Type 0) → TextHasTables described
     → ((d : Description) (known : Known) (text : List ℕ) → IsSound d known → IsTablesOf d known text → HasOne (next d known)) → HasOne (HasDescription description described (λ d known. Compiles description d known (next d known)))
-tabled_one description described next counted tabled one =
+tabled_one description described next tabled one =
     forms_one description described _ (λ read is.
     describes_one description read _ (λ d says formed.
-    checks_one description d (λ known. Compiles description d known (next d known)) formed (λ known sound. limited d known sound (counted read d known is says sound) (tabled read d known is says sound))))
-  where
-    limited : (d : Description) (known : Known) → IsSound d known → AreCounted d known → (AllKeepLimits d known → (text : List ℕ) × IsTablesOf d known text) → HasOne (Compiles description d known (next d known))
-    limited d known sound all some = ⊎_elim
-        (λ (kept : AllKeepLimits d known).
-        let found = some kept in
-        wider (next d known) _ (λ s t h. inl (kept, h)) (one d known found.0 sound found.1))
-        (λ (first : (a : ℕ) × IsFirstPastLimit d known a).
-        let line = states_line description (slice_index_or (automaton_names d) first.0 []) in
-        wider (Says 3 line) _ (λ s t h. inr (first.0, first.1, h)) (says_one 3 line))
-        (limits_one d known all (automaton_count d) (omega arith))
+    checks_one description d (λ known. Compiles description d known (next d known)) formed (λ known sound.
+    compiles_one description d known (next d known) (λ kept. let found = tabled read d known is says sound kept in one d known found.0 sound found.1))))
 
-compiled_one : (description described : List ℕ) → IsCountedText described → HasTablesText described → HasOne (HasDescription description described (CompilesDescription description))
-compiled_one description described counted tabled = tabled_one description described WritesTablesOf counted tabled (λ d known text sound is. (0, text, (refl, is)))
+compiled_one : (description described : List ℕ) → TextHasTables described → HasOne (HasDescription description described (CompilesDescription description))
+compiled_one description described tabled = tabled_one description described WritesTablesOf tabled (λ d known text sound is. (0, text, (refl, is)))
 
-drilled_one : (description described : List ℕ) (number turns : ℕ) → IsCountedText described → HasTablesText described → HasOne (HasDescription description described (DrillsDescription description number turns))
-drilled_one description described number turns counted tabled =
-    tabled_one description described (λ d known. Drills d known number turns) counted tabled (λ d known text sound is.
+drilled_one : (description described : List ℕ) (number turns : ℕ) → TextHasTables described → HasOne (HasDescription description described (DrillsDescription description number turns))
+drilled_one description described number turns tabled =
+    tabled_one description described (λ d known. Drills d known number turns) tabled (λ d known text sound is.
     let found = some_drill d known number turns text sound is in (0, found.0, (refl, found.1)))
 
-order_one : (held : Held) (order : Order) → IsCountedOrder held order → HasOne (AnswersOrder held order)
-order_one held (replay description trace) counted =
+order_one : (held : Held) (order : Order) → OrderHasTables held order → HasOne (AnswersOrder held order)
+order_one held (replay description trace) none =
     opens_one (held description) description description_limit (λ described. Opens held trace trace_limit (λ traced. Judges description described trace traced))
     (λ described is. opens_one (held trace) trace trace_limit (λ traced. Judges description described trace traced)
-    (λ traced also. texts_one description described trace traced (subst (λ (o : Option (List ℕ)). MatchOption o ⊤ IsCountedText) is counted)))
-order_one held (compile description) counted =
+    (λ traced also. texts_one description described trace traced))
+order_one held (compile description) tabled =
     opens_one (held description) description description_limit (λ described. HasDescription description described (CompilesDescription description))
-    (λ described is. let both = subst (λ (o : Option (List ℕ)). MatchOption o ⊤ (λ bytes. IsCountedText bytes × HasTablesText bytes)) is counted in compiled_one description described both.0 both.1)
-order_one held (walk tables trace) counted =
+    (λ described is. compiled_one description described (subst (λ (o : Option (List ℕ)). MatchOption o ⊤ TextHasTables) is tabled))
+order_one held (walk tables trace) none =
     opens_one (held tables) tables tables_limit (λ tabled. Opens held trace trace_limit (λ traced. HasTables tables tabled (WalksTrace trace traced)))
     (λ tabled is. opens_one (held trace) trace trace_limit (λ traced. HasTables tables tabled (WalksTrace trace traced))
     (λ traced also. walked_one tables tabled trace traced))
-order_one held (schedule description block) counted =
+order_one held (schedule description block) none =
     opens_one (held description) description description_limit (λ described. Opens held block block_limit (λ blocked. HasDescription description described (SchedulesByDescription description block blocked)))
     (λ described is. opens_one (held block) block block_limit (λ blocked. HasDescription description described (SchedulesByDescription description block blocked))
-    (λ blocked also. scheduled_one description described block blocked (subst (λ (o : Option (List ℕ)). MatchOption o ⊤ IsCountedText) is counted)))
-order_one held (eval block state) counted =
+    (λ blocked also. scheduled_one description described block blocked))
+order_one held (eval block state) none =
     opens_one (held block) block block_limit (λ blocked. Opens held state state_text_limit (λ stated. JudgesBlock block blocked state stated))
     (λ blocked is. opens_one (held state) state state_text_limit (λ stated. JudgesBlock block blocked state stated)
     (λ stated also. blocks_one block blocked state stated))
-order_one held (drill description number turns) counted =
+order_one held (drill description number turns) tabled =
     opens_one (held description) description description_limit (λ described. HasDescription description described (DrillsDescription description number turns))
-    (λ described is.
-    let both = subst (λ (o : Option (List ℕ)). MatchOption o ⊤ (λ bytes. IsCountedText bytes × HasTablesText bytes)) is counted in
-    drilled_one description described number turns both.0 both.1)
+    (λ described is. drilled_one description described number turns (subst (λ (o : Option (List ℕ)). MatchOption o ⊤ TextHasTables) is tabled))
 
 -- all words have an answer, whatever is held
-pub answer_one : (words : List (List ℕ)) (held : Held) → IsCounted words held → HasOne (Answer words held)
-answer_one words held counted = by_order (order_of words) counted
+pub answer_one : (words : List (List ℕ)) (held : Held) → WordsHaveTables words held → HasOne (Answer words held)
+answer_one words held tabled = by_order (order_of words) tabled
   where
-    by_order : (o : Option Order) → MatchOption o ⊤ (IsCountedOrder held) → HasOne (λ s t. MatchOption o (Says 4 usage_line s t) (λ order. AnswersOrder held order s t))
+    by_order : (o : Option Order) → MatchOption o ⊤ (OrderHasTables held) → HasOne (λ s t. MatchOption o (Says 4 usage_line s t) (λ order. AnswersOrder held order s t))
     by_order None all = says_one 4 usage_line
     by_order (Some order) all = order_one held order all

@@ -10,7 +10,7 @@ use Rattle.hz_sexp_model.specs.Forms as forms
 use Rattle.hz_base_model.specs.Limits.{description_limit, trace_limit}
 use Rattle.hz_check_model.specs.CheckedParts.{automaton_names}
 use Rattle.hz_pipeline_model.specs.Pipelines.{pipeline_with}
-use Rattle.hz_auto_model.specs.DescriptionLimits.{AllKeepLimits, IsFirstPastLimit, AreCounted}
+use Rattle.hz_auto_model.specs.DescriptionLimits.{AllKeepLimits, IsFirstPastLimit}
 use Rattle.hz_acceptance_model.specs.Events.{Event, issue, issues_of, cycles_of}
 use Rattle.hz_acceptance_model.specs.Replay.{Pipeline, Class, Accepted, FirstRefused}
 use Rattle.hz_check_model.specs.Sites.{Site}
@@ -137,25 +137,20 @@ abbrev pub Answer : List (List ℕ) → Held → ℕ → List ℕ → Type 0
 Answer words held status text =
     MatchOption (order_of words) (Says 4 usage_line status text) (λ order. AnswersOrder held order status text)
 
--- Of the description that a text says and that has no fault, each count of each automaton is within its limit or above
--- it.
-abbrev pub IsCountedText : List ℕ → Type 0
-IsCountedText bytes = (read : Trees) (d : Description) (known : Known) → forms.Reads bytes read → description_forms.Reads read d → IsSound d known → AreCounted d known
-
 -- The description that a text says and that has no fault has tables, where its automata are within their limits: what compiling
 -- it shows.
-abbrev pub HasTablesText : List ℕ → Type 0
-HasTablesText bytes = (read : Trees) (d : Description) (known : Known) → forms.Reads bytes read → description_forms.Reads read d → IsSound d known → AllKeepLimits d known → (text : List ℕ) × IsTablesOf d known text
+abbrev pub TextHasTables : List ℕ → Type 0
+TextHasTables bytes = (read : Trees) (d : Description) (known : Known) → forms.Reads bytes read → description_forms.Reads read d → IsSound d known → AllKeepLimits d known → (text : List ℕ) × IsTablesOf d known text
 
--- the same of the descriptions that an order names and that are held
-abbrev pub IsCountedOrder : Held → Order → Type 0
-IsCountedOrder held (compile description) = MatchOption (held description) ⊤ (λ bytes. IsCountedText bytes × HasTablesText bytes)
-IsCountedOrder held (replay description trace) = MatchOption (held description) ⊤ IsCountedText
-IsCountedOrder held (walk tables trace) = ⊤
-IsCountedOrder held (schedule description block) = MatchOption (held description) ⊤ IsCountedText
-IsCountedOrder held (eval block state) = ⊤
-IsCountedOrder held (drill description number turns) = MatchOption (held description) ⊤ (λ bytes. IsCountedText bytes × HasTablesText bytes)
+-- the same of the description of which an order asks for tables, if it is held; the other orders ask for none
+abbrev pub OrderHasTables : Held → Order → Type 0
+OrderHasTables held (compile description) = MatchOption (held description) ⊤ TextHasTables
+OrderHasTables held (replay description trace) = ⊤
+OrderHasTables held (walk tables trace) = ⊤
+OrderHasTables held (schedule description block) = ⊤
+OrderHasTables held (eval block state) = ⊤
+OrderHasTables held (drill description number turns) = MatchOption (held description) ⊤ TextHasTables
 
--- the same of those that words name
-abbrev pub IsCounted : List (List ℕ) → Held → Type 0
-IsCounted words held = MatchOption (order_of words) ⊤ (IsCountedOrder held)
+-- the same of what words ask for
+abbrev pub WordsHaveTables : List (List ℕ) → Held → Type 0
+WordsHaveTables words held = MatchOption (order_of words) ⊤ (OrderHasTables held)

@@ -5,3 +5,5 @@ pub mod OnwardLaws
 pub mod GridCounts
 pub mod StateCounts
 pub mod CountsTold
+pub mod ColumnLaws
+pub mod LimitsTold

@@ -17,7 +17,7 @@ use Rattle.hz_schedulable_model.proofs.ToldLaws.{IsTold, each_told}
 use Rattle.hz_left_model.proofs.OnceLaws.{HasEachOnce, each_once}
 
 -- what a test decides is told
-told_by : {P : Type 0} (b : Bool) → Decides b P → IsTold P
+pub told_by : {P : Type 0} (b : Bool) → Decides b P → IsTold P
 told_by true decides = inl (decides.0 refl)
 told_by false decides = inr (λ p. both_ways false refl (decides.1 p))
 

@@ -8,8 +8,11 @@ ghost use Rattle.hz_altern_model.specs.Automata.{UnitPlace};
 ghost use Rattle.hz_acceptance_model.specs.Events.{Event};
 ghost use Rattle.hz_acceptance_model.specs.Plays.{Tells};
 ghost use Rattle.hz_acceptance_model.specs.Replay.{Pipeline};
+ghost use Rattle.hz_mdread_model.specs.Descriptions.{Description};
+ghost use Rattle.hz_check_model.specs.Places.{Known};
 ghost use Rattle.hz_reach_model.specs.Reach.{IsLeft};
 ghost use Rattle.hz_reach_model.specs.Counts.{Count, CountIsAbove, CountIsAtMost};
+ghost use Rattle.hz_auto_model.specs.DescriptionLimits.{AreCounted};
 
 /// Where a test tells units apart, there is for every pipeline and every list of events, accepted or not, a list of all grids
 /// that the events leave, each once as a set of pairs.
@@ -31,4 +34,10 @@ pub fn every_count_is_told<U>()
 /// So each count of each automaton, whose units are numbers, is at most a number or above it.
 pub fn every_count_of_an_automaton_is_told()
     ensures told { (m : Pipeline ℕ) (columns : ℕ) (count : Count) (n : ℕ) → CountIsAtMost m columns count n ⊎ CountIsAbove m columns count n }
+{}
+
+/// So each automaton of every description keeps its limits of states, or has a count above one of them, whatever alternatives its
+/// names have.
+pub fn limits_are_kept_or_passed()
+    ensures told { (d : Description) (known : Known) → AreCounted d known }
 {}
