@@ -82,7 +82,7 @@ type Row = (
     Result<(usize, usize, usize), StateFault>,
 );
 
-const ROWS: [Row; 18] = [
+const ROWS: [Row; 19] = [
     (
         false,
         LATE,
@@ -135,6 +135,7 @@ const ROWS: [Row; 18] = [
     (false, LATE, [3, 4, 4, 8], Err(StateFault::GridLimit)),
     (false, LATE, [4, 4, 4, 7], Err(StateFault::CellLimit)),
     (false, LATE, [4, 3, 4, 8], Err(StateFault::SetLimit)),
+    (false, LATE, [4, 4, 3, 8], Err(StateFault::MemberLimit)),
     (true, CHOICE, [4, 4, 5, 12], Ok((4, 4, 5))),
     (true, CHOICE, [3, 4, 5, 12], Err(StateFault::GridLimit)),
     (true, CHOICE, [4, 3, 5, 12], Err(StateFault::SetLimit)),

@@ -2,7 +2,7 @@
 
 ghost use Rattle.std.specs.Prelude.{◌<◌, ◌^◌, length};
 
-use crate::{Block, State, eval, read_block, read_state};
+use crate::{Block, RtlFault, State, eval, read_block, read_state};
 use hz_sexp::{Form, read_forms};
 use std::alloc::{AllocError, Global};
 use std::process::Abort;
@@ -373,7 +373,10 @@ const WRONG_STATES: [(&str, &str, &str); 16] = [
 
 #[test]
 fn wrong_states_are_told(rt: HostRuntime) -> Result<(), Fail> {
-    leaves(&rt, &WRONG_STATES)
+    leaves(&rt, &WRONG_STATES)?;
+    let memory = RtlFault::NoMemory.to_string(rt.alloc())?;
+    assert_eq!(rt; memory.as_str(), "out of memory");
+    Ok(())
 }
 
 /// A block of so many instructions, and something behind them.
