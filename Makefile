@@ -6,7 +6,7 @@ program = $(DESTDIR)$(PREFIX)/bin
 page = $(DESTDIR)$(PREFIX)/share/man/man1
 SOURCES := crates.txt $(shell find crates -path '*/out' -prune -o \( -name '*.rt' -o -name '*.antt' \) -print)
 
-.PHONY: all try test examples check-walk check-gcc bench install uninstall clean
+.PHONY: all try test examples check-walk check-memory check-gcc bench install uninstall clean
 
 all: bin/hz
 
@@ -40,6 +40,10 @@ examples: bin/hz
 # compile and then walk, beside replay: on all examples, and on descriptions and traces that a seed makes
 check-walk: bin/hz
 	@python3 tools/check_walk.py bin/hz
+
+# memory refused to a few commands, one request at a time: each run tells it, or answers as ever
+check-memory: bin/hz
+	@python3 tools/check_memory.py bin/hz
 
 # each pipeline of GCC's back ends; GCC_SOURCE is what Debian's package gcc-12-source installs, or a folder
 check-gcc: bin/hz

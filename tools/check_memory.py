@@ -1,0 +1,168 @@
+#!/usr/bin/env python3
+"""Refuses memory to hz, one request at a time, from the first to the last, on a few commands. Each run has to end with status 5
+and the line `memory`, with status 5 and nothing while the words are still got, or with the command's own status and text."""
+import argparse
+import os
+import subprocess
+import sys
+import tempfile
+
+SUPERSCALAR = """\
+(define_attr "type" "int,mult,div,float" (const_string "int"))
+(define_cpu_unit "i0_pipeline, i1_pipeline, f_pipeline")
+(define_cpu_unit "port0, port1")
+(define_cpu_unit "div")
+(define_insn_reservation "simple" 2 (eq_attr "type" "int")
+  "(i0_pipeline | i1_pipeline), (port0 | port1)")
+(define_insn_reservation "mult" 4 (eq_attr "type" "mult")
+  "i1_pipeline, nothing*2, (port0 | port1)")
+(define_insn_reservation "div" 9 (eq_attr "type" "div")
+  "i1_pipeline, div*7, div + (port0 | port1)")
+(define_insn_reservation "float" 3 (eq_attr "type" "float")
+  "f_pipeline, nothing, (port0 | port1)")
+(define_bypass 4 "float" "simple,mult,div")
+"""
+
+PORTS = """\
+(define_cpu_unit "a,b")
+(define_insn_reservation "x" 1 (const_int 1) "a|b")
+(define_insn_reservation "y" 1 (const_int 1) "a")
+"""
+
+BLOCK = """\
+(insn 1 (set (reg 3) (mult (reg 1) (reg 2))) (set_attr "type" "mult"))
+(insn 2 (set (reg 4) (plus (reg 3) (const_int 1))))
+(insn 3 (set (reg 5) (plus (reg 1) (const_int 1))))
+"""
+
+EXCHANGE = """\
+(insn 1 (parallel [(set (reg 1) (reg 2)) (set (reg 2) (reg 1))]))
+(insn 2 (set (reg 3) (udiv (reg 1) (reg 9))))
+(insn 9 (clobber (reg 4)))
+(insn 10 (set (mem (const_int 8)) (reg 1)) (set_attr "type" "store"))
+"""
+
+# what is shown, the command, the texts of its two files, the status and the text
+ROWS = (
+    (
+        "a refused port",
+        "replay",
+        (SUPERSCALAR, "issue float\nadvance 1\nissue simple\nissue simple\n"),
+        1,
+        "refused line 4 simple\n",
+    ),
+    (
+        "either slot under ndfa",
+        "replay",
+        (PORTS + '(automata_option "ndfa")\n', "issue x\nissue y\n"),
+        0,
+        "accepted 2 issues 0 cycles\n",
+    ),
+    (
+        "the schedule of a small block",
+        "schedule",
+        (SUPERSCALAR, BLOCK),
+        0,
+        "0 1 mult\n0 3 simple\n4 2 simple\nscheduled 3 insns 4 cycles\n",
+    ),
+    (
+        "the tables of two ports",
+        "compile",
+        (PORTS,),
+        0,
+        "hazard-tables 1\ntreatment first\nclasses 2\nclass x\nclass y\nautomata 1\nautomaton - 2 3\nmap 0 1\n"
+        "row 1 1 0\nrow 2 - 0\nrow - - 0\nend\n",
+    ),
+    (
+        "an exchange of registers",
+        "eval",
+        (EXCHANGE, "(reg 1 5) (reg 2 7)"),
+        0,
+        "(reg 1 7)\n(reg 2 5)\n(reg 3 18446744073709551615)\n(reg 4 9)\n(mem 8 7)\n",
+    ),
+)
+
+MEMORY = (5, b"memory\n", b"")
+NO_WORDS = (5, b"", b"")
+
+
+class Refuser:
+    """Runs hz with one request for memory refused."""
+
+    def __init__(self, hz, library, folder):
+        self.hz = hz
+        self.library = library
+        self.report = os.path.join(folder, "report")
+        self.folder = folder
+
+    def run(self, words, number):
+        """How hz ends where the request of this number is refused, how many it made, and whether one was refused."""
+        if os.path.exists(self.report):
+            os.remove(self.report)
+        given = {"LD_PRELOAD": self.library, "REFUSE_REQUEST": str(number), "REFUSE_REPORT": self.report}
+        done = subprocess.run(
+            [self.hz, *words], cwd=self.folder, env={**os.environ, **given}, capture_output=True, timeout=60, check=False
+        )
+        ended = (done.returncode, done.stdout, done.stderr)
+        if not os.path.exists(self.report):
+            return ended, 0, False
+        with open(self.report, encoding="ascii") as text:
+            made, refused = text.read().split()
+        return ended, int(made), refused == "1"
+
+
+def files_of(folder, texts):
+    """Writes the files of a row, and gives their names."""
+    names = []
+    for place, text in enumerate(texts):
+        name = f"file{place}"
+        with open(os.path.join(folder, name), "w", encoding="ascii") as file:
+            file.write(text)
+        names.append(name)
+    return names
+
+
+def check(refuser, row):
+    """Whether each run of a row ends as it may; says how many requests were refused, and each run that ends otherwise."""
+    shown, command, texts, status, text = row
+    words = [command, *files_of(refuser.folder, texts)]
+    own = (status, text.encode(), b"")
+    ended, requests, refused = refuser.run(words, 0)
+    if ended != own or requests == 0 or refused:
+        print(f"{shown}: {requests} requests, none to be refused: {ended}, wanted {own}")
+        return False
+    counts = {NO_WORDS: 0, MEMORY: 0, own: 0}
+    good = True
+    for number in range(1, requests + 1):
+        ended, _, refused = refuser.run(words, number)
+        # once the words are got, want of memory is told
+        late = ended == NO_WORDS and number > counts[NO_WORDS] + 1
+        if not refused or late or ended not in counts:
+            print(f"{shown}: request {number} of {requests} refused: {refused}, {ended}")
+            good = False
+            continue
+        counts[ended] += 1
+    print(
+        f"{shown}: {requests} requests, each refused in a run: {counts[MEMORY]} times 'memory', "
+        f"{counts[NO_WORDS]} times no words, {counts[own]} times its own answer"
+    )
+    return good
+
+
+def main():
+    """Compiles what refuses, and checks all rows."""
+    parser = argparse.ArgumentParser(description=__doc__)
+    parser.add_argument("hz", help="the program")
+    given = parser.parse_args()
+    source = os.path.join(os.path.dirname(os.path.abspath(__file__)), "refuse_memory.c")
+    with tempfile.TemporaryDirectory() as folder:
+        library = os.path.join(folder, "refuse_memory.so")
+        subprocess.run(["cc", "-O2", "-shared", "-fPIC", "-o", library, source], check=True)
+        refuser = Refuser(os.path.abspath(given.hz), library, folder)
+        # all rows are shown, also behind one that is wrong
+        good = [check(refuser, row) for row in ROWS]
+    return 0 if all(good) else 1
+
+
+if __name__ == "__main__":
+    sys.exit(main())
