@@ -4,19 +4,37 @@ PREFIX ?= /usr/local
 GCC_SOURCE ?= /usr/src/gcc-12/gcc-12*.tar.xz
 program = $(DESTDIR)$(PREFIX)/bin
 page = $(DESTDIR)$(PREFIX)/share/man/man1
-SOURCES := crates.txt $(shell find crates -path '*/out' -prune -o \( -name '*.rt' -o -name '*.antt' \) -print)
+crates := $(shell sed -n 's/^\(hz[a-z_]*\):.*/\1/p' crates.txt)
+# as many crates at once as there are processors, and 7 GB of memory for each
+jobs := $(shell awk -v most="$$(nproc)" '/^MemTotal/ { n = int($$2 / 7000000); if (n > most) n = most; print n < 1 ? 1 : n }' /proc/meminfo)
+MAKEFLAGS += --jobs=$(jobs)
 
 .PHONY: all try test examples check-walk check-memory check-gcc bench install uninstall clean
 
 all: bin/hz
 
-bin/hz: $(SOURCES)
-	@echo "hz: proving and building; bin/make.log has what the prover says"
-	@mkdir -p bin
-	@{ cd crates/hz && rt run -- replay ../../examples/divider/machine.md ../../examples/divider/spaced.trace 2>&1; echo "status $$?"; } \
-		| tee bin/make.log | sed -n 's/^crate \(hz[a-z_]*\): .*/hz: \1/p'
-	@grep -q '^status 0$$' bin/make.log || { tail -n 20 bin/make.log; exit 1; }
-	@grep '^accepted' bin/make.log
+# sources CRATE: its files, and what it stands on
+sources = crates.txt $(shell find crates/$(1) -path '*/out' -prune -o \( -name '*.rt' -o -name '*.antt' \) -print)
+# needs CRATE: the crates of the repository that it stands on
+needs = $(filter $(crates),$(shell sed -n 's/^$(1): *//p' crates.txt))
+
+bin/built:
+	@mkdir -p bin/built
+	@echo "hz: proving and building, at most $(jobs) crates at once; bin/built has what the prover says of each"
+
+# each crate is proved and built behind those that it stands on; bin/built/CRATE.log has what the prover says
+define crate
+bin/built/$(1): $(call sources,$(1)) $(addprefix bin/built/,$(call needs,$(1))) | bin/built
+	@cd crates/$(1) && rt lib > ../../bin/built/$(1).log 2>&1 || { tail -n 20 ../../bin/built/$(1).log; exit 1; }
+	@touch $$@
+	@echo "hz: $(1)"
+endef
+$(foreach each,$(filter-out hz hz_rows hz_sched_rows,$(crates)),$(eval $(call crate,$(each))))
+
+bin/hz: $(call sources,hz) $(addprefix bin/built/,$(call needs,hz))
+	@{ cd crates/hz && rt run -- replay ../../examples/divider/machine.md ../../examples/divider/spaced.trace 2>&1; echo "status $$?"; } > bin/built/hz.log
+	@grep -q '^status 0$$' bin/built/hz.log || { tail -n 20 bin/built/hz.log; exit 1; }
+	@grep '^accepted' bin/built/hz.log
 	@cp crates/hz/out/hz bin/hz
 	@echo "hz: built bin/hz"
 
