@@ -10,6 +10,7 @@ pub mod MergeLemmas
 pub mod ListLemmas
 pub mod Weights
 pub mod ChoiceWeights
+pub mod SequenceWeights
 pub mod ListedLemmas
 pub mod KnownLemmas
 pub mod HalfLemmas

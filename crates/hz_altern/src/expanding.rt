@@ -19,7 +19,7 @@ use crate::fault::AlternFault;
 use crate::joining::{Joining, joined};
 use crate::known::Known;
 use crate::leaves::{gather, pairs};
-use crate::listing::Listing;
+use crate::listing::{Listing, SIZE_LIMIT};
 use crate::mark::Mark;
 use crate::measure::{ALTERNATIVE_LIMIT, CYCLE_LIMIT};
 use hz_regexp::Expr;
@@ -33,7 +33,7 @@ fn copied(alloc: Global, alts: &[Alt]) -> Result<Listing, AlternFault>
 {
     let mut listing = Listing::new(alloc);
     for alt in alts {
-        listing.push(alt.copy(alloc)?)?;
+        listing.push_copy(alloc, alt)?;
     }
     Ok(listing)
 }
@@ -89,7 +89,7 @@ fn choices(
     Ok(listing)
 }
 
-/// The alternatives of two lists one after the other.
+/// The alternatives of two lists one after the other. Their size is asked before one is made.
 fn in_sequence(alloc: Global, first: &Listing, second: &Listing) -> Result<Listing, AlternFault>
     requires first { All IsListed first.now }
     requires second { All IsListed second.now }
@@ -97,6 +97,9 @@ fn in_sequence(alloc: Global, first: &Listing, second: &Listing) -> Result<Listi
     ensures ok { IfOk result (λ listing. listing ≡ each_choice (joined_by Joining.InSequence) first.now second.now) }
     ensures err { IfErr result (Refuses (each_choice (joined_by Joining.InSequence) first.now second.now)) }
 {
+    if first.size_before(second) > SIZE_LIMIT {
+        return Err(AlternFault::SizeLimit);
+    }
     choices(
         alloc,
         Joining::InSequence,

@@ -31,9 +31,12 @@ impl Model for Listing {
 }
 
 impl Listing {
-    ghost use Rattle.std.specs.Prelude.{◌≡◌, ◌≤◌, ◌++◌, ◌∷◌, [], List, IfOk, IfErr, OnOk};
+    ghost use Rattle.std.specs.Prelude.{◌≡◌, ◌≤◌, ◌++◌, ◌∷◌, [], All, List, IfOk, IfErr, OnOk};
     ghost use Rattle.hz_altern.specs.Shapes.{alternatives, alternative_of};
     ghost use Rattle.hz_altern.specs.Answers.{Refuses, total_weight};
+    ghost use Rattle.hz_altern.specs.Joinings.{IsListed, joined_by};
+    ghost use Rattle.hz_altern.specs.declared.joining.Joining.TheVariants.{InSequence};
+    ghost use Rattle.hz_altern_model.specs.Alternatives.{each_choice};
     ghost use Rattle.hz_base_model.specs.Limits.{size_limit};
 
     /// No alternative.
@@ -58,6 +61,29 @@ impl Listing {
         self.alts.push(alt)?;
         self.size = size;
         Ok(())
+    }
+
+    /// Adds an equal alternative at the end, where all together are not too large. That is asked before memory is.
+    pub fn push_copy(&mut self, alloc: Global, alt: &Alt) -> Result<(), AlternFault>
+        ensures ok { OnOk result (self.new ≡ self.old ++ alternative_of alt.now ∷ []) }
+        ensures err { IfErr result (Refuses (self.old ++ alternative_of alt.now ∷ [])) }
+    {
+        let size = self.size + alt.length as usize + alt.pairs.len();
+        if size > SIZE_LIMIT {
+            return Err(AlternFault::SizeLimit);
+        }
+        self.alts.push(alt.copy(alloc)?)?;
+        self.size = size;
+        Ok(())
+    }
+
+    /// How large the alternatives are together, each followed by each of others.
+    pub fn size_before(&self, others: &Listing) -> usize
+        requires each { All IsListed self.now }
+        requires others { All IsListed others.now }
+        ensures { result ≡ total_weight (each_choice (joined_by InSequence) self.now others.now) }
+    {
+        self.size * others.alts.len() + others.size * self.alts.len()
     }
 
     /// The alternatives, and behind them others, where all together are not too large.

@@ -218,6 +218,11 @@ fn expressions_have_these_alternatives(rt: HostRuntime) -> Result<(), Fail> {
 const ONE_ABOVE: &str =
     "((a|b)*11,a*245)|((a|b)*10,a*246)|((a|b)*9,a*247)|((a|b)*8,a*248)|((a|b)*7,a*249)|((a|b)*6,a*250)|((a|b)*5,a*251)|((a|b)*4,a*252)|((a|b)*3,a*253)|((a|b)*2,a*254)|((a|b)*1,a*255)|a*256|(a*255,a+b)";
 
+// 4,096 alternatives of 255 cycles, each with 255 pairs but for the last, which has one more, and each with one cycle and
+// one pair behind it: a sequence one above the limit of the size, where `(a|b)*12,a*244` is at it.
+const SEQUENCE_ONE_ABOVE: &str =
+    "(((a|b)*11,a*244)|((a|b)*10,a*245)|((a|b)*9,a*246)|((a|b)*8,a*247)|((a|b)*7,a*248)|((a|b)*6,a*249)|((a|b)*5,a*250)|((a|b)*4,a*251)|((a|b)*3,a*252)|((a|b)*2,a*253)|((a|b)*1,a*254)|a*255|(a*254,a+b)),a";
+
 #[test]
 fn limits_are_exact(rt: HostRuntime) -> Result<(), Fail> {
     let alloc = rt.alloc();
@@ -240,12 +245,36 @@ fn limits_are_exact(rt: HostRuntime) -> Result<(), Fail> {
         ("(a|b)*12,a*245", 4096, 257, Some(AlternFault::CyclesLimit)),
         ("(a|b)*12,a*244", 4096, 256, None),
         (ONE_ABOVE, 4096, 256, Some(AlternFault::SizeLimit)),
+        (SEQUENCE_ONE_ABOVE, 4096, 256, Some(AlternFault::SizeLimit)),
+        (
+            "(a|a)*12,(a+b)*244",
+            4096,
+            256,
+            Some(AlternFault::SizeLimit),
+        ),
     ] {
         assert!(rt; text.len() < 1000);
         let expr = read(&rt, alloc, text)?;
         assert!(rt; holds(&extents, &expr));
         assert!(rt; extent(&expr, &extents) == Extent { count, longest });
         assert!(rt; expanded(&rt, alloc, &known, text)?.err() == fault);
+    }
+    Ok(())
+}
+
+#[test]
+fn faults_are_told(rt: HostRuntime) -> Result<(), Fail> {
+    let alloc = rt.alloc();
+    for (fault, want) in [
+        (AlternFault::AlternativesLimit, "too many alternatives"),
+        (
+            AlternFault::CyclesLimit,
+            "an alternative of too many cycles",
+        ),
+        (AlternFault::SizeLimit, "too many cycles and pairs"),
+        (AlternFault::NoMemory, "out of memory"),
+    ] {
+        assert_eq!(rt; fault.to_string(alloc)?.as_bytes(), want.as_bytes());
     }
     Ok(())
 }

@@ -3,7 +3,7 @@ pub mod Twice
 pub mod PastUnits
 pub mod Bypasses
 pub mod Steps
-use Rattle.std.specs.Prelude.{◌≡◌, ℕ, List, ⊤}
+use Rattle.std.specs.Prelude.{◌≡◌, ℕ, List, ⊤, Result, IsErr, MatchResult}
 use Rattle.hz_check.specs.declared.fault.LimitName.{LimitName}
 use Rattle.hz_check.specs.declared.fault.LimitName.TheVariants.{Automata, Units, Classes, Alternatives, Cycles, Size}
 use Rattle.hz_check.specs.declared.fault.CheckFault.{CheckFault}
@@ -11,6 +11,11 @@ use Rattle.hz_check.specs.declared.fault.CheckFault.TheVariants.{TwiceDefined, R
 use Rattle.hz_check.specs.declared.faults.told.Wrong.{Wrong}
 use Rattle.hz_check.specs.declared.faults.told.Wrong.TheVariants as wrong
 use Rattle.hz_check.specs.declared.faults.told.Told.{Told}
+use Rattle.hz_expand.specs.declared.fault.Unexpanded.{Unexpanded}
+use Rattle.hz_expand.specs.declared.fault.Unexpanded.TheVariants as unexpanded
+use Rattle.hz_unfold.specs.declared.fault.OrderFault.{OrderFault}
+use Rattle.hz_unfold.specs.declared.fault.OrderFault.TheVariants as order
+use Rattle.hz_unfold.specs.declared.site.Site.{Site}
 use Rattle.hz_unfold.specs.Places.{site_of}
 use Rattle.hz_check_model.specs.CheckFaults as model
 use Rattle.hz_check_model.specs.FirstTold as first
@@ -59,6 +64,31 @@ wrong_of (wrong.Limit what) = model.limit (limit_of what)
 wrong_of wrong.AlternationOfTwoAutomata = model.alternation_of_two_automata
 wrong_of wrong.AlternationOfTwoLengths = model.alternation_of_two_lengths
 wrong_of wrong.BypassTwice = model.bypass_twice
+
+-- what is wrong, with a line and a name
+abbrev pub fault_named : Wrong → ℕ → List ℕ → CheckFault
+fault_named wrong.TwiceDefined line name = TwiceDefined line name
+fault_named wrong.ReservedName line name = ReservedName line name
+fault_named wrong.UnknownName line name = UnknownName line name
+fault_named wrong.UnknownAutomaton line name = UnknownAutomaton line name
+fault_named wrong.UnitNeedsAutomaton line name = UnitNeedsAutomaton line name
+fault_named wrong.CircularReservation line name = CircularReservation line name
+fault_named wrong.SelfExclusion line name = SelfExclusion line name
+fault_named wrong.SetAcrossAutomata line name = SetAcrossAutomata line name
+fault_named (wrong.Limit what) line name = Limit what line name
+fault_named wrong.AlternationOfTwoAutomata line name = AlternationOfTwoAutomata line name
+fault_named wrong.AlternationOfTwoLengths line name = AlternationOfTwoLengths line name
+fault_named wrong.BypassTwice line name = BypassTwice line name
+
+-- the site where the sizes pass their limit; want of memory stays
+abbrev pub IsSiteOfSize : {E : Type 0} → Unexpanded → Result Site E → Type 0
+IsSiteOfSize (unexpanded.Size site) found = MatchResult found (λ at. at ≡ site) (λ _. ⊥)
+IsSiteOfSize unexpanded.NoMemory found = IsErr found
+
+-- the place of the reservation that reaches itself; want of memory stays
+abbrev pub IsPlaceOfCircle : {E : Type 0} → OrderFault → Result ℕ E → Type 0
+IsPlaceOfCircle (order.Circular place) found = MatchResult found (λ at. at ≡ place) (λ _. ⊥)
+IsPlaceOfCircle order.NoMemory found = IsErr found
 
 -- what is wrong, and where
 abbrev pub told_of : Told → first.Told model.CheckFault

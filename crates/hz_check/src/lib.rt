@@ -11,3 +11,6 @@ mod parts;
 pub use checked::{Checked, CheckedAutomaton, CheckedBypass, CheckedClass};
 pub use checking::check;
 pub use fault::{CheckFault, LimitName};
+
+#[cfg(test)]
+mod tests;

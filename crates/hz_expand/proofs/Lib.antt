@@ -7,3 +7,4 @@ pub mod Counting
 pub mod Pasts
 pub mod Classes
 pub mod Sizes
+pub mod Made

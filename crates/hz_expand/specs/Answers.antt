@@ -1,8 +1,10 @@
 -- What is answered.
-use Rattle.std.specs.Prelude.{◌≡◌, ℕ, ◌+◌, ◌<◌, ◌≤◌, Bool, true, false, List, [], ◌∷◌, ◌++◌, map, All, Option, Some, None}
+use Rattle.std.specs.Prelude.{◌≡◌, ℕ, ◌+◌, ◌<◌, ◌≤◌, Bool, true, false, List, [], ◌∷◌, ◌++◌, map, All, Option, Some, None, Result, Ok, Err, IsErr}
 use Rattle.std.specs.declared.alloc.Global.{Global}
 use Rattle.std.specs.declared.vec.Vec.{Vec}
 use Rattle.hz_altern.specs.declared.alternative.Alt.{Alt}
+use Rattle.hz_altern.specs.declared.fault.AlternFault.{AlternFault}
+use Rattle.hz_altern.specs.declared.fault.AlternFault.TheVariants as altern
 use Rattle.hz_altern.specs.Shapes.{alternatives}
 use Rattle.hz_altern.specs.Tables.{alternatives_in, Adds}
 use Rattle.hz_expand.specs.declared.fault.Unexpanded.{Unexpanded}
@@ -55,6 +57,14 @@ pub record Expands (r : Reserving) (all : List (Alternative UnitPlace)) (old new
 abbrev pub IsTooLarge : Reserving → List (Alternative UnitPlace) → Expansion → Unexpanded → Type 0
 IsTooLarge r all old (Size site) = (site_of site ≡ r.site) × (size_limit < old.size + total_size all)
 IsTooLarge r all old NoMemory = Unit {0}
+
+-- alternatives where they were listed, and none where they pass a limit; want of memory stays
+abbrev pub IsMadeIfListed : {A E : Type 0} → Result A AlternFault → Result (Option A) E → Type 0
+IsMadeIfListed (Ok alts) made = made ≡ Ok (Some alts)
+IsMadeIfListed (Err altern.AlternativesLimit) made = made ≡ Ok None
+IsMadeIfListed (Err altern.CyclesLimit) made = made ≡ Ok None
+IsMadeIfListed (Err altern.SizeLimit) made = made ≡ Ok None
+IsMadeIfListed (Err altern.NoMemory) made = IsErr made
 
 -- the alternatives, each listed the one way, where they are not too large together
 abbrev pub Makes : List (Alternative UnitPlace) → Option (Vec Alt Global) → Type 0

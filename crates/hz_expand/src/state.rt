@@ -11,7 +11,7 @@ ghost use Rattle.hz_altern_model.specs.Expressions.{is_expression};
 ghost use Rattle.hz_base_model.specs.Limits.{alternative_limit, cycle_limit, size_limit};
 ghost use Rattle.hz_altern_model.specs.NamesIn.{all_names};
 ghost use Rattle.hz_regexp.specs.Shape.{expression};
-ghost use Rattle.hz_expand.specs.Answers.{Makes};
+ghost use Rattle.hz_expand.specs.Answers.{IsMadeIfListed, Makes};
 
 use crate::fault::Unexpanded;
 use crate::reserving::Reserving;
@@ -40,6 +40,19 @@ fn weight_of(alts: &[Alt]) -> usize
     weight
 }
 
+/// The alternatives where they were listed, and none where they pass a limit; want of memory stays what it is.
+fn made_if_listed(listed: Result<Vec<Alt>, AlternFault>) -> Result<Option<Vec<Alt>>, NoMemory>
+    ensures { IsMadeIfListed listed result }
+{
+    match listed {
+        Ok(alts) => Ok(Some(alts)),
+        Err(AlternFault::AlternativesLimit) => Ok(None),
+        Err(AlternFault::CyclesLimit) => Ok(None),
+        Err(AlternFault::SizeLimit) => Ok(None),
+        Err(AlternFault::NoMemory) => Err(NoMemory),
+    }
+}
+
 /// The alternatives of an expression that has few and short ones, if they are not too large together.
 fn expanded(alloc: Global, expr: &Expr, known: &Known) -> Result<Option<Vec<Alt>>, NoMemory>
     requires formed { IsTrue (is_expression (expression expr.now)) }
@@ -48,13 +61,7 @@ fn expanded(alloc: Global, expr: &Expr, known: &Known) -> Result<Option<Vec<Alt>
     requires short { greatest_length (alternatives_of (known_alternatives known.now) (expression expr.now)) ≤ cycle_limit }
     ensures { IfOk result (Makes (alternatives_of (known_alternatives known.now) (expression expr.now))) }
 {
-    match expand(alloc, expr, known) {
-        Ok(alts) => Ok(Some(alts)),
-        Err(AlternFault::SizeLimit) => Ok(None),
-        Err(AlternFault::NoMemory) => Err(NoMemory),
-        Err(AlternFault::AlternativesLimit) => unreachable!(),
-        Err(AlternFault::CyclesLimit) => unreachable!(),
-    }
+    made_if_listed(expand(alloc, expr, known))
 }
 
 impl Expansion {

@@ -1,7 +1,7 @@
 //! Values by hand: a file of six bytes, read four bytes at a time, and a sink of six bytes.
 ghost use Rattle.std.specs.Prelude.{◌≡◌, ◌^◌, ◌<◌, IfOk, IfSome};
 
-use super::{Failed, FileName, MemFiles, MemSink, Sink, SlurpFault, slurp};
+use super::{Failed, FileName, Files, MemFiles, MemSink, Sink, SlurpFault, slurp};
 use std::alloc::Global;
 use std::test::Fail;
 
@@ -58,6 +58,82 @@ fn other_answers_name_their_cause(rt: HostRuntime) -> Result<(), Fail> {
     }
     let missing = slurped(alloc, 9, "e", 6)?.expect(&rt, "a name");
     assert_eq!(rt; missing.err(), Some(SlurpFault::Failed));
+    Ok(())
+}
+
+/// A file of two bytes `a`, one at a time, which counts what it is asked for: behind a second opening, and behind its end,
+/// it reads `z`.
+#[derive(Drop)]
+struct Once {
+    openings: u32,
+    ends: u32,
+    reads: u32,
+}
+
+impl Files for Once {
+    ghost use Rattle.std.specs.Prelude.{None};
+
+    ghost held = { λ _. None };
+
+    ghost rest = { λ _. None };
+
+    ghost steady = { λ _. Unit {0} };
+
+    ghost faults = { λ _. 0 };
+
+    fn open(&mut self, name: &str) -> Result<(), Failed> {
+        let _name = name;
+        self.openings = self.openings.saturating_add(1);
+        Ok(())
+    }
+
+    fn read(&mut self, into: &mut [u8]) -> Result<usize, Failed> {
+        self.reads = self.reads.saturating_add(1);
+        if self.reads == 3 || self.reads > 5 {
+            self.ends = self.ends.saturating_add(1);
+            return Ok(0);
+        }
+        let byte = if self.openings == 1 && self.ends == 0 {
+            b'a'
+        } else {
+            b'z'
+        };
+        into[..1].copy_from_slice(&[byte]);
+        Ok(1)
+    }
+}
+
+#[test]
+fn a_file_is_opened_once_and_read_to_its_end(rt: HostRuntime) -> Result<(), Fail> {
+    let mut files = Once {
+        openings: 0,
+        ends: 0,
+        reads: 0,
+    };
+    let answer = slurp(rt.alloc(), &mut files, "d", 9);
+    let bytes = answer.expect(&rt, "the file's bytes");
+    assert_eq!(rt; bytes.as_slice(), b"aa".as_slice());
+    assert!(rt; files.openings == 1 && files.reads == 3 && files.ends == 1);
+    Ok(())
+}
+
+#[test]
+fn faults_are_told(rt: HostRuntime) -> Result<(), Fail> {
+    let alloc = rt.alloc();
+    assert_eq!(rt;
+        Failed.to_string(alloc)?.as_bytes(),
+        b"the file or sink failed".as_slice()
+    );
+    for (fault, want) in [
+        (SlurpFault::Failed, "the file could not be read"),
+        (
+            SlurpFault::Long { read: 6 },
+            "the file has more bytes than are allowed: 6 were read",
+        ),
+        (SlurpFault::NoMemory, "no memory for the file's bytes"),
+    ] {
+        assert_eq!(rt; fault.to_string(alloc)?.as_bytes(), want.as_bytes());
+    }
     Ok(())
 }
 

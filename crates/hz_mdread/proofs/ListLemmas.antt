@@ -1,5 +1,9 @@
 -- Lists of names and patterns: there is always a piece.
-use Rattle.std.proofs.Common.{◌≡◌, ℕ, ◌<◌, ◌≤◌, ◌==◌, Bool, true, false, cond, List, [], ◌∷◌, length, get_or, drop, map, Some, None, refl, ap, ◌∙◌}
+use Rattle.std.proofs.Common.{◌≡◌, ℕ, ◌<◌, ◌≤◌, ◌==◌, Bool, true, false, cond, List, [], ◌∷◌, length, get_or, drop, map, Option, Some, None, Result, Ok, Err, IfOk, refl, sym, ap, ◌∙◌, subst}
+use Rattle.std.specs.Prelude.{IsTrue, IsFalse, IsErrOf}
+use Rattle.std.specs.Option.{option_map}
+use Rattle.std.specs.declared.alloc.Global.{Global}
+use Rattle.std.specs.declared.vec.Vec.{Vec}
 use Rattle.std.specs.Borrow.{Bor}
 use Rattle.std.proofs.lemmas.List.{drop_more, drop_all}
 use Rattle.std.specs.List.{list_all, slice_split, onto_first}
@@ -8,6 +12,9 @@ use Rattle.hz_mdread_model.specs.DescriptionForms.{names_of, kept, with_option, 
 use Rattle.hz_mdread_model.specs.DescriptionShape.{are_names}
 use Rattle.hz_base_model.specs.Lines.{separated, trimmed}
 use Rattle.hz_base_model.specs.Names.{is_name}
+use Rattle.hz_regexp.specs.declared.lists.NamesFault.{NamesFault}
+use Rattle.hz_regexp.specs.declared.lists.NamesFault.TheVariants.{BadList, NoMemory}
+use Rattle.hz_mdread.specs.Faults.{IsListIfRead}
 
 -- a text has a first part, whatever splits it
 pub some_part : (p : ℕ → Bool) (text : List ℕ) → (first : List ℕ) × (others : List (List ℕ)) × (slice_split p text ≡ first ∷ others)
@@ -48,3 +55,12 @@ option_fails o pieces i d inside e = rw (drop_more pieces i d inside, e) refl
 -- all of them are options
 pub options_end : (o : Options) (pieces : List (Bor (List ℕ))) (i : ℕ) → length pieces ≤ i → with_options o (trimmed_all (drop i pieces)) ≡ Some o
 options_end o pieces i past = rw (drop_all i pieces past) refl
+
+-- what is answered of a text is its list of names, if it is one
+pub list_told : {E : Type 0} (text : List ℕ) (read : Result (Vec (List ℕ) Global) NamesFault) (list : Result (Option (Vec (List ℕ) Global)) E)
+    → IfOk read (λ names. names.items ≡ separated text) → IfOk read (λ names. IsTrue (list_all is_name (separated text))) → (IsErrOf read BadList → IsFalse (list_all is_name (separated text)))
+    → IsListIfRead read list → IfOk list (λ found. option_map (λ names. names.items) found ≡ names_of text)
+list_told text (Ok names) list items good bad is = subst (λ l. IfOk l (λ found. option_map (λ names. names.items) found ≡ names_of text)) (sym is) (list_good text names.items items good)
+list_told text (Err BadList) list items good bad is = subst (λ l. IfOk l (λ found. option_map (λ names. names.items) found ≡ names_of text)) (sym is) (rw (list_is text, bad refl) refl)
+list_told text (Err NoMemory) (Ok found) items good bad is = absurd (let e : false ≡ true = is in cc)
+list_told text (Err NoMemory) (Err e) items good bad is = tt

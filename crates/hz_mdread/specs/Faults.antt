@@ -1,11 +1,13 @@
 -- What a fault of the code says.
-use Rattle.std.specs.Prelude.{ℕ, ⊤}
+use Rattle.std.specs.Prelude.{◌≡◌, ℕ, ⊤, Option, Some, None, Result, Ok, Err, IsErr}
 use Rattle.hz_mdread.specs.declared.fault.MdFault.{MdFault}
 use Rattle.hz_mdread.specs.declared.fault.MdFault.TheVariants as code
 use Rattle.hz_mdread.specs.declared.fault.Wrong.{Wrong}
 use Rattle.hz_mdread.specs.declared.fault.Wrong.TheVariants as wrong
 use Rattle.hz_regexp.specs.declared.fault.ExprFault.{ExprFault}
 use Rattle.hz_regexp.specs.declared.fault.ExprFault.TheVariants.{Unexpected, Empty, RepeatZero, TooDeep, NumberTooLarge, NoMemory}
+use Rattle.hz_regexp.specs.declared.lists.NamesFault.{NamesFault}
+use Rattle.hz_regexp.specs.declared.lists.NamesFault.TheVariants as names
 use Rattle.hz_regexp_model.specs.ExpressionTexts.{ExpressionFault, unexpected, no_token, repeat_zero, too_deep, number_too_large}
 use Rattle.hz_mdread_model.specs.DescriptionForms.{DescriptionFault, unknown_form, bad_shape, bad_condition, unknown_option, latency_limit, unknown_guard, bad_expression}
 
@@ -39,6 +41,12 @@ TellsOf P wrong.LatencyLimit = P latency_limit
 TellsOf P (wrong.BadExpression fault) = TellsExpression (λ kind at. P (bad_expression kind at)) fault
 TellsOf P wrong.UnknownGuard = P unknown_guard
 TellsOf P wrong.NoMemory = ⊤
+
+-- names where they were read, and none where there was no list of names; want of memory stays
+abbrev pub IsListIfRead : {N E : Type 0} → Result N NamesFault → Result (Option N) E → Type 0
+IsListIfRead (Ok found) list = list ≡ Ok (Some found)
+IsListIfRead (Err names.BadList) list = list ≡ Ok None
+IsListIfRead (Err names.NoMemory) list = IsErr list
 
 -- an expression's fault as a form's; want of memory stays
 abbrev pub bad_expression_of : ExprFault → Wrong

@@ -3,7 +3,7 @@
 ghost use Rattle.std.specs.Prelude.{◌≡◌, ◌≤◌, ◌^◌, map, IfOk, IfErr, IsTrue, Ok, Err};
 ghost use Rattle.std.specs.Option.{option_map};
 ghost use Rattle.hz_mdread_model.specs.DescriptionForms as model;
-ghost use Rattle.hz_mdread.specs.Faults.{TellsOf};
+ghost use Rattle.hz_mdread.specs.Faults.{TellsOf, IsListIfRead};
 ghost use Rattle.hz_mdread.specs.Reading.{reading};
 ghost use Rattle.hz_mdread.specs.Shape.{set_kind};
 ghost use Rattle.hz_regexp.specs.Shape.{expression};
@@ -53,15 +53,22 @@ pub fn name_in(alloc: Global, form: &Form) -> Result<Option<Name>, NoMemory>
     }
 }
 
-/// The names of a list.
-pub fn names_of(alloc: Global, bytes: &[u8]) -> Result<Option<Vec<Name>>, NoMemory>
-    ensures { IfOk result (λ found. option_map (λ names. names.items) found ≡ model.names_of bytes.now) }
+/// The names where they were read, and none where the text is no list of names; want of memory stays what it is.
+fn list_if_read(read: Result<Vec<Name>, NamesFault>) -> Result<Option<Vec<Name>>, NoMemory>
+    ensures { IsListIfRead read result }
 {
-    match parse_names(alloc, bytes) {
+    match read {
         Ok(names) => Ok(Some(names)),
         Err(NamesFault::BadList) => Ok(None),
         Err(NamesFault::NoMemory) => Err(NoMemory),
     }
+}
+
+/// The names of a list.
+pub fn names_of(alloc: Global, bytes: &[u8]) -> Result<Option<Vec<Name>>, NoMemory>
+    ensures { IfOk result (λ found. option_map (λ names. names.items) found ≡ model.names_of bytes.now) }
+{
+    list_if_read(parse_names(alloc, bytes))
 }
 
 /// The names of a string that is a list.

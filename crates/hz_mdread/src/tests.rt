@@ -348,6 +348,13 @@ fn the_first_wrong_operand_is_told(rt: HostRuntime) -> Result<(), Fail> {
     Ok(reads(&rt, &FAULTS)?)
 }
 
+#[test]
+fn want_of_memory_is_told(rt: HostRuntime) -> Result<(), Fail> {
+    let told = MdFault::NoMemory.to_string(rt.alloc())?;
+    assert_eq!(rt; told.as_bytes(), b"out of memory".as_slice());
+    Ok(())
+}
+
 /// A pair of names.
 fn entry(rt: &(impl Abort + AllocGlobal), name: &[u8], value: &[u8]) -> Result<(Name, Name), Fail> {
     let alloc = rt.alloc();

@@ -195,3 +195,31 @@ fn names_are_ordered_by_their_bytes(rt: HostRuntime) -> Result<(), Fail> {
     }
     Ok(())
 }
+
+#[test]
+fn faults_are_told(rt: HostRuntime) -> Result<(), Fail> {
+    let alloc = rt.alloc();
+    for (fault, want) in [
+        (
+            ExprFault::Unexpected { at: 3 },
+            "byte 3: this continues no expression",
+        ),
+        (ExprFault::Empty { at: 0 }, "byte 0: no expression"),
+        (ExprFault::RepeatZero { at: 8 }, "byte 8: repeated 0 times"),
+        (ExprFault::TooDeep { at: 64 }, "byte 64: nested too deep"),
+        (
+            ExprFault::NumberTooLarge { at: 2 },
+            "byte 2: the number is too large",
+        ),
+        (ExprFault::NoMemory, "out of memory"),
+    ] {
+        assert_eq!(rt; fault.to_string(alloc)?.as_bytes(), want.as_bytes());
+    }
+    for (fault, want) in [
+        (NamesFault::BadList, "not a list of names"),
+        (NamesFault::NoMemory, "out of memory"),
+    ] {
+        assert_eq!(rt; fault.to_string(alloc)?.as_bytes(), want.as_bytes());
+    }
+    Ok(())
+}

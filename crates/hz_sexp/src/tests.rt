@@ -2,7 +2,7 @@
 
 ghost use Rattle.std.specs.Prelude.{◌<◌, ◌^◌, length};
 
-use crate::{Form, Node, read_forms};
+use crate::{Form, Node, SexpFault, read_forms};
 use std::alloc::{AllocError, Global};
 use std::process::Abort;
 use std::test::Fail;
@@ -237,7 +237,30 @@ fn depth(rt: HostRuntime) -> Result<(), Fail> {
     for _ in 0..31 {
         text.extend_from_slice(b"])")?;
     }
+    let mut whole = text.clone()?;
+    whole.extend_from_slice(b"])")?;
+    reads(&rt, &whole, &nested_forms(&rt)?)?;
     text.extend_from_slice(b"] a\n[)")?;
     reads(&rt, &text, b"line 2: a closing bracket that closes nothing")?;
+    Ok(())
+}
+
+/// What 64 brackets within one another hold, of both kinds in turn.
+fn nested_forms(rt: &impl AllocGlobal) -> Result<Vec<u8>, AllocError> {
+    let mut shown = Vec::new(rt.alloc());
+    for _ in 0..32 {
+        shown.extend_from_slice(b" 1( 1[")?;
+    }
+    for _ in 0..32 {
+        shown.extend_from_slice(b"])")?;
+    }
+    Ok(shown)
+}
+
+/// Want of memory has no line.
+#[test]
+fn want_of_memory_is_told(rt: HostRuntime) -> Result<(), Fail> {
+    let told = SexpFault::NoMemory.to_string(rt.alloc())?;
+    assert_eq!(rt; told.as_bytes(), b"out of memory".as_slice());
     Ok(())
 }

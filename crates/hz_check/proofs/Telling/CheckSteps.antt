@@ -1,5 +1,5 @@
 -- From what a step finds to the fault that is told.
-use Rattle.std.proofs.Common.{◌≡◌, ℕ, ◌≤◌, List, [], ◌∷◌, length, drop, get_or, Option, Some, None, refl, sym, ap, ◌∙◌, subst, arith}
+use Rattle.std.proofs.Common.{◌≡◌, ℕ, ◌≤◌, true, false, List, [], ◌∷◌, length, drop, get_or, Option, Some, None, Ok, refl, sym, ap, ◌∙◌, subst, arith}
 use Rattle.std.specs.Option.{option_map}
 use Rattle.std.specs.Prelude.{IsSomeAnd, slice_get}
 use Rattle.std.proofs.lemmas.List.{length-map, length-drop}
@@ -7,7 +7,13 @@ use Rattle.std.proofs.lemmas.Option.{slice_get-map, get_or_from_slice_get}
 use Rattle.hz_check.specs.declared.fault.CheckFault.{CheckFault}
 use Rattle.hz_check.specs.declared.fault.CheckFault.TheVariants.{TwiceDefined, ReservedName, UnknownName, UnknownAutomaton, UnitNeedsAutomaton, CircularReservation, SelfExclusion, SetAcrossAutomata, Limit, AlternationOfTwoAutomata, AlternationOfTwoLengths, BypassTwice, NoMemory}
 use Rattle.hz_check.specs.Faults.Steps.{IsOrdered, AreWithin}
-use Rattle.hz_check.specs.Faults.{Tells, IsToldAt, IsToldHere, limit_of}
+use Rattle.hz_check.specs.Faults.{Tells, IsToldAt, IsToldHere, IsSiteOfSize, IsPlaceOfCircle, fault_named, limit_of, told_of, wrong_of}
+use Rattle.hz_check.specs.declared.faults.told.Told.{Told as Stored}
+use Rattle.hz_check.specs.declared.faults.told.Wrong.{Wrong}
+use Rattle.hz_check.specs.declared.faults.told.Wrong.TheVariants as wrong
+use Rattle.hz_expand.specs.Answers.{Refuses, IsPastSize}
+use Rattle.hz_expand.specs.declared.fault.Unexpanded.{Unexpanded}
+use Rattle.hz_expand.specs.declared.fault.Unexpanded.TheVariants as unexpanded
 use Rattle.hz_expand.proofs.Unwinding.{unfolded}
 use Rattle.hz_check_model.specs.CheckFaults as model
 use Rattle.hz_check_model.specs.CheckFaults.{faults_of_meanings, faults_of_names, CheckFaultAt, of_meanings, of_names, of_circle, IsFirst, IsCircular, limit, alternatives, cycles, size, past_limit, second_numbers, automaton_sites, class_sites}
@@ -22,7 +28,12 @@ use Rattle.hz_base_model.specs.Limits.{automaton_limit, class_limit}
 use Rattle.hz_check_model.specs.Places.{IsKnown, Known}
 use Rattle.hz_check_model.specs.Sites.{Site, earliest}
 use Rattle.hz_check_model.specs.SplitClasses.{mixed_classes, uneven_classes}
+use Rattle.hz_unfold.specs.Faults.{TellsCircle}
 use Rattle.hz_unfold.specs.Orders.{reservings}
+use Rattle.hz_unfold.specs.Places.{site_of}
+use Rattle.hz_unfold.specs.declared.fault.OrderFault.{OrderFault}
+use Rattle.hz_unfold.specs.declared.fault.OrderFault.TheVariants as order
+use Rattle.hz_unfold.specs.declared.site.Site.{Site as StoredSite}
 
 tells_with : (P Q : model.CheckFault → ℕ → List ℕ → Type 0) → ((f : model.CheckFault) (line : ℕ) (name : List ℕ) → P f line name → Q f line name) → (fault : CheckFault) → Tells P fault → Tells Q fault
 tells_with P Q to (TwiceDefined line name) tells = to model.twice_defined line name tells
@@ -49,6 +60,37 @@ carried d told at fault line name here =
 -- a fault that stands at a site is told there
 pub told_there : (d : Description) (told : Told model.CheckFault) → CheckFaultAt d told.fault told.site → (fault : CheckFault) → Tells (IsToldHere told) fault → Tells (IsToldAt d) fault
 told_there d told at fault = tells_with (IsToldHere told) (IsToldAt d) (λ f line name here. (told.site.form, carried d told at f line name here)) fault
+
+-- a fault with the line and the name of its site is told there
+pub named_there : (told : Stored) (line : ℕ) (name : List ℕ) → line ≡ told.site.line → name ≡ told.site.name.now → Tells (IsToldHere (told_of told)) (fault_named told.wrong line name)
+named_there told line name at called = go told.wrong refl
+  where
+    here : (w : Wrong) → w ≡ told.wrong → IsToldHere (told_of told) (wrong_of w) line name
+    here w is = record { same_fault = ap wrong_of is; same_line = at; same_name = called }
+
+    go : (w : Wrong) → w ≡ told.wrong → Tells (IsToldHere (told_of told)) (fault_named w line name)
+    go wrong.TwiceDefined is = here wrong.TwiceDefined is
+    go wrong.ReservedName is = here wrong.ReservedName is
+    go wrong.UnknownName is = here wrong.UnknownName is
+    go wrong.UnknownAutomaton is = here wrong.UnknownAutomaton is
+    go wrong.UnitNeedsAutomaton is = here wrong.UnitNeedsAutomaton is
+    go wrong.CircularReservation is = here wrong.CircularReservation is
+    go wrong.SelfExclusion is = here wrong.SelfExclusion is
+    go wrong.SetAcrossAutomata is = here wrong.SetAcrossAutomata is
+    go (wrong.Limit what) is = here (wrong.Limit what) is
+    go wrong.AlternationOfTwoAutomata is = here wrong.AlternationOfTwoAutomata is
+    go wrong.AlternationOfTwoLengths is = here wrong.AlternationOfTwoLengths is
+    go wrong.BypassTwice is = here wrong.BypassTwice is
+
+-- the site that was found is where the sizes pass their limit
+pub site_past_size : (E : Type 0) (d : Description) (order : List Reserving) (why : Unexpanded) (site : StoredSite) → Refuses d order why → IsSiteOfSize {E = E} why (Ok site) → IsPastSize d order (site_of site)
+site_past_size E d order (unexpanded.Size at) site refuses is = subst (λ s. IsPastSize d order (site_of s)) (sym is) refuses
+site_past_size E d order unexpanded.NoMemory site refuses is = absurd (let e : false ≡ true = is in cc)
+
+-- the place that was found is that of the first reservation that reaches itself
+pub place_circles : (E : Type 0) (d : Description) (why : OrderFault) (place : ℕ) → TellsCircle d why → IsPlaceOfCircle {E = E} why (Ok place) → TellsCircle d (order.Circular place)
+place_circles E d (order.Circular at) place tells is = subst (λ (p : ℕ). TellsCircle d (order.Circular p)) (sym is) tells
+place_circles E d order.NoMemory place tells is = absurd (let e : false ≡ true = is in cc)
 
 -- what is told first of some faults
 pub record TellsFirst (faults : List (Standing model.CheckFault)) (told : Option (Told model.CheckFault)) : Type 0 where

@@ -3,7 +3,7 @@
 ghost use Rattle.std.specs.Prelude.{IfOk, IfErr};
 ghost use Rattle.hz_mdread.specs.Shape.{description};
 ghost use Rattle.hz_check.specs.Faults.Steps.{IsOrdered, AreWithin};
-ghost use Rattle.hz_check.specs.Faults.{Tells, IsToldAt};
+ghost use Rattle.hz_check.specs.Faults.{Tells, IsToldAt, IsSiteOfSize};
 ghost use Rattle.hz_check.specs.Faults.PastUnits.{ArePlaces};
 ghost use Rattle.hz_expand.specs.Answers.{AreExpanded};
 ghost use Rattle.hz_expand.specs.Past.{AreWithinExtents};
@@ -11,10 +11,22 @@ ghost use Rattle.hz_unfold.specs.Orders.{reservings};
 
 use crate::fault::{CheckFault, LimitName};
 use crate::faults::told::{Wrong, refused};
+use crate::names::site::Site;
 use hz_altern::Alt;
 use hz_expand::{Unexpanded, UnitPlace, expand_all, past_extents};
 use hz_mdread::Description;
+use hz_regexp::NoMemory;
 use std::alloc::Global;
+
+/// The site where the sizes pass their limit; want of memory stays what it is.
+fn site_of_size<'a>(why: Unexpanded<'a>) -> Result<Site<'a>, NoMemory>
+    ensures { IsSiteOfSize why.entry result }
+{
+    match why {
+        Unexpanded::Size(site) => Ok(site),
+        Unexpanded::NoMemory => Err(NoMemory),
+    }
+}
 
 /// The alternatives of each class, or the first limit on them that is passed. The units have these places, and the
 /// numbers of the order are places of reservations, and behind them places of classes.
@@ -42,10 +54,10 @@ pub(crate) fn expanded(
     }
     match expand_all(alloc, desc, units, order) {
         Ok(lists) => Ok(lists),
-        Err(Unexpanded::Size(site)) => {
+        Err(why) => {
+            let site = site_of_size(why)?;
             let what = LimitName::Size;
             Err(refused(Wrong::Limit(what), site))
         }
-        Err(Unexpanded::NoMemory) => Err(CheckFault::NoMemory),
     }
 }

@@ -4,7 +4,7 @@ ghost use Rattle.std.specs.Prelude.{◌≡◌, IfOk, IfErr, None};
 ghost use Rattle.std.specs.List.{AllPairs};
 ghost use Rattle.hz_mdread.specs.Shape.{description};
 ghost use Rattle.hz_check.specs.Faults.Steps.{IsOrdered, AreWithin};
-ghost use Rattle.hz_check.specs.Faults.{Tells, IsToldAt};
+ghost use Rattle.hz_check.specs.Faults.{Tells, IsToldAt, IsPlaceOfCircle};
 ghost use Rattle.hz_check.specs.Faults.PastUnits.{ArePlaces};
 ghost use Rattle.hz_check_model.specs.CheckFaults.{faults_of_names};
 ghost use Rattle.hz_check_model.specs.FirstTold.{first_told};
@@ -21,6 +21,7 @@ use crate::names::Names;
 use crate::names::items::Defines;
 use hz_expand::UnitPlace;
 use hz_mdread::Description;
+use hz_regexp::NoMemory;
 use hz_unfold::{Order, OrderFault, counting_order};
 use std::alloc::Global;
 
@@ -38,6 +39,16 @@ pub(crate) fn named<'a>(alloc: Global, desc: &'a Description) -> Result<Names<'a
     }
 }
 
+/// The place of the reservation that reaches itself; want of memory stays what it is.
+fn place_of_circle(why: OrderFault) -> Result<usize, NoMemory>
+    ensures { IsPlaceOfCircle why result }
+{
+    match why {
+        OrderFault::Circular(place) => Ok(place),
+        OrderFault::NoMemory => Err(NoMemory),
+    }
+}
+
 /// The counting order, where no reservation reaches itself.
 pub(crate) fn ordered(alloc: Global, desc: &Description) -> Result<Order, CheckFault>
     requires named { first_told (faults_of_names (description desc.now)) ≡ None }
@@ -47,11 +58,11 @@ pub(crate) fn ordered(alloc: Global, desc: &Description) -> Result<Order, CheckF
 {
     match counting_order(alloc, desc) {
         Ok(order) => Ok(order),
-        Err(OrderFault::Circular(place)) => {
+        Err(why) => {
+            let place = place_of_circle(why)?;
             let reservation = &desc.reservations[place];
             Err(refused(Wrong::CircularReservation, reservation.site()))
         }
-        Err(OrderFault::NoMemory) => Err(CheckFault::NoMemory),
     }
 }
 

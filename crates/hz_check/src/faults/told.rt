@@ -2,12 +2,13 @@
 
 ghost use Rattle.std.specs.Prelude.{◌≡◌, None};
 ghost use Rattle.std.specs.Option.{option_map};
-ghost use Rattle.hz_check.specs.Faults.{Tells, IsToldHere, told_of, wrong_of};
+ghost use Rattle.hz_check.specs.Faults.{Tells, IsToldHere, fault_named, told_of, wrong_of};
 ghost use Rattle.hz_unfold.specs.Places.{site_of, told};
 ghost use Rattle.hz_check_model.specs.FirstTold.{told_at};
 
 use crate::fault::{CheckFault, LimitName};
 use crate::names::site::Site;
+use hz_regexp::Name;
 
 /// What is wrong.
 #[derive(Clone, Copy)]
@@ -43,16 +44,10 @@ pub(crate) fn at<'a>(wrong: Wrong, site: Option<Site<'a>>) -> Option<Told<'a>>
     }
 }
 
-/// The fault with the line and the name of its site.
-pub(crate) fn fault(told: Told<'_>) -> CheckFault
-    ensures { Tells (IsToldHere (told_of told.entry)) result }
+/// The fault with a line and a name.
+fn with_name(wrong: Wrong, line: u32, name: Name) -> CheckFault
+    ensures { result ≡ fault_named wrong line name }
 {
-    let Told { wrong, site } = told;
-    let line = site.line;
-    let name = match site.name.copy() {
-        Ok(name) => name,
-        Err(_) => return CheckFault::NoMemory,
-    };
     match wrong {
         Wrong::TwiceDefined => CheckFault::TwiceDefined { line, name },
         Wrong::ReservedName => CheckFault::ReservedName { line, name },
@@ -66,6 +61,16 @@ pub(crate) fn fault(told: Told<'_>) -> CheckFault
         Wrong::AlternationOfTwoAutomata => CheckFault::AlternationOfTwoAutomata { line, name },
         Wrong::AlternationOfTwoLengths => CheckFault::AlternationOfTwoLengths { line, name },
         Wrong::BypassTwice => CheckFault::BypassTwice { line, name },
+    }
+}
+
+/// The fault with the line and the name of its site.
+pub(crate) fn fault(told: Told<'_>) -> CheckFault
+    ensures { Tells (IsToldHere (told_of told.entry)) result }
+{
+    match told.site.name.copy() {
+        Ok(name) => with_name(told.wrong, told.site.line, name),
+        Err(_) => CheckFault::NoMemory,
     }
 }
 

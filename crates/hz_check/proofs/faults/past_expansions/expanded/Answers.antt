@@ -1,10 +1,9 @@
-use Rattle.std.proofs.Common.{sym, ap, ◌∙◌, subst}
+use Rattle.std.proofs.Common.{sym, ap, ◌∙◌}
 use Rattle.hz_mdread.specs.Shape.{description}
 use Rattle.hz_unfold.specs.Places.{site_of, told}
-use Rattle.hz_expand.specs.Answers.{Refuses}
 use Rattle.hz_unfold.specs.Orders.{reservings}
 use Rattle.hz_check_model.specs.CheckFaults.{limit, alternatives, cycles, size}
-use Rattle.hz_check.proofs.Telling.CheckSteps.{behind_within, skip, stop}
+use Rattle.hz_check.proofs.Telling.CheckSteps.{behind_within, site_past_size, skip, stop}
 use Rattle.hz_check.proofs.faults.past_expansions.expanded.Goals as goal
 
 pub returns-in-Some-clause-err : goal.returns-in-Some-clause-err
@@ -19,10 +18,11 @@ returns-in-Some-cycles-clause-err c =
     (stop (sym (c.in_ok-past.ensures.long known right) ∙ ap told c.in-Some-cycles.is)))
     c.refused-in-Some-cycles.result c.refused-in-Some-cycles.ensures
 
-pub returns-in-Err-Size-clause-err : goal.returns-in-Err-Size-clause-err
-returns-in-Err-Size-clause-err c =
-    behind_within (description c.args.desc.now) c.args.order.now c.requires.ordered c.requires.within (record { fault = limit size; site = site_of c.in-Err-Size.site })
+pub returns-in_ok-site-in-Err-clause-err : goal.returns-in_ok-site-in-Err-clause-err
+returns-in_ok-site-in-Err-clause-err c =
+    let past = site_past_size _ (description c.args.desc.now) (reservings (description c.args.desc.now) c.args.order.now) c.in-Err.why c.in_ok-site-in-Err.site c.in-Err.ensures.err c.in_ok-site-in-Err.ensures in
+    behind_within (description c.args.desc.now) c.args.order.now c.requires.ordered c.requires.within (record { fault = limit size; site = site_of c.in_ok-site-in-Err.site })
     (λ known right. skip (sym (c.in_ok-past.ensures.many known right) ∙ ap told c.in_default.is)
     (skip (sym (c.in_ok-past.ensures.long known right) ∙ ap told c.in_default-cycles.is)
-    (stop ((subst (Refuses (description c.args.desc.now) (reservings (description c.args.desc.now) c.args.order.now)) c.in-Err-Size.field-0-is c.in-Err-Size.ensures.err).first known right))))
-    c.refused-in-Err-Size.result c.refused-in-Err-Size.ensures
+    (stop (past.first known right))))
+    c.refused-in-Err.result c.refused-in-Err.ensures

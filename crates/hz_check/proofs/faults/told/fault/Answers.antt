@@ -1,0 +1,8 @@
+use Rattle.std.proofs.Common.{refl, sym}
+use Rattle.hz_check.specs.Faults.{Tells, IsToldHere, told_of}
+use Rattle.hz_check.proofs.Telling.CheckSteps.{named_there}
+use Rattle.hz_check.proofs.faults.told.fault.Goals as goal
+
+pub returns-in-Ok : goal.returns-in-Ok
+returns-in-Ok c =
+    rw c.with_name.ensures (named_there c.args.told _ _ refl c.in-Ok.ensures)
