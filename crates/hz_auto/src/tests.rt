@@ -2,7 +2,7 @@
 
 ghost use Rattle.std.specs.Prelude.{◌<◌, ◌^◌, length};
 
-use crate::{Compiled, compile};
+use crate::{AutoFault, Compiled, Kind, compile};
 use hz_check::{Checked, check};
 use hz_mdread::read_description;
 use hz_sexp::read_forms;
@@ -152,6 +152,139 @@ fn tables_are_kept_over_the_least_width(rt: HostRuntime) -> Result<(), Fail> {
             }
             None => assert!(rt; false),
         }
+    }
+    Ok(())
+}
+
+/// Beside these options the limits are 4,096 grids and states, and 65,536 members.
+const SHOWN_STATES: &str = "(automata_option \"v,no-minimization\")";
+
+/// The same under `ndfa`.
+const SHOWN_SETS: &str = "(automata_option \"ndfa,v,no-minimization\")";
+
+/// So many units, and for each a class that takes it: each set of units is a state.
+fn side_by_side(alloc: Global, units: u32) -> Result<String, Fail> {
+    let mut text = String::new(alloc);
+    for unit in 0..units {
+        let forms = format!(in alloc;
+            "(define_cpu_unit \"u{unit}\")(define_insn_reservation \"c{unit}\" 1 (const_int 1) \"u{unit}\")"
+        )?;
+        text.push_str(&forms)?;
+    }
+    Ok(text)
+}
+
+/// Six pairs of units under `ndfa`. For each a class that takes either unit, one that takes the first, and where `both` stands one
+/// that takes the second: four sets of each pair are states, or five.
+fn pairs(alloc: Global, both: bool) -> Result<String, Fail> {
+    let mut text = format!(in alloc; "{SHOWN_SETS}")?;
+    for pair in 0..6 {
+        let forms = format!(in alloc;
+            "(define_cpu_unit \"a{pair},b{pair}\")(define_insn_reservation \"e{pair}\" 1 (const_int 1) \"a{pair}|b{pair}\")(define_insn_reservation \"f{pair}\" 1 (const_int 1) \"a{pair}\")"
+        )?;
+        text.push_str(&forms)?;
+        if both {
+            let form = format!(in alloc;
+                "(define_insn_reservation \"s{pair}\" 1 (const_int 1) \"b{pair}\")"
+            )?;
+            text.push_str(&form)?;
+        }
+    }
+    Ok(text)
+}
+
+/// Twelve units: a class that takes any, and one for each four of them. A set of units is a grid of many states.
+const FOURS: &str =
+    "(define_cpu_unit \"a,b,c,d,e,f,g,h,i,j,k,l\")(define_insn_reservation \"any\" 1 (const_int 1) \"a|b|c|d|e|f|g|h|i|j|k|l\")(define_insn_reservation \"x\" 1 (const_int 1) \"a|b|c|d\")(define_insn_reservation \"y\" 1 (const_int 1) \"e|f|g|h\")(define_insn_reservation \"z\" 1 (const_int 1) \"i|j|k|l\")";
+
+/// An automaton of one unit, and one of so many units, each set of which is a state of it.
+fn two_automata(alloc: Global, units: u32) -> Result<String, Fail> {
+    let mut text = format!(in alloc;
+        "{SHOWN_STATES}(define_automaton \"p,q\")(define_cpu_unit \"a\" \"p\")(define_insn_reservation \"x\" 1 (const_int 1) \"a\")"
+    )?;
+    for unit in 0..units {
+        let forms = format!(in alloc;
+            "(define_cpu_unit \"u{unit}\" \"q\")(define_insn_reservation \"c{unit}\" 1 (const_int 1) \"u{unit}\")"
+        )?;
+        text.push_str(&forms)?;
+    }
+    Ok(text)
+}
+
+/// Why a text has no machine, if it describes one and has none.
+fn fault_of(rt: &impl Abort, alloc: Global, text: &[u8]) -> Result<Option<AutoFault>, Fail> {
+    assert!(rt; text.len() < 100_000);
+    let checked = checked_of(alloc, text).ok_or("no description")?;
+    Ok(compile(alloc, &checked).err())
+}
+
+/// The fault of an automaton past its limit on a count.
+fn past(automaton: u32, kind: Kind) -> Option<AutoFault> {
+    Some(AutoFault::Limit { automaton, kind })
+}
+
+#[test]
+fn the_first_automaton_past_a_limit_is_told(rt: HostRuntime) -> Result<(), Fail> {
+    let alloc = rt.alloc();
+    let rows = [
+        (side_by_side(alloc, 63)?, past(0, Kind::Grids)),
+        (side_by_side(alloc, 64)?, past(0, Kind::Cells)),
+        (calendar(alloc, SHOWN_STATES, 12)?, None),
+        (calendar(alloc, SHOWN_STATES, 13)?, past(0, Kind::Grids)),
+        (pairs(alloc, false)?, None),
+        (pairs(alloc, true)?, past(0, Kind::States)),
+        (
+            format!(in alloc; "{SHOWN_SETS}{FOURS}")?,
+            past(0, Kind::Members),
+        ),
+        (two_automata(alloc, 12)?, None),
+        (two_automata(alloc, 13)?, past(1, Kind::Grids)),
+    ];
+    for (text, wanted) in &rows {
+        let found = fault_of(&rt, alloc, text.as_bytes())?;
+        assert!(rt; found == *wanted, "{text}");
+    }
+    Ok(())
+}
+
+/// Faults and their texts.
+const TEXTS: [(AutoFault, &str); 5] = [
+    (
+        AutoFault::Limit {
+            automaton: 0,
+            kind: Kind::Grids,
+        },
+        "automaton 0 has too many Grids",
+    ),
+    (
+        AutoFault::Limit {
+            automaton: 1,
+            kind: Kind::States,
+        },
+        "automaton 1 has too many States",
+    ),
+    (
+        AutoFault::Limit {
+            automaton: 2,
+            kind: Kind::Members,
+        },
+        "automaton 2 has too many Members",
+    ),
+    (
+        AutoFault::Limit {
+            automaton: 15,
+            kind: Kind::Cells,
+        },
+        "automaton 15 has too many Cells",
+    ),
+    (AutoFault::NoMemory, "out of memory"),
+];
+
+#[test]
+fn faults_have_texts(rt: HostRuntime) -> Result<(), Fail> {
+    for (fault, wanted) in TEXTS {
+        let text = fault.to_string(rt.alloc())?;
+        assert_eq!(rt; text.as_str(), wanted);
     }
     Ok(())
 }

@@ -4,7 +4,7 @@ ghost use Rattle.std.specs.Prelude.{◌<◌, ◌≤◌, ◌^◌, length};
 
 use crate::nodes::{Node, first_class_fault, nodes_of};
 use crate::pairs::{REGISTERS, cost};
-use crate::{Edge, Graph, class_of, graph};
+use crate::{DependFault, Edge, Graph, class_of, graph};
 use hz_check::{Checked, CheckedBypass, check};
 use hz_mdread::read_description;
 use hz_rtl::{Block, read_block};
@@ -413,7 +413,7 @@ fn tables_find_what_all_pairs_do(rt: HostRuntime) -> Result<(), Fail> {
     Ok(())
 }
 
-/// Attributes of three instructions, and the fault that is told.
+/// Attributes of three instructions, and the fault that is told, with its text.
 const FAULTS: [(&[&str], &str); 4] = [
     (
         &[
@@ -421,7 +421,7 @@ const FAULTS: [(&[&str], &str); 4] = [
             "(set_attr \"type\" \"div\")",
             "(set_attr \"kind\" \"x\")",
         ],
-        "Class { place: 1, fault: NoClass }",
+        "Class { place: 1, fault: NoClass }: the instruction at 1: no class",
     ),
     (
         &[
@@ -429,15 +429,15 @@ const FAULTS: [(&[&str], &str); 4] = [
             "",
             "(set_attr \"type\" \"mult\") (set_attr \"size\" \"byte\")",
         ],
-        "Class { place: 2, fault: Ambiguous { a: 1, b: 2 } }",
+        "Class { place: 2, fault: Ambiguous { a: 1, b: 2 } }: the instruction at 2: classes 1 and 2",
     ),
     (
         &["(set_attr \"kind\" \"x\")", "(set_attr \"type\" \"x\")", ""],
-        "Class { place: 0, fault: UnknownAttribute }",
+        "Class { place: 0, fault: UnknownAttribute }: the instruction at 0: an unknown attribute",
     ),
     (
         &["(set_attr \"type\" \"x\")", "(set_attr \"kind\" \"x\")", ""],
-        "Class { place: 0, fault: UnknownValue }",
+        "Class { place: 0, fault: UnknownValue }: the instruction at 0: an unknown value",
     ),
 ];
 
@@ -458,8 +458,10 @@ fn the_first_wrong_class_is_told(rt: HostRuntime) -> Result<(), Fail> {
         let block = block_of(alloc, bytes).ok_or("no block")?;
         assert!(rt; block.insns.len() <= 4096);
         let fault = graph(alloc, &checked, &block).err().ok_or("no fault")?;
-        let found = format!(in alloc; "{fault:?}")?;
+        let found = format!(in alloc; "{fault:?}: {fault}")?;
         assert_eq!(rt; found.as_str(), *expected);
     }
+    let memory = DependFault::NoMemory.to_string(alloc)?;
+    assert_eq!(rt; memory.as_str(), "out of memory");
     Ok(())
 }

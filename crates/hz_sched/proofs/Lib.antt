@@ -11,3 +11,4 @@ pub mod QueueLemmas
 pub mod BoardLemmas
 pub mod SchedLemmas
 pub mod TraceLemmas
+pub mod StuckLemmas

@@ -15,16 +15,11 @@ use super::pairs::{cycle, has_unit};
 use super::wrong::Wrong;
 use std::alloc::Global;
 
-/// The numbers below a limit that so many fields are.
-pub fn numbers_below(
-    alloc: Global,
-    fields: Option<&[u8]>,
-    limit: u32,
-    count: usize,
-) -> Result<Vec<u32>, Wrong>
+/// The numbers below a limit that fields are. Memory for a number is taken once it is judged.
+pub fn numbers_below(alloc: Global, fields: Option<&[u8]>, limit: u32) -> Result<Vec<u32>, Wrong>
     ensures { Judges (λ numbers. numbers.items) result (each_by (model.number_below limit) (fields_in fields.entry)) }
 {
-    let mut numbers = Vec::with_capacity(alloc, count)?;
+    let mut numbers = Vec::new(alloc);
     let mut rest = fields;
     while let Some(text) = rest {
         let (field, after) = cut(text, b' ');

@@ -14,7 +14,7 @@ use super::head::Head;
 use super::numbers::{number, number_below};
 use super::operands::{next_field, one, operands, three};
 use super::wrong::Wrong;
-use hz_regexp::Name;
+use hz_regexp::{Name, is_name};
 use indexmap::IndexSet;
 use std::alloc::Global;
 
@@ -83,9 +83,9 @@ pub fn head(alloc: Global, line: &[u8], classes: u32) -> Result<Head, Wrong>
     ensures some { IfOk result (λ head. 1 ≤ head.states) }
 {
     let (name, columns, states) = three(line, b"automaton")?;
-    let Some(name) = Name::of(alloc, name)? else {
+    if !is_name(name) {
         return Err(Wrong::BadLine);
-    };
+    }
     let columns = number(columns)?;
     if columns > classes {
         return Err(Wrong::OutOfRange);
@@ -94,6 +94,10 @@ pub fn head(alloc: Global, line: &[u8], classes: u32) -> Result<Head, Wrong>
     if states < 1 || states > 65_536 || states * (columns + 1) > 4_194_304 {
         return Err(Wrong::OutOfRange);
     }
+    // Memory is taken for the name only where the numbers are in their ranges.
+    let Some(name) = Name::of(alloc, name)? else {
+        unreachable!()
+    };
     Ok(Head {
         name,
         columns,
@@ -110,7 +114,7 @@ pub fn map(alloc: Global, line: &[u8], classes: u32, columns: u32) -> Result<Vec
     if fields.count != classes as usize {
         return Err(Wrong::BadLine);
     }
-    numbers_below(alloc, fields.left, columns, fields.count)
+    numbers_below(alloc, fields.left, columns)
 }
 
 /// Three numbers, which are dropped: `stats GRIDS STATES MEMBERS`.

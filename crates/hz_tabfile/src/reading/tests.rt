@@ -418,3 +418,32 @@ fn cells_have_a_limit(rt: HostRuntime) -> Result<(), Fail> {
     assert!(rt; fault_of(alloc, &one) == Some(TabFault::Truncated { line: 7 }));
     Ok(())
 }
+
+// Faults and their texts.
+const TEXTS: [(TabFault, &str); 7] = [
+    (TabFault::BadHeader { line: 1 }, "line 1 is no header"),
+    (TabFault::BadLine { line: 2 }, "line 2 is out of place"),
+    (
+        TabFault::BadNumber { line: 3 },
+        "line 3 has a field that is no number",
+    ),
+    (
+        TabFault::OutOfRange { line: 4 },
+        "line 4 has a number out of range",
+    ),
+    (TabFault::Truncated { line: 5 }, "line 5 is not ended"),
+    (
+        TabFault::Trailing { line: 6 },
+        "line 6 stands behind the end",
+    ),
+    (TabFault::NoMemory, "out of memory"),
+];
+
+#[test]
+fn faults_have_texts(rt: HostRuntime) -> Result<(), Fail> {
+    for (fault, wanted) in TEXTS {
+        let text = fault.to_string(rt.alloc())?;
+        assert_eq!(rt; text.as_str(), wanted);
+    }
+    Ok(())
+}

@@ -79,7 +79,7 @@ fn rows_at(alloc: Global, rest: Rest, columns: u32, states: u32) -> Result<(Plai
     ensures targets { IfOk result (λ x. AreTargets states x.0.rows) }
 {
     let mut plain = Plain::new(alloc, columns);
-    let mut row = Vec::with_capacity(alloc, columns as usize + 1)?;
+    let mut row = Vec::new(alloc);
     let mut rest = rest;
     for _ in 0..states {
         rest = row_at(rest, columns, states, &mut row)?;

@@ -6,7 +6,7 @@ ghost use Rattle.hz_tabfile.specs.Saying.{IsSayable};
 use crate::write_tables;
 use hz_auto::{Compiled, compile};
 use hz_check::{Checked, check};
-use hz_io::MemSink;
+use hz_io::{Failed, MemSink};
 use hz_mdread::read_description;
 use hz_sexp::read_forms;
 use std::alloc::Global;
@@ -26,32 +26,46 @@ fn checked_of(alloc: Global, text: &[u8]) -> Option<Checked>
     }
 }
 
-/// The tables text of a compiled description.
-fn written(alloc: Global, compiled: &Compiled, checked: &Checked) -> Option<MemSink>
+/// What a sink with so much room has of the tables text of a compiled description, and what is answered.
+fn written(
+    alloc: Global,
+    compiled: &Compiled,
+    checked: &Checked,
+    room: u32,
+) -> Option<(MemSink, Result<(), Failed>)>
     requires { IsSayable compiled.now checked.now }
 {
-    match MemSink::new(alloc, 1000) {
-        Ok(mut out) => match write_tables(compiled, checked, &mut out) {
-            Ok(()) => Some(out),
-            Err(_) => None,
-        },
+    match MemSink::new(alloc, room) {
+        Ok(mut out) => {
+            let answer = write_tables(compiled, checked, &mut out);
+            Some((out, answer))
+        }
         Err(_) => None,
     }
 }
 
-/// The tables text of a checked description.
-fn compiled_text(alloc: Global, checked: &Checked) -> Option<MemSink> {
+/// The same of a checked description.
+fn compiled_text(
+    alloc: Global,
+    checked: &Checked,
+    room: u32,
+) -> Option<(MemSink, Result<(), Failed>)> {
     match compile(alloc, checked) {
-        Ok(compiled) => written(alloc, &compiled, checked),
+        Ok(compiled) => written(alloc, &compiled, checked, room),
         Err(_) => None,
     }
 }
 
-/// The tables text of a description, if it has one.
-fn text_of(rt: &impl Abort, alloc: Global, description: &[u8]) -> Option<MemSink> {
+/// The same of a description, if it has a tables text.
+fn text_of(
+    rt: &impl Abort,
+    alloc: Global,
+    description: &[u8],
+    room: u32,
+) -> Option<(MemSink, Result<(), Failed>)> {
     assert!(rt; description.len() < 1000);
     match checked_of(alloc, description) {
-        Some(checked) => compiled_text(alloc, &checked),
+        Some(checked) => compiled_text(alloc, &checked, room),
         None => None,
     }
 }
@@ -93,9 +107,31 @@ fn texts_are_written_line_by_line(rt: HostRuntime) -> Result<(), Fail> {
     let alloc = rt.alloc();
     for (description, options, wanted) in ROWS {
         let text = format!(in alloc; "(automata_option \"{options}\"){description}")?;
-        match text_of(&rt, alloc, text.as_bytes()) {
-            Some(out) => assert_eq!(rt; out.bytes(), wanted.as_bytes()),
+        match text_of(&rt, alloc, text.as_bytes(), 1000) {
+            Some((out, answer)) => {
+                assert!(rt; answer == Ok(()));
+                assert_eq!(rt; out.bytes(), wanted.as_bytes());
+            }
             None => assert!(rt; false),
+        }
+    }
+    Ok(())
+}
+
+#[test]
+fn a_sink_that_is_full_has_a_front(rt: HostRuntime) -> Result<(), Fail> {
+    let alloc = rt.alloc();
+    for (description, options, wanted) in ROWS {
+        let text = format!(in alloc; "(automata_option \"{options}\"){description}")?;
+        for room in [0, 1, wanted.len().saturating_sub(1)] {
+            assert!(rt; room < wanted.len() && room < 1000);
+            match text_of(&rt, alloc, text.as_bytes(), room as u32) {
+                Some((out, answer)) => {
+                    assert!(rt; answer == Err(Failed));
+                    assert_eq!(rt; out.bytes(), &wanted.as_bytes()[..room]);
+                }
+                None => assert!(rt; false),
+            }
         }
     }
     Ok(())
