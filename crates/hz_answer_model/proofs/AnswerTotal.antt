@@ -64,7 +64,7 @@ use Rattle.hz_tabtext_model.proofs.CompiledSaid.{can_be_said}
 use Rattle.hz_tabtext_model.proofs.SaidLaws.{said_is_text}
 use Rattle.hz_tabtext_model.specs.Said.{tables_said}
 use Rattle.hz_tabtext_model.specs.Texts.{spelled}
-use Rattle.hz_total_model.proofs.MachineThere.{HasMachine, some_machine}
+use Rattle.hz_total_model.proofs.MachineTotal.{HasMachine, some_machine}
 use Rattle.std.specs.List.{range_with_len}
 use Rattle.std.specs.Prelude.{Ok, Err, Result, IsSome, slice_index_or}
 

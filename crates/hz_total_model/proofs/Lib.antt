@@ -1,8 +1,8 @@
 pub mod NumberingLaws
-pub mod TableLaws
+pub mod NumberedTables
 pub mod ApartTold
-pub mod LeastTable
-pub mod AscendingThere
-pub mod AutomatonThere
-pub mod PartThere
-pub mod MachineThere
+pub mod LeastTables
+pub mod AscendingLists
+pub mod AutomatonTotal
+pub mod PartTotal
+pub mod MachineTotal

@@ -1,4 +1,4 @@
-use Rattle.hz_total_model.proofs.MachineThere.{some_machine}
+use Rattle.hz_total_model.proofs.MachineTotal.{some_machine}
 use Rattle.hz_total_model.proofs.descriptions_within_limits_have_machines.Goals as goal
 
 pub returns : goal.returns

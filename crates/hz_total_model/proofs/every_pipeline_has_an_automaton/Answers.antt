@@ -1,4 +1,4 @@
-use Rattle.hz_total_model.proofs.AutomatonThere.{some_automaton}
+use Rattle.hz_total_model.proofs.AutomatonTotal.{some_automaton}
 use Rattle.hz_total_model.proofs.every_pipeline_has_an_automaton.Goals as goal
 
 pub returns : goal.returns

@@ -3,16 +3,15 @@ use Rattle.std.proofs.Common.{◌≡◌, ◌≢◌, ℕ, suc, ◌<◌, ◌≤◌
 use Rattle.std.specs.Prelude.{is_some}
 use Rattle.std.specs.List.{range_with_len}
 use Rattle.std.proofs.lemmas.Bool.{cases_lt}
-use Rattle.std.proofs.lemmas.List.{get_or_past, get_or_default}
+use Rattle.std.proofs.lemmas.List.{get_or_default}
 use Rattle.std.proofs.lemmas.List.FromFn.{length-range_with_len}
-use Rattle.std.proofs.lemmas.Option.{none-some}
 use Rattle.hz_base_model.proofs.Elements.{Contains-range}
 use Rattle.hz_tables_model.specs.Tables.{Table, entry, walk, IsTable}
 use Rattle.hz_tables_model.specs.Apart.{Apart, AllApart, WalkTheSame}
 use Rattle.hz_minim_model.specs.Normal.{IsNormal}
 use Rattle.hz_schedulable_model.proofs.ToldLaws.{IsTold}
 use Rattle.hz_total_model.proofs.NumberingLaws.{Numbered, finished, all_led, all_different}
-use Rattle.hz_total_model.proofs.TableLaws.{Alike, Stands, run, IsNumberedTable, some_table, all_items, walked_at, some_alike, entry_low}
+use Rattle.hz_total_model.proofs.NumberedTables.{Alike, Stands, run, IsNumberedTable, some_table, all_items, walked_at, some_alike, entry_row}
 use Rattle.hz_total_model.proofs.ApartTold.{no_more, ended, none_past, apart_told}
 
 bool_told : (a b : Bool) → IsTold (a ≡ b)
@@ -129,10 +128,7 @@ module _ (table : Table) (columns : ℕ) (is : IsTable table columns) where
     }
 
     targets : (state column to : ℕ) → entry rows state column ≡ Some to → to < length rows
-    targets state column to e = ⊎_elim
-        (λ (low : state < length rows). entry_low Same joined columns next 0 past alike rows items places numbers state column to low e)
-        (λ (out : length rows ≤ state). absurd (none-some to (sym (ap (λ (row : List (Option ℕ)). get_or row column None) (get_or_past rows state [] out) ∙ get_or_past [] column None (omega arith)) ∙ e)))
-        (cases_lt state (length rows))
+    targets = entry_row Same joined columns next 0 past alike rows items places numbers
 
     advances : (state : ℕ) → state < length rows → entry rows state columns ≢ None
     advances state low e =

@@ -195,13 +195,19 @@ module _ {X : Type 0} (Same : X → X → Type 0) (joined : (x y z : X) → Same
   some_alike (Some x) None at = absurd at
   some_alike (Some x) (Some j) at = refl
 
-  -- an entry is a row
-  pub entry_low : (state column to : ℕ) → state < length table → entry table state column ≡ Some to → to < length table
+  entry_low : (state column to : ℕ) → state < length table → entry table state column ≡ Some to → to < length table
   entry_low state column to low e = by_next (next column (get_or items state start)) (subst (λ p. IsAt (next column (get_or items state start)) p) e (entry_at state column low))
     where
       by_next : (o : Option X) → IsAt o (Some to) → to < length table
       by_next None at = absurd at
       by_next (Some y) at = at.0
+
+  -- an entry is a row
+  pub entry_row : (state column to : ℕ) → entry table state column ≡ Some to → to < length table
+  entry_row state column to e = ⊎_elim
+      (λ (low : state < length table). entry_low state column to low e)
+      (λ (out : length table ≤ state). absurd (none-some to (sym (ap (λ (row : List (Option ℕ)). get_or row column None) (get_or_past table state [] out) ∙ get_or_past [] column None (omega arith)) ∙ e)))
+      (cases_lt state (length table))
 
 -- what holds of the start, and of what columns lead to, holds of all items
 pub all_items : {X : Type 0} (Same : X → X → Type 0) (columns : ℕ) (next : ℕ → X → Option X) (start : X) (table : Table) (items : List X) (places : List (ℕ × ℕ)) → IsNumberedTable Same columns next start table items places → (P : X → Type 0) → P start → ((x y : X) (c : ℕ) → c ≤ columns → P x → next c x ≡ Some y → P y) → (n k : ℕ) → k < n → k < length table → P (get_or items k start)

@@ -47,11 +47,11 @@ use Rattle.hz_left_model.proofs.CountsTold.{counts_told}
 use Rattle.hz_single_model.specs.Told.{IsAscending, ListsAscending}
 use Rattle.hz_tabtext_model.specs.Said.{counts_said}
 use Rattle.hz_tabtext_model.specs.Texts.{AreCounts}
-use Rattle.hz_total_model.proofs.AscendingThere.{IsBelow, sorted_below}
+use Rattle.hz_total_model.proofs.AscendingLists.{IsBelow, sorted_below}
 use Rattle.hz_total_model.proofs.ApartTold.{no_more}
 use Rattle.hz_total_model.proofs.NumberingLaws.{some_is}
-use Rattle.hz_total_model.proofs.LeastTable.{least_table}
-use Rattle.hz_total_model.proofs.AutomatonThere.{HasAutomaton, some_automaton}
+use Rattle.hz_total_model.proofs.LeastTables.{least_table}
+use Rattle.hz_total_model.proofs.AutomatonTotal.{HasAutomaton, some_automaton}
 
 -- ---- cycles of what is left
 

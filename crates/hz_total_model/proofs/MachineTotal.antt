@@ -36,8 +36,8 @@ use Rattle.hz_left_model.proofs.CountsTold.{counts_told}
 use Rattle.hz_single_model.specs.Told.{ListsAscending}
 use Rattle.hz_tabtext_model.specs.Said.{IsInRange, counts_said}
 use Rattle.hz_tabtext_model.specs.Texts.{AreCounts}
-use Rattle.hz_total_model.proofs.PartThere.{AreLow, HasPart, some_part}
-use Rattle.hz_total_model.proofs.TableLaws.{listed_values}
+use Rattle.hz_total_model.proofs.PartTotal.{AreLow, HasPart, some_part}
+use Rattle.hz_total_model.proofs.NumberedTables.{listed_values}
 
 -- ---- names
 

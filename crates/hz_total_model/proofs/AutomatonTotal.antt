@@ -3,7 +3,7 @@ use Rattle.std.proofs.Common.{◌==◌, ◌≡◌, ℕ, suc, ◌+◌, ◌<◌, �
 use Rattle.std.specs.Prelude.{◌↔◌, IsSome, is_some}
 use Rattle.std.specs.List.{AllPairs, sum_by}
 use Rattle.std.proofs.lemmas.Bool.{cases_lt}
-use Rattle.std.proofs.lemmas.List.{append-nil, length-map, get_or_past, get_or_default}
+use Rattle.std.proofs.lemmas.List.{append-nil, length-map, get_or_default}
 use Rattle.std.proofs.lemmas.List.Elements.{All-head, All-tail, Contains-get_or, Contains-append_left, Contains-append_right, Contains-append_cases}
 use Rattle.std.proofs.lemmas.Option.{none-some}
 use Rattle.hz_base_model.specs.Pairs.{Pair, SamePairs}
@@ -32,9 +32,9 @@ use Rattle.hz_left_model.proofs.ExploreLaws.{some_is_told}
 use Rattle.hz_left_model.proofs.OnwardLaws.{leaves_alike}
 use Rattle.hz_left_model.proofs.StateCounts.{grids_itself, grids_joined, same_left, same_grids_told, left_of, is_left, forth, back, more_alike, accepted_front}
 use Rattle.hz_single_model.specs.Told.{IsAscending}
-use Rattle.hz_total_model.proofs.AscendingThere.{IsListed, IsBelow, AreBelow, pairs_listed, grids_listed, grid_is, below_once, numbers_listed}
+use Rattle.hz_total_model.proofs.AscendingLists.{IsListed, IsBelow, AreBelow, pairs_listed, grids_listed, grid_is, below_once, numbers_listed}
 use Rattle.hz_total_model.proofs.NumberingLaws.{Numbered, finished, all_led, all_different, some_is}
-use Rattle.hz_total_model.proofs.TableLaws.{Alike, Stands, run, listed_values, IsNumberedTable, some_table, all_items, walked_at, some_alike, entry_low}
+use Rattle.hz_total_model.proofs.NumberedTables.{Alike, Stands, run, listed_values, IsNumberedTable, some_table, all_items, walked_at, some_alike, entry_row}
 
 -- an item, if both hold
 abbrev taken : {A B X : Type 0} → IsTold A → IsTold B → X → Option X
@@ -144,9 +144,6 @@ module _ (m : Pipeline ℕ) (columns : ℕ) where
       ap (λ o. run next o w) first
       ∙ (run_events w (All-tail (λ (k : ℕ). k ≤ columns) c w are) (more c t) all ∙ ap Some regrouped)
 
-  run_none : (w : List ℕ) → run next None w ≡ None
-  run_none w = refl
-
   run_is : (w : List ℕ) (t v : List Event) → Accepted m t → run next (Some t) w ≡ Some v → Accepted m v × (t ++ events_at columns w ≡ v)
   run_is [] t v accepted e = let same = some_is t v e in (subst (Accepted m) same accepted, append-nil t ∙ same)
   run_is (c ∷ w) t v accepted e = by_next (next c t) refl e (λ u is led. run_is w u v is led)
@@ -239,10 +236,7 @@ module _ (m : Pipeline ℕ) (columns : ℕ) where
         (at.0, subst (λ t. Same t (item state)) (sym found.1) at.1)
 
     targets : (state column to : ℕ) → entry table state column ≡ Some to → to < length table
-    targets state column to e = ⊎_elim
-        (λ (low : state < length table). entry_low Same joined columns next [] past alike table items places numbers state column to low e)
-        (λ (out : length table ≤ state). absurd (none-some to (sym (ap (λ (row : List (Option ℕ)). get_or row column None) (get_or_past table state [] out) ∙ get_or_past [] column None (omega arith)) ∙ e)))
-        (cases_lt state (length table))
+    targets = entry_row Same joined columns next [] past alike table items places numbers
 
     advances : (state : ℕ) → state < length table → entry table state columns ≡ None → ⊥
     advances state low e =
@@ -355,13 +349,10 @@ module _ (m : Pipeline ℕ) (columns : ℕ) where
         same_items one other low low' same =
             let first = state_left one low in
             let second = state_left other low' in
-            joined_grids (left (item one)) (state_at grids sets one) (left (item other))
+            grids_joined (left (item one)) (state_at grids sets one) (left (item other))
             (same_left m (item one) (item one) (left (item one)) (state_at grids sets one) (left_is (item one)) first (λ g h. h) (λ g h. h))
-            (joined_grids (state_at grids sets one) (state_at grids sets other) (left (item other)) same
+            (grids_joined (state_at grids sets one) (state_at grids sets other) (left (item other)) same
             (same_left m (item other) (item other) (state_at grids sets other) (left (item other)) second (left_is (item other)) (λ g h. h) (λ g h. h)))
-          where
-            joined_grids : (xs ys zs : List (List (Pair ℕ))) → SameGrids xs ys → SameGrids ys zs → SameGrids xs zs
-            joined_grids xs ys zs one other = grids_joined xs ys zs one other
 
         apart : (one other : ℕ) → one < length table → other < length table → SameGrids (state_at grids sets one) (state_at grids sets other) → one ≡ other
         apart one other low low' same =
