@@ -1,5 +1,5 @@
 -- There is an answer to all words, whatever is held.
-use Rattle.std.proofs.Common.{◌≡◌, ℕ, zero, suc, ◌<◌, ◌≤◌, ⊎_elim, inl, inr, true, false, List, [], ◌∷◌, length, All, Option, Some, None, MatchOption, MatchBool, nat_lt, get_or, slice_get, refl, subst, arith, ◌⊎◌}
+use Rattle.std.proofs.Common.{◌≡◌, ℕ, zero, suc, ◌<◌, ◌≤◌, ⊎_elim, inl, inr, true, false, List, [], ◌∷◌, length, map, All, Option, Some, None, MatchOption, MatchBool, nat_lt, get_or, slice_get, refl, subst, arith, ◌⊎◌}
 use Rattle.std.proofs.lemmas.Bool.{cases_lt}
 use Rattle.std.proofs.lemmas.List.Elements.{All-get_or}
 use Rattle.std.proofs.lemmas.Option.{slice_get-get_or, slice_get_within, get_or_from_slice_get}
@@ -12,7 +12,7 @@ use Rattle.hz_check_model.proofs.CheckTotal.{sound_or_fault}
 use Rattle.hz_acceptance_model.proofs.AcceptanceLaws.{refused_issue}
 use Rattle.hz_acceptance_model.proofs.PlayLaws.{accepted_or_first_refused}
 use Rattle.hz_acceptance_model.proofs.Rows.{same_unit, places_tell}
-use Rattle.hz_answer_model.specs.Answers.{Describes, Checks, HasDescription, Compiles, CompilesDescription, DrillsDescription, TextHasTables, OrderHasTables, WordsHaveTables, Replays, ReplaysTrace, ReplaysDescription, Judges, SchedulesByDescription, IsIssueOf, AnswersOrder, Answer}
+use Rattle.hz_answer_model.specs.Answers.{Describes, Checks, HasDescription, Compiles, CompilesDescription, DrillsDescription, Replays, ReplaysTrace, ReplaysDescription, Judges, SchedulesByDescription, IsIssueOf, AnswersOrder, Answer}
 use Rattle.hz_check_model.specs.CheckFaults.{CheckFault, CheckFaultAt, IsSound}
 use Rattle.hz_check_model.specs.Places.{Known, class_names}
 use Rattle.hz_mdread_model.specs.DescriptionForms as description_forms
@@ -22,7 +22,8 @@ use Rattle.hz_answer_model.specs.FaultTexts.{form_word, description_words, check
 use Rattle.hz_base_model.specs.Limits.{description_limit, trace_limit}
 use Rattle.hz_base_model.specs.Lines.{lines_of}
 use Rattle.hz_sexp_model.specs.Forms as forms
-use Rattle.hz_check_model.specs.CheckedParts.{automaton_names, automaton_count}
+use Rattle.hz_check_model.specs.CheckedParts.{automaton_names, automaton_count, automata_of, class_parts, bypass_parts, attributes_of}
+use Rattle.hz_check_model.proofs.KeptLaws.{parts_kept}
 use Rattle.hz_pipeline_model.specs.Pipelines.{pipeline_with}
 use Rattle.hz_reach_model.specs.Counts.{Count}
 use Rattle.hz_auto_model.specs.DescriptionLimits.{KeepsLimits, AllKeepLimits, PassesLimit, IsFirstPastLimit}
@@ -59,8 +60,13 @@ use Rattle.hz_tabtext_model.specs.Judging.{Fault}
 use Rattle.hz_tabtext_model.specs.Reading.{tables_in}
 use Rattle.hz_tabtext_model.proofs.MachineLaws.{text_machine}
 use Rattle.hz_tabtext_model.proofs.TextTakes.{tables_take}
+use Rattle.hz_tabtext_model.proofs.CompiledSaid.{can_be_said}
+use Rattle.hz_tabtext_model.proofs.SaidLaws.{said_is_text}
+use Rattle.hz_tabtext_model.specs.Said.{tables_said}
+use Rattle.hz_tabtext_model.specs.Texts.{spelled}
+use Rattle.hz_total_model.proofs.MachineTotal.{HasMachine, some_machine}
 use Rattle.std.specs.List.{range_with_len}
-use Rattle.std.specs.Prelude.{Ok, Err, Result, IsSome, ⊤, slice_index_or}
+use Rattle.std.specs.Prelude.{Ok, Err, Result, IsSome, slice_index_or}
 
 -- some status and text answer
 abbrev pub HasOne : (ℕ → List ℕ → Type 0) → Type 0
@@ -253,51 +259,70 @@ walked_one tables tabled trace traced = by_read (tables_in tabled) refl
         wider (WalksTrace trace traced m) _ (λ s t h. inl (m, stands, h)) (machine_traces_one m (text_machine tabled m stands) trace traced)
     by_read (Err fault) is = wider (Says 2 (fault_line tables fault.line (tables_word fault.kind ∷ []))) _ (λ s t h. inr (fault, is, h)) (says_one 2 (fault_line tables fault.line (tables_word fault.kind ∷ [])))
 
--- a description without a fault that has tables is compiled, where what follows has an answer for them
-tabled_one : (description described : List ℕ) (next : Description → Known → ℕ → List ℕ → Type 0) → TextHasTables described
+-- a description without a fault whose automata keep their limits has tables
+some_tables : (d : Description) (known : Known) → IsWellFormed d → IsSound d known → AllKeepLimits d known → (text : List ℕ) × IsTablesOf d known text
+some_tables d known formed sound keep =
+    let has : HasMachine d known = some_machine d known formed sound keep in
+    let automata = automata_of d in
+    let classes = map (class_parts d known) d.classes in
+    let kept = parts_kept d known (can_be_checked d formed) sound in
+    let said = can_be_said d.options automata classes (map (bypass_parts d) d.bypasses) (attributes_of d) kept has.machine has.reports has.is has.compiled in (
+      spelled (tables_said d.options automata has.reports has.machine),
+      record {
+        machine = has.machine;
+        reports = has.reports;
+        compiled = has.compiled;
+        listed = has.listed;
+        stands = said_is_text d.options automata has.reports has.machine said has.is has.range;
+        spells = refl;
+      },
+    )
+
+-- it is compiled, where what follows has an answer for its tables
+tabled_one : (description described : List ℕ) (next : Description → Known → ℕ → List ℕ → Type 0)
     → ((d : Description) (known : Known) (text : List ℕ) → IsSound d known → IsTablesOf d known text → HasOne (next d known)) → HasOne (HasDescription description described (λ d known. Compiles description d known (next d known)))
-tabled_one description described next tabled one =
+tabled_one description described next one =
     forms_one description described _ (λ read is.
     describes_one description read _ (λ d says formed.
     checks_one description d (λ known. Compiles description d known (next d known)) formed (λ known sound.
-    compiles_one description d known (next d known) (λ kept. let found = tabled read d known is says sound kept in one d known found.0 sound found.1))))
+    compiles_one description d known (next d known) (λ kept. let found = some_tables d known formed sound kept in one d known found.0 sound found.1))))
 
-compiled_one : (description described : List ℕ) → TextHasTables described → HasOne (HasDescription description described (CompilesDescription description))
-compiled_one description described tabled = tabled_one description described WritesTablesOf tabled (λ d known text sound is. (0, text, (refl, is)))
+compiled_one : (description described : List ℕ) → HasOne (HasDescription description described (CompilesDescription description))
+compiled_one description described = tabled_one description described WritesTablesOf (λ d known text sound is. (0, text, (refl, is)))
 
-drilled_one : (description described : List ℕ) (number turns : ℕ) → TextHasTables described → HasOne (HasDescription description described (DrillsDescription description number turns))
-drilled_one description described number turns tabled =
-    tabled_one description described (λ d known. Drills d known number turns) tabled (λ d known text sound is.
+drilled_one : (description described : List ℕ) (number turns : ℕ) → HasOne (HasDescription description described (DrillsDescription description number turns))
+drilled_one description described number turns =
+    tabled_one description described (λ d known. Drills d known number turns) (λ d known text sound is.
     let found = some_drill d known number turns text sound is in (0, found.0, (refl, found.1)))
 
-order_one : (held : Held) (order : Order) → OrderHasTables held order → HasOne (AnswersOrder held order)
-order_one held (replay description trace) none =
+order_one : (held : Held) (order : Order) → HasOne (AnswersOrder held order)
+order_one held (replay description trace) =
     opens_one (held description) description description_limit (λ described. Opens held trace trace_limit (λ traced. Judges description described trace traced))
     (λ described is. opens_one (held trace) trace trace_limit (λ traced. Judges description described trace traced)
     (λ traced also. texts_one description described trace traced))
-order_one held (compile description) tabled =
+order_one held (compile description) =
     opens_one (held description) description description_limit (λ described. HasDescription description described (CompilesDescription description))
-    (λ described is. compiled_one description described (subst (λ (o : Option (List ℕ)). MatchOption o ⊤ TextHasTables) is tabled))
-order_one held (walk tables trace) none =
+    (λ described is. compiled_one description described)
+order_one held (walk tables trace) =
     opens_one (held tables) tables tables_limit (λ tabled. Opens held trace trace_limit (λ traced. HasTables tables tabled (WalksTrace trace traced)))
     (λ tabled is. opens_one (held trace) trace trace_limit (λ traced. HasTables tables tabled (WalksTrace trace traced))
     (λ traced also. walked_one tables tabled trace traced))
-order_one held (schedule description block) none =
+order_one held (schedule description block) =
     opens_one (held description) description description_limit (λ described. Opens held block block_limit (λ blocked. HasDescription description described (SchedulesByDescription description block blocked)))
     (λ described is. opens_one (held block) block block_limit (λ blocked. HasDescription description described (SchedulesByDescription description block blocked))
     (λ blocked also. scheduled_one description described block blocked))
-order_one held (eval block state) none =
+order_one held (eval block state) =
     opens_one (held block) block block_limit (λ blocked. Opens held state state_text_limit (λ stated. JudgesBlock block blocked state stated))
     (λ blocked is. opens_one (held state) state state_text_limit (λ stated. JudgesBlock block blocked state stated)
     (λ stated also. blocks_one block blocked state stated))
-order_one held (drill description number turns) tabled =
+order_one held (drill description number turns) =
     opens_one (held description) description description_limit (λ described. HasDescription description described (DrillsDescription description number turns))
-    (λ described is. drilled_one description described number turns (subst (λ (o : Option (List ℕ)). MatchOption o ⊤ TextHasTables) is tabled))
+    (λ described is. drilled_one description described number turns)
 
 -- all words have an answer, whatever is held
-pub answer_one : (words : List (List ℕ)) (held : Held) → WordsHaveTables words held → HasOne (Answer words held)
-answer_one words held tabled = by_order (order_of words) tabled
+pub answer_one : (words : List (List ℕ)) (held : Held) → HasOne (Answer words held)
+answer_one words held = by_order (order_of words)
   where
-    by_order : (o : Option Order) → MatchOption o ⊤ (OrderHasTables held) → HasOne (λ s t. MatchOption o (Says 4 usage_line s t) (λ order. AnswersOrder held order s t))
-    by_order None all = says_one 4 usage_line
-    by_order (Some order) all = order_one held order all
+    by_order : (o : Option Order) → HasOne (λ s t. MatchOption o (Says 4 usage_line s t) (λ order. AnswersOrder held order s t))
+    by_order None = says_one 4 usage_line
+    by_order (Some order) = order_one held order

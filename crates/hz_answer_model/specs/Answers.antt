@@ -1,12 +1,11 @@
 -- What the program answers: this profile, docs/FORMATS.md, 'Answers'.
-use Rattle.std.specs.Prelude.{◌≡◌, ℕ, List, [], Option, Some, MatchOption, ⊤, ◌⊎◌, slice_get, slice_index_or}
+use Rattle.std.specs.Prelude.{◌≡◌, ℕ, List, [], Option, Some, MatchOption, ◌⊎◌, slice_get, slice_index_or}
 use Rattle.hz_check_model.specs.CheckFaults.{CheckFault, CheckFaultAt, IsSound}
 use Rattle.hz_check_model.specs.Places.{Known, class_names}
 use Rattle.hz_mdread_model.specs.DescriptionForms.{DescriptionFault}
 use Rattle.hz_mdread_model.specs.DescriptionForms as description_forms
 use Rattle.hz_mdread_model.specs.Descriptions.{Description}
 use Rattle.hz_answer_model.specs.FaultTexts.{description_words, check_line, check_status}
-use Rattle.hz_sexp_model.specs.Forms as forms
 use Rattle.hz_base_model.specs.Limits.{description_limit, trace_limit}
 use Rattle.hz_check_model.specs.CheckedParts.{automaton_names}
 use Rattle.hz_pipeline_model.specs.Pipelines.{pipeline_with}
@@ -23,7 +22,7 @@ use Rattle.hz_answer_model.specs.Phases.{Held, Says, Next, Opens, HasForms, Trac
 use Rattle.hz_answer_model.specs.BlockAnswers.{block_limit, state_text_limit, JudgesBlock}
 use Rattle.hz_answer_model.specs.ScheduleAnswers.{SchedulesBlock}
 use Rattle.hz_answer_model.specs.DrillAnswers.{Drills}
-use Rattle.hz_answer_model.specs.TableAnswers.{tables_limit, IsTablesOf, WritesTablesOf, HasTables, WalksTrace}
+use Rattle.hz_answer_model.specs.TableAnswers.{tables_limit, WritesTablesOf, HasTables, WalksTrace}
 
 -- the description that forms say, or the first fault of a form
 abbrev pub Describes : List ℕ → Trees → Next Description → ℕ → List ℕ → Type 0
@@ -136,21 +135,3 @@ AnswersOrder held (drill description number turns) = AnswersDrill held descripti
 abbrev pub Answer : List (List ℕ) → Held → ℕ → List ℕ → Type 0
 Answer words held status text =
     MatchOption (order_of words) (Says 4 usage_line status text) (λ order. AnswersOrder held order status text)
-
--- The description that a text says and that has no fault has tables, where its automata are within their limits: what compiling
--- it shows.
-abbrev pub TextHasTables : List ℕ → Type 0
-TextHasTables bytes = (read : Trees) (d : Description) (known : Known) → forms.Reads bytes read → description_forms.Reads read d → IsSound d known → AllKeepLimits d known → (text : List ℕ) × IsTablesOf d known text
-
--- the same of the description of which an order asks for tables, if it is held; the other orders ask for none
-abbrev pub OrderHasTables : Held → Order → Type 0
-OrderHasTables held (compile description) = MatchOption (held description) ⊤ TextHasTables
-OrderHasTables held (replay description trace) = ⊤
-OrderHasTables held (walk tables trace) = ⊤
-OrderHasTables held (schedule description block) = ⊤
-OrderHasTables held (eval block state) = ⊤
-OrderHasTables held (drill description number turns) = MatchOption (held description) ⊤ TextHasTables
-
--- the same of what words ask for
-abbrev pub WordsHaveTables : List (List ℕ) → Held → Type 0
-WordsHaveTables words held = MatchOption (order_of words) ⊤ (OrderHasTables held)

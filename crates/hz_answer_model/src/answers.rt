@@ -1,7 +1,7 @@
 //! Laws of answers.
 
 ghost use Rattle.std.specs.Prelude.{◌≡◌, ℕ, List};
-ghost use Rattle.hz_answer_model.specs.Answers.{Answer, AnswersCompile, AnswersDrill, AnswersSchedule, WordsHaveTables};
+ghost use Rattle.hz_answer_model.specs.Answers.{Answer, AnswersCompile, AnswersDrill, AnswersSchedule};
 ghost use Rattle.hz_answer_model.specs.Headline.{WritesSchedule, ReplayAccepts, ReplayAcceptsEvents, WritesDrill, WritesTables, WalkIsReplay};
 ghost use Rattle.hz_answer_model.specs.Phases.{Held};
 
@@ -48,8 +48,7 @@ pub fn replay_accepts_drills()
     ensures { (held : Held) (description : List ℕ) (number turns : ℕ) (text : List ℕ) (w : WritesDrill held description number turns text) → AnswersDrill held description number turns 0 text → ReplayAcceptsEvents held description w.d w.drill.events }
 {}
 
-/// All words have an answer, whatever is held, where what `compile` and `drill` are asked for has tables: with `one_answer`,
-/// exactly one. Words of the other commands, and words that are no order, have it outright.
+/// All words have an answer, whatever is held: with `one_answer`, exactly one.
 pub fn some_answer()
-    ensures { (words : List (List ℕ)) (held : Held) → WordsHaveTables words held → (status : ℕ) × (text : List ℕ) × Answer words held status text }
+    ensures { (words : List (List ℕ)) (held : Held) → (status : ℕ) × (text : List ℕ) × Answer words held status text }
 {}

@@ -21,21 +21,21 @@ use Rattle.hz_left_model.proofs.ExploreLaws.{IsLed, first, onward, some_is_told,
 use Rattle.hz_left_model.proofs.OnwardLaws.{no_class, steps, is_step, leaves_alike, more_leaves, fewer_leaves}
 
 module _ {U : Type 0} where
-  grids_itself : (xs : List (List (Pair U))) → SameGrids xs xs
+  pub grids_itself : (xs : List (List (Pair U))) → SameGrids xs xs
   grids_itself xs = record { there = λ x is. (x, is, same_pairs_itself x); back = λ x is. (x, is, same_pairs_itself x) }
 
-  grids_joined : (xs ys zs : List (List (Pair U))) → SameGrids xs ys → SameGrids ys zs → SameGrids xs zs
+  pub grids_joined : (xs ys zs : List (List (Pair U))) → SameGrids xs ys → SameGrids ys zs → SameGrids xs zs
   grids_joined xs ys zs one other = record { there = has_then xs ys zs one.there other.there; back = has_then zs ys xs other.back one.back }
 
   -- lists of what events leave that leave alike
-  same_left : (m : Pipeline U) (t v : List Event) (xs ys : List (List (Pair U))) → IsLeft m t xs → IsLeft m v ys → ((grid : List (Pair U)) → Leaves m t grid → Leaves m v grid) → ((grid : List (Pair U)) → Leaves m v grid → Leaves m t grid) → SameGrids xs ys
+  pub same_left : (m : Pipeline U) (t v : List Event) (xs ys : List (List (Pair U))) → IsLeft m t xs → IsLeft m v ys → ((grid : List (Pair U)) → Leaves m t grid → Leaves m v grid) → ((grid : List (Pair U)) → Leaves m v grid → Leaves m t grid) → SameGrids xs ys
   same_left m t v xs ys left also forth back = record {
     there = λ x is. let found = also.all x (forth x (left.only x is)) in (found.0, found.1, same_pairs_back found.0 x found.2);
     back = λ y is. let found = left.all y (back y (also.only y is)) in (found.0, found.1, same_pairs_back found.0 y found.2);
   }
 
   -- and they do where one has the grids of the other
-  left_there : (m : Pipeline U) (t v : List Event) (xs ys : List (List (Pair U))) → IsLeft m t xs → IsLeft m v ys → HasGrids xs ys → (grid : List (Pair U)) → Leaves m t grid → Leaves m v grid
+  pub left_there : (m : Pipeline U) (t v : List Event) (xs ys : List (List (Pair U))) → IsLeft m t xs → IsLeft m v ys → HasGrids xs ys → (grid : List (Pair U)) → Leaves m t grid → Leaves m v grid
   left_there m t v xs ys left also has grid leaves =
       let found = left.all grid leaves in
       let there = has found.0 found.1 in
@@ -45,7 +45,7 @@ module _ {U : Type 0} (same : U → U → Bool) (tells : Tells same) (m : Pipeli
   has_grids_told : (xs ys : List (List (Pair U))) → IsTold (HasGrids xs ys)
   has_grids_told xs ys = each_told (λ (x : List (Pair U)). (y : List (Pair U)) × Contains ys y × SamePairs x y) (λ x. some_is_told (SamePairs x) (pairs_told same tells x) ys) xs
 
-  same_grids_told : (xs ys : List (List (Pair U))) → IsTold (SameGrids xs ys)
+  pub same_grids_told : (xs ys : List (List (Pair U))) → IsTold (SameGrids xs ys)
   same_grids_told xs ys = go (has_grids_told xs ys) (has_grids_told ys xs)
     where
       go : IsTold (HasGrids xs ys) → IsTold (HasGrids ys xs) → IsTold (SameGrids xs ys)
@@ -54,17 +54,17 @@ module _ {U : Type 0} (same : U → U → Bool) (tells : Tells same) (m : Pipeli
       go (inr none) back = inr (λ alike. none alike.there)
 
   -- the state that events leave
-  left_of : List Event → List (List (Pair U))
+  pub left_of : List Event → List (List (Pair U))
   left_of t = (left_listed same tells m t).0
 
-  is_left : (t : List Event) → IsLeft m t (left_of t)
+  pub is_left : (t : List Event) → IsLeft m t (left_of t)
   unfolding left_of
   is_left t = (left_listed same tells m t).1
 
-  forth : (t v : List Event) → SameGrids (left_of t) (left_of v) → (grid : List (Pair U)) → Leaves m t grid → Leaves m v grid
+  pub forth : (t v : List Event) → SameGrids (left_of t) (left_of v) → (grid : List (Pair U)) → Leaves m t grid → Leaves m v grid
   forth t v alike = left_there m t v (left_of t) (left_of v) (is_left t) (is_left v) alike.there
 
-  back : (t v : List Event) → SameGrids (left_of t) (left_of v) → (grid : List (Pair U)) → Leaves m v grid → Leaves m t grid
+  pub back : (t v : List Event) → SameGrids (left_of t) (left_of v) → (grid : List (Pair U)) → Leaves m v grid → Leaves m t grid
   back t v alike = left_there m v t (left_of v) (left_of t) (is_left v) (is_left t) alike.back
 
   -- what is accepted with one event more
@@ -90,7 +90,7 @@ module _ {U : Type 0} (same : U → U → Bool) (tells : Tells same) (m : Pipeli
   led_accepted v (onward {x} {way} before there leads) = (next_is way x v leads).0
 
   -- what leaves the same leaves the same with one event more
-  more_alike : (t v : List Event) (e : Event) → ((grid : List (Pair U)) → Leaves m t grid → Leaves m v grid) → (next : List (Pair U)) → Leaves m (t ++ e ∷ []) next → Leaves m (v ++ e ∷ []) next
+  pub more_alike : (t v : List Event) (e : Event) → ((grid : List (Pair U)) → Leaves m t grid → Leaves m v grid) → (next : List (Pair U)) → Leaves m (t ++ e ∷ []) next → Leaves m (v ++ e ∷ []) next
   more_alike t v e alike next leaves =
       let found = fewer_leaves m t e next leaves in
       more_leaves m v e found.0 next (alike found.0 found.1) found.2
@@ -109,7 +109,7 @@ module _ {U : Type 0} (same : U → U → Bool) (tells : Tells same) (m : Pipeli
       )
 
   -- accepted steps are led to
-  accepted_front : (xs ys : List Event) → Accepted m (xs ++ ys) → Accepted m xs
+  pub accepted_front : (xs ys : List Event) → Accepted m (xs ++ ys) → Accepted m xs
   accepted_front xs ys accepted =
       let run = runs_from_accepted m (xs ++ ys) accepted in
       let parts = run_split m start run.0 xs ys run.1 in
