@@ -1,5 +1,4 @@
-use Rattle.std.proofs.Common.{refl, sym}
-use Rattle.hz_check.specs.Faults.{Tells, IsToldHere, told_of}
+use Rattle.std.proofs.Common.{refl}
 use Rattle.hz_check.proofs.Telling.CheckSteps.{named_there}
 use Rattle.hz_check.proofs.faults.told.fault.Goals as goal
 

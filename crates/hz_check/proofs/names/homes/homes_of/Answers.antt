@@ -1,9 +1,7 @@
-use Rattle.std.proofs.Common.{◌≡◌, ℕ, ◌+◌, List, Option, map, take, Contains, sym, ap, ◌∙◌, subst}
-use Rattle.std.specs.BTreeMap.{BTreeMap}
+use Rattle.std.proofs.Common.{List, map, take, Contains, sym, ◌∙◌, subst}
 use Rattle.hz_mdread.specs.declared.items.UnitItem.{UnitItem as StoredUnit}
 use Rattle.hz_mdread.specs.Shape.{description, unit_item}
-use Rattle.hz_mdread_model.specs.Descriptions.{UnitItem}
-use Rattle.hz_check.proofs.Tables.HomeSteps.{HoldsHomes, homes_kept, homes_more, units_more, unit_within}
+use Rattle.hz_check.proofs.Tables.HomeSteps.{homes_kept, homes_more, units_more, unit_within}
 use Rattle.hz_check.proofs.names.homes.homes_of.Goals as goal
 use Rattle.hz_check.proofs.names.homes.homes_of.Goals.{then-not-contains_key+in_ok-insert, else-not-contains_key}
 
