@@ -8,7 +8,7 @@ use Rattle.hz_tabfile.proofs.reading.each.numbers_below.Goals as goal
 
 pub returns-in_err-number : goal.returns-in_err-number
 returns-in_err-number c =
-    let p = err_from_is_err_and c.from_residual-in_err-number.result c.from_residual-in_err-number.ensures.1 in
+    let p = err_from_is_err_and c.from_residual.result c.from_residual.ensures.1 in
     rw (p.1, p.2) (each_stops (number_below c.args.limit) c.loop-rest.numbers.items c.loop-rest.rest (each_by (number_below c.args.limit) (fields_in c.args.fields)) c.loop-rest.invariant c.in-Some.text c.cut.result.0.now (fields_in c.cut.result.1) c.in-Some.is c.cut.ensures.pieces c.in_err-number.field-0.0 c.in_err-number.ensures)
 
 pub loop-rest-preserved : goal.loop-rest-preserved

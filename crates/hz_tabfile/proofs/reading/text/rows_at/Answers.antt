@@ -13,7 +13,7 @@ use Rattle.hz_tabfile.proofs.reading.text.rows_at.Goals as goal
 
 pub returns-in_err-rest-clause-rows : goal.returns-in_err-rest-clause-rows
 returns-in_err-rest-clause-rows c =
-    let p = err_from_is_err_and c.from_residual-in_err-rest.result c.from_residual-in_err-rest.ensures.1 in
+    let p = err_from_is_err_and c.from_residual.result c.from_residual.ensures.1 in
     rw (p.1, p.2) (many_stops (row_at c.args.columns c.args.states) c.loop.plain.rows c.args.states c.loop.counter (left_of c.loop.rest) (so_many c.args.states (row_at c.args.columns c.args.states) (left_of c.args.rest)) c.loop.invariant.rows c.in_err-rest.field-0.0 c.loop-test.true c.in_err-rest.ensures)
 
 pub push_row-requires-clause-width : goal.push_row-requires-clause-width
