@@ -152,7 +152,13 @@ fn a_sink_keeps_what_fits(rt: HostRuntime) -> Result<(), Fail> {
 #[test]
 fn names_are_told_from_other_bytes(rt: HostRuntime) -> Result<(), Fail> {
     let alloc = rt.alloc();
-    for bytes in [b"d".as_slice(), b"~/a-b.md".as_slice(), b"!".as_slice()] {
+    let long = [b'n'; 300];
+    for bytes in [
+        b"d".as_slice(),
+        b"~/a-b.md".as_slice(),
+        b"!".as_slice(),
+        long.as_slice(),
+    ] {
         let name = FileName::of(alloc, bytes)?.expect(&rt, "a name");
         assert_eq!(rt; name.bytes(), bytes);
     }
