@@ -1,8 +1,10 @@
 -- The operands behind a command.
-use Rattle.std.specs.Prelude.{◌≡◌, ◌≢◌, ℕ, Bool, true, List, [], ◌∷◌, Option, Some, None, codes}
+use Rattle.std.specs.Prelude.{◌≡◌, ◌≢◌, ℕ, Bool, true, List, [], ◌∷◌, Option, Some, None, Result, Ok, Err, codes}
 use Rattle.std.specs.List.{list_any}
 use Rattle.std.specs.Option.{option_map, option_and_then}
 use Rattle.clap.specs.Words.{App, HasMatchesOf, Rule, fault_of, is_simple_and_free, new_app, new_rule, takes, with_rule}
+use Rattle.clap.specs.declared.error.kind.ErrorKind.{ErrorKind}
+use Rattle.clap.specs.declared.error.kind.ErrorKind.TheVariants.{OutOfMemory}
 use Rattle.clap.specs.declared.parser.matches.ArgMatches.{ArgMatches}
 use Rattle.hz_words_model.specs.Words as model
 
@@ -41,6 +43,11 @@ with_three make words = option_and_then (λ operands. make operands.0 operands.1
 abbrev pub Finds : App → List (List ℕ) → Option ArgMatches → Type 0
 Finds app words None = takes app words ≢ true
 Finds app words (Some matches) = (is_simple_and_free app ≡ true → fault_of app words ≡ []) × HasMatchesOf app words matches
+
+-- what is told of words that `clap` refuses for this reason: nothing is found in them, but where memory ran out
+abbrev pub IsRefusal : {Found E : Type 0} → ErrorKind → Result (Option Found) E → Type 0
+IsRefusal reason (Ok found) = (found ≡ None) × (reason ≢ OutOfMemory)
+IsRefusal reason (Err refused) = reason ≡ OutOfMemory
 
 -- an operand, and the commands that have one, two and three
 abbrev pub operand : List ℕ → Rule

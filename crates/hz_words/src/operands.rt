@@ -4,7 +4,7 @@ ghost use Rattle.std.specs.Prelude.{◌≡◌, IfOk, false};
 ghost use Rattle.std.specs.Option.{option_map};
 ghost use Rattle.clap.specs.Words.{app_of};
 ghost use Rattle.hz_words.specs.Shape.{pair_in, triple_in, words_in};
-ghost use Rattle.hz_words.specs.Operands.{Finds, has_option, of_one, of_two, of_three, operand_of, operands_of, triple_of};
+ghost use Rattle.hz_words.specs.Operands.{Finds, IsRefusal, has_option, of_one, of_two, of_three, operand_of, operands_of, triple_of};
 
 use clap::error::ErrorKind;
 use clap::{Arg, ArgMatches, Command};
@@ -31,6 +31,31 @@ fn of_three<'a>(alloc: Global, name: &'a str) -> Result<Command<'a>, AllocError>
     of_two(alloc, name)?.arg(Arg::new(alloc, "third").required(true))
 }
 
+/// What is told of words that `clap` refuses: nothing is found in them, or memory ran out.
+fn refused<'a>(kind: ErrorKind) -> Result<Option<ArgMatches<'a>>, AllocError>
+    ensures { IsRefusal kind result }
+{
+    match kind {
+        ErrorKind::InvalidValue
+        | ErrorKind::UnknownArgument
+        | ErrorKind::InvalidSubcommand
+        | ErrorKind::NoEquals
+        | ErrorKind::ValueValidation
+        | ErrorKind::TooManyValues
+        | ErrorKind::TooFewValues
+        | ErrorKind::WrongNumberOfValues
+        | ErrorKind::ArgumentConflict
+        | ErrorKind::MissingRequiredArgument
+        | ErrorKind::MissingSubcommand
+        | ErrorKind::DisplayHelp
+        | ErrorKind::DisplayHelpOnMissingArgumentOrSubcommand
+        | ErrorKind::DisplayVersion
+        | ErrorKind::Io
+        | ErrorKind::Format => Ok(None),
+        ErrorKind::OutOfMemory => Err(AllocError),
+    }
+}
+
 /// What `clap` finds in the words, None where it refuses them.
 fn found<'a>(
     mut command: Command<'a>,
@@ -40,10 +65,7 @@ fn found<'a>(
 {
     match command.try_get_matches_from_mut(words) {
         Ok(matches) => Ok(Some(matches)),
-        Err(error) => match error.kind() {
-            ErrorKind::OutOfMemory => Err(AllocError),
-            _ => Ok(None),
-        },
+        Err(error) => refused(error.kind()),
     }
 }
 
