@@ -272,6 +272,19 @@ expect 4 "$usage" --version
 expect 4 "$usage" -- compile d
 expect 4 "$usage" compile -- d
 
+# a file that fails behind as many bytes as are allowed: it gives words of eight bytes alone, and no single byte
+words=/proc/self/pagemap
+if [ -r "$words" ]; then
+    expect 6 "file $words could not be read" compile "$words"
+    expect 6 "file $words could not be read" replay "$words" missing
+    expect 6 "file $words could not be read" replay d "$words"
+    expect 6 "file $words could not be read" walk k "$words"
+    expect 6 "file $words could not be read" schedule d "$words"
+    expect 6 "file $words could not be read" eval "$words" missing
+    expect 6 "file $words could not be read" eval b "$words"
+    expect 6 "file $words could not be read" drill "$words" 1 4
+fi
+
 # a file that may not be read, where the user may not read all files
 if [ "$(id -u)" != 0 ]; then
     : > closed

@@ -1,6 +1,8 @@
 //! The program `hz`: the words of the command line, the real files and standard output, and the status.
 #![tactic(auto)]
 
+ghost use Rattle.std.specs.Prelude.{◌≡◌, ◌↔◌, [], IsNone, IfSome};
+
 mod real;
 
 use hz_tool::run;
@@ -11,15 +13,24 @@ use std::io::ErrorKind;
 use std::process::ExitCode;
 use std::rt::Env;
 
+/// The words in place of those that could not be taken for this reason: none where they are no text, and None where memory ran out.
+fn words_without(alloc: Global, reason: ErrorKind) -> Option<Vec<String>>
+    ensures memory { IsNone result ↔ (reason ≡ ErrorKind.OutOfMemory) }
+    ensures none { IfSome result (λ words. words.items ≡ []) }
+{
+    if reason == ErrorKind::OutOfMemory {
+        None
+    } else {
+        Some(Vec::new(alloc))
+    }
+}
+
 /// The words behind the program's own name. Words that are no text are taken as no words at all, and None is want of
 /// memory.
 fn words<R: Env + AllocGlobal>(rt: &R) -> Option<Vec<String>> {
     match env::args(rt) {
         Ok(args) => args.skip(1).collect(rt.alloc()).ok(),
-        Err(error) => match error.kind() {
-            ErrorKind::OutOfMemory => None,
-            _ => Some(Vec::new(rt.alloc())),
-        },
+        Err(error) => words_without(rt.alloc(), error.kind()),
     }
 }
 

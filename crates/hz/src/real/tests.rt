@@ -2,7 +2,7 @@
 ghost use Rattle.std.specs.Prelude.{◌≡◌, ◌-◌, ◌^◌, ◌<◌};
 
 use super::{RealFiles, RealSink};
-use hz_io::{Failed, Files, Sink, slurp};
+use hz_io::{Failed, Files, Sink, SlurpFault, slurp};
 use std::alloc::Global;
 use std::fs;
 use std::test::Fail;
@@ -15,6 +15,12 @@ const LENGTH: usize = 40_000;
 
 /// A limit that no file here reaches.
 const MOST: u64 = 1_000_000;
+
+/// A file of the host, where it has one, that is read in words of eight bytes alone: a read of one byte fails.
+const WORDS: &str = "/proc/self/pagemap";
+
+/// A whole number of reads.
+const SOME: u64 = 65_536;
 
 /// What the file of that name holds, where it's read whole.
 fn held<F: Files>(alloc: Global, files: &mut F) -> Option<Vec<u8>>
@@ -41,6 +47,23 @@ fn a_missing_file_is_counted(rt: HostRuntime) -> Result<(), Fail> {
     assert_eq!(rt; files.faults, 1);
     assert_eq!(rt; files.read(&mut [0u8; 4]), Ok(0));
     assert_eq!(rt; files.faults, 1);
+    Ok(())
+}
+
+#[test]
+fn a_read_that_fails_behind_others_is_counted(rt: HostRuntime) -> Result<(), Fail> {
+    let mut files = RealFiles::new(&rt);
+    if files.open(WORDS).is_err() {
+        return Ok(());
+    }
+    assert_eq!(rt; files.read(&mut [0u8; 4096]), Ok(4096));
+    assert_eq!(rt; files.faults, 0);
+    assert_eq!(rt; files.read(&mut [0u8; 1]), Err(Failed));
+    assert_eq!(rt; files.faults, 1);
+    // all that is allowed is read, and then the byte that would be too many
+    let read = slurp(rt.alloc(), &mut files, WORDS, SOME);
+    assert_eq!(rt; read.err(), Some(SlurpFault::Failed));
+    assert_eq!(rt; files.faults, 2);
     Ok(())
 }
 
