@@ -9,6 +9,7 @@ mod failures;
 mod hostile;
 mod limits;
 mod machines;
+mod malformed;
 mod pairs;
 mod schedules;
 mod splits;

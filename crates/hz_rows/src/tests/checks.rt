@@ -4,7 +4,7 @@ use super::answers;
 use std::test::Fail;
 
 /// Descriptions that are read, with the fault or limit that is told.
-const CHECK_ROWS: &[(&[u8], u8, &[u8])] = &[
+pub const CHECK_ROWS: &[(&[u8], u8, &[u8])] = &[
     // twice defined: units, reservations, both, classes, automata, attributes, values
     (
         b"(define_cpu_unit \"a,b,a\")\n",

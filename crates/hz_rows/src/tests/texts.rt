@@ -4,7 +4,7 @@ use super::answers;
 use std::test::Fail;
 
 /// Texts with a fault that reading finds, each with its text.
-const READING_ROWS: &[(&[u8], u8, &[u8])] = &[
+pub const READING_ROWS: &[(&[u8], u8, &[u8])] = &[
     (b"(define_cpu_unit \"u", 2, b"fault d line 1 Unclosed\n"),
     (b"\n)", 2, b"fault d line 2 Stray\n"),
     (b"\n\n(a \"\\q\")", 2, b"fault d line 3 BadEscape\n"),
