@@ -1,15 +1,17 @@
 -- What `clap` makes of words that do not begin with `-`, for commands of one and of two operands.
 use Rattle.std.proofs.Common.{◌≡◌, ◌≢◌, ◌∙◌, ◌||◌, ℕ, Bool, true, false, true≢false, refl, sym, ap, ap₂, subst, codes, List, [], ◌∷◌, Option, Some, None, is_some}
 use Rattle.std.specs.Option.{option_map, option_zip}
-use Rattle.std.specs.Prelude.{⊤}
+use Rattle.std.specs.Prelude.{⊤, Result, Ok, Err, IfOk}
 use Rattle.std.specs.Str.{bytes_eq}
 use Rattle.clap.specs.Lexer.{long_of, short_of}
 use Rattle.clap.specs.Walk.{is_empty}
 use Rattle.clap.specs.Words.{App, fault_of, first_of, first_value, found_of, is_simple, is_simple_and_free, matches_of, takes}
+use Rattle.clap.specs.declared.error.kind.ErrorKind.{ErrorKind}
+use Rattle.clap.specs.declared.error.kind.ErrorKind.TheVariants.{OutOfMemory}
 use Rattle.clap.specs.declared.parser.matches.ArgMatches.{ArgMatches}
 use Rattle.clap.proofs.OnLiterals.{clap_on_literals}
 use Rattle.clap.proofs.WalkLemmas.{first_value-rows}
-use Rattle.hz_words.specs.Operands.{Finds, has_option, of_one, of_two, of_three, operand_of, operands_of, triple_of}
+use Rattle.hz_words.specs.Operands.{Finds, IsRefusal, has_option, of_one, of_two, of_three, operand_of, operands_of, triple_of}
 use Rattle.hz_words_model.specs.Words.{begins_with_dash}
 
 abbrev pub Word : Type 0
@@ -177,3 +179,8 @@ pub zipped : {A B C D : Type 0} (f : A → C) (g : B → D) (x : Option A) (y : 
 zipped f g None y = refl
 zipped f g (Some x) None = refl
 zipped f g (Some x) (Some y) = refl
+
+-- nothing is found in refused words, which are not taken where memory lasts
+pub refusal_finds : {E : Type 0} (app : App) (words : List Word) (reason : ErrorKind) (told : Result (Option ArgMatches) E) → (takes app words ≡ true → reason ≡ OutOfMemory) → IsRefusal reason told → IfOk told (Finds app words)
+refusal_finds app words reason (Ok found) short (nothing, other) = subst (Finds app words) (sym nothing) (λ (taken : takes app words ≡ true). other (short taken))
+refusal_finds app words reason (Err refused) short h = tt
