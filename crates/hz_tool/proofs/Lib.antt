@@ -1,10 +1,13 @@
 pub mod AnswerLemmas
 pub mod BlockLemmas
+pub mod BlockTurnings
 pub mod JudgeLemmas
 pub mod MachineLemmas
+pub mod ReadLemmas
 pub mod RunLemmas
 pub mod SlotLemmas
 pub mod StartLemmas
 pub mod TraceLemmas
 pub mod TablesLemmas
 pub mod DrillLemmas
+pub mod TurningLemmas

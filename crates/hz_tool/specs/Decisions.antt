@@ -3,10 +3,6 @@ use Rattle.std.specs.Prelude.{◌≡◌, ◌⊎◌, ℕ, ◌+◌, ◌<◌, ⊤, 
 use Rattle.std.specs.declared.alloc.Global.{Global}
 use Rattle.std.specs.declared.vec.Vec.{Vec}
 use Rattle.hz_check.specs.Faults.{limit_of, IsToldAt}
-use Rattle.hz_mdread.specs.Faults.{TellsExpression}
-use Rattle.hz_regexp.specs.declared.fault.ExprFault.{ExprFault}
-use Rattle.hz_regexp.specs.declared.fault.ExprFault.TheVariants as expr
-use Rattle.hz_report.specs.declared.kind.ExpressionKind.{ExpressionKind}
 use Rattle.hz_answer_model.specs.Phases.{Held}
 use Rattle.hz_check_model.specs.CheckFaults.{limit}
 use Rattle.hz_mdread_model.specs.DescriptionForms as description_forms
@@ -93,10 +89,6 @@ abbrev pub IsFormsReport : List ℕ → List ℕ → Report → Type 0
 IsFormsReport name text (Fault file line kind) = (file.now ≡ name) × MatchOption (form_fault kind) ⊥ (λ fault. forms.FaultAt text fault line)
 IsFormsReport name text Memory = ⊤
 IsFormsReport name text _ = ⊥
-
--- the fault of an expression by its kind and place, none for want of memory
-abbrev pub IsExpressionKind : ExprFault → Option (ExpressionKind × ℕ) → Type 0
-IsExpressionKind fault found = MatchOption found (fault ≡ expr.NoMemory) (λ k. TellsExpression (λ kind at. (kind ≡ expression_fault k.0) × (at ≡ k.1)) fault)
 
 -- a report of the description that forms say: the first fault of a form, or memory ran out
 abbrev pub IsDescriptionReport : List ℕ → Trees → Report → Type 0

@@ -4,3 +4,4 @@ pub mod Decisions
 pub mod Endings
 pub mod Fronts
 pub mod Machines
+pub mod Turnings

@@ -1,6 +1,6 @@
 //! The machine of a checked description.
 
-ghost use Rattle.std.specs.Prelude.{◌≡◌, ◌<◌, IfOk, IfErr, [], length, map, slice_index_or};
+ghost use Rattle.std.specs.Prelude.{◌≡◌, IfOk, IfErr, length};
 ghost use Rattle.hz_auto.specs.Machines.{IsFaultOf};
 ghost use Rattle.hz_tool.specs.Compiled.{IsCompiledBy};
 ghost use Rattle.hz_check.specs.Checked.{IsCheckedOf};
@@ -8,26 +8,15 @@ ghost use Rattle.hz_mdread_model.specs.Descriptions.{Description};
 ghost use Rattle.hz_sched_model.specs.Machines.{Settles};
 ghost use Rattle.hz_tables.specs.Machines.{machine_of};
 ghost use Rattle.hz_tool.specs.Decisions.{IsJudged};
-ghost use Rattle.hz_tool.specs.Fronts.{IsStatesReport, IsLimitReport};
+ghost use Rattle.hz_tool.specs.Fronts.{IsLimitReport};
 ghost use Rattle.hz_tool.specs.Machines.{IsMachineFor};
 
+use super::turning::{limited, states_report};
 use hz_auto::{AutoFault, Compiled, compile};
 use hz_check::Checked;
 use hz_report::Report;
 use hz_tables::Machine;
 use std::alloc::Global;
-
-/// The report of an automaton of a description that has too many states.
-fn states_report<'a>(file: &'a str, checked: &Checked, automaton: u32) -> Report<'a>
-    requires { automaton < length checked.now.automata.items }
-    ensures kind { IsJudged result }
-    ensures told { IsStatesReport file.entry.now (slice_index_or (map (λ a. a.name) checked.now.automata.items) automaton []) result }
-{
-    match checked.automata[automaton as usize].name.copy() {
-        Ok(automaton) => Report::States { file, automaton },
-        Err(_) => Report::Memory,
-    }
-}
 
 /// The report of a description that is not compiled.
 fn fault_report<'a>(file: &'a str, checked: &Checked, fault: AutoFault) -> Report<'a>
@@ -35,9 +24,9 @@ fn fault_report<'a>(file: &'a str, checked: &Checked, fault: AutoFault) -> Repor
     ensures kind { IsJudged result }
     ensures told { (d : Description) (is : IsCheckedOf d checked.now) → IsLimitReport file.entry.now d is.known result }
 {
-    match fault {
-        AutoFault::Limit { automaton, kind: _ } => states_report(file, checked, automaton),
-        AutoFault::NoMemory => Report::Memory,
+    match limited(fault) {
+        Some(automaton) => states_report(file, checked.automata[automaton as usize].name.copy()),
+        None => Report::Memory,
     }
 }
 

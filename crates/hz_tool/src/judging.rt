@@ -14,16 +14,16 @@ ghost use Rattle.hz_trace_model.specs.Traces.{Trace, event_lines};
 ghost use Rattle.hz_check.specs.Checked.{IsCheckedOf};
 ghost use Rattle.hz_mdread.specs.Shape.{description};
 ghost use Rattle.hz_sexp.specs.Shape.{trees};
-ghost use Rattle.hz_tool.specs.Decisions.{IsFormsReport, IsExpressionKind, IsDescriptionReport, IsCheckReport, IsRtlReport, IsTraceReport};
+ghost use Rattle.hz_tool.specs.Decisions.{IsFormsReport, IsDescriptionReport, IsCheckReport, IsRtlReport, IsTraceReport};
 ghost use Rattle.hz_replay.specs.Traces.{events_in, lines_in};
 
-use hz_check::{CheckFault, Checked, check};
-use hz_mdread::{Description, MdFault, read_description};
-use hz_regexp::{ExprFault, Name};
-use hz_replay::{Event, TraceFault, read_trace};
-use hz_report::{ExpressionKind, Kind, NamedKind, Report};
-use hz_rtl::{Block, RtlFault, State, read_block, read_state};
-use hz_sexp::{Form, SexpFault, read_forms};
+use super::turning::{check_report, description_report, form_report, line_report, rtl_report};
+use hz_check::{Checked, check};
+use hz_mdread::{Description, read_description};
+use hz_replay::{Event, read_trace};
+use hz_report::Report;
+use hz_rtl::{Block, State, read_block, read_state};
+use hz_sexp::{Form, read_forms};
 use hz_tables::Machine;
 use std::alloc::Global;
 
@@ -33,30 +33,9 @@ pub fn judge_forms<'a>(alloc: Global, file: &'a str, text: &[u8]) -> Result<Vec<
     ensures ok { IfOk result (λ read. forms.Reads text.now (trees read.items)) }
     ensures err { IfErr result (IsFormsReport file.entry.now text.now) }
 {
-    let (line, kind) = match read_forms(alloc, text) {
-        Ok(read) => return Ok(read),
-        Err(SexpFault::Unclosed { line }) => (line, Kind::Unclosed),
-        Err(SexpFault::Stray { line }) => (line, Kind::Stray),
-        Err(SexpFault::BadEscape { line }) => (line, Kind::BadEscape),
-        Err(SexpFault::TooDeep { line }) => (line, Kind::TooDeep),
-        Err(SexpFault::BadByte { line }) => (line, Kind::BadByte),
-        Err(SexpFault::NumberTooLarge { line }) => (line, Kind::NumberTooLarge),
-        Err(SexpFault::NoMemory) => return Err(Report::Memory),
-    };
-    Err(Report::Fault { file, line, kind })
-}
-
-/// What is wrong with an expression, and at which byte of its string. None for want of memory.
-fn expression_kind(fault: ExprFault) -> Option<(ExpressionKind, u32)>
-    ensures { IsExpressionKind fault result }
-{
-    match fault {
-        ExprFault::Unexpected { at } => Some((ExpressionKind::Unexpected, at)),
-        ExprFault::Empty { at } => Some((ExpressionKind::Empty, at)),
-        ExprFault::RepeatZero { at } => Some((ExpressionKind::RepeatZero, at)),
-        ExprFault::TooDeep { at } => Some((ExpressionKind::TooDeep, at)),
-        ExprFault::NumberTooLarge { at } => Some((ExpressionKind::NumberTooLarge, at)),
-        ExprFault::NoMemory => None,
+    match read_forms(alloc, text) {
+        Ok(read) => Ok(read),
+        Err(fault) => Err(form_report(file, fault)),
     }
 }
 
@@ -72,39 +51,9 @@ pub fn judge_description<'a>(
     ensures formed { IfOk result (λ d. IsWellFormed (description d)) }
     ensures err { IfErr result (IsDescriptionReport file.entry.now (trees read.now)) }
 {
-    let (line, kind) = match read_description(alloc, read) {
-        Ok(description) => return Ok(description),
-        Err(MdFault::UnknownForm { line }) => (line, Kind::UnknownForm),
-        Err(MdFault::BadShape { line }) => (line, Kind::BadShape),
-        Err(MdFault::BadCondition { line }) => (line, Kind::BadCondition),
-        Err(MdFault::UnknownOption { line }) => (line, Kind::UnknownOption),
-        Err(MdFault::LatencyLimit { line }) => (line, Kind::LatencyLimit),
-        Err(MdFault::UnknownGuard { line }) => (line, Kind::UnknownGuard),
-        Err(MdFault::BadExpression { line, fault }) => match expression_kind(fault) {
-            Some((kind, at)) => {
-                return Err(Report::Expression {
-                    file,
-                    line,
-                    kind,
-                    at,
-                });
-            }
-            None => return Err(Report::Memory),
-        },
-        Err(MdFault::NoMemory) => return Err(Report::Memory),
-    };
-    Err(Report::Fault { file, line, kind })
-}
-
-/// The report of a fault of a name.
-fn named<'a>(file: &'a str, kind: NamedKind, line: u32, name: Name) -> Report<'a>
-    ensures { result ≡ Report.Named file.entry line kind name }
-{
-    Report::Named {
-        file,
-        line,
-        kind,
-        name,
+    match read_description(alloc, read) {
+        Ok(description) => Ok(description),
+        Err(fault) => Err(description_report(file, fault)),
     }
 }
 
@@ -121,52 +70,7 @@ pub fn judge_check<'a>(
 {
     match check(alloc, described) {
         Ok(checked) => Ok(checked),
-        Err(CheckFault::TwiceDefined { line, name }) => {
-            Err(named(file, NamedKind::TwiceDefined, line, name))
-        }
-        Err(CheckFault::ReservedName { line, name }) => {
-            Err(named(file, NamedKind::ReservedName, line, name))
-        }
-        Err(CheckFault::UnknownName { line, name }) => {
-            Err(named(file, NamedKind::UnknownName, line, name))
-        }
-        Err(CheckFault::UnknownAutomaton { line, name }) => {
-            Err(named(file, NamedKind::UnknownAutomaton, line, name))
-        }
-        Err(CheckFault::UnitNeedsAutomaton { line, name }) => {
-            Err(named(file, NamedKind::UnitNeedsAutomaton, line, name))
-        }
-        Err(CheckFault::CircularReservation { line, name }) => {
-            Err(named(file, NamedKind::CircularReservation, line, name))
-        }
-        Err(CheckFault::SelfExclusion { line, name }) => {
-            Err(named(file, NamedKind::SelfExclusion, line, name))
-        }
-        Err(CheckFault::SetAcrossAutomata { line, name }) => {
-            Err(named(file, NamedKind::SetAcrossAutomata, line, name))
-        }
-        Err(CheckFault::AlternationOfTwoAutomata { line, name }) => {
-            Err(named(file, NamedKind::AlternationOfTwoAutomata, line, name))
-        }
-        Err(CheckFault::AlternationOfTwoLengths { line, name }) => {
-            Err(named(file, NamedKind::AlternationOfTwoLengths, line, name))
-        }
-        Err(CheckFault::BypassTwice { line, name }) => {
-            Err(named(file, NamedKind::BypassTwice, line, name))
-        }
-        Err(
-            CheckFault::Limit {
-                what: limit,
-                line,
-                name,
-            },
-        ) => Err(Report::Passed {
-            file,
-            line,
-            limit,
-            name,
-        }),
-        Err(CheckFault::NoMemory) => Err(Report::Memory),
+        Err(fault) => Err(check_report(file, fault)),
     }
 }
 
@@ -176,16 +80,10 @@ pub fn judge_block<'a>(alloc: Global, file: &'a str, read: &[Form]) -> Result<Bl
     ensures few { IfOk result (λ block. length block.insns.items ≤ blocks.instruction_limit) }
     ensures err { IfErr result (IsRtlReport file.entry.now (blocks.FaultAt (trees read.now))) }
 {
-    let (line, kind) = match read_block(alloc, read) {
-        Ok(block) => return Ok(block),
-        Err(RtlFault::BadShape { line }) => (line, Kind::BadShape),
-        Err(RtlFault::UnknownCode { line }) => (line, Kind::UnknownCode),
-        Err(RtlFault::RegisterRange { line }) => (line, Kind::RegisterRange),
-        Err(RtlFault::Twice { line }) => (line, Kind::Twice),
-        Err(RtlFault::InsnLimit { line }) => (line, Kind::InsnLimit),
-        Err(RtlFault::NoMemory) => return Err(Report::Memory),
-    };
-    Err(Report::Fault { file, line, kind })
+    match read_block(alloc, read) {
+        Ok(block) => Ok(block),
+        Err(fault) => Err(rtl_report(file, fault)),
+    }
 }
 
 /// The state that forms give, or the report of the first that is wrong.
@@ -193,16 +91,10 @@ pub fn judge_state<'a>(alloc: Global, file: &'a str, read: &[Form]) -> Result<St
     ensures ok { IfOk result (λ state. states.Reads (trees read.now) (words state)) }
     ensures err { IfErr result (IsRtlReport file.entry.now (states.FaultAt (trees read.now))) }
 {
-    let (line, kind) = match read_state(alloc, read) {
-        Ok(state) => return Ok(state),
-        Err(RtlFault::BadShape { line }) => (line, Kind::BadShape),
-        Err(RtlFault::UnknownCode { line }) => (line, Kind::UnknownCode),
-        Err(RtlFault::RegisterRange { line }) => (line, Kind::RegisterRange),
-        Err(RtlFault::Twice { line }) => (line, Kind::Twice),
-        Err(RtlFault::InsnLimit { line }) => (line, Kind::InsnLimit),
-        Err(RtlFault::NoMemory) => return Err(Report::Memory),
-    };
-    Err(Report::Fault { file, line, kind })
+    match read_state(alloc, read) {
+        Ok(state) => Ok(state),
+        Err(fault) => Err(rtl_report(file, fault)),
+    }
 }
 
 /// The events of a trace over the classes of a machine, or the report of its first wrong line.
@@ -217,12 +109,8 @@ pub fn judge_trace<'a>(
     ensures lines { IfOk result (λ events. lines_in events.items ≡ event_lines machine.now.classes.items 1 (lines_of text.now)) }
     ensures err { IfErr result (IsTraceReport file.entry.now machine.now.classes.items text.now) }
 {
-    let (line, kind) = match read_trace(alloc, text, machine) {
-        Ok(events) => return Ok(events),
-        Err(TraceFault::BadLine { line }) => (line, Kind::BadLine),
-        Err(TraceFault::UnknownClass { line }) => (line, Kind::UnknownClass),
-        Err(TraceFault::AdvanceLimit { line }) => (line, Kind::AdvanceLimit),
-        Err(TraceFault::NoMemory) => return Err(Report::Memory),
-    };
-    Err(Report::Fault { file, line, kind })
+    match read_trace(alloc, text, machine) {
+        Ok(events) => Ok(events),
+        Err(fault) => Err(line_report(file, fault)),
+    }
 }

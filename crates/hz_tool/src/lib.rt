@@ -11,6 +11,7 @@ mod replaying;
 mod scheduling;
 mod tabulating;
 mod top;
+mod turning;
 mod walking;
 
 pub use top::run;

@@ -4,7 +4,8 @@ ghost use Rattle.std.specs.Prelude.{◌≡◌, ◌⊎◌, ◌-◌, ◌^◌, ◌<
 ghost use Rattle.std.specs.Option.{ForSome};
 ghost use Rattle.hz_tool.specs.Decisions.{CountsFile, TellsFile, IsReadReport};
 
-use hz_io::{Files, SlurpFault, slurp};
+use super::turning::slurp_report;
+use hz_io::{Files, slurp};
 use hz_report::Report;
 use std::alloc::Global;
 
@@ -26,8 +27,6 @@ pub fn read_file<'a, F: Files>(
 {
     match slurp(alloc, files, name, most) {
         Ok(bytes) => Ok(bytes),
-        Err(SlurpFault::Failed) => Err(Report::File { file: name }),
-        Err(SlurpFault::Long { .. }) => Err(Report::Long { file: name }),
-        Err(SlurpFault::NoMemory) => Err(Report::Memory),
+        Err(fault) => Err(slurp_report(name, fault)),
     }
 }

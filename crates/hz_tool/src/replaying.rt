@@ -17,6 +17,7 @@ ghost use Rattle.hz_tool.specs.Machines.{IsIssueIn, Refuses};
 use super::compiling::judge_states;
 use super::describing::judge_described;
 use super::judging::judge_trace;
+use super::turning::refused_at;
 use hz_check::Checked;
 use hz_replay::{Event, Outcome, What, replay};
 use hz_report::Report;
@@ -63,13 +64,7 @@ fn refused_report<'a>(machine: &Machine, event: &Event) -> Report<'a>
     ensures answer { Agrees (Refuses (machine_of machine.now) event.now.line (event_of event.now.what)) result }
 {
     let class = class_of(event.what);
-    match machine.classes[class as usize].copy() {
-        Ok(class) => Report::Refused {
-            line: event.line as u64,
-            class,
-        },
-        Err(_) => Report::Memory,
-    }
+    refused_at(event.line, machine.classes[class as usize].copy())
 }
 
 /// The report of a replay's outcome.

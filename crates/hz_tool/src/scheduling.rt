@@ -3,16 +3,13 @@
 ghost use Rattle.std.specs.Prelude.{◌≡◌, ◌<◌, ◌≤◌, ◌^◌, [], IfOk, length, map, slice_get, slice_index_or};
 ghost use Rattle.hz_answer_model.specs.Answers.{SchedulesByDescription, HasDescription};
 ghost use Rattle.hz_answer_model.specs.BlockAnswers.{IsBlock};
-ghost use Rattle.hz_answer_model.specs.FaultTexts.{class_line, stuck_line};
-ghost use Rattle.hz_answer_model.specs.Phases.{Says};
 ghost use Rattle.hz_answer_model.specs.ScheduleAnswers.{HasClasses, Schedules, SchedulesBlock};
 ghost use Rattle.hz_check.specs.Checked.{IsCheckedOf};
 ghost use Rattle.hz_check_model.specs.Places.{Known};
 ghost use Rattle.hz_depend.specs.Faults.{fault as fault_of};
-ghost use Rattle.hz_depend.specs.GraphShape.{IsSchedulable, class_fault_in, first_class_fault};
-ghost use Rattle.hz_depend_model.specs.Classes.{ambiguous};
+ghost use Rattle.hz_depend.specs.GraphShape.{IsSchedulable};
 ghost use Rattle.hz_mdread_model.specs.Descriptions.{Description};
-ghost use Rattle.hz_rtl.specs.Shape.{instruction, instructions};
+ghost use Rattle.hz_rtl.specs.Shape.{instructions};
 ghost use Rattle.hz_sched.specs.Shape.{graph_of};
 ghost use Rattle.hz_sched_model.specs.Machines.{Settles};
 ghost use Rattle.hz_scheduled_model.specs.BlockGraphs.{IsGraphOf};
@@ -20,11 +17,13 @@ ghost use Rattle.hz_sexp.specs.Shape.{trees};
 ghost use Rattle.hz_tables.specs.Machines.{machine_of};
 ghost use Rattle.hz_tool.specs.Decisions.{Agrees, IsJudged};
 ghost use Rattle.hz_tool.specs.Machines.{IsMachineFor};
-ghost use Rattle.hz_tool.specs.Blocks.{IsFaultIn};
+ghost use Rattle.hz_tool.specs.Blocks.{IsFaultIn, IsWrongIn, IsStuckIn};
+ghost use Rattle.hz_tool.specs.Turnings.{IsClassReport, IsDependReport, IsSchedReport};
 
 use super::compiling::judge_states;
 use super::describing::judge_described;
 use super::judging::{judge_block, judge_forms};
+use super::turning::{ambiguous_report, insn_report};
 use hz_check::Checked;
 use hz_depend::{ClassFault, DependFault, Graph, graph};
 use hz_regexp::{Name, NoMemory};
@@ -47,55 +46,16 @@ fn two_names(machine: &Machine, a: u32, b: u32) -> Result<(Name, Name), NoMemory
     Ok((first, second))
 }
 
-/// The report of an instruction of two classes.
-fn ambiguous_report<'a>(file: &'a str, machine: &Machine, insn: &Insn, a: u32, b: u32) -> Report<'a>
-    requires first { a < length machine.now.classes.items }
-    requires second { b < length machine.now.classes.items }
-    ensures kind { IsJudged result }
-    ensures answer { Agrees (Says 2 (class_line file.entry.now machine.now.classes.items (instruction insn.now) (ambiguous a b))) result }
-{
-    match two_names(machine, a, b) {
-        Ok((first, second)) => Report::Ambiguous {
-            file,
-            line: insn.line,
-            number: insn.number,
-            first,
-            second,
-        },
-        Err(_) => Report::Memory,
-    }
-}
-
 /// The report of an instruction whose class is wrong.
 fn class_report<'a>(file: &'a str, machine: &Machine, insn: &Insn, fault: ClassFault) -> Report<'a>
     requires { IsFaultIn (length machine.now.classes.items) (fault_of fault) }
-    ensures kind { IsJudged result }
-    ensures answer { Agrees (Says 2 (class_line file.entry.now machine.now.classes.items (instruction insn.now) (fault_of fault))) result }
+    ensures { IsClassReport file.entry machine.now.classes.items insn.now fault result }
 {
-    let kind = match fault {
-        ClassFault::UnknownAttribute => InsnKind::UnknownAttribute,
-        ClassFault::UnknownValue => InsnKind::UnknownValue,
-        ClassFault::NoClass => InsnKind::NoClass,
-        ClassFault::Ambiguous { a, b } => return ambiguous_report(file, machine, insn, a, b),
-    };
-    Report::Insn {
-        file,
-        line: insn.line,
-        kind,
-        number: insn.number,
-    }
-}
-
-/// The report of an instruction that can't be issued from the start.
-fn stuck_report<'a>(file: &'a str, insn: &Insn) -> Report<'a>
-    ensures kind { IsJudged result }
-    ensures answer { Agrees (Says 2 (stuck_line file.entry.now (instruction insn.now))) result }
-{
-    Report::Insn {
-        file,
-        line: insn.line,
-        kind: InsnKind::CannotStartAlone,
-        number: insn.number,
+    match fault {
+        ClassFault::UnknownAttribute => insn_report(file, insn, InsnKind::UnknownAttribute),
+        ClassFault::UnknownValue => insn_report(file, insn, InsnKind::UnknownValue),
+        ClassFault::NoClass => insn_report(file, insn, InsnKind::NoClass),
+        ClassFault::Ambiguous { a, b } => ambiguous_report(file, insn, two_names(machine, a, b)),
     }
 }
 
@@ -105,6 +65,37 @@ fn insn_at(block: &Block, place: u32) -> &Insn
     ensures { slice_get block.now.insns.items place ≡ Some result.now }
 {
     &block.insns[place as usize]
+}
+
+/// The report of a block that has no graph.
+fn depend_report<'a>(
+    file: &'a str,
+    machine: &Machine,
+    block: &Block,
+    fault: DependFault,
+) -> Report<'a>
+    requires { IsWrongIn (length machine.now.classes.items) (length block.now.insns.items) fault }
+    ensures { IsDependReport file.entry machine.now.classes.items block.now.insns.items fault result }
+{
+    match fault {
+        DependFault::Class { place, fault } => {
+            class_report(file, machine, insn_at(block, place), fault)
+        }
+        DependFault::NoMemory => Report::Memory,
+    }
+}
+
+/// The report of a block that has no schedule.
+fn sched_report<'a>(file: &'a str, block: &Block, fault: SchedFault) -> Report<'a>
+    requires { IsStuckIn (length block.now.insns.items) fault }
+    ensures { IsSchedReport file.entry block.now.insns.items fault result }
+{
+    match fault {
+        SchedFault::CannotStartAlone { place } => {
+            insn_report(file, insn_at(block, place), InsnKind::CannotStartAlone)
+        }
+        SchedFault::NoMemory => Report::Memory,
+    }
 }
 
 /// The report of a block with its graph, over the machine of the description.
@@ -127,29 +118,7 @@ fn schedule_report<'a>(
             graph,
             schedule,
         },
-        Err(SchedFault::CannotStartAlone { place }) => stuck_report(file, insn_at(block, place)),
-        Err(SchedFault::NoMemory) => Report::Memory,
-    }
-}
-
-/// The report of a block without a graph.
-fn wrong_report<'a>(
-    file: &'a str,
-    checked: &Checked,
-    machine: &Machine,
-    block: &Block,
-    wrong: DependFault,
-) -> Report<'a>
-    requires classes { length machine.now.classes.items ≡ length checked.now.classes.items }
-    requires wrong { class_fault_in (Err wrong) ≡ first_class_fault 0 checked.now block.now.insns.items }
-    ensures kind { IsJudged result }
-    ensures answer { (d : Description) (is : IsCheckedOf d checked.now) → IsMachineFor d is.known (machine_of machine.now) → Agrees (HasClasses file.entry.now d (instructions block.now) (Schedules file.entry.now d is.known (instructions block.now))) result }
-{
-    match wrong {
-        DependFault::Class { place, fault } => {
-            class_report(file, machine, insn_at(block, place), fault)
-        }
-        DependFault::NoMemory => Report::Memory,
+        Err(fault) => sched_report(file, block, fault),
     }
 }
 
@@ -169,7 +138,7 @@ fn block_report<'a>(
 {
     match graph(alloc, checked, block) {
         Ok(graph) => schedule_report(alloc, file, machine, block, graph),
-        Err(wrong) => wrong_report(file, checked, &machine, block, wrong),
+        Err(fault) => depend_report(file, &machine, block, fault),
     }
 }
 

@@ -7,8 +7,9 @@ ghost use Rattle.hz_tabtext_model.specs.Texts.{TableText};
 ghost use Rattle.hz_tool.specs.Decisions.{Agrees, IsJudged, IsTablesReport};
 
 use super::replaying::trace_report;
-use hz_report::{Kind, Report};
-use hz_tabfile::{TabFault, read_tables};
+use super::turning::tables_report;
+use hz_report::Report;
+use hz_tabfile::read_tables;
 use hz_tables::Machine;
 use hz_words::WalkOrder;
 use std::alloc::Global;
@@ -19,17 +20,10 @@ fn judge_tables<'a>(alloc: Global, file: &'a str, text: &[u8]) -> Result<Machine
     ensures ok { IfOk result (λ machine. TableText text.now (machine_of machine)) }
     ensures err { IfErr result (IsTablesReport file.entry.now text.now) }
 {
-    let (line, kind) = match read_tables(alloc, text) {
-        Ok(machine) => return Ok(machine),
-        Err(TabFault::BadHeader { line }) => (line, Kind::BadHeader),
-        Err(TabFault::BadLine { line }) => (line, Kind::BadLine),
-        Err(TabFault::BadNumber { line }) => (line, Kind::BadNumber),
-        Err(TabFault::OutOfRange { line }) => (line, Kind::OutOfRange),
-        Err(TabFault::Truncated { line }) => (line, Kind::Truncated),
-        Err(TabFault::Trailing { line }) => (line, Kind::Trailing),
-        Err(TabFault::NoMemory) => return Err(Report::Memory),
-    };
-    Err(Report::Fault { file, line, kind })
+    match read_tables(alloc, text) {
+        Ok(machine) => Ok(machine),
+        Err(fault) => Err(tables_report(file, fault)),
+    }
 }
 
 /// The report of both texts, the tables judged first.

@@ -1,11 +1,10 @@
-use Rattle.std.proofs.Common.{Err, inl, refl, sym, ap, ◌∙◌, length}
-use Rattle.std.specs.Option.{option_map}
-use Rattle.std.proofs.lemmas.Option.{slice_get-map}
-use Rattle.hz_rtl.specs.Shape.{instruction, instructions}
-use Rattle.hz_sched.specs.Shape.{graph_of, slots_of, alone_in}
-use Rattle.hz_sched.specs.declared.fault.SchedFault.{SchedFault}
+use Rattle.std.proofs.Common.{inl, refl, sym, ◌∙◌, length, arith}
+use Rattle.std.proofs.lemmas.List.{length-map}
+use Rattle.hz_rtl.specs.Shape.{instructions}
+use Rattle.hz_sched.specs.Shape.{graph_of, node_of, slots_of}
+use Rattle.hz_sched_model.proofs.StuckLaws.{first_stuck as stuck_first}
 use Rattle.hz_tables.specs.Machines.{machine_of}
-use Rattle.hz_tool.proofs.JudgeLemmas.{stuck_refused}
+use Rattle.hz_tool.proofs.BlockTurnings.{stuck_within, stuck_judged, stuck_turned}
 use Rattle.hz_tool.proofs.MachineLemmas.{classes_count}
 use Rattle.hz_tool.proofs.SlotLemmas.{nodes_below, schedule_is, text_told}
 use Rattle.hz_tool.proofs.StartLemmas.{each_starts, first_stuck}
@@ -32,15 +31,23 @@ returns-in-Ok-clause-answer c = λ d known machine graph numbers.
       (refl, text_told d m.classes c.args.block.now c.args.graph slots machine.names numbers),
     )
 
-pub returns-in-Err-CannotStartAlone-clause-answer : goal.returns-in-Err-CannotStartAlone-clause-answer
-returns-in-Err-CannotStartAlone-clause-answer c = λ d known machine graph numbers.
+pub sched_report-requires : goal.sched_report-requires
+sched_report-requires c =
+    let m = machine_of c.args.machine in
+    let g = graph_of c.args.graph in
+    let size = c.requires.size in
+    stuck_within (length c.args.block.now.insns.items) c.in-Err.fault
+    (λ place told. let low = (stuck_first m g place (sym c.in-Err.ensures.fault ∙ told)).0 in omega (arith, low, size, length-map c.args.graph.insns.items node_of))
+
+pub returns-in-Err-clause-kind : goal.returns-in-Err-clause-kind
+returns-in-Err-clause-kind c = stuck_judged c.args.file c.args.block.now.insns.items c.in-Err.fault c.sched_report.result c.sched_report.ensures
+
+pub returns-in-Err-clause-answer : goal.returns-in-Err-clause-answer
+returns-in-Err-clause-answer c = λ d known machine graph numbers.
     let m = machine_of c.args.machine in
     let g = graph_of c.args.graph in
     let block = instructions c.args.block.now in
-    let insn = c.insn_at.result.now in
-    let place = c.in-Err-CannotStartAlone.place in
     let ranges = nodes_below (length m.classes) (length d.classes) c.args.graph c.requires.schedulable.classes (classes_count d known m machine) in
-    let told = sym c.in-Err-CannotStartAlone.ensures.fault ∙ ap (λ (e : SchedFault). alone_in (Err e)) c.in-Err-CannotStartAlone.field-0-is in
-    stuck_refused c.args.file.now d known block c.stuck_report.result (instruction insn)
-    (first_stuck d known m machine g block graph ranges place (instruction insn) told (slice_get-map instruction c.args.block.now.insns.items place ∙ ap (option_map instruction) c.insn_at.ensures))
-    c.stuck_report.ensures.answer
+    stuck_turned c.args.file d known c.args.block.now.insns.items c.in-Err.fault c.sched_report.result
+    (λ place i told there. first_stuck d known m machine g block graph ranges place i (sym c.in-Err.ensures.fault ∙ told) there)
+    c.sched_report.ensures
