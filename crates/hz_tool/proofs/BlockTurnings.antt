@@ -83,7 +83,7 @@ wrong_turned file d names insns next (depend.Class place fault) told same first 
 wrong_turned file d names insns next depend.NoMemory told same first is = subst (Agrees (HasClasses file.now d (map instruction insns) next)) (sym is) tt
 
 -- an instruction of two classes is told by their names, or memory ran out
-pub two_turned : {E : Type 0} (file : Bor (List ℕ)) (names : List (List ℕ)) (insn : Insn) (a b : ℕ) (copied : Result (List ℕ × List ℕ) E) → IfOk copied (λ found. (found.0 ≡ slice_index_or names a []) × (found.1 ≡ slice_index_or names b []))
-    → IsClassReport file names insn (class.Ambiguous a b) (ambiguous_report file insn copied)
-two_turned file names insn a b (Ok found) (first, second) = inr (ap₂ (λ (x : List ℕ) (y : List ℕ). report.Ambiguous file insn.line insn.number x y) first second)
-two_turned file names insn a b (Err refused) h = inl refl
+pub two_turned : {E : Type 0} (file : Bor (List ℕ)) (names : List (List ℕ)) (insn : Insn) (a b : ℕ) (copied : Result (List ℕ × List ℕ) E) (told : Report) → told ≡ ambiguous_report file insn copied
+    → IfOk copied (λ found. (found.0 ≡ slice_index_or names a []) × (found.1 ≡ slice_index_or names b [])) → IsClassReport file names insn (class.Ambiguous a b) told
+two_turned file names insn a b (Ok found) told is (first, second) = inr (is ∙ ap₂ (λ (x : List ℕ) (y : List ℕ). report.Ambiguous file insn.line insn.number x y) first second)
+two_turned file names insn a b (Err refused) told is h = inl is

@@ -2,7 +2,7 @@
 use Rattle.std.proofs.Common.{◌≡◌, ℕ, List, map, Some, Result, Ok, Err, slice_get, refl, sym, ap, ◌∙◌, subst}
 use Rattle.std.specs.Prelude.{IfOk}
 use Rattle.std.specs.Borrow.{Bor}
-use Rattle.hz_acceptance_model.specs.Events.{issue}
+use Rattle.hz_acceptance_model.specs.Events.{Event, issue}
 use Rattle.hz_auto.specs.Faults.{count_of}
 use Rattle.hz_auto.specs.Machines.{IsFaultOf}
 use Rattle.hz_auto.specs.declared.fault.AutoFault.{AutoFault}
@@ -26,6 +26,7 @@ use Rattle.hz_regexp.specs.declared.fault.ExprFault.TheVariants as expression
 use Rattle.hz_replay.specs.Traces.{IsTraceFault}
 use Rattle.hz_replay.specs.declared.fault.TraceFault.{TraceFault}
 use Rattle.hz_replay.specs.declared.fault.TraceFault.TheVariants as trace
+use Rattle.hz_report.specs.declared.report.Report.{Report}
 use Rattle.hz_rtl.specs.Faults as rtl_faults
 use Rattle.hz_rtl.specs.declared.fault.RtlFault.{RtlFault}
 use Rattle.hz_rtl.specs.declared.fault.RtlFault.TheVariants as rtl
@@ -40,7 +41,7 @@ use Rattle.hz_tabfile.specs.declared.reading.fault.TabFault.{TabFault}
 use Rattle.hz_tabfile.specs.declared.reading.fault.TabFault.TheVariants as tables
 use Rattle.hz_tabtext_model.specs.Reading.{tables_in}
 use Rattle.hz_tables_model.specs.Machines.{Machine}
-use Rattle.hz_tool.specs.Decisions.{Agrees, IsFormsReport, IsDescriptionReport, IsCheckReport, IsRtlReport, IsTablesReport, IsTraceReport}
+use Rattle.hz_tool.specs.Decisions.{Agrees, IsJudged, IsFormsReport, IsDescriptionReport, IsCheckReport, IsRtlReport, IsTablesReport, IsTraceReport}
 use Rattle.hz_tool.specs.Fronts.{IsStatesReport}
 use Rattle.hz_tool.specs.Machines.{Refuses}
 use Rattle.hz_tool.specs.Turnings.{form_report, expression_report, description_report, check_report, rtl_report, line_report, tables_report, states_report, refused_at, limited}
@@ -116,10 +117,20 @@ pub states_turned : {E : Type 0} (file : Bor (List ℕ)) (automaton : List ℕ) 
 states_turned file automaton (Ok name) same = (refl, same)
 states_turned file automaton (Err refused) h = tt
 
+-- a report of an automaton past its limit is one of texts that were judged
+pub states_judged : {E : Type 0} (file : Bor (List ℕ)) (copied : Result (List ℕ) E) (told : Report) → told ≡ states_report file copied → IsJudged told
+states_judged file (Ok name) told is = subst IsJudged (sym is) tt
+states_judged file (Err refused) told is = subst IsJudged (sym is) tt
+
 -- a refused issue is told by the name of its class, or memory ran out
-pub refused_turned : {E : Type 0} (m : Machine) (line class : ℕ) (name : List ℕ) (copied : Result (List ℕ) E) → slice_get m.classes class ≡ Some name → IfOk copied (λ n. n ≡ name) → Agrees (Refuses m line (issue class)) (refused_at line copied)
-refused_turned m line class name (Ok n) there same = (class, n, refl, there ∙ ap Some (sym same), (refl, refl))
-refused_turned m line class name (Err refused) there h = tt
+pub refused_turned : {E : Type 0} (m : Machine) (line class : ℕ) (e : Event) (name : List ℕ) (copied : Result (List ℕ) E) (told : Report) → e ≡ issue class → slice_get m.classes class ≡ Some name → IfOk copied (λ n. n ≡ name)
+    → told ≡ refused_at line copied → Agrees (Refuses m line e) told
+refused_turned m line class e name (Ok n) told same there named is = subst (Agrees (Refuses m line e)) (sym is) (class, n, same, there ∙ ap Some (sym named), (refl, refl))
+refused_turned m line class e name (Err refused) told same there named is = subst (Agrees (Refuses m line e)) (sym is) tt
+
+pub refused_judged : {E : Type 0} (line : ℕ) (copied : Result (List ℕ) E) (told : Report) → told ≡ refused_at line copied → IsJudged told
+refused_judged line (Ok name) told is = subst IsJudged (sym is) tt
+refused_judged line (Err refused) told is = subst IsJudged (sym is) tt
 
 same_number : (a b : ℕ) → Some a ≡ Some b → a ≡ b
 same_number a b e = cc

@@ -1,6 +1,6 @@
 //! The machine of a checked description.
 
-ghost use Rattle.std.specs.Prelude.{◌≡◌, IfOk, IfErr, length};
+ghost use Rattle.std.specs.Prelude.{◌≡◌, ◌<◌, IfOk, IfErr, [], length, map, slice_index_or};
 ghost use Rattle.hz_auto.specs.Machines.{IsFaultOf};
 ghost use Rattle.hz_tool.specs.Compiled.{IsCompiledBy};
 ghost use Rattle.hz_check.specs.Checked.{IsCheckedOf};
@@ -14,9 +14,18 @@ ghost use Rattle.hz_tool.specs.Machines.{IsMachineFor};
 use super::turning::{limited, states_report};
 use hz_auto::{AutoFault, Compiled, compile};
 use hz_check::Checked;
+use hz_regexp::{Name, NoMemory};
 use hz_report::Report;
 use hz_tables::Machine;
 use std::alloc::Global;
+
+/// The name of an automaton.
+fn name_of(checked: &Checked, automaton: u32) -> Result<Name, NoMemory>
+    requires { automaton < length checked.now.automata.items }
+    ensures { IfOk result (λ name. name ≡ slice_index_or (map (λ a. a.name) checked.now.automata.items) automaton []) }
+{
+    checked.automata[automaton as usize].name.copy()
+}
 
 /// The report of a description that is not compiled.
 fn fault_report<'a>(file: &'a str, checked: &Checked, fault: AutoFault) -> Report<'a>
@@ -25,7 +34,7 @@ fn fault_report<'a>(file: &'a str, checked: &Checked, fault: AutoFault) -> Repor
     ensures told { (d : Description) (is : IsCheckedOf d checked.now) → IsLimitReport file.entry.now d is.known result }
 {
     match limited(fault) {
-        Some(automaton) => states_report(file, checked.automata[automaton as usize].name.copy()),
+        Some(automaton) => states_report(file, name_of(checked, automaton)),
         None => Report::Memory,
     }
 }

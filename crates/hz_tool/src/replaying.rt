@@ -1,6 +1,6 @@
 //! The phases of `replay`, in their order: the description, its machine, the trace and its replay.
 
-ghost use Rattle.std.specs.Prelude.{◌≡◌, ℕ, ◌<◌, ◌≤◌, ◌^◌, length, All};
+ghost use Rattle.std.specs.Prelude.{◌≡◌, ℕ, ◌<◌, ◌≤◌, ◌^◌, length, slice_get, All};
 ghost use Rattle.hz_base_model.specs.Limits.{advance_limit};
 ghost use Rattle.hz_acceptance_model.specs.Events.{issue, cycles_of, IsOfClass};
 ghost use Rattle.hz_answer_model.specs.Answers.{ReplaysDescription, Judges};
@@ -19,6 +19,7 @@ use super::describing::judge_described;
 use super::judging::judge_trace;
 use super::turning::refused_at;
 use hz_check::Checked;
+use hz_regexp::Name;
 use hz_replay::{Event, Outcome, What, replay};
 use hz_report::Report;
 use hz_tables::{Machine, Steps};
@@ -57,6 +58,14 @@ fn class_of(what: What) -> u32
     }
 }
 
+/// The name of a class.
+fn name_of(machine: &Machine, class: u32) -> &Name
+    requires { class < length machine.now.classes.items }
+    ensures { slice_get machine.now.classes.items class ≡ Some result.now }
+{
+    &machine.classes[class as usize]
+}
+
 /// The report of the first event that does not fit, an issue.
 fn refused_report<'a>(machine: &Machine, event: &Event) -> Report<'a>
     requires { IsIssueIn (machine_of machine.now) (event_of event.now.what) }
@@ -64,7 +73,7 @@ fn refused_report<'a>(machine: &Machine, event: &Event) -> Report<'a>
     ensures answer { Agrees (Refuses (machine_of machine.now) event.now.line (event_of event.now.what)) result }
 {
     let class = class_of(event.what);
-    refused_at(event.line, machine.classes[class as usize].copy())
+    refused_at(event.line, name_of(machine, class).copy())
 }
 
 /// The report of a replay's outcome.

@@ -37,12 +37,12 @@ depend_report-requires c =
     let low = wrong_within checked 0 insns place e here in
     (omega (arith, low), subst (λ (n : ℕ). IsFaultIn n e) (sym c.requires.classes) (wrong_below checked 0 insns place e here)))
 
-pub returns-in-Err-clause-kind : goal.returns-in-Err-clause-kind
-returns-in-Err-clause-kind c =
+pub returns-clause-kind : goal.returns-clause-kind
+returns-clause-kind c =
     wrong_judged c.args.file c.args.machine.classes.items c.args.block.now.insns.items c.in-Err.fault c.depend_report.result c.depend_report.ensures
 
-pub returns-in-Err-clause-answer : goal.returns-in-Err-clause-answer
-returns-in-Err-clause-answer c = λ d is machine.
+pub returns-clause-answer : goal.returns-clause-answer
+returns-clause-answer c = λ d is machine.
     let checked = c.args.checked.now in
     let block = c.args.block.now in
     wrong_turned c.args.file d c.args.machine.classes.items block.insns.items (Schedules c.args.file.now d is.known (instructions block)) c.in-Err.fault c.depend_report.result machine.names

@@ -39,11 +39,11 @@ sched_report-requires c =
     stuck_within (length c.args.block.now.insns.items) c.in-Err.fault
     (λ place told. let low = (stuck_first m g place (sym c.in-Err.ensures.fault ∙ told)).0 in omega (arith, low, size, length-map c.args.graph.insns.items node_of))
 
-pub returns-in-Err-clause-kind : goal.returns-in-Err-clause-kind
-returns-in-Err-clause-kind c = stuck_judged c.args.file c.args.block.now.insns.items c.in-Err.fault c.sched_report.result c.sched_report.ensures
+pub returns-clause-kind : goal.returns-clause-kind
+returns-clause-kind c = stuck_judged c.args.file c.args.block.now.insns.items c.in-Err.fault c.sched_report.result c.sched_report.ensures
 
-pub returns-in-Err-clause-answer : goal.returns-in-Err-clause-answer
-returns-in-Err-clause-answer c = λ d known machine graph numbers.
+pub returns-clause-answer : goal.returns-clause-answer
+returns-clause-answer c = λ d known machine graph numbers.
     let m = machine_of c.args.machine in
     let g = graph_of c.args.graph in
     let block = instructions c.args.block.now in
