@@ -1,4 +1,4 @@
-use Rattle.std.proofs.Common.{length, sym, subst}
+use Rattle.std.proofs.Common.{sym, subst}
 use Rattle.hz_sched.specs.declared.fault.SchedFault.{SchedFault}
 use Rattle.hz_tool.specs.Turnings.{IsSchedReport}
 use Rattle.hz_tool.proofs.scheduling.sched_report.Goals as goal
