@@ -48,6 +48,16 @@ expect_sink() {
     ends 7 '' "$@"
 }
 
+# expect_front WORDS..: the program, given the words, writes a front of its text into a file that may have no more, and tells it
+expect_front() {
+    "$hz" "$@" > whole
+    (trap '' XFSZ && ulimit -f 1 && exec "$hz" "$@" > front 2> errors)
+    status=$?
+    text=
+    { [ -s front ] && head -c "$(wc -c < front)" whole | cmp -s - front; } || text='no front'
+    ends 7 '' "$@"
+}
+
 # lines FILE LINE..: makes the file of these lines
 lines() {
     file=$1
@@ -95,6 +105,7 @@ lines far 'advance 16777216' 'issue x' 'advance 1'
 printf ' issue\tx\r\n\n; again\nissue x' > spaced
 head -c 67108864 /dev/zero | tr '\0' '\n' > longest_trace
 { cat longest_trace; echo; } > long_trace
+yes 'advance 0' | head -n 1000001 > many_events
 
 # blocks and a state
 lines b '(insn 1 (set (reg 2) (plus (reg 1) (const_int 1))))'
@@ -140,6 +151,7 @@ expect 6 'file missing could not be read' compile missing
 expect 6 'file folder could not be read' compile folder
 expect_memory 32768 compile most_states
 expect_sink compile d
+expect_front compile most_states
 
 # replay
 expect 0 'accepted 2 issues 1 cycles' replay d t
@@ -147,6 +159,7 @@ expect 0 'accepted 0 issues 0 cycles' replay d empty
 expect 0 'accepted 0 issues 0 cycles' replay empty empty
 expect 0 'accepted 0 issues 0 cycles' replay longest empty
 expect 0 'accepted 0 issues 0 cycles' replay d longest_trace
+expect 0 'accepted 0 issues 0 cycles' replay d many_events
 expect 0 'accepted 2 issues 1 cycles' replay two_automata t
 expect 0 'accepted 2 issues 0 cycles' replay ndfa both
 expect 1 'refused line 2 x' replay d twice

@@ -179,6 +179,9 @@ fn names_are_ordered_by_their_bytes(rt: HostRuntime) -> Result<(), Fail> {
     for bytes in [b"".as_slice(), b"a b", b"a,b", b"\x7f", b"\xc3"] {
         assert!(rt; Name::of(alloc, bytes)?.is_none());
     }
+    let long = [b'n'; 300];
+    let name = Name::of(alloc, long.as_slice())?.expect(&rt, "a long name");
+    assert_eq!(rt; name.bytes(), long.as_slice());
     let mut names = parse_names(alloc, b"b,a,ab,A").expect(&rt, "four names");
     names.sort()?;
     let mut joined = Vec::new(alloc);
