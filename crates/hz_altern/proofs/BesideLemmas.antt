@@ -1,25 +1,27 @@
 -- Parts that begin in the same cycle, of which those with one alternative are joined as one and the others one by one.
-use Rattle.std.proofs.Common.{◌≡◌, ℕ, ◌+◌, ◌<◌, ◌≤◌, max, List, [], ◌∷◌, ◌++◌, length, map, take, drop, get_or, All, refl, sym, ap, ◌∙◌, subst, arith, append_assoc, length-append}
+use Rattle.std.proofs.Common.{◌≡◌, ◌↔◌, inl, inr, ⊎_elim, Contains, ℕ, ◌+◌, ◌<◌, ◌≤◌, max, List, [], ◌∷◌, ◌++◌, length, map, take, drop, get_or, All, refl, sym, ap, ◌∙◌, subst, arith, append_assoc, length-append}
 use Rattle.std.specs.Prelude.{IsTrue}
 use Rattle.std.proofs.lemmas.Bool.{and_parts}
 use Rattle.std.proofs.lemmas.List.{append-nil, length-map}
-use Rattle.std.proofs.lemmas.List.Elements.{All-contains, All-head, All-tail, All-nil, All-cons, Contains-get_or}
+use Rattle.std.proofs.lemmas.List.Elements.{All-contains, All-head, All-tail, All-nil, All-cons, Contains-get_or, Contains-append_left, Contains-append_right, Contains-append_cases}
 use Rattle.hz_base_model.specs.Limits.{cycle_limit, automaton_limit, unit_limit}
 use Rattle.hz_base_model.specs.Pairs.{Pair, SamePairs, placed}
+use Rattle.hz_base_model.proofs.Elements.{Contains-nil}
+use Rattle.hz_cycles.specs.declared.cycles.Cycles.{Cycles}
 use Rattle.hz_altern.specs.Answers.{total_weight, Refuses}
 use Rattle.hz_altern.specs.declared.fault.AlternFault.{AlternFault}
 use Rattle.hz_altern.specs.declared.joining.Joining.TheVariants.{Together}
 use Rattle.hz_altern.specs.declared.known.Known.{Known}
-use Rattle.hz_altern.specs.declared.leaves.Leaf.{Leaf}
+use Rattle.hz_altern.specs.declared.leaves.Leaves.{Leaves}
 use Rattle.hz_altern.specs.declared.mark.Mark.TheVariants.{Plus}
 use Rattle.hz_altern.specs.Joinings.{IsListed, joined_by}
-use Rattle.hz_altern.specs.Leaves.{all_pairs, leaves_pairs, EndsBy, IsGathered}
+use Rattle.hz_altern.specs.Leaves.{all_pairs, BeginsIn, Begins, Takes, AllEndBy, IsGathered}
 use Rattle.hz_altern.specs.Tables.{alternatives_in, known_alternatives, is_held}
 use Rattle.hz_altern.proofs.ChoiceWeights.{firsts_weigh, seconds_weigh}
 use Rattle.hz_altern.proofs.GatherLemmas.{together_of, part_at}
 use Rattle.hz_altern.proofs.HalfLemmas.{greatest-listed}
 use Rattle.hz_altern.proofs.KnownLemmas.{some_of, placed_of, some_of_parts, placed_of_parts, all_listed}
-use Rattle.hz_altern.proofs.LeafLemmas.{only as the_only, same_itself, same_then, same_equal, placed_now}
+use Rattle.hz_altern.proofs.LeafLemmas.{only as the_only, placed_now}
 use Rattle.hz_altern.proofs.Lengths.{greatest-beside, greatest-each_choice}
 use Rattle.hz_altern.proofs.ListedLemmas.{IsListed-listed}
 use Rattle.hz_altern.proofs.PartLemmas.{halves, are_expressions-append, all_names_in-append}
@@ -27,11 +29,11 @@ use Rattle.hz_altern.proofs.Weights.{refuses_larger}
 use Rattle.hz_regexp.specs.declared.expr.Expr.{Expr}
 use Rattle.hz_regexp.specs.Shape.{expression, expressions}
 use Rattle.hz_altern_model.specs.Alternatives.{Alternative, Expression, nothing, idle, beside, each_choice, alternatives_of, parts_of}
-use Rattle.hz_altern_model.specs.AlternativeLists.{IsPlaced, greatest_length}
+use Rattle.hz_altern_model.specs.AlternativeLists.{IsPlaced, IsAscending, greatest_length}
 use Rattle.hz_altern_model.specs.Automata.{UnitPlace, ascending, listed}
 use Rattle.hz_altern_model.specs.Expressions.{is_expression, are_expressions}
 use Rattle.hz_altern_model.specs.NamesIn.{all_names, all_names_in}
-use Rattle.hz_altern_model.proofs.AscendingLaws.{same_ascending, ascending_same}
+use Rattle.hz_altern_model.proofs.AscendingLaws.{same_ascending, ascending_same, ascending_is}
 use Rattle.hz_altern_model.proofs.ExpressionLaws.{length-each_choice, one_beside, positive_product}
 use Rattle.hz_altern_model.proofs.ListedLaws.{map-each_choice, each_choice-assoc, All-each_choice, listed_beside, together-append}
 use Rattle.hz_altern_model.proofs.PlacedLaws.{beside_placed, idle_placed}
@@ -40,8 +42,19 @@ use Rattle.hz_altern_model.proofs.SamePairsLaws.{same_append, append_swapped}
 abbrev Alternatives : Type 0
 Alternatives = List (Alternative UnitPlace)
 
-abbrev whole : List (Pair UnitPlace) → ℕ → Alternative UnitPlace
+abbrev pub whole : List (Pair UnitPlace) → ℕ → Alternative UnitPlace
 whole pairs cycles = record { pairs = pairs; cycles = cycles }
+
+-- ---- pairs as sets
+
+same_itself : (ps : List (Pair UnitPlace)) → SamePairs ps ps
+same_itself ps = λ p. (λ c. c, λ c. c)
+
+same_then : (ps qs rs : List (Pair UnitPlace)) → SamePairs ps qs → SamePairs qs rs → SamePairs ps rs
+same_then ps qs rs h k = λ p. (λ c. (k p).0 ((h p).0 c), λ c. (h p).1 ((k p).1 c))
+
+same_equal : (ps qs : List (Pair UnitPlace)) → ps ≡ qs → SamePairs ps qs
+same_equal ps qs e = subst (SamePairs ps) e (same_itself ps)
 
 -- ---- alternatives beside one another, listed
 
@@ -117,34 +130,37 @@ placed_same a b pairs cycles is =
 
 -- ---- parts so far
 
--- the parts with one alternative as one, which runs for so many cycles
-abbrev pub as_one : Known → List Leaf → ℕ → Alternative UnitPlace
-as_one known leaves cycles = whole (leaves_pairs known leaves) cycles
-
 -- Parts behind `nothing`, which changes no alternative: those with one are taken apart into leaves, the others listed.
-pub record IsBeside (known : Known) (es : List Expression) (leaves : List Leaf) (cycles : ℕ) (others : Alternatives) : Type 0 where
-  pub ends : All (EndsBy known cycle_limit) leaves
-  pub is_placed : IsPlaced (as_one known leaves cycles)
+pub record IsBeside (known : Known) (es : List Expression) (leaves : Leaves) (cycles : ℕ) (others : Alternatives) : Type 0 where
+  pub ends : AllEndBy known cycle_limit leaves
+  pub pairs : List (Pair UnitPlace)
+  pub taken : (p : Pair UnitPlace) → Contains pairs p ↔ Takes known leaves p
+  pub is_placed : IsPlaced (whole pairs cycles)
   pub short : cycles ≤ cycle_limit
   pub are_listed : All IsListed others
   pub some : 0 < length others
   pub short_others : greatest_length others ≤ cycle_limit
-  pub same : map listed (together_of known (nothing ∷ es)) ≡ joins (listed (as_one known leaves cycles) ∷ []) others
+  pub same : map listed (together_of known (nothing ∷ es)) ≡ joins (listed (whole pairs cycles) ∷ []) others
 
 module _ (known : Known) where
   abbrev of : List Expression → Alternatives
   of = together_of known
 
-  pub none_beside : (leaves : List Leaf) (others : Alternatives) → leaves ≡ [] → others ≡ idle ∷ [] → IsBeside known [] leaves 1 others
-  none_beside leaves others none only = subst (λ (ls : List Leaf). IsBeside known [] ls 1 others) (sym none) (subst (λ os. IsBeside known [] [] 1 os) (sym only) (record {
-    ends = All-nil (EndsBy known cycle_limit);
+  pub none_beside : (leaves : Leaves) (others : Alternatives) → leaves.names.entries ≡ [] → others ≡ idle ∷ [] → IsBeside known [] leaves 1 others
+  none_beside leaves others none only = subst (λ os. IsBeside known [] leaves 1 os) (sym only) (record {
+    ends = λ name start b. absurd (begins name start b);
+    pairs = [];
+    taken = λ p. (λ c. absurd (Contains-nil p c), λ t. absurd (begins t.name t.start t.begins));
     is_placed = idle_placed;
     short = omega arith;
     are_listed = All-cons IsListed idle [] (IsListed-listed idle idle_placed) (All-nil IsListed);
     some = omega arith;
     short_others = omega arith;
     same = refl;
-  }))
+  })
+    where
+      begins : (name : List ℕ) (start : ℕ) → Begins leaves name start → ⊥
+      begins name start b = subst (λ (es : List (List ℕ × Cycles)). BeginsIn es name start) none b
 
   parted : (es fs : List Expression) → map listed (of (es ++ fs)) ≡ joins (map listed (of es)) (map listed (of fs))
   parted es fs = ap (map listed) (together-append (known_alternatives known) es fs) ∙ listed_choices (of es) (of fs)
@@ -152,24 +168,26 @@ module _ (known : Known) where
   last : (es : List Expression) (e : Expression) → map listed (of (es ++ e ∷ [])) ≡ joins (map listed (of es)) (map listed (alternatives_of (known_alternatives known) e))
   last es e = parted es (e ∷ []) ∙ ap (λ xs. joins (map listed (of es)) (map listed xs)) (one_beside (alternatives_of (known_alternatives known) e))
 
-  module _ (es : List Expression) (e : Expression) (leaves : List Leaf) (cycles : ℕ) (others : Alternatives) (before : IsBeside known es leaves cycles others) (formed : IsTrue (is_expression e)) (short : greatest_length (alternatives_of (known_alternatives known) e) ≤ cycle_limit) where
+  module _ (es : List Expression) (e : Expression) (leaves : Leaves) (cycles : ℕ) (others : Alternatives) (before : IsBeside known es leaves cycles others) (formed : IsTrue (is_expression e)) (short : greatest_length (alternatives_of (known_alternatives known) e) ≤ cycle_limit) where
     abbrev xs : Alternatives
     xs = alternatives_of (known_alternatives known) e
 
     -- one more part with one alternative
-    pub single_more : (new : List Leaf) (now : ℕ) → length xs ≡ 1 → IsGathered known 0 xs leaves new → now ≡ max (greatest_length xs) cycles → IsBeside known (es ++ e ∷ []) new now others
+    pub single_more : (new : Leaves) (now : ℕ) → length xs ≡ 1 → IsGathered known 0 xs leaves new → now ≡ max (greatest_length xs) cycles → IsBeside known (es ++ e ∷ []) new now others
     single_more new now one gathered is =
         let (a, alone) = the_only xs one in
         let long : greatest_length xs ≡ a.cycles = ap greatest_length alone ∙ (let most : max a.cycles 0 ≡ a.cycles = omega arith in most) in
         let these : placed 0 (all_pairs xs) ≡ a.pairs = placed_now (all_pairs xs) ∙ (ap all_pairs alone ∙ append-nil a.pairs) in
-        let pairs : SamePairs (leaves_pairs known new) (leaves_pairs known leaves ++ a.pairs) = subst (λ ps. SamePairs (leaves_pairs known new) (leaves_pairs known leaves ++ ps)) these gathered.pairs in
+        let both : List (Pair UnitPlace) = before.pairs ++ a.pairs in
         let cycled : now ≡ max cycles a.cycles = omega arith in
-        let joined : listed (as_one known new now) ≡ listed (beside (as_one known leaves cycles) a) = same_listed (as_one known new now) (beside (as_one known leaves cycles) a) pairs cycled in
+        let joined : listed (whole both now) ≡ listed (beside (whole before.pairs cycles) a) = same_listed (whole both now) (beside (whole before.pairs cycles) a) (same_itself both) cycled in
         let placed_a : IsPlaced a = All-head IsPlaced a [] (subst (All IsPlaced) alone (placed_of known e formed)) in
         let still = before.short in
         record {
           ends = gathered.ends cycle_limit (omega arith) before.ends;
-          is_placed = placed_same (beside (as_one known leaves cycles) a) (as_one known new now) pairs cycled (beside_placed (as_one known leaves cycles) a before.is_placed placed_a);
+          pairs = both;
+          taken = λ p. (there a these p, back a these p);
+          is_placed = placed_same (beside (whole before.pairs cycles) a) (whole both now) (same_itself both) cycled (beside_placed (whole before.pairs cycles) a before.is_placed placed_a);
           short = omega arith;
           are_listed = before.are_listed;
           some = before.some;
@@ -177,10 +195,22 @@ module _ (known : Known) where
           same =
               last (nothing ∷ es) e
               ∙ (ap (λ ws. joins ws (map listed xs)) before.same
-              ∙ (ap (λ ys. joins (joins (listed (as_one known leaves cycles) ∷ []) others) (map listed ys)) alone
-              ∙ (joins_rotated (as_one known leaves cycles) a others
+              ∙ (ap (λ ys. joins (joins (listed (whole before.pairs cycles) ∷ []) others) (map listed ys)) alone
+              ∙ (joins_rotated (whole before.pairs cycles) a others
               ∙ ap (λ w. joins (w ∷ []) others) (sym joined))));
         }
+      where
+        there : (a : Alternative UnitPlace) → placed 0 (all_pairs xs) ≡ a.pairs → (p : Pair UnitPlace) → Contains (before.pairs ++ a.pairs) p → Takes known new p
+        there a these p c = ⊎_elim
+            (λ (o : Contains before.pairs p). (gathered.pairs p).1 (inl ((before.taken p).0 o)))
+            (λ (m : Contains a.pairs p). (gathered.pairs p).1 (inr (subst (λ (ps : List (Pair UnitPlace)). Contains ps p) (sym these) m)))
+            (Contains-append_cases before.pairs a.pairs p c)
+
+        back : (a : Alternative UnitPlace) → placed 0 (all_pairs xs) ≡ a.pairs → (p : Pair UnitPlace) → Takes known new p → Contains (before.pairs ++ a.pairs) p
+        back a these p t = ⊎_elim
+            (λ (o : Takes known leaves p). Contains-append_left before.pairs a.pairs p ((before.taken p).1 o))
+            (λ (m : Contains (placed 0 (all_pairs xs)) p). Contains-append_right before.pairs a.pairs p (subst (λ (ps : List (Pair UnitPlace)). Contains ps p) these m))
+            ((gathered.pairs p).0 t)
 
     -- one more part with several
     module _ (held : IsTrue (all_names (is_held (alternatives_in known)) e)) where
@@ -196,11 +226,11 @@ module _ (known : Known) where
           let still = before.short_others in
           omega (arith, greatest-listed xs)
 
-      joined_more : map listed (of (nothing ∷ (es ++ e ∷ []))) ≡ joins (listed (as_one known leaves cycles) ∷ []) (joins others (map listed xs))
+      joined_more : map listed (of (nothing ∷ (es ++ e ∷ []))) ≡ joins (listed (whole before.pairs cycles) ∷ []) (joins others (map listed xs))
       joined_more =
           last (nothing ∷ es) e
           ∙ (ap (λ ws. joins ws (map listed xs)) before.same
-          ∙ each_choice-assoc with_listed joins-assoc (listed (as_one known leaves cycles) ∷ []) others (map listed xs))
+          ∙ each_choice-assoc with_listed joins-assoc (listed (whole before.pairs cycles) ∷ []) others (map listed xs))
 
       listed_both : All IsListed (joins others (map listed xs))
       listed_both = All-each_choice IsListed with_listed listed_with others (map listed xs) before.are_listed listed_more
@@ -208,6 +238,8 @@ module _ (known : Known) where
       pub others_more : (new : Alternatives) → new ≡ joins others (map listed xs) → IsBeside known (es ++ e ∷ []) leaves cycles new
       others_more new is = subst (IsBeside known (es ++ e ∷ []) leaves cycles) (sym is) (record {
         ends = before.ends;
+        pairs = before.pairs;
+        taken = before.taken;
         is_placed = before.is_placed;
         short = before.short;
         are_listed = listed_both;
@@ -219,7 +251,7 @@ module _ (known : Known) where
       -- what is refused of the others is refused of the parts so far
       pub refused_more : (fault : AlternFault) → Refuses (joins others (map listed xs)) fault → Refuses (map listed (of (nothing ∷ (es ++ e ∷ [])))) fault
       refused_more = refuses_larger (joins others (map listed xs)) (map listed (of (nothing ∷ (es ++ e ∷ [])))) (subst (λ ws. total_weight (joins others (map listed xs)) ≤ total_weight ws) (sym joined_more)
-          (seconds_weigh Together (listed (as_one known leaves cycles) ∷ []) (joins others (map listed xs))
+          (seconds_weigh Together (listed (whole before.pairs cycles) ∷ []) (joins others (map listed xs))
           (All-cons IsListed _ [] (IsListed-listed _ before.is_placed) (All-nil IsListed)) listed_both (omega arith)))
 
       -- what is refused of the part is refused of the parts so far
@@ -290,12 +322,20 @@ module _ (known : Known) where
 
 -- ---- the single one and the others
 
-module _ (known : Known) (es : List Expression) (leaves : List Leaf) (cycles : ℕ) (others : Alternatives) (are : IsBeside known es leaves cycles others) (some : 0 < length es) (formed : IsTrue (are_expressions (parts_of es))) where
+module _ (known : Known) (es : List Expression) (leaves : Leaves) (cycles : ℕ) (others : Alternatives) (are : IsBeside known es leaves cycles others) (some : 0 < length es) (formed : IsTrue (are_expressions (parts_of es))) where
   abbrev one : Alternatives
-  one = listed (as_one known leaves cycles) ∷ []
+  one = listed (whole are.pairs cycles) ∷ []
+
+  -- what is listed of the leaves is the one alternative
+  pub listed_pairs : (pairs : List (Pair UnitPlace)) → IsAscending pairs → ((p : Pair UnitPlace) → Contains pairs p ↔ Takes known leaves p) → pairs ≡ ascending are.pairs
+  listed_pairs pairs up same = sym (ascending_is are.pairs pairs up (λ p. (λ c. (are.taken p).1 ((same p).0 c), λ c. (same p).1 ((are.taken p).0 c))))
+
+  -- and none of its pairs is too late
+  pub within_length : (p : Pair UnitPlace) → Takes known leaves p → p.cycle < cycles
+  within_length p t = All-contains (λ (q : Pair UnitPlace). q.cycle < cycles) are.pairs p are.is_placed.within ((are.taken p).1 t)
 
   pub listed_single : All IsListed one
-  listed_single = All-cons IsListed (listed (as_one known leaves cycles)) [] (IsListed-listed (as_one known leaves cycles) are.is_placed) (All-nil IsListed)
+  listed_single = All-cons IsListed (listed (whole are.pairs cycles)) [] (IsListed-listed (whole are.pairs cycles) are.is_placed) (All-nil IsListed)
 
   pub short_both : greatest_length (joins one others) ≤ cycle_limit
   short_both =

@@ -1,24 +1,28 @@
 -- Parts of an expression with one alternative, gathered one by one.
-use Rattle.std.proofs.Common.{◌≡◌, ℕ, zero, suc, ◌+◌, ◌*◌, ◌<◌, ◌≤◌, max, Bool, Option, Some, None, List, [], ◌∷◌, ◌++◌, length, take, drop, get_or, All, refl, sym, ap, ◌∙◌, subst, arith, length-append}
+use Rattle.std.proofs.Common.{◌≡◌, ℕ, zero, suc, ◌+◌, ◌*◌, ◌<◌, ◌≤◌, max, Bool, Option, Some, None, List, [], ◌∷◌, ◌++◌, length, take, drop, get_or, Contains, ◌⊎◌, inl, inr, ⊎_elim, refl, sym, ap, ◌∙◌, subst, arith, length-append}
 use Rattle.std.specs.Prelude.{IsTrue, is_some}
 use Rattle.std.specs.BTreeMap.{get}
 use Rattle.std.specs.Option.{option_map}
 use Rattle.std.specs.Ordering.{nat_cmp}
 use Rattle.std.specs.Cmp.Lexicographic.{slice_cmp}
-use Rattle.std.proofs.Math.Nat.{mul-le-mul_left}
+use Rattle.std.proofs.Math.Nat.{mul-le-mul_left, mul_comm}
 use Rattle.std.proofs.lemmas.Bool.{and_parts}
 use Rattle.std.proofs.lemmas.List.{map-append, take_more}
-use Rattle.std.proofs.lemmas.List.Elements.{All-nil}
+use Rattle.std.proofs.lemmas.List.Elements.{Contains-append_left, Contains-append_right, Contains-append_cases}
+use Rattle.hz_base_model.specs.Limits.{cycle_limit}
+use Rattle.hz_base_model.specs.Pairs.{Pair, placed, later}
+use Rattle.hz_base_model.proofs.Elements.{Contains-nil, Contains-map, Contains-from_map}
+use Rattle.hz_cycles.specs.declared.cycles.Cycles.{Cycles}
 use Rattle.hz_altern.specs.declared.known.Entry.{Entry}
 use Rattle.hz_altern.specs.declared.known.Known.{Known}
 use Rattle.hz_altern.specs.declared.measure.Extent.{Extent}
 use Rattle.hz_altern.specs.Extents.{told}
 use Rattle.hz_altern.specs.Shapes.{alternatives}
-use Rattle.hz_altern.specs.declared.leaves.Leaf.{Leaf}
-use Rattle.hz_altern.specs.Leaves.{EndsBy, IsGathered, AreAdded}
+use Rattle.hz_altern.specs.declared.leaves.Leaves.{Leaves}
+use Rattle.hz_altern.specs.Leaves.{all_pairs, BeginsIn, Begins, BeginsInCopy, AddsCopies, Takes, AllEndBy, IsGathered}
 use Rattle.hz_altern.specs.Tables.{alternatives_in, known_alternatives, known_extent, is_held}
-use Rattle.hz_altern.proofs.KnownLemmas.{some_of}
-use Rattle.hz_altern.proofs.LeafLemmas.{sequence_gathered, again_gathered}
+use Rattle.hz_altern.proofs.KnownLemmas.{some_of, name_runs}
+use Rattle.hz_altern.proofs.LeafLemmas.{placed_now, placed_again, pairs_followed}
 use Rattle.hz_altern.proofs.Lengths.{greatest-followed, greatest-beside, greatest-copies}
 use Rattle.hz_altern.proofs.Nodes.{nodes, all_nodes}
 use Rattle.hz_altern.proofs.PartLemmas.{halves}
@@ -169,13 +173,107 @@ module _ (xs : Alternatives) where
       let more = mul-le-mul_left {m = n + 1} {n = times} (greatest_length xs) (omega arith) in
       omega (arith, greatest-copies (n + 1) xs (omega arith), greatest-copies times xs (omega arith))
 
-  module _ (known : Known) (one : length xs ≡ 1) (start : ℕ) (once : List Leaf) (gathered : IsGathered known 0 xs [] once) where
-    pub copy_gathered : (n : ℕ) (old mid new : List Leaf) → IsGathered known start (copies n xs) old mid → AreAdded known (start + greatest_length (copies n xs)) once mid new → IsGathered known start (copies (n + 1) xs) old new
-    copy_gathered n old mid new before added =
-        subst (λ ys. IsGathered known start ys old new) (sym (copies_next n))
-        (sequence_gathered known start (copies n xs) xs old mid new (one_copied one n) one before (again_gathered known _ xs once mid new gathered added))
+  pub copied_long : length xs ≡ 1 → (n long : ℕ) → long ≡ greatest_length xs → n * long ≡ greatest_length (copies n xs)
+  copied_long one n long is = mul_comm n long ∙ (ap (λ (m : ℕ). m * n) is ∙ sym (greatest-copies n xs (omega arith)))
 
-    pub copy_ends : (at most : ℕ) → at + greatest_length xs ≤ most → All (λ (leaf : Leaf). at + leaf.start ≤ most) once
-    copy_ends at most low k d lt =
-        let ends = (gathered.ends (greatest_length xs) (omega arith) (All-nil (EndsBy known (greatest_length xs))) k d lt).ends in
-        omega arith
+  -- the pairs of copies are those of the one, from each copy's cycle on
+  copy_at : length xs ≡ 1 → (n start : ℕ) (p : Pair UnitPlace) → Contains (placed start (all_pairs (copies n xs))) p → (copy : ℕ) × (copy < n) × Contains (placed (start + copy * greatest_length xs) (all_pairs xs)) p
+  copy_at one zero start p c = absurd (Contains-nil p c)
+  copy_at one (suc n) start p c =
+      ⊎_elim
+      (λ (here : Contains (placed start (all_pairs xs)) p). (0, omega arith, subst (λ (s : ℕ). Contains (placed s (all_pairs xs)) p) (omega arith) here))
+      (λ (there : Contains (placed (start + greatest_length xs) (all_pairs (copies n xs))) p).
+      let rest = copy_at one n (start + greatest_length xs) p there in
+      (suc rest.0, (let within = rest.1 in omega arith), subst (λ (s : ℕ). Contains (placed s (all_pairs xs)) p) (next rest.0) rest.2))
+      (Contains-append_cases _ _ p (subst (λ (ps : List (Pair UnitPlace)). Contains ps p) (pairs_followed start xs (copies n xs) one (one_copied one n)) c))
+    where
+      next : (k : ℕ) → (start + greatest_length xs) + k * greatest_length xs ≡ start + suc k * greatest_length xs
+      next k = omega arith
+
+  copy_among : length xs ≡ 1 → (n start copy : ℕ) (p : Pair UnitPlace) → copy < n → Contains (placed (start + copy * greatest_length xs) (all_pairs xs)) p → Contains (placed start (all_pairs (copies n xs))) p
+  copy_among one zero start copy p lt c = absurd (omega arith)
+  copy_among one (suc n) start zero p lt c =
+      let here = subst (λ (s : ℕ). Contains (placed s (all_pairs xs)) p) (omega arith) c in
+      subst (λ (ps : List (Pair UnitPlace)). Contains ps p) (sym (pairs_followed start xs (copies n xs) one (one_copied one n))) (Contains-append_left (placed start (all_pairs xs)) _ p here)
+  copy_among one (suc n) start (suc k) p lt c =
+      let there = copy_among one n (start + greatest_length xs) k p (omega arith) (subst (λ (s : ℕ). Contains (placed s (all_pairs xs)) p) (omega arith) c) in
+      subst (λ (ps : List (Pair UnitPlace)). Contains ps p) (sym (pairs_followed start xs (copies n xs) one (one_copied one n))) (Contains-append_right (placed start (all_pairs xs)) _ p there)
+
+  -- Leaves that were gathered by themselves, added in the cycles of all copies.
+  module _ (known : Known) (one : length xs ≡ 1) (none once : Leaves) (nothing : none.names.entries ≡ []) (gathered : IsGathered known 0 xs none once) where
+    none_begins : (name : List ℕ) (cycle : ℕ) → Begins none name cycle → ⊥
+    none_begins name cycle b = subst (λ (es : List (List ℕ × Cycles)). BeginsIn es name cycle) nothing b
+
+    -- the part's pairs, each of a name from its cycle on
+    once_from : (p : Pair UnitPlace) → Contains (all_pairs xs) p → Takes known once p
+    once_from p c = (gathered.pairs p).1 (inr (subst (λ (ps : List (Pair UnitPlace)). Contains ps p) (sym (placed_now (all_pairs xs))) c))
+
+    once_to : (p : Pair UnitPlace) → Takes known once p → Contains (all_pairs xs) p
+    once_to p t = ⊎_elim (λ (n : Takes known none p). absurd (none_begins n.name n.start n.begins)) (λ (c : Contains (placed 0 (all_pairs xs)) p). subst (λ (ps : List (Pair UnitPlace)). Contains ps p) (placed_now (all_pairs xs)) c) ((gathered.pairs p).0 t)
+
+    once_ends : AllEndBy known (greatest_length xs) once
+    once_ends = gathered.ends (greatest_length xs) (omega arith) (λ name cycle b. absurd (none_begins name cycle b))
+
+    module _ (times start : ℕ) (old new : Leaves) (added : AddsCopies once.names.entries times (greatest_length xs) start old new) where
+      abbrev apart : ℕ
+      apart = greatest_length xs
+
+      -- where a copy of a name ends
+      copy_ends : (name : List ℕ) (copy earlier : ℕ) → copy < times → Begins once name earlier → (start + (copy * apart + earlier)) + greatest_length (known_alternatives known name) ≤ start + greatest_length (copies times xs)
+      copy_ends name copy earlier lt b =
+          let ends = (once_ends name earlier b).ends in
+          let within = copies_within one copy times lt in
+          let some : 0 < length xs = omega arith in
+          let long = greatest-copies copy xs some in
+          let swapped = mul_comm (greatest_length xs) copy in
+          omega arith
+
+      there : (p : Pair UnitPlace) → Takes known new p → Takes known old p ⊎ Contains (placed start (all_pairs (copies times xs))) p
+      there p t =
+          ⊎_elim
+          (λ (b : Begins old t.name t.start). inl (record { name = t.name; start = t.start; begins = b; taken = t.taken }))
+          (λ (b : BeginsInCopy once.names.entries times apart start t.name t.start).
+          let pairs = all_pairs (known_alternatives known t.name) in
+          let at : t.start ≡ (start + b.copy * apart) + b.earlier = (let is = b.later in omega arith) in
+          let taken = subst (λ (ps : List (Pair UnitPlace)). Contains ps p) (sym (placed_again (start + b.copy * apart) b.earlier pairs)) (subst (λ (s : ℕ). Contains (placed s pairs) p) at t.taken) in
+          let first = Contains-from_map (later (start + b.copy * apart)) (placed b.earlier pairs) p taken in
+          let among = once_to first.0 (record { name = t.name; start = b.earlier; begins = b.begins; taken = first.1 }) in
+          inr (copy_among one times start b.copy p b.within (subst (λ (q : Pair UnitPlace). Contains (placed (start + b.copy * apart) (all_pairs xs)) q) first.2 (Contains-map (later (start + b.copy * apart)) (all_pairs xs) first.0 among))))
+          ((added t.name t.start).0 t.begins)
+
+      module _ (short : start + greatest_length (copies times xs) ≤ cycle_limit) where
+        from_copy : (p : Pair UnitPlace) → Contains (placed start (all_pairs (copies times xs))) p → Takes known new p
+        from_copy p c =
+            let at = copy_at one times start p c in
+            let first = Contains-from_map (later (start + at.0 * apart)) (all_pairs xs) p at.2 in
+            let t = once_from first.0 first.1 in
+            let pairs = all_pairs (known_alternatives known t.name) in
+            let ends = copy_ends t.name at.0 t.start at.1 t.begins in
+            let one_known = (once_ends t.name t.start t.begins).one in
+            let runs = name_runs known t.name one_known in
+            let is : (start + at.0 * apart) + t.start ≡ start + (at.0 * apart + t.start) = omega arith in
+            record {
+              name = t.name;
+              start = start + (at.0 * apart + t.start);
+              begins = (added t.name (start + (at.0 * apart + t.start))).1 (inr (record { inside = omega arith; copy = at.0; within = at.1; earlier = t.start; begins = t.begins; later = refl }));
+              taken = subst (λ (s : ℕ). Contains (placed s pairs) p) is
+                  (subst (λ (ps : List (Pair UnitPlace)). Contains ps p) (placed_again (start + at.0 * apart) t.start pairs)
+                  (subst (λ (q : Pair UnitPlace). Contains (placed (start + at.0 * apart) (placed t.start pairs)) q) first.2 (Contains-map (later (start + at.0 * apart)) (placed t.start pairs) first.0 t.taken)));
+            }
+
+        pub copies_gathered : IsGathered known start (copies times xs) old new
+        copies_gathered = record {
+          pairs = λ p. (
+            there p,
+            λ c. ⊎_elim
+                (λ (t : Takes known old p). record { name = t.name; start = t.start; begins = (added t.name t.start).1 (inl t.begins); taken = t.taken })
+                (from_copy p) c,
+          );
+          ends = λ most low each name cycle b. ⊎_elim
+              (each name cycle)
+              (λ (c : BeginsInCopy once.names.entries times apart start name cycle).
+              let ends = copy_ends name c.copy c.earlier c.within c.begins in
+              let is = c.later in
+              record { one = (once_ends name c.earlier c.begins).one; ends = omega arith })
+              ((added name cycle).0 b);
+        }

@@ -17,7 +17,7 @@ use Rattle.hz_altern.specs.Extents.{told}
 use Rattle.hz_altern.proofs.PartLemmas.{some_joined}
 use Rattle.hz_altern.proofs.ListedLemmas.{listed_itself, IsListed-listed}
 use Rattle.hz_altern_model.specs.Alternatives.{Alternative, Expression, alternatives_of, parts_of}
-use Rattle.hz_altern_model.specs.AlternativeLists.{IsPlaced, extent_of}
+use Rattle.hz_altern_model.specs.AlternativeLists.{IsPlaced, extent_of, greatest_length}
 use Rattle.hz_altern_model.specs.Automata.{UnitPlace, listed}
 use Rattle.hz_altern_model.specs.Expressions.{is_expression, are_expressions}
 use Rattle.hz_altern_model.specs.NamesIn.{all_names, all_names_in}
@@ -55,6 +55,14 @@ module _ (k : Known) where
 
   some_known : (name : List ℕ) → IsTrue (is_held (alternatives_in k) name) → 0 < length (known_alternatives k name)
   some_known name h = some_entry (get (slice_cmp nat_cmp) k.names name) h
+
+  -- a name with one alternative runs for some cycle
+  pub name_runs : (name : List ℕ) → length (known_alternatives k name) ≡ 1 → 0 < greatest_length (known_alternatives k name)
+  name_runs name one = runs (known_alternatives k name) one (placed_known name)
+    where
+      runs : (xs : List (Alternative UnitPlace)) → length xs ≡ 1 → All IsPlaced xs → 0 < greatest_length xs
+      runs [] one each = absurd (omega arith)
+      runs (x ∷ xs) one each = let some = (All-head IsPlaced x xs each).runs in omega arith
 
   -- ---- expressions
 

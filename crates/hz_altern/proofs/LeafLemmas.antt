@@ -1,34 +1,22 @@
 -- What expressions with one alternative are taken apart into.
-use Rattle.std.proofs.Common.{◌≡◌, ℕ, ◌+◌, ◌<◌, ◌≤◌, max, ⊎_elim, Bool, true, false, List, [], ◌∷◌, ◌++◌, length, take, drop, get_or, All, Contains, length-append, refl, sym, ap, ◌∙◌, subst, arith, append_assoc, zero-add, if◌then◌else◌}
-use Rattle.std.specs.List.{flat_map, list_any}
-use Rattle.std.proofs.lemmas.Bool.{and_parts, eqb-true}
-use Rattle.std.proofs.lemmas.List.{append-nil, map-append, take_more, get_or_append_left, take-append-drop}
-use Rattle.std.proofs.lemmas.List.Concat.{flat_map-append}
-use Rattle.std.proofs.lemmas.List.Elements.{All-contains, All-push, All-nil, All-head, Contains-append_left, Contains-append_right, Contains-append_cases, Contains-push}
-use Rattle.std.proofs.lemmas.Slice.Eq.{bytes_eq-Decides}
-use Rattle.indexmap.specs.IndexSet.{insert_key}
-use Rattle.indexmap.proofs.CallerLemmas.{Contains-list_any}
-use Rattle.hz_base_model.specs.Pairs.{Pair, SamePairs, placed, later}
-use Rattle.hz_base_model.proofs.Ascending.{AllPairs-map}
-use Rattle.hz_base_model.proofs.Elements.{Contains-nil, Contains-cons_cases}
-use Rattle.hz_base_model.specs.Limits.{cycle_limit}
-use Rattle.hz_altern.specs.declared.alternative.Alt.{Alt}
-use Rattle.hz_altern.specs.declared.alternative.Pair.{Pair as StoredPair}
-use Rattle.hz_altern.specs.Shapes.{pair_of, pairs_of, alternative_of, alternatives}
-use Rattle.hz_altern.proofs.ListLemmas.{All-from_map}
-use Rattle.hz_altern.specs.contracts.leaves.LeafPartialEq.TheImpl.{eq-value}
+use Rattle.std.proofs.Common.{◌≡◌, ◌↔◌, ◌⊎◌, inl, inr, ℕ, ◌+◌, ◌*◌, ◌≤◌, max, ⊎_elim, Bool, true, false, cond, List, [], ◌∷◌, ◌++◌, length, take, drop, slice_get, Option, Some, Contains, refl, sym, ap, ◌∙◌, subst, arith, zero-add, if◌then◌else◌}
+use Rattle.std.proofs.lemmas.List.{append-nil, map-append, take_more, take-append-drop}
+use Rattle.std.proofs.lemmas.List.Elements.{Contains-append_left, Contains-append_right, Contains-append_cases}
+use Rattle.std.proofs.lemmas.Option.{slice_get_within, get_or_from_slice_get}
+use Rattle.std.specs.Map.{lookup}
+use Rattle.indexmap.specs.IndexMap.{insert_entry}
+use Rattle.hz_base_model.specs.Pairs.{Pair, placed, later}
+use Rattle.hz_base_model.proofs.Elements.{Contains-nil}
+use Rattle.hz_cycles.specs.Sets.{HasCycle, IsLater, IsCopied}
+use Rattle.hz_cycles.specs.declared.cycles.Cycles.{Cycles}
 use Rattle.hz_altern.specs.declared.known.Known.{Known}
-use Rattle.hz_altern.specs.declared.leaves.Leaf.{Leaf}
-use Rattle.hz_altern.specs.Leaves.{all_pairs, leaf_pairs, leaves_pairs, EndsBy, IsGathered, AreAdded}
+use Rattle.hz_altern.specs.declared.leaves.Leaves.{Leaves}
+use Rattle.hz_altern.specs.Leaves.{all_pairs, BeginsIn, Begins, BeginsToo, BeginsInCopy, AddsCopies, HasIn, TakesIn, Takes, EndsBy, IsGathered}
 use Rattle.hz_altern.specs.Tables.{known_alternatives}
 use Rattle.hz_altern.proofs.Lengths.{greatest-followed, greatest-beside}
 use Rattle.hz_altern_model.specs.Alternatives.{Alternative, followed_by, beside, each_choice}
-use Rattle.hz_altern_model.specs.AlternativeLists.{greatest_length, IsAscending, IsSound}
-use Rattle.hz_altern_model.specs.Automata.{UnitPlace, ascending}
-use Rattle.hz_altern_model.proofs.AscendingLaws.{Precedes, Precedes-later, pair_at, same_ascending, ascending_same, ascending_itself}
-use Rattle.hz_altern_model.proofs.SamePairsLaws.{same_append, same_placed}
-
--- ---- pairs as sets
+use Rattle.hz_altern_model.specs.AlternativeLists.{greatest_length}
+use Rattle.hz_altern_model.specs.Automata.{UnitPlace}
 
 abbrev Pairs : Type 0
 Pairs = List (Pair UnitPlace)
@@ -36,23 +24,152 @@ Pairs = List (Pair UnitPlace)
 abbrev Alternatives : Type 0
 Alternatives = List (Alternative UnitPlace)
 
-pub same_itself : (ps : Pairs) → SamePairs ps ps
-same_itself ps = λ p. (λ c. c, λ c. c)
+abbrev Entries : Type 0
+Entries = List (List ℕ × Cycles)
 
-pub same_then : (ps qs rs : Pairs) → SamePairs ps qs → SamePairs qs rs → SamePairs ps rs
-same_then ps qs rs h k = λ p. (λ c. (k p).0 ((h p).0 c), λ c. (h p).1 ((k p).1 c))
+-- ---- entries
 
-pub same_equal : (ps qs : Pairs) → ps ≡ qs → SamePairs ps qs
-same_equal ps qs e = subst (SamePairs ps) e (same_itself ps)
+module _ (name : List ℕ) (cycle : ℕ) where
+  pub begins_front : (es fs : Entries) → BeginsIn es name cycle → BeginsIn (es ++ fs) name cycle
+  begins_front [] fs b = absurd b
+  begins_front (e ∷ es) fs (inl here) = inl here
+  begins_front (e ∷ es) fs (inr there) = inr (begins_front es fs there)
 
-Contains-flat_map : {X Y : Type 0} (f : X → List Y) (xs : List X) (x : X) (y : Y) → Contains xs x → Contains (f x) y → Contains (flat_map f xs) y
-Contains-flat_map f [] x y c d = absurd (Contains-nil x c)
-Contains-flat_map f (z ∷ xs) x y c d = ⊎_elim
-    (λ (here : z ≡ x). Contains-append_left (f z) (flat_map f xs) y (subst (λ w. Contains (f w) y) (sym here) d))
-    (λ (there : Contains xs x). Contains-append_right (f z) (flat_map f xs) y (Contains-flat_map f xs x y there d))
-    (Contains-cons_cases z x xs c)
+  pub begins_back : (es fs : Entries) → BeginsIn fs name cycle → BeginsIn (es ++ fs) name cycle
+  begins_back [] fs b = b
+  begins_back (e ∷ es) fs b = inr (begins_back es fs b)
 
-placed_again : (m n : ℕ) (ps : Pairs) → placed m (placed n ps) ≡ placed (m + n) ps
+  pub begins_cases : (es fs : Entries) → BeginsIn (es ++ fs) name cycle → BeginsIn es name cycle ⊎ BeginsIn fs name cycle
+  begins_cases [] fs b = inr b
+  begins_cases (e ∷ es) fs (inl here) = inl (inl here)
+  begins_cases (e ∷ es) fs (inr there) = ⊎_elim (λ (b : BeginsIn es name cycle). inl (inr b)) (λ (b : BeginsIn fs name cycle). inr b) (begins_cases es fs there)
+
+-- the cycles of a name with further ones, in the place of those that it had
+module _ (eq : List ℕ → List ℕ → Bool) (same : (x y : List ℕ) → eq x y ≡ true → x ≡ y) (name : List ℕ) (more all : Cycles) where
+  abbrev pub Joined : Option Cycles → Type 0
+  Joined before = (cycle : ℕ) → HasCycle all cycle ↔ (HasIn before cycle ⊎ HasCycle more cycle)
+
+  abbrev pub More : (old new : Entries) → Type 0
+  More old new = (other : List ℕ) (cycle : ℕ) → BeginsIn new other cycle ↔ (BeginsIn old other cycle ⊎ ((name ≡ other) × HasCycle more cycle))
+
+  here_more : (e : List ℕ × Cycles) (es : Entries) → name ≡ e.0 → Joined (Some e.1) → More (e ∷ es) ((e.0, all) ∷ es)
+  here_more e es is joined other cycle = (there, back)
+    where
+      there : BeginsIn ((e.0, all) ∷ es) other cycle → BeginsIn (e ∷ es) other cycle ⊎ ((name ≡ other) × HasCycle more cycle)
+      there (inl h) = ⊎_elim (λ (old : HasCycle e.1 cycle). inl (inl (h.0, old))) (λ (new : HasCycle more cycle). inr (is ∙ h.0, new)) ((joined cycle).0 h.1)
+      there (inr b) = inl (inr b)
+
+      back : BeginsIn (e ∷ es) other cycle ⊎ ((name ≡ other) × HasCycle more cycle) → BeginsIn ((e.0, all) ∷ es) other cycle
+      back (inl (inl h)) = inl (h.0, (joined cycle).1 (inl h.1))
+      back (inl (inr b)) = inr b
+      back (inr h) = inl (sym is ∙ h.0, (joined cycle).1 (inr h.1))
+
+  there_more : (e : List ℕ × Cycles) (es fs : Entries) → More es fs → More (e ∷ es) (e ∷ fs)
+  there_more e es fs rest other cycle = (there, back)
+    where
+      there : BeginsIn (e ∷ fs) other cycle → BeginsIn (e ∷ es) other cycle ⊎ ((name ≡ other) × HasCycle more cycle)
+      there (inl h) = inl (inl h)
+      there (inr b) = ⊎_elim (λ (old : BeginsIn es other cycle). inl (inr old)) (λ (new : (name ≡ other) × HasCycle more cycle). inr new) ((rest other cycle).0 b)
+
+      back : BeginsIn (e ∷ es) other cycle ⊎ ((name ≡ other) × HasCycle more cycle) → BeginsIn (e ∷ fs) other cycle
+      back (inl (inl h)) = inl h
+      back (inl (inr b)) = inr ((rest other cycle).1 (inl b))
+      back (inr h) = inr ((rest other cycle).1 (inr h))
+
+  pub inserted : (es : Entries) → Joined (lookup (eq name) es) → More es (insert_entry eq es name all)
+  inserted [] joined = λ other cycle. (there other cycle, back other cycle)
+    where
+      there : (other : List ℕ) (cycle : ℕ) → BeginsIn ((name, all) ∷ []) other cycle → BeginsIn [] other cycle ⊎ ((name ≡ other) × HasCycle more cycle)
+      there other cycle (inl h) = ⊎_elim (λ (none : ⊥). absurd none) (λ (new : HasCycle more cycle). inr (h.0, new)) ((joined cycle).0 h.1)
+      there other cycle (inr b) = absurd b
+
+      back : (other : List ℕ) (cycle : ℕ) → BeginsIn [] other cycle ⊎ ((name ≡ other) × HasCycle more cycle) → BeginsIn ((name, all) ∷ []) other cycle
+      back other cycle (inl b) = absurd b
+      back other cycle (inr h) = inl (h.0, (joined cycle).1 (inr h.1))
+  inserted (e ∷ es) joined = by (eq name e.0) refl (inserted es) joined
+    where
+      by : (b : Bool) → eq name e.0 ≡ b → (Joined (lookup (eq name) es) → More es (insert_entry eq es name all)) → Joined (cond b (Some e.1) (lookup (eq name) es)) → More (e ∷ es) (if b then (e.0, all) ∷ es else e ∷ insert_entry eq es name all)
+      by true is rest joined = here_more e es (same name e.0 is) joined
+      by false is rest joined = there_more e es (insert_entry eq es name all) (rest joined)
+
+-- the entries up to one at a place
+pub next_entry : (es : Entries) (i : ℕ) (e : List ℕ × Cycles) → slice_get es i ≡ Some e → take (i + 1) es ≡ take i es ++ e ∷ []
+next_entry es i e at = take_more es i e (slice_get_within es i e at) ∙ ap (λ (f : List ℕ × Cycles). take i es ++ f ∷ []) (get_or_from_slice_get es i e e at)
+
+-- an entry at a place is among all
+pub begins_at : (es : Entries) (i : ℕ) (e : List ℕ × Cycles) (cycle : ℕ) → slice_get es i ≡ Some e → HasCycle e.1 cycle → BeginsIn es e.0 cycle
+begins_at es i e cycle at has =
+    subst (λ (fs : Entries). BeginsIn fs e.0 cycle) (take-append-drop (i + 1) es)
+    (begins_front e.0 cycle (take (i + 1) es) (drop (i + 1) es)
+    (subst (λ (fs : Entries). BeginsIn fs e.0 cycle) (sym (next_entry es i e at)) (begins_back e.0 cycle (take i es) (e ∷ []) (inl (refl, has)))))
+
+-- ---- copies of entries
+
+module _ (times apart start : ℕ) (name : List ℕ) (cycle : ℕ) where
+  abbrev InCopy : Entries → Type 0
+  InCopy es = BeginsInCopy es times apart start name cycle
+
+  copy_of : (es fs : Entries) → ((c : ℕ) → BeginsIn es name c → BeginsIn fs name c) → InCopy es → InCopy fs
+  copy_of es fs more b = record { inside = b.inside; copy = b.copy; within = b.within; earlier = b.earlier; begins = more b.earlier b.begins; later = b.later }
+
+  copy_cases : (es fs : Entries) → InCopy (es ++ fs) → InCopy es ⊎ InCopy fs
+  copy_cases es fs b = ⊎_elim
+      (λ (h : BeginsIn es name b.earlier). inl (record { inside = b.inside; copy = b.copy; within = b.within; earlier = b.earlier; begins = h; later = b.later }))
+      (λ (h : BeginsIn fs name b.earlier). inr (record { inside = b.inside; copy = b.copy; within = b.within; earlier = b.earlier; begins = h; later = b.later }))
+      (begins_cases name b.earlier es fs b.begins)
+
+  module _ (owner : List ℕ) (cycles copied placed_later : Cycles) (are_copied : (c : ℕ) → HasCycle copied c ↔ IsCopied cycles times apart c) (are_later : (c : ℕ) → HasCycle placed_later c ↔ IsLater copied start c) where
+    copy_there : (owner ≡ name) × HasCycle placed_later cycle → InCopy ((owner, cycles) ∷ [])
+    copy_there h =
+        let l = (are_later cycle).0 h.1 in
+        let k = (are_copied l.1).0 l.2 in
+        let below = k.0 in
+        let from = k.5 in
+        let to = l.3 in
+        record { inside = l.0; copy = k.1; within = k.2; earlier = k.3; begins = inl (h.0, k.4); later = omega arith }
+
+    copy_back : InCopy ((owner, cycles) ∷ []) → (owner ≡ name) × HasCycle placed_later cycle
+    copy_back b = by b.begins
+      where
+        by : BeginsIn ((owner, cycles) ∷ []) name b.earlier → (owner ≡ name) × HasCycle placed_later cycle
+        by (inr none) = absurd none
+        by (inl h) =
+            let is = b.later in
+            let small = b.inside in
+            (h.0, (are_later cycle).1 (b.inside, b.copy * apart + b.earlier, (are_copied (b.copy * apart + b.earlier)).1 (omega arith, b.copy, b.within, b.earlier, h.1, refl), is))
+
+-- one more entry is added in the cycles of all copies
+pub copies_more : (es : Entries) (times apart start i : ℕ) (old mid new : Leaves) (owner : List ℕ) (cycles copied placed_later : Cycles) → slice_get es i ≡ Some (owner, cycles)
+    → ((c : ℕ) → HasCycle copied c ↔ IsCopied cycles times apart c) → ((c : ℕ) → HasCycle placed_later c ↔ IsLater copied start c) → BeginsToo mid new owner placed_later
+    → AddsCopies (take i es) times apart start old mid → AddsCopies (take (i + 1) es) times apart start old new
+copies_more es times apart start i old mid new owner cycles copied placed_later at are_copied are_later begins before = subst (λ (fs : Entries). AddsCopies fs times apart start old new) (sym (next_entry es i (owner, cycles) at)) (λ name cycle. (there name cycle, back name cycle))
+  where
+    front : Entries
+    front = take i es
+
+    there : (name : List ℕ) (cycle : ℕ) → Begins new name cycle → Begins old name cycle ⊎ BeginsInCopy (front ++ (owner, cycles) ∷ []) times apart start name cycle
+    there name cycle b = ⊎_elim
+        (λ (h : Begins mid name cycle). ⊎_elim
+        (λ (o : Begins old name cycle). inl o)
+        (λ (f : BeginsInCopy front times apart start name cycle). inr (copy_of times apart start name cycle front (front ++ (owner, cycles) ∷ []) (λ c. begins_front name c front ((owner, cycles) ∷ [])) f))
+        ((before name cycle).0 h))
+        (λ (h : (owner ≡ name) × HasCycle placed_later cycle). inr (copy_of times apart start name cycle ((owner, cycles) ∷ []) (front ++ (owner, cycles) ∷ []) (λ c. begins_back name c front ((owner, cycles) ∷ []))
+        (copy_there times apart start name cycle owner cycles copied placed_later are_copied are_later h)))
+        ((begins name cycle).0 b)
+
+    back : (name : List ℕ) (cycle : ℕ) → Begins old name cycle ⊎ BeginsInCopy (front ++ (owner, cycles) ∷ []) times apart start name cycle → Begins new name cycle
+    back name cycle (inl o) = (begins name cycle).1 (inl ((before name cycle).1 (inl o)))
+    back name cycle (inr b) = ⊎_elim
+        (λ (f : BeginsInCopy front times apart start name cycle). (begins name cycle).1 (inl ((before name cycle).1 (inr f))))
+        (λ (l : BeginsInCopy ((owner, cycles) ∷ []) times apart start name cycle). (begins name cycle).1 (inr (copy_back times apart start name cycle owner cycles copied placed_later are_copied are_later l)))
+        (copy_cases times apart start name cycle front ((owner, cycles) ∷ []) b)
+
+pub no_copies : (times apart start : ℕ) (old : Leaves) → AddsCopies [] times apart start old old
+no_copies times apart start old name cycle = (λ b. inl b, λ c. ⊎_elim (λ (b : Begins old name cycle). b) (λ (b : BeginsInCopy [] times apart start name cycle). absurd b.begins) c)
+
+-- ---- pairs from some cycle on
+
+pub placed_again : (m n : ℕ) (ps : Pairs) → placed m (placed n ps) ≡ placed (m + n) ps
 placed_again m n [] = refl
 placed_again m n (p ∷ ps) = let e : m + (n + p.cycle) ≡ (m + n) + p.cycle = omega arith in rw (e, placed_again m n ps) refl
 
@@ -72,7 +189,7 @@ pairs_of_two start a b =
     rw (append-nil a.pairs, append-nil b.pairs, append-nil (a.pairs ++ placed a.cycles b.pairs), most)
     (map-append (later start) a.pairs (placed a.cycles b.pairs) ∙ ap (λ ps. placed start a.pairs ++ ps) (placed_again start a.cycles b.pairs))
 
-pairs_followed : (start : ℕ) (xs ys : Alternatives) → length xs ≡ 1 → length ys ≡ 1 → placed start (all_pairs (each_choice followed_by xs ys)) ≡ placed start (all_pairs xs) ++ placed (start + greatest_length xs) (all_pairs ys)
+pub pairs_followed : (start : ℕ) (xs ys : Alternatives) → length xs ≡ 1 → length ys ≡ 1 → placed start (all_pairs (each_choice followed_by xs ys)) ≡ placed start (all_pairs xs) ++ placed (start + greatest_length xs) (all_pairs ys)
 pairs_followed start xs ys one other =
     let (a, is) = only xs one in
     let (b, also) = only ys other in
@@ -87,171 +204,75 @@ pairs_beside start xs ys one other =
     let (b, also) = only ys other in
     rw (is, also) (pairs_of_both start a b)
 
--- ---- one leaf more
+-- ---- leaves
 
-abbrev pub equal : Leaf → Leaf → Bool
-equal = eq-value.it
-
-same_leaf : (x y : Leaf) → equal x y ≡ true → x ≡ y
-same_leaf x y e =
-    let parts = and_parts _ _ e in
-    let name = (bytes_eq-Decides x.name y.name).0 parts.0 in
-    let start = eqb-true x.start y.start parts.1 in
-    λ i. record { name = name i; start = start i }
+pub taken_again : (known : Known) (es fs : Entries) (p : Pair UnitPlace) → ((name : List ℕ) (cycle : ℕ) → BeginsIn es name cycle → BeginsIn fs name cycle) → TakesIn known es p → TakesIn known fs p
+taken_again known es fs p more t = record { name = t.name; start = t.start; begins = more t.name t.start t.begins; taken = t.taken }
 
 module _ (known : Known) where
-  inserted : (old : List Leaf) (leaf : Leaf) → SamePairs (leaves_pairs known (insert_key equal old leaf)) (leaves_pairs known old ++ leaf_pairs known leaf)
-  inserted old leaf = by (list_any (equal leaf) old) refl
-    where
-      With : List Leaf → Type 0
-      With new = SamePairs (leaves_pairs known new) (leaves_pairs known old ++ leaf_pairs known leaf)
-
-      by : (b : Bool) → list_any (equal leaf) old ≡ b → With (insert_key equal old leaf)
-      by true e =
-          let there = Contains-list_any equal same_leaf old leaf e in
-          subst With (sym (ap (λ b. if b then old else old ++ leaf ∷ []) e)) (λ p. (
-            Contains-append_left (leaves_pairs known old) (leaf_pairs known leaf) p,
-            λ c. ⊎_elim (λ l. l) (Contains-flat_map (leaf_pairs known) old leaf p there) (Contains-append_cases (leaves_pairs known old) (leaf_pairs known leaf) p c),
-          ))
-      by false e =
-          subst With (sym (ap (λ b. if b then old else old ++ leaf ∷ []) e))
-          (same_equal _ _ (flat_map-append (leaf_pairs known) old (leaf ∷ []) ∙ ap (λ ps. leaves_pairs known old ++ ps) (append-nil (leaf_pairs known leaf))))
-
-  inserted_all : (P : Leaf → Type 0) (old : List Leaf) (leaf : Leaf) → All P old → P leaf → All P (insert_key equal old leaf)
-  inserted_all P old leaf each is = by (list_any (equal leaf) old) refl
-    where
-      by : (b : Bool) → list_any (equal leaf) old ≡ b → All P (insert_key equal old leaf)
-      by true e = subst (All P) (sym (ap (λ b. if b then old else old ++ leaf ∷ []) e)) each
-      by false e = subst (All P) (sym (ap (λ b. if b then old else old ++ leaf ∷ []) e)) (All-push P old leaf each is)
-
   -- a name with one alternative
-  pub name_gathered : (name : List ℕ) (start : ℕ) (leaf : Leaf) (old new : List Leaf) → leaf.name ≡ name → leaf.start ≡ start → length (known_alternatives known name) ≡ 1 → new ≡ insert_key equal old leaf
+  pub name_gathered : (name : List ℕ) (start : ℕ) (cycles : Cycles) (old new : Leaves) → ((cycle : ℕ) → HasCycle cycles cycle ↔ (cycle ≡ start)) → length (known_alternatives known name) ≡ 1 → BeginsToo old new name cycles
       → IsGathered known start (known_alternatives known name) old new
-  name_gathered name start leaf old new named begins one is = record {
-    pairs = subst (λ ls. SamePairs (leaves_pairs known ls) (leaves_pairs known old ++ placed start (all_pairs (known_alternatives known name)))) (sym is)
-        (subst (λ ps. SamePairs (leaves_pairs known (insert_key equal old leaf)) (leaves_pairs known old ++ ps)) these (inserted old leaf));
-    ends = λ most low each. subst (All (EndsBy known most)) (sym is) (inserted_all (EndsBy known most) old leaf each (ends most low));
+  name_gathered name start cycles old new has one begins = record {
+    pairs = λ p. (there p, back p);
+    ends = λ most low each other cycle b. ⊎_elim (λ (h : Begins old other cycle). each other cycle h) (λ (h : (name ≡ other) × HasCycle cycles cycle). ends most low other cycle h) ((begins other cycle).0 b);
   }
     where
-      these : leaf_pairs known leaf ≡ placed start (all_pairs (known_alternatives known name))
-      these = ap (λ (n : ℕ). placed n (all_pairs (known_alternatives known leaf.name))) begins ∙ ap (λ (n : List ℕ). placed start (all_pairs (known_alternatives known n))) named
+      These : Pair UnitPlace → Type 0
+      These p = Contains (placed start (all_pairs (known_alternatives known name))) p
 
-      ends : (most : ℕ) → start + greatest_length (known_alternatives known name) ≤ most → EndsBy known most leaf
-      ends most low = record {
-        one = subst (λ (n : List ℕ). length (known_alternatives known n) ≡ 1) (sym named) one;
-        ends = subst (λ (n : List ℕ). leaf.start + greatest_length (known_alternatives known n) ≤ most) (sym named) (subst (λ (s : ℕ). s + greatest_length (known_alternatives known name) ≤ most) (sym begins) low);
-      }
+      there : (p : Pair UnitPlace) → Takes known new p → Takes known old p ⊎ These p
+      there p t = ⊎_elim
+          (λ (h : Begins old t.name t.start). inl (record { name = t.name; start = t.start; begins = h; taken = t.taken }))
+          (λ (h : (name ≡ t.name) × HasCycle cycles t.start). inr (subst (λ (n : List ℕ). Contains (placed start (all_pairs (known_alternatives known n))) p) (sym h.0)
+          (subst (λ (s : ℕ). Contains (placed s (all_pairs (known_alternatives known t.name))) p) ((has t.start).0 h.1) t.taken)))
+          ((begins t.name t.start).0 t.begins)
 
-  -- ---- leaves that are added again later
+      back : (p : Pair UnitPlace) → Takes known old p ⊎ These p → Takes known new p
+      back p (inl t) = taken_again known old.names.entries new.names.entries p (λ n c b. (begins n c).1 (inl b)) t
+      back p (inr c) = record { name = name; start = start; begins = (begins name start).1 (inr (refl, (has start).1 refl)); taken = c }
 
-  pub none_added : (cycles : ℕ) (old : List Leaf) → AreAdded known cycles [] old old
-  none_added cycles old = record { pairs = same_equal _ _ (sym (append-nil (leaves_pairs known old))); ends = λ within most low each all. all }
-
-  pub more_added : (cycles : ℕ) (others : List Leaf) (i : ℕ) (item leaf : Leaf) (old mid new : List Leaf) → i < length others → item ≡ get_or others i item
-      → leaf.name ≡ item.name → leaf.start ≡ cycles + item.start → new ≡ insert_key equal mid leaf → AreAdded known cycles (take i others) old mid → AreAdded known cycles (take (i + 1) others) old new
-  more_added cycles others i item leaf old mid new lt at named begins is before = record {
-    pairs = same_then _ _ _ now (same_then _ _ _ (same_append _ _ _ _ before.pairs (same_itself (leaf_pairs known leaf))) (same_equal _ _ whole));
-    ends = λ within most low each all.
-        let parts = subst (All (EndsBy known within)) next each in
-        let front : All (EndsBy known within) (take i others) = λ k d low. subst (EndsBy known within) (get_or_append_left (take i others) (item ∷ []) d k low) (parts k d (omega (arith, length-append (take i others) (item ∷ [])))) in
-        let last = All-contains (EndsBy known within) (take i others ++ item ∷ []) item parts (Contains-push (take i others) item) in
-        let late = last.ends in
-        subst (All (EndsBy known most)) (sym is) (inserted_all (EndsBy known most) mid leaf (before.ends within most low front all)
-        (record {
-          one = subst (λ (n : List ℕ). length (known_alternatives known n) ≡ 1) (sym named) last.one;
-          ends = subst (λ (n : List ℕ). leaf.start + greatest_length (known_alternatives known n) ≤ most) (sym named) (omega arith);
-        }));
-  }
-    where
-      next : take (i + 1) others ≡ take i others ++ item ∷ []
-      next = take_more others i item lt ∙ ap (λ (l : Leaf). take i others ++ l ∷ []) (sym at)
-
-      now : SamePairs (leaves_pairs known new) (leaves_pairs known mid ++ leaf_pairs known leaf)
-      now = subst (λ ls. SamePairs (leaves_pairs known ls) (leaves_pairs known mid ++ leaf_pairs known leaf)) (sym is) (inserted mid leaf)
-
-      this : leaf_pairs known leaf ≡ placed cycles (leaf_pairs known item)
-      this =
-          ap (λ (n : List ℕ). placed leaf.start (all_pairs (known_alternatives known n))) named
-          ∙ (ap (λ (s : ℕ). placed s (all_pairs (known_alternatives known item.name))) begins
-          ∙ sym (placed_again cycles item.start (all_pairs (known_alternatives known item.name))))
-
-      both : leaves_pairs known (take (i + 1) others) ≡ leaves_pairs known (take i others) ++ leaf_pairs known item
-      both = ap (leaves_pairs known) next ∙ (flat_map-append (leaf_pairs known) (take i others) (item ∷ []) ∙ ap (λ ps. leaves_pairs known (take i others) ++ ps) (append-nil (leaf_pairs known item)))
-
-      whole : (leaves_pairs known old ++ placed cycles (leaves_pairs known (take i others))) ++ leaf_pairs known leaf ≡ leaves_pairs known old ++ placed cycles (leaves_pairs known (take (i + 1) others))
-      whole =
-          append_assoc (leaves_pairs known old) (placed cycles (leaves_pairs known (take i others))) (leaf_pairs known leaf)
-          ∙ ap (λ ps. leaves_pairs known old ++ ps)
-          (ap (λ ps. placed cycles (leaves_pairs known (take i others)) ++ ps) this
-          ∙ (sym (map-append (later cycles) (leaves_pairs known (take i others)) (leaf_pairs known item)) ∙ ap (placed cycles) (sym both)))
-
-  -- ---- parts
+      ends : (most : ℕ) → start + greatest_length (known_alternatives known name) ≤ most → (other : List ℕ) (cycle : ℕ) → (name ≡ other) × HasCycle cycles cycle → EndsBy known most other cycle
+      ends most low other cycle h = subst (λ (n : List ℕ). EndsBy known most n cycle) h.0 (record { one = one; ends = (let is = (has cycle).0 h.1 in omega arith) })
 
   -- nothing is gathered for no pair
-  pub none_gathered : (start : ℕ) (these : Alternatives) (old : List Leaf) → all_pairs these ≡ [] → IsGathered known start these old old
+  pub none_gathered : (start : ℕ) (these : Alternatives) (old : Leaves) → all_pairs these ≡ [] → IsGathered known start these old old
   none_gathered start these old none = record {
-    pairs = same_equal _ _ (sym (ap (λ ps. leaves_pairs known old ++ placed start ps) none ∙ append-nil (leaves_pairs known old)));
+    pairs = λ p. (λ t. inl t, λ c. ⊎_elim (λ (t : Takes known old p). t) (λ (m : Contains (placed start (all_pairs these)) p). absurd (Contains-nil p (subst (λ (ps : Pairs). Contains (placed start ps) p) none m))) c);
     ends = λ most low each. each;
   }
 
+  -- pairs that are gathered behind others
+  both_gathered : (old mid new : Leaves) (xs ys zs : Pairs) → zs ≡ xs ++ ys → ((p : Pair UnitPlace) → Takes known mid p ↔ (Takes known old p ⊎ Contains xs p)) → ((p : Pair UnitPlace) → Takes known new p ↔ (Takes known mid p ⊎ Contains ys p))
+      → (p : Pair UnitPlace) → Takes known new p ↔ (Takes known old p ⊎ Contains zs p)
+  both_gathered old mid new xs ys zs is first second p = (there, back)
+    where
+      with_first : Takes known mid p → Takes known old p ⊎ Contains zs p
+      with_first t = ⊎_elim (λ (o : Takes known old p). inl o) (λ (c : Contains xs p). inr (subst (λ (ps : Pairs). Contains ps p) (sym is) (Contains-append_left xs ys p c))) ((first p).0 t)
+
+      there : Takes known new p → Takes known old p ⊎ Contains zs p
+      there t = ⊎_elim with_first (λ (c : Contains ys p). inr (subst (λ (ps : Pairs). Contains ps p) (sym is) (Contains-append_right xs ys p c))) ((second p).0 t)
+
+      back : Takes known old p ⊎ Contains zs p → Takes known new p
+      back (inl t) = (second p).1 (inl ((first p).1 (inl t)))
+      back (inr c) = ⊎_elim (λ (f : Contains xs p). (second p).1 (inl ((first p).1 (inr f)))) (λ (s : Contains ys p). (second p).1 (inr s)) (Contains-append_cases xs ys p (subst (λ (ps : Pairs). Contains ps p) is c))
+
   -- what begins where the first ends
-  pub sequence_gathered : (start : ℕ) (xs ys : Alternatives) (old mid new : List Leaf) → length xs ≡ 1 → length ys ≡ 1 → IsGathered known start xs old mid → IsGathered known (start + greatest_length xs) ys mid new
+  pub sequence_gathered : (start : ℕ) (xs ys : Alternatives) (old mid new : Leaves) → length xs ≡ 1 → length ys ≡ 1 → IsGathered known start xs old mid → IsGathered known (start + greatest_length xs) ys mid new
       → IsGathered known start (each_choice followed_by xs ys) old new
   sequence_gathered start xs ys old mid new one other first second = record {
-    pairs = same_then _ _ _ second.pairs (same_then _ _ _ (same_append _ _ _ _ first.pairs (same_itself _))
-        (same_equal _ _ (append_assoc (leaves_pairs known old) _ _ ∙ ap (λ ps. leaves_pairs known old ++ ps) (sym (pairs_followed start xs ys one other)))));
+    pairs = both_gathered old mid new _ _ _ (pairs_followed start xs ys one other) first.pairs second.pairs;
     ends = λ most low each.
         let long = greatest-followed xs ys (omega arith) (omega arith) in
         second.ends most (omega arith) (first.ends most (omega arith) each);
   }
 
   -- what begins in the same cycle
-  pub together_gathered : (start : ℕ) (xs ys : Alternatives) (old mid new : List Leaf) → length xs ≡ 1 → length ys ≡ 1 → IsGathered known start xs old mid → IsGathered known start ys mid new
+  pub together_gathered : (start : ℕ) (xs ys : Alternatives) (old mid new : Leaves) → length xs ≡ 1 → length ys ≡ 1 → IsGathered known start xs old mid → IsGathered known start ys mid new
       → IsGathered known start (each_choice beside xs ys) old new
   together_gathered start xs ys old mid new one other first second = record {
-    pairs = same_then _ _ _ second.pairs (same_then _ _ _ (same_append _ _ _ _ first.pairs (same_itself _))
-        (same_equal _ _ (append_assoc (leaves_pairs known old) _ _ ∙ ap (λ ps. leaves_pairs known old ++ ps) (sym (pairs_beside start xs ys one other)))));
+    pairs = both_gathered old mid new _ _ _ (pairs_beside start xs ys one other) first.pairs second.pairs;
     ends = λ most low each.
         let long = greatest-beside xs ys (omega arith) (omega arith) in
         second.ends most (omega arith) (first.ends most (omega arith) each);
   }
-
-  -- leaves that were gathered by themselves, added again
-  pub again_gathered : (cycles : ℕ) (xs : Alternatives) (once mid new : List Leaf) → IsGathered known 0 xs [] once → AreAdded known cycles once mid new → IsGathered known cycles xs mid new
-  again_gathered cycles xs once mid new gathered added = record {
-    pairs = same_then _ _ _ added.pairs (same_append _ _ _ _ (same_itself (leaves_pairs known mid)) (same_placed cycles _ _
-        (same_then _ _ _ gathered.pairs (same_equal _ _ (placed_now (all_pairs xs))))));
-    ends = λ most low each. added.ends (greatest_length xs) most low (gathered.ends (greatest_length xs) (omega arith) (All-nil (EndsBy known (greatest_length xs)))) each;
-  }
-
--- ---- the pairs of leaves
-
-IsAscending-later : (n : ℕ) (ps : Pairs) → IsAscending ps → IsAscending (placed n ps)
-IsAscending-later n ps up = AllPairs-map Precedes Precedes (later n) (Precedes-later n) (pair_at 0 0 0) ps up
-
--- what is held for a name with one alternative, and its pairs from some cycle on
-pub record OnlyAlt (known : Known) (leaf : Leaf) (alt : Alt) : Type 0 where
-  pub pairs : placed leaf.start (pairs_of alt.pairs.items) ≡ ascending (leaf_pairs known leaf)
-  pub early : All (λ (p : StoredPair). leaf.start + p.cycle < cycle_limit) alt.pairs.items
-
-pub only_alt : (known : Known) (leaf : Leaf) (alts : List Alt) (alt : Alt) → EndsBy known cycle_limit leaf → known_alternatives known leaf.name ≡ alternatives alts → All IsSound (alternatives alts) → alt ≡ get_or alts 0 alt → OnlyAlt known leaf alt
-only_alt known leaf [] alt ends is sound first = absurd (let one = sym (ap length is) ∙ ends.one in omega (arith, one))
-only_alt known leaf (x ∷ y ∷ alts) alt ends is sound first = absurd (let one = sym (ap length is) ∙ ends.one in omega (arith, one))
-only_alt known leaf (x ∷ []) alt ends is sound first =
-    let this = subst (λ (y : Alt). IsSound (alternative_of y)) (sym first) (All-head IsSound (alternative_of x) [] sound) in
-    let held : known_alternatives known leaf.name ≡ alternative_of alt ∷ [] = is ∙ ap (λ (y : Alt). alternative_of y ∷ []) (sym first) in
-    let long = ap greatest_length held in
-    let late = ends.ends in
-    record {
-      pairs = sym (ap (λ xs. ascending (placed leaf.start (all_pairs xs))) held
-          ∙ (ap (λ ps. ascending (placed leaf.start ps)) (append-nil (pairs_of alt.pairs.items))
-          ∙ ascending_itself _ (IsAscending-later leaf.start _ this.ascending)));
-      early = λ k d lt. let low = All-from_map (λ (p : Pair UnitPlace). p.cycle < alt.length) pair_of alt.pairs.items this.placed.within k d lt in omega arith;
-    }
-
--- the pairs of two halves of leaves, joined
-pub halves_joined : (known : Known) (leaves front back : List Leaf) (m : ℕ) → front ≡ take m leaves → back ≡ drop m leaves → ascending (ascending (leaves_pairs known front) ++ ascending (leaves_pairs known back)) ≡ ascending (leaves_pairs known leaves)
-halves_joined known leaves front back m e f =
-    let both : leaves_pairs known front ++ leaves_pairs known back ≡ leaves_pairs known leaves =
-    sym (flat_map-append (leaf_pairs known) front back) ∙ ap (leaves_pairs known) (ap (λ (ls : List Leaf). ls ++ back) e ∙ (ap (λ (ls : List Leaf). take m leaves ++ ls) f ∙ take-append-drop m leaves)) in
-    ascending_same _ _ (same_append _ _ _ _ (same_ascending (leaves_pairs known front)) (same_ascending (leaves_pairs known back))) ∙ ap ascending both

@@ -18,4 +18,6 @@ pub mod ExpandLemmas
 pub mod LeafLemmas
 pub mod GatherLemmas
 pub mod BesideLemmas
+pub mod ReserveLemmas
+pub mod PairOrder
 pub mod CutLemmas

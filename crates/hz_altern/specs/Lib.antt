@@ -6,3 +6,4 @@ pub mod Answers
 pub mod Cuts
 pub mod Merging
 pub mod Leaves
+pub mod Reserved

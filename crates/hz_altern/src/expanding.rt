@@ -18,12 +18,12 @@ use crate::counting::measured;
 use crate::fault::AlternFault;
 use crate::joining::{Joining, joined};
 use crate::known::Known;
-use crate::leaves::{gather, pairs};
+use crate::leaves::{Leaves, gather};
 use crate::listing::{Listing, SIZE_LIMIT};
 use crate::mark::Mark;
 use crate::measure::{ALTERNATIVE_LIMIT, CYCLE_LIMIT};
+use crate::reserving::pairs;
 use hz_regexp::Expr;
-use indexmap::IndexSet;
 use std::alloc::Global;
 
 /// Lists copies of alternatives.
@@ -227,7 +227,7 @@ fn listing_together(alloc: Global, parts: &[Expr], known: &Known) -> Result<List
     ensures ok { IfOk result (λ listing. listing ≡ map listed (together (known_alternatives known.now) (parts_of (expressions parts.now)))) }
     ensures err { IfErr result (Refuses (map listed (together (known_alternatives known.now) (parts_of (expressions parts.now))))) }
 {
-    let mut leaves = IndexSet::new(alloc);
+    let mut leaves = Leaves::new(alloc);
     let mut length = 1;
     let mut others = idle(alloc)?;
     for part in parts {
@@ -238,7 +238,7 @@ fn listing_together(alloc: Global, parts: &[Expr], known: &Known) -> Result<List
             others = together(alloc, &others, &more)?;
         }
     }
-    let pairs = pairs(alloc, leaves.as_slice(), known)?;
+    let pairs = pairs(alloc, &leaves, length, known)?;
     let mut single = Listing::new(alloc);
     single.push(Alt { pairs, length })?;
     together(alloc, &single, &others)

@@ -34,7 +34,7 @@ impl Pair {
 }
 
 /// The pairs, and behind them others so many cycles later.
-pub fn continued(
+fn continued(
     alloc: Global,
     first: &[Pair],
     cycles: u16,

@@ -1,32 +1,79 @@
-//! Names with one alternative, each from some cycle on: what an expression with one alternative is taken apart into.
+//! Names with one alternative, each from some cycles on: what an expression with one alternative is taken apart into.
 
-ghost use Rattle.std.specs.Prelude.{◌≡◌, ◌+◌, ◌<◌, ◌≤◌, ◌^◌, [], All, IfOk, OnOk, IsTrue, length};
-ghost use Rattle.hz_altern.specs.Leaves.{leaf_pairs, leaves_pairs, EndsBy, IsGathered, AreAdded};
-ghost use Rattle.hz_altern.specs.Shapes.{pairs_of};
+ghost use Rattle.std.specs.Prelude.{◌≡◌, ◌↔◌, ◌⊎◌, ◌+◌, ◌<◌, ◌≤◌, ℕ, IfOk, OnOk, IsTrue, length};
+ghost use Rattle.std.specs.Option.{option_copied};
+ghost use Rattle.hz_cycles.specs.Sets.{HasCycle};
+ghost use Rattle.hz_altern.specs.Leaves.{HasIn, IsGathered, AddsCopies};
 ghost use Rattle.hz_altern.specs.Tables.{alternatives_in, known_alternatives, is_held};
-ghost use Rattle.hz_altern.specs.declared.known.Known as declared;
 ghost use Rattle.hz_altern_model.specs.Alternatives.{alternatives_of, in_sequence, together, copies, parts_of};
 ghost use Rattle.hz_altern_model.specs.AlternativeLists.{greatest_length};
 ghost use Rattle.hz_altern_model.specs.Expressions.{is_expression, are_expressions};
 ghost use Rattle.hz_altern_model.specs.NamesIn.{all_names, all_names_in};
-ghost use Rattle.hz_altern_model.specs.Automata.{ascending};
 ghost use Rattle.hz_base_model.specs.Limits.{cycle_limit};
 ghost use Rattle.hz_regexp.specs.Shape.{expression, expressions};
 
-use crate::alternative::Pair;
 use crate::fault::NoMemory;
-use crate::joining::continued;
 use crate::known::Known;
-use crate::merging::united;
+use hz_cycles::Cycles;
 use hz_regexp::{Expr, Name};
-use indexmap::IndexSet;
+use indexmap::IndexMap;
 use std::alloc::Global;
 
-/// A name that begins in some cycle.
-#[derive(Debug, PartialEq, Eq, Hash, Drop)]
-pub struct Leaf {
-    pub name: Name,
-    pub start: u32,
+/// Names, each with the cycles in which it begins.
+#[derive(Drop)]
+pub struct Leaves {
+    names: IndexMap<Name, Cycles>,
+}
+
+impl Leaves {
+    ghost use Rattle.std.specs.Prelude.{◌≡◌, ◌<◌, [], Some, OnOk, length, slice_get};
+    ghost use Rattle.hz_altern.specs.Leaves.{BeginsToo};
+
+    /// No name begins. It takes no memory.
+    pub fn new(alloc: Global) -> Leaves
+        ensures { result.names.entries ≡ [] }
+    {
+        Leaves {
+            names: IndexMap::new(alloc),
+        }
+    }
+
+    /// The name begins in these cycles too.
+    fn add(&mut self, name: &Name, cycles: Cycles) -> Result<(), NoMemory>
+        ensures { OnOk result (BeginsToo self.old self.new name.now cycles) }
+    {
+        let all = joined(self.names.get(name), cycles);
+        self.names.insert(name.copy()?, all)?;
+        Ok(())
+    }
+
+    /// How many names begin.
+    pub fn len(&self) -> usize
+        ensures { result ≡ length self.now.names.entries }
+    {
+        self.names.len()
+    }
+
+    /// The name at a place, and the cycles in which it begins.
+    pub fn at(&self, place: usize) -> (&Name, Cycles)
+        requires { place < length self.now.names.entries }
+        ensures { slice_get self.now.names.entries place ≡ Some (result.0.now, result.1) }
+    {
+        match self.names.get_index(place) {
+            Some((name, cycles)) => (name, *cycles),
+            None => unreachable!(),
+        }
+    }
+}
+
+/// The cycles of a set, where there is one, and of another.
+fn joined(first: Option<&Cycles>, second: Cycles) -> Cycles
+    ensures { (cycle : ℕ) → HasCycle result cycle ↔ (HasIn (option_copied first.entry) cycle ⊎ HasCycle second cycle) }
+{
+    match first {
+        Some(first) => first.join(second),
+        None => second,
+    }
 }
 
 /// For how many cycles the longest alternative of a name runs.
@@ -40,33 +87,41 @@ fn length_of(name: &Name, known: &Known) -> u32
     }
 }
 
+/// The set with one cycle.
+fn only(cycle: u32) -> Cycles
+    requires { cycle < cycle_limit }
+    ensures { (other : ℕ) → HasCycle result other ↔ (other ≡ cycle) }
+{
+    Cycles::none().with(cycle)
+}
+
 /// Gathers a name with one alternative.
-fn gather_name(
-    name: &Name,
-    start: u32,
-    known: &Known,
-    leaves: &mut IndexSet<Leaf>,
-) -> Result<u32, NoMemory>
+fn gather_name(name: &Name, start: u32, known: &Known, leaves: &mut Leaves) -> Result<u32, NoMemory>
     requires held { IsTrue (is_held (alternatives_in known.now) name.now) }
     requires one { length (known_alternatives known.now name.now) ≡ 1 }
+    requires short { start + greatest_length (known_alternatives known.now name.now) ≤ cycle_limit }
     ensures length { IfOk result (λ length. length ≡ greatest_length (known_alternatives known.now name.now)) }
-    ensures gathered { OnOk result (IsGathered known.now start (known_alternatives known.now name.now) leaves.old.keys leaves.new.keys) }
+    ensures gathered { OnOk result (IsGathered known.now start (known_alternatives known.now name.now) leaves.old leaves.new) }
 {
     let length = length_of(name, known);
-    let name = name.copy()?;
-    leaves.insert(Leaf { name, start })?;
+    leaves.add(name, only(start))?;
     Ok(length)
 }
 
-/// Adds other leaves so many cycles later.
-fn add_later(cycles: u32, others: &[Leaf], leaves: &mut IndexSet<Leaf>) -> Result<(), NoMemory>
-    requires { All (λ leaf. cycles + leaf.start < 2 ^ 32) others.now }
-    ensures { (known : declared.Known) → OnOk result (AreAdded known cycles others.now leaves.old.keys leaves.new.keys) }
+/// Adds so many copies of other leaves, each so many cycles behind the one before and the first from a cycle on: one step
+/// for each name.
+fn add_copies(
+    once: &Leaves,
+    times: u32,
+    apart: u32,
+    start: u32,
+    leaves: &mut Leaves,
+) -> Result<(), NoMemory>
+    ensures { OnOk result (AddsCopies once.now.names.entries times apart start leaves.old leaves.new) }
 {
-    for leaf in others {
-        let name = leaf.name.copy()?;
-        let start = cycles + leaf.start;
-        leaves.insert(Leaf { name, start })?;
+    for place in 0..once.len() {
+        let (name, cycles) = once.at(place);
+        leaves.add(name, cycles.copies(times, apart).later(start))?;
     }
     Ok(())
 }
@@ -79,14 +134,14 @@ pub fn gather(
     expr: &Expr,
     start: u32,
     known: &Known,
-    leaves: &mut IndexSet<Leaf>,
+    leaves: &mut Leaves,
 ) -> Result<u32, NoMemory>
     requires formed { IsTrue (is_expression (expression expr.now)) }
     requires held { IsTrue (all_names (is_held (alternatives_in known.now)) (expression expr.now)) }
     requires one { length (alternatives_of (known_alternatives known.now) (expression expr.now)) ≡ 1 }
     requires short { start + greatest_length (alternatives_of (known_alternatives known.now) (expression expr.now)) ≤ cycle_limit }
     ensures length { IfOk result (λ length. length ≡ greatest_length (alternatives_of (known_alternatives known.now) (expression expr.now))) }
-    ensures gathered { OnOk result (IsGathered known.now start (alternatives_of (known_alternatives known.now) (expression expr.now)) leaves.old.keys leaves.new.keys) }
+    ensures gathered { OnOk result (IsGathered known.now start (alternatives_of (known_alternatives known.now) (expression expr.now)) leaves.old leaves.new) }
 {
     match expr {
         Expr::Named(name) => gather_name(name, start, known, leaves),
@@ -105,14 +160,14 @@ fn gather_sequence(
     parts: &[Expr],
     start: u32,
     known: &Known,
-    leaves: &mut IndexSet<Leaf>,
+    leaves: &mut Leaves,
 ) -> Result<u32, NoMemory>
     requires formed { IsTrue (are_expressions (parts_of (expressions parts.now))) }
     requires held { IsTrue (all_names_in (is_held (alternatives_in known.now)) (parts_of (expressions parts.now))) }
     requires one { length (in_sequence (known_alternatives known.now) (parts_of (expressions parts.now))) ≡ 1 }
     requires short { start + greatest_length (in_sequence (known_alternatives known.now) (parts_of (expressions parts.now))) ≤ cycle_limit }
     ensures length { IfOk result (λ length. length ≡ greatest_length (in_sequence (known_alternatives known.now) (parts_of (expressions parts.now)))) }
-    ensures gathered { OnOk result (IsGathered known.now start (in_sequence (known_alternatives known.now) (parts_of (expressions parts.now))) leaves.old.keys leaves.new.keys) }
+    ensures gathered { OnOk result (IsGathered known.now start (in_sequence (known_alternatives known.now) (parts_of (expressions parts.now))) leaves.old leaves.new) }
 {
     let mut length = 0;
     for part in parts {
@@ -128,14 +183,14 @@ fn gather_together(
     parts: &[Expr],
     start: u32,
     known: &Known,
-    leaves: &mut IndexSet<Leaf>,
+    leaves: &mut Leaves,
 ) -> Result<u32, NoMemory>
     requires formed { IsTrue (are_expressions (parts_of (expressions parts.now))) }
     requires held { IsTrue (all_names_in (is_held (alternatives_in known.now)) (parts_of (expressions parts.now))) }
     requires one { length (together (known_alternatives known.now) (parts_of (expressions parts.now))) ≡ 1 }
     requires short { start + greatest_length (together (known_alternatives known.now) (parts_of (expressions parts.now))) ≤ cycle_limit }
     ensures length { IfOk result (λ length. length ≡ greatest_length (together (known_alternatives known.now) (parts_of (expressions parts.now)))) }
-    ensures gathered { OnOk result (IsGathered known.now start (together (known_alternatives known.now) (parts_of (expressions parts.now))) leaves.old.keys leaves.new.keys) }
+    ensures gathered { OnOk result (IsGathered known.now start (together (known_alternatives known.now) (parts_of (expressions parts.now))) leaves.old leaves.new) }
 {
     let mut length = 0;
     for part in parts {
@@ -144,8 +199,8 @@ fn gather_together(
     Ok(length)
 }
 
-/// The same of so many copies one after another. The part is gathered once, and what it is taken apart into is added again
-/// for each copy.
+/// The same of so many copies one after another. The part is gathered once, and each name that it is taken apart into is
+/// added once, in the cycles of all copies.
 #[cycle(gathering)]
 fn gather_copies(
     alloc: Global,
@@ -153,7 +208,7 @@ fn gather_copies(
     times: u32,
     start: u32,
     known: &Known,
-    leaves: &mut IndexSet<Leaf>,
+    leaves: &mut Leaves,
 ) -> Result<u32, NoMemory>
     requires formed { IsTrue (is_expression (expression part.now)) }
     requires held { IsTrue (all_names (is_held (alternatives_in known.now)) (expression part.now)) }
@@ -161,47 +216,13 @@ fn gather_copies(
     requires times { 1 ≤ times }
     requires short { start + greatest_length (copies times (alternatives_of (known_alternatives known.now) (expression part.now))) ≤ cycle_limit }
     ensures length { IfOk result (λ length. length ≡ greatest_length (copies times (alternatives_of (known_alternatives known.now) (expression part.now)))) }
-    ensures gathered { OnOk result (IsGathered known.now start (copies times (alternatives_of (known_alternatives known.now) (expression part.now))) leaves.old.keys leaves.new.keys) }
+    ensures gathered { OnOk result (IsGathered known.now start (copies times (alternatives_of (known_alternatives known.now) (expression part.now))) leaves.old leaves.new) }
 {
     if times == 1 {
         return gather(alloc, part, start, known, leaves);
     }
-    let mut once = IndexSet::new(alloc);
-    let cycles = gather(alloc, part, 0, known, &mut once)?;
-    let mut length = 0;
-    for _copy in 0..times {
-        add_later(start + length, once.as_slice(), leaves)?;
-        length += cycles;
-    }
-    Ok(length)
-}
-
-/// The pairs of what a leaf's name stands for, from the leaf's cycle on.
-fn leaf_pairs(alloc: Global, leaf: &Leaf, known: &Known) -> Result<Vec<Pair>, NoMemory>
-    requires { EndsBy known.now cycle_limit leaf.now }
-    ensures { IfOk result (λ pairs. pairs_of pairs.items ≡ ascending (leaf_pairs known.now leaf.now)) }
-{
-    match known.find(&leaf.name) {
-        Some(entry) => continued(alloc, &[], leaf.start as u16, &entry.alts[0].pairs),
-        None => unreachable!(),
-    }
-}
-
-/// The pairs of leaves, each once and ascending. Leaves are joined by halves, so that no pair is copied much more often
-/// than leaves have it.
-pub fn pairs(alloc: Global, leaves: &[Leaf], known: &Known) -> Result<Vec<Pair>, NoMemory>
-    requires { All (EndsBy known.now cycle_limit) leaves.now }
-    ensures { IfOk result (λ pairs. pairs_of pairs.items ≡ ascending (leaves_pairs known.now leaves.now)) }
-{
-    let middle = leaves.len() / 2;
-    if middle == 0 {
-        return match leaves.first() {
-            Some(leaf) => leaf_pairs(alloc, leaf, known),
-            None => Ok(Vec::new(alloc)),
-        };
-    }
-    let (front, back) = leaves.split_at(middle);
-    let first = pairs(alloc, front, known)?;
-    let second = pairs(alloc, back, known)?;
-    united(alloc, &first, &second)
+    let mut once = Leaves::new(alloc);
+    let length = gather(alloc, part, 0, known, &mut once)?;
+    add_copies(&once, times, length, start, leaves)?;
+    Ok(times * length)
 }

@@ -15,6 +15,7 @@ mod mark;
 mod measure;
 mod merging;
 mod projecting;
+mod reserving;
 
 pub use alternative::{Alt, Pair};
 pub use counting::extent;

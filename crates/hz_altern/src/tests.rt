@@ -69,8 +69,8 @@ fn expanded(
     Ok(expand(alloc, &expr, known))
 }
 
-// The units a to d of automaton 0 and p of automaton 1, and the reservations R, which is `a|(b,c)`, S, `a,b`, and T,
-// `a,nothing`.
+// The units a to d of automaton 0 and p of automaton 1, and the reservations R, which is `a|(b,c)`, S, `a,b`, T,
+// `a,nothing`, and U and V, both `a`.
 fn units(rt: &impl Abort, alloc: Global) -> Result<Known, Fail> {
     let mut known = Known::new(alloc);
     for (bytes, automaton, unit) in [
@@ -88,6 +88,8 @@ fn units(rt: &impl Abort, alloc: Global) -> Result<Known, Fail> {
         (b"R".as_slice(), "a|(b,c)"),
         (b"S", "a,b"),
         (b"T", "a,nothing"),
+        (b"U", "a"),
+        (b"V", "a"),
     ] {
         assert!(rt; text.len() < 100);
         let alts = expanded(rt, alloc, &known, text)?.expect(rt, "alternatives");
@@ -201,6 +203,20 @@ fn expressions_have_these_alternatives(rt: HostRuntime) -> Result<(), Fail> {
         ("((a+b),nothing)*2+d", "a0b0d0a2b2/4"),
         ("(S+T)*2", "a0b1a2b3/4"),
         ("((S,c)*2+(S*3,d))+nothing*9", "a0b1a2c2a3b3a4b4b5c5d6/9"),
+        ("((a,b)*2,c)*2+d", "a0d0b1a2b3c4a5b6a7b8c9/0"),
+        (
+            "((S+c)*2,nothing)*2+(d*3)",
+            "a0c0d0b1d1a2c2d2b3a5c5b6a7c7b8/0",
+        ),
+        ("(S,S)+(nothing,S)", "a0a1b1a2b2b3/4"),
+        ("(S+(nothing,S))*2+c", "a0c0a1b1b2a3a4b4b5/6"),
+        ("S*2+(nothing,S*2)", "a0a1b1a2b2a3b3b4/5"),
+        ("(nothing*254,S)+c", "c0a4b5/6"),
+        ("p+b+a", "a0b0p0/1"),
+        ("(p,a)+(b,p)", "b0p0a1p1/2"),
+        ("(p+d)*2+(nothing,a)", "d0p0a1d1p1/2"),
+        ("U+V+a", "a0/1"),
+        ("(U*3)+(V,V)+(nothing,a)+V", "a0a1a2/3"),
         ("R+S", "a0b1/2|a0b0b1c1/2"),
         ("(S|c)+S", "a0b1/2|a0c0b1/2"),
         ("S+(S|c)+S+(d|S)", "a0d0b1/2|a0b1/2|a0c0d0b1/2|a0c0b1/2"),
@@ -209,6 +225,26 @@ fn expressions_have_these_alternatives(rt: HostRuntime) -> Result<(), Fail> {
         assert!(rt; text.len() < 100);
         let alts = expanded(&rt, alloc, &known, text)?.expect(&rt, "alternatives");
         assert!(rt; show(alloc, &alts)?.as_slice() == want.as_bytes());
+    }
+    Ok(())
+}
+
+#[test]
+fn the_last_cycle_is_kept(rt: HostRuntime) -> Result<(), Fail> {
+    let alloc = rt.alloc();
+    let known = units(&rt, alloc)?;
+    for (text, pairs) in [
+        ("(nothing*255,a)+b", 2),
+        ("U*256+V*256", 256),
+        ("(S*128)+(nothing*254,S)+(b*256)", 384),
+        ("((nothing*127,p)*2)+(p*256)+(a*128)*2", 512),
+    ] {
+        assert!(rt; text.len() < 100);
+        let alts = expanded(&rt, alloc, &known, text)?.expect(&rt, "alternatives");
+        assert_eq!(rt; alts.len(), 1);
+        assert_eq!(rt; alts[0].length, 256);
+        assert_eq!(rt; alts[0].pairs.len(), pairs);
+        assert_eq!(rt; alts[0].pairs.last().expect(&rt, "a pair").cycle, 255);
     }
     Ok(())
 }

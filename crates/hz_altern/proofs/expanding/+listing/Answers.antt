@@ -9,10 +9,9 @@ use Rattle.hz_altern.specs.Joinings.{IsListed}
 use Rattle.hz_altern.specs.Shapes.{alternatives, pairs_of}
 use Rattle.hz_altern.specs.Tables.{alternatives_in, known_alternatives, is_held}
 use Rattle.std.proofs.lemmas.List.{take_all, length-map}
-use Rattle.hz_altern.proofs.BesideLemmas.{IsBeside, joins, as_one, none_beside, single_more, listed_more, short_more, others_more, refused_more, refused_part, beside_at, listed_single, short_both, all_beside, refused_single}
+use Rattle.hz_altern.proofs.BesideLemmas.{IsBeside, joins, whole, listed_pairs, within_length, none_beside, single_more, listed_more, short_more, others_more, refused_more, refused_part, beside_at, listed_single, short_both, all_beside, refused_single}
 use Rattle.hz_altern.proofs.GatherLemmas.{part_at, one_counted, held_extent}
-use Rattle.hz_altern.specs.Leaves.{leaves_pairs}
-use Rattle.hz_altern.specs.declared.leaves.Leaf.{Leaf}
+use Rattle.hz_altern.specs.declared.leaves.Leaves.{Leaves}
 use Rattle.hz_regexp.specs.declared.expr.Expr.{Expr}
 use Rattle.hz_altern.proofs.HalfLemmas.{halved, single, repeated}
 use Rattle.hz_altern.proofs.KnownLemmas.{named_listed, right_known}
@@ -167,7 +166,7 @@ listing-returns-in-Some-clause-err t c =
     rw (← all) c.copied.ensures.err
 
 pub listing_together-loop-part-init : goal.listing_together-loop-part-init
-listing_together-loop-part-init t c = none_beside c.args.known.now c.new-leaves.result.keys c.in_ok-others.others c.new-leaves.ensures.empty c.in_ok-others.ensures.ok
+listing_together-loop-part-init t c = none_beside c.args.known.now c.new-leaves.result c.in_ok-others.others c.new-leaves.ensures c.in_ok-others.ensures.ok
 
 pub listing_together-measured-requires-clause-formed : goal.listing_together-measured-requires-clause-formed
 listing_together-measured-requires-clause-formed t c =
@@ -217,7 +216,7 @@ listing_together-returns-in_err-more-clause-err t c =
     let before = expressions (take c.loop-part.part-index c.args.parts.now) in
     let e = expression c.part-item.result in
     let p = err_from_is_err_and c.from_residual-in_err-more.result c.from_residual-in_err-more.ensures.1 in
-    rw (p.1, p.2) (at.refused _ (refused_part c.args.known.now before e c.loop-part.leaves.keys c.loop-part.length c.loop-part.others c.loop-part.invariant part.formed at.short part.names_known _ c.in_err-more.ensures.err))
+    rw (p.1, p.2) (at.refused _ (refused_part c.args.known.now before e c.loop-part.leaves c.loop-part.length c.loop-part.others c.loop-part.invariant part.formed at.short part.names_known _ c.in_err-more.ensures.err))
 
 pub listing_together-together-requires-clause-second : goal.listing_together-together-requires-clause-second
 listing_together-together-requires-clause-second t c =
@@ -225,7 +224,7 @@ listing_together-together-requires-clause-second t c =
     let at = beside_at c.args.known.now c.args.parts.now c.loop-part.part-index c.part-item.result c.loop-part-test.true c.part-item.is c.requires.formed c.requires.known c.requires.short in
     let before = expressions (take c.loop-part.part-index c.args.parts.now) in
     let e = expression c.part-item.result in
-    rw c.in_ok-more.ensures.ok (listed_more c.args.known.now before e c.loop-part.leaves.keys c.loop-part.length c.loop-part.others c.loop-part.invariant part.formed at.short part.names_known)
+    rw c.in_ok-more.ensures.ok (listed_more c.args.known.now before e c.loop-part.leaves c.loop-part.length c.loop-part.others c.loop-part.invariant part.formed at.short part.names_known)
 
 pub listing_together-together-requires-clause-short : goal.listing_together-together-requires-clause-short
 listing_together-together-requires-clause-short t c =
@@ -233,7 +232,7 @@ listing_together-together-requires-clause-short t c =
     let at = beside_at c.args.known.now c.args.parts.now c.loop-part.part-index c.part-item.result c.loop-part-test.true c.part-item.is c.requires.formed c.requires.known c.requires.short in
     let before = expressions (take c.loop-part.part-index c.args.parts.now) in
     let e = expression c.part-item.result in
-    rw c.in_ok-more.ensures.ok (short_more c.args.known.now before e c.loop-part.leaves.keys c.loop-part.length c.loop-part.others c.loop-part.invariant part.formed at.short part.names_known)
+    rw c.in_ok-more.ensures.ok (short_more c.args.known.now before e c.loop-part.leaves c.loop-part.length c.loop-part.others c.loop-part.invariant part.formed at.short part.names_known)
 
 pub listing_together-returns-in_err-others-2-clause-err : goal.listing_together-returns-in_err-others-2-clause-err
 listing_together-returns-in_err-others-2-clause-err t c =
@@ -242,7 +241,7 @@ listing_together-returns-in_err-others-2-clause-err t c =
     let before = expressions (take c.loop-part.part-index c.args.parts.now) in
     let e = expression c.part-item.result in
     let p = err_from_is_err_and c.from_residual-in_err-others-2.result c.from_residual-in_err-others-2.ensures.1 in
-    rw (p.1, p.2) (at.refused _ (refused_more c.args.known.now before e c.loop-part.leaves.keys c.loop-part.length c.loop-part.others c.loop-part.invariant part.formed at.short part.names_known _ (rw c.in_ok-more.ensures.ok at c.in_err-others-2.ensures.err)))
+    rw (p.1, p.2) (at.refused _ (refused_more c.args.known.now before e c.loop-part.leaves c.loop-part.length c.loop-part.others c.loop-part.invariant part.formed at.short part.names_known _ (rw c.in_ok-more.ensures.ok at c.in_err-others-2.ensures.err)))
 
 pub listing_together-loop-part-preserved : goal.listing_together-loop-part-preserved
 listing_together-loop-part-preserved t c =
@@ -251,14 +250,14 @@ listing_together-loop-part-preserved t c =
     let before = expressions (take c.loop-part.part-index c.args.parts.now) in
     let e = expression c.part-item.result in
     let known = c.args.known.now in
-    let Now : List Leaf → ℕ → List (Alternative UnitPlace) → Type 0 = λ leaves cycles others. IsBeside known (before ++ e ∷ []) leaves cycles others in
+    let Now : Leaves → ℕ → List (Alternative UnitPlace) → Type 0 = λ leaves cycles others. IsBeside known (before ++ e ∷ []) leaves cycles others in
     rw part.next (elim c.if-measured-eq1.branch [
       | listing_together-then-measured-eq1+in_ok-gather w ↦
           let one = one_counted (alternatives_of (known_alternatives known) e) c.measured.result (c.measured.ensures (known_alternatives known) (right_known known e part.names_known)) w.if-measured-eq1.true in
-          let more = single_more known before e c.loop-part.leaves.keys c.loop-part.length c.loop-part.others c.loop-part.invariant part.formed at.short w.gather.new.leaves.keys w.max-length.result one w.in_ok-gather.ensures.gathered (w.max-length.ensures ∙ ap (λ (n : ℕ). max n c.loop-part.length) w.in_ok-gather.ensures.length) in
+          let more = single_more known before e c.loop-part.leaves c.loop-part.length c.loop-part.others c.loop-part.invariant part.formed at.short w.gather.new.leaves w.max-length.result one w.in_ok-gather.ensures.gathered (w.max-length.ensures ∙ ap (λ (n : ℕ). max n c.loop-part.length) w.in_ok-gather.ensures.length) in
           rw (w.leaves-is, w.length-is, w.others-is) more
       | listing_together-else-measured-eq1+in_ok-more+in_ok-others-2 w ↦
-          let more = others_more known before e c.loop-part.leaves.keys c.loop-part.length c.loop-part.others c.loop-part.invariant part.formed at.short part.names_known w.in_ok-others-2.others (w.in_ok-others-2.ensures.ok ∙ ap (joins c.loop-part.others) w.in_ok-more.ensures.ok) in
+          let more = others_more known before e c.loop-part.leaves c.loop-part.length c.loop-part.others c.loop-part.invariant part.formed at.short part.names_known w.in_ok-others-2.others (w.in_ok-others-2.ensures.ok ∙ ap (joins c.loop-part.others) w.in_ok-more.ensures.ok) in
           rw (w.leaves-is, w.length-is, w.others-is) more
     ])
 
@@ -270,43 +269,43 @@ listing_together-returns-in_err-push-clause-err t c =
     let known = c.args.known.now in
     let es = expressions c.args.parts.now in
     let some : 0 < length es = simp length-map c.requires.some in
-    let are : IsBeside known es c.loop-part.leaves.keys c.loop-part.length c.loop-part.others = subst (λ (ps : List Expr). IsBeside known (expressions ps) c.loop-part.leaves.keys c.loop-part.length c.loop-part.others) (take_all c.loop-part.part-index c.args.parts.now c.loop-part-test.false) c.loop-part.invariant in
-    let made : pairs_of c.in_ok-pairs.pairs.items ≡ ascending (leaves_pairs known c.loop-part.leaves.keys) = c.in_ok-pairs.ensures ∙ ap (λ ls. ascending (leaves_pairs known ls)) c.as_slice.ensures.keys in
+    let are : IsBeside known es c.loop-part.leaves c.loop-part.length c.loop-part.others = subst (λ (ps : List Expr). IsBeside known (expressions ps) c.loop-part.leaves c.loop-part.length c.loop-part.others) (take_all c.loop-part.part-index c.args.parts.now c.loop-part-test.false) c.loop-part.invariant in
+    let made : pairs_of c.in_ok-pairs.pairs.items ≡ ascending are.pairs = listed_pairs known es c.loop-part.leaves c.loop-part.length c.loop-part.others are some c.requires.formed (pairs_of c.in_ok-pairs.pairs.items) c.in_ok-pairs.ensures.ascending c.in_ok-pairs.ensures.same in
     let p = err_from_is_err_and c.from_residual-in_err-push.result c.from_residual-in_err-push.ensures.1 in
-    rw (p.1, p.2) (refused_single known es c.loop-part.leaves.keys c.loop-part.length c.loop-part.others are some c.requires.formed _ (subst (λ ps. Refuses (alternative ps c.loop-part.length ∷ []) c.in_err-push.field-0.0) made (rw c.new-single.ensures at c.in_err-push.ensures.err)))
+    rw (p.1, p.2) (refused_single known es c.loop-part.leaves c.loop-part.length c.loop-part.others are some c.requires.formed _ (subst (λ ps. Refuses (alternative ps c.loop-part.length ∷ []) c.in_err-push.field-0.0) made (rw c.new-single.ensures at c.in_err-push.ensures.err)))
 
 pub listing_together-together-requires-2-clause-first : goal.listing_together-together-requires-2-clause-first
 listing_together-together-requires-2-clause-first t c =
     let known = c.args.known.now in
     let es = expressions c.args.parts.now in
     let some : 0 < length es = simp length-map c.requires.some in
-    let are : IsBeside known es c.loop-part.leaves.keys c.loop-part.length c.loop-part.others = subst (λ (ps : List Expr). IsBeside known (expressions ps) c.loop-part.leaves.keys c.loop-part.length c.loop-part.others) (take_all c.loop-part.part-index c.args.parts.now c.loop-part-test.false) c.loop-part.invariant in
-    let made : pairs_of c.in_ok-pairs.pairs.items ≡ ascending (leaves_pairs known c.loop-part.leaves.keys) = c.in_ok-pairs.ensures ∙ ap (λ ls. ascending (leaves_pairs known ls)) c.as_slice.ensures.keys in
-    let this : List (Alternative UnitPlace) = listed (as_one known c.loop-part.leaves.keys c.loop-part.length) ∷ [] in
+    let are : IsBeside known es c.loop-part.leaves c.loop-part.length c.loop-part.others = subst (λ (ps : List Expr). IsBeside known (expressions ps) c.loop-part.leaves c.loop-part.length c.loop-part.others) (take_all c.loop-part.part-index c.args.parts.now c.loop-part-test.false) c.loop-part.invariant in
+    let made : pairs_of c.in_ok-pairs.pairs.items ≡ ascending are.pairs = listed_pairs known es c.loop-part.leaves c.loop-part.length c.loop-part.others are some c.requires.formed (pairs_of c.in_ok-pairs.pairs.items) c.in_ok-pairs.ensures.ascending c.in_ok-pairs.ensures.same in
+    let this : List (Alternative UnitPlace) = listed (whole are.pairs c.loop-part.length) ∷ [] in
     let pushed : c.push.new.self ≡ this = (rw c.new-single.ensures at c.in_ok-push.ensures.ok) ∙ ap (λ ps. alternative ps c.loop-part.length ∷ []) made in
-    subst (All IsListed) (sym pushed) (listed_single known es c.loop-part.leaves.keys c.loop-part.length c.loop-part.others are some c.requires.formed)
+    subst (All IsListed) (sym pushed) (listed_single known es c.loop-part.leaves c.loop-part.length c.loop-part.others are some c.requires.formed)
 
 pub listing_together-together-requires-2-clause-short : goal.listing_together-together-requires-2-clause-short
 listing_together-together-requires-2-clause-short t c =
     let known = c.args.known.now in
     let es = expressions c.args.parts.now in
     let some : 0 < length es = simp length-map c.requires.some in
-    let are : IsBeside known es c.loop-part.leaves.keys c.loop-part.length c.loop-part.others = subst (λ (ps : List Expr). IsBeside known (expressions ps) c.loop-part.leaves.keys c.loop-part.length c.loop-part.others) (take_all c.loop-part.part-index c.args.parts.now c.loop-part-test.false) c.loop-part.invariant in
-    let made : pairs_of c.in_ok-pairs.pairs.items ≡ ascending (leaves_pairs known c.loop-part.leaves.keys) = c.in_ok-pairs.ensures ∙ ap (λ ls. ascending (leaves_pairs known ls)) c.as_slice.ensures.keys in
-    let this : List (Alternative UnitPlace) = listed (as_one known c.loop-part.leaves.keys c.loop-part.length) ∷ [] in
+    let are : IsBeside known es c.loop-part.leaves c.loop-part.length c.loop-part.others = subst (λ (ps : List Expr). IsBeside known (expressions ps) c.loop-part.leaves c.loop-part.length c.loop-part.others) (take_all c.loop-part.part-index c.args.parts.now c.loop-part-test.false) c.loop-part.invariant in
+    let made : pairs_of c.in_ok-pairs.pairs.items ≡ ascending are.pairs = listed_pairs known es c.loop-part.leaves c.loop-part.length c.loop-part.others are some c.requires.formed (pairs_of c.in_ok-pairs.pairs.items) c.in_ok-pairs.ensures.ascending c.in_ok-pairs.ensures.same in
+    let this : List (Alternative UnitPlace) = listed (whole are.pairs c.loop-part.length) ∷ [] in
     let pushed : c.push.new.self ≡ this = (rw c.new-single.ensures at c.in_ok-push.ensures.ok) ∙ ap (λ ps. alternative ps c.loop-part.length ∷ []) made in
-    rw pushed (short_both known es c.loop-part.leaves.keys c.loop-part.length c.loop-part.others are some c.requires.formed)
+    rw pushed (short_both known es c.loop-part.leaves c.loop-part.length c.loop-part.others are some c.requires.formed)
 
 pub listing_together-returns-clause-ok : goal.listing_together-returns-clause-ok
 listing_together-returns-clause-ok t c =
     let known = c.args.known.now in
     let es = expressions c.args.parts.now in
     let some : 0 < length es = simp length-map c.requires.some in
-    let are : IsBeside known es c.loop-part.leaves.keys c.loop-part.length c.loop-part.others = subst (λ (ps : List Expr). IsBeside known (expressions ps) c.loop-part.leaves.keys c.loop-part.length c.loop-part.others) (take_all c.loop-part.part-index c.args.parts.now c.loop-part-test.false) c.loop-part.invariant in
-    let made : pairs_of c.in_ok-pairs.pairs.items ≡ ascending (leaves_pairs known c.loop-part.leaves.keys) = c.in_ok-pairs.ensures ∙ ap (λ ls. ascending (leaves_pairs known ls)) c.as_slice.ensures.keys in
-    let this : List (Alternative UnitPlace) = listed (as_one known c.loop-part.leaves.keys c.loop-part.length) ∷ [] in
+    let are : IsBeside known es c.loop-part.leaves c.loop-part.length c.loop-part.others = subst (λ (ps : List Expr). IsBeside known (expressions ps) c.loop-part.leaves c.loop-part.length c.loop-part.others) (take_all c.loop-part.part-index c.args.parts.now c.loop-part-test.false) c.loop-part.invariant in
+    let made : pairs_of c.in_ok-pairs.pairs.items ≡ ascending are.pairs = listed_pairs known es c.loop-part.leaves c.loop-part.length c.loop-part.others are some c.requires.formed (pairs_of c.in_ok-pairs.pairs.items) c.in_ok-pairs.ensures.ascending c.in_ok-pairs.ensures.same in
+    let this : List (Alternative UnitPlace) = listed (whole are.pairs c.loop-part.length) ∷ [] in
     let pushed : c.push.new.self ≡ this = (rw c.new-single.ensures at c.in_ok-push.ensures.ok) ∙ ap (λ ps. alternative ps c.loop-part.length ∷ []) made in
-    let joined = ap (λ xs. joins xs c.loop-part.others) pushed ∙ all_beside known es c.loop-part.leaves.keys c.loop-part.length c.loop-part.others are some c.requires.formed in
+    let joined = ap (λ xs. joins xs c.loop-part.others) pushed ∙ all_beside known es c.loop-part.leaves c.loop-part.length c.loop-part.others are some c.requires.formed in
     subst (λ (xs : List (Alternative UnitPlace)). IfOk c.together-2.result (λ listing. listing ≡ xs)) joined c.together-2.ensures.ok
 
 pub listing_together-returns-clause-err : goal.listing_together-returns-clause-err
@@ -314,9 +313,23 @@ listing_together-returns-clause-err t c =
     let known = c.args.known.now in
     let es = expressions c.args.parts.now in
     let some : 0 < length es = simp length-map c.requires.some in
-    let are : IsBeside known es c.loop-part.leaves.keys c.loop-part.length c.loop-part.others = subst (λ (ps : List Expr). IsBeside known (expressions ps) c.loop-part.leaves.keys c.loop-part.length c.loop-part.others) (take_all c.loop-part.part-index c.args.parts.now c.loop-part-test.false) c.loop-part.invariant in
-    let made : pairs_of c.in_ok-pairs.pairs.items ≡ ascending (leaves_pairs known c.loop-part.leaves.keys) = c.in_ok-pairs.ensures ∙ ap (λ ls. ascending (leaves_pairs known ls)) c.as_slice.ensures.keys in
-    let this : List (Alternative UnitPlace) = listed (as_one known c.loop-part.leaves.keys c.loop-part.length) ∷ [] in
+    let are : IsBeside known es c.loop-part.leaves c.loop-part.length c.loop-part.others = subst (λ (ps : List Expr). IsBeside known (expressions ps) c.loop-part.leaves c.loop-part.length c.loop-part.others) (take_all c.loop-part.part-index c.args.parts.now c.loop-part-test.false) c.loop-part.invariant in
+    let made : pairs_of c.in_ok-pairs.pairs.items ≡ ascending are.pairs = listed_pairs known es c.loop-part.leaves c.loop-part.length c.loop-part.others are some c.requires.formed (pairs_of c.in_ok-pairs.pairs.items) c.in_ok-pairs.ensures.ascending c.in_ok-pairs.ensures.same in
+    let this : List (Alternative UnitPlace) = listed (whole are.pairs c.loop-part.length) ∷ [] in
     let pushed : c.push.new.self ≡ this = (rw c.new-single.ensures at c.in_ok-push.ensures.ok) ∙ ap (λ ps. alternative ps c.loop-part.length ∷ []) made in
-    let joined = ap (λ xs. joins xs c.loop-part.others) pushed ∙ all_beside known es c.loop-part.leaves.keys c.loop-part.length c.loop-part.others are some c.requires.formed in
+    let joined = ap (λ xs. joins xs c.loop-part.others) pushed ∙ all_beside known es c.loop-part.leaves c.loop-part.length c.loop-part.others are some c.requires.formed in
     subst (λ (xs : List (Alternative UnitPlace)). IfErr c.together-2.result (Refuses xs)) joined c.together-2.ensures.err
+
+pub listing_together-pairs-requires-clause-ends : goal.listing_together-pairs-requires-clause-ends
+listing_together-pairs-requires-clause-ends t c = c.loop-part.invariant.ends
+
+pub listing_together-pairs-requires-clause-within : goal.listing_together-pairs-requires-clause-within
+listing_together-pairs-requires-clause-within t c =
+    let known = c.args.known.now in
+    let es = expressions c.args.parts.now in
+    let some : 0 < length es = simp length-map c.requires.some in
+    let are : IsBeside known es c.loop-part.leaves c.loop-part.length c.loop-part.others = subst (λ (ps : List Expr). IsBeside known (expressions ps) c.loop-part.leaves c.loop-part.length c.loop-part.others) (take_all c.loop-part.part-index c.args.parts.now c.loop-part-test.false) c.loop-part.invariant in
+    within_length known es c.loop-part.leaves c.loop-part.length c.loop-part.others are some c.requires.formed
+
+pub listing_together-pairs-requires-clause-short : goal.listing_together-pairs-requires-clause-short
+listing_together-pairs-requires-clause-short t c = c.loop-part.invariant.short

@@ -15,4 +15,4 @@ decreases-listing_together l = 2 * all_nodes l.parts.now + 1
 
 -- the parts so far
 abbrev pub invariant-listing_together-loop-part : goal.invariant-listing_together-loop-part
-invariant-listing_together-loop-part l = IsBeside l.known (expressions (take l.part-index l.parts)) l.leaves.keys l.length l.others
+invariant-listing_together-loop-part l = IsBeside l.known (expressions (take l.part-index l.parts)) l.leaves l.length l.others

@@ -1,11 +1,11 @@
-use Rattle.std.proofs.Common.{◌≡◌, ◌+◌, ◌≤◌, [], List, length, refl, sym, ap, ◌∙◌, subst, arith, rules}
+use Rattle.std.proofs.Common.{◌≡◌, ◌+◌, ◌≤◌, List, length, sym, ap, ◌∙◌, subst, arith, rules, ℕ}
 use Rattle.std.specs.Prelude.{IsTrue}
 use Rattle.std.proofs.lemmas.Bool.{and_parts, leb-true}
 use Rattle.hz_regexp.specs.Shape.{expression, expressions}
-use Rattle.hz_altern.specs.Leaves.{IsGathered, AreAdded}
+use Rattle.hz_altern.specs.Leaves.{AddsCopies}
 use Rattle.hz_altern.specs.Tables.{alternatives_in, known_alternatives, is_held}
-use Rattle.hz_altern.proofs.GatherLemmas.{part_at, sequence_at, together_at, several_of, one_of_copies, copies_long, copies_within, copy_gathered, copy_ends}
-use Rattle.hz_altern.proofs.LeafLemmas.{none_gathered, sequence_gathered, together_gathered}
+use Rattle.hz_altern.proofs.GatherLemmas.{part_at, sequence_at, together_at, several_of, one_of_copies, copies_within, copied_long, copies_gathered}
+use Rattle.hz_altern.proofs.LeafLemmas.{sequence_gathered, together_gathered}
 use Rattle.hz_altern.proofs.ListedLemmas.{copies_single}
 use Rattle.hz_altern.proofs.Nodes.{nodes, nodes_of_repeat}
 use Rattle.hz_altern.proofs.Shapes.{oneof_is, repeat_is}
@@ -73,46 +73,6 @@ gather_copies-gather-requires-2 t c =
     let short : 0 + greatest_length xs ≤ cycle_limit = omega arith in
     search rules
 
-pub gather_copies-overflow_add-start : goal.gather_copies-overflow_add-start
-gather_copies-overflow_add-start t c =
-    let xs = alternatives_of (known_alternatives c.args.known.now) (expression c.args.part.now) in
-    let within = copies_within xs c.requires.one c.loop-copy._copy c.args.times c.loop-copy-test.true in
-    omega (arith, c.requires.short, c.loop-copy.invariant.length)
-
-pub gather_copies-add_later-requires : goal.gather_copies-add_later-requires
-gather_copies-add_later-requires t c =
-    let known = c.args.known.now in
-    let xs = alternatives_of (known_alternatives known) (expression c.args.part.now) in
-    let once = c.gather-2.new.leaves.keys in
-    let gathered : IsGathered known 0 xs [] once = rw c.new-once.ensures.empty at c.in_ok-cycles.ensures.gathered in
-    let within = copies_within xs c.requires.one c.loop-copy._copy c.args.times c.loop-copy-test.true in
-    let short : (c.args.start + c.loop-copy.length) + greatest_length xs ≤ cycle_limit = omega (arith, c.requires.short, c.loop-copy.invariant.length) in
-    rw c.as_slice.ensures.keys (λ k d lt. let low = copy_ends xs known c.requires.one c.args.start once gathered (c.args.start + c.loop-copy.length) cycle_limit short k d lt in omega arith)
-
-pub gather_copies-overflow_add-length : goal.gather_copies-overflow_add-length
-gather_copies-overflow_add-length t c =
-    let xs = alternatives_of (known_alternatives c.args.known.now) (expression c.args.part.now) in
-    let within = copies_within xs c.requires.one c.loop-copy._copy c.args.times c.loop-copy-test.true in
-    omega (arith, c.requires.short, c.loop-copy.invariant.length, c.in_ok-cycles.ensures.length)
-
-pub gather_copies-loop-copy-preserved : goal.gather_copies-loop-copy-preserved
-gather_copies-loop-copy-preserved t c =
-    let known = c.args.known.now in
-    let xs = alternatives_of (known_alternatives known) (expression c.args.part.now) in
-    let once = c.gather-2.new.leaves.keys in
-    let gathered : IsGathered known 0 xs [] once = rw c.new-once.ensures.empty at c.in_ok-cycles.ensures.gathered in
-    let long = copies_long xs c.requires.one c.loop-copy._copy in
-    let added : AreAdded known (c.args.start + greatest_length (copies c.loop-copy._copy xs)) once c.loop-copy.leaves.keys c.add_later.new.leaves.keys = rw (c.loop-copy.invariant.length, c.as_slice.ensures.keys) at (c.in_ok-add_later.ensures known) in
-    record {
-      length = omega (arith, c.loop-copy.invariant.length, c.in_ok-cycles.ensures.length);
-      gathered = copy_gathered xs known c.requires.one c.args.start once gathered c.loop-copy._copy c.args.leaves.now.keys c.loop-copy.leaves.keys c.add_later.new.leaves.keys c.loop-copy.invariant.gathered added;
-    }
-
-pub gather_copies-loop-copy-init : goal.gather_copies-loop-copy-init
-gather_copies-loop-copy-init t c =
-    let xs = alternatives_of (known_alternatives c.args.known.now) (expression c.args.part.now) in
-    record { length = omega arith; gathered = none_gathered c.args.known.now c.args.start (copies 0 xs) c.args.leaves.now.keys refl }
-
 pub gather_sequence-overflow_add-start : goal.gather_sequence-overflow_add-start
 gather_sequence-overflow_add-start t c =
     let at = sequence_at c.args.known.now c.args.parts.now c.loop-part.part-index c.part-item.result c.loop-part-test.true c.part-item.is c.requires.one in
@@ -174,3 +134,22 @@ gather_together-loop-part-preserved t c =
       length = omega (arith, c.loop-part.invariant.length, c.in_ok-gather.ensures.length, c.max-length.ensures);
       gathered = rw at.next gathered;
     }
+
+pub gather_copies-overflow_mul-result : goal.gather_copies-overflow_mul-result
+gather_copies-overflow_mul-result t c =
+    let xs = alternatives_of (known_alternatives c.args.known.now) (expression c.args.part.now) in
+    let length = copied_long xs c.requires.one c.args.times c.in_ok-length.length c.in_ok-length.ensures.length in
+    let short = c.requires.short in
+    omega arith
+
+pub gather_copies-returns-clause-length : goal.gather_copies-returns-clause-length
+gather_copies-returns-clause-length t c =
+    let xs = alternatives_of (known_alternatives c.args.known.now) (expression c.args.part.now) in
+    copied_long xs c.requires.one c.args.times c.in_ok-length.length c.in_ok-length.ensures.length
+
+pub gather_copies-returns-clause-gathered : goal.gather_copies-returns-clause-gathered
+gather_copies-returns-clause-gathered t c =
+    let known = c.args.known.now in
+    let xs = alternatives_of (known_alternatives known) (expression c.args.part.now) in
+    let added = subst (λ (apart : ℕ). AddsCopies c.gather-2.new.leaves.names.entries c.args.times apart c.args.start c.args.leaves.now c.add_copies.new.leaves) c.in_ok-length.ensures.length c.in_ok-add_copies.ensures in
+    copies_gathered xs known c.requires.one c.new-once.result c.gather-2.new.leaves c.new-once.ensures c.in_ok-length.ensures.gathered c.args.times c.args.start c.args.leaves.now c.add_copies.new.leaves added c.requires.short

@@ -1,9 +1,9 @@
 use Rattle.std.proofs.Common.{◌≡◌, ◌+◌, ◌*◌, take}
-use Rattle.hz_regexp.specs.Shape.{expression, expressions}
+use Rattle.hz_regexp.specs.Shape.{expressions}
 use Rattle.hz_altern.specs.Leaves.{IsGathered}
 use Rattle.hz_altern.specs.Tables.{known_alternatives}
 use Rattle.hz_altern.proofs.Nodes.{nodes, all_nodes}
-use Rattle.hz_altern_model.specs.Alternatives.{alternatives_of, in_sequence, together, copies, parts_of}
+use Rattle.hz_altern_model.specs.Alternatives.{in_sequence, together, parts_of}
 use Rattle.hz_altern_model.specs.AlternativeLists.{greatest_length}
 use Rattle.hz_altern.proofs.leaves.+gathering.Given as goal
 
@@ -24,7 +24,7 @@ abbrev pub invariant-gather_sequence-loop-part : goal.invariant-gather_sequence-
 invariant-gather_sequence-loop-part l =
     let these = in_sequence (known_alternatives l.known) (parts_of (expressions (take l.part-index l.parts))) in record {
       length : l.length ≡ greatest_length these;
-      gathered : IsGathered l.known l.start these l.initial.leaves.keys l.leaves.keys;
+      gathered : IsGathered l.known l.start these l.initial.leaves l.leaves;
     }
 
 -- the parts so far are gathered, from the same cycle on
@@ -32,13 +32,5 @@ abbrev pub invariant-gather_together-loop-part : goal.invariant-gather_together-
 invariant-gather_together-loop-part l =
     let these = together (known_alternatives l.known) (parts_of (expressions (take l.part-index l.parts))) in record {
       length : l.length ≡ greatest_length these;
-      gathered : IsGathered l.known l.start these l.initial.leaves.keys l.leaves.keys;
-    }
-
--- the copies so far are gathered, and one copy by itself
-abbrev pub invariant-gather_copies-loop-copy : goal.invariant-gather_copies-loop-copy
-invariant-gather_copies-loop-copy l =
-    let xs = alternatives_of (known_alternatives l.known) (expression l.part) in record {
-      length : l.length ≡ greatest_length (copies l._copy xs);
-      gathered : IsGathered l.known l.start (copies l._copy xs) l.initial.leaves.keys l.leaves.keys;
+      gathered : IsGathered l.known l.start these l.initial.leaves l.leaves;
     }
