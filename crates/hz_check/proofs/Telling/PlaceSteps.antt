@@ -1,7 +1,7 @@
 -- The places of units, unit by unit.
 use Rattle.std.proofs.Common.{◌≡◌, ◌≢◌, ℕ, suc, ◌<◌, ◌≤◌, ◌+◌, ◌==◌, nat_lt, List, [], ◌∷◌, ◌++◌, map, length, take, drop, get_or, get_or-set_same, get_or-set_other, Option, Some, None, Bool, true, false, All, refl, sym, ap, ◌∙◌, subst, arith, cond, ⊎_elim, append_assoc, unwrap_or, lit<}
 use Rattle.std.proofs.Math.ListN.{set}
-use Rattle.std.proofs.lemmas.Bool.{cases_eq, lt-ltb, le-ltb}
+use Rattle.std.proofs.lemmas.Bool.{cases_eq, cases_lt, lt-ltb, le-ltb}
 use Rattle.std.proofs.lemmas.Bool.Decides.{nat_tests}
 use Rattle.std.proofs.lemmas.List.{take_more, map-append, length-map}
 use Rattle.std.proofs.lemmas.List.Quantifiers.{position-Some}
@@ -114,6 +114,13 @@ module _ (d : Description) (items : List StoredUnit) (i : ℕ) (item : StoredUni
         → all ≡ past_units (map unit_item (drop (i + 1) items)) (places_behind d (map unit_item (take (i + 1) items)) (map unit_item (drop (i + 1) items)))
     within_next all below kept =
         kept ∙ (units_now ∙ ap (λ (b : Bool). cond b later_units (here ∷ later_units)) (ap (λ (q : UnitPlace). nat_lt q.unit unit_limit) place_here ∙ lt-ltb (get_or counts number 0) unit_limit below))
+
+    -- a unit, where no unit is past the limit
+    pub below_here : [] ≡ past_units (map unit_item (drop i items)) (places_behind d (map unit_item (take i items)) (map unit_item (drop i items))) → get_or counts number 0 < unit_limit
+    below_here none = ⊎_elim
+        (λ (below : get_or counts number 0 < unit_limit). below)
+        (λ (past : unit_limit ≤ get_or counts number 0). absurd (omega (arith, ap length (none ∙ (units_now ∙ ap (λ (b : Bool). cond b later_units (here ∷ later_units)) (ap (λ (q : UnitPlace). nat_lt q.unit unit_limit) place_here ∙ le-ltb (get_or counts number 0) unit_limit past))))))
+        (cases_lt (get_or counts number 0) unit_limit)
 
     -- a unit past the limit
     pub past_here : (all : List Site) → unit_limit ≤ get_or counts number 0 → AllPairs (λ u v. u.form ≤ v.form) (map unit_item items)

@@ -1,12 +1,11 @@
 -- The places of units.
-use Rattle.std.specs.Prelude.{◌≡◌, ◌<◌, List, [], map, Some, All}
+use Rattle.std.specs.Prelude.{◌≡◌, ◌<◌, List, [], map, All}
 use Rattle.hz_expand.specs.declared.places.UnitPlace.{UnitPlace as Place}
 use Rattle.hz_expand.specs.Shape.{place_of}
 use Rattle.hz_check_model.specs.CheckFaults.{past_units}
 use Rattle.hz_mdread_model.specs.Descriptions.{Description}
 use Rattle.hz_base_model.specs.Limits.{automaton_limit, unit_limit}
 use Rattle.hz_check_model.specs.Places.{unit_places}
-use Rattle.hz_check_model.specs.Sites.{Site, earliest}
 
 -- the unit is one that an automaton may have
 pub record IsWithin (p : Place) : Type 0 where
@@ -18,7 +17,3 @@ pub record ArePlaces (d : Description) (places : List Place) : Type 0 where
   pub each : All IsWithin places
   pub all : map place_of places ≡ unit_places d
   pub within : past_units d.units (unit_places d) ≡ []
-
--- the site of the first unit past the limit
-pub record IsPast (d : Description) (site : Site) : Type 0 where
-  pub first : earliest (past_units d.units (unit_places d)) ≡ Some site

@@ -13,7 +13,7 @@ ghost use Rattle.hz_mdread_model.specs.DescriptionShape.{IsCheckable, SharesAuto
 use crate::fault::{CheckFault, LimitName};
 use crate::faults::limits::{past_automaton, past_class};
 use crate::faults::of_names::fault_of_names;
-use crate::faults::past_units::unit_places;
+use crate::faults::past_units::{past_unit, unit_places};
 use crate::faults::self_exclusion::self_exclusion;
 use crate::faults::set_across_automata::set_across_automata;
 use crate::faults::told::{Wrong, fault, refused};
@@ -89,18 +89,13 @@ pub(crate) fn placed(
         let what = LimitName::Automata;
         return Err(refused(Wrong::Limit(what), site));
     }
-    let places = match unit_places(alloc, names)? {
-        Ok(places) => places,
-        Err(site) => {
-            let what = LimitName::Units;
-            return Err(refused(Wrong::Limit(what), site));
-        }
-    };
-    match past_class(names.desc) {
-        Some(site) => {
-            let what = LimitName::Classes;
-            Err(refused(Wrong::Limit(what), site))
-        }
-        None => Ok(places),
+    if let Some(site) = past_unit(names) {
+        let what = LimitName::Units;
+        return Err(refused(Wrong::Limit(what), site));
     }
+    if let Some(site) = past_class(names.desc) {
+        let what = LimitName::Classes;
+        return Err(refused(Wrong::Limit(what), site));
+    }
+    Ok(unit_places(alloc, names)?)
 }

@@ -6,20 +6,8 @@ use Rattle.hz_mdread.specs.Shape.{description, unit_item}
 use Rattle.hz_check.specs.Faults.PastUnits.{IsWithin}
 use Rattle.hz_expand.specs.Shape.{place_of}
 use Rattle.hz_check_model.specs.Places.{places_behind}
-use Rattle.hz_check.proofs.Telling.PlaceSteps.{automaton_below, counts_next, places_next, within_next, past_here}
+use Rattle.hz_check.proofs.Telling.PlaceSteps.{automaton_below, counts_next, places_next, within_next, below_here}
 use Rattle.hz_check.proofs.faults.past_units.unit_places.Goals as goal
-
-pub returns-then-from-ge-UNITS : goal.returns-then-from-ge-UNITS
-returns-then-from-ge-UNITS c =
-    let d = description c.args.names.now.desc.now in
-    let items = c.deref-unit-items.result.now in
-    let i = c.loop-unit.unit-index in
-    let item = c.unit-item.result in
-    let number = c.automaton_number-number.result in
-    let few : number < 16 = subst (λ n. n < 16) (sym c.automaton_number-number.ensures) (automaton_below d item.automaton (c.requires.few)) in
-    record {
-      first = past_here d items i item c.unit-item.is c.loop-unit-test.true c.loop-unit.counts c.loop-unit.invariant.counts number c.automaton_number-number.ensures few _ (omega (arith, c.if-from-ge-UNITS.true, c.from.ensures)) (subst (λ xs. AllPairs (λ u v. u.form ≤ v.form) (map unit_item xs)) (sym c.deref-unit-items.ensures.value) c.requires.ordered) c.loop-unit.invariant.past ∙ ap Some (sym c.site.ensures);
-    }
 
 pub loop-unit-preserved : goal.loop-unit-preserved
 loop-unit-preserved c =
@@ -29,13 +17,14 @@ loop-unit-preserved c =
     let item = c.unit-item.result in
     let number = c.automaton_number-number.result in
     let few : number < 16 = subst (λ n. n < 16) (sym c.automaton_number-number.ensures) (automaton_below d item.automaton (c.requires.few)) in
+    let below = below_here d items i item c.unit-item.is c.loop-unit-test.true c.loop-unit.counts c.loop-unit.invariant.counts number c.automaton_number-number.ensures few c.loop-unit.invariant.past in
     record {
       places = places_next d items i item c.unit-item.is c.loop-unit-test.true c.loop-unit.counts c.loop-unit.invariant.counts number c.automaton_number-number.ensures few _ c.loop-unit.places.items c.loop-unit.invariant.places
           ∙ ap (λ ps. map place_of ps ++ places_behind d (map unit_item (take (i + 1) items)) (map unit_item (drop (i + 1) items)))
-          (ap (λ n. c.loop-unit.places.items ++ record { automaton = number; unit = n } ∷ []) (sym c.from-in-loop-unit.ensures) ∙ sym c.in_ok-push.ensures.items);
+          (ap (λ n. c.loop-unit.places.items ++ record { automaton = number; unit = n } ∷ []) (sym c.from.ensures) ∙ sym c.in_ok-push.ensures.items);
       each = subst (All IsWithin) (sym c.in_ok-push.ensures.items)
-          (All-push IsWithin c.loop-unit.places.items (record { automaton = number; unit = c.from-in-loop-unit.result }) c.loop-unit.invariant.each (record { automaton = few; unit = omega (arith, c.from-in-loop-unit.ensures, c.from.ensures, c.if-from-ge-UNITS.false) }));
+          (All-push IsWithin c.loop-unit.places.items (record { automaton = number; unit = c.from.result }) c.loop-unit.invariant.each (record { automaton = few; unit = omega (arith, c.from.ensures, below) }));
       size = omega (arith, length-set c.loop-unit.counts, c.loop-unit.invariant.size);
       counts = counts_next d items i item c.unit-item.is c.loop-unit-test.true c.loop-unit.counts c.loop-unit.invariant.counts number c.automaton_number-number.ensures few c.loop-unit.invariant.size;
-      past = within_next d items i item c.unit-item.is c.loop-unit-test.true c.loop-unit.counts c.loop-unit.invariant.counts number c.automaton_number-number.ensures few _ (omega (arith, c.if-from-ge-UNITS.false, c.from.ensures)) c.loop-unit.invariant.past;
+      past = within_next d items i item c.unit-item.is c.loop-unit-test.true c.loop-unit.counts c.loop-unit.invariant.counts number c.automaton_number-number.ensures few _ below c.loop-unit.invariant.past;
     }

@@ -1,4 +1,4 @@
-use Rattle.std.proofs.Common.{◌≡◌, ℕ, ◌<◌, ◌==◌, ◌++◌, All, map, take, drop, length, get_or}
+use Rattle.std.proofs.Common.{◌≡◌, ℕ, ◌<◌, ◌==◌, [], ◌++◌, All, map, take, drop, length, get_or}
 use Rattle.std.specs.Prelude.{count_by}
 use Rattle.hz_mdread.specs.Shape.{description, unit_item}
 use Rattle.hz_check.specs.Faults.PastUnits.{IsWithin}
@@ -17,5 +17,5 @@ invariant-loop-unit l =
       each : All IsWithin l.places.items;
       size : length l.counts ≡ 16;
       counts : (automaton : ℕ) → automaton < 16 → get_or l.counts automaton 0 ≡ count_by (λ a. a == automaton) (automaton_numbers d done);
-      past : past_units d.units (unit_places d) ≡ past_units rest (places_behind d done rest);
+      past : [] ≡ past_units rest (places_behind d done rest);
     }
