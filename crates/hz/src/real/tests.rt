@@ -1,17 +1,18 @@
 //! The host's files and its standard output as the system has them.
 ghost use Rattle.std.specs.Prelude.{◌≡◌, ◌-◌, ◌^◌, ◌<◌};
 
-use super::{RealFiles, RealSink};
+use super::{RealFiles, RealSink, read_again};
 use hz_io::{Failed, Files, Sink, SlurpFault, slurp};
 use std::alloc::Global;
 use std::fs;
+use std::io::{self, ErrorKind, Read};
 use std::test::Fail;
 
 /// The name of the file that the test makes.
 const NAME: &str = "hz_real_files_test";
 
-/// More bytes than one read gives.
-const LENGTH: usize = 40_000;
+/// How many lines are written, each its own number: more bytes than one read gives, and no two parts of them alike.
+const LINES: u32 = 8_000;
 
 /// A limit that no file here reaches.
 const MOST: u64 = 1_000_000;
@@ -29,14 +30,24 @@ fn held<F: Files>(alloc: Global, files: &mut F) -> Option<Vec<u8>>
     slurp(alloc, files, NAME, MOST).ok()
 }
 
+/// Lines that have the numbers from 0.
+fn numbers(alloc: Global) -> Result<String, Fail> {
+    let mut lines = String::new(alloc);
+    for number in 0..LINES {
+        lines.push_str(&format!(in alloc; "{number}\n")?)?;
+    }
+    Ok(lines)
+}
+
 #[test]
 fn a_real_file_is_read_whole(rt: HostRuntime) -> Result<(), Fail> {
-    let bytes = vec![in rt.alloc(); b'a'; LENGTH]?;
-    fs::write(&rt, NAME, bytes.as_slice())?;
+    let lines = numbers(rt.alloc())?;
+    fs::write(&rt, NAME, lines.as_bytes())?;
     let read = held(rt.alloc(), &mut RealFiles::new(&rt));
     fs::remove_file(&rt, NAME)?;
     let read = read.unwrap_or(Vec::new(rt.alloc()));
-    assert_eq!(rt; read.as_slice(), bytes.as_slice());
+    assert_eq!(rt; read.len(), 38_890);
+    assert_eq!(rt; read.as_slice(), lines.as_bytes());
     Ok(())
 }
 
@@ -65,6 +76,32 @@ fn a_read_that_fails_behind_others_is_counted(rt: HostRuntime) -> Result<(), Fai
     assert_eq!(rt; read.err(), Some(SlurpFault::Failed));
     assert_eq!(rt; files.faults, 2);
     Ok(())
+}
+
+/// What a signal interrupts so many times before it gives two bytes.
+#[derive(Drop)]
+struct Interrupted {
+    times: u32,
+}
+
+impl Read for Interrupted {
+    fn read(&mut self, into: &mut [u8]) -> io::Result<usize> {
+        if self.times > 0 {
+            self.times -= 1;
+            return Err(ErrorKind::Interrupted.into());
+        }
+        let count = into.len().min(2);
+        into[..count].copy_from_slice(&b"ab"[..count]);
+        Ok(count)
+    }
+}
+
+#[test]
+fn an_interrupted_read_is_tried_again(rt: HostRuntime) {
+    let mut into = [0u8; 4];
+    let read = read_again(&mut Interrupted { times: 3 }, &mut into);
+    assert_eq!(rt; read.ok(), Some(2));
+    assert_eq!(rt; into.as_slice(), b"ab\0\0".as_slice());
 }
 
 #[test]
