@@ -29,7 +29,7 @@ bin/built/$(1): $(call sources,$(1)) $(addprefix bin/built/,$(call needs,$(1))) 
 	@touch $$@
 	@echo "hz: $(1)"
 endef
-$(foreach each,$(filter-out hz hz_rows hz_sched_rows,$(crates)),$(eval $(call crate,$(each))))
+$(foreach each,$(filter-out hz hz_rows hz_check_rows hz_sched_rows,$(crates)),$(eval $(call crate,$(each))))
 
 bin/hz: $(call sources,hz) $(addprefix bin/built/,$(call needs,hz))
 	@{ cd crates/hz && rt run -- replay ../../examples/divider/machine.md ../../examples/divider/spaced.trace 2>&1; echo "status $$?"; } > bin/built/hz.log

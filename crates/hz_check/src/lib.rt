@@ -11,6 +11,3 @@ mod parts;
 pub use checked::{Checked, CheckedAutomaton, CheckedBypass, CheckedClass};
 pub use checking::check;
 pub use fault::{CheckFault, LimitName};
-
-#[cfg(test)]
-mod tests;

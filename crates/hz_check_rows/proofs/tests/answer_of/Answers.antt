@@ -2,7 +2,7 @@ use Rattle.hz_sexp.specs.Shape.{trees}
 use Rattle.hz_mdread.specs.Shape.{description}
 use Rattle.hz_mdread_model.proofs.FormSizes.{forms_few, strings_short}
 use Rattle.hz_mdread_model.proofs.CheckableLaws.{can_be_checked}
-use Rattle.hz_check.proofs.tests.answer_of.Goals as goal
+use Rattle.hz_check_rows.proofs.tests.answer_of.Goals as goal
 
 pub read_description-requires-clause-count : goal.read_description-requires-clause-count
 read_description-requires-clause-count c = rw c.deref.ensures.value (forms_few c.args.text.now (trees c.in-Ok.forms.items) _ c.in-Ok.ensures.forms c.requires)

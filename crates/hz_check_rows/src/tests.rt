@@ -2,7 +2,7 @@
 
 ghost use Rattle.std.specs.Prelude.{◌<◌, ◌^◌, length};
 
-use crate::{CheckFault, Checked, check};
+use hz_check::{CheckFault, Checked, check};
 use hz_mdread::read_description;
 use hz_sexp::read_forms;
 use std::alloc::{AllocError, Global};
