@@ -1,11 +1,12 @@
 //! The host's files and its standard output. Contracts are told nothing of what they hold.
 
 ghost use Rattle.std.specs.Prelude.{◌≡◌, ◌-◌, ◌^◌, ◌<◌, None};
+ghost use Rattle.std.specs.Io.{ReadsAtMost};
 ghost use Rattle.hz_io.specs.Files.{Counts};
 
 use hz_io::{Failed, Files, Sink};
 use std::fs;
-use std::io::{self, Read, Write};
+use std::io::{self, ErrorKind, Read, Write};
 use std::rt::Files as HostFiles;
 
 #[cfg(test)]
@@ -13,6 +14,20 @@ mod tests;
 
 /// How many bytes are read at a time.
 const CHUNK: usize = 16_384;
+
+/// One read, tried again where a signal interrupts it.
+fn read_again<F: Read>(file: &mut F, into: &mut [u8]) -> io::Result<usize>
+    ensures { ReadsAtMost result into.new }
+{
+    // a loop is proved to end, so this one counts its tries
+    for _ in 0..u64::MAX {
+        match file.read(into) {
+            Err(error) if error.kind() == ErrorKind::Interrupted => {}
+            answer => return answer,
+        }
+    }
+    Err(ErrorKind::Interrupted.into())
+}
 
 /// The host's files, one of them open at a time.
 #[derive(Drop)]
@@ -65,7 +80,7 @@ impl<'a, R: HostFiles> Files for RealFiles<'a, R> {
         let Some(file) = &mut self.file else {
             return Ok(0);
         };
-        match file.read(&mut chunk[..room]) {
+        match read_again(file, &mut chunk[..room]) {
             Ok(count) => {
                 into[..count].copy_from_slice(&chunk[..count]);
                 Ok(count)

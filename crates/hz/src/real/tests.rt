@@ -1,10 +1,11 @@
 //! The host's files and its standard output as the system has them.
 ghost use Rattle.std.specs.Prelude.{◌≡◌, ◌-◌, ◌^◌, ◌<◌};
 
-use super::{RealFiles, RealSink};
+use super::{RealFiles, RealSink, read_again};
 use hz_io::{Failed, Files, Sink, SlurpFault, slurp};
 use std::alloc::Global;
 use std::fs;
+use std::io::{self, ErrorKind, Read};
 use std::test::Fail;
 
 /// The name of the file that the test makes.
@@ -65,6 +66,32 @@ fn a_read_that_fails_behind_others_is_counted(rt: HostRuntime) -> Result<(), Fai
     assert_eq!(rt; read.err(), Some(SlurpFault::Failed));
     assert_eq!(rt; files.faults, 2);
     Ok(())
+}
+
+/// What a signal interrupts so many times before it gives two bytes.
+#[derive(Drop)]
+struct Interrupted {
+    times: u32,
+}
+
+impl Read for Interrupted {
+    fn read(&mut self, into: &mut [u8]) -> io::Result<usize> {
+        if self.times > 0 {
+            self.times -= 1;
+            return Err(ErrorKind::Interrupted.into());
+        }
+        let count = into.len().min(2);
+        into[..count].copy_from_slice(&b"ab"[..count]);
+        Ok(count)
+    }
+}
+
+#[test]
+fn an_interrupted_read_is_tried_again(rt: HostRuntime) {
+    let mut into = [0u8; 4];
+    let read = read_again(&mut Interrupted { times: 3 }, &mut into);
+    assert_eq!(rt; read.ok(), Some(2));
+    assert_eq!(rt; into.as_slice(), b"ab\0\0".as_slice());
 }
 
 #[test]
