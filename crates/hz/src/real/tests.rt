@@ -11,8 +11,8 @@ use std::test::Fail;
 /// The name of the file that the test makes.
 const NAME: &str = "hz_real_files_test";
 
-/// More bytes than one read gives.
-const LENGTH: usize = 40_000;
+/// How many lines are written, each its own number: more bytes than one read gives, and no two parts of them alike.
+const LINES: u32 = 8_000;
 
 /// A limit that no file here reaches.
 const MOST: u64 = 1_000_000;
@@ -30,14 +30,24 @@ fn held<F: Files>(alloc: Global, files: &mut F) -> Option<Vec<u8>>
     slurp(alloc, files, NAME, MOST).ok()
 }
 
+/// Lines that have the numbers from 0.
+fn numbers(alloc: Global) -> Result<String, Fail> {
+    let mut lines = String::new(alloc);
+    for number in 0..LINES {
+        lines.push_str(&format!(in alloc; "{number}\n")?)?;
+    }
+    Ok(lines)
+}
+
 #[test]
 fn a_real_file_is_read_whole(rt: HostRuntime) -> Result<(), Fail> {
-    let bytes = vec![in rt.alloc(); b'a'; LENGTH]?;
-    fs::write(&rt, NAME, bytes.as_slice())?;
+    let lines = numbers(rt.alloc())?;
+    fs::write(&rt, NAME, lines.as_bytes())?;
     let read = held(rt.alloc(), &mut RealFiles::new(&rt));
     fs::remove_file(&rt, NAME)?;
     let read = read.unwrap_or(Vec::new(rt.alloc()));
-    assert_eq!(rt; read.as_slice(), bytes.as_slice());
+    assert_eq!(rt; read.len(), 38_890);
+    assert_eq!(rt; read.as_slice(), lines.as_bytes());
     Ok(())
 }
 
