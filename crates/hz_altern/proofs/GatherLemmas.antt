@@ -84,7 +84,7 @@ held_extent known e held = (all_names_law (is_held (known_extent known)) e).1
 
 -- ---- one alternative of each part
 
-factors_one : (a b : ℕ) → a * b ≡ 1 → (a ≡ 1) × (b ≡ 1)
+pub factors_one : (a b : ℕ) → a * b ≡ 1 → (a ≡ 1) × (b ≡ 1)
 factors_one zero b e = absurd (omega arith)
 factors_one (suc zero) b e = (refl, omega arith)
 factors_one (suc (suc a)) zero e = absurd (omega arith)

@@ -18,6 +18,7 @@ pub mod ExpandLemmas
 pub mod LeafLemmas
 pub mod GatherLemmas
 pub mod BesideLemmas
+pub mod SingleLemmas
 pub mod ReserveLemmas
 pub mod PairOrder
 pub mod CutLemmas

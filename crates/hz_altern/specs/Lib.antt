@@ -7,3 +7,4 @@ pub mod Cuts
 pub mod Merging
 pub mod Leaves
 pub mod Reserved
+pub mod Singles

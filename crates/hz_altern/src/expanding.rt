@@ -4,6 +4,7 @@ ghost use Rattle.std.specs.Prelude.{◌≡◌, ◌<◌, ◌≤◌, ◌++◌, [],
 ghost use Rattle.hz_altern.specs.Answers.{Expands, Refuses};
 ghost use Rattle.hz_altern.specs.Joinings.{IsListed, joined_by, joined_parts, listed_lists};
 ghost use Rattle.hz_altern.specs.Shapes.{alternative_of, alternatives};
+ghost use Rattle.hz_altern.specs.Singles.{TellsSingles, TellSingles};
 ghost use Rattle.hz_altern.specs.Tables.{alternatives_in, known_alternatives, is_held};
 ghost use Rattle.hz_altern_model.specs.Alternatives.{alternatives_of, together, each_choice, copies, idle, parts_of};
 ghost use Rattle.hz_altern_model.specs.AlternativeLists.{AreSound, greatest_length};
@@ -23,6 +24,7 @@ use crate::listing::{Listing, SIZE_LIMIT};
 use crate::mark::Mark;
 use crate::measure::{ALTERNATIVE_LIMIT, CYCLE_LIMIT};
 use crate::reserving::pairs;
+use crate::singles::{Singles, find_singles};
 use hz_regexp::Expr;
 use std::alloc::Global;
 
@@ -167,9 +169,15 @@ fn joined_lists(
 
 /// The alternatives of an expression, of which none is too long.
 #[cycle(listing)]
-fn listing(alloc: Global, expr: &Expr, known: &Known) -> Result<Listing, AlternFault>
+fn listing(
+    alloc: Global,
+    expr: &Expr,
+    singles: &Singles,
+    known: &Known,
+) -> Result<Listing, AlternFault>
     requires formed { IsTrue (is_expression (expression expr.now)) }
     requires known { IsTrue (all_names (is_held (alternatives_in known.now)) (expression expr.now)) }
+    requires told { TellsSingles (known_alternatives known.now) (expression expr.now) singles.now }
     requires short { greatest_length (alternatives_of (known_alternatives known.now) (expression expr.now)) ≤ cycle_limit }
     ensures ok { IfOk result (λ listing. listing ≡ map listed (alternatives_of (known_alternatives known.now) (expression expr.now))) }
     ensures err { IfErr result (Refuses (map listed (alternatives_of (known_alternatives known.now) (expression expr.now)))) }
@@ -180,11 +188,11 @@ fn listing(alloc: Global, expr: &Expr, known: &Known) -> Result<Listing, AlternF
             None => unreachable!(),
         },
         Expr::Nothing => idle(alloc),
-        Expr::Seq(parts) => listing_parts(alloc, parts, Mark::Comma, known),
-        Expr::Oneof(parts) => listing_parts(alloc, parts, Mark::Bar, known),
-        Expr::Allof(parts) => listing_together(alloc, parts, known),
+        Expr::Seq(parts) => listing_parts(alloc, parts, singles.parts(), Mark::Comma, known),
+        Expr::Oneof(parts) => listing_parts(alloc, parts, singles.parts(), Mark::Bar, known),
+        Expr::Allof(parts) => listing_together(alloc, parts, singles.parts(), known),
         Expr::Repeat(part, times) => {
-            let once = listing(alloc, part, known)?;
+            let once = listing(alloc, part, singles, known)?;
             copies(alloc, &once, *times)
         }
     }
@@ -196,33 +204,42 @@ fn listing(alloc: Global, expr: &Expr, known: &Known) -> Result<Listing, AlternF
 fn listing_parts(
     alloc: Global,
     parts: &[Expr],
+    singles: &[Singles],
     mark: Mark,
     known: &Known,
 ) -> Result<Listing, AlternFault>
     requires some { 0 < length parts.now }
     requires formed { IsTrue (are_expressions (parts_of (expressions parts.now))) }
     requires known { IsTrue (all_names_in (is_held (alternatives_in known.now)) (parts_of (expressions parts.now))) }
+    requires told { TellSingles (known_alternatives known.now) (parts_of (expressions parts.now)) singles.now }
     requires short { greatest_length (joined_parts mark (known_alternatives known.now) (parts_of (expressions parts.now))) ≤ cycle_limit }
     ensures ok { IfOk result (λ listing. listing ≡ map listed (joined_parts mark (known_alternatives known.now) (parts_of (expressions parts.now)))) }
     ensures err { IfErr result (Refuses (map listed (joined_parts mark (known_alternatives known.now) (parts_of (expressions parts.now))))) }
 {
     let middle = parts.len() / 2;
     if middle == 0 {
-        return listing(alloc, &parts[0], known);
+        return listing(alloc, &parts[0], &singles[0], known);
     }
     let (front, back) = parts.split_at(middle);
-    let first = listing_parts(alloc, front, mark, known)?;
-    let second = listing_parts(alloc, back, mark, known)?;
+    let (front_singles, back_singles) = singles.split_at(middle);
+    let first = listing_parts(alloc, front, front_singles, mark, known)?;
+    let second = listing_parts(alloc, back, back_singles, mark, known)?;
     joined_lists(alloc, mark, first, second)
 }
 
 /// The alternatives of parts that begin in the same cycle, of which none is too long. Parts with one alternative are taken
 /// apart into names, each from its cycle on, so that the pairs of a name are joined once for each cycle in which it begins.
 #[cycle(listing)]
-fn listing_together(alloc: Global, parts: &[Expr], known: &Known) -> Result<Listing, AlternFault>
+fn listing_together(
+    alloc: Global,
+    parts: &[Expr],
+    singles: &[Singles],
+    known: &Known,
+) -> Result<Listing, AlternFault>
     requires some { 0 < length parts.now }
     requires formed { IsTrue (are_expressions (parts_of (expressions parts.now))) }
     requires known { IsTrue (all_names_in (is_held (alternatives_in known.now)) (parts_of (expressions parts.now))) }
+    requires told { TellSingles (known_alternatives known.now) (parts_of (expressions parts.now)) singles.now }
     requires short { greatest_length (together (known_alternatives known.now) (parts_of (expressions parts.now))) ≤ cycle_limit }
     ensures ok { IfOk result (λ listing. listing ≡ map listed (together (known_alternatives known.now) (parts_of (expressions parts.now)))) }
     ensures err { IfErr result (Refuses (map listed (together (known_alternatives known.now) (parts_of (expressions parts.now))))) }
@@ -230,11 +247,12 @@ fn listing_together(alloc: Global, parts: &[Expr], known: &Known) -> Result<List
     let mut leaves = Leaves::new(alloc);
     let mut length = 1;
     let mut others = idle(alloc)?;
-    for part in parts {
-        if measured(part, known).count == 1 {
+    for (place, part) in parts.iter().enumerate() {
+        let told = &singles[place];
+        if told.is_single() {
             length = gather(alloc, part, 0, known, &mut leaves)?.max(length);
         } else {
-            let more = listing(alloc, part, known)?;
+            let more = listing(alloc, part, told, known)?;
             others = together(alloc, &others, &more)?;
         }
     }
@@ -261,5 +279,6 @@ pub fn expand(alloc: Global, expr: &Expr, known: &Known) -> Result<Vec<Alt>, Alt
     if extent.longest > CYCLE_LIMIT {
         return Err(AlternFault::CyclesLimit);
     }
-    Ok(listing(alloc, expr, known)?.into_alts())
+    let singles = find_singles(alloc, expr, known)?;
+    Ok(listing(alloc, expr, &singles, known)?.into_alts())
 }

@@ -16,6 +16,7 @@ mod measure;
 mod merging;
 mod projecting;
 mod reserving;
+mod singles;
 
 pub use alternative::{Alt, Pair};
 pub use counting::extent;

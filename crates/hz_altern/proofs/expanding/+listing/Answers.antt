@@ -1,4 +1,4 @@
-use Rattle.std.proofs.Common.{◌≡◌, ℕ, ◌+◌, ◌<◌, ◌≤◌, max, [], ◌∷◌, ◌++◌, List, length, map, take, Some, All, sym, ap, ◌∙◌, subst, arith, rules}
+use Rattle.std.proofs.Common.{◌≡◌, ℕ, ◌+◌, ◌/◌, ◌<◌, ◌≤◌, max, [], ◌∷◌, ◌++◌, List, length, map, take, Some, All, sym, ap, ◌∙◌, subst, arith, rules}
 use Rattle.std.specs.Prelude.{IsTrue, IfOk, IfErr}
 use Rattle.std.proofs.lemmas.Result.{err_from_is_err_and}
 use Rattle.hz_base_model.specs.Limits.{cycle_limit}
@@ -10,20 +10,22 @@ use Rattle.hz_altern.specs.Shapes.{alternatives, pairs_of}
 use Rattle.hz_altern.specs.Tables.{alternatives_in, known_alternatives, is_held}
 use Rattle.std.proofs.lemmas.List.{take_all, length-map}
 use Rattle.hz_altern.proofs.BesideLemmas.{IsBeside, joins, whole, listed_pairs, within_length, none_beside, single_more, listed_more, short_more, others_more, refused_more, refused_part, beside_at, listed_single, short_both, all_beside, refused_single}
-use Rattle.hz_altern.proofs.GatherLemmas.{part_at, one_counted, held_extent}
+use Rattle.hz_altern.proofs.GatherLemmas.{part_at}
 use Rattle.hz_altern.specs.declared.leaves.Leaves.{Leaves}
 use Rattle.hz_regexp.specs.declared.expr.Expr.{Expr}
 use Rattle.hz_altern.proofs.HalfLemmas.{halved, single, repeated}
 use Rattle.hz_altern.proofs.KnownLemmas.{named_listed, right_known}
 use Rattle.hz_altern.proofs.Nodes.{nodes, nodes_of_repeat}
-use Rattle.hz_altern.proofs.Shapes.{named_is}
-use Rattle.hz_altern_model.specs.Alternatives.{Alternative, named, alternatives_of}
+use Rattle.hz_altern.proofs.Shapes.{named_is, repeat_is}
+use Rattle.hz_altern.proofs.SingleLemmas.{one_told, tell_at, tell_halves, tell_length}
+use Rattle.hz_altern.specs.Singles.{TellsSingles, TellSingles}
+use Rattle.hz_altern_model.specs.Alternatives.{Alternative, Expression, named, repeat, alternatives_of, parts_of}
 use Rattle.hz_altern_model.specs.AlternativeLists.{greatest_length}
 use Rattle.hz_altern_model.specs.Automata.{UnitPlace, ascending, listed}
 use Rattle.hz_altern_model.specs.Expressions.{is_expression}
 use Rattle.hz_altern_model.specs.NamesIn.{all_names}
 use Rattle.hz_altern.proofs.expanding.+listing.Goals as goal
-use Rattle.hz_altern.proofs.expanding.+listing.Goals.{listing_together-then-measured-eq1+in_ok-gather, listing_together-else-measured-eq1+in_ok-more+in_ok-others-2}
+use Rattle.hz_altern.proofs.expanding.+listing.Goals.{listing_together-then-is_single+in_ok-gather, listing_together-else-is_single+in_ok-more+in_ok-others-2}
 
 pub listing_parts-listing-requires : goal.listing_parts-listing-requires
 listing_parts-listing-requires t c =
@@ -32,6 +34,7 @@ listing_parts-listing-requires t c =
     let named = one.named in
     let short = one.short in
     let counted = one.counted in
+    let told = tell_at (known_alternatives c.args.known.now) c.args.parts.now c.args.singles.now 0 c.index-parts-0.result c.index-singles-0.result c.requires.some c.index-parts-0.is c.index-singles-0.is c.requires.told in
     search rules
 
 pub listing_parts-returns-then-middle-eq0-clause-ok : goal.listing_parts-returns-then-middle-eq0-clause-ok
@@ -52,6 +55,8 @@ listing_parts-listing_parts-requires t c =
     let formed = half.formed_front in
     let named = half.named_front in
     let short = half.short_front in
+    let told : TellSingles (known_alternatives c.args.known.now) (parts_of (expressions c.split_at.result.0.now)) c.split_at-2.result.0.now =
+    rw (c.split_at.ensures.front, c.split_at-2.ensures.front) (tell_halves (known_alternatives c.args.known.now) (length c.args.parts.now / 2) c.args.parts.now c.args.singles.now c.requires.told).0 in
     search rules
 
 pub listing_parts-listing_parts-requires-2 : goal.listing_parts-listing_parts-requires-2
@@ -62,6 +67,8 @@ listing_parts-listing_parts-requires-2 t c =
     let formed = half.formed_back in
     let named = half.named_back in
     let short = half.short_back in
+    let told : TellSingles (known_alternatives c.args.known.now) (parts_of (expressions c.split_at.result.1.now)) c.split_at-2.result.1.now =
+    rw (c.split_at.ensures.back, c.split_at-2.ensures.back) (tell_halves (known_alternatives c.args.known.now) (length c.args.parts.now / 2) c.args.parts.now c.args.singles.now c.requires.told).1 in
     search rules
 
 pub listing_parts-returns-in_err-first-clause-err : goal.listing_parts-returns-in_err-first-clause-err
@@ -109,6 +116,8 @@ listing-listing-requires t c =
     let short : greatest_length (alternatives_of (known_alternatives c.args.known.now) (expression c.deref-in-Repeat.result.now)) ≤ cycle_limit = rw c.deref-in-Repeat.ensures rep.short_part in
     let counted : nodes c.args.expr.now ≡ nodes c.in-Repeat.part.value + 1 = ap nodes c.in-Repeat.is ∙ nodes_of_repeat c.in-Repeat.part c.in-Repeat.times in
     let same = ap nodes c.deref-in-Repeat.ensures in
+    let is : expression c.args.expr.now ≡ repeat (expression c.in-Repeat.part.value) c.in-Repeat.times = ap expression c.in-Repeat.is ∙ repeat_is c.in-Repeat.part c.in-Repeat.times in
+    let told : TellsSingles (known_alternatives c.args.known.now) (expression c.deref-in-Repeat.result.now) c.args.singles.now = rw c.deref-in-Repeat.ensures (subst (λ (e : Expression). TellsSingles (known_alternatives c.args.known.now) e c.args.singles.now) is c.requires.told) in
     search rules
 
 pub listing-returns-in_err-once-in-Repeat-clause-err : goal.listing-returns-in_err-once-in-Repeat-clause-err
@@ -165,99 +174,92 @@ listing-returns-in-Some-clause-err t c =
     ap alternatives c.deref.ensures.value ∙ (named_listed known c.in-Named.name _ there ∙ ap (λ e. map listed (alternatives_of (known_alternatives known) e)) (sym is)) in
     rw (← all) c.copied.ensures.err
 
-pub listing_together-loop-part-init : goal.listing_together-loop-part-init
-listing_together-loop-part-init t c = none_beside c.args.known.now c.new-leaves.result c.in_ok-others.others c.new-leaves.ensures c.in_ok-others.ensures.ok
-
-pub listing_together-measured-requires-clause-formed : goal.listing_together-measured-requires-clause-formed
-listing_together-measured-requires-clause-formed t c =
-    let part = part_at (is_held (alternatives_in c.args.known.now)) c.args.parts.now c.loop-part.part-index c.part-item.result c.loop-part-test.true c.part-item.is c.requires.formed c.requires.known in
-    part.formed
-
-pub listing_together-measured-requires-clause-held : goal.listing_together-measured-requires-clause-held
-listing_together-measured-requires-clause-held t c =
-    let part = part_at (is_held (alternatives_in c.args.known.now)) c.args.parts.now c.loop-part.part-index c.part-item.result c.loop-part-test.true c.part-item.is c.requires.formed c.requires.known in
-    held_extent c.args.known.now (expression c.part-item.result) part.names_known
+pub listing_together-loop-place-init : goal.listing_together-loop-place-init
+listing_together-loop-place-init t c = none_beside c.args.known.now c.new-leaves.result c.in_ok-others.others c.new-leaves.ensures c.in_ok-others.ensures.ok
 
 pub listing_together-gather-requires-clause-formed : goal.listing_together-gather-requires-clause-formed
 listing_together-gather-requires-clause-formed t c =
-    let part = part_at (is_held (alternatives_in c.args.known.now)) c.args.parts.now c.loop-part.part-index c.part-item.result c.loop-part-test.true c.part-item.is c.requires.formed c.requires.known in
+    let part = part_at (is_held (alternatives_in c.args.known.now)) c.args.parts.now c.loop-place.place c.index-parts-place.result c.loop-place-test.true c.index-parts-place.is c.requires.formed c.requires.known in
     part.formed
 
 pub listing_together-gather-requires-clause-held : goal.listing_together-gather-requires-clause-held
 listing_together-gather-requires-clause-held t c =
-    let part = part_at (is_held (alternatives_in c.args.known.now)) c.args.parts.now c.loop-part.part-index c.part-item.result c.loop-part-test.true c.part-item.is c.requires.formed c.requires.known in
+    let part = part_at (is_held (alternatives_in c.args.known.now)) c.args.parts.now c.loop-place.place c.index-parts-place.result c.loop-place-test.true c.index-parts-place.is c.requires.formed c.requires.known in
     part.names_known
 
 pub listing_together-gather-requires-clause-one : goal.listing_together-gather-requires-clause-one
 listing_together-gather-requires-clause-one t c =
-    let part = part_at (is_held (alternatives_in c.args.known.now)) c.args.parts.now c.loop-part.part-index c.part-item.result c.loop-part-test.true c.part-item.is c.requires.formed c.requires.known in
-    one_counted (alternatives_of (known_alternatives c.args.known.now) (expression c.part-item.result)) c.measured.result (c.measured.ensures (known_alternatives c.args.known.now) (right_known c.args.known.now (expression c.part-item.result) part.names_known)) c.if-measured-eq1.true
+    let part = part_at (is_held (alternatives_in c.args.known.now)) c.args.parts.now c.loop-place.place c.index-parts-place.result c.loop-place-test.true c.index-parts-place.is c.requires.formed c.requires.known in
+    let told = tell_at (known_alternatives c.args.known.now) c.args.parts.now c.args.singles.now c.loop-place.place c.index-parts-place.result c.index-singles-place.result c.loop-place-test.true c.index-parts-place.is c.index-singles-place.is c.requires.told in
+    one_told (known_alternatives c.args.known.now) (expression c.index-parts-place.result) c.index-singles-place.result part.formed told c.is_single.result c.is_single.ensures c.if-is_single.true
 
 pub listing_together-gather-requires-clause-short : goal.listing_together-gather-requires-clause-short
 listing_together-gather-requires-clause-short t c =
-    let at = beside_at c.args.known.now c.args.parts.now c.loop-part.part-index c.part-item.result c.loop-part-test.true c.part-item.is c.requires.formed c.requires.known c.requires.short in
+    let at = beside_at c.args.known.now c.args.parts.now c.loop-place.place c.index-parts-place.result c.loop-place-test.true c.index-parts-place.is c.requires.formed c.requires.known c.requires.short in
     let short = at.short in
     omega arith
 
 pub listing_together-listing-requires : goal.listing_together-listing-requires
 listing_together-listing-requires t c =
-    let part = part_at (is_held (alternatives_in c.args.known.now)) c.args.parts.now c.loop-part.part-index c.part-item.result c.loop-part-test.true c.part-item.is c.requires.formed c.requires.known in
-    let at = beside_at c.args.known.now c.args.parts.now c.loop-part.part-index c.part-item.result c.loop-part-test.true c.part-item.is c.requires.formed c.requires.known c.requires.short in
+    let part = part_at (is_held (alternatives_in c.args.known.now)) c.args.parts.now c.loop-place.place c.index-parts-place.result c.loop-place-test.true c.index-parts-place.is c.requires.formed c.requires.known in
+    let at = beside_at c.args.known.now c.args.parts.now c.loop-place.place c.index-parts-place.result c.loop-place-test.true c.index-parts-place.is c.requires.formed c.requires.known c.requires.short in
     let formed = part.formed in
     let names_known = part.names_known in
     let fewer = part.fewer in
     let short = at.short in
+    let told = tell_at (known_alternatives c.args.known.now) c.args.parts.now c.args.singles.now c.loop-place.place c.index-parts-place.result c.index-singles-place.result c.loop-place-test.true c.index-parts-place.is c.index-singles-place.is c.requires.told in
     search rules
 
 pub listing_together-returns-in_err-more-clause-err : goal.listing_together-returns-in_err-more-clause-err
 listing_together-returns-in_err-more-clause-err t c =
-    let part = part_at (is_held (alternatives_in c.args.known.now)) c.args.parts.now c.loop-part.part-index c.part-item.result c.loop-part-test.true c.part-item.is c.requires.formed c.requires.known in
-    let at = beside_at c.args.known.now c.args.parts.now c.loop-part.part-index c.part-item.result c.loop-part-test.true c.part-item.is c.requires.formed c.requires.known c.requires.short in
-    let before = expressions (take c.loop-part.part-index c.args.parts.now) in
-    let e = expression c.part-item.result in
+    let part = part_at (is_held (alternatives_in c.args.known.now)) c.args.parts.now c.loop-place.place c.index-parts-place.result c.loop-place-test.true c.index-parts-place.is c.requires.formed c.requires.known in
+    let at = beside_at c.args.known.now c.args.parts.now c.loop-place.place c.index-parts-place.result c.loop-place-test.true c.index-parts-place.is c.requires.formed c.requires.known c.requires.short in
+    let before = expressions (take c.loop-place.place c.args.parts.now) in
+    let e = expression c.index-parts-place.result in
     let p = err_from_is_err_and c.from_residual-in_err-more.result c.from_residual-in_err-more.ensures.1 in
-    rw (p.1, p.2) (at.refused _ (refused_part c.args.known.now before e c.loop-part.leaves c.loop-part.length c.loop-part.others c.loop-part.invariant part.formed at.short part.names_known _ c.in_err-more.ensures.err))
+    rw (p.1, p.2) (at.refused _ (refused_part c.args.known.now before e c.loop-place.leaves c.loop-place.length c.loop-place.others c.loop-place.invariant part.formed at.short part.names_known _ c.in_err-more.ensures.err))
 
 pub listing_together-together-requires-clause-second : goal.listing_together-together-requires-clause-second
 listing_together-together-requires-clause-second t c =
-    let part = part_at (is_held (alternatives_in c.args.known.now)) c.args.parts.now c.loop-part.part-index c.part-item.result c.loop-part-test.true c.part-item.is c.requires.formed c.requires.known in
-    let at = beside_at c.args.known.now c.args.parts.now c.loop-part.part-index c.part-item.result c.loop-part-test.true c.part-item.is c.requires.formed c.requires.known c.requires.short in
-    let before = expressions (take c.loop-part.part-index c.args.parts.now) in
-    let e = expression c.part-item.result in
-    rw c.in_ok-more.ensures.ok (listed_more c.args.known.now before e c.loop-part.leaves c.loop-part.length c.loop-part.others c.loop-part.invariant part.formed at.short part.names_known)
+    let part = part_at (is_held (alternatives_in c.args.known.now)) c.args.parts.now c.loop-place.place c.index-parts-place.result c.loop-place-test.true c.index-parts-place.is c.requires.formed c.requires.known in
+    let at = beside_at c.args.known.now c.args.parts.now c.loop-place.place c.index-parts-place.result c.loop-place-test.true c.index-parts-place.is c.requires.formed c.requires.known c.requires.short in
+    let before = expressions (take c.loop-place.place c.args.parts.now) in
+    let e = expression c.index-parts-place.result in
+    rw c.in_ok-more.ensures.ok (listed_more c.args.known.now before e c.loop-place.leaves c.loop-place.length c.loop-place.others c.loop-place.invariant part.formed at.short part.names_known)
 
 pub listing_together-together-requires-clause-short : goal.listing_together-together-requires-clause-short
 listing_together-together-requires-clause-short t c =
-    let part = part_at (is_held (alternatives_in c.args.known.now)) c.args.parts.now c.loop-part.part-index c.part-item.result c.loop-part-test.true c.part-item.is c.requires.formed c.requires.known in
-    let at = beside_at c.args.known.now c.args.parts.now c.loop-part.part-index c.part-item.result c.loop-part-test.true c.part-item.is c.requires.formed c.requires.known c.requires.short in
-    let before = expressions (take c.loop-part.part-index c.args.parts.now) in
-    let e = expression c.part-item.result in
-    rw c.in_ok-more.ensures.ok (short_more c.args.known.now before e c.loop-part.leaves c.loop-part.length c.loop-part.others c.loop-part.invariant part.formed at.short part.names_known)
+    let part = part_at (is_held (alternatives_in c.args.known.now)) c.args.parts.now c.loop-place.place c.index-parts-place.result c.loop-place-test.true c.index-parts-place.is c.requires.formed c.requires.known in
+    let at = beside_at c.args.known.now c.args.parts.now c.loop-place.place c.index-parts-place.result c.loop-place-test.true c.index-parts-place.is c.requires.formed c.requires.known c.requires.short in
+    let before = expressions (take c.loop-place.place c.args.parts.now) in
+    let e = expression c.index-parts-place.result in
+    rw c.in_ok-more.ensures.ok (short_more c.args.known.now before e c.loop-place.leaves c.loop-place.length c.loop-place.others c.loop-place.invariant part.formed at.short part.names_known)
 
 pub listing_together-returns-in_err-others-2-clause-err : goal.listing_together-returns-in_err-others-2-clause-err
 listing_together-returns-in_err-others-2-clause-err t c =
-    let part = part_at (is_held (alternatives_in c.args.known.now)) c.args.parts.now c.loop-part.part-index c.part-item.result c.loop-part-test.true c.part-item.is c.requires.formed c.requires.known in
-    let at = beside_at c.args.known.now c.args.parts.now c.loop-part.part-index c.part-item.result c.loop-part-test.true c.part-item.is c.requires.formed c.requires.known c.requires.short in
-    let before = expressions (take c.loop-part.part-index c.args.parts.now) in
-    let e = expression c.part-item.result in
+    let part = part_at (is_held (alternatives_in c.args.known.now)) c.args.parts.now c.loop-place.place c.index-parts-place.result c.loop-place-test.true c.index-parts-place.is c.requires.formed c.requires.known in
+    let at = beside_at c.args.known.now c.args.parts.now c.loop-place.place c.index-parts-place.result c.loop-place-test.true c.index-parts-place.is c.requires.formed c.requires.known c.requires.short in
+    let before = expressions (take c.loop-place.place c.args.parts.now) in
+    let e = expression c.index-parts-place.result in
     let p = err_from_is_err_and c.from_residual-in_err-others-2.result c.from_residual-in_err-others-2.ensures.1 in
-    rw (p.1, p.2) (at.refused _ (refused_more c.args.known.now before e c.loop-part.leaves c.loop-part.length c.loop-part.others c.loop-part.invariant part.formed at.short part.names_known _ (rw c.in_ok-more.ensures.ok at c.in_err-others-2.ensures.err)))
+    rw (p.1, p.2) (at.refused _ (refused_more c.args.known.now before e c.loop-place.leaves c.loop-place.length c.loop-place.others c.loop-place.invariant part.formed at.short part.names_known _ (rw c.in_ok-more.ensures.ok at c.in_err-others-2.ensures.err)))
 
-pub listing_together-loop-part-preserved : goal.listing_together-loop-part-preserved
-listing_together-loop-part-preserved t c =
-    let part = part_at (is_held (alternatives_in c.args.known.now)) c.args.parts.now c.loop-part.part-index c.part-item.result c.loop-part-test.true c.part-item.is c.requires.formed c.requires.known in
-    let at = beside_at c.args.known.now c.args.parts.now c.loop-part.part-index c.part-item.result c.loop-part-test.true c.part-item.is c.requires.formed c.requires.known c.requires.short in
-    let before = expressions (take c.loop-part.part-index c.args.parts.now) in
-    let e = expression c.part-item.result in
+pub listing_together-loop-place-preserved : goal.listing_together-loop-place-preserved
+listing_together-loop-place-preserved t c =
+    let part = part_at (is_held (alternatives_in c.args.known.now)) c.args.parts.now c.loop-place.place c.index-parts-place.result c.loop-place-test.true c.index-parts-place.is c.requires.formed c.requires.known in
+    let at = beside_at c.args.known.now c.args.parts.now c.loop-place.place c.index-parts-place.result c.loop-place-test.true c.index-parts-place.is c.requires.formed c.requires.known c.requires.short in
+    let before = expressions (take c.loop-place.place c.args.parts.now) in
+    let e = expression c.index-parts-place.result in
+    let told = tell_at (known_alternatives c.args.known.now) c.args.parts.now c.args.singles.now c.loop-place.place c.index-parts-place.result c.index-singles-place.result c.loop-place-test.true c.index-parts-place.is c.index-singles-place.is c.requires.told in
     let known = c.args.known.now in
     let Now : Leaves → ℕ → List (Alternative UnitPlace) → Type 0 = λ leaves cycles others. IsBeside known (before ++ e ∷ []) leaves cycles others in
-    rw part.next (elim c.if-measured-eq1.branch [
-      | listing_together-then-measured-eq1+in_ok-gather w ↦
-          let one = one_counted (alternatives_of (known_alternatives known) e) c.measured.result (c.measured.ensures (known_alternatives known) (right_known known e part.names_known)) w.if-measured-eq1.true in
-          let more = single_more known before e c.loop-part.leaves c.loop-part.length c.loop-part.others c.loop-part.invariant part.formed at.short w.gather.new.leaves w.max-length.result one w.in_ok-gather.ensures.gathered (w.max-length.ensures ∙ ap (λ (n : ℕ). max n c.loop-part.length) w.in_ok-gather.ensures.length) in
+    rw part.next (elim c.if-is_single.branch [
+      | listing_together-then-is_single+in_ok-gather w ↦
+          let one = one_told (known_alternatives known) e c.index-singles-place.result part.formed told c.is_single.result c.is_single.ensures w.if-is_single.true in
+          let more = single_more known before e c.loop-place.leaves c.loop-place.length c.loop-place.others c.loop-place.invariant part.formed at.short w.gather.new.leaves w.max-length.result one w.in_ok-gather.ensures.gathered (w.max-length.ensures ∙ ap (λ (n : ℕ). max n c.loop-place.length) w.in_ok-gather.ensures.length) in
           rw (w.leaves-is, w.length-is, w.others-is) more
-      | listing_together-else-measured-eq1+in_ok-more+in_ok-others-2 w ↦
-          let more = others_more known before e c.loop-part.leaves c.loop-part.length c.loop-part.others c.loop-part.invariant part.formed at.short part.names_known w.in_ok-others-2.others (w.in_ok-others-2.ensures.ok ∙ ap (joins c.loop-part.others) w.in_ok-more.ensures.ok) in
+      | listing_together-else-is_single+in_ok-more+in_ok-others-2 w ↦
+          let more = others_more known before e c.loop-place.leaves c.loop-place.length c.loop-place.others c.loop-place.invariant part.formed at.short part.names_known w.in_ok-others-2.others (w.in_ok-others-2.ensures.ok ∙ ap (joins c.loop-place.others) w.in_ok-more.ensures.ok) in
           rw (w.leaves-is, w.length-is, w.others-is) more
     ])
 
@@ -269,43 +271,43 @@ listing_together-returns-in_err-push-clause-err t c =
     let known = c.args.known.now in
     let es = expressions c.args.parts.now in
     let some : 0 < length es = simp length-map c.requires.some in
-    let are : IsBeside known es c.loop-part.leaves c.loop-part.length c.loop-part.others = subst (λ (ps : List Expr). IsBeside known (expressions ps) c.loop-part.leaves c.loop-part.length c.loop-part.others) (take_all c.loop-part.part-index c.args.parts.now c.loop-part-test.false) c.loop-part.invariant in
-    let made : pairs_of c.in_ok-pairs.pairs.items ≡ ascending are.pairs = listed_pairs known es c.loop-part.leaves c.loop-part.length c.loop-part.others are some c.requires.formed (pairs_of c.in_ok-pairs.pairs.items) c.in_ok-pairs.ensures.ascending c.in_ok-pairs.ensures.same in
+    let are : IsBeside known es c.loop-place.leaves c.loop-place.length c.loop-place.others = subst (λ (ps : List Expr). IsBeside known (expressions ps) c.loop-place.leaves c.loop-place.length c.loop-place.others) (take_all c.loop-place.place c.args.parts.now c.loop-place-test.false) c.loop-place.invariant in
+    let made : pairs_of c.in_ok-pairs.pairs.items ≡ ascending are.pairs = listed_pairs known es c.loop-place.leaves c.loop-place.length c.loop-place.others are some c.requires.formed (pairs_of c.in_ok-pairs.pairs.items) c.in_ok-pairs.ensures.ascending c.in_ok-pairs.ensures.same in
     let p = err_from_is_err_and c.from_residual-in_err-push.result c.from_residual-in_err-push.ensures.1 in
-    rw (p.1, p.2) (refused_single known es c.loop-part.leaves c.loop-part.length c.loop-part.others are some c.requires.formed _ (subst (λ ps. Refuses (alternative ps c.loop-part.length ∷ []) c.in_err-push.field-0.0) made (rw c.new-single.ensures at c.in_err-push.ensures.err)))
+    rw (p.1, p.2) (refused_single known es c.loop-place.leaves c.loop-place.length c.loop-place.others are some c.requires.formed _ (subst (λ ps. Refuses (alternative ps c.loop-place.length ∷ []) c.in_err-push.field-0.0) made (rw c.new-single.ensures at c.in_err-push.ensures.err)))
 
 pub listing_together-together-requires-2-clause-first : goal.listing_together-together-requires-2-clause-first
 listing_together-together-requires-2-clause-first t c =
     let known = c.args.known.now in
     let es = expressions c.args.parts.now in
     let some : 0 < length es = simp length-map c.requires.some in
-    let are : IsBeside known es c.loop-part.leaves c.loop-part.length c.loop-part.others = subst (λ (ps : List Expr). IsBeside known (expressions ps) c.loop-part.leaves c.loop-part.length c.loop-part.others) (take_all c.loop-part.part-index c.args.parts.now c.loop-part-test.false) c.loop-part.invariant in
-    let made : pairs_of c.in_ok-pairs.pairs.items ≡ ascending are.pairs = listed_pairs known es c.loop-part.leaves c.loop-part.length c.loop-part.others are some c.requires.formed (pairs_of c.in_ok-pairs.pairs.items) c.in_ok-pairs.ensures.ascending c.in_ok-pairs.ensures.same in
-    let this : List (Alternative UnitPlace) = listed (whole are.pairs c.loop-part.length) ∷ [] in
-    let pushed : c.push.new.self ≡ this = (rw c.new-single.ensures at c.in_ok-push.ensures.ok) ∙ ap (λ ps. alternative ps c.loop-part.length ∷ []) made in
-    subst (All IsListed) (sym pushed) (listed_single known es c.loop-part.leaves c.loop-part.length c.loop-part.others are some c.requires.formed)
+    let are : IsBeside known es c.loop-place.leaves c.loop-place.length c.loop-place.others = subst (λ (ps : List Expr). IsBeside known (expressions ps) c.loop-place.leaves c.loop-place.length c.loop-place.others) (take_all c.loop-place.place c.args.parts.now c.loop-place-test.false) c.loop-place.invariant in
+    let made : pairs_of c.in_ok-pairs.pairs.items ≡ ascending are.pairs = listed_pairs known es c.loop-place.leaves c.loop-place.length c.loop-place.others are some c.requires.formed (pairs_of c.in_ok-pairs.pairs.items) c.in_ok-pairs.ensures.ascending c.in_ok-pairs.ensures.same in
+    let this : List (Alternative UnitPlace) = listed (whole are.pairs c.loop-place.length) ∷ [] in
+    let pushed : c.push.new.self ≡ this = (rw c.new-single.ensures at c.in_ok-push.ensures.ok) ∙ ap (λ ps. alternative ps c.loop-place.length ∷ []) made in
+    subst (All IsListed) (sym pushed) (listed_single known es c.loop-place.leaves c.loop-place.length c.loop-place.others are some c.requires.formed)
 
 pub listing_together-together-requires-2-clause-short : goal.listing_together-together-requires-2-clause-short
 listing_together-together-requires-2-clause-short t c =
     let known = c.args.known.now in
     let es = expressions c.args.parts.now in
     let some : 0 < length es = simp length-map c.requires.some in
-    let are : IsBeside known es c.loop-part.leaves c.loop-part.length c.loop-part.others = subst (λ (ps : List Expr). IsBeside known (expressions ps) c.loop-part.leaves c.loop-part.length c.loop-part.others) (take_all c.loop-part.part-index c.args.parts.now c.loop-part-test.false) c.loop-part.invariant in
-    let made : pairs_of c.in_ok-pairs.pairs.items ≡ ascending are.pairs = listed_pairs known es c.loop-part.leaves c.loop-part.length c.loop-part.others are some c.requires.formed (pairs_of c.in_ok-pairs.pairs.items) c.in_ok-pairs.ensures.ascending c.in_ok-pairs.ensures.same in
-    let this : List (Alternative UnitPlace) = listed (whole are.pairs c.loop-part.length) ∷ [] in
-    let pushed : c.push.new.self ≡ this = (rw c.new-single.ensures at c.in_ok-push.ensures.ok) ∙ ap (λ ps. alternative ps c.loop-part.length ∷ []) made in
-    rw pushed (short_both known es c.loop-part.leaves c.loop-part.length c.loop-part.others are some c.requires.formed)
+    let are : IsBeside known es c.loop-place.leaves c.loop-place.length c.loop-place.others = subst (λ (ps : List Expr). IsBeside known (expressions ps) c.loop-place.leaves c.loop-place.length c.loop-place.others) (take_all c.loop-place.place c.args.parts.now c.loop-place-test.false) c.loop-place.invariant in
+    let made : pairs_of c.in_ok-pairs.pairs.items ≡ ascending are.pairs = listed_pairs known es c.loop-place.leaves c.loop-place.length c.loop-place.others are some c.requires.formed (pairs_of c.in_ok-pairs.pairs.items) c.in_ok-pairs.ensures.ascending c.in_ok-pairs.ensures.same in
+    let this : List (Alternative UnitPlace) = listed (whole are.pairs c.loop-place.length) ∷ [] in
+    let pushed : c.push.new.self ≡ this = (rw c.new-single.ensures at c.in_ok-push.ensures.ok) ∙ ap (λ ps. alternative ps c.loop-place.length ∷ []) made in
+    rw pushed (short_both known es c.loop-place.leaves c.loop-place.length c.loop-place.others are some c.requires.formed)
 
 pub listing_together-returns-clause-ok : goal.listing_together-returns-clause-ok
 listing_together-returns-clause-ok t c =
     let known = c.args.known.now in
     let es = expressions c.args.parts.now in
     let some : 0 < length es = simp length-map c.requires.some in
-    let are : IsBeside known es c.loop-part.leaves c.loop-part.length c.loop-part.others = subst (λ (ps : List Expr). IsBeside known (expressions ps) c.loop-part.leaves c.loop-part.length c.loop-part.others) (take_all c.loop-part.part-index c.args.parts.now c.loop-part-test.false) c.loop-part.invariant in
-    let made : pairs_of c.in_ok-pairs.pairs.items ≡ ascending are.pairs = listed_pairs known es c.loop-part.leaves c.loop-part.length c.loop-part.others are some c.requires.formed (pairs_of c.in_ok-pairs.pairs.items) c.in_ok-pairs.ensures.ascending c.in_ok-pairs.ensures.same in
-    let this : List (Alternative UnitPlace) = listed (whole are.pairs c.loop-part.length) ∷ [] in
-    let pushed : c.push.new.self ≡ this = (rw c.new-single.ensures at c.in_ok-push.ensures.ok) ∙ ap (λ ps. alternative ps c.loop-part.length ∷ []) made in
-    let joined = ap (λ xs. joins xs c.loop-part.others) pushed ∙ all_beside known es c.loop-part.leaves c.loop-part.length c.loop-part.others are some c.requires.formed in
+    let are : IsBeside known es c.loop-place.leaves c.loop-place.length c.loop-place.others = subst (λ (ps : List Expr). IsBeside known (expressions ps) c.loop-place.leaves c.loop-place.length c.loop-place.others) (take_all c.loop-place.place c.args.parts.now c.loop-place-test.false) c.loop-place.invariant in
+    let made : pairs_of c.in_ok-pairs.pairs.items ≡ ascending are.pairs = listed_pairs known es c.loop-place.leaves c.loop-place.length c.loop-place.others are some c.requires.formed (pairs_of c.in_ok-pairs.pairs.items) c.in_ok-pairs.ensures.ascending c.in_ok-pairs.ensures.same in
+    let this : List (Alternative UnitPlace) = listed (whole are.pairs c.loop-place.length) ∷ [] in
+    let pushed : c.push.new.self ≡ this = (rw c.new-single.ensures at c.in_ok-push.ensures.ok) ∙ ap (λ ps. alternative ps c.loop-place.length ∷ []) made in
+    let joined = ap (λ xs. joins xs c.loop-place.others) pushed ∙ all_beside known es c.loop-place.leaves c.loop-place.length c.loop-place.others are some c.requires.formed in
     subst (λ (xs : List (Alternative UnitPlace)). IfOk c.together-2.result (λ listing. listing ≡ xs)) joined c.together-2.ensures.ok
 
 pub listing_together-returns-clause-err : goal.listing_together-returns-clause-err
@@ -313,23 +315,29 @@ listing_together-returns-clause-err t c =
     let known = c.args.known.now in
     let es = expressions c.args.parts.now in
     let some : 0 < length es = simp length-map c.requires.some in
-    let are : IsBeside known es c.loop-part.leaves c.loop-part.length c.loop-part.others = subst (λ (ps : List Expr). IsBeside known (expressions ps) c.loop-part.leaves c.loop-part.length c.loop-part.others) (take_all c.loop-part.part-index c.args.parts.now c.loop-part-test.false) c.loop-part.invariant in
-    let made : pairs_of c.in_ok-pairs.pairs.items ≡ ascending are.pairs = listed_pairs known es c.loop-part.leaves c.loop-part.length c.loop-part.others are some c.requires.formed (pairs_of c.in_ok-pairs.pairs.items) c.in_ok-pairs.ensures.ascending c.in_ok-pairs.ensures.same in
-    let this : List (Alternative UnitPlace) = listed (whole are.pairs c.loop-part.length) ∷ [] in
-    let pushed : c.push.new.self ≡ this = (rw c.new-single.ensures at c.in_ok-push.ensures.ok) ∙ ap (λ ps. alternative ps c.loop-part.length ∷ []) made in
-    let joined = ap (λ xs. joins xs c.loop-part.others) pushed ∙ all_beside known es c.loop-part.leaves c.loop-part.length c.loop-part.others are some c.requires.formed in
+    let are : IsBeside known es c.loop-place.leaves c.loop-place.length c.loop-place.others = subst (λ (ps : List Expr). IsBeside known (expressions ps) c.loop-place.leaves c.loop-place.length c.loop-place.others) (take_all c.loop-place.place c.args.parts.now c.loop-place-test.false) c.loop-place.invariant in
+    let made : pairs_of c.in_ok-pairs.pairs.items ≡ ascending are.pairs = listed_pairs known es c.loop-place.leaves c.loop-place.length c.loop-place.others are some c.requires.formed (pairs_of c.in_ok-pairs.pairs.items) c.in_ok-pairs.ensures.ascending c.in_ok-pairs.ensures.same in
+    let this : List (Alternative UnitPlace) = listed (whole are.pairs c.loop-place.length) ∷ [] in
+    let pushed : c.push.new.self ≡ this = (rw c.new-single.ensures at c.in_ok-push.ensures.ok) ∙ ap (λ ps. alternative ps c.loop-place.length ∷ []) made in
+    let joined = ap (λ xs. joins xs c.loop-place.others) pushed ∙ all_beside known es c.loop-place.leaves c.loop-place.length c.loop-place.others are some c.requires.formed in
     subst (λ (xs : List (Alternative UnitPlace)). IfErr c.together-2.result (Refuses xs)) joined c.together-2.ensures.err
 
 pub listing_together-pairs-requires-clause-ends : goal.listing_together-pairs-requires-clause-ends
-listing_together-pairs-requires-clause-ends t c = c.loop-part.invariant.ends
+listing_together-pairs-requires-clause-ends t c = c.loop-place.invariant.ends
 
 pub listing_together-pairs-requires-clause-within : goal.listing_together-pairs-requires-clause-within
 listing_together-pairs-requires-clause-within t c =
     let known = c.args.known.now in
     let es = expressions c.args.parts.now in
     let some : 0 < length es = simp length-map c.requires.some in
-    let are : IsBeside known es c.loop-part.leaves c.loop-part.length c.loop-part.others = subst (λ (ps : List Expr). IsBeside known (expressions ps) c.loop-part.leaves c.loop-part.length c.loop-part.others) (take_all c.loop-part.part-index c.args.parts.now c.loop-part-test.false) c.loop-part.invariant in
-    within_length known es c.loop-part.leaves c.loop-part.length c.loop-part.others are some c.requires.formed
+    let are : IsBeside known es c.loop-place.leaves c.loop-place.length c.loop-place.others = subst (λ (ps : List Expr). IsBeside known (expressions ps) c.loop-place.leaves c.loop-place.length c.loop-place.others) (take_all c.loop-place.place c.args.parts.now c.loop-place-test.false) c.loop-place.invariant in
+    within_length known es c.loop-place.leaves c.loop-place.length c.loop-place.others are some c.requires.formed
 
 pub listing_together-pairs-requires-clause-short : goal.listing_together-pairs-requires-clause-short
-listing_together-pairs-requires-clause-short t c = c.loop-part.invariant.short
+listing_together-pairs-requires-clause-short t c = c.loop-place.invariant.short
+
+pub listing_together-bounds-singles-place : goal.listing_together-bounds-singles-place
+listing_together-bounds-singles-place t c = omega (arith, tell_length (known_alternatives c.args.known.now) c.args.parts.now c.args.singles.now c.requires.told, c.loop-place-test.true)
+
+pub listing_parts-split_at-requires-2 : goal.listing_parts-split_at-requires-2
+listing_parts-split_at-requires-2 t c = omega (arith, tell_length (known_alternatives c.args.known.now) c.args.parts.now c.args.singles.now c.requires.told)

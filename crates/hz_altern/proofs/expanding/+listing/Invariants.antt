@@ -14,5 +14,5 @@ abbrev pub decreases-listing_together : goal.decreases-listing_together
 decreases-listing_together l = 2 * all_nodes l.parts.now + 1
 
 -- the parts so far
-abbrev pub invariant-listing_together-loop-part : goal.invariant-listing_together-loop-part
-invariant-listing_together-loop-part l = IsBeside l.known (expressions (take l.part-index l.parts)) l.leaves l.length l.others
+abbrev pub invariant-listing_together-loop-place : goal.invariant-listing_together-loop-place
+invariant-listing_together-loop-place l = IsBeside l.known (expressions (take l.place l.parts)) l.leaves l.length l.others

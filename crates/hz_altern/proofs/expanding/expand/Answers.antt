@@ -37,7 +37,7 @@ returns-in_err-listing-clause-answer c =
     let is = c.measured-extent.ensures (known_alternatives known) (right_known known e c.requires.known) in
     let few_all = few all c.measured-extent.result is c.if-extent-gt-ALTERNATIVE_LIMIT.false in
     let short_all = short all c.measured-extent.result is c.if-extent-gt-CYCLE_LIMIT.false in
-    let p = err_from_is_err_and c.from_residual.result c.from_residual.ensures.1 in
+    let p = err_from_is_err_and c.from_residual-in_err-listing.result c.from_residual-in_err-listing.ensures.1 in
     rw (p.1, p.2) (refused all few_all short_all _ c.in_err-listing.ensures.err)
 
 pub returns-clause-answer : goal.returns-clause-answer
