@@ -221,6 +221,28 @@ fn expressions_have_these_alternatives(rt: HostRuntime) -> Result<(), Fail> {
         ("(S|c)+S", "a0b1/2|a0c0b1/2"),
         ("S+(S|c)+S+(d|S)", "a0d0b1/2|a0b1/2|a0c0d0b1/2|a0c0b1/2"),
         ("(c,(a|b))+(d,S)*1", "c0d0a1b2/3|c0d0a1b1b2/3"),
+        ("(((a|b)+c)+d)+p", "a0c0d0p0/1|b0c0d0p0/1"),
+        ("((R,d)+S)+p", "a0p0b1d1/2|a0b0p0b1c1d2/3"),
+        (
+            "d+(p,((a|b)+(c,d)))+(c*3)",
+            "c0d0p0a1c1c2d2/3|c0d0p0b1c1c2d2/3",
+        ),
+        (
+            "((a+(b|c))*2+d)*1+p",
+            "a0b0d0p0a1b1/2|a0b0d0p0a1c1/2|a0c0d0p0a1b1/2|a0c0d0p0a1c1/2",
+        ),
+        (
+            "(a+b)+((c+(a,(p|R)))+d)+(nothing,(b+c))",
+            "a0b0c0d0b1c1p1/2|a0b0c0d0a1b1c1/2|a0b0c0d0b1c1c2/3",
+        ),
+        (
+            "((a|b)+d)+p+((c|S)*1+d)",
+            "a0c0d0p0/1|a0d0p0b1/2|b0c0d0p0/1|a0b0d0p0b1/2",
+        ),
+        (
+            "(a|b),(c+d),((a+p),(b+(c|d)))",
+            "a0c1d1a2p2b3c3/4|a0c1d1a2p2b3d3/4|b0c1d1a2p2b3c3/4|b0c1d1a2p2b3d3/4",
+        ),
     ] {
         assert!(rt; text.len() < 100);
         let alts = expanded(&rt, alloc, &known, text)?.expect(&rt, "alternatives");
