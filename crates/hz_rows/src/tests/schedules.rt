@@ -306,6 +306,26 @@ fn limits_of_schedules(rt: HostRuntime) -> Result<(), Fail> {
     schedules(&rt, alloc, states.as_bytes(), b")", 1000, 3, text)
 }
 
+/// The lines of so many instructions, of which each is issued in the cycle of its number.
+fn one_a_cycle(alloc: Global, count: u32) -> Result<String, Fail> {
+    let mut text = String::new(alloc);
+    for cycle in 0..count {
+        let line = format!(in alloc; "{cycle} {cycle} x\n")?;
+        text.push_str(&line)?;
+    }
+    Ok(text)
+}
+
+#[test]
+fn a_block_of_4096_instructions_has_its_schedule(rt: HostRuntime) -> Result<(), Fail> {
+    let alloc = rt.alloc();
+    let most = numbered(alloc, "", "(insn ", " (use (reg 1)))\n", 4096)?;
+    let mut text = one_a_cycle(alloc, 4096)?;
+    text.push_str("scheduled 4096 insns 4095 cycles\n")?;
+    let text = text.as_bytes();
+    schedules(&rt, alloc, ONE_UNIT, most.as_bytes(), 65_536, 0, text)
+}
+
 #[test]
 fn a_schedule_that_does_not_fit_is_cut(rt: HostRuntime) -> Result<(), Fail> {
     let alloc = rt.alloc();
