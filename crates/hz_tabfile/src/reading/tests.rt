@@ -419,6 +419,31 @@ fn cells_have_a_limit(rt: HostRuntime) -> Result<(), Fail> {
     Ok(())
 }
 
+// A text of so many automata of one state, and of no class.
+fn automata_of(alloc: Global, count: u32) -> Result<Vec<u8>, Fail> {
+    let mut text = Vec::new(alloc);
+    text.extend_from_slice(format!(in alloc;
+        "hazard-tables 1\ntreatment first\nclasses 0\nautomata {count}\n"
+    )?.as_bytes())?;
+    for number in 0..count {
+        text.extend_from_slice(format!(in alloc;
+            "automaton a{number} 0 1\nmap\nrow 0\n"
+        )?.as_bytes())?;
+    }
+    text.extend_from_slice(b"end\n")?;
+    Ok(text)
+}
+
+#[test]
+fn automata_have_a_limit(rt: HostRuntime) -> Result<(), Fail> {
+    let alloc = rt.alloc();
+    let most = automata_of(alloc, 16)?;
+    assert!(rt; fault_of(alloc, &most).is_none());
+    let more = automata_of(alloc, 17)?;
+    assert!(rt; fault_of(alloc, &more) == Some(TabFault::OutOfRange { line: 4 }));
+    Ok(())
+}
+
 // Faults and their texts.
 const TEXTS: [(TabFault, &str); 7] = [
     (TabFault::BadHeader { line: 1 }, "line 1 is no header"),
