@@ -502,6 +502,11 @@ fn queue_and_scan_make_the_same_schedules(rt: HostRuntime) -> Result<(), Fail> {
         assert!(rt; block.insns.len() <= 4096);
         let (queued, looked) = both_ways(alloc, &checked, &block)?;
         assert_eq!(rt; queued.as_str(), looked.as_str(), "{seed}");
+        // its trace is accepted
+        let found = scheduled(alloc, &checked, &block)?;
+        assert!(rt; found.as_str().starts_with(queued.as_str()), "{seed}");
+        let accepted = format!(in alloc; "| Accepted {{ issues: {}, ", block.insns.len())?;
+        assert!(rt; found.as_str().contains(accepted.as_str()), "{seed}");
     }
     Ok(())
 }

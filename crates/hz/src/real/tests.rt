@@ -99,7 +99,7 @@ impl Read for Interrupted {
 #[test]
 fn an_interrupted_read_is_tried_again(rt: HostRuntime) {
     let mut into = [0u8; 4];
-    let read = read_again(&mut Interrupted { times: 3 }, &mut into);
+    let read = read_again(&mut Interrupted { times: 1_000 }, &mut into);
     assert_eq!(rt; read.ok(), Some(2));
     assert_eq!(rt; into.as_slice(), b"ab\0\0".as_slice());
 }

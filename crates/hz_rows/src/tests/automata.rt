@@ -231,6 +231,35 @@ fn choices_have_at_most_65536_grids_and_1048576_members(rt: HostRuntime) -> Resu
     any(&rt, alloc, 12, 12, 3, limit)
 }
 
+/// Under `ndfa`, with each state to be shown: so many pairs of units, and for each a class that takes either unit, one that takes the
+/// first and one that takes the second. Five sets of each pair's grids are states.
+fn paired(alloc: Global, pairs: u32) -> Result<String, Fail> {
+    let mut text = String::from_str(alloc, "(automata_option \"ndfa,v,no-minimization\")")?;
+    for pair in 0..pairs {
+        let forms = format!(in alloc;
+            "(define_cpu_unit \"a{pair},b{pair}\")(define_insn_reservation \"e{pair}\" 1 (const_int 1) \"a{pair}|b{pair}\")(define_insn_reservation \"f{pair}\" 1 (const_int 1) \"a{pair}\")(define_insn_reservation \"s{pair}\" 1 (const_int 1) \"b{pair}\")"
+        )?;
+        text.push_str(&forms)?;
+    }
+    Ok(text)
+}
+
+#[test]
+fn choices_that_are_shown_have_at_most_4096_states(rt: HostRuntime) -> Result<(), Fail> {
+    let alloc = rt.alloc();
+    // 3,125 states, and 15,625 of 4,096 grids
+    let few = paired(alloc, 5)?;
+    answers(
+        &rt,
+        alloc,
+        few.as_bytes(),
+        0,
+        b"accepted 0 issues 0 cycles\n",
+    )?;
+    let many = paired(alloc, 6)?;
+    answers(&rt, alloc, many.as_bytes(), 3, b"limit d automaton -\n")
+}
+
 #[test]
 fn the_first_automaton_past_its_limit_is_told(rt: HostRuntime) -> Result<(), Fail> {
     let alloc = rt.alloc();

@@ -142,6 +142,15 @@ fn blocks_leave_their_states(rt: HostRuntime) -> Result<(), Fail> {
 }
 
 #[test]
+fn a_state_of_many_cells_is_listed(rt: HostRuntime) -> Result<(), Fail> {
+    let alloc = rt.alloc();
+    let cells = numbered(alloc, "(reg 255 1)\n", "(mem ", " 7)\n", 4_000)?;
+    let files = files_of(&rt, alloc, b"", cells.as_bytes(), NEVER, 64)?;
+    let words = ["eval", "d", "t"];
+    expect(&rt, alloc, &words, files, 65_536, 0, cells.as_bytes())
+}
+
+#[test]
 fn a_block_has_at_most_4096_instructions(rt: HostRuntime) -> Result<(), Fail> {
     let alloc = rt.alloc();
     let most = numbered(alloc, "", "(insn ", " (use (reg 1)))\n", 4096)?;

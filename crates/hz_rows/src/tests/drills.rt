@@ -20,6 +20,14 @@ const SIDE_BY_SIDE: &[u8] =
 /// Descriptions, each with the words behind it, the status and the text. The draws from 1 are 16838, 5758, 10113, 17515, 31051,
 /// 5627, 23010 and 7419, of two classes x, x, y, y, y, y, x and y.
 const DRILL_ROWS: &[(&[u8], &str, &str, u8, &[u8])] = &[
+    // three automata, of which the last two are taken later
+    (
+        b"(define_automaton \"l,m,n\")\n(define_cpu_unit \"a\" \"l\")\n(define_cpu_unit \"b\" \"m\")\n(define_cpu_unit \"c\" \"n\")\n(define_insn_reservation \"x\" 1 (const_int 1) \"a,b,c\")\n",
+        "1",
+        "3",
+        0,
+        b"drill 3 turns\naccepted 2 issues 1 cycles\nstates 1 1 1\n",
+    ),
     // the third is refused
     (
         EITHER,

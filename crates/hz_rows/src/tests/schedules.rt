@@ -22,6 +22,10 @@ const ONE_UNIT: &[u8] =
 const TWO_CLASSES: &[u8] =
     b"(define_cpu_unit \"u\")\n(define_insn_reservation \"x\" 1 (const_int 1) \"u\")\n(define_insn_reservation \"y\" 1 (const_int 1) \"u\")\n";
 
+/// Two classes with the same condition, between others.
+const LATER_CLASSES: &[u8] =
+    b"(define_cpu_unit \"u\")\n(define_insn_reservation \"w\" 1 (const_int 0) \"u\")\n(define_insn_reservation \"x\" 1 (const_int 1) \"u\")\n(define_insn_reservation \"y\" 1 (const_int 0) \"u\")\n(define_insn_reservation \"z\" 1 (const_int 1) \"u\")\n";
+
 /// Two classes whose conditions never hold.
 const NO_CLASS: &[u8] =
     b"(define_cpu_unit \"u\")\n(define_insn_reservation \"x\" 1 (const_int 0) \"u\")\n(define_insn_reservation \"y\" 1 (const_int 0) \"u\")\n";
@@ -36,6 +40,13 @@ const SELDOM: &[u8] =
 
 /// Blocks, each with its description, and the status and the text of its schedule.
 const SCHEDULE_ROWS: &[(&[u8], &[u8], u8, &[u8])] = &[
+    // three automata, of which the last two are taken later
+    (
+        b"(define_automaton \"l,m,n\")\n(define_cpu_unit \"a\" \"l\")\n(define_cpu_unit \"b\" \"m\")\n(define_cpu_unit \"c\" \"n\")\n(define_insn_reservation \"x\" 1 (const_int 1) \"a,b,c\")\n",
+        b"(insn 1 (set (reg 1) (neg (reg 1))))\n(insn 2 (set (reg 2) (neg (reg 4))))\n",
+        0,
+        b"0 1 x\n1 2 x\nscheduled 2 insns 1 cycles\n",
+    ),
     // a product and two sums, one of them of the product
     (
         SUPERSCALAR,
@@ -175,6 +186,12 @@ const FAULT_ROWS: &[(&[u8], &[u8], u8, &[u8])] = &[
         b"(insn 1 (use (const_int 0)))\n",
         2,
         b"fault b line 1 Ambiguous insn 1 x y\n",
+    ),
+    (
+        LATER_CLASSES,
+        b"(insn 1 (use (const_int 0)))\n",
+        2,
+        b"fault b line 1 Ambiguous insn 1 x z\n",
     ),
     // an instruction that never fits
     (

@@ -62,6 +62,12 @@ const COMPILE_ROWS: &[(&[u8], u8, &[u8])] = &[
         0,
         b"hazard-tables 1\ntreatment first\nclasses 3\nclass x\nclass y\nclass z\nautomata 2\nautomaton m 1 2\nmap 0 0 0\nrow 1 0\nrow - 0\nautomaton n 2 2\nmap 0 1 0\nrow 0 1 0\nrow 1 - 0\nend\n",
     ),
+    // three automata, of which the last two are taken later
+    (
+        b"(define_automaton \"l,m,n\")\n(define_cpu_unit \"a\" \"l\")\n(define_cpu_unit \"b\" \"m\")\n(define_cpu_unit \"c\" \"n\")\n(define_insn_reservation \"x\" 1 (const_int 1) \"a,b,c\")\n",
+        0,
+        b"hazard-tables 1\ntreatment first\nclasses 1\nclass x\nautomata 3\nautomaton l 1 2\nmap 0\nrow 1 0\nrow - 0\nautomaton m 1 2\nmap 0\nrow 1 0\nrow - 0\nautomaton n 1 2\nmap 0\nrow 1 0\nrow - 0\nend\n",
+    ),
     // no class, and no unit
     (
         b"",

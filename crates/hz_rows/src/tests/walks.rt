@@ -2,7 +2,7 @@
 
 ghost use Rattle.std.specs.Prelude.{◌≡◌, IfOk};
 
-use super::automata::{EITHER, TREATMENT_ROWS, TWO, TWO_ROWS};
+use super::automata::{EITHER, TREATMENT_ROWS, TWO, TWO_ROWS, late_text};
 use super::machines::{MACHINE_ROWS, SUPERSCALAR, SUPERSCALAR_ROWS};
 use super::tables::tables_of;
 use super::traces::TRACE_ROWS;
@@ -173,6 +173,33 @@ fn texts_of_tables_are_walked_or_have_a_fault(rt: HostRuntime) -> Result<(), Fai
     walks(&rt, alloc, CUT, b"", 2, b"fault k line 12 Truncated\n")?;
     walks(&rt, alloc, b"", b"", 2, b"fault k line 1 Truncated\n")?;
     walks(&rt, alloc, b"hazard", b"", 2, b"fault k line 1 Truncated\n")
+}
+
+/// So many times an issue of each class of `late_text` of 16 classes, of which none takes the unit in another's cycle, and 16 cycles.
+fn rounds(alloc: Global, count: u32) -> Result<String, Fail> {
+    let mut trace = String::new(alloc);
+    for _round in 0..count {
+        for class in 1..16u32 {
+            let line = format!(in alloc; "issue c{class}\n")?;
+            trace.push_str(&line)?;
+        }
+        trace.push_str("issue c\nadvance 16\n")?;
+    }
+    Ok(trace)
+}
+
+#[test]
+fn tables_of_many_states_are_walked(rt: HostRuntime) -> Result<(), Fail> {
+    let alloc = rt.alloc();
+    let most = late_text(alloc, 16, "")?;
+    let (compiled, tables) = tables_of(&rt, alloc, most.as_bytes(), 9_000_000)?;
+    assert_eq!(&rt; compiled, 0);
+    let mut trace = rounds(alloc, 1_000)?;
+    let text = b"accepted 16000 issues 16000 cycles\n";
+    walks(&rt, alloc, tables.bytes(), trace.as_bytes(), 0, text)?;
+    trace.push_str("issue c5\nissue c5\n")?;
+    let text = b"refused line 17002 c5\n";
+    walks(&rt, alloc, tables.bytes(), trace.as_bytes(), 1, text)
 }
 
 #[test]
