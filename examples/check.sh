@@ -14,13 +14,13 @@ compare() {
     example=$1
     answer=${example%.*}.answer
     shift
-    text=$("$hz" "$@")
+    "$hz" "$@" > "$work/text"
     status=$?
     count=$((count + 1))
-    if [ "$(printf '%s\n%s\n' "$status" "$text")" = "$(cat "$answer")" ]; then
-        echo "$1 $example: $text"
+    if { echo "$status"; cat "$work/text"; } | cmp -s - "$answer"; then
+        echo "$1 $example: $(cat "$work/text")"
     else
-        echo "$1 $example: status $status, $text: not as in $answer"
+        echo "$1 $example: status $status, $(cat "$work/text"): not as in $answer"
         bad=1
     fi
 }

@@ -6,9 +6,23 @@ trap 'rm -rf "$work"' EXIT
 cd "$work" || exit 2
 bad=0
 
-# ends STATUS TEXT WORDS..: the program, which has written `text` and ended with `status`, ended so
+newline='
+'
+
+# run KILOBYTES WORDS..: runs the program with so much room for all its memory, or `unlimited`; `text` has what it writes, with all line
+# feeds at its end, and `status` how it ends
+run() {
+    room=$1
+    shift
+    text=$(ulimit -v "$room"; "$hz" "$@" 2> errors; ended=$?; echo .; exit $ended)
+    status=$?
+    text=${text%.}
+}
+
+# ends STATUS TEXT WORDS..: the program, which has written `text` and ended with `status`, ended so, with one line feed behind TEXT,
+# or none where there is no text
 ends() {
-    if [ "$status" = "$1" ] && [ "$text" = "$2" ] && [ ! -s errors ]; then
+    if [ "$status" = "$1" ] && [ "$text" = "$2${2:+$newline}" ] && [ ! -s errors ]; then
         shift 2
         echo "status $status: hz $*: $(printf '%s\n' "$text" | tail -n 1)"
     else
@@ -22,17 +36,14 @@ expect() {
     want_status=$1
     want_text=$2
     shift 2
-    text=$("$hz" "$@" 2> errors)
-    status=$?
+    run unlimited "$@"
     ends "$want_status" "$want_text" "$@"
 }
 
 # expect_memory KILOBYTES WORDS..: the program, given the words and so much room for all its memory, tells that it ran out
 expect_memory() {
-    room=$1
+    run "$@"
     shift
-    text=$(ulimit -v "$room" && "$hz" "$@" 2> errors)
-    status=$?
     ends 5 memory "$@"
 }
 
@@ -48,9 +59,10 @@ expect_sink() {
     ends 7 '' "$@"
 }
 
-# expect_front WORDS..: the program, given the words, writes a front of its text into a file that may have no more, and tells it
+# expect_front WORDS..: the program, given the words, writes tables, and a front of them into a file that may have no more, and tells it
 expect_front() {
     "$hz" "$@" > whole
+    [ $? = 0 ] && [ "$(tail -n 1 whole)" = end ] || bad=1
     (trap '' XFSZ && ulimit -f 1 && exec "$hz" "$@" > front 2> errors)
     status=$?
     text=
@@ -255,6 +267,37 @@ expect 6 'file folder could not be read' drill folder 1 4
 expect_memory 32768 drill most_states 1 4
 expect_sink drill d 1 4
 
+# names of files, and bytes of texts, as they are
+cp d " d\\~"
+expect 0 'accepted 2 issues 1 cycles' replay " d\\~" t
+expect 0 'accepted 2 issues 1 cycles' replay ./d "$work/t"
+expect 6 'file  m~ could not be read' replay ' m~' t
+name=$(printf 'd\303\251')
+cp d "$name"
+expect 0 'accepted 2 issues 1 cycles' replay "$name" t
+expect 6 'file d  could not be read' replay 'd ' t
+{
+    printf ';'
+    for byte in 001 010 011 013 014 015 016 037 040 042 050 073 134 177 200 211 212 215 240 251 303 377 000; do printf "\\$byte"; done
+    echo
+    cat d
+} > every
+expect 0 'accepted 2 issues 1 cycles' replay every t
+printf '(define_cpu_unit "a\r\n, b")\n' > return
+expect 2 'fault return line 1 BadByte' compile return
+printf '\n(define_cpu_unit "a\351")\n' > accent
+expect 2 'fault accent line 2 BadByte' compile accent
+
+# a description and a trace that come in parts
+text=$({ head -c 20 d; sleep 1; tail -c +21 d; } | "$hz" replay /dev/stdin t 2> errors; ended=$?; echo .; exit $ended)
+status=$?
+text=${text%.}
+ends 0 'accepted 2 issues 1 cycles' replay /dev/stdin t
+text=$({ head -c 3 twice; sleep 1; tail -c +4 twice; } | "$hz" replay d /dev/stdin 2> errors; ended=$?; echo .; exit $ended)
+status=$?
+text=${text%.}
+ends 1 'refused line 2 x' replay d /dev/stdin
+
 # words
 expect 4 "$usage"
 expect 4 "$usage" compile
@@ -263,7 +306,9 @@ expect 4 "$usage" compile -d
 expect 4 "$usage" replay d
 expect 4 "$usage" replay d t more
 expect 4 "$usage" replay -d t
+expect 4 "$usage" compile d "$(printf '\377')"
 expect 4 "$usage" replay d "$(printf '\377')"
+expect 4 "$usage" replay d t "$(printf '\377')"
 expect 4 "$usage" walk k
 expect 4 "$usage" walk k t more
 expect 4 "$usage" walk k --trace

@@ -1,6 +1,7 @@
 #!/usr/bin/env python3
-"""Refuses memory to hz, one request at a time, from the first to the last, on a few commands. Each run has to end with status 5
-and the line `memory`, with status 5 and nothing while the words are still got, or with the command's own status and text."""
+"""Refuses memory to hz, one request at a time, from the first to the last, on each command. Each run has to end with status 5
+and the line `memory`, with status 5 and nothing while the words are still got, or with the command's own status and text; the first and the
+second have to come."""
 import argparse
 import os
 import subprocess
@@ -35,6 +36,21 @@ BLOCK = """\
 (insn 3 (set (reg 5) (plus (reg 1) (const_int 1))))
 """
 
+TABLES = """\
+hazard-tables 1
+treatment first
+classes 2
+class x
+class y
+automata 1
+automaton - 2 3
+map 0 1
+row 1 1 0
+row 2 - 0
+row - - 0
+end
+"""
+
 EXCHANGE = """\
 (insn 1 (parallel [(set (reg 1) (reg 2)) (set (reg 2) (reg 1))]))
 (insn 2 (set (reg 3) (udiv (reg 1) (reg 9))))
@@ -42,7 +58,7 @@ EXCHANGE = """\
 (insn 10 (set (mem (const_int 8)) (reg 1)) (set_attr "type" "store"))
 """
 
-# what is shown, the command, the texts of its two files, the status and the text
+# what is shown, the command, the texts of its files, the status and the text, and the words behind the files
 ROWS = (
     (
         "a refused port",
@@ -70,8 +86,23 @@ ROWS = (
         "compile",
         (PORTS,),
         0,
-        "hazard-tables 1\ntreatment first\nclasses 2\nclass x\nclass y\nautomata 1\nautomaton - 2 3\nmap 0 1\n"
-        "row 1 1 0\nrow 2 - 0\nrow - - 0\nend\n",
+        TABLES,
+    ),
+    (
+        "a walk on these tables",
+        "walk",
+        (TABLES, "issue x\nissue y\n"),
+        1,
+        "refused line 2 y\n",
+    ),
+    (
+        "a drill of two ports",
+        "drill",
+        (PORTS,),
+        0,
+        "drill 5 turns\naccepted 3 issues 2 cycles\nstates 0\n",
+        "7",
+        "5",
     ),
     (
         "an exchange of registers",
@@ -124,8 +155,8 @@ def files_of(folder, texts):
 
 def check(refuser, row):
     """Whether each run of a row ends as it may; says how many requests were refused, and each run that ends otherwise."""
-    shown, command, texts, status, text = row
-    words = [command, *files_of(refuser.folder, texts)]
+    shown, command, texts, status, text, *more = row
+    words = [command, *files_of(refuser.folder, texts), *more]
     own = (status, text.encode(), b"")
     ended, requests, refused = refuser.run(words, 0)
     if ended != own or requests == 0 or refused:
@@ -146,7 +177,7 @@ def check(refuser, row):
         f"{shown}: {requests} requests, each refused in a run: {counts[MEMORY]} times 'memory', "
         f"{counts[NO_WORDS]} times no words, {counts[own]} times its own answer"
     )
-    return good
+    return good and counts[NO_WORDS] > 0 and counts[MEMORY] > 0
 
 
 def main():
