@@ -4,32 +4,42 @@ PREFIX ?= /usr/local
 GCC_SOURCE ?= /usr/src/gcc-12/gcc-12*.tar.xz
 program = $(DESTDIR)$(PREFIX)/bin
 page = $(DESTDIR)$(PREFIX)/share/man/man1
-# as many crates at once as there are processors, and 5 GB of memory for each
-jobs := $(shell awk -v most="$$(nproc)" '/^MemTotal/ { n = int($$2 / 5000000); if (n > most) n = most; print n < 1 ? 1 : n }' /proc/meminfo)
+crates := $(shell sed -n 's/^\(hz[a-z_]*\):.*/\1/p' crates.txt)
+# crates of tests alone; the program stands on none of them
+rows := hz_rows hz_check_rows hz_sched_rows
+lower := $(filter-out hz $(rows),$(crates))
 
 .PHONY: all try test examples check-walk check-memory check-gcc bench install uninstall clean
 
 all: bin/hz
 
-# crates of tests alone; the program stands on none of them
-rows := hz_rows hz_check_rows hz_sched_rows
-sources := crates.txt $(shell find crates $(rows:%=-path crates/% -prune -o) -path '*/out' -prune -o \( -name '*.rt' -o -name '*.antt' \) -print)
-count := $(words $(filter-out $(rows),$(shell sed -n 's/^\(hz[a-z_]*\):.*/\1/p' crates.txt)))
+# sources CRATE: its files, and what it stands on
+sources = crates.txt $(shell find crates/$(1) -path '*/out' -prune -o \( -name '*.rt' -o -name '*.antt' \) -print)
+# needs CRATE: the crates of the repository that it stands on
+needs = $(filter $(crates),$(shell sed -n 's/^$(1): *//p' crates.txt))
 
-# each crate that the program stands on is proved and built behind those below it; its name is shown once it is done
-bin/hz: $(sources)
-	@mkdir -p bin
-	@echo "hz: proving and building $(count) crates, at most $(jobs) at once; bin/built.log has what the prover says"
-	@{ cd crates/hz && rt all check --jobs $(jobs) 2>&1; echo "status $$?"; } | awk -v count=$(count) ' \
-		{ print > "bin/built.log"; fflush() } \
-		/^== hz/ { print "hz: " $$2 ", " ++done " of " count; fflush() } \
-		/^status / { status = $$2 } \
-		END { exit status != 0 }' || { tail -n 20 bin/built.log; exit 1; }
-	@{ cd crates/hz && rt run -- replay ../../examples/divider/machine.md ../../examples/divider/spaced.trace 2>&1; echo "status $$?"; } > bin/run.log
-	@grep -q '^status 0$$' bin/run.log || { tail -n 20 bin/run.log; exit 1; }
-	@grep '^accepted' bin/run.log
+bin/built:
+	@mkdir -p bin/built
+	@echo "hz: proving and building $(words $(lower)) crates and the program; bin/built has what the prover says of each"
+
+# Each crate is proved and built behind those that it stands on; bin/built/CRATE.log has what the prover says. They come one after the
+# other: `rt lib` uses the processors that there are, and keeps the crates below to itself.
+define crate
+bin/built/$(1): $(call sources,$(1)) $(addprefix bin/built/,$(call needs,$(1))) | bin/built
+	@cd crates/$(1) && rt lib > ../../bin/built/$(1).log 2>&1 || { tail -n 20 ../../bin/built/$(1).log; exit 1; }
+	@touch $$@
+	@echo "hz: $(1), $$$$(ls bin/built | grep -vc '[.]log$$$$') of $(words $(lower))"
+endef
+$(foreach each,$(lower),$(eval $(call crate,$(each))))
+
+bin/hz: $(call sources,hz) $(addprefix bin/built/,$(call needs,hz))
+	@{ cd crates/hz && rt run -- replay ../../examples/divider/machine.md ../../examples/divider/spaced.trace 2>&1; echo "status $$?"; } > bin/built/hz.log
+	@grep -q '^status 0$$' bin/built/hz.log || { tail -n 20 bin/built/hz.log; exit 1; }
+	@grep '^accepted' bin/built/hz.log
 	@cp crates/hz/out/hz bin/hz
 	@echo "hz: built bin/hz"
+
+.NOTPARALLEL:
 
 # an example at once, interpreted: nothing is proved and nothing built
 try:

@@ -70,6 +70,14 @@ expect_front() {
     ends 7 '' "$@"
 }
 
+# expect_pipe WORDS..: the program, given the words, writes more than is taken of a pipe, and tells it
+expect_pipe() {
+    { "$hz" "$@" 2> errors; echo $? > ended; } | head -c 1 > front
+    status=$(cat ended)
+    text=
+    ends 7 '' "$@"
+}
+
 # lines FILE LINE..: makes the file of these lines
 lines() {
     file=$1
@@ -103,6 +111,7 @@ lines most "$unit" '(define_insn_reservation "x" 1 (const_int 1) "(u|u)*65535")'
         printf '(define_insn_reservation "c%s" 1 (const_int 1) "nothing*%s, u")\n' "$j" "$j"
     done
 } > most_states
+head -n 8 most_states > some_states
 { cat most_states; echo '(define_insn_reservation "c16" 1 (const_int 1) "nothing*16, u")'; } > states
 head -c 4194304 /dev/zero | tr '\0' ' ' > longest
 head -c 4194305 /dev/zero | tr '\0' ' ' > long
@@ -164,6 +173,8 @@ expect 6 'file folder could not be read' compile folder
 expect_memory 32768 compile most_states
 expect_sink compile d
 expect_front compile most_states
+expect_front compile some_states
+expect_pipe compile most_states
 
 # replay
 expect 0 'accepted 2 issues 1 cycles' replay d t
