@@ -14,7 +14,7 @@ newline='
 run() {
     room=$1
     shift
-    text=$(ulimit -v "$room"; "$hz" "$@" 2> errors; ended=$?; echo .; exit $ended)
+    text=$([ "$room" = unlimited ] || ulimit -v "$room"; "$hz" "$@" 2> errors; ended=$?; echo .; exit $ended)
     status=$?
     text=${text%.}
 }
@@ -24,7 +24,7 @@ run() {
 ends() {
     if [ "$status" = "$1" ] && [ "$text" = "$2${2:+$newline}" ] && [ ! -s errors ]; then
         shift 2
-        echo "status $status: hz $*: $(printf '%s\n' "$text" | tail -n 1)"
+        echo "status $status: hz $*: $(printf '%s' "$text" | tail -n 1)"
     else
         echo "hz: status $status, text '$text', wanted $*"
         bad=1
@@ -62,7 +62,8 @@ expect_sink() {
 # expect_front WORDS..: the program, given the words, writes tables, and a front of them into a file that may have no more, and tells it
 expect_front() {
     "$hz" "$@" > whole
-    [ $? = 0 ] && [ "$(tail -n 1 whole)" = end ] || bad=1
+    status=$?
+    [ "$status" = 0 ] && [ "$(tail -n 1 whole)" = end ] || { echo "hz: status $status, and no whole tables: $*"; bad=1; }
     (trap '' XFSZ && ulimit -f 1 && exec "$hz" "$@" > front 2> errors)
     status=$?
     text=
@@ -300,14 +301,8 @@ printf '\n(define_cpu_unit "a\351")\n' > accent
 expect 2 'fault accent line 2 BadByte' compile accent
 
 # a description and a trace that come in parts
-text=$({ head -c 20 d; sleep 1; tail -c +21 d; } | "$hz" replay /dev/stdin t 2> errors; ended=$?; echo .; exit $ended)
-status=$?
-text=${text%.}
-ends 0 'accepted 2 issues 1 cycles' replay /dev/stdin t
-text=$({ head -c 3 twice; sleep 1; tail -c +4 twice; } | "$hz" replay d /dev/stdin 2> errors; ended=$?; echo .; exit $ended)
-status=$?
-text=${text%.}
-ends 1 'refused line 2 x' replay d /dev/stdin
+{ head -c 20 d; sleep 1; tail -c +21 d; } | { expect 0 'accepted 2 issues 1 cycles' replay /dev/stdin t; exit $bad; } || bad=1
+{ head -c 3 twice; sleep 1; tail -c +4 twice; } | { expect 1 'refused line 2 x' replay d /dev/stdin; exit $bad; } || bad=1
 
 # words
 expect 4 "$usage"
