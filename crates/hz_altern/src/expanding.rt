@@ -17,7 +17,7 @@ ghost use Rattle.hz_regexp.specs.Shape.{expression, expressions};
 use crate::alternative::Alt;
 use crate::counting::measured;
 use crate::fault::AlternFault;
-use crate::joining::{Joining, joined};
+use crate::joining::Joining;
 use crate::known::Known;
 use crate::leaves::{Leaves, gather};
 use crate::listing::{Listing, SIZE_LIMIT};
@@ -66,7 +66,7 @@ fn push_choices(
     ensures err { IfErr result (Refuses (listing.old ++ map (joined_by joining (alternative_of first.now)) (alternatives seconds.now))) }
 {
     for second in seconds {
-        listing.push(joined(alloc, joining, first, second)?)?;
+        listing.push_joined(alloc, joining, first, second)?;
     }
     Ok(())
 }

@@ -1,6 +1,7 @@
 //! Two alternatives as one.
 
 ghost use Rattle.std.specs.Prelude.{◌≡◌, ◌+◌, ◌^◌, ◌<◌, ◌≤◌, ◌++◌, All, IfOk};
+ghost use Rattle.hz_altern.specs.Answers.{weight};
 ghost use Rattle.hz_altern.specs.Joinings.{IsListed, joined_by};
 ghost use Rattle.hz_altern.specs.Shapes.{pair_of, pairs_of, alternative_of};
 ghost use Rattle.hz_base_model.specs.Pairs.{later, placed};
@@ -8,7 +9,7 @@ ghost use Rattle.hz_base_model.specs.Limits.{cycle_limit};
 
 use crate::alternative::{Alt, Pair};
 use crate::fault::NoMemory;
-use crate::merging::united;
+use crate::merging::{union_len, united};
 use std::alloc::Global;
 
 /// How two alternatives become one.
@@ -49,6 +50,22 @@ fn continued(
         pairs.push(pair.later(cycles))?;
     }
     Ok(pairs)
+}
+
+/// How many cycles and pairs two alternatives have as one. It takes no memory.
+pub fn joined_size(joining: Joining, first: &Alt, second: &Alt) -> usize
+    requires first { IsListed (alternative_of first.now) }
+    requires second { IsListed (alternative_of second.now) }
+    ensures { result ≡ weight (joined_by joining (alternative_of first.now) (alternative_of second.now)) }
+{
+    match joining {
+        Joining::InSequence => {
+            first.length as usize + second.length as usize + first.pairs.len() + second.pairs.len()
+        }
+        Joining::Together => {
+            first.length.max(second.length) as usize + union_len(&first.pairs, &second.pairs)
+        }
+    }
 }
 
 /// Two alternatives as one.

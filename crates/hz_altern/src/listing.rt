@@ -2,6 +2,7 @@
 
 use crate::alternative::Alt;
 use crate::fault::AlternFault;
+use crate::joining::{Joining, joined, joined_size};
 use std::alloc::Global;
 use std::marker::Model;
 
@@ -31,13 +32,14 @@ impl Model for Listing {
 }
 
 impl Listing {
-    ghost use Rattle.std.specs.Prelude.{◌≡◌, ◌≤◌, ◌++◌, ◌∷◌, [], All, List, IfOk, IfErr, OnOk};
+    ghost use Rattle.std.specs.Prelude.{◌≡◌, ◌<◌, ◌≤◌, ◌++◌, ◌∷◌, [], All, List, Err, IfOk, IfErr, OnOk};
+    ghost use Rattle.hz_altern.specs.declared.fault.AlternFault.TheVariants.{SizeLimit};
     ghost use Rattle.hz_altern.specs.Shapes.{alternatives, alternative_of};
     ghost use Rattle.hz_altern.specs.Answers.{Refuses, total_weight};
     ghost use Rattle.hz_altern.specs.Joinings.{IsListed, joined_by};
     ghost use Rattle.hz_altern.specs.declared.joining.Joining.TheVariants.{InSequence};
     ghost use Rattle.hz_altern_model.specs.Alternatives.{each_choice};
-    ghost use Rattle.hz_base_model.specs.Limits.{size_limit};
+    ghost use Rattle.hz_base_model.specs.Limits.{cycle_limit, size_limit};
 
     /// No alternative.
     pub fn new(alloc: Global) -> Listing
@@ -67,12 +69,37 @@ impl Listing {
     pub fn push_copy(&mut self, alloc: Global, alt: &Alt) -> Result<(), AlternFault>
         ensures ok { OnOk result (self.new ≡ self.old ++ alternative_of alt.now ∷ []) }
         ensures err { IfErr result (Refuses (self.old ++ alternative_of alt.now ∷ [])) }
+        ensures asked { size_limit < total_weight (self.old ++ alternative_of alt.now ∷ []) → result ≡ Err SizeLimit }
     {
         let size = self.size + alt.length as usize + alt.pairs.len();
         if size > SIZE_LIMIT {
             return Err(AlternFault::SizeLimit);
         }
         self.alts.push(alt.copy(alloc)?)?;
+        self.size = size;
+        Ok(())
+    }
+
+    /// Adds two alternatives as one at the end, where all together are not too large. That is asked before memory is.
+    pub fn push_joined(
+        &mut self,
+        alloc: Global,
+        joining: Joining,
+        first: &Alt,
+        second: &Alt,
+    ) -> Result<(), AlternFault>
+        requires first { IsListed (alternative_of first.now) }
+        requires second { IsListed (alternative_of second.now) }
+        requires short { (joined_by joining (alternative_of first.now) (alternative_of second.now)).cycles ≤ cycle_limit }
+        ensures ok { OnOk result (self.new ≡ self.old ++ joined_by joining (alternative_of first.now) (alternative_of second.now) ∷ []) }
+        ensures err { IfErr result (Refuses (self.old ++ joined_by joining (alternative_of first.now) (alternative_of second.now) ∷ [])) }
+        ensures asked { size_limit < total_weight (self.old ++ joined_by joining (alternative_of first.now) (alternative_of second.now) ∷ []) → result ≡ Err SizeLimit }
+    {
+        let size = self.size + joined_size(joining, first, second);
+        if size > SIZE_LIMIT {
+            return Err(AlternFault::SizeLimit);
+        }
+        self.alts.push(joined(alloc, joining, first, second)?)?;
         self.size = size;
         Ok(())
     }

@@ -1,6 +1,6 @@
 //! The union of pairs that ascend.
 
-ghost use Rattle.std.specs.Prelude.{◌≡◌, ◌++◌, [], IfOk, IfSome, IfNone};
+ghost use Rattle.std.specs.Prelude.{◌≡◌, ◌++◌, [], length, IfOk, IfSome, IfNone};
 ghost use Rattle.hz_altern.specs.Merging.{IsLeast};
 ghost use Rattle.hz_altern.specs.Shapes.{pair_of, pairs_of};
 ghost use Rattle.hz_altern_model.specs.Automata.{precedes, ascending};
@@ -35,6 +35,21 @@ pub fn united(alloc: Global, first: &[Pair], second: &[Pair]) -> Result<Vec<Pair
         rest = next;
     }
     Ok(pairs)
+}
+
+/// How many pairs the union of two lists that ascend has. It takes no memory.
+pub fn union_len(first: &[Pair], second: &[Pair]) -> usize
+    requires first { IsAscending (pairs_of first.now) }
+    requires second { IsAscending (pairs_of second.now) }
+    ensures { result ≡ length (ascending (pairs_of first.now ++ pairs_of second.now)) }
+{
+    let mut count = 0;
+    let mut rest = (first, second);
+    while let Some((_pair, next)) = least(rest.0, rest.1) {
+        count += 1;
+        rest = next;
+    }
+    count
 }
 
 /// The first pair of two lists that ascend, and what is left of both behind it.

@@ -17,7 +17,7 @@ use crate::items::{
 };
 use crate::kinds::{FormKind, kind_of};
 use crate::operands::{
-    expression_in, fallback_in, headed, limited_number, name_in, names_in, quoted_bytes,
+    expression_in, fallback_in, headed, is_named, limited_number, name_in, names_in, quoted_bytes,
     set_patterns,
 };
 use crate::options::options_of;
@@ -174,7 +174,8 @@ fn condition_at(alloc: Global, form: &Form) -> Result<Condition, Wrong>
     }
 }
 
-/// `(define_insn_reservation "name" latency condition "regexp")`
+/// `(define_insn_reservation "name" latency condition "regexp")`. The limit of the latency is asked before memory for the
+/// name is.
 #[tactic(auto, using(crate::proofs::OperandLemmas::no_class))]
 fn class_form(alloc: Global, place: Place, operands: &[Form]) -> Result<Addition, Wrong>
     requires { IsTrue (model.strings_below (2 ^ 32) (trees operands.now)) }
@@ -187,8 +188,11 @@ fn class_form(alloc: Global, place: Place, operands: &[Form]) -> Result<Addition
     let [name, latency, condition, regexp] = operands else {
         unreachable!()
     };
-    let name = name_at(alloc, name)?;
+    if !is_named(name) {
+        return Err(Wrong::BadShape);
+    }
     let latency = limited_number(latency)?;
+    let name = name_at(alloc, name)?;
     let condition = condition_at(alloc, condition)?;
     let expr = expression_in(alloc, regexp)?;
     Ok(Addition::Class(ClassItem {

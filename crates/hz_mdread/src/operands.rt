@@ -1,6 +1,6 @@
 //! The operands of forms. Each reader answers `None` where an operand is not of its kind.
 
-ghost use Rattle.std.specs.Prelude.{◌≡◌, ◌≤◌, ◌^◌, map, IfOk, IfErr, IsTrue, Ok, Err};
+ghost use Rattle.std.specs.Prelude.{◌≡◌, ◌↔◌, ◌≤◌, ◌^◌, map, IfOk, IfErr, IsTrue, IsSome, Ok, Err};
 ghost use Rattle.std.specs.Option.{option_map};
 ghost use Rattle.hz_mdread_model.specs.DescriptionForms as model;
 ghost use Rattle.hz_mdread.specs.Faults.{TellsOf, IsListIfRead};
@@ -12,7 +12,7 @@ ghost use Rattle.hz_sexp.specs.Shape.{tree, trees};
 use crate::fault::Wrong;
 use crate::items::SetForm;
 use crate::patterns::{patterns_of, single_patterns};
-use hz_regexp::{Expr, Name, NamesFault, NoMemory, parse_expr, parse_names};
+use hz_regexp::{Expr, Name, NamesFault, NoMemory, is_name, parse_expr, parse_names};
 use hz_sexp::{Form, Node};
 use std::alloc::Global;
 
@@ -40,6 +40,16 @@ pub fn quoted_bytes(form: &Form) -> Option<&[u8]>
     match &form.node {
         Node::Quoted(text) => Some(text.bytes()),
         _ => None,
+    }
+}
+
+/// Whether a string is a name. It takes no memory.
+pub fn is_named(form: &Form) -> bool
+    ensures { IsTrue result ↔ IsSome (model.name_in (tree form.now)) }
+{
+    match quoted_bytes(form) {
+        Some(bytes) => is_name(bytes),
+        None => false,
     }
 }
 
