@@ -10,6 +10,3 @@ mod report;
 pub use compiled::{Compiled, compile};
 pub use fault::{AutoFault, Kind};
 pub use report::{AutoReport, Shown};
-
-#[cfg(test)]
-mod tests;

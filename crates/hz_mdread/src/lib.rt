@@ -12,8 +12,6 @@ mod operands;
 mod options;
 mod patterns;
 mod reader;
-#[cfg(test)]
-mod tests;
 
 pub use condition::Condition;
 pub use description::Description;

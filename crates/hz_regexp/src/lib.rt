@@ -14,6 +14,3 @@ pub use fault::ExprFault;
 pub use lists::{NamesFault, parse_names};
 pub use names::{Name, NoMemory, is_name};
 pub use reader::parse_expr;
-
-#[cfg(test)]
-mod tests;

@@ -20,6 +20,3 @@ pub use outcome::Outcome;
 pub use replayer::Replayer;
 pub use replaying::replay;
 pub use trace::{read_events, read_trace};
-
-#[cfg(test)]
-mod tests;

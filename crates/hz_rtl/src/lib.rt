@@ -23,6 +23,3 @@ pub use fault::RtlFault;
 pub use reader::read_block;
 pub use state::State;
 pub use state_reader::read_state;
-
-#[cfg(test)]
-mod tests;

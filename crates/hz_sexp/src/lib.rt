@@ -8,8 +8,6 @@ mod place;
 mod reader;
 mod step;
 mod string;
-#[cfg(test)]
-mod tests;
 mod word;
 
 pub use fault::SexpFault;

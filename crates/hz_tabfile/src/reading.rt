@@ -10,8 +10,6 @@ mod numbers;
 mod operands;
 mod pairs;
 mod rest;
-#[cfg(test)]
-mod tests;
 mod text;
 mod told;
 mod wrong;

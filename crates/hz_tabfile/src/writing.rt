@@ -15,8 +15,6 @@ mod parts;
 mod ranges;
 mod rows;
 mod shown;
-#[cfg(test)]
-mod tests;
 
 use hz_auto::Compiled;
 use hz_check::Checked;

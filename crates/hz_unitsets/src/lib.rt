@@ -8,6 +8,3 @@ mod set_rules;
 pub use row_rules::NoMemory;
 pub use rules::Rules;
 pub use set_rules::{SetKind, SetRule};
-
-#[cfg(test)]
-mod tests;

@@ -6,8 +6,6 @@ mod numbers;
 mod operands;
 mod order;
 mod reading;
-#[cfg(test)]
-mod tests;
 
 pub use order::{
     CompileOrder, DrillOrder, EvalOrder, Order, ReplayOrder, ScheduleOrder, WalkOrder,

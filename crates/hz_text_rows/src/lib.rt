@@ -1,0 +1,6 @@
+//! Worked rows of what reads texts: forms, expressions and names, descriptions, blocks and their states, and the words of a
+//! command.
+#![tactic(auto)]
+
+#[cfg(test)]
+mod tests;
