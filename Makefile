@@ -6,7 +6,7 @@ program = $(DESTDIR)$(PREFIX)/bin
 page = $(DESTDIR)$(PREFIX)/share/man/man1
 crates := $(shell sed -n 's/^\(hz[a-z_]*\):.*/\1/p' crates.txt)
 # crates of tests alone; the program stands on none of them
-rows := hz_rows hz_check_rows hz_sched_rows
+rows := hz_rows hz_check_rows hz_sched_rows hz_text_rows hz_table_rows
 lower := $(filter-out hz $(rows),$(crates))
 
 .PHONY: all try test examples check-walk check-memory check-gcc bench install uninstall clean
