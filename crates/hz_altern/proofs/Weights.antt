@@ -65,6 +65,19 @@ item_short f most alts i item h is short =
     let each = All-from_map (λ a. a.cycles ≤ most) f (alternatives alts) (length_within most (map f (alternatives alts)) short) in
     subst (λ a. (f (alternative_of a)).cycles ≤ most) (sym is) (All-from_map (λ a. (f a).cycles ≤ most) alternative_of alts each i item h)
 
+-- none is larger than all together
+pub item_small : (most : ℕ) (alts : List Alt) (i : ℕ) (item : Alt) → i < length alts → item ≡ get_or alts i item → total_weight (alternatives alts) ≤ most → weight (alternative_of item) ≤ most
+item_small most alts i item h is small =
+    let front : total_weight (alternatives (take (i + 1) alts)) ≡ total_weight (alternatives (take i alts)) + total_weight (alternative_of (get_or alts i item) ∷ []) =
+    ap (λ xs. total_weight (alternatives xs)) (take_more alts i item h)
+    ∙ (ap total_weight (map-append alternative_of (take i alts) (get_or alts i item ∷ []))
+    ∙ weight-append (alternatives (take i alts)) (alternative_of (get_or alts i item) ∷ [])) in
+    let whole : total_weight (alternatives alts) ≡ total_weight (alternatives (take (i + 1) alts)) + total_weight (alternatives (drop (i + 1) alts)) =
+    ap (λ xs. total_weight (alternatives xs)) (sym (take-append-drop (i + 1) alts))
+    ∙ (ap total_weight (map-append alternative_of (take (i + 1) alts) (drop (i + 1) alts))
+    ∙ weight-append (alternatives (take (i + 1) alts)) (alternatives (drop (i + 1) alts))) in
+    subst (λ a. weight (alternative_of a) ≤ most) (sym is) (omega (arith, front, whole, weight-cons (alternative_of (get_or alts i item)) []))
+
 -- ---- all choices of two lists
 
 module _ (join : Alternative UnitPlace → Alternative UnitPlace → Alternative UnitPlace) (alts : List Alt) (ys : List (Alternative UnitPlace)) where

@@ -1,7 +1,7 @@
 //! The alternatives of an expression.
 
 ghost use Rattle.std.specs.Prelude.{◌≡◌, ◌<◌, ◌≤◌, ◌++◌, [], ◌∷◌, All, IsTrue, IfOk, IfErr, OnOk, length, map};
-ghost use Rattle.hz_altern.specs.Answers.{Expands, Refuses};
+ghost use Rattle.hz_altern.specs.Answers.{Expands, Refuses, weight, total_weight};
 ghost use Rattle.hz_altern.specs.Joinings.{IsListed, joined_by, joined_parts, listed_lists};
 ghost use Rattle.hz_altern.specs.Shapes.{alternative_of, alternatives};
 ghost use Rattle.hz_altern.specs.Singles.{TellsSingles, TellSingles};
@@ -10,7 +10,7 @@ ghost use Rattle.hz_altern_model.specs.Alternatives.{alternatives_of, together, 
 ghost use Rattle.hz_altern_model.specs.AlternativeLists.{AreSound, greatest_length};
 ghost use Rattle.hz_altern_model.specs.Automata.{listed};
 ghost use Rattle.hz_altern_model.specs.Expressions.{is_expression, are_expressions};
-ghost use Rattle.hz_base_model.specs.Limits.{cycle_limit};
+ghost use Rattle.hz_base_model.specs.Limits.{cycle_limit, size_limit};
 ghost use Rattle.hz_altern_model.specs.NamesIn.{all_names, all_names_in};
 ghost use Rattle.hz_regexp.specs.Shape.{expression, expressions};
 
@@ -61,6 +61,8 @@ fn push_choices(
 ) -> Result<(), AlternFault>
     requires first { IsListed (alternative_of first.now) }
     requires seconds { All IsListed (alternatives seconds.now) }
+    requires first_small { weight (alternative_of first.now) ≤ size_limit }
+    requires seconds_small { total_weight (alternatives seconds.now) ≤ size_limit }
     requires short { greatest_length (map (joined_by joining (alternative_of first.now)) (alternatives seconds.now)) ≤ cycle_limit }
     ensures ok { OnOk result (listing.new ≡ listing.old ++ map (joined_by joining (alternative_of first.now)) (alternatives seconds.now)) }
     ensures err { IfErr result (Refuses (listing.old ++ map (joined_by joining (alternative_of first.now)) (alternatives seconds.now))) }
@@ -80,6 +82,8 @@ fn choices(
 ) -> Result<Listing, AlternFault>
     requires firsts { All IsListed (alternatives firsts.now) }
     requires seconds { All IsListed (alternatives seconds.now) }
+    requires firsts_small { total_weight (alternatives firsts.now) ≤ size_limit }
+    requires seconds_small { total_weight (alternatives seconds.now) ≤ size_limit }
     requires short { greatest_length (each_choice (joined_by joining) (alternatives firsts.now) (alternatives seconds.now)) ≤ cycle_limit }
     ensures ok { IfOk result (λ listing. listing ≡ each_choice (joined_by joining) (alternatives firsts.now) (alternatives seconds.now)) }
     ensures err { IfErr result (Refuses (each_choice (joined_by joining) (alternatives firsts.now) (alternatives seconds.now))) }

@@ -5,7 +5,7 @@ ghost use Rattle.hz_altern.specs.Answers.{weight};
 ghost use Rattle.hz_altern.specs.Joinings.{IsListed, joined_by};
 ghost use Rattle.hz_altern.specs.Shapes.{pair_of, pairs_of, alternative_of};
 ghost use Rattle.hz_base_model.specs.Pairs.{later, placed};
-ghost use Rattle.hz_base_model.specs.Limits.{cycle_limit};
+ghost use Rattle.hz_base_model.specs.Limits.{cycle_limit, size_limit};
 
 use crate::alternative::{Alt, Pair};
 use crate::fault::NoMemory;
@@ -56,7 +56,10 @@ fn continued(
 pub fn joined_size(joining: Joining, first: &Alt, second: &Alt) -> usize
     requires first { IsListed (alternative_of first.now) }
     requires second { IsListed (alternative_of second.now) }
-    ensures { result ≡ weight (joined_by joining (alternative_of first.now) (alternative_of second.now)) }
+    requires first_small { weight (alternative_of first.now) ≤ size_limit }
+    requires second_small { weight (alternative_of second.now) ≤ size_limit }
+    ensures value { result ≡ weight (joined_by joining (alternative_of first.now) (alternative_of second.now)) }
+    ensures fits { result ≤ weight (alternative_of first.now) + weight (alternative_of second.now) }
 {
     match joining {
         Joining::InSequence => {

@@ -35,7 +35,7 @@ impl Listing {
     ghost use Rattle.std.specs.Prelude.{◌≡◌, ◌<◌, ◌≤◌, ◌++◌, ◌∷◌, [], All, List, Err, IfOk, IfErr, OnOk};
     ghost use Rattle.hz_altern.specs.declared.fault.AlternFault.TheVariants.{SizeLimit};
     ghost use Rattle.hz_altern.specs.Shapes.{alternatives, alternative_of};
-    ghost use Rattle.hz_altern.specs.Answers.{Refuses, total_weight};
+    ghost use Rattle.hz_altern.specs.Answers.{Refuses, weight, total_weight};
     ghost use Rattle.hz_altern.specs.Joinings.{IsListed, joined_by};
     ghost use Rattle.hz_altern.specs.declared.joining.Joining.TheVariants.{InSequence};
     ghost use Rattle.hz_altern_model.specs.Alternatives.{each_choice};
@@ -90,6 +90,8 @@ impl Listing {
     ) -> Result<(), AlternFault>
         requires first { IsListed (alternative_of first.now) }
         requires second { IsListed (alternative_of second.now) }
+        requires first_small { weight (alternative_of first.now) ≤ size_limit }
+        requires second_small { weight (alternative_of second.now) ≤ size_limit }
         requires short { (joined_by joining (alternative_of first.now) (alternative_of second.now)).cycles ≤ cycle_limit }
         ensures ok { OnOk result (self.new ≡ self.old ++ joined_by joining (alternative_of first.now) (alternative_of second.now) ∷ []) }
         ensures err { IfErr result (Refuses (self.old ++ joined_by joining (alternative_of first.now) (alternative_of second.now) ∷ [])) }
@@ -133,7 +135,8 @@ impl Listing {
 
     /// The alternatives, without taking memory.
     pub fn as_slice(&self) -> &[Alt]
-        ensures { alternatives result.now ≡ self.now }
+        ensures alts { alternatives result.now ≡ self.now }
+        ensures small { total_weight self.now ≤ size_limit }
     {
         self.alts.as_slice()
     }

@@ -1,6 +1,6 @@
 //! The union of pairs that ascend.
 
-ghost use Rattle.std.specs.Prelude.{◌≡◌, ◌++◌, [], length, IfOk, IfSome, IfNone};
+ghost use Rattle.std.specs.Prelude.{◌≡◌, ◌+◌, ◌≤◌, ◌++◌, [], length, IfOk, IfSome, IfNone};
 ghost use Rattle.hz_altern.specs.Merging.{IsLeast};
 ghost use Rattle.hz_altern.specs.Shapes.{pair_of, pairs_of};
 ghost use Rattle.hz_altern_model.specs.Automata.{precedes, ascending};
@@ -41,7 +41,8 @@ pub fn united(alloc: Global, first: &[Pair], second: &[Pair]) -> Result<Vec<Pair
 pub fn union_len(first: &[Pair], second: &[Pair]) -> usize
     requires first { IsAscending (pairs_of first.now) }
     requires second { IsAscending (pairs_of second.now) }
-    ensures { result ≡ length (ascending (pairs_of first.now ++ pairs_of second.now)) }
+    ensures value { result ≡ length (ascending (pairs_of first.now ++ pairs_of second.now)) }
+    ensures fits { result ≤ length first.now + length second.now }
 {
     let mut count = 0;
     let mut rest = (first, second);

@@ -5,11 +5,11 @@ use Rattle.hz_altern.proofs.expanding.+copies.Goals as goal
 
 pub returns-then-times-eq1-clause-ok : goal.returns-then-times-eq1-clause-ok
 returns-then-times-eq1-clause-ok t c =
-    rw (copies_single c.args.times c.args.once.now c.if-times-eq1.true, ← c.as_slice.ensures) c.copied.ensures.ok
+    rw (copies_single c.args.times c.args.once.now c.if-times-eq1.true, ← c.as_slice.ensures.alts) c.copied.ensures.ok
 
 pub returns-then-times-eq1-clause-err : goal.returns-then-times-eq1-clause-err
 returns-then-times-eq1-clause-err t c =
-    rw (copies_single c.args.times c.args.once.now c.if-times-eq1.true, ← c.as_slice.ensures) c.copied.ensures.err
+    rw (copies_single c.args.times c.args.once.now c.if-times-eq1.true, ← c.as_slice.ensures.alts) c.copied.ensures.err
 
 pub copies-requires : goal.copies-requires
 copies-requires t c =
