@@ -4,9 +4,9 @@
 ghost use Rattle.std.specs.Prelude.{All, IsTrue, ◌<◌};
 ghost use Rattle.hz_unitsets.specs.SetRules.{IsInRange};
 
+use hz_grid::{CYCLES, Grid, UNITS};
 use hz_unitsets::SetKind::{Absence, Exclusion, FinalAbsence, FinalPresence, Presence};
 use hz_unitsets::{Rules, SetKind, SetRule};
-use hz_grid::{CYCLES, Grid, UNITS};
 use std::alloc::Global;
 use std::process::Abort;
 use std::test::Fail;

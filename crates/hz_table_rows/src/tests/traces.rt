@@ -8,8 +8,8 @@ ghost use Rattle.hz_tables.specs.Parts.{part_of};
 ghost use Rattle.hz_plain.specs.Examples.{shared};
 ghost use Rattle.hz_replay.specs.Traces.{events_in};
 
-use hz_replay::{Event, Outcome, TraceFault, What, read_trace, replay};
 use hz_regexp::{Name, NoMemory};
+use hz_replay::{Event, Outcome, TraceFault, What, read_trace, replay};
 use hz_tables::{Machine, Part, Plain, Steps, Table};
 use std::alloc::Global;
 use std::marker::Brand;
