@@ -1,10 +1,6 @@
 -- Parts of an expression with one alternative, gathered one by one.
-use Rattle.std.proofs.Common.{◌≡◌, ℕ, zero, suc, ◌+◌, ◌*◌, ◌<◌, ◌≤◌, max, Bool, Option, Some, None, List, [], ◌∷◌, ◌++◌, length, take, drop, get_or, Contains, ◌⊎◌, inl, inr, ⊎_elim, refl, sym, ap, ◌∙◌, subst, arith, length-append}
-use Rattle.std.specs.Prelude.{IsTrue, is_some}
-use Rattle.std.specs.BTreeMap.{get}
-use Rattle.std.specs.Option.{option_map}
-use Rattle.std.specs.Ordering.{nat_cmp}
-use Rattle.std.specs.Cmp.Lexicographic.{slice_cmp}
+use Rattle.std.proofs.Common.{◌≡◌, ℕ, zero, suc, ◌+◌, ◌*◌, ◌<◌, ◌≤◌, max, Bool, List, [], ◌∷◌, ◌++◌, length, take, drop, get_or, Contains, ◌⊎◌, inl, inr, ⊎_elim, refl, sym, ap, ◌∙◌, subst, arith, length-append}
+use Rattle.std.specs.Prelude.{IsTrue}
 use Rattle.std.proofs.Math.Nat.{mul-le-mul_left, mul_comm}
 use Rattle.std.proofs.lemmas.Bool.{and_parts}
 use Rattle.std.proofs.lemmas.List.{map-append, take_more}
@@ -13,14 +9,11 @@ use Rattle.hz_base_model.specs.Limits.{cycle_limit}
 use Rattle.hz_base_model.specs.Pairs.{Pair, placed, later}
 use Rattle.hz_base_model.proofs.Elements.{Contains-nil, Contains-map, Contains-from_map}
 use Rattle.hz_cycles.specs.declared.cycles.Cycles.{Cycles}
-use Rattle.hz_altern.specs.declared.known.Entry.{Entry}
 use Rattle.hz_altern.specs.declared.known.Known.{Known}
-use Rattle.hz_altern.specs.declared.measure.Extent.{Extent}
-use Rattle.hz_altern.specs.Extents.{told}
 use Rattle.hz_altern.specs.Shapes.{alternatives}
 use Rattle.hz_altern.specs.declared.leaves.Leaves.{Leaves}
 use Rattle.hz_altern.specs.Leaves.{all_pairs, BeginsIn, Begins, BeginsInCopy, AddsCopies, Takes, AllEndBy, IsGathered}
-use Rattle.hz_altern.specs.Tables.{alternatives_in, known_alternatives, known_extent, is_held}
+use Rattle.hz_altern.specs.Tables.{alternatives_in, known_alternatives, is_held}
 use Rattle.hz_altern.proofs.KnownLemmas.{some_of, name_runs}
 use Rattle.hz_altern.proofs.LeafLemmas.{placed_now, placed_again, pairs_followed}
 use Rattle.hz_altern.proofs.Lengths.{greatest-followed, greatest-beside, greatest-copies}
@@ -29,11 +22,10 @@ use Rattle.hz_altern.proofs.PartLemmas.{halves}
 use Rattle.hz_regexp.specs.declared.expr.Expr.{Expr}
 use Rattle.hz_regexp.specs.Shape.{expression, expressions}
 use Rattle.hz_altern_model.specs.Alternatives.{Alternative, Expression, followed_by, beside, each_choice, copies, alternatives_of, in_sequence, any_of, together, parts_of}
-use Rattle.hz_altern_model.specs.AlternativeLists.{greatest_length, extent_of}
+use Rattle.hz_altern_model.specs.AlternativeLists.{greatest_length}
 use Rattle.hz_altern_model.specs.Automata.{UnitPlace}
 use Rattle.hz_altern_model.specs.Expressions.{are_several, is_expression, are_expressions}
 use Rattle.hz_altern_model.specs.NamesIn.{all_names, all_names_in}
-use Rattle.hz_altern_model.proofs.PlacedLaws.{all_names_law}
 use Rattle.hz_altern_model.proofs.ExpressionLaws.{length-each_choice, one_followed, one_beside}
 use Rattle.hz_altern_model.proofs.ListedLaws.{in_sequence-append, together-append, copies-add}
 
@@ -68,19 +60,6 @@ pub part_at : (test : List ℕ → Bool) (ps : List Expr) (i : ℕ) (p : Expr) �
 part_at test ps i p lt e h k = record { formed = part_formed ps i p lt e h; names_known = part_known test ps i p lt e k; fewer = part_fewer ps i p lt e; next = part_next ps i p lt e }
 
 -- ---- counts of alternatives
-
--- one alternative is counted where there is one
-pub one_counted : (xs : List (Alternative UnitPlace)) (extent : Extent) → told extent ≡ extent_of xs → extent.count ≡ 1 → length xs ≡ 1
-one_counted xs extent is one = let count = ap (λ e. e.count) is in omega (arith, count)
-
--- where a name has alternatives it has their extent
-held_entry : (o : Option Entry) → IsTrue (is_some (option_map (λ (entry : Entry). alternatives entry.alts.items) o)) → IsTrue (is_some (option_map (λ (entry : Entry). told entry.extent) o))
-held_entry None h = absurd (cc)
-held_entry (Some entry) h = refl
-
-pub held_extent : (known : Known) (e : Expression) → IsTrue (all_names (is_held (alternatives_in known)) e) → IsTrue (all_names (is_held (known_extent known)) e)
-held_extent known e held = (all_names_law (is_held (known_extent known)) e).1
-    (λ name m. held_entry (get (slice_cmp nat_cmp) known.names name) ((all_names_law (is_held (alternatives_in known)) e).0 held name m))
 
 -- ---- one alternative of each part
 

@@ -35,9 +35,6 @@ left_same m t xs ys a b = record {
 same_then : {U : Type 0} (xs ys zs : List (List (Pair U))) → SameGrids xs ys → SameGrids ys zs → SameGrids xs zs
 same_then xs ys zs a b = record { there = has_then xs ys zs a.there b.there; back = has_then zs ys xs b.back a.back }
 
-same_turned : {U : Type 0} (xs ys : List (List (Pair U))) → SameGrids xs ys → SameGrids ys xs
-same_turned xs ys a = record { there = a.back; back = a.there }
-
 -- classes go by their columns, under statements that ask the same
 asked_moved : (treatment : Treatment) (statements rules : List (Statement ℕ)) → AskTheSame statements rules → (lists columns : List (List (List (Pair ℕ)))) (maps : List ℕ) (is : IsColumns lists columns maps) → IsMoved (to_column treatment statements lists columns maps is) (pipeline_on treatment statements lists) (pipeline_on treatment rules columns)
 asked_moved treatment statements rules asks lists columns maps is =

@@ -9,9 +9,6 @@ use Rattle.hz_tables_model.specs.Tables.{Table, entry}
 use Rattle.hz_comb_model.specs.Combs.{Comb, place_at, laid_at, laid}
 use Rattle.hz_comb.specs.Laying.{is_free, is_laid, Lays, IsLaid}
 
-none_laid : (row : ℕ → Option ℕ) (base place : ℕ) → is_laid row 0 base place ≡ false
-none_laid row base place = grind (arith, nat_tests)
-
 laid_before : (row : ℕ → Option ℕ) (count base : ℕ) → is_laid row count base (base + count) ≡ false
 laid_before row count base = grind (arith, nat_tests)
 
@@ -28,16 +25,6 @@ laid_other row count base place other = shape (is_some (row (place - base)))
   where
     shape : (b : Bool) → (nat_le base place && (nat_lt (place - base) (count + 1) && b)) ≡ (nat_le base place && (nat_lt (place - base) count && b))
     shape b = grind (arith, nat_tests)
-
--- nothing is laid yet
-pub lays_none : (row : ℕ → Option ℕ) (base state : ℕ) (owners targets : List ℕ) → Lays row 0 base state owners targets owners targets
-lays_none row base state owners targets = record {
-  each = refl;
-  same = refl;
-  owner = λ place. ap (λ b. if b then state else slice_index owners place) (sym (none_laid row base place));
-  target = λ place next there. let none = none_laid row base place in cc;
-  other = λ place there. refl;
-}
 
 lay_owner : (test some now was : Bool) (state first old new : ℕ) → old ≡ (if was then state else first) → new ≡ (if test && some then state else old)
     → (test ≡ true → (now ≡ some) × (was ≡ false)) → (test ≡ false → now ≡ was) → new ≡ (if now then state else first)

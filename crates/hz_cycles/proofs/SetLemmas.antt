@@ -34,10 +34,6 @@ HasCycle-below cycles cycle h =
     (λ (late : (128 ≤ cycle) × (cycle < 256) × HasBit cycles.late (cycle - 128)). late.1)
     (words_from cycles cycle h)
 
--- sets whose words say the same of a cycle
-by_words : (cycles : Cycles) (cycle : ℕ) {A : Type 0} → (InWords cycles cycle → A) → (A → InWords cycles cycle) → HasCycle cycles cycle ↔ A
-by_words cycles cycle to from = (λ h. to (words_from cycles cycle h), λ a. words_to cycles cycle (from a))
-
 -- ---- the calls
 
 pub no_cycle : (cycle : ℕ) → HasCycle (record { early = 0; late = 0 }) cycle → ⊥
@@ -230,9 +226,6 @@ later_near cycles later cycle small some near =
     )
 
 -- ---- copies
-
-pub copies_none : (cycles : Cycles) (apart cycle : ℕ) → IsCopied cycles 0 apart cycle → ⊥
-copies_none cycles apart cycle is = omega (arith, is.2)
 
 pub copies_once : (cycles : Cycles) (apart cycle : ℕ) → HasCycle cycles cycle ↔ IsCopied cycles 1 apart cycle
 copies_once cycles apart cycle = (

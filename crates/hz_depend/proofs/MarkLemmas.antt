@@ -63,10 +63,6 @@ module _ (lists : List (Vec ℕ Global)) (number i : ℕ) (list : Vec ℕ Global
       go true same = absurd (ne (eqb-true i number same))
       go false same = others_step false same e
 
-pub length-marked : (stamps : List ℕ) (stamp : ℕ) (places : List ℕ) → length (marked stamps stamp places) ≡ length stamps
-length-marked stamps stamp [] = refl
-length-marked stamps stamp (p ∷ places) = length-marked (set stamps p stamp) stamp places ∙ length-set stamps p stamp
-
 module _ (stamp : ℕ) where
   set_stays : (stamps : List ℕ) (p i : ℕ) → i < length stamps → slice_index stamps i ≡ stamp → slice_index (set stamps p stamp) i ≡ stamp
   set_stays stamps p i lt e = ⊎_elim

@@ -65,12 +65,6 @@ swapped a b cycle unit d = record {
   earlier = λ other lt. sym (d.earlier other lt);
 }
 
-pub later_from_more : (rows : List ℕ) → IsRows rows → (cycle unit : ℕ) → cycle + 1 < length rows → (HasLater rows cycle unit → ⊥) → ⊥
-later_from_more rows is cycle unit more none = is.trimmed (omega arith) (λ other set. none (other, length rows - 1, set, inl (omega arith)))
-
-pub above_is_later : (rows : List ℕ) (cycle unit : ℕ) → HasAbove (get_or rows cycle 0) unit → HasLater rows cycle unit
-above_is_later rows cycle unit above = (above.0, cycle, above.2, inr (refl, above.1))
-
 pub later_is_above : (rows : List ℕ) (cycle unit : ℕ) → length rows ≤ cycle + 1 → HasLater rows cycle unit → HasAbove (get_or rows cycle 0) unit
 later_is_above rows cycle unit most (other, later, set, after) =
     ⊎_elim

@@ -28,11 +28,6 @@ abbrev mutual
 some_pair : (p q : List ℕ × Trees) → Some p ≡ Some q → p ≡ q
 some_pair p q e = cc
 
--- the operands of a list are smaller
-pub headed_size : (form : Tree) (word : List ℕ) (operands : Trees) → headed form ≡ Some (word, operands) → sizes operands < size form
-headed_size (list line (more (atom at w) os)) word operands h = let same = some_pair (w, os) (word, operands) h in let e = ap (λ (p : List ℕ × Trees). sizes p.1) same in omega (arith, e)
-headed_size _ word operands h = absurd (cc)
-
 -- and so is each form of several
 pub place_size : (forms : List Form) (i : ℕ) (form : Form) → i < length forms → form ≡ get_or forms i form → size (tree form) < sizes (trees forms)
 place_size [] i form inside is = absurd (omega arith)

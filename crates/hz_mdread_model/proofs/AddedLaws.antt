@@ -136,10 +136,6 @@ items_added forms d r =
 
 -- Where a fault stands.
 
-line_err : {A : Type 0} (line : ℕ) (r : Result A DescriptionFault) (w : DescriptionFault × ℕ) → at_line line r ≡ Err w → (r ≡ Err w.0) × (w.1 ≡ line)
-line_err line (Ok y) w h = absurd (cc)
-line_err line (Err f) w h = let same : ◌≡◌ {A = DescriptionFault × ℕ} (f, line) w = cc in (ap (λ x. Err x.0) same, sym (ap (λ x. x.1) same))
-
 -- a front that says a description, the wrong form, and the rest
 record Behind (read : List ℕ → Said) (n : ℕ) (d : Description) (forms : Trees) (w : DescriptionFault × ℕ) : Type 0 where
   front : Trees

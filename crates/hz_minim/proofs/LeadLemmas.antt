@@ -14,17 +14,6 @@ none_replicated size block = ⊎_elim
     (λ (high : size ≤ block). get_or_past (replicate size None) block None (omega (arith, length-replicate {A = Option ℕ} size None)))
     (cases_lt block size)
 
-pub led_none : (blocks : List ℕ) (size : ℕ) (firsts : List (Option ℕ)) (leaders : List ℕ) → All (λ block. block < size) blocks → firsts ≡ replicate size None → leaders ≡ [] → LedSoFar blocks 0 firsts leaders
-led_none blocks size firsts leaders below fresh empty = record {
-  each = ap length empty;
-  room = λ k d within. let low = below k d within in omega (arith, ap length fresh, length-replicate {A = Option ℕ} size None);
-  held = λ state low. absurd (omega arith);
-  first = λ block state is. absurd (none_some state (sym (ap (λ (xs : List (Option ℕ)). get_or xs block None) fresh ∙ none_replicated size block) ∙ is));
-}
-  where
-    none_some : (n : ℕ) → None ≡ Some n → ⊥
-    none_some n e = cc
-
 module _ (blocks : List ℕ) (k : ℕ) (firsts : List (Option ℕ)) (leaders : List ℕ) (so : LedSoFar blocks k firsts leaders) (low : k < length blocks) where
   old_leader : (first state : ℕ) → state < k → leader_of (leaders ++ first ∷ []) state ≡ leader_of leaders state
   old_leader first state less = get_or_append_left leaders (first ∷ []) 0 state (omega (arith, so.each))

@@ -5,7 +5,7 @@ use Rattle.std.proofs.lemmas.Bool.{cases_lt, cases_eq, eq-eqb, ne_eqb}
 use Rattle.std.proofs.lemmas.List.{length_push, get_or_append_left, get_or_push}
 use Rattle.hz_tables_model.specs.Tables.{Table, entry, walk, IsTable}
 use Rattle.hz_tables_model.specs.Apart.{Apart}
-use Rattle.hz_minim.specs.Leading.{leader_of, led, led_entry, IsCoarse, Strays, Follows, AllFollow, GoesAlong, IsPartedTo, IsParted, led_below}
+use Rattle.hz_minim.specs.Leading.{leader_of, led, led_entry, IsCoarse, Strays, GoesAlong, IsPartedTo, IsParted, led_below}
 
 -- ---- states that lead to different leaders
 
@@ -32,36 +32,7 @@ apart_led table columns leaders is coarse one other column differ = apart_entrie
 
 -- ---- who follows
 
-pub follows_none : (table : Table) (leaders : List ℕ) (state : ℕ) → Follows table leaders state 0
-follows_none table leaders state = record { alike = λ column low. absurd (omega arith) }
-
-pub follows_more : (table : Table) (leaders : List ℕ) (state k : ℕ) → Follows table leaders state k → led_entry table leaders state k ≡ led_entry table leaders (leader_of leaders state) k → Follows table leaders state (k + 1)
-follows_more table leaders state k follows here = record {
-  alike = λ column below. ⊎_elim
-      (λ (less : column < k). follows.alike column less)
-      (λ (last : k ≤ column).
-      let same : k ≡ column = omega arith in
-      subst (λ (c : ℕ). led_entry table leaders state c ≡ led_entry table leaders (leader_of leaders state) c) same here)
-      (cases_lt column k);
-}
-
-pub all_follow_none : (table : Table) (columns : ℕ) (leaders : List ℕ) → AllFollow table columns leaders 0
-all_follow_none table columns leaders = record { each = λ state low. absurd (omega arith) }
-
-pub all_follow_more : (table : Table) (columns : ℕ) (leaders : List ℕ) (k : ℕ) → AllFollow table columns leaders k → Follows table leaders k (columns + 1) → AllFollow table columns leaders (k + 1)
-all_follow_more table columns leaders k all here = record {
-  each = λ state below. ⊎_elim
-      (λ (less : state < k). all.each state less)
-      (λ (last : k ≤ state).
-      let same : k ≡ state = omega arith in
-      subst (λ (s : ℕ). Follows table leaders s (columns + 1)) same here)
-      (cases_lt state k);
-}
-
 -- ---- a parting
-
-pub parted_none : (table : Table) (leaders : List ℕ) (other column : ℕ) → IsParted table leaders other column 0 []
-parted_none table leaders other column = record { each = refl; at = λ state low. absurd (omega arith) }
 
 pub parted_more : (table : Table) (leaders : List ℕ) (other column k : ℕ) (parted : List ℕ) (leader : ℕ) → IsParted table leaders other column k parted → IsPartedTo table leaders other column k leader → IsParted table leaders other column (k + 1) (parted ++ leader ∷ [])
 parted_more table leaders other column k parted leader so here = record {

@@ -1,6 +1,5 @@
 -- Blocks of states that are apart.
-use Rattle.std.proofs.Common.{◌≡◌, ◌≢◌, ℕ, ◌<◌, ◌≤◌, ⊎_elim, List, length, replicate, Some, None, All, Contains, sym, ap, ◌∙◌, arith}
-use Rattle.std.proofs.lemmas.List.{get_or-replicate, length-replicate}
+use Rattle.std.proofs.Common.{◌≡◌, ◌≢◌, ℕ, ◌<◌, ◌≤◌, ⊎_elim, List, length, Some, None, All, Contains, sym, ap, ◌∙◌, arith}
 use Rattle.std.proofs.lemmas.List.Elements.{All-from_get_or}
 use Rattle.hz_tables_model.specs.Tables.{Table, entry, IsTable}
 use Rattle.hz_tables_model.specs.Apart.{Apart}
@@ -13,16 +12,6 @@ use Rattle.hz_refine.specs.Lists.{list_at}
 use Rattle.hz_refine.specs.Moves.{IsListed, IsMoved, IsSeparate}
 use Rattle.hz_refine.proofs.ListLaws.{place_within}
 use Rattle.hz_refine.proofs.TableLaws.{option_cases, entry_within, apart_symmetric, apart_by_entry, apart_before}
-
--- one block alone tells no states apart
-pub one_block : (table : Table) (blocks : List ℕ) → blocks ≡ replicate (length table) 0 → KeepsApart table blocks
-one_block table blocks e = record {
-  each = ap length e ∙ length-replicate (length table) 0;
-  apart = λ one other within inside differ.
-      let first : block_of blocks one ≡ 0 = ap (λ (xs : List ℕ). block_of xs one) e ∙ get_or-replicate (length table) one 0 0 within in
-      let second : block_of blocks other ≡ 0 = ap (λ (xs : List ℕ). block_of xs other) e ∙ get_or-replicate (length table) other 0 0 inside in
-      absurd (differ (first ∙ sym second));
-}
 
 -- What leads to a block in a column is apart from what doesn't.
 module _ (plain : Rows) (is : IsTable plain.rows plain.columns) (arrows : List (List Arrow)) (are : AreArrows plain arrows) (blocks : List ℕ) (keeps : KeepsApart plain.rows blocks) (block : ℕ) (buckets : List (List ℕ)) (filled : AreBuckets arrows blocks block buckets) (column : ℕ) where

@@ -1,7 +1,6 @@
 -- The entries of a table, read one after the other.
-use Rattle.std.proofs.Common.{◌≡◌, ◌≢◌, ℕ, ◌+◌, ◌<◌, ◌≤◌, inl, inr, ⊎_elim, List, [], length, Some, None, Contains, sym, ap, ◌∙◌, subst, arith}
+use Rattle.std.proofs.Common.{◌≡◌, ◌≢◌, ℕ, ◌+◌, ◌<◌, ◌≤◌, inl, inr, ⊎_elim, List, length, Some, None, Contains, sym, ap, ◌∙◌, subst, arith}
 use Rattle.std.proofs.lemmas.Bool.{cases_eq}
-use Rattle.hz_base_model.proofs.Elements.{Contains-nil}
 use Rattle.hz_tables_model.specs.Tables.{Table, entry, IsTable}
 use Rattle.hz_plain.specs.Rows.{Rows}
 use Rattle.hz_refine.specs.declared.arrows.Arrow.{Arrow}
@@ -9,13 +8,6 @@ use Rattle.hz_refine.specs.Lists.{list_at, added}
 use Rattle.hz_refine.specs.Arrows.{arrow_from, AreArrows, AreWithin, HasRead}
 use Rattle.hz_refine.proofs.ListLaws.{added-holds, added-kept, added-only, length-added}
 use Rattle.hz_refine.proofs.TableLaws.{entry_within}
-
-pub read_none : (table : Table) (arrows : List (List Arrow)) → length arrows ≡ length table → ((place : ℕ) → list_at arrows place ≡ []) → HasRead table 0 0 arrows
-read_none table arrows each empty = record {
-  each = each;
-  there = λ target arrow h. absurd (Contains-nil arrow (subst (λ (xs : List Arrow). Contains xs arrow) (empty target) h));
-  read = λ source at target before e. absurd (⊎_elim (λ (lt : source < 0). let none : ⊥ = omega arith in none) (λ (both : (source ≡ 0) × (at < 0)). let lt = both.1 in omega arith) before);
-}
 
 -- the same of a place further on, if what is read between is none
 module _ (table : Table) (state column : ℕ) (arrows : List (List Arrow)) (has : HasRead table state column arrows) where

@@ -1,8 +1,7 @@
 -- How buckets are filled.
-use Rattle.std.proofs.Common.{◌≡◌, ◌≢◌, ℕ, ◌+◌, ◌<◌, ◌⊎◌, inl, inr, ⊎_elim, List, [], ◌∷◌, ◌++◌, length, get_or, take, Contains, refl, sym, ap, ◌∙◌, subst}
+use Rattle.std.proofs.Common.{◌≡◌, ◌≢◌, ℕ, ◌+◌, ◌<◌, ◌⊎◌, inl, inr, ⊎_elim, List, [], ◌∷◌, ◌++◌, length, get_or, take, Contains, sym, ap, ◌∙◌, subst}
 use Rattle.std.proofs.lemmas.List.{take_more}
 use Rattle.std.proofs.lemmas.List.Elements.{Contains-append_left, Contains-push, Contains-push_cases}
-use Rattle.hz_base_model.proofs.Elements.{Contains-nil}
 use Rattle.hz_minim_model.specs.Blocks.{block_of}
 use Rattle.hz_refine.specs.declared.arrows.Arrow.{Arrow}
 use Rattle.hz_refine.specs.Arrows.{arrow_from}
@@ -21,14 +20,6 @@ module _ {X : Type 0} where
 
   pub contains_cases : (xs : List X) (i : ℕ) (x y : X) → i < length xs → x ≡ get_or xs i x → Contains (take (i + 1) xs) y → Contains (take i xs) y ⊎ (x ≡ y)
   contains_cases xs i x y within e h = Contains-push_cases (take i xs) x y (subst (λ (ys : List X). Contains ys y) (take_more xs i x within ∙ ap (λ (z : X). take i xs ++ z ∷ []) (sym e)) h)
-
-pub adds_none : (buckets : List (List ℕ)) → AddsArrows [] buckets buckets
-adds_none buckets = record {
-  size = refl;
-  kept = λ column state h. h;
-  put = λ column state h. absurd (Contains-nil (arrow_from state column) h);
-  only = λ column state h. inl h;
-}
 
 -- one arrow more
 pub adds_more : (arrows : List Arrow) (before mid : List (List ℕ)) (i : ℕ) (arrow : Arrow) → i < length arrows → arrow ≡ get_or arrows i arrow → arrow.column < length mid → AddsArrows (take i arrows) before mid → AddsArrows (take (i + 1) arrows) before (added arrow.column arrow.source mid)
@@ -58,12 +49,6 @@ adds_more arrows before mid i arrow within e inside adds =
 pub record AreFilled (arrows : List (List Arrow)) (blocks : List ℕ) (block : ℕ) (states : List ℕ) (buckets : List (List ℕ)) : Type 0 where
   pub all : (target column state : ℕ) → Contains states target → block_of blocks target ≡ block → Contains (list_at arrows target) (arrow_from state column) → Contains (list_at buckets column) state
   pub only : (column state : ℕ) → Contains (list_at buckets column) state → (target : ℕ) × (target < length blocks) × (block_of blocks target ≡ block) × Contains (list_at arrows target) (arrow_from state column)
-
-pub filled_none : (arrows : List (List Arrow)) (blocks : List ℕ) (block : ℕ) (buckets : List (List ℕ)) → ((place : ℕ) → list_at buckets place ≡ []) → AreFilled arrows blocks block [] buckets
-filled_none arrows blocks block buckets empty = record {
-  all = λ target column state h. absurd (Contains-nil target h);
-  only = λ column state h. absurd (Contains-nil state (subst (λ (xs : List ℕ). Contains xs state) (empty column) h));
-}
 
 module _ (arrows : List (List Arrow)) (blocks : List ℕ) (block : ℕ) (states : List ℕ) (i here : ℕ) (within : i < length states) (read : here ≡ get_or states i here) (before : List (List ℕ)) (filled : AreFilled arrows blocks block (take i states) before) where
   -- a state that left the block

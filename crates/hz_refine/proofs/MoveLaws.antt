@@ -1,11 +1,11 @@
 -- States that move, one after the other.
-use Rattle.std.proofs.Common.{◌≡◌, ◌≢◌, ℕ, ◌+◌, ◌<◌, inl, inr, ⊎_elim, List, [], ◌∷◌, ◌++◌, length, replicate, get_or, set, take, Contains, refl, sym, ap, ◌∙◌, subst, arith, get_or-set_same, get_or-set_other, length-set}
+use Rattle.std.proofs.Common.{◌≡◌, ◌≢◌, ℕ, ◌+◌, ◌<◌, inl, inr, ⊎_elim, List, [], ◌∷◌, ◌++◌, length, replicate, get_or, set, take, Contains, sym, ap, ◌∙◌, subst, arith, get_or-set_same, get_or-set_other, length-set}
 use Rattle.std.proofs.lemmas.Bool.{cases_eq}
 use Rattle.std.proofs.lemmas.Bool.Decides.{nat_tests}
 use Rattle.std.proofs.lemmas.List.{take_more, get_or-replicate, length-replicate}
 use Rattle.std.proofs.lemmas.List.Elements.{Contains-append_left, Contains-push, Contains-push_cases}
 use Rattle.std.specs.List.{range_with_len}
-use Rattle.hz_base_model.proofs.Elements.{Contains-nil, Contains-range, Contains-from_range}
+use Rattle.hz_base_model.proofs.Elements.{Contains-range, Contains-from_range}
 use Rattle.hz_minim_model.specs.Blocks.{block_of}
 use Rattle.hz_refine.specs.declared.marks.Mark.{Mark}
 use Rattle.hz_refine.specs.Lists.{list_at, added}
@@ -18,9 +18,6 @@ goes_once marks old block = grind (arith, nat_tests)
 
 pub goes_within : (marks : List Mark) (old block : ℕ) → block < length marks → goes_to marks old block < length marks
 goes_within marks old block within = grind (arith, nat_tests)
-
-pub moved_none : (goes : ℕ → ℕ) (blocks : List ℕ) → IsMoved goes [] blocks blocks
-moved_none goes blocks = record { each = refl; at = λ state within. inr (Contains-nil state, refl) }
 
 -- one state more
 module _ (goes : ℕ → ℕ) (once : (block : ℕ) → goes (goes block) ≡ goes block) (states before mid : List ℕ) (i : ℕ) (within : i < length states) (there : get_or states i 0 < length before) (moved : IsMoved goes (take i states) before mid) where

@@ -4,10 +4,10 @@ use Rattle.std.specs.Prelude.{All}
 use Rattle.std.proofs.lemmas.List.{length-replicate}
 use Rattle.std.proofs.lemmas.List.Elements.{All-get_or, All-head, All-tail}
 use Rattle.hz_acceptance_model.specs.Events.{Event, advance}
-use Rattle.hz_tables_model.specs.Machines.{Part, Machine, no_part, part_at, next_of, part_walk, parts_walk, onto_states, word_of, starts_of, IsPart, IsMachine}
+use Rattle.hz_tables_model.specs.Machines.{Part, Machine, no_part, part_at, part_walk, parts_walk, onto_states, word_of, starts_of, IsPart, IsMachine}
 use Rattle.hz_tables_model.proofs.TableLaws.{walk_stays}
-use Rattle.hz_tables_model.proofs.MachineLaws.{issue_alone, advance_alone}
-use Rattle.hz_replay.specs.Replaying.{event_for, AreStates}
+use Rattle.hz_tables_model.proofs.MachineLaws.{advance_alone}
+use Rattle.hz_replay.specs.Replaying.{AreStates}
 
 pub zeros : (n : ℕ) → length {A = ℕ} (replicate n 0) ≡ n
 zeros n = length-replicate {A = ℕ} n 0
@@ -23,10 +23,6 @@ starts_stand m is = record {
   each = zeros (length m.parts);
   within = λ i low. let part = All-get_or (IsPart (length m.classes)) m.parts i no_part low is.parts in subst (λ (n : ℕ). n < length (part_at m i).rows) (sym (zero_at (length m.parts) i)) ((part.table).start);
 }
-
-pub next_there : (part : Part) (state : ℕ) (class : Option ℕ) → next_of part state class ≡ part_walk part state (event_for class ∷ [])
-next_there part state None = sym (advance_alone part state)
-next_there part state (Some k) = sym (issue_alone part state k)
 
 -- what is walked from states ends in states
 abbrev Within : List Part → List ℕ → Type 0

@@ -1,8 +1,7 @@
 -- A trace that is read line after line is a trace by the grammar, and a line that is told is its first wrong one.
 use Rattle.std.proofs.Common.{◌≡◌, ℕ, ◌+◌, ◌≤◌, Bool, true, false, cond, nat_le, List, [], ◌∷◌, ◌++◌, length, map, Option, Some, None, Result, Ok, Err, refl, sym, ap, ◌∙◌, subst, arith, append_assoc}
 use Rattle.std.proofs.lemmas.List.{append-nil, map-append}
-use Rattle.std.proofs.lemmas.Bool.{leb-true, leb-false, eqb-true}
-use Rattle.std.specs.Prelude.{◌==◌}
+use Rattle.std.proofs.lemmas.Bool.{leb-true, leb-false}
 use Rattle.hz_base_model.specs.Limits.{advance_limit}
 use Rattle.hz_base_model.specs.Lines.{lines_of}
 use Rattle.hz_acceptance_model.specs.Events.{Event, issue, advance, cycles_of}
@@ -183,10 +182,6 @@ low_after advanced (says (advance n)) event low h = by_test (nat_le (advanced + 
     by_test true e h = let same : Some (advance n) ≡ event = cc in subst (λ e. advanced + cycles_in e ≤ advance_limit) same (leb-true (advanced + n) advance_limit e)
     by_test false e h = absurd (cc)
 low_after advanced (wrong w) event low h = absurd (cc)
-
-pub no_lines : (rest : List ℕ) → (length rest == 0) ≡ true → lines_of rest ≡ []
-no_lines [] h = refl
-no_lines (b ∷ bs) h = absurd (let none = eqb-true (length (b ∷ bs)) 0 h in omega (arith, none))
 
 pub placed_events : (items : List ReadEvent) → map (λ (p : Placed). p.0) (placed_in items) ≡ events_in items
 placed_events [] = refl

@@ -84,11 +84,6 @@ abbrev mutual
   sizes none = 0
   sizes (more first others) = size first + sizes others + 1
 
--- the operands of a list are smaller
-pub head_size : (form : Tree) (word : List ℕ) (operands : Trees) → Some (word, operands) ≡ head_of form → sizes operands < size form
-head_size (list line (more (atom at w) os)) word operands h = let same = some_pair (word, operands) (w, os) h in let e = ap (λ (p : List ℕ × Trees). sizes p.1) same in omega (arith, e)
-head_size _ word operands h = absurd (cc)
-
 -- and so is each form of several
 pub place_size : (forms : List Form) (i : ℕ) (form : Form) → i < length forms → form ≡ get_or forms i form → size (tree form) < sizes (trees forms)
 place_size [] i form inside is = absurd (omega arith)

@@ -40,9 +40,6 @@ module _ (forms : List Form) (i : ℕ) (form : Form) (inside : i < length forms)
       → model.instructions_after [] (trees forms) ≡ Err fault
   instruction_wrong before fault so e = sym so ∙ (instructions_step before ∙ ap (λ (judged : Judged Instruction). and_then judged (λ a. model.instructions_after (before ++ a ∷ []) (trees (drop (i + 1) forms)))) e)
 
-pub attributes_end : (forms : List Form) (i : ℕ) (given : List (List ℕ × List ℕ)) → length forms ≤ i → model.attributes_after given (trees (drop i forms)) ≡ model.attributes_after [] (trees forms) → model.attributes_after [] (trees forms) ≡ Ok given
-attributes_end forms i given past so = sym so ∙ ap (λ (fs : List Form). model.attributes_after given (trees fs)) (drop_all i forms past)
-
 pub instructions_end : (forms : List Form) (i : ℕ) (before : List Instruction) → length forms ≤ i → model.instructions_after before (trees (drop i forms)) ≡ model.instructions_after [] (trees forms) → model.instructions_after [] (trees forms) ≡ Ok before
 instructions_end forms i before past so = sym so ∙ ap (λ (fs : List Form). model.instructions_after before (trees fs)) (drop_all i forms past)
 

@@ -1,21 +1,13 @@
 -- The trace of one more slot.
-use Rattle.std.proofs.Common.{◌≡◌, ℕ, zero, suc, ◌+◌, ◌<◌, List, [], ◌∷◌, ◌++◌, map, length, get_or, sym, ap, ◌∙◌, append_assoc, arith}
+use Rattle.std.proofs.Common.{◌≡◌, ℕ, zero, suc, ◌+◌, ◌<◌, List, [], ◌∷◌, ◌++◌, map, length, get_or, sym, ap, ◌∙◌, arith}
 use Rattle.std.specs.Prelude.{slice_index}
 use Rattle.std.specs.List.{range_with_len}
 use Rattle.std.proofs.lemmas.List.{map-append, length-append, length-map, get_or-map}
 use Rattle.hz_depend.specs.declared.parts.GraphInsn.{GraphInsn}
 use Rattle.hz_replay.specs.declared.event.Event as trace
 use Rattle.hz_sched.specs.Shape.{node_of, AreNumbered}
-use Rattle.hz_acceptance_model.specs.Events.{Event, issue}
-use Rattle.hz_sched_model.specs.Schedules.{Node, Graph, Slot, class_at, advance_to, spelled}
-
--- the trace so far, with that of the slots that are left, is that of all
-pub spelled_next : (g : Graph) (done advanced issued all : List Event) (cycle : ℕ) (x : Slot) (rest : List Slot) → advanced ≡ done ++ advance_to cycle x.cycle → issued ≡ advanced ++ issue (class_at g x.place) ∷ []
-    → done ++ spelled g cycle (x ∷ rest) ≡ all → issued ++ spelled g x.cycle rest ≡ all
-spelled_next g done advanced issued all cycle x rest first then was =
-    ap (λ (t : List Event). t ++ spelled g x.cycle rest) (then ∙ ap (λ (t : List Event). t ++ issue (class_at g x.place) ∷ []) first)
-    ∙ (append_assoc (done ++ advance_to cycle x.cycle) (issue (class_at g x.place) ∷ []) (spelled g x.cycle rest)
-    ∙ (append_assoc done (advance_to cycle x.cycle) (issue (class_at g x.place) ∷ spelled g x.cycle rest) ∙ was))
+use Rattle.hz_acceptance_model.specs.Events.{Event}
+use Rattle.hz_sched_model.specs.Schedules.{Node}
 
 -- ---- lines
 

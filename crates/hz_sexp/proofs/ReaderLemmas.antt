@@ -2,7 +2,7 @@
 use Rattle.std.proofs.Common.{◌≡◌, ℕ, List, [], ◌∷◌, ◌++◌, refl, ap, ◌∙◌, None}
 use Rattle.std.specs.Prelude.{nat_lt, IsFalse, length}
 use Rattle.std.proofs.lemmas.List.{reverse-append}
-use Rattle.hz_sexp_model.specs.Trees.{Tree, Trees}
+use Rattle.hz_sexp_model.specs.Trees.{Trees}
 use Rattle.hz_sexp_model.specs.Forms.{Bracket, OpenBracket, Token, opens, closes, leaf, spelled_tree, closed, depth_limit, Step, FormFault, too_deep, stray, FaultAt, Faulty}
 use Rattle.hz_sexp_model.specs.FormFronts.{front, push, enclosed_by}
 use Rattle.hz_sexp_model.proofs.FormsFront.{front-push, front-close, same_is, Front, front_on}
@@ -74,11 +74,6 @@ refused_wrong {text} {rest} {line} {last} reader token step e h = tells_weaker {
     go (Open bracket) s fault place told = rw (told.0, told.1) (open_wrong (opened_in reader) s told.2)
     go (Close bracket) s fault place told = rw (told.0, told.1) (close_wrong (opened_in reader) s told.2)
     go (Leaf form) s fault place told = absurd told
-
-leaf_simple : {line last : ℕ} {text rest : List ℕ} {t : Tree} → Step line text (leaf t ∷ []) last rest → spelled_tree t ≡ leaf t ∷ []
-leaf_simple (Step.word w e) = refl
-leaf_simple (Step.numeral w e h) = refl
-leaf_simple (Step.string e part) = refl
 
 -- a bracket that is open at the end is what is wrong there
 pub open_at_end : (reader : Reader) (line : ℕ) (e : SexpFault) → Tells (IsOpen reader) e → Tells (Faulty (opened_in reader) line []) e

@@ -130,13 +130,6 @@ module _ (columns states : ℕ) (front : List (Option ℕ)) (rest : Option (Bor 
       ended zero = refl
       ended (suc n) = refl
 
-pub cells_start : (n states : ℕ) (fields : List (List ℕ)) → behind [] (entries_of n states fields) ≡ entries_of n states fields
-cells_start n states fields = starts (entries_of n states fields)
-  where
-    starts : (found : Result (List (Option ℕ)) Kind) → behind [] found ≡ found
-    starts (Ok ys) = refl
-    starts (Err kind) = refl
-
 -- ---- the cycles of a grid
 
 cycle_goes : (field : List ℕ) (fields : List (List ℕ)) (cycle : ℕ) → cycle_in field ≡ Ok cycle → cycles_in (field ∷ fields) ≡ cycles_in fields

@@ -56,10 +56,6 @@ pub count_ends : (n : ℕ) → counted_on n (counted []) ≡ Some n
 unfolding counted
 count_ends n = ap Some (omega arith)
 
-pub counted_from : (count : Option ℕ) → counted_on 0 count ≡ count
-counted_from None = refl
-counted_from (Some n) = ap Some (omega arith)
-
 -- what stands behind a piece is shorter than the text
 pub left_after : (after : Option (Bor (List ℕ))) (piece text : List ℕ) → IfSome after (λ rest. length piece + 1 + length rest.now ≡ length text) → left after ≤ length text
 left_after None piece text h = omega arith

@@ -1,5 +1,5 @@
 -- Lines that are spelled from fields are cut into these fields, and texts into these lines.
-use Rattle.std.proofs.Common.{◌≡◌, ℕ, ◌^◌, ◌<◌, ◌≤◌, Bool, true, false, cond, not, nat_lt, nat_le, List, [], ◌∷◌, ◌++◌, map, length, Ok, All, refl, sym, ap, ◌∙◌, arith, append_assoc, decimal}
+use Rattle.std.proofs.Common.{◌≡◌, ℕ, ◌^◌, ◌<◌, ◌≤◌, Bool, true, false, cond, not, nat_lt, nat_le, List, [], ◌∷◌, ◌++◌, map, Ok, All, refl, sym, ap, ◌∙◌, arith, append_assoc, decimal}
 use Rattle.std.specs.Prelude.{◌==◌, ◌&&◌}
 use Rattle.std.specs.Char.{is_ascii_digit}
 use Rattle.std.specs.List.{list_all, join_with_byte, onto_first, flat_map}
@@ -43,10 +43,6 @@ visible_name_byte b h =
 pub name_is_field : (name : List ℕ) → is_name name ≡ true → is_field name ≡ true
 name_is_field [] h = absurd (cc)
 name_is_field (b ∷ bs) h = list_all_weaker is_name_byte is_visible visible_name_byte (b ∷ bs) h
-
-some_visible : (field : List ℕ) → 0 < length field → list_all is_visible field ≡ true → is_field field ≡ true
-some_visible [] some h = absurd (omega arith)
-some_visible (b ∷ bs) some h = h
 
 pub visible_decimal : (n : ℕ) → n < 2 ^ 64 → list_all is_visible (decimal n) ≡ true
 visible_decimal n lt = list_all_weaker is_ascii_digit is_visible visible_digit (decimal n) (digits_of_decimal n lt)

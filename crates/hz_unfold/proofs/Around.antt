@@ -5,7 +5,7 @@ use Rattle.std.proofs.lemmas.List.{get_or_past, get_or-replicate, length-replica
 use Rattle.hz_base_model.proofs.Elements.{Contains-nil, Contains-head, Contains-tail, Contains-cons_cases}
 use Rattle.hz_unfold.specs.declared.circle.Lead.{Lead}
 use Rattle.hz_unfold.specs.declared.circle.Lead.TheVariants.{Nowhere, Straight, Around}
-use Rattle.hz_unfold.specs.Circles.{Knowledge, IsTurned, IsFirstWith, lead_of, lead_now, is_taken, unknown, IsReady, Takes}
+use Rattle.hz_unfold.specs.Circles.{Knowledge, IsTurned, IsFirstWith, lead_of, lead_now, is_taken, IsReady, Takes}
 use Rattle.hz_unfold.specs.Graphs.{At, IsOnce, Path, last, onward, Spans, AreInside, ends_in}
 use Rattle.hz_unfold.proofs.Finding.{lead_cases}
 use Rattle.hz_unfold.proofs.Paths.{path_join, path_push}
@@ -83,18 +83,6 @@ copied count node x = ⊎_elim
     (λ (h : node < count). get_or-replicate count node x x h)
     (λ (h : count ≤ node). get_or_past (replicate count x) node x (omega (arith, length-replicate count x)))
     (cases_lt node count)
-
-pub known_of_none : (edges starts : List (List ℕ)) (count : ℕ) → IsKnownOf edges starts count [] (unknown count)
-known_of_none edges starts count = record {
-  size = length-replicate count Nowhere;
-  takings = length-replicate count false;
-  taken = λ node h. let e : false ≡ true = sym (copied count node false) ∙ h in absurd (cc);
-  all = λ node h. absurd (Contains-nil node h);
-  nowhere = λ node to h none. absurd (Contains-nil to none);
-  straight = λ node h. let e : Nowhere ≡ Straight = sym (copied count node Nowhere) ∙ h in absurd (cc);
-  around = λ node h. let e : Nowhere ≡ Around = sym (copied count node Nowhere) ∙ h in absurd (cc);
-  ready = record { closed = λ node start h. absurd (h (copied count node Nowhere)); rest = refl };
-}
 
 -- One more node is taken.
 module _ (edges starts : List (List ℕ)) (turned : IsTurned edges starts) (count : ℕ) (order front : List ℕ) (node : ℕ) (back : List ℕ) (is : order ≡ front ++ node ∷ back) (once : IsOnce order) (spans : Spans (ends_in edges) order)

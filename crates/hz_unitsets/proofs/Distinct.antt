@@ -1,6 +1,6 @@
 -- Equal statements stand once.
 use denote.Enum.Bare.{sameb, same_true}
-use Rattle.std.proofs.Common.{◌≡◌, ◌≢◌, inl, inr, ℕ, ◌+◌, ◌<◌, Bool, true, false, true≢false, List, [], ◌∷◌, ◌++◌, length, get_or, map, take, All, Contains, refl, sym, ap, ◌∙◌, subst, if◌then◌else◌, ⊎_elim, arith, rules}
+use Rattle.std.proofs.Common.{◌≡◌, ◌≢◌, inl, inr, ℕ, ◌+◌, ◌<◌, Bool, true, false, true≢false, List, [], ◌∷◌, ◌++◌, length, get_or, map, take, All, Contains, refl, sym, ap, ◌∙◌, subst, if◌then◌else◌, ⊎_elim, rules}
 use Rattle.std.specs.Prelude.{◌==◌}
 use Rattle.std.specs.List.{AllPairs, list_any}
 use Rattle.std.specs.Bool.{Decides}
@@ -122,13 +122,6 @@ pub record AreRulesOf (sets : List SetRule) (rules : List Rule) : Type 0 where
   pub bounded : All IsBounded rules
   pub same : AreSame (map statement_in rules) (map ordered (map statement_of sets))
   pub once : AllPairs (λ one other. one ≢ other) (map statement_in rules)
-
-pub no_rules : AreRulesOf [] []
-no_rules = record {
-  bounded = λ k d within. absurd (omega (arith, within));
-  same = record { there = λ s h. h; back = λ s h. h };
-  once = λ i j d _ within. absurd (omega (arith, within));
-}
 
 -- one more item
 module _ (old new others : List (Statement ℕ)) (s other : Statement ℕ) (is : IsKept old s new) (e : s ≡ other) where

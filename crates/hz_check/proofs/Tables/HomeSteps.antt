@@ -1,5 +1,5 @@
 -- The automata of units, by their forms.
-use Rattle.std.proofs.Common.{◌≡◌, ℕ, ◌+◌, ◌<◌, ◌≤◌, List, [], ◌∷◌, ◌++◌, length, map, take, get_or, Contains, Option, Some, None, IsTrue, refl, sym, ap, ◌∙◌, subst, arith, ⊎_elim, ◌⊎◌, inl, inr}
+use Rattle.std.proofs.Common.{◌≡◌, ℕ, ◌+◌, ◌<◌, ◌≤◌, List, [], ◌∷◌, ◌++◌, length, map, take, get_or, Contains, Option, Some, IsTrue, refl, sym, ap, ◌∙◌, subst, arith, ⊎_elim, ◌⊎◌, inl, inr}
 use Rattle.std.specs.Prelude.{is_some}
 use Rattle.std.specs.List.{AllPairs}
 use Rattle.std.specs.Ordering.{nat_cmp, is_eq}
@@ -79,14 +79,6 @@ module _ (d : Description) (shared : AllPairs SharesAutomaton d.units) (homes : 
         (Contains-push_cases before u v within))
         (put_home homes new u.form home updates v.form);
   }
-
--- where all units are seen, all are held
-pub all_homes : (d : Description) (homes : BTreeMap ℕ (Option ℕ)) → HoldsHomes d homes d.units → (u : UnitItem) → Contains d.units u → get nat_cmp homes u.form ≡ Some (automaton_place d u.automaton)
-all_homes d homes h u inside = go (get nat_cmp homes u.form) refl (h.all u inside)
-  where
-    go : (o : Option (Option ℕ)) → get nat_cmp homes u.form ≡ o → IsTrue (is_some o) → get nat_cmp homes u.form ≡ Some (automaton_place d u.automaton)
-    go (Some place) held some = held ∙ ap Some (h.right u place inside held)
-    go None held some = absurd (cc)
 
 -- the units of the code
 pub units_more : (items : List StoredUnit) (i : ℕ) (item : StoredUnit) → i < length items → item ≡ get_or items i item → map unit_item (take (i + 1) items) ≡ map unit_item (take i items) ++ unit_item item ∷ []

@@ -50,11 +50,6 @@ strangers-of d first (n ∷ names) is =
     ap (λ (m : List ℕ). filter (λ name. not (same_home (home d name) (home d m))) (n ∷ names)) same
     ∙ ap (λ (b : Bool). cond b (n ∷ filter (λ name. not (same_home (home d name) (home d n))) names) (filter (λ name. not (same_home (home d name) (home d n))) names)) own
 
--- no names have no strangers
-pub no_strangers : (d : Description) (names : List (List ℕ)) → None ≡ first_of names → strangers d names ≡ []
-no_strangers d [] is = refl
-no_strangers d (n ∷ names) is = absurd (cc)
-
 at_more : {A : Type 0} (b : Bool) (x : A) (xs : List A) (o : Option ℕ) (rest : Option A) → rest ≡ option_and_then (slice_get xs) o → cond b (Some x) rest ≡ option_and_then (slice_get (x ∷ xs)) (cond b (Some 0) (option_map suc o))
 at_more true x xs o rest e = refl
 at_more false x xs None rest e = e

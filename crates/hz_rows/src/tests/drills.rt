@@ -2,7 +2,7 @@
 
 use super::automata::late_text;
 use super::failures::is_usage;
-use super::tables::{ANY, EITHER, SHOWN};
+use super::tables::{ANY, EITHER, IN_TURN, SHOWN};
 use super::{LATE, NEVER, ROOM, expect, files_of};
 use hz_replay::{Event, What, drill};
 use hz_tabfile::read_tables;
@@ -20,9 +20,8 @@ const SIDE_BY_SIDE: &[u8] =
 /// Descriptions, each with the words behind it, the status and the text. The draws from 1 are 16838, 5758, 10113, 17515, 31051,
 /// 5627, 23010 and 7419, of two classes x, x, y, y, y, y, x and y.
 const DRILL_ROWS: &[(&[u8], &str, &str, u8, &[u8])] = &[
-    // three automata, of which the last two are taken later
     (
-        b"(define_automaton \"l,m,n\")\n(define_cpu_unit \"a\" \"l\")\n(define_cpu_unit \"b\" \"m\")\n(define_cpu_unit \"c\" \"n\")\n(define_insn_reservation \"x\" 1 (const_int 1) \"a,b,c\")\n",
+        IN_TURN,
         "1",
         "3",
         0,

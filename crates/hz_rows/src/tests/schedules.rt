@@ -3,6 +3,7 @@
 ghost use Rattle.std.specs.Prelude.{◌≡◌, IfOk};
 
 use super::automata::late_text;
+use super::tables::IN_TURN;
 use super::{NEVER, expect, name_of, numbered, replays, unpacked, words_of};
 use hz_io::{MemFiles, MemSink};
 use hz_tool::run;
@@ -40,9 +41,8 @@ const SELDOM: &[u8] =
 
 /// Blocks, each with its description, and the status and the text of its schedule.
 const SCHEDULE_ROWS: &[(&[u8], &[u8], u8, &[u8])] = &[
-    // three automata, of which the last two are taken later
     (
-        b"(define_automaton \"l,m,n\")\n(define_cpu_unit \"a\" \"l\")\n(define_cpu_unit \"b\" \"m\")\n(define_cpu_unit \"c\" \"n\")\n(define_insn_reservation \"x\" 1 (const_int 1) \"a,b,c\")\n",
+        IN_TURN,
         b"(insn 1 (set (reg 1) (neg (reg 1))))\n(insn 2 (set (reg 2) (neg (reg 4))))\n",
         0,
         b"0 1 x\n1 2 x\nscheduled 2 insns 1 cycles\n",

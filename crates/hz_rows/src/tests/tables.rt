@@ -16,6 +16,10 @@ pub const EITHER: &[u8] =
 pub const ANY: &[u8] =
     b"(automata_option \"ndfa\")\n(define_cpu_unit \"a,b\")\n(define_insn_reservation \"x\" 1 (const_int 1) \"a|b\")\n(define_insn_reservation \"y\" 1 (const_int 1) \"a\")\n";
 
+/// Three automata, the last two taken later: a class takes a unit of each, one after the other.
+pub const IN_TURN: &[u8] =
+    b"(define_automaton \"l,m,n\")\n(define_cpu_unit \"a\" \"l\")\n(define_cpu_unit \"b\" \"m\")\n(define_cpu_unit \"c\" \"n\")\n(define_insn_reservation \"x\" 1 (const_int 1) \"a,b,c\")\n";
+
 /// The class that takes a unit one cycle after its issue, with each state as it was found, what it is, and the counts.
 pub const SHOWN: &[u8] =
     b"(automata_option \"no-minimization,v,stats\")\n(define_cpu_unit \"a\")\n(define_insn_reservation \"x\" 1 (const_int 1) \"nothing,a\")\n";
@@ -62,9 +66,8 @@ const COMPILE_ROWS: &[(&[u8], u8, &[u8])] = &[
         0,
         b"hazard-tables 1\ntreatment first\nclasses 3\nclass x\nclass y\nclass z\nautomata 2\nautomaton m 1 2\nmap 0 0 0\nrow 1 0\nrow - 0\nautomaton n 2 2\nmap 0 1 0\nrow 0 1 0\nrow 1 - 0\nend\n",
     ),
-    // three automata, of which the last two are taken later
     (
-        b"(define_automaton \"l,m,n\")\n(define_cpu_unit \"a\" \"l\")\n(define_cpu_unit \"b\" \"m\")\n(define_cpu_unit \"c\" \"n\")\n(define_insn_reservation \"x\" 1 (const_int 1) \"a,b,c\")\n",
+        IN_TURN,
         0,
         b"hazard-tables 1\ntreatment first\nclasses 1\nclass x\nautomata 3\nautomaton l 1 2\nmap 0\nrow 1 0\nrow - 0\nautomaton m 1 2\nmap 0\nrow 1 0\nrow - 0\nautomaton n 1 2\nmap 0\nrow 1 0\nrow - 0\nend\n",
     ),
