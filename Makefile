@@ -8,6 +8,14 @@ crates := $(shell sed -n 's/^\(hz[a-z_]*\):.*/\1/p' crates.txt)
 # crates of tests alone; the program stands on none of them
 rows := hz_rows hz_check_rows hz_sched_rows hz_text_rows hz_table_rows
 lower := $(filter-out hz $(rows),$(crates))
+# what is begun first: the longest chain of crates leads through it
+first := hz_check
+# how many crates are built beside each other: as many as there are processors, each with 4 GB of memory
+processors := $(shell nproc)
+beside := $(shell awk -v most=$(processors) '/^MemAvailable/ { room = int($$2 / 4000000) } END { print room < 1 ? 1 : room < most ? room : most }' /proc/meminfo)
+ifeq ($(filter -j%,$(MAKEFLAGS)),)
+MAKEFLAGS += -j$(beside)
+endif
 
 .PHONY: all try test examples check-walk check-memory check-gcc bench install uninstall clean
 
@@ -22,24 +30,24 @@ bin/built:
 	@mkdir -p bin/built
 	@echo "hz: proving and building $(words $(lower)) crates and the program; bin/built has what the prover says of each"
 
-# Each crate is proved and built behind those that it stands on; bin/built/CRATE.log has what the prover says. They come one after the
-# other: `rt lib` uses the processors that there are, and keeps the crates below to itself.
+# Each crate is proved and built behind those that it stands on; bin/built/CRATE.log has what the prover says. tools/build_crate.sh says how
+# they come beside each other.
 define crate
 bin/built/$(1): $(call sources,$(1)) $(addprefix bin/built/,$(call needs,$(1))) | bin/built
-	@cd crates/$(1) && rt lib > ../../bin/built/$(1).log 2>&1 || { tail -n 20 ../../bin/built/$(1).log; exit 1; }
+	@sh tools/build_crate.sh $(1) $(beside) > bin/built/$(1).log 2>&1 || { tail -n 20 bin/built/$(1).log; exit 1; }
 	@touch $$@
 	@echo "hz: $(1), $$$$(ls bin/built | grep -vc '[.]log$$$$') of $(words $(lower))"
 endef
 $(foreach each,$(lower),$(eval $(call crate,$(each))))
 
-bin/hz: $(call sources,hz) $(addprefix bin/built/,$(call needs,hz))
+# `rt run` takes what it stands on from the copies, which then go
+bin/hz: $(call sources,hz) $(addprefix bin/built/,$(first) $(call needs,hz))
 	@{ cd crates/hz && rt run -- replay ../../examples/divider/machine.md ../../examples/divider/spaced.trace 2>&1; echo "status $$?"; } > bin/built/hz.log
 	@grep -q '^status 0$$' bin/built/hz.log || { tail -n 20 bin/built/hz.log; exit 1; }
 	@grep '^accepted' bin/built/hz.log
 	@cp crates/hz/out/hz bin/hz
+	@rm -rf bin/copies
 	@echo "hz: built bin/hz"
-
-.NOTPARALLEL:
 
 # an example at once, interpreted: nothing is proved and nothing built
 try:

@@ -1,0 +1,34 @@
+#!/bin/sh
+# build_crate.sh CRATE COPIES: proves and builds a crate as a library. `rt lib` keeps the crates below to itself, so in one folder crates
+# come one after the other. So a crate is built in the first of COPIES copies of the repository, bin/copies/1 and on, in which no other is;
+# what one copy has built of the same text the others take from it. While another crate is built too, this one has two processors.
+crate=$1
+copies=$2
+
+# (without flock there are no copies: `rt` has each crate wait for the others)
+if ! command -v flock > /dev/null; then
+    cd "crates/$crate" || exit 2
+    exec rt lib
+fi
+mkdir -p bin/copies || exit 2
+
+copy=1
+exec 9> bin/copies/1.lock
+until flock -n 9; do
+    [ "$copy" != "$copies" ] || sleep 1
+    copy=$((copy % copies + 1))
+    exec 9> "bin/copies/$copy.lock"
+done
+
+jobs=
+for other in $(seq 1 "$copies"); do
+    [ "$other" = "$copy" ] || flock -n "bin/copies/$other.lock" true || jobs="--jobs 2"
+done
+
+mkdir -p "bin/copies/$copy" || exit 2
+rm -rf bin/copies/"$copy"/crates/*/src bin/copies/"$copy"/crates/*/specs bin/copies/"$copy"/crates/*/proofs
+tar -cf - --exclude=out --exclude=must-fail crates.txt crates | tar -xf - -C "bin/copies/$copy" || exit 2
+cd "bin/copies/$copy/crates/$crate" || exit 2
+# (the copy is free once this shell ends, whatever a process that `rt` leaves behind still holds)
+rt lib $jobs 9>&-
+exit $?
