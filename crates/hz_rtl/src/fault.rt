@@ -6,7 +6,8 @@ ghost use Rattle.hz_rtl.specs.declared.fault.RtlFault.TheVariants.{NoMemory as n
 use std::alloc::{AllocError, AllocFailed};
 use thiserror::Error;
 
-/// What is wrong with a block or a state, and the line of the innermost form that is wrong, counted from 1.
+/// What is wrong with a block or a state, and the line of the innermost form that is wrong, counted from 1; of an
+/// instruction number that stands twice, that of its `insn`.
 #[derive(Clone, Copy, Debug, PartialEq, Eq, Error)]
 pub enum RtlFault {
     /// A form of another shape, or the number of an instruction out of range.

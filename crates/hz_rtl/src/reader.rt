@@ -143,8 +143,8 @@ fn next_insn(alloc: Global, before: &[Insn], form: &Form) -> Result<Insn, RtlFau
 
 /// The block that forms are, at most 4,096 instructions of different numbers. Forms are judged in their order; in a list first
 /// the word that it begins with, then the number of its operands, then each of them from left to right. The first that is
-/// wrong decides which fault is told, at the line of the innermost form that is wrong; `NoMemory` where there was none.
-/// This profile, docs/RULES.md, 'Blocks'.
+/// wrong decides which fault is told, at the line of the innermost form that is wrong, and an instruction number that stands
+/// twice at that of its `insn`; `NoMemory` where there was none. This profile, docs/RULES.md, 'Blocks'.
 pub fn read_block(alloc: Global, forms: &[Form]) -> Result<Block, RtlFault>
     ensures reads { IfOk result (λ block. model.Reads (trees forms.now) (instructions block)) }
     ensures few { IfOk result (λ block. length block.insns.items ≤ model.instruction_limit) }
