@@ -1,7 +1,9 @@
 -- Traces that are judged, and how many events they have.
-use Rattle.std.proofs.Common.{◌≡◌, ℕ, ◌+◌, ◌≤◌, Bool, true, false, cond, List, [], ◌∷◌, length, inl, inr, refl, ap, ◌∙◌, arith, MatchOption}
+use Rattle.std.proofs.Common.{◌≡◌, ℕ, ◌+◌, ◌<◌, ◌≤◌, Bool, true, false, cond, List, [], ◌∷◌, length, get_or, Some, slice_get, inl, inr, refl, ap, ◌∙◌, arith, MatchOption}
 use Rattle.std.specs.Prelude.{◌==◌}
+use Rattle.std.specs.Option.{option_map}
 use Rattle.std.proofs.lemmas.List.{length-map}
+use Rattle.std.proofs.lemmas.Option.{slice_get-map, slice_get-get_or}
 use Rattle.hz_acceptance_model.specs.Events.{Event}
 use Rattle.hz_answer_model.specs.Phases.{Traces}
 use Rattle.hz_answer_model.specs.FaultTexts.{trace_word}
@@ -10,7 +12,8 @@ use Rattle.std.specs.List.{onto_first}
 use Rattle.hz_base_model.specs.Lines.{lines_of}
 use Rattle.hz_replay.specs.declared.event.Event.{Event as Placed}
 use Rattle.hz_replay.specs.declared.event.What.TheVariants.{Issue}
-use Rattle.hz_replay.specs.Traces.{lines_in}
+use Rattle.hz_replay.specs.Lines.{event_of}
+use Rattle.hz_replay.specs.Traces.{events_in, lines_in}
 use Rattle.hz_trace_model.specs.Traces.{Trace, TraceFault, TraceFaultAt, Line, line_says, event_lines, numbered}
 use Rattle.hz_trace_model.specs.Traces as trace
 use Rattle.hz_tool.proofs.AnswerLemmas.{agrees_weaker}
@@ -40,9 +43,19 @@ trace_refused classes name text next _ h = absurd h
 pub trace_replayed : (classes : List (List ℕ)) (name text : List ℕ) (events : List Event) (next : List Event → ℕ → List ℕ → Type 0) (report : Report) → Trace classes text events → Agrees (next events) report → Agrees (Traces classes name text next) report
 trace_replayed classes name text events next report is h = agrees_weaker (next events) (Traces classes name text next) (λ s t a. inl (events, is, a)) report h
 
+-- the line of an event
+pub line_there : (events : List Placed) (i : ℕ) (e : Placed) → i < length events → slice_get (lines_in events) i ≡ Some (get_or events i e).line
+line_there events i e within =
+    slice_get-map (λ (e : Placed). e.line) events i ∙ ap (option_map (λ (e : Placed). e.line)) (slice_get-get_or events i e within)
+
 -- an event, read where there is none
 abbrev pub some_event : Placed
 some_event = record { line = 0; what = Issue 0 }
+
+-- the event at a place
+pub event_there : (events : List Placed) (i : ℕ) (e : Placed) → i < length events → slice_get (events_in events) i ≡ Some (event_of (get_or events i e).what)
+event_there events i e within =
+    slice_get-map (λ (e : Placed). event_of e.what) events i ∙ ap (option_map (λ (e : Placed). event_of e.what)) (slice_get-get_or events i e within)
 
 -- A text has no more lines than bytes.
 onto_few : (b : ℕ) (lines : List (List ℕ)) (n : ℕ) → length lines ≤ n → length (onto_first b lines) ≤ n + 1
