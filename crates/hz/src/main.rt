@@ -3,8 +3,10 @@
 
 ghost use Rattle.std.specs.Prelude.{◌≡◌, ◌↔◌, [], IsNone, IfSome};
 
+mod behind;
 mod real;
 
+use behind::Behind;
 use hz_tool::run;
 use real::{RealFiles, RealSink};
 use std::alloc::Global;
@@ -28,8 +30,8 @@ fn words_without(alloc: Global, reason: ErrorKind) -> Option<Vec<String>>
 /// The words behind the program's own name. Words that are no text are taken as no words at all, and None is want of
 /// memory.
 fn words<R: Env + AllocGlobal>(rt: &R) -> Option<Vec<String>> {
-    match env::args(rt) {
-        Ok(args) => args.skip(1).collect(rt.alloc()).ok(),
+    match env::args(&Behind { rt }) {
+        Ok(args) => args.collect(rt.alloc()).ok(),
         Err(error) => words_without(rt.alloc(), error.kind()),
     }
 }
