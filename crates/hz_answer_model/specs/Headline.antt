@@ -1,5 +1,5 @@
 -- What is written of a schedule, of tables and of a drill, and what `replay` and `walk` answer of them, in the words of the promise: README.md.
-use Rattle.std.specs.Prelude.{◌≡◌, ◌↔◌, ℕ, ◌≤◌, false, List, length, Some}
+use Rattle.std.specs.Prelude.{◌≡◌, ◌↔◌, ℕ, ◌≤◌, ◌<◌, false, List, length, Some}
 use Rattle.hz_sexp_model.specs.Trees.{Trees}
 use Rattle.hz_sexp_model.specs.Forms as forms
 use Rattle.hz_mdread_model.specs.Descriptions.{Description}
@@ -39,7 +39,7 @@ pub record IsBlockIn (bytes : List ℕ) (block : List Instruction) : Type 0 wher
   pub says : blocks.Reads read block
 
 -- The text is that of a schedule of the block by the description: it has the block's instructions each once, every latency and
--- bypass is kept, the description accepts their trace, which has no more advances than a trace may have, and their order leaves from
+-- bypass is kept, the description accepts their trace, which has fewer advances than a trace may have, and their order leaves from
 -- every state what the order of the source leaves.
 pub record WritesSchedule (held : Held) (description block : List ℕ) (text : List ℕ) : Type 0 where
   pub described : List ℕ
@@ -55,7 +55,7 @@ pub record WritesSchedule (held : Held) (description block : List ℕ) (text : L
   pub slots : List Slot
   pub graph : IsGraphOf d insns g
   pub keeps : KeepsBlock d known insns g slots
-  pub short : cycles_of (spell g slots) ≤ advance_limit
+  pub short : cycles_of (spell g slots) < advance_limit
   pub text_is : text ≡ schedule_text d insns g slots
 
 -- `replay` accepts the trace of slots, by whatever text it is given: where the same description is held, and a text that is not too
