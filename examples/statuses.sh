@@ -315,6 +315,13 @@ expect 4 "$usage" replay -d t
 expect 4 "$usage" compile d "$(printf '\377')"
 expect 4 "$usage" replay d "$(printf '\377')"
 expect 4 "$usage" replay d t "$(printf '\377')"
+# the program's own name is no word
+mkdir "$(printf '\377')"
+cp "$hz" "$(printf '\377')"
+text=$("./$(printf '\377')/${hz##*/}" replay d t 2> errors; ended=$?; echo .; exit $ended)
+status=$?
+text=${text%.}
+ends 0 'accepted 2 issues 1 cycles' replay d t
 expect 4 "$usage" walk k
 expect 4 "$usage" walk k t more
 expect 4 "$usage" walk k --trace
