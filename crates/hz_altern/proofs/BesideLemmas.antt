@@ -249,14 +249,14 @@ module _ (known : Known) where
       })
 
       -- what is refused of the others is refused of the parts so far
-      pub refused_more : (fault : AlternFault) → Refuses (joins others (map listed xs)) fault → Refuses (map listed (of (nothing ∷ (es ++ e ∷ [])))) fault
-      refused_more = refuses_larger (joins others (map listed xs)) (map listed (of (nothing ∷ (es ++ e ∷ [])))) (subst (λ ws. total_weight (joins others (map listed xs)) ≤ total_weight ws) (sym joined_more)
+      pub refused_more : (most : ℕ) (fault : AlternFault) → Refuses most (joins others (map listed xs)) fault → Refuses most (map listed (of (nothing ∷ (es ++ e ∷ [])))) fault
+      refused_more most = refuses_larger most (joins others (map listed xs)) (map listed (of (nothing ∷ (es ++ e ∷ [])))) (subst (λ ws. total_weight (joins others (map listed xs)) ≤ total_weight ws) (sym joined_more)
           (seconds_weigh Together (listed (whole before.pairs cycles) ∷ []) (joins others (map listed xs))
           (All-cons IsListed _ [] (IsListed-listed _ before.is_placed) (All-nil IsListed)) listed_both (omega arith)))
 
       -- what is refused of the part is refused of the parts so far
-      pub refused_part : (fault : AlternFault) → Refuses (map listed xs) fault → Refuses (map listed (of (nothing ∷ (es ++ e ∷ [])))) fault
-      refused_part fault refusal = refused_more fault (refuses_larger (map listed xs) (joins others (map listed xs)) (seconds_weigh Together others (map listed xs) before.are_listed listed_more before.some) fault refusal)
+      pub refused_part : (most : ℕ) (fault : AlternFault) → Refuses most (map listed xs) fault → Refuses most (map listed (of (nothing ∷ (es ++ e ∷ [])))) fault
+      refused_part most fault refusal = refused_more most fault (refuses_larger most (map listed xs) (joins others (map listed xs)) (seconds_weigh Together others (map listed xs) before.are_listed listed_more before.some) fault refusal)
 
   -- ---- all parts
 
@@ -267,17 +267,17 @@ module _ (known : Known) where
 
   -- what is refused of the first parts is refused of all
   pub refused_front : (es fs : List Expression) → 0 < length (es ++ fs) → IsTrue (are_expressions (parts_of (es ++ fs))) → IsTrue (all_names_in (is_held (alternatives_in known)) (parts_of (es ++ fs)))
-      → (fault : AlternFault) → Refuses (map listed (of (nothing ∷ es))) fault → Refuses (map listed (of (es ++ fs))) fault
-  refused_front es [] some formed held fault refusal =
-      subst (λ ws. Refuses ws fault) (ap (λ (gs : List Expression). map listed (of (nothing ∷ gs))) (sym (append-nil es)) ∙ with_nothing (es ++ []) some formed) refusal
-  refused_front es (f ∷ fs) some formed held fault refusal =
+      → (most : ℕ) (fault : AlternFault) → Refuses most (map listed (of (nothing ∷ es))) fault → Refuses most (map listed (of (es ++ fs))) fault
+  refused_front es [] some formed held most fault refusal =
+      subst (λ ws. Refuses most ws fault) (ap (λ (gs : List Expression). map listed (of (nothing ∷ gs))) (sym (append-nil es)) ∙ with_nothing (es ++ []) some formed) refusal
+  refused_front es (f ∷ fs) some formed held most fault refusal =
       let parts = are_expressions-append es (f ∷ fs) formed in
       let names = all_names_in-append (is_held (alternatives_in known)) es (f ∷ fs) held in
       let first = all_listed _ (placed_of_parts known Plus (nothing ∷ es) (omega arith) parts.0) in
       let second = all_listed _ (placed_of_parts known Plus (f ∷ fs) (omega arith) parts.1) in
       let more = some_of_parts known Plus (f ∷ fs) (omega arith) parts.1 names.1 in
-      subst (λ ws. Refuses ws fault) (sym (parted (nothing ∷ es) (f ∷ fs)) ∙ with_nothing (es ++ f ∷ fs) some formed)
-      (refuses_larger (map listed (of (nothing ∷ es))) (joins (map listed (of (nothing ∷ es))) (map listed (of (f ∷ fs)))) (firsts_weigh Together (map listed (of (nothing ∷ es))) (map listed (of (f ∷ fs))) first second (simp length-map more)) fault refusal)
+      subst (λ ws. Refuses most ws fault) (sym (parted (nothing ∷ es) (f ∷ fs)) ∙ with_nothing (es ++ f ∷ fs) some formed)
+      (refuses_larger most (map listed (of (nothing ∷ es))) (joins (map listed (of (nothing ∷ es))) (map listed (of (f ∷ fs)))) (firsts_weigh Together (map listed (of (nothing ∷ es))) (map listed (of (f ∷ fs))) first second (simp length-map more)) fault refusal)
 
   -- a part is no longer than all
   pub part_short : (es : List Expression) (e : Expression) (fs : List Expression) → IsTrue (are_expressions (parts_of (es ++ e ∷ fs))) → IsTrue (all_names_in (is_held (alternatives_in known)) (parts_of (es ++ e ∷ fs)))
@@ -298,7 +298,7 @@ module _ (known : Known) where
   -- the part at a place of the code's parts
   pub record BesideAt (ps : List Expr) (i : ℕ) (p : Expr) : Type 0 where
     pub short : greatest_length (alternatives_of (known_alternatives known) (expression p)) ≤ cycle_limit
-    pub refused : (fault : AlternFault) → Refuses (map listed (of (nothing ∷ (expressions (take i ps) ++ expression p ∷ [])))) fault → Refuses (map listed (of (expressions ps))) fault
+    pub refused : (most : ℕ) (fault : AlternFault) → Refuses most (map listed (of (nothing ∷ (expressions (take i ps) ++ expression p ∷ [])))) fault → Refuses most (map listed (of (expressions ps))) fault
 
   pub beside_at : (ps : List Expr) (i : ℕ) (p : Expr) → i < length ps → p ≡ get_or ps i p → IsTrue (are_expressions (parts_of (expressions ps))) → IsTrue (all_names_in (is_held (alternatives_in known)) (parts_of (expressions ps)))
       → greatest_length (of (expressions ps)) ≤ cycle_limit → BesideAt ps i p
@@ -312,12 +312,12 @@ module _ (known : Known) where
       record {
         short = part_short front (expression p) back (subst (λ (es : List Expression). IsTrue (are_expressions (parts_of es))) flat formed) (subst (λ (es : List Expression). IsTrue (all_names_in (is_held (alternatives_in known)) (parts_of es))) flat held)
             (subst (λ (es : List Expression). greatest_length (of es) ≤ cycle_limit) flat short);
-        refused = λ fault refusal. subst (λ (es : List Expression). Refuses (map listed (of es)) fault) (sym all)
-            (refused_front (front ++ expression p ∷ []) back some (subst (λ (es : List Expression). IsTrue (are_expressions (parts_of es))) all formed) (subst (λ (es : List Expression). IsTrue (all_names_in (is_held (alternatives_in known)) (parts_of es))) all held) fault refusal);
+        refused = λ most fault refusal. subst (λ (es : List Expression). Refuses most (map listed (of es)) fault) (sym all)
+            (refused_front (front ++ expression p ∷ []) back some (subst (λ (es : List Expression). IsTrue (are_expressions (parts_of es))) all formed) (subst (λ (es : List Expression). IsTrue (all_names_in (is_held (alternatives_in known)) (parts_of es))) all held) most fault refusal);
       }
 
   -- the first cycle alone is refused where all parts are
-  pub refused_idle : (es : List Expression) → 0 < length es → IsTrue (are_expressions (parts_of es)) → IsTrue (all_names_in (is_held (alternatives_in known)) (parts_of es)) → (fault : AlternFault) → Refuses (idle ∷ []) fault → Refuses (map listed (of es)) fault
+  pub refused_idle : (es : List Expression) → 0 < length es → IsTrue (are_expressions (parts_of es)) → IsTrue (all_names_in (is_held (alternatives_in known)) (parts_of es)) → (most : ℕ) (fault : AlternFault) → Refuses most (idle ∷ []) fault → Refuses most (map listed (of es)) fault
   refused_idle es = refused_front [] es
 
 -- ---- the single one and the others
@@ -347,5 +347,5 @@ module _ (known : Known) (es : List Expression) (leaves : Leaves) (cycles : ℕ)
   pub all_beside : joins one others ≡ map listed (together_of known es)
   all_beside = sym are.same ∙ with_nothing known es some formed
 
-  pub refused_single : (fault : AlternFault) → Refuses one fault → Refuses (map listed (together_of known es)) fault
-  refused_single = refuses_larger one (map listed (together_of known es)) (subst (λ ws. total_weight one ≤ total_weight ws) all_beside (firsts_weigh Together one others listed_single are.are_listed are.some))
+  pub refused_single : (most : ℕ) (fault : AlternFault) → Refuses most one fault → Refuses most (map listed (together_of known es)) fault
+  refused_single most = refuses_larger most one (map listed (together_of known es)) (subst (λ ws. total_weight one ≤ total_weight ws) all_beside (firsts_weigh Together one others listed_single are.are_listed are.some))

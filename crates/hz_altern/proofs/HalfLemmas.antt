@@ -13,12 +13,13 @@ use Rattle.hz_altern.proofs.Shapes.{repeat_is}
 use Rattle.hz_altern.proofs.PartLemmas.{only_one}
 use Rattle.hz_regexp.specs.Shape.{expression, expressions}
 use Rattle.hz_altern.specs.declared.fault.AlternFault.{AlternFault}
+use Rattle.hz_altern.specs.declared.fault.AlternFault.TheVariants.{AlternativesLimit, CyclesLimit, SizeLimit, NoMemory}
 use Rattle.hz_altern.specs.declared.known.Known.{Known}
 use Rattle.hz_altern.specs.declared.joining.Joining.TheVariants.{Together}
 use Rattle.hz_altern.specs.declared.mark.Mark.{Mark}
 use Rattle.hz_altern.specs.declared.mark.Mark.TheVariants.{Comma, Bar, Plus}
 use Rattle.hz_altern.specs.Answers.{total_weight, Refuses}
-use Rattle.hz_altern.specs.Joinings.{IsListed, joined_by, joined_parts, joined_lists, listed_lists}
+use Rattle.hz_altern.specs.Joinings.{IsListed, joined_by, joined_parts, joined_lists, left_behind, listed_lists}
 use Rattle.hz_altern.specs.Tables.{alternatives_in, known_alternatives, is_held}
 use Rattle.hz_altern.proofs.ChoiceWeights.{parts_weigh}
 use Rattle.hz_altern.proofs.KnownLemmas.{some_of, placed_of, some_of_parts, placed_of_parts, all_listed}
@@ -26,7 +27,7 @@ use Rattle.hz_altern.proofs.Lengths.{greatest-append, greatest-followed, greates
 use Rattle.hz_altern.proofs.PartLemmas.{are_expressions-append, all_names_in-append, joined_parts-append, joined_parts-one}
 use Rattle.hz_altern.proofs.ListedLemmas.{copies_one, copies_short, copies_refused}
 use Rattle.hz_altern.proofs.Nodes.{nodes, all_nodes, Cut, cut_in_two}
-use Rattle.hz_altern.proofs.Weights.{refuses_larger}
+use Rattle.hz_altern.proofs.Weights.{refuses_larger, weight-append}
 use Rattle.hz_altern_model.specs.Alternatives.{Alternative, Expression, repeat, alternatives_of, each_choice, followed_by, beside, copies, parts_of}
 use Rattle.hz_altern_model.specs.AlternativeLists.{IsPlaced, greatest_length}
 use Rattle.hz_altern_model.specs.Automata.{UnitPlace, listed}
@@ -57,6 +58,15 @@ longer Comma xs ys h k = let all = greatest-followed xs ys h k in (omega arith, 
 longer Bar xs ys h k = let all = greatest-append xs ys in (omega arith, omega arith)
 longer Plus xs ys h k = let all = greatest-beside xs ys h k in (omega arith, omega arith)
 
+-- what is refused of the second list, for what the first leaves of it, is refused of both
+refused_behind : (mark : Mark) (xs ys : List (Alternative UnitPlace)) (most : ℕ) → total_weight ys ≤ total_weight (listed_lists mark xs ys) → (fault : AlternFault) → Refuses (left_behind mark (total_weight xs) most) ys fault → Refuses most (listed_lists mark xs ys) fault
+refused_behind Comma xs ys most more fault refusal = refuses_larger most ys (listed_lists Comma xs ys) more fault refusal
+refused_behind Plus xs ys most more fault refusal = refuses_larger most ys (listed_lists Plus xs ys) more fault refusal
+refused_behind Bar xs ys most more AlternativesLimit never = absurd never
+refused_behind Bar xs ys most more CyclesLimit never = absurd never
+refused_behind Bar xs ys most more SizeLimit over = omega (arith, weight-append xs ys)
+refused_behind Bar xs ys most more NoMemory free = tt
+
 -- ---- halves
 
 -- the alternatives of parts of the code
@@ -76,8 +86,8 @@ pub record Halved (known : Known) (mark : Mark) (ps front back : List Expr) : Ty
   pub listed_back : All IsListed (map listed (of_parts mark known back))
   pub all : map listed (of_parts mark known ps) ≡ listed_lists mark (map listed (of_parts mark known front)) (map listed (of_parts mark known back))
   pub short : greatest_length (listed_lists mark (map listed (of_parts mark known front)) (map listed (of_parts mark known back))) ≤ cycle_limit
-  pub refused_front : (fault : AlternFault) → Refuses (map listed (of_parts mark known front)) fault → Refuses (map listed (of_parts mark known ps)) fault
-  pub refused_back : (fault : AlternFault) → Refuses (map listed (of_parts mark known back)) fault → Refuses (map listed (of_parts mark known ps)) fault
+  pub refused_front : (most : ℕ) (fault : AlternFault) → Refuses most (map listed (of_parts mark known front)) fault → Refuses most (map listed (of_parts mark known ps)) fault
+  pub refused_back : (most : ℕ) (fault : AlternFault) → Refuses (left_behind mark (total_weight (map listed (of_parts mark known front))) most) (map listed (of_parts mark known back)) fault → Refuses most (map listed (of_parts mark known ps)) fault
 
 pub halved : (known : Known) (mark : Mark) (ps front back : List Expr) → front ≡ take (length ps / 2) ps → back ≡ drop (length ps / 2) ps → (length ps / 2 ≡ 0 → ⊥) → IsTrue (are_expressions (parts_of (expressions ps))) → IsTrue (all_names_in (is_held (alternatives_in known)) (parts_of (expressions ps))) → greatest_length (of_parts mark known ps) ≤ cycle_limit → Halved known mark ps front back
 halved known mark ps front back e f several formed named short =
@@ -115,8 +125,8 @@ halved known mark ps front back e f several formed named short =
       listed_back = all_listed ys placed_ys;
       all = all;
       short = omega (arith, greatest-listed (of_parts mark known ps));
-      refused_front = refuses_larger (map listed xs) (map listed (of_parts mark known ps)) (omega arith);
-      refused_back = refuses_larger (map listed ys) (map listed (of_parts mark known ps)) (omega arith);
+      refused_front = λ most. refuses_larger most (map listed xs) (map listed (of_parts mark known ps)) (omega arith);
+      refused_back = λ most fault refusal. subst (λ ws. Refuses most ws fault) (sym all) (refused_behind mark (map listed xs) (map listed ys) most weights.1 fault refusal);
     }
 
 -- ---- one part
@@ -153,7 +163,7 @@ pub record Repeated (known : Known) (e : Expr) (part : Expression) (times : ℕ)
   pub short_part : greatest_length (alternatives_of (known_alternatives known) part) ≤ cycle_limit
   pub all : map listed (alternatives_of (known_alternatives known) (expression e)) ≡ copies times (map listed (alternatives_of (known_alternatives known) part))
   pub short : greatest_length (copies times (map listed (alternatives_of (known_alternatives known) part))) ≤ cycle_limit
-  pub refused : (fault : AlternFault) → Refuses (map listed (alternatives_of (known_alternatives known) part)) fault → Refuses (map listed (alternatives_of (known_alternatives known) (expression e))) fault
+  pub refused : (most : ℕ) (fault : AlternFault) → Refuses most (map listed (alternatives_of (known_alternatives known) part)) fault → Refuses most (map listed (alternatives_of (known_alternatives known) (expression e))) fault
 
 pub repeated : (known : Known) (e : Expr) (box : Box Expr Global) (times : ℕ) → e ≡ Repeat box times → IsTrue (is_expression (expression e)) → IsTrue (all_names (is_held (alternatives_in known)) (expression e)) → greatest_length (alternatives_of (known_alternatives known) (expression e)) ≤ cycle_limit → Repeated known e (expression box.value) times
 repeated known e box times variant formed named short =
@@ -182,5 +192,5 @@ repeated known e box times variant formed named short =
       short_part = omega (arith, greatest-listed xs, subst (λ ws. greatest_length ws ≤ cycle_limit) (copies_one (map listed xs)) (copies_short (map listed xs) some' each 1 times cycle_limit low short_copies));
       all = all;
       short = short_copies;
-      refused = λ fault no. subst (λ ws. Refuses ws fault) (sym all) (copies_refused (map listed xs) some' each 1 times fault (omega arith) low (subst (λ ws. Refuses ws fault) (sym (copies_one (map listed xs))) no));
+      refused = λ most fault no. subst (λ ws. Refuses most ws fault) (sym all) (copies_refused (map listed xs) some' each most 1 times fault (omega arith) low (subst (λ ws. Refuses most ws fault) (sym (copies_one (map listed xs))) no));
     }

@@ -72,8 +72,8 @@ module _ (xs : List (Alternative UnitPlace)) (some : 0 < length xs) (each : All 
       omega (arith, greatest-copies h xs some, greatest-copies n xs some)
 
   -- what is refused of fewer copies is refused of all
-  pub copies_refused : (h n : ℕ) (fault : AlternFault) → 1 ≤ h → h ≤ n → Refuses (copies h xs) fault → Refuses (copies n xs) fault
-  copies_refused h n fault low within = refuses_larger (copies h xs) (copies n xs) (copies_weigh h n low within) fault
+  pub copies_refused : (most h n : ℕ) (fault : AlternFault) → 1 ≤ h → h ≤ n → Refuses most (copies h xs) fault → Refuses most (copies n xs) fault
+  copies_refused most h n fault low within = refuses_larger most (copies h xs) (copies n xs) (copies_weigh h n low within) fault
 
   -- as many copies again
   twice : (h : ℕ) → each_choice (joined_by InSequence) (copies h xs) (copies h xs) ≡ copies (h + h) xs
@@ -87,10 +87,10 @@ module _ (xs : List (Alternative UnitPlace)) (some : 0 < length xs) (each : All 
 pub record Halves (xs : List (Alternative UnitPlace)) (n : ℕ) : Type 0 where
   pub listed_half : All IsListed (copies (n / 2) xs)
   pub short_half : greatest_length (copies (n / 2) xs) ≤ cycle_limit
-  pub refused_half : (fault : AlternFault) → Refuses (copies (n / 2) xs) fault → Refuses (copies n xs) fault
+  pub refused_half : (most : ℕ) (fault : AlternFault) → Refuses most (copies (n / 2) xs) fault → Refuses most (copies n xs) fault
   pub listed_even : All IsListed (each_choice (joined_by InSequence) (copies (n / 2) xs) (copies (n / 2) xs))
   pub short_even : greatest_length (each_choice (joined_by InSequence) (copies (n / 2) xs) (copies (n / 2) xs)) ≤ cycle_limit
-  pub refused_even : (fault : AlternFault) → Refuses (each_choice (joined_by InSequence) (copies (n / 2) xs) (copies (n / 2) xs)) fault → Refuses (copies n xs) fault
+  pub refused_even : (most : ℕ) (fault : AlternFault) → Refuses most (each_choice (joined_by InSequence) (copies (n / 2) xs) (copies (n / 2) xs)) fault → Refuses most (copies n xs) fault
   pub all_even : n % 2 ≡ 0 → each_choice (joined_by InSequence) (copies (n / 2) xs) (copies (n / 2) xs) ≡ copies n xs
   pub all_odd : (n % 2 ≡ 0 → ⊥) → each_choice (joined_by InSequence) (each_choice (joined_by InSequence) (copies (n / 2) xs) (copies (n / 2) xs)) xs ≡ copies n xs
 
@@ -101,10 +101,10 @@ copies_halved xs n some each low several short =
     record {
       listed_half = listed_copies h xs (omega arith) each;
       short_half = copies_short xs some each h n cycle_limit (omega arith) short;
-      refused_half = λ fault. copies_refused xs some each h n fault (omega arith) (omega arith);
+      refused_half = λ most fault. copies_refused xs some each most h n fault (omega arith) (omega arith);
       listed_even = subst (All IsListed) (sym even) (listed_copies (h + h) xs (omega arith) each);
       short_even = subst (λ ws. greatest_length ws ≤ cycle_limit) (sym even) (copies_short xs some each (h + h) n cycle_limit (omega arith) short);
-      refused_even = λ fault no. copies_refused xs some each (h + h) n fault (omega arith) (omega arith) (subst (λ ws. Refuses ws fault) even no);
+      refused_even = λ most fault no. copies_refused xs some each most (h + h) n fault (omega arith) (omega arith) (subst (λ ws. Refuses most ws fault) even no);
       all_even = λ e. let all : h + h ≡ n = omega arith in even ∙ ap (λ m. copies m xs) all;
       all_odd = λ e.
           let all : (h + h) + 1 ≡ n = omega arith in

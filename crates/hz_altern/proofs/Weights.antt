@@ -16,11 +16,11 @@ use Rattle.hz_altern.proofs.ListLemmas.{All-from_map}
 use Rattle.hz_altern.proofs.Lengths.{greatest-append, length_within}
 
 -- what is refused is refused of larger lists too
-pub refuses_larger : (xs ys : List (Alternative UnitPlace)) → total_weight xs ≤ total_weight ys → (fault : AlternFault) → Refuses xs fault → Refuses ys fault
-refuses_larger xs ys h AlternativesLimit never = absurd never
-refuses_larger xs ys h CyclesLimit never = absurd never
-refuses_larger xs ys h SizeLimit over = omega arith
-refuses_larger xs ys h NoMemory free = tt
+pub refuses_larger : (most : ℕ) (xs ys : List (Alternative UnitPlace)) → total_weight xs ≤ total_weight ys → (fault : AlternFault) → Refuses most xs fault → Refuses most ys fault
+refuses_larger most xs ys h AlternativesLimit never = absurd never
+refuses_larger most xs ys h CyclesLimit never = absurd never
+refuses_larger most xs ys h SizeLimit over = omega arith
+refuses_larger most xs ys h NoMemory free = tt
 
 pub weight-append : (xs ys : List (Alternative UnitPlace)) → total_weight (xs ++ ys) ≡ total_weight xs + total_weight ys
 weight-append xs ys = sum_by-append weight xs ys
@@ -49,11 +49,11 @@ module _ (before : List (Alternative UnitPlace)) (f : Alternative UnitPlace → 
       omega (arith, weight-append before (map f (alternatives (take i alts))), weight-append before (map f (alternatives alts)))
 
 -- what is refused when one more is added is refused of all
-pub refused_so_far : (before : List (Alternative UnitPlace)) (f : Alternative UnitPlace → Alternative UnitPlace) (alts : List Alt) (i : ℕ) (d : Alt) (listing : List (Alternative UnitPlace)) (x : Alternative UnitPlace) (fault : AlternFault) → i < length alts → listing ≡ made before f alts i → x ≡ f (alternative_of (get_or alts i d)) → Refuses (listing ++ x ∷ []) fault → Refuses (before ++ map f (alternatives alts)) fault
-refused_so_far before f alts i d listing x fault h is item refused =
+pub refused_so_far : (most : ℕ) (before : List (Alternative UnitPlace)) (f : Alternative UnitPlace → Alternative UnitPlace) (alts : List Alt) (i : ℕ) (d : Alt) (listing : List (Alternative UnitPlace)) (x : Alternative UnitPlace) (fault : AlternFault) → i < length alts → listing ≡ made before f alts i → x ≡ f (alternative_of (get_or alts i d)) → Refuses most (listing ++ x ∷ []) fault → Refuses most (before ++ map f (alternatives alts)) fault
+refused_so_far most before f alts i d listing x fault h is item refused =
     let same : listing ++ x ∷ [] ≡ made before f alts (i + 1) = ap (λ ws. ws ++ x ∷ []) is ∙ (ap (λ y. made before f alts i ++ y ∷ []) item ∙ made_more before f alts i d h) in
-    refuses_larger (made before f alts (i + 1)) (before ++ map f (alternatives alts)) (made_within before f alts (i + 1)) fault
-    (subst (λ ws. Refuses ws fault) same refused)
+    refuses_larger most (made before f alts (i + 1)) (before ++ map f (alternatives alts)) (made_within before f alts (i + 1)) fault
+    (subst (λ ws. Refuses most ws fault) same refused)
 
 -- ---- one of the alternatives
 
@@ -118,7 +118,7 @@ module _ (join : Alternative UnitPlace → Alternative UnitPlace → Alternative
         let next = ap greatest_length (sym next_chosen) ∙ greatest-append (chosen i) (map (join (alternative_of item)) ys) in
         omega arith
 
-    pub chosen_refused : (listing : List (Alternative UnitPlace)) (fault : AlternFault) → listing ≡ chosen i → Refuses (listing ++ map (join (alternative_of item)) ys) fault → Refuses (each_choice join (alternatives alts) ys) fault
-    chosen_refused listing fault before refused =
-        refuses_larger (chosen (i + 1)) (each_choice join (alternatives alts) ys) (chosen_within (i + 1)) fault
-        (subst (λ ws. Refuses ws fault) (ap (λ ws. ws ++ map (join (alternative_of item)) ys) before ∙ next_chosen) refused)
+    pub chosen_refused : (most : ℕ) (listing : List (Alternative UnitPlace)) (fault : AlternFault) → listing ≡ chosen i → Refuses most (listing ++ map (join (alternative_of item)) ys) fault → Refuses most (each_choice join (alternatives alts) ys) fault
+    chosen_refused most listing fault before refused =
+        refuses_larger most (chosen (i + 1)) (each_choice join (alternatives alts) ys) (chosen_within (i + 1)) fault
+        (subst (λ ws. Refuses most ws fault) (ap (λ ws. ws ++ map (join (alternative_of item)) ys) before ∙ next_chosen) refused)

@@ -1,5 +1,5 @@
 -- What stands between parts, and what it makes of their alternatives.
-use Rattle.std.specs.Prelude.{ℕ, List, ◌++◌}
+use Rattle.std.specs.Prelude.{ℕ, ◌-◌, List, ◌++◌}
 use Rattle.hz_altern_model.specs.AlternativeLists.{IsPlaced, IsAscending}
 use Rattle.hz_altern.specs.declared.joining.Joining.{Joining}
 use Rattle.hz_altern.specs.declared.joining.Joining.TheVariants.{InSequence, Together}
@@ -35,3 +35,9 @@ abbrev pub listed_lists : Mark → List (Alternative UnitPlace) → List (Altern
 listed_lists Comma xs ys = each_choice (joined_by InSequence) xs ys
 listed_lists Bar xs ys = xs ++ ys
 listed_lists Plus xs ys = each_choice (joined_by Together) xs ys
+
+-- how large a second list may be behind a first one of this size, where with this mark between them they may be so large
+abbrev pub left_behind : Mark → ℕ → ℕ → ℕ
+left_behind Comma size most = most
+left_behind Bar size most = most - size
+left_behind Plus size most = most

@@ -20,7 +20,7 @@ mod singles;
 
 pub use alternative::{Alt, Pair};
 pub use counting::extent;
-pub use expanding::expand;
+pub use expanding::{expand, expand_within};
 pub use extents::Extents;
 pub use fault::{AlternFault, NoMemory};
 pub use known::Known;

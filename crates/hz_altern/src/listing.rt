@@ -51,13 +51,15 @@ impl Listing {
         }
     }
 
-    /// Adds an alternative at the end, where all together are not too large.
-    pub fn push(&mut self, alt: Alt) -> Result<(), AlternFault>
+    /// Adds an alternative at the end, where all together are no larger than `most`.
+    pub fn push(&mut self, alt: Alt, most: usize) -> Result<(), AlternFault>
+        requires most { most ≤ size_limit }
         ensures ok { OnOk result (self.new ≡ self.old ++ alternative_of alt ∷ []) }
-        ensures err { IfErr result (Refuses (self.old ++ alternative_of alt ∷ [])) }
+        ensures small { OnOk result (total_weight self.new ≤ most) }
+        ensures err { IfErr result (Refuses most (self.old ++ alternative_of alt ∷ [])) }
     {
         let size = self.size + alt.length as usize + alt.pairs.len();
-        if size > SIZE_LIMIT {
+        if size > most {
             return Err(AlternFault::SizeLimit);
         }
         self.alts.push(alt)?;
@@ -65,14 +67,16 @@ impl Listing {
         Ok(())
     }
 
-    /// Adds an equal alternative at the end, where all together are not too large. That is asked before memory is.
-    pub fn push_copy(&mut self, alloc: Global, alt: &Alt) -> Result<(), AlternFault>
+    /// Adds an equal alternative at the end, where all together are no larger than `most`. That is asked before memory is.
+    pub fn push_copy(&mut self, alloc: Global, alt: &Alt, most: usize) -> Result<(), AlternFault>
+        requires most { most ≤ size_limit }
         ensures ok { OnOk result (self.new ≡ self.old ++ alternative_of alt.now ∷ []) }
-        ensures err { IfErr result (Refuses (self.old ++ alternative_of alt.now ∷ [])) }
-        ensures asked { size_limit < total_weight (self.old ++ alternative_of alt.now ∷ []) → result ≡ Err SizeLimit }
+        ensures small { OnOk result (total_weight self.new ≤ most) }
+        ensures err { IfErr result (Refuses most (self.old ++ alternative_of alt.now ∷ [])) }
+        ensures asked { most < total_weight (self.old ++ alternative_of alt.now ∷ []) → result ≡ Err SizeLimit }
     {
         let size = self.size + alt.length as usize + alt.pairs.len();
-        if size > SIZE_LIMIT {
+        if size > most {
             return Err(AlternFault::SizeLimit);
         }
         self.alts.push(alt.copy(alloc)?)?;
@@ -80,30 +84,41 @@ impl Listing {
         Ok(())
     }
 
-    /// Adds two alternatives as one at the end, where all together are not too large. That is asked before memory is.
+    /// Adds two alternatives as one at the end, where all together are no larger than `most`. That is asked before memory
+    /// is.
     pub fn push_joined(
         &mut self,
         alloc: Global,
         joining: Joining,
         first: &Alt,
         second: &Alt,
+        most: usize,
     ) -> Result<(), AlternFault>
         requires first { IsListed (alternative_of first.now) }
         requires second { IsListed (alternative_of second.now) }
         requires first_small { weight (alternative_of first.now) ≤ size_limit }
         requires second_small { weight (alternative_of second.now) ≤ size_limit }
         requires short { (joined_by joining (alternative_of first.now) (alternative_of second.now)).cycles ≤ cycle_limit }
+        requires most { most ≤ size_limit }
         ensures ok { OnOk result (self.new ≡ self.old ++ joined_by joining (alternative_of first.now) (alternative_of second.now) ∷ []) }
-        ensures err { IfErr result (Refuses (self.old ++ joined_by joining (alternative_of first.now) (alternative_of second.now) ∷ [])) }
-        ensures asked { size_limit < total_weight (self.old ++ joined_by joining (alternative_of first.now) (alternative_of second.now) ∷ []) → result ≡ Err SizeLimit }
+        ensures small { OnOk result (total_weight self.new ≤ most) }
+        ensures err { IfErr result (Refuses most (self.old ++ joined_by joining (alternative_of first.now) (alternative_of second.now) ∷ [])) }
+        ensures asked { most < total_weight (self.old ++ joined_by joining (alternative_of first.now) (alternative_of second.now) ∷ []) → result ≡ Err SizeLimit }
     {
         let size = self.size + joined_size(joining, first, second);
-        if size > SIZE_LIMIT {
+        if size > most {
             return Err(AlternFault::SizeLimit);
         }
         self.alts.push(joined(alloc, joining, first, second)?)?;
         self.size = size;
         Ok(())
+    }
+
+    /// How many cycles and pairs the alternatives have together.
+    pub fn size(&self) -> usize
+        ensures { result ≡ total_weight self.now }
+    {
+        self.size
     }
 
     /// How large the alternatives are together, each followed by each of others.
@@ -115,10 +130,12 @@ impl Listing {
         self.size * others.alts.len() + others.size * self.alts.len()
     }
 
-    /// The alternatives, and behind them others, where all together are not too large.
-    pub fn with(self, others: Listing) -> Result<Listing, AlternFault>
+    /// The alternatives, and behind them others, where all together are no larger than `most`.
+    pub fn with(self, others: Listing, most: usize) -> Result<Listing, AlternFault>
+        requires most { most ≤ size_limit }
         ensures ok { IfOk result (λ listing. listing ≡ self ++ others) }
-        ensures err { IfErr result (Refuses (self ++ others)) }
+        ensures small { IfOk result (λ listing. total_weight listing ≤ most) }
+        ensures err { IfErr result (Refuses most (self ++ others)) }
     {
         let Listing { mut alts, size } = self;
         let Listing {
@@ -126,7 +143,7 @@ impl Listing {
             size: more,
         } = others;
         let size = size + more;
-        if size > SIZE_LIMIT {
+        if size > most {
             return Err(AlternFault::SizeLimit);
         }
         alts.append(&mut behind)?;

@@ -10,7 +10,10 @@ ghost use Rattle.hz_altern_model.specs.NamesIn.{all_names, all_names_in};
 ghost use Rattle.hz_regexp.specs.Shape.{expression, expressions};
 
 use crate::counting::Held;
-use crate::{Alt, AlternFault, Extent, Extents, Known, Pair, expand, extent, project};
+use crate::{
+    Alt, AlternFault, Extent, Extents, Known, Pair, SIZE_LIMIT, expand, expand_within, extent,
+    project,
+};
 use hz_grid::Grid;
 use hz_regexp::{Expr, Name, parse_expr};
 use std::alloc::Global;
@@ -316,6 +319,25 @@ fn limits_are_exact(rt: HostRuntime) -> Result<(), Fail> {
         assert!(rt; holds(&extents, &expr));
         assert!(rt; extent(&expr, &extents) == Extent { count, longest });
         assert!(rt; expanded(&rt, alloc, &known, text)?.err() == fault);
+    }
+    Ok(())
+}
+
+#[test]
+fn what_is_handed_down_is_exact(rt: HostRuntime) -> Result<(), Fail> {
+    let alloc = rt.alloc();
+    let known = units(&rt, alloc)?;
+    for (text, most, fault) in [
+        ("(a|b),(c|d)", 16, None),
+        ("(a|b),(c|d)", 15, Some(AlternFault::SizeLimit)),
+        ("a|(b,c)|d", 8, None),
+        ("a|(b,c)|d", 7, Some(AlternFault::SizeLimit)),
+    ] {
+        assert!(rt; text.len() < 100);
+        let expr = read(&rt, alloc, text)?;
+        assert!(rt; holds(&known, &expr));
+        assert!(rt; most <= SIZE_LIMIT);
+        assert!(rt; expand_within(alloc, &expr, &known, most).err() == fault);
     }
     Ok(())
 }

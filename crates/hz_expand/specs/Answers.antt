@@ -66,7 +66,7 @@ IsMadeIfListed (Err altern.CyclesLimit) made = made ≡ Ok None
 IsMadeIfListed (Err altern.SizeLimit) made = made ≡ Ok None
 IsMadeIfListed (Err altern.NoMemory) made = IsErr made
 
--- the alternatives, each listed the one way, where they are not too large together
-abbrev pub Makes : List (Alternative UnitPlace) → Option (Vec Alt Global) → Type 0
-Makes all (Some alts) = (alternatives alts.items ≡ map listed all) × AreSound (alternatives alts.items) × (total_size all ≤ size_limit)
-Makes all None = size_limit < total_size all
+-- the alternatives, each listed the one way, where they have no more than so many cycles and pairs together
+abbrev pub Makes : ℕ → List (Alternative UnitPlace) → Option (Vec Alt Global) → Type 0
+Makes most all (Some alts) = (alternatives alts.items ≡ map listed all) × AreSound (alternatives alts.items) × (total_size all ≤ most)
+Makes most all None = most < total_size all

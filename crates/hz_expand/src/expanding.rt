@@ -75,7 +75,8 @@ fn expand_behind<'a>(
 /// The alternatives of each class, in the order of the file: each list in its order, each alternative with its pairs in
 /// ascending order and each once. `places` has the units in the order of the file, and the numbers of the order are
 /// places of reservations, and behind them places of classes. `Unexpanded::Size` tells the first of the order at which the
-/// sizes, known only as alternatives are made, pass 2,097,152 together, each once. This profile, docs/RULES.md, 'Limits'.
+/// sizes, known only as alternatives are made, pass 2,097,152 together, each once: what is left is asked before a list of
+/// alternatives grows. This profile, docs/RULES.md, 'Limits'.
 pub fn expand_all<'a>(
     alloc: Global,
     desc: &'a Description,

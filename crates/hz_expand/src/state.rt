@@ -15,7 +15,7 @@ ghost use Rattle.hz_expand.specs.Answers.{IsMadeIfListed, Makes};
 
 use crate::fault::Unexpanded;
 use crate::reserving::Reserving;
-use hz_altern::{Alt, AlternFault, Known, SIZE_LIMIT, expand};
+use hz_altern::{Alt, AlternFault, Known, SIZE_LIMIT, expand_within};
 use hz_regexp::{Expr, NoMemory};
 use std::alloc::Global;
 
@@ -53,15 +53,21 @@ fn made_if_listed(listed: Result<Vec<Alt>, AlternFault>) -> Result<Option<Vec<Al
     }
 }
 
-/// The alternatives of an expression that has few and short ones, if they are not too large together.
-fn expanded(alloc: Global, expr: &Expr, known: &Known) -> Result<Option<Vec<Alt>>, NoMemory>
+/// The alternatives of an expression that has few and short ones, if together they are no larger than `most`.
+fn expanded(
+    alloc: Global,
+    expr: &Expr,
+    known: &Known,
+    most: usize,
+) -> Result<Option<Vec<Alt>>, NoMemory>
     requires formed { IsTrue (is_expression (expression expr.now)) }
     requires known { IsTrue (all_names (is_held (alternatives_in known.now)) (expression expr.now)) }
     requires few { length (alternatives_of (known_alternatives known.now) (expression expr.now)) ≤ alternative_limit }
     requires short { greatest_length (alternatives_of (known_alternatives known.now) (expression expr.now)) ≤ cycle_limit }
-    ensures { IfOk result (Makes (alternatives_of (known_alternatives known.now) (expression expr.now))) }
+    requires most { most ≤ size_limit }
+    ensures { IfOk result (Makes most (alternatives_of (known_alternatives known.now) (expression expr.now))) }
 {
-    made_if_listed(expand(alloc, expr, known))
+    made_if_listed(expand_within(alloc, expr, known, most))
 }
 
 impl Expansion {
@@ -93,7 +99,8 @@ impl Expansion {
         Ok(())
     }
 
-    /// Expands a reservation or class behind those that came.
+    /// Expands a reservation or class behind those that came. What is left of the limit of sizes is asked before a list of
+    /// alternatives grows, so that none which passes it is held.
     pub fn add<'a>(&mut self, alloc: Global, reserving: Reserving<'a>) -> Result<(), Unexpanded<'a>>
         requires new { reserving.is_class ≡ false → alternatives_in self.old.known reserving.site.name.now ≡ None }
         requires formed { IsTrue (is_expression (expression reserving.expr.now)) }
@@ -104,13 +111,11 @@ impl Expansion {
         ensures ok { OnOk result (Expands (reserving_of reserving.entry) (alternatives_of (known_alternatives self.old.known) (expression reserving.entry.expr.now)) self.old self.new) }
         ensures err { IfErr result (IsTooLarge (reserving_of reserving.entry) (alternatives_of (known_alternatives self.old.known) (expression reserving.entry.expr.now)) self.old) }
     {
-        let Some(alts) = expanded(alloc, reserving.expr, &self.known)? else {
+        let left = SIZE_LIMIT - self.size;
+        let Some(alts) = expanded(alloc, reserving.expr, &self.known, left)? else {
             return Err(Unexpanded::Size(reserving.site));
         };
         let size = self.size + weight_of(&alts);
-        if size > SIZE_LIMIT {
-            return Err(Unexpanded::Size(reserving.site));
-        }
         self.keep(reserving, alts)?;
         self.size = size;
         Ok(())

@@ -21,7 +21,7 @@ pub returns-in_err-half-clause-err : goal.returns-in_err-half-clause-err
 returns-in_err-half-clause-err t c =
     let halves = copies_halved c.args.once.now c.args.times c.requires.some c.requires.each c.requires.times c.if-times-eq1.false c.requires.short in
     let p = err_from_is_err_and c.from_residual.result c.from_residual.ensures.1 in
-    rw (p.1, p.2) (halves.refused_half _ c.in_err-half.ensures.err)
+    rw (p.1, p.2) (halves.refused_half c.args.most _ c.in_err-half.ensures.err)
 
 pub in_sequence-requires-clause-first : goal.in_sequence-requires-clause-first
 in_sequence-requires-clause-first t c =
@@ -42,7 +42,7 @@ pub returns-in_err-even-clause-err : goal.returns-in_err-even-clause-err
 returns-in_err-even-clause-err t c =
     let halves = copies_halved c.args.once.now c.args.times c.requires.some c.requires.each c.requires.times c.if-times-eq1.false c.requires.short in
     let p = err_from_is_err_and c.from_residual-in_err-even.result c.from_residual-in_err-even.ensures.1 in
-    rw (p.1, p.2) (halves.refused_even _ (rw c.in_ok-half.ensures.ok at c.in_err-even.ensures.err))
+    rw (p.1, p.2) (halves.refused_even c.args.most _ (rw c.in_ok-half.ensures.ok at c.in_err-even.ensures.err))
 
 pub returns-then-times-eq0-clause-ok : goal.returns-then-times-eq0-clause-ok
 returns-then-times-eq0-clause-ok t c =

@@ -1,7 +1,7 @@
 use Rattle.std.proofs.Common.{◌≡◌, ℕ, ◌+◌, ◌/◌, ◌<◌, ◌≤◌, max, [], ◌∷◌, ◌++◌, List, length, map, take, Some, All, sym, ap, ◌∙◌, subst, arith, rules}
 use Rattle.std.specs.Prelude.{IsTrue, IfOk, IfErr}
 use Rattle.std.proofs.lemmas.Result.{err_from_is_err_and}
-use Rattle.hz_base_model.specs.Limits.{cycle_limit}
+use Rattle.hz_base_model.specs.Limits.{cycle_limit, size_limit}
 use Rattle.hz_base_model.specs.Pairs.{Pair}
 use Rattle.hz_altern.specs.Answers.{Refuses}
 use Rattle.hz_regexp.specs.Shape.{expression, expressions}
@@ -9,12 +9,12 @@ use Rattle.hz_altern.specs.Joinings.{IsListed}
 use Rattle.hz_altern.specs.Shapes.{alternatives, pairs_of}
 use Rattle.hz_altern.specs.Tables.{alternatives_in, known_alternatives, is_held}
 use Rattle.std.proofs.lemmas.List.{take_all, length-map}
-use Rattle.hz_altern.proofs.BesideLemmas.{IsBeside, joins, whole, listed_pairs, within_length, none_beside, single_more, listed_more, short_more, others_more, refused_more, refused_part, beside_at, listed_single, short_both, all_beside, refused_single}
+use Rattle.hz_altern.proofs.BesideLemmas.{IsBeside, joins, whole, listed_pairs, within_length, none_beside, single_more, listed_more, short_more, others_more, refused_more, refused_part, beside_at, listed_single, short_both, all_beside, refused_idle, refused_single}
 use Rattle.hz_altern.proofs.GatherLemmas.{part_at}
 use Rattle.hz_altern.specs.declared.leaves.Leaves.{Leaves}
 use Rattle.hz_regexp.specs.declared.expr.Expr.{Expr}
 use Rattle.hz_altern.proofs.HalfLemmas.{halved, single, repeated}
-use Rattle.hz_altern.proofs.KnownLemmas.{named_listed, right_known}
+use Rattle.hz_altern.proofs.KnownLemmas.{named_listed}
 use Rattle.hz_altern.proofs.Nodes.{nodes, nodes_of_repeat}
 use Rattle.hz_altern.proofs.Shapes.{named_is, repeat_is}
 use Rattle.hz_altern.proofs.SingleLemmas.{one_told, tell_at, tell_halves, tell_length}
@@ -69,19 +69,20 @@ listing_parts-listing_parts-requires-2 t c =
     let short = half.short_back in
     let told : TellSingles (known_alternatives c.args.known.now) (parts_of (expressions c.split_at.result.1.now)) c.split_at-2.result.1.now =
     rw (c.split_at.ensures.back, c.split_at-2.ensures.back) (tell_halves (known_alternatives c.args.known.now) (length c.args.parts.now / 2) c.args.parts.now c.args.singles.now c.requires.told).1 in
+    let most : c.left_behind-left.result ≤ size_limit = omega (arith, c.left_behind-left.ensures.fits, c.requires.most) in
     search rules
 
 pub listing_parts-returns-in_err-first-clause-err : goal.listing_parts-returns-in_err-first-clause-err
 listing_parts-returns-in_err-first-clause-err t c =
     let half = halved c.args.known.now c.args.mark c.args.parts.now _ _ c.split_at.ensures.front c.split_at.ensures.back c.if-middle-eq0.false c.requires.formed c.requires.known c.requires.short in
     let p = err_from_is_err_and c.from_residual.result c.from_residual.ensures.1 in
-    rw (p.1, p.2) (half.refused_front _ c.in_err-first.ensures.err)
+    rw (p.1, p.2) (half.refused_front c.args.most _ c.in_err-first.ensures.err)
 
 pub listing_parts-returns-in_err-second-clause-err : goal.listing_parts-returns-in_err-second-clause-err
 listing_parts-returns-in_err-second-clause-err t c =
     let half = halved c.args.known.now c.args.mark c.args.parts.now _ _ c.split_at.ensures.front c.split_at.ensures.back c.if-middle-eq0.false c.requires.formed c.requires.known c.requires.short in
     let p = err_from_is_err_and c.from_residual-in_err-second.result c.from_residual-in_err-second.ensures.1 in
-    rw (p.1, p.2) (half.refused_back _ c.in_err-second.ensures.err)
+    rw (p.1, p.2) (half.refused_back c.args.most _ (rw (c.left_behind-left.ensures.value, c.in_ok-first.ensures.ok) at c.in_err-second.ensures.err))
 
 pub listing_parts-joined_lists-requires-clause-first : goal.listing_parts-joined_lists-requires-clause-first
 listing_parts-joined_lists-requires-clause-first t c =
@@ -124,7 +125,7 @@ pub listing-returns-in_err-once-in-Repeat-clause-err : goal.listing-returns-in_e
 listing-returns-in_err-once-in-Repeat-clause-err t c =
     let rep = repeated c.args.known.now c.args.expr.now c.in-Repeat.part c.in-Repeat.times c.in-Repeat.is c.requires.formed c.requires.known c.requires.short in
     let p = err_from_is_err_and c.from_residual.result c.from_residual.ensures.1 in
-    rw (p.1, p.2) (rep.refused _ (rw c.deref-in-Repeat.ensures at c.in_err-once-in-Repeat.ensures.err))
+    rw (p.1, p.2) (rep.refused c.args.most _ (rw c.deref-in-Repeat.ensures at c.in_err-once-in-Repeat.ensures.err))
 
 pub listing-copies-requires-clause-some : goal.listing-copies-requires-clause-some
 listing-copies-requires-clause-some t c =
@@ -217,7 +218,7 @@ listing_together-returns-in_err-more-clause-err t c =
     let before = expressions (take c.loop-place.place c.args.parts.now) in
     let e = expression c.index-parts-place.result in
     let p = err_from_is_err_and c.from_residual-in_err-more.result c.from_residual-in_err-more.ensures.1 in
-    rw (p.1, p.2) (at.refused _ (refused_part c.args.known.now before e c.loop-place.leaves c.loop-place.length c.loop-place.others c.loop-place.invariant part.formed at.short part.names_known _ c.in_err-more.ensures.err))
+    rw (p.1, p.2) (at.refused c.args.most _ (refused_part c.args.known.now before e c.loop-place.leaves c.loop-place.length c.loop-place.others c.loop-place.invariant part.formed at.short part.names_known c.args.most _ c.in_err-more.ensures.err))
 
 pub listing_together-together-requires-clause-second : goal.listing_together-together-requires-clause-second
 listing_together-together-requires-clause-second t c =
@@ -242,7 +243,7 @@ listing_together-returns-in_err-others-2-clause-err t c =
     let before = expressions (take c.loop-place.place c.args.parts.now) in
     let e = expression c.index-parts-place.result in
     let p = err_from_is_err_and c.from_residual-in_err-others-2.result c.from_residual-in_err-others-2.ensures.1 in
-    rw (p.1, p.2) (at.refused _ (refused_more c.args.known.now before e c.loop-place.leaves c.loop-place.length c.loop-place.others c.loop-place.invariant part.formed at.short part.names_known _ (rw c.in_ok-more.ensures.ok at c.in_err-others-2.ensures.err)))
+    rw (p.1, p.2) (at.refused c.args.most _ (refused_more c.args.known.now before e c.loop-place.leaves c.loop-place.length c.loop-place.others c.loop-place.invariant part.formed at.short part.names_known c.args.most _ (rw c.in_ok-more.ensures.ok at c.in_err-others-2.ensures.err)))
 
 pub listing_together-loop-place-preserved : goal.listing_together-loop-place-preserved
 listing_together-loop-place-preserved t c =
@@ -274,7 +275,7 @@ listing_together-returns-in_err-push-clause-err t c =
     let are : IsBeside known es c.loop-place.leaves c.loop-place.length c.loop-place.others = subst (λ (ps : List Expr). IsBeside known (expressions ps) c.loop-place.leaves c.loop-place.length c.loop-place.others) (take_all c.loop-place.place c.args.parts.now c.loop-place-test.false) c.loop-place.invariant in
     let made : pairs_of c.in_ok-pairs.pairs.items ≡ ascending are.pairs = listed_pairs known es c.loop-place.leaves c.loop-place.length c.loop-place.others are some c.requires.formed (pairs_of c.in_ok-pairs.pairs.items) c.in_ok-pairs.ensures.ascending c.in_ok-pairs.ensures.same in
     let p = err_from_is_err_and c.from_residual-in_err-push.result c.from_residual-in_err-push.ensures.1 in
-    rw (p.1, p.2) (refused_single known es c.loop-place.leaves c.loop-place.length c.loop-place.others are some c.requires.formed _ (subst (λ ps. Refuses (alternative ps c.loop-place.length ∷ []) c.in_err-push.field-0.0) made (rw c.new-single.ensures at c.in_err-push.ensures.err)))
+    rw (p.1, p.2) (refused_single known es c.loop-place.leaves c.loop-place.length c.loop-place.others are some c.requires.formed c.args.most _ (subst (λ ps. Refuses c.args.most (alternative ps c.loop-place.length ∷ []) c.in_err-push.field-0.0) made (rw c.new-single.ensures at c.in_err-push.ensures.err)))
 
 pub listing_together-together-requires-2-clause-first : goal.listing_together-together-requires-2-clause-first
 listing_together-together-requires-2-clause-first t c =
@@ -320,7 +321,7 @@ listing_together-returns-clause-err t c =
     let this : List (Alternative UnitPlace) = listed (whole are.pairs c.loop-place.length) ∷ [] in
     let pushed : c.push.new.self ≡ this = (rw c.new-single.ensures at c.in_ok-push.ensures.ok) ∙ ap (λ ps. alternative ps c.loop-place.length ∷ []) made in
     let joined = ap (λ xs. joins xs c.loop-place.others) pushed ∙ all_beside known es c.loop-place.leaves c.loop-place.length c.loop-place.others are some c.requires.formed in
-    subst (λ (xs : List (Alternative UnitPlace)). IfErr c.together-2.result (Refuses xs)) joined c.together-2.ensures.err
+    subst (λ (xs : List (Alternative UnitPlace)). IfErr c.together-2.result (Refuses c.args.most xs)) joined c.together-2.ensures.err
 
 pub listing_together-pairs-requires-clause-ends : goal.listing_together-pairs-requires-clause-ends
 listing_together-pairs-requires-clause-ends t c = c.loop-place.invariant.ends
@@ -341,3 +342,10 @@ listing_together-bounds-singles-place t c = omega (arith, tell_length (known_alt
 
 pub listing_parts-split_at-requires-2 : goal.listing_parts-split_at-requires-2
 listing_parts-split_at-requires-2 t c = omega (arith, tell_length (known_alternatives c.args.known.now) c.args.parts.now c.args.singles.now c.requires.told)
+
+pub listing_together-returns-in_err-others-clause-err : goal.listing_together-returns-in_err-others-clause-err
+listing_together-returns-in_err-others-clause-err t c =
+    let es = expressions c.args.parts.now in
+    let some : 0 < length es = simp length-map c.requires.some in
+    let p = err_from_is_err_and c.from_residual.result c.from_residual.ensures.1 in
+    rw (p.1, p.2) (refused_idle c.args.known.now es some c.requires.formed c.requires.known c.args.most _ c.in_err-others.ensures.err)

@@ -17,4 +17,4 @@ push_choices-requires-clause-short c = chosen_short (joined_by c.args.joining) c
 pub returns-in_err-push_choices-clause-err : goal.returns-in_err-push_choices-clause-err
 returns-in_err-push_choices-clause-err c =
     let p = err_from_is_err_and c.from_residual.result c.from_residual.ensures.1 in
-    rw (p.1, p.2) (chosen_refused (joined_by c.args.joining) c.args.firsts.now (alternatives c.args.seconds.now) c.loop-first.first-index c.first-item.result c.loop-first-test.true c.first-item.is c.loop-first.listing _ c.loop-first.invariant c.in_err-push_choices.ensures.err)
+    rw (p.1, p.2) (chosen_refused (joined_by c.args.joining) c.args.firsts.now (alternatives c.args.seconds.now) c.loop-first.first-index c.first-item.result c.loop-first-test.true c.first-item.is c.args.most c.loop-first.listing _ c.loop-first.invariant.0 c.in_err-push_choices.ensures.err)

@@ -19,5 +19,5 @@ pub returns-in_err-push_joined-clause-err : goal.returns-in_err-push_joined-clau
 returns-in_err-push_joined-clause-err c =
     let join = joined_by c.args.joining (alternative_of c.args.first.now) in
     let p = err_from_is_err_and c.from_residual.result c.from_residual.ensures.1 in
-    rw (p.1, p.2) (refused_so_far c.args.listing.now join c.args.seconds.now c.loop-second.second-index c.second-item.result c.loop-second.listing (join (alternative_of c.second-item.result)) _ c.loop-second-test.true c.loop-second.invariant
+    rw (p.1, p.2) (refused_so_far c.args.most c.args.listing.now join c.args.seconds.now c.loop-second.second-index c.second-item.result c.loop-second.listing (join (alternative_of c.second-item.result)) _ c.loop-second-test.true c.loop-second.invariant.0
     (ap (λ a. join (alternative_of a)) c.second-item.is) c.in_err-push_joined.ensures.err)

@@ -6,4 +6,4 @@ use Rattle.hz_expand.proofs.state.expanded.Goals as goal
 
 pub returns : goal.returns
 returns c =
-    made_told (alternatives_of (known_alternatives c.args.known.now) (expression c.args.expr.now)) c.requires.few c.requires.short c.expand.result c.made_if_listed.result c.expand.ensures.answer c.expand.ensures.sound c.made_if_listed.ensures
+    made_told c.args.most (alternatives_of (known_alternatives c.args.known.now) (expression c.args.expr.now)) c.requires.few c.requires.short c.expand_within.result c.made_if_listed.result c.expand_within.ensures.answer c.expand_within.ensures.sound c.made_if_listed.ensures
