@@ -3,7 +3,7 @@ pub mod Twice
 pub mod PastUnits
 pub mod Bypasses
 pub mod Steps
-use Rattle.std.specs.Prelude.{◌≡◌, ℕ, List, ⊤, Result, IsErr, MatchResult}
+use Rattle.std.specs.Prelude.{◌≡◌, ℕ, List, ⊤, Result, Ok, Err, IsErr}
 use Rattle.hz_check.specs.declared.fault.LimitName.{LimitName}
 use Rattle.hz_check.specs.declared.fault.LimitName.TheVariants.{Automata, Units, Classes, Alternatives, Cycles, Size}
 use Rattle.hz_check.specs.declared.fault.CheckFault.{CheckFault}
@@ -80,15 +80,22 @@ fault_named wrong.AlternationOfTwoAutomata line name = AlternationOfTwoAutomata 
 fault_named wrong.AlternationOfTwoLengths line name = AlternationOfTwoLengths line name
 fault_named wrong.BypassTwice line name = BypassTwice line name
 
--- the site where the sizes pass their limit; want of memory stays
-abbrev pub IsSiteOfSize : {E : Type 0} → Unexpanded → Result Site E → Type 0
-IsSiteOfSize (unexpanded.Size site) found = MatchResult found (λ at. at ≡ site) (λ _. ⊥)
-IsSiteOfSize unexpanded.NoMemory found = IsErr found
+-- what is wrong, with a line and the name that was copied; want of memory stays
+abbrev pub fault_if_copied : {E : Type 0} → Wrong → ℕ → Result (List ℕ) E → CheckFault
+fault_if_copied what line (Ok name) = fault_named what line name
+fault_if_copied what line (Err e) = NoMemory
 
--- the place of the reservation that reaches itself; want of memory stays
-abbrev pub IsPlaceOfCircle : {E : Type 0} → OrderFault → Result ℕ E → Type 0
-IsPlaceOfCircle (order.Circular place) found = MatchResult found (λ at. at ≡ place) (λ _. ⊥)
-IsPlaceOfCircle order.NoMemory found = IsErr found
+-- what is expanded, or the site where the sizes pass their limit; want of memory stays
+abbrev pub IsListsOrSite : {A E : Type 0} → Result A Unexpanded → Result (Result A Site) E → Type 0
+IsListsOrSite (Ok lists) told = told ≡ Ok (Ok lists)
+IsListsOrSite (Err (unexpanded.Size site)) told = told ≡ Ok (Err site)
+IsListsOrSite (Err unexpanded.NoMemory) told = IsErr told
+
+-- the order, or the place of the reservation that reaches itself; want of memory stays
+abbrev pub IsOrderOrCircle : {A E : Type 0} → Result A OrderFault → Result (Result A ℕ) E → Type 0
+IsOrderOrCircle (Ok counted) told = told ≡ Ok (Ok counted)
+IsOrderOrCircle (Err (order.Circular place)) told = told ≡ Ok (Err place)
+IsOrderOrCircle (Err order.NoMemory) told = IsErr told
 
 -- what is wrong, and where
 abbrev pub told_of : Told → first.Told model.CheckFault

@@ -1,13 +1,13 @@
 -- From what a step finds to the fault that is told.
-use Rattle.std.proofs.Common.{◌≡◌, ℕ, ◌≤◌, true, false, List, [], ◌∷◌, length, drop, get_or, Option, Some, None, Ok, refl, sym, ap, ◌∙◌, subst, arith}
+use Rattle.std.proofs.Common.{◌≡◌, ℕ, ◌≤◌, true, false, List, [], ◌∷◌, length, drop, get_or, Option, Some, None, Result, Ok, Err, refl, sym, ap, ◌∙◌, subst, arith}
 use Rattle.std.specs.Option.{option_map}
-use Rattle.std.specs.Prelude.{IsSomeAnd, slice_get}
+use Rattle.std.specs.Prelude.{IfOk, IfErr, IsSomeAnd, slice_get}
 use Rattle.std.proofs.lemmas.List.{length-map, length-drop}
 use Rattle.std.proofs.lemmas.Option.{slice_get-map, get_or_from_slice_get}
 use Rattle.hz_check.specs.declared.fault.CheckFault.{CheckFault}
 use Rattle.hz_check.specs.declared.fault.CheckFault.TheVariants.{TwiceDefined, ReservedName, UnknownName, UnknownAutomaton, UnitNeedsAutomaton, CircularReservation, SelfExclusion, SetAcrossAutomata, Limit, AlternationOfTwoAutomata, AlternationOfTwoLengths, BypassTwice, NoMemory}
 use Rattle.hz_check.specs.Faults.Steps.{IsOrdered, AreWithin}
-use Rattle.hz_check.specs.Faults.{Tells, IsToldAt, IsToldHere, IsSiteOfSize, IsPlaceOfCircle, fault_named, limit_of, told_of, wrong_of}
+use Rattle.hz_check.specs.Faults.{Tells, IsToldAt, IsToldHere, IsListsOrSite, IsOrderOrCircle, fault_if_copied, fault_named, limit_of, told_of, wrong_of}
 use Rattle.hz_check.specs.declared.faults.told.Told.{Told as Stored}
 use Rattle.hz_check.specs.declared.faults.told.Wrong.{Wrong}
 use Rattle.hz_check.specs.declared.faults.told.Wrong.TheVariants as wrong
@@ -82,15 +82,26 @@ named_there told line name at called = go told.wrong refl
     go wrong.AlternationOfTwoLengths is = here wrong.AlternationOfTwoLengths is
     go wrong.BypassTwice is = here wrong.BypassTwice is
 
--- the site that was found is where the sizes pass their limit
-pub site_past_size : (E : Type 0) (d : Description) (order : List Reserving) (why : Unexpanded) (site : StoredSite) → Refuses d order why → IsSiteOfSize {E = E} why (Ok site) → IsPastSize d order (site_of site)
-site_past_size E d order (unexpanded.Size at) site refuses is = subst (λ s. IsPastSize d order (site_of s)) (sym is) refuses
-site_past_size E d order unexpanded.NoMemory site refuses is = absurd (let e : false ≡ true = is in cc)
+-- a fault with the line of its site and the name that was copied there is told there
+pub copied_there : {E : Type 0} (told : Stored) (copied : Result (List ℕ) E) → IfOk copied (λ name. name ≡ told.site.name.now) → Tells (IsToldHere (told_of told)) (fault_if_copied told.wrong told.site.line copied)
+copied_there told (Ok name) same = named_there told told.site.line name refl same
+copied_there told (Err e) same = tt
 
--- the place that was found is that of the first reservation that reaches itself
-pub place_circles : (E : Type 0) (d : Description) (why : OrderFault) (place : ℕ) → TellsCircle d why → IsPlaceOfCircle {E = E} why (Ok place) → TellsCircle d (order.Circular place)
-place_circles E d (order.Circular at) place tells is = subst (λ (p : ℕ). TellsCircle d (order.Circular p)) (sym is) tells
-place_circles E d order.NoMemory place tells is = absurd (let e : false ≡ true = is in cc)
+-- a site that is answered is where the sizes pass their limit
+pub site_past_size : {A E : Type 0} (d : Description) (order : List Reserving) (expanded : Result A Unexpanded) (told : Result (Result A StoredSite) E)
+    → IfErr expanded (Refuses d order) → IsListsOrSite expanded told → IfOk told (λ found. IfErr found (λ site. IsPastSize d order (site_of site)))
+site_past_size d order (Ok lists) told refuses is = subst (λ t. IfOk t (λ found. IfErr found (λ site. IsPastSize d order (site_of site)))) (sym is) tt
+site_past_size d order (Err (unexpanded.Size at)) told refuses is = subst (λ t. IfOk t (λ found. IfErr found (λ site. IsPastSize d order (site_of site)))) (sym is) refuses
+site_past_size d order (Err unexpanded.NoMemory) (Ok found) refuses is = absurd (let e : false ≡ true = is in cc)
+site_past_size d order (Err unexpanded.NoMemory) (Err e) refuses is = tt
+
+-- a place that is answered is that of the first reservation that reaches itself
+pub place_circles : {A E : Type 0} (d : Description) (counted : Result A OrderFault) (told : Result (Result A ℕ) E)
+    → IfErr counted (TellsCircle d) → IsOrderOrCircle counted told → IfOk told (λ found. IfErr found (λ place. TellsCircle d (order.Circular place)))
+place_circles d (Ok numbers) told tells is = subst (λ t. IfOk t (λ found. IfErr found (λ place. TellsCircle d (order.Circular place)))) (sym is) tt
+place_circles d (Err (order.Circular at)) told tells is = subst (λ t. IfOk t (λ found. IfErr found (λ place. TellsCircle d (order.Circular place)))) (sym is) tells
+place_circles d (Err order.NoMemory) (Ok found) tells is = absurd (let e : false ≡ true = is in cc)
+place_circles d (Err order.NoMemory) (Err e) tells is = tt
 
 -- what is told first of some faults
 pub record TellsFirst (faults : List (Standing model.CheckFault)) (told : Option (Told model.CheckFault)) : Type 0 where

@@ -3,7 +3,7 @@
 ghost use Rattle.std.specs.Prelude.{IfOk, IfErr};
 ghost use Rattle.hz_mdread.specs.Shape.{description};
 ghost use Rattle.hz_check.specs.Faults.Steps.{IsOrdered, AreWithin};
-ghost use Rattle.hz_check.specs.Faults.{Tells, IsToldAt, IsSiteOfSize};
+ghost use Rattle.hz_check.specs.Faults.{Tells, IsToldAt, IsListsOrSite};
 ghost use Rattle.hz_check.specs.Faults.PastUnits.{ArePlaces};
 ghost use Rattle.hz_expand.specs.Answers.{AreExpanded};
 ghost use Rattle.hz_expand.specs.Past.{AreWithinExtents};
@@ -18,13 +18,16 @@ use hz_mdread::Description;
 use hz_regexp::NoMemory;
 use std::alloc::Global;
 
-/// The site where the sizes pass their limit; want of memory stays what it is.
-fn site_of_size<'a>(why: Unexpanded<'a>) -> Result<Site<'a>, NoMemory>
-    ensures { IsSiteOfSize why.entry result }
+/// The alternatives of the classes, or the site where the sizes pass their limit; want of memory stays what it is.
+fn lists_or_site<'a>(
+    expanded: Result<Vec<Vec<Alt>>, Unexpanded<'a>>,
+) -> Result<Result<Vec<Vec<Alt>>, Site<'a>>, NoMemory>
+    ensures { IsListsOrSite expanded.entry result }
 {
-    match why {
-        Unexpanded::Size(site) => Ok(site),
-        Unexpanded::NoMemory => Err(NoMemory),
+    match expanded {
+        Ok(lists) => Ok(Ok(lists)),
+        Err(Unexpanded::Size(site)) => Ok(Err(site)),
+        Err(Unexpanded::NoMemory) => Err(NoMemory),
     }
 }
 
@@ -52,10 +55,9 @@ pub(crate) fn expanded(
         let what = LimitName::Cycles;
         return Err(refused(Wrong::Limit(what), site));
     }
-    match expand_all(alloc, desc, units, order) {
+    match lists_or_site(expand_all(alloc, desc, units, order))? {
         Ok(lists) => Ok(lists),
-        Err(why) => {
-            let site = site_of_size(why)?;
+        Err(site) => {
             let what = LimitName::Size;
             Err(refused(Wrong::Limit(what), site))
         }

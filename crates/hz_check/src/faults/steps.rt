@@ -4,7 +4,7 @@ ghost use Rattle.std.specs.Prelude.{◌≡◌, IfOk, IfErr, None};
 ghost use Rattle.std.specs.List.{AllPairs};
 ghost use Rattle.hz_mdread.specs.Shape.{description};
 ghost use Rattle.hz_check.specs.Faults.Steps.{IsOrdered, AreWithin};
-ghost use Rattle.hz_check.specs.Faults.{Tells, IsToldAt, IsPlaceOfCircle};
+ghost use Rattle.hz_check.specs.Faults.{Tells, IsToldAt, IsOrderOrCircle};
 ghost use Rattle.hz_check.specs.Faults.PastUnits.{ArePlaces};
 ghost use Rattle.hz_check_model.specs.CheckFaults.{faults_of_names};
 ghost use Rattle.hz_check_model.specs.FirstTold.{first_told};
@@ -39,13 +39,14 @@ pub(crate) fn named<'a>(alloc: Global, desc: &'a Description) -> Result<Names<'a
     }
 }
 
-/// The place of the reservation that reaches itself; want of memory stays what it is.
-fn place_of_circle(why: OrderFault) -> Result<usize, NoMemory>
-    ensures { IsPlaceOfCircle why result }
+/// The counting order, or the place of the reservation that reaches itself; want of memory stays what it is.
+fn order_or_circle(counted: Result<Order, OrderFault>) -> Result<Result<Order, usize>, NoMemory>
+    ensures { IsOrderOrCircle counted result }
 {
-    match why {
-        OrderFault::Circular(place) => Ok(place),
-        OrderFault::NoMemory => Err(NoMemory),
+    match counted {
+        Ok(order) => Ok(Ok(order)),
+        Err(OrderFault::Circular(place)) => Ok(Err(place)),
+        Err(OrderFault::NoMemory) => Err(NoMemory),
     }
 }
 
@@ -56,10 +57,9 @@ pub(crate) fn ordered(alloc: Global, desc: &Description) -> Result<Order, CheckF
     ensures order { IfOk result (λ order. IsOrdered (description desc.now) order.numbers.items) }
     ensures err { IfErr result (Tells (IsToldAt (description desc.now))) }
 {
-    match counting_order(alloc, desc) {
+    match order_or_circle(counting_order(alloc, desc))? {
         Ok(order) => Ok(order),
-        Err(why) => {
-            let place = place_of_circle(why)?;
+        Err(place) => {
             let reservation = &desc.reservations[place];
             Err(refused(Wrong::CircularReservation, reservation.site()))
         }

@@ -2,13 +2,13 @@
 
 ghost use Rattle.std.specs.Prelude.{◌≡◌, None};
 ghost use Rattle.std.specs.Option.{option_map};
-ghost use Rattle.hz_check.specs.Faults.{Tells, IsToldHere, fault_named, told_of, wrong_of};
+ghost use Rattle.hz_check.specs.Faults.{Tells, IsToldHere, fault_if_copied, fault_named, told_of, wrong_of};
 ghost use Rattle.hz_unfold.specs.Places.{site_of, told};
 ghost use Rattle.hz_check_model.specs.FirstTold.{told_at};
 
 use crate::fault::{CheckFault, LimitName};
 use crate::names::site::Site;
-use hz_regexp::Name;
+use hz_regexp::{Name, NoMemory};
 
 /// What is wrong.
 #[derive(Clone, Copy)]
@@ -64,14 +64,21 @@ fn with_name(wrong: Wrong, line: u32, name: Name) -> CheckFault
     }
 }
 
+/// The fault with a line and the name that was copied; want of memory stays what it is.
+fn fault_if_copied(wrong: Wrong, line: u32, copied: Result<Name, NoMemory>) -> CheckFault
+    ensures { result ≡ fault_if_copied wrong line copied }
+{
+    match copied {
+        Ok(name) => with_name(wrong, line, name),
+        Err(_) => CheckFault::NoMemory,
+    }
+}
+
 /// The fault with the line and the name of its site.
 pub(crate) fn fault(told: Told<'_>) -> CheckFault
     ensures { Tells (IsToldHere (told_of told.entry)) result }
 {
-    match told.site.name.copy() {
-        Ok(name) => with_name(told.wrong, told.site.line, name),
-        Err(_) => CheckFault::NoMemory,
-    }
+    fault_if_copied(told.wrong, told.site.line, told.site.name.copy())
 }
 
 /// What is wrong at this site, with its line and its name.

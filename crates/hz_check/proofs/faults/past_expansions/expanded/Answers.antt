@@ -1,5 +1,6 @@
-use Rattle.std.proofs.Common.{sym, ap, ◌∙◌}
+use Rattle.std.proofs.Common.{IfErr, Ok, sym, ap, ◌∙◌, subst}
 use Rattle.hz_mdread.specs.Shape.{description}
+use Rattle.hz_expand.specs.Answers.{IsPastSize}
 use Rattle.hz_unfold.specs.Places.{site_of, told}
 use Rattle.hz_unfold.specs.Orders.{reservings}
 use Rattle.hz_check_model.specs.CheckFaults.{limit, alternatives, cycles, size}
@@ -18,10 +19,13 @@ returns-in-Some-cycles-clause-err c =
     (stop (sym (c.in_ok-past.ensures.long known right) ∙ ap told c.in-Some-cycles.is)))
     c.refused-in-Some-cycles.result c.refused-in-Some-cycles.ensures
 
-pub returns-in_ok-site-in-Err-clause-err : goal.returns-in_ok-site-in-Err-clause-err
-returns-in_ok-site-in-Err-clause-err c =
-    let past = site_past_size _ (description c.args.desc.now) (reservings (description c.args.desc.now) c.args.order.now) c.in-Err.why c.in_ok-site-in-Err.site c.in-Err.ensures.err c.in_ok-site-in-Err.ensures in
-    behind_within (description c.args.desc.now) c.args.order.now c.requires.ordered c.requires.within (record { fault = limit size; site = site_of c.in_ok-site-in-Err.site })
+pub returns-in-Err-clause-err : goal.returns-in-Err-clause-err
+returns-in-Err-clause-err c =
+    let d = description c.args.desc.now in
+    let order = reservings d c.args.order.now in
+    let answered = site_past_size d order c.expand_all.result (Ok c.in_ok-lists.field-0) c.expand_all.ensures.err c.in_ok-lists.ensures in
+    let past : IsPastSize d order (site_of c.in-Err.site) = subst (λ found. IfErr found (λ site. IsPastSize d order (site_of site))) c.in-Err.is answered in
+    behind_within d c.args.order.now c.requires.ordered c.requires.within (record { fault = limit size; site = site_of c.in-Err.site })
     (λ known right. skip (sym (c.in_ok-past.ensures.many known right) ∙ ap told c.in_default.is)
     (skip (sym (c.in_ok-past.ensures.long known right) ∙ ap told c.in_default-cycles.is)
     (stop (past.first known right))))
