@@ -300,6 +300,47 @@ expect 2 'fault return line 1 BadByte' compile return
 printf '\n(define_cpu_unit "a\351")\n' > accent
 expect 2 'fault accent line 2 BadByte' compile accent
 
+# what is wrong behind 50,000 lines, with a name of 300 bytes
+long_name=$(head -c 300 /dev/zero | tr '\0' n)
+yes '' | head -n 50000 > feeds
+{ cat feeds; echo "(define_cpu_unit \"$long_name,$long_name\")"; } > late
+{ cat feeds; echo "(define_reservation \"$long_name\" \"nothing*257\")"; } > late_limit
+{ cat feeds; echo "(define_cpu_unit \"$long_name\")"; echo "(define_insn_reservation \"$long_name\" 1 (const_int 1) \"$long_name\")"; } > late_class
+{ cat feeds; echo "issue $long_name"; echo "issue $long_name"; } > late_issues
+{ cat feeds; echo 'issue'; } > late_trace
+{ cat feeds; echo '(insn 1 (use (reg 256)))'; } > late_block
+{ head -n 6 k; echo 'automaton - 2 50000'; echo 'map 0 1'; yes 'row 1 1 0' | head -n 49999; echo 'row 01 1 0'; echo end; } > late_tables
+expect 2 "fault late line 50001 TwiceDefined $long_name" compile late
+expect 2 "fault late line 50001 TwiceDefined $long_name" replay late t
+expect 2 "fault late line 50001 TwiceDefined $long_name" schedule late b
+expect 2 "fault late line 50001 TwiceDefined $long_name" drill late 1 4
+expect 3 "limit late_limit line 50001 Cycles $long_name" replay late_limit t
+expect 1 "refused line 50002 $long_name" replay late_class late_issues
+expect 2 'fault late_trace line 50001 BadLine' replay d late_trace
+expect 2 'fault late_trace line 50001 BadLine' walk k late_trace
+expect 2 'fault late_tables line 50008 BadNumber' walk late_tables t
+expect 2 'fault late_block line 50001 RegisterRange' schedule d late_block
+expect 2 'fault late_block line 50001 RegisterRange' eval late_block s
+expect 2 'fault late_block line 50001 BadShape' eval b late_block
+expect 6 "file $long_name/$long_name could not be read" replay "$long_name/$long_name" t
+
+# each other answer where standard output is closed or full
+expect_sink replay d twice
+expect_sink walk k both
+expect_sink replay late t
+expect_sink replay alternatives t
+expect_sink compile states
+expect_sink replay long t
+expect_sink compile missing
+expect_sink replay missing t
+expect_sink replay d folder
+expect_sink walk k missing
+expect_sink schedule d missing
+expect_sink eval b missing
+expect_sink drill missing 1 4
+expect_sink
+expect_sink replay d
+
 # a description and a trace that come in parts
 { head -c 20 d; sleep 1; tail -c +21 d; } | { expect 0 'accepted 2 issues 1 cycles' replay /dev/stdin t; exit $bad; } || bad=1
 { head -c 3 twice; sleep 1; tail -c +4 twice; } | { expect 1 'refused line 2 x' replay d /dev/stdin; exit $bad; } || bad=1
