@@ -7,6 +7,7 @@ mod checks;
 mod drills;
 mod failures;
 mod hostile;
+mod late;
 mod limits;
 mod machines;
 mod malformed;

@@ -1,5 +1,6 @@
 //! Other words, long files, and files and sinks that fail.
 
+use super::machines::SUPERSCALAR;
 use super::{LATE, NEVER, ROOM, expect, files_of};
 use std::alloc::Global;
 use std::process::Abort;
@@ -126,4 +127,56 @@ fn a_sink_without_room_keeps_the_front_of_the_text(rt: HostRuntime) -> Result<()
     let files = files_of(&rt, alloc, LATE, b"", NEVER, 64)?;
     expect(&rt, alloc, &["replay", "d", "t"], files, 27, 0, text)?;
     Ok(())
+}
+
+/// A trace that the superscalar example refuses.
+const REFUSED: &[u8] = b"issue float\nadvance 1\nissue simple\nissue simple\n";
+
+/// The calls that read a file by 64 bytes: the opening, the reads of its bytes, and the one that finds its end.
+fn calls(bytes: &[u8]) -> u64 {
+    bytes.len().div_ceil(64) as u64 + 2
+}
+
+#[test]
+fn each_call_of_a_refused_replay_names_its_file(rt: HostRuntime) -> Result<(), Fail> {
+    let alloc = rt.alloc();
+    let words = ["replay", "d", "t"];
+    let before = calls(SUPERSCALAR);
+    let all = before.saturating_add(calls(REFUSED));
+    for fail in 0..all {
+        let files = files_of(&rt, alloc, SUPERSCALAR, REFUSED, fail, 64)?;
+        let told = if fail < before {
+            b"file d could not be read\n".as_slice()
+        } else {
+            b"file t could not be read\n".as_slice()
+        };
+        expect(&rt, alloc, &words, files, ROOM, 6, told)?;
+    }
+    let files = files_of(&rt, alloc, SUPERSCALAR, REFUSED, all, 64)?;
+    let text = b"refused line 4 simple\n";
+    expect(&rt, alloc, &words, files, ROOM, 1, text)
+}
+
+#[test]
+fn a_sink_without_room_keeps_the_front_of_a_refusal(rt: HostRuntime) -> Result<(), Fail> {
+    let alloc = rt.alloc();
+    let words = ["replay", "d", "t"];
+    let text = b"refused line 4 simple\n".as_slice();
+    for room in 0..22 {
+        let files = files_of(&rt, alloc, SUPERSCALAR, REFUSED, NEVER, 64)?;
+        expect(&rt, alloc, &words, files, room, 7, &text[..room as usize])?;
+    }
+    let files = files_of(&rt, alloc, SUPERSCALAR, REFUSED, NEVER, 64)?;
+    expect(&rt, alloc, &words, files, 22, 1, text)
+}
+
+#[test]
+fn the_superscalar_example_is_not_read_or_not_written(rt: HostRuntime) -> Result<(), Fail> {
+    let alloc = rt.alloc();
+    let words = ["replay", "d", "t"];
+    let files = files_of(&rt, alloc, SUPERSCALAR, b"", 2, 64)?;
+    let text = b"file d could not be read\n";
+    expect(&rt, alloc, &words, files, ROOM, 6, text)?;
+    let files = files_of(&rt, alloc, SUPERSCALAR, b"", NEVER, 64)?;
+    expect(&rt, alloc, &words, files, 4, 7, b"acce")
 }

@@ -2,7 +2,7 @@
 
 ghost use Rattle.std.specs.Prelude.{◌≡◌, IfOk};
 
-use super::{NEVER, ROOM, answers, expect, name_of};
+use super::{NEVER, ROOM, answers, expect, files_of, name_of};
 use hz_io::MemFiles;
 use std::alloc::Global;
 use std::process::Abort;
@@ -113,6 +113,152 @@ fn a_sink_keeps_what_it_has_room_for_in_each_command(rt: HostRuntime) -> Result<
         }
         let files = files_with(&rt, alloc, first, second, NEVER)?;
         expect(&rt, alloc, words, files, text.len() as u32, 0, text)?;
+    }
+    Ok(())
+}
+
+/// Words with another answer than status 0: the bytes of their files `f` and `g`, and the status and the text.
+const OTHER_ROWS: &[(&[&str], &[u8], &[u8], u8, &[u8])] = &[
+    // a trace that is refused
+    (
+        &["replay", "f", "g"],
+        DESCRIPTION,
+        b"issue x\nissue x\n",
+        1,
+        b"refused line 2 x\n",
+    ),
+    (
+        &["walk", "f", "g"],
+        TABLES,
+        b"issue x\nissue x\n",
+        1,
+        b"refused line 2 x\n",
+    ),
+    // a fault: of forms, of a name, of an expression, of tables, of a trace, of a block, of an instruction and of a state
+    (&["compile", "f"], b"\n)", b"", 2, b"fault f line 2 Stray\n"),
+    (
+        &["compile", "f"],
+        b"(define_cpu_unit \"u,u\")",
+        b"",
+        2,
+        b"fault f line 1 TwiceDefined u\n",
+    ),
+    (
+        &["drill", "f", "1", "4"],
+        b"(define_reservation \"r\" \"u,,u\")",
+        b"",
+        2,
+        b"fault f line 1 BadExpression Unexpected 2\n",
+    ),
+    (
+        &["walk", "f", "g"],
+        b"hazard-tables 3\n",
+        b"",
+        2,
+        b"fault f line 1 BadHeader\n",
+    ),
+    (
+        &["replay", "f", "g"],
+        DESCRIPTION,
+        b"issue y\n",
+        2,
+        b"fault g line 1 UnknownClass\n",
+    ),
+    (
+        &["schedule", "f", "g"],
+        DESCRIPTION,
+        b"(insn 1)",
+        2,
+        b"fault g line 1 BadShape\n",
+    ),
+    (
+        &["schedule", "f", "g"],
+        b"(define_insn_reservation \"x\" 1 (const_int 1) \"nothing\")\n(define_insn_reservation \"y\" 1 (const_int 1) \"nothing\")",
+        BLOCK,
+        2,
+        b"fault g line 1 Ambiguous insn 1 x y\n",
+    ),
+    (
+        &["eval", "f", "g"],
+        BLOCK,
+        b"(reg 256 1)",
+        2,
+        b"fault g line 1 RegisterRange\n",
+    ),
+    // a limit: of a description and of its states
+    (
+        &["compile", "f"],
+        b"(define_insn_reservation \"x\" 1 (const_int 1) \"nothing*257\")",
+        b"",
+        3,
+        b"limit f line 1 Cycles x\n",
+    ),
+    (
+        &["replay", "f", "g"],
+        b"(automata_option \"v,no-minimization\")(define_cpu_unit \"u\")(define_insn_reservation \"x\" 1 (const_int 1) \"nothing*12,u\")",
+        b"",
+        3,
+        b"limit f automaton -\n",
+    ),
+    // other words
+    (
+        &["replay", "f"],
+        DESCRIPTION,
+        b"",
+        4,
+        b"usage: hz compile DESC | replay DESC TRACE | walk TABLES TRACE | schedule DESC BLOCK | eval BLOCK STATE | drill DESC NUMBER COUNT\n",
+    ),
+    // a file that is not there
+    (
+        &["replay", "f", "h"],
+        DESCRIPTION,
+        b"",
+        6,
+        b"file h could not be read\n",
+    ),
+];
+
+#[test]
+fn a_sink_keeps_what_it_has_room_for_of_each_other_answer(rt: HostRuntime) -> Result<(), Fail> {
+    let alloc = rt.alloc();
+    for (words, first, second, status, text) in OTHER_ROWS {
+        for room in 0..text.len() {
+            let files = files_with(&rt, alloc, first, second, NEVER)?;
+            expect(&rt, alloc, words, files, room as u32, 7, &text[..room])?;
+        }
+        let files = files_with(&rt, alloc, first, second, NEVER)?;
+        expect(&rt, alloc, words, files, text.len() as u32, *status, text)?;
+    }
+    Ok(())
+}
+
+#[test]
+fn a_sink_keeps_what_it_has_room_for_of_a_long_file(rt: HostRuntime) -> Result<(), Fail> {
+    let alloc = rt.alloc();
+    let text = b"limit d bytes\n".as_slice();
+    let long = vec![in alloc; b' '; 4_194_305]?;
+    for room in 0..14 {
+        let files = files_of(&rt, alloc, long.as_slice(), b"", NEVER, 65_536)?;
+        let front = &text[..room as usize];
+        expect(&rt, alloc, &["compile", "d"], files, room, 7, front)?;
+    }
+    let files = files_of(&rt, alloc, long.as_slice(), b"", NEVER, 65_536)?;
+    expect(&rt, alloc, &["compile", "d"], files, 14, 3, text)
+}
+
+#[test]
+fn a_sink_that_fails_behind_a_file_decides_the_status(rt: HostRuntime) -> Result<(), Fail> {
+    let alloc = rt.alloc();
+    let text = b"file f could not be read\n".as_slice();
+    for (words, first, second, _text) in COMMANDS {
+        for fail in 0..calls(first) {
+            for room in 0..25 {
+                let files = files_with(&rt, alloc, first, second, fail)?;
+                expect(&rt, alloc, words, files, room, 7, &text[..room as usize])?;
+            }
+            let files = files_with(&rt, alloc, first, second, fail)?;
+            expect(&rt, alloc, words, files, 25, 6, text)?;
+        }
     }
     Ok(())
 }

@@ -45,6 +45,8 @@ pub const SUPERSCALAR_ROWS: &[(&[u8], u8, &[u8])] = &[
         b"refused line 5 simple\n",
     ),
     (b"issue none\n", 2, b"fault t line 1 UnknownClass\n"),
+    (b"issue nosuch", 2, b"fault t line 1 UnknownClass\n"),
+    (b"advance -1", 2, b"fault t line 1 BadLine\n"),
 ];
 
 #[test]

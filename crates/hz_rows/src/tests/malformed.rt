@@ -16,7 +16,7 @@ const ON_DESCRIPTIONS: [&[&str]; 4] = [
 ];
 
 /// Asserts the status and the text of each command on a description.
-fn each_tells(
+pub fn each_tells(
     rt: &impl Abort,
     alloc: Global,
     description: &[u8],
@@ -82,7 +82,7 @@ const DESCRIPTION_ROWS: &[(&[u8], u8, &[u8])] = &[
         b"fault d line 2 SelfExclusion v\n",
     ),
     (
-        b"(define_automaton \"a,b\")\n(define_cpu_unit \"a0\" \"a\")\n(define_cpu_unit \"b0\" \"b\")\n(exclusion_set \"a0\" \"b0\")",
+        b"(define_automaton \"a,b\")\n(define_cpu_unit \"a0,a1\" \"a\")\n(define_cpu_unit \"b0,b1\" \"b\")\n(exclusion_set \"a0\" \"b0\")",
         2,
         b"fault d line 4 SetAcrossAutomata b0\n",
     ),

@@ -134,6 +134,7 @@ const LINE_ROWS: &[(usize, &str, u8, &[u8])] = &[
     (11, "end", 2, b"fault k line 11 BadLine\n"),
     (3, "classes 02", 2, b"fault k line 3 BadNumber\n"),
     (6, "automata one", 2, b"fault k line 6 BadNumber\n"),
+    (9, "row 01 1 0", 2, b"fault k line 9 BadNumber\n"),
     (9, "row 1 1 -", 2, b"fault k line 9 BadNumber\n"),
     (3, "classes 1025", 2, b"fault k line 3 OutOfRange\n"),
     (6, "automata 17", 2, b"fault k line 6 OutOfRange\n"),
@@ -170,6 +171,10 @@ fn texts_of_tables_are_walked_or_have_a_fault(rt: HostRuntime) -> Result<(), Fai
         let tables = text_with(alloc, *number, line)?;
         walks(&rt, alloc, tables.as_bytes(), trace, *status, text)?;
     }
+    let mut longer = text_with(alloc, 0, "")?;
+    longer.push_str("x")?;
+    let text = b"fault k line 13 Trailing\n";
+    walks(&rt, alloc, longer.as_bytes(), trace, 2, text)?;
     walks(&rt, alloc, CUT, b"", 2, b"fault k line 12 Truncated\n")?;
     walks(&rt, alloc, b"", b"", 2, b"fault k line 1 Truncated\n")?;
     walks(&rt, alloc, b"hazard", b"", 2, b"fault k line 1 Truncated\n")
