@@ -114,7 +114,7 @@ fn width_of(table: &Table) -> Option<u32> {
     }
 }
 
-/// Options, how many classes, how many states, and the bytes of a cell.
+/// Options, how many classes, how many grids are found and are states, and the bytes of a cell.
 const WIDTHS: [(&str, u32, u32, Option<u32>); 5] = [
     ("", 7, 128, Some(1)),
     ("", 8, 256, Some(2)),
@@ -130,7 +130,8 @@ fn tables_are_kept_over_the_least_width(rt: HostRuntime) -> Result<(), Fail> {
         let text = calendar(alloc, option, classes)?;
         match compiled_of(&rt, alloc, text.as_bytes()) {
             Some(all) => {
-                assert!(rt; all.machine.parts.len() == 1);
+                assert!(rt; all.machine.parts.len() == 1 && all.reports.len() == 1);
+                assert!(rt; all.reports[0].grids == states);
                 let table = &all.machine.parts[0].table;
                 assert!(rt; table.states() == states);
                 assert!(rt; width_of(table) == width);
@@ -159,11 +160,14 @@ fn side_by_side(alloc: Global, units: u32) -> Result<String, Fail> {
     Ok(text)
 }
 
-/// Six pairs of units under `ndfa`. For each a class that takes either unit, one that takes the first, and where `both` stands one
-/// that takes the second: four sets of each pair are states, or five.
-fn pairs(alloc: Global, both: bool) -> Result<String, Fail> {
-    let mut text = format!(in alloc; "{SHOWN_SETS}")?;
-    for pair in 0..6 {
+/// Under `ndfa` alone the limits are 65,536 grids and states, and 1,048,576 members.
+const SETS: &str = "(automata_option \"ndfa\")";
+
+/// So many pairs of units behind an option. For each a class that takes either unit, one that takes the first, and where `both`
+/// stands one that takes the second: four sets of each pair are states, or five.
+fn pairs(alloc: Global, option: &str, count: u32, both: bool) -> Result<String, Fail> {
+    let mut text = String::from_str(alloc, option)?;
+    for pair in 0..count {
         let forms = format!(in alloc;
             "(define_cpu_unit \"a{pair},b{pair}\")(define_insn_reservation \"e{pair}\" 1 (const_int 1) \"a{pair}|b{pair}\")(define_insn_reservation \"f{pair}\" 1 (const_int 1) \"a{pair}\")"
         )?;
@@ -216,8 +220,11 @@ fn the_first_automaton_past_a_limit_is_told(rt: HostRuntime) -> Result<(), Fail>
         (side_by_side(alloc, 64)?, past(0, Kind::Cells)),
         (calendar(alloc, SHOWN_STATES, 12)?, None),
         (calendar(alloc, SHOWN_STATES, 13)?, past(0, Kind::Grids)),
-        (pairs(alloc, false)?, None),
-        (pairs(alloc, true)?, past(0, Kind::States)),
+        (pairs(alloc, SHOWN_SETS, 6, false)?, None),
+        (pairs(alloc, SHOWN_SETS, 6, true)?, past(0, Kind::States)),
+        // 65,536 states, and 78,125 of 16,384 grids with 279,936 members
+        (pairs(alloc, SETS, 8, false)?, None),
+        (pairs(alloc, SETS, 7, true)?, past(0, Kind::States)),
         (
             format!(in alloc; "{SHOWN_SETS}{FOURS}")?,
             past(0, Kind::Members),

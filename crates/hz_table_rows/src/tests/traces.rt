@@ -9,10 +9,11 @@ ghost use Rattle.hz_plain.specs.Examples.{shared};
 ghost use Rattle.hz_replay.specs.Traces.{events_in};
 
 use hz_regexp::{Name, NoMemory};
-use hz_replay::{Event, Outcome, TraceFault, What, read_trace, replay};
+use hz_replay::{Event, Outcome, Replayer, TraceFault, What, read_trace, replay};
 use hz_tables::{Machine, Part, Plain, Steps, Table};
 use std::alloc::Global;
 use std::marker::Brand;
+use std::process::Abort;
 use std::sync::ledger::{Blank, Ledger};
 use std::test::Fail;
 
@@ -182,5 +183,34 @@ fn the_first_event_that_does_not_fit_is_told(rt: HostRuntime) -> Result<(), Fail
     );
     let stops = outcome_of(alloc, &machine, &[wait, issue, issue]);
     assert!(rt; stops == Outcome::Refused { event: 2 });
+    Ok(())
+}
+
+// An issue of the class fits, the next one does not and leaves the state, and after a cycle it fits again.
+fn issues<L: Ledger>(rt: &impl Abort, alloc: Global, machine: &Machine, blank: Blank)
+    requires name { blank.name ≡ L.name }
+    requires parts { blank.parts ≡ L.parts }
+    requires some { 0 < blank.parts }
+    requires classes { 0 < length machine.now.classes.items }
+{
+    let mut steps = Steps::<L>::new(blank);
+    let mut replayer = Replayer::start(alloc, machine);
+    assert!(rt; replayer.states() == [0].as_slice());
+    assert!(rt; replayer.issue(0, &mut steps));
+    assert!(rt; replayer.states() == [1].as_slice());
+    assert!(rt; !replayer.issue(0, &mut steps));
+    assert!(rt; replayer.states() == [1].as_slice());
+    replayer.advance(&mut steps);
+    assert!(rt; replayer.states() == [0].as_slice());
+    assert!(rt; replayer.issue(0, &mut steps));
+    assert!(rt; replayer.states() == [1].as_slice());
+}
+
+#[test]
+fn an_issue_that_does_not_fit_leaves_the_states(rt: HostRuntime) -> Result<(), Fail> {
+    let alloc = rt.alloc();
+    let machine = machine(alloc)?;
+    assert!(rt; machine.classes.len() == 1);
+    issues::<Brand>(&rt, alloc, &machine, Blank::new(1));
     Ok(())
 }
