@@ -63,11 +63,10 @@ fn shown(alloc: Global, fault: &CheckFault) -> Result<Vec<u8>, AllocError> {
 }
 
 /// What is told of a text, or nothing where it has no fault.
-fn told(rt: &(impl Abort + AllocGlobal), text: &str) -> Result<Vec<u8>, Fail> {
+fn told(rt: &(impl Abort + AllocGlobal), text: &[u8]) -> Result<Vec<u8>, Fail> {
     let alloc = rt.alloc();
-    let bytes = text.as_bytes();
-    assert!(rt; bytes.len() < 100_000);
-    match answer_of(alloc, bytes).expect(rt, "a description") {
+    assert!(rt; text.len() < 100_000);
+    match answer_of(alloc, text).expect(rt, "a description") {
         Ok(_) => Ok(Vec::new(alloc)),
         Err(fault) => Ok(shown(alloc, &fault)?),
     }
@@ -172,11 +171,78 @@ fn each_fault_is_told(rt: HostRuntime) -> Result<(), Fail> {
     let alloc = rt.alloc();
     for (first, second, want) in FAULTS {
         let text = format!(in alloc; "{first}\n{second}")?;
-        let found = told(&rt, &text)?;
+        let found = told(&rt, text.as_bytes())?;
         assert_eq!(rt; found.as_slice(), want.as_bytes(), "{text}");
     }
     let memory = CheckFault::NoMemory.to_string(alloc)?;
     assert_eq!(rt; memory.as_bytes(), b"out of memory".as_slice());
+    Ok(())
+}
+
+/// What stands behind 50,000 line feeds, and what is told of it, with `@` for a name of 300 bytes.
+const LATE: [(&[u8], &[u8]); 9] = [
+    (
+        b"(define_cpu_unit \"@\")\n(define_reservation \"@\" \"nothing\")",
+        b"line 50002: defined twice @",
+    ),
+    (
+        b"(define_reservation \"r\" \"@\")",
+        b"line 50001: an unknown name @",
+    ),
+    (
+        b"(define_cpu_unit \"u\" \"@\")",
+        b"line 50001: an unknown automaton @",
+    ),
+    (
+        b"(define_automaton \"m\")\n(define_cpu_unit \"@\")",
+        b"line 50002: a unit without an automaton @",
+    ),
+    (
+        b"(define_reservation \"@\" \"@\")",
+        b"line 50001: a circular reservation @",
+    ),
+    (
+        b"(define_cpu_unit \"@\")\n(exclusion_set \"@\" \"@\")",
+        b"line 50002: a unit that excludes itself @",
+    ),
+    (
+        b"(define_automaton \"m,n\")(define_cpu_unit \"u\" \"m\")(define_cpu_unit \"@\" \"n\")\n(presence_set \"u\" \"@\")",
+        b"line 50002: a set over several automata @",
+    ),
+    (
+        b"(define_insn_reservation \"@\" 1 (const_int 1) \"nothing*257\")",
+        b"line 50001: too large Cycles @",
+    ),
+    (
+        b"(define_insn_reservation \"@\" 1 (const_int 1) \"nothing\")\n(define_bypass 1 \"@\" \"@\")\n(define_bypass 2 \"@\" \"@\")",
+        b"line 50003: a second number of a bypass @",
+    ),
+];
+
+/// The head, and behind it the text with a name of 300 bytes for each `@`.
+fn named(alloc: Global, head: &[u8], text: &[u8]) -> Result<Vec<u8>, Fail> {
+    let name = vec![in alloc; b'n'; 300]?;
+    let mut all = Vec::from_slice(alloc, head)?;
+    for byte in text {
+        if *byte == b'@' {
+            all.extend_from_slice(name.as_slice())?;
+        } else {
+            all.push(*byte)?;
+        }
+    }
+    Ok(all)
+}
+
+#[test]
+fn a_late_fault_is_told_at_its_line_with_its_long_name(rt: HostRuntime) -> Result<(), Fail> {
+    let alloc = rt.alloc();
+    let feeds = vec![in alloc; b'\n'; 50_000]?;
+    for (text, want) in LATE {
+        let text = named(alloc, feeds.as_slice(), text)?;
+        let want = named(alloc, b"", want)?;
+        let found = told(&rt, text.as_slice())?;
+        assert_eq!(rt; found.as_slice(), want.as_slice());
+    }
     Ok(())
 }
 
@@ -226,10 +292,10 @@ fn counts_are_at_their_limits(rt: HostRuntime) -> Result<(), Fail> {
     let alloc = rt.alloc();
     for (ends, piece, most, want) in COUNTS {
         let within = numbered(alloc, ends, piece, most)?;
-        assert_eq!(rt; told(&rt, &within)?.as_slice(), b"".as_slice());
+        assert_eq!(rt; told(&rt, within.as_bytes())?.as_slice(), b"".as_slice());
         assert!(rt; most < 2000);
         let past = numbered(alloc, ends, piece, most + 1)?;
-        assert_eq!(rt; told(&rt, &past)?.as_slice(), want.as_bytes());
+        assert_eq!(rt; told(&rt, past.as_bytes())?.as_slice(), want.as_bytes());
     }
     Ok(())
 }
