@@ -231,10 +231,10 @@ fn choices_have_at_most_65536_grids_and_1048576_members(rt: HostRuntime) -> Resu
     any(&rt, alloc, 12, 12, 3, limit)
 }
 
-/// Under `ndfa`, with each state to be shown: so many pairs of units, and for each a class that takes either unit, one that takes the
-/// first and one that takes the second. Five sets of each pair's grids are states.
-fn paired(alloc: Global, pairs: u32) -> Result<String, Fail> {
-    let mut text = String::from_str(alloc, "(automata_option \"ndfa,v,no-minimization\")")?;
+/// Under these options so many pairs of units, and for each a class that takes either unit, one that takes the first and one that
+/// takes the second. Five sets of each pair's grids are states.
+fn paired(alloc: Global, options: &str, pairs: u32) -> Result<String, Fail> {
+    let mut text = format!(in alloc; "(automata_option \"{options}\")")?;
     for pair in 0..pairs {
         let forms = format!(in alloc;
             "(define_cpu_unit \"a{pair},b{pair}\")(define_insn_reservation \"e{pair}\" 1 (const_int 1) \"a{pair}|b{pair}\")(define_insn_reservation \"f{pair}\" 1 (const_int 1) \"a{pair}\")(define_insn_reservation \"s{pair}\" 1 (const_int 1) \"b{pair}\")"
@@ -248,7 +248,8 @@ fn paired(alloc: Global, pairs: u32) -> Result<String, Fail> {
 fn choices_that_are_shown_have_at_most_4096_states(rt: HostRuntime) -> Result<(), Fail> {
     let alloc = rt.alloc();
     // 3,125 states, and 15,625 of 4,096 grids
-    let few = paired(alloc, 5)?;
+    let shown = "ndfa,v,no-minimization";
+    let few = paired(alloc, shown, 5)?;
     answers(
         &rt,
         alloc,
@@ -256,7 +257,23 @@ fn choices_that_are_shown_have_at_most_4096_states(rt: HostRuntime) -> Result<()
         0,
         b"accepted 0 issues 0 cycles\n",
     )?;
-    let many = paired(alloc, 6)?;
+    let many = paired(alloc, shown, 6)?;
+    answers(&rt, alloc, many.as_bytes(), 3, b"limit d automaton -\n")
+}
+
+#[test]
+fn choices_have_at_most_65536_states(rt: HostRuntime) -> Result<(), Fail> {
+    let alloc = rt.alloc();
+    // 15,625 states, and 78,125 of 16,384 grids with 279,936 members
+    let few = paired(alloc, "ndfa", 6)?;
+    answers(
+        &rt,
+        alloc,
+        few.as_bytes(),
+        0,
+        b"accepted 0 issues 0 cycles\n",
+    )?;
+    let many = paired(alloc, "ndfa", 7)?;
     answers(&rt, alloc, many.as_bytes(), 3, b"limit d automaton -\n")
 }
 
