@@ -1,37 +1,26 @@
 -- Which limit alternatives pass, and what is answered for them.
-use Rattle.std.proofs.Common.{◌≡◌, ℕ, ◌<◌, ◌≤◌, min, List, [], ◌∷◌, length, map, All, Some, None, Result, Ok, Err, refl, ap, arith, ◌+◌}
+use Rattle.std.proofs.Common.{◌≡◌, ℕ, ◌<◌, ◌≤◌, min, List, [], ◌∷◌, length, map, All, Some, None, Err, refl, ap, arith, ◌+◌}
 use Rattle.std.proofs.lemmas.Bool.{lt-ltb, le-ltb}
 use Rattle.std.proofs.lemmas.List.{length-map}
 use Rattle.std.proofs.lemmas.List.Sums.{sum_by-append}
-use Rattle.std.specs.declared.alloc.Global.{Global}
-use Rattle.std.specs.declared.vec.Vec.{Vec}
-use Rattle.hz_base_model.specs.Limits.{alternative_limit, cycle_limit, size_limit}
-use Rattle.hz_altern.specs.declared.alternative.Alt.{Alt}
+use Rattle.hz_base_model.specs.Limits.{alternative_limit, cycle_limit}
 use Rattle.hz_altern.specs.declared.fault.AlternFault.{AlternFault}
 use Rattle.hz_altern.specs.declared.fault.AlternFault.TheVariants.{AlternativesLimit, CyclesLimit, SizeLimit, NoMemory}
 use Rattle.hz_altern.specs.declared.measure.Extent.{Extent}
-use Rattle.hz_altern.specs.Answers.{total_weight, Refuses, Expands, ExpandsWithin, excess_within}
+use Rattle.hz_altern.specs.Answers.{total_weight, Refuses, Expands}
 use Rattle.hz_altern.specs.Extents.{told}
 use Rattle.hz_altern.proofs.KnownLemmas.{all_listed}
 use Rattle.hz_altern.proofs.Lengths.{length_within}
 use Rattle.hz_altern.proofs.Weights.{weight-cons}
 use Rattle.hz_altern.proofs.HalfLemmas.{greatest-listed}
 use Rattle.hz_altern_model.specs.Alternatives.{Alternative}
-use Rattle.hz_altern_model.specs.AlternativeLists.{extent_of, too_many, too_long, too_large, greatest_length, IsPlaced, AreSound}
+use Rattle.hz_altern_model.specs.AlternativeLists.{extent_of, excess_of, too_many, too_long, too_large, greatest_length, IsPlaced, AreSound}
 use Rattle.hz_altern_model.specs.Automata.{UnitPlace, listed, size_of, total_size}
 
 -- listed alternatives are as large as they count
 pub total_listed : (all : List (Alternative UnitPlace)) → total_weight (map listed all) ≡ total_size all
 total_listed [] = refl
 total_listed (x ∷ xs) = omega (arith, weight-cons (listed x) (map listed xs), sum_by-append size_of (x ∷ []) xs, total_listed xs)
-
--- what is answered within the limit
-pub expands_all : (all : List (Alternative UnitPlace)) (answer : Result (Vec Alt Global) AlternFault) → ExpandsWithin size_limit all answer → Expands all answer
-expands_all all (Ok alts) is = is
-expands_all all (Err AlternativesLimit) is = is
-expands_all all (Err CyclesLimit) is = is
-expands_all all (Err SizeLimit) is = is
-expands_all all (Err NoMemory) is = is
 
 -- what an extent tells of alternatives
 module _ (all : List (Alternative UnitPlace)) (extent : Extent) (is : told extent ≡ extent_of all) where
@@ -41,7 +30,7 @@ module _ (all : List (Alternative UnitPlace)) (extent : Extent) (is : told exten
   longest_is : extent.longest ≡ min (greatest_length all) (cycle_limit + 1)
   longest_is = ap (λ e. e.longest) is
 
-  pub many : (most : ℕ) → alternative_limit < extent.count → excess_within most all ≡ Some too_many
+  pub many : (most : ℕ) → alternative_limit < extent.count → excess_of most all ≡ Some too_many
   many most h =
       let over : alternative_limit < length all = omega (arith, count_is) in
       rw (lt-ltb alternative_limit (length all) over) refl
@@ -52,22 +41,22 @@ module _ (all : List (Alternative UnitPlace)) (extent : Extent) (is : told exten
   pub short : extent.longest ≤ cycle_limit → greatest_length all ≤ cycle_limit
   short h = omega (arith, longest_is)
 
-  pub long : (most : ℕ) → extent.count ≤ alternative_limit → cycle_limit < extent.longest → excess_within most all ≡ Some too_long
+  pub long : (most : ℕ) → extent.count ≤ alternative_limit → cycle_limit < extent.longest → excess_of most all ≡ Some too_long
   long most h k =
       let over : cycle_limit < greatest_length all = omega (arith, longest_is) in
       rw (le-ltb alternative_limit (length all) (few h), lt-ltb cycle_limit (greatest_length all) over) refl
 
 -- alternatives that are few and short
 module _ (all : List (Alternative UnitPlace)) (few_all : length all ≤ alternative_limit) (short_all : greatest_length all ≤ cycle_limit) where
-  large : (most : ℕ) → most < total_size all → excess_within most all ≡ Some too_large
+  large : (most : ℕ) → most < total_size all → excess_of most all ≡ Some too_large
   large most h = rw (le-ltb alternative_limit (length all) few_all, le-ltb cycle_limit (greatest_length all) short_all, lt-ltb most (total_size all) h) refl
 
-  pub within : (most : ℕ) → total_weight (map listed all) ≤ most → excess_within most all ≡ None
+  pub within : (most : ℕ) → total_weight (map listed all) ≤ most → excess_of most all ≡ None
   within most h =
       let size : total_size all ≤ most = omega (arith, total_listed all) in
       rw (le-ltb alternative_limit (length all) few_all, le-ltb cycle_limit (greatest_length all) short_all, le-ltb most (total_size all) size) refl
 
-  pub refused : (most : ℕ) (fault : AlternFault) → Refuses most (map listed all) fault → ExpandsWithin most all (Err fault)
+  pub refused : (most : ℕ) (fault : AlternFault) → Refuses most (map listed all) fault → Expands most all (Err fault)
   refused most AlternativesLimit never = absurd never
   refused most CyclesLimit never = absurd never
   refused most SizeLimit over = large most (omega (arith, total_listed all))

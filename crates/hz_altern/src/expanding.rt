@@ -2,7 +2,7 @@
 //! before a list grows, so that none which passes it is held.
 
 ghost use Rattle.std.specs.Prelude.{◌≡◌, ◌<◌, ◌≤◌, ◌++◌, [], ◌∷◌, All, IsTrue, IfOk, IfErr, OnOk, length, map};
-ghost use Rattle.hz_altern.specs.Answers.{Expands, ExpandsWithin, Refuses, weight, total_weight};
+ghost use Rattle.hz_altern.specs.Answers.{Expands, Refuses, weight, total_weight};
 ghost use Rattle.hz_altern.specs.Joinings.{IsListed, joined_by, joined_parts, left_behind, listed_lists};
 ghost use Rattle.hz_altern.specs.Shapes.{alternative_of, alternatives};
 ghost use Rattle.hz_altern.specs.Singles.{TellsSingles, TellSingles};
@@ -328,7 +328,7 @@ fn listing_together(
 pub fn expand(alloc: Global, expr: &Expr, known: &Known) -> Result<Vec<Alt>, AlternFault>
     requires formed { IsTrue (is_expression (expression expr.now)) }
     requires known { IsTrue (all_names (is_held (alternatives_in known.now)) (expression expr.now)) }
-    ensures answer { Expands (alternatives_of (known_alternatives known.now) (expression expr.now)) result }
+    ensures answer { Expands size_limit (alternatives_of (known_alternatives known.now) (expression expr.now)) result }
     ensures sound { IfOk result (λ alts. AreSound (alternatives alts.items)) }
 {
     expand_within(alloc, expr, known, SIZE_LIMIT)
@@ -345,7 +345,7 @@ pub fn expand_within(
     requires formed { IsTrue (is_expression (expression expr.now)) }
     requires known { IsTrue (all_names (is_held (alternatives_in known.now)) (expression expr.now)) }
     requires most { most ≤ size_limit }
-    ensures answer { ExpandsWithin most (alternatives_of (known_alternatives known.now) (expression expr.now)) result }
+    ensures answer { Expands most (alternatives_of (known_alternatives known.now) (expression expr.now)) result }
     ensures sound { IfOk result (λ alts. AreSound (alternatives alts.items)) }
 {
     let extent = measured(expr, known);

@@ -2,7 +2,7 @@
 -- 'Specifying processor pipeline description'; the limits are this profile's, docs/RULES.md, 'Limits'.
 use Rattle.std.specs.Prelude.{ℕ, ◌+◌, ◌<◌, ◌≤◌, min, max, List, [], ◌∷◌, Option, Some, None, length, nat_lt, All, IsTrue, if◌then◌else◌}
 use Rattle.std.specs.List.{AllPairs}
-use Rattle.hz_base_model.specs.Limits.{automaton_limit, unit_limit, cycle_limit, alternative_limit, size_limit}
+use Rattle.hz_base_model.specs.Limits.{automaton_limit, unit_limit, cycle_limit, alternative_limit}
 use Rattle.hz_base_model.specs.Pairs.{Pair}
 use Rattle.hz_altern_model.specs.Alternatives.{Alternative}
 use Rattle.hz_altern_model.specs.Automata.{UnitPlace, precedes, total_size}
@@ -25,12 +25,12 @@ extent_of alternatives = record { count = min (length alternatives) (alternative
 pub data Excess : Type 0 where
   too_many too_long too_large : Excess
 
--- the first limit that they pass
-abbrev pub excess_of : List (Alternative UnitPlace) → Option Excess
-excess_of alternatives =
+-- the first limit that they pass, where they may have no more than so many cycles and pairs together
+abbrev pub excess_of : ℕ → List (Alternative UnitPlace) → Option Excess
+excess_of most alternatives =
     if nat_lt alternative_limit (length alternatives) then Some too_many
     else (if nat_lt cycle_limit (greatest_length alternatives) then Some too_long
-    else (if nat_lt size_limit (total_size alternatives) then Some too_large else None))
+    else (if nat_lt most (total_size alternatives) then Some too_large else None))
 
 -- each pair precedes all later ones, so that none stands twice
 abbrev pub IsAscending : List (Pair UnitPlace) → Type 0

@@ -6,35 +6,35 @@ use Rattle.std.specs.declared.vec.Vec.{Vec}
 use Rattle.hz_altern.specs.declared.alternative.Alt.{Alt}
 use Rattle.hz_altern.specs.declared.fault.AlternFault.{AlternFault}
 use Rattle.hz_altern.specs.declared.fault.AlternFault.TheVariants.{AlternativesLimit, CyclesLimit, SizeLimit, NoMemory}
-use Rattle.hz_altern.specs.Answers.{ExpandsWithin, excess_within}
+use Rattle.hz_altern.specs.Answers.{Expands}
 use Rattle.hz_altern.specs.Shapes.{alternatives}
 use Rattle.hz_altern_model.specs.Alternatives.{Alternative}
-use Rattle.hz_altern_model.specs.AlternativeLists.{AreSound, Excess, too_many, too_long, too_large, greatest_length}
+use Rattle.hz_altern_model.specs.AlternativeLists.{AreSound, Excess, excess_of, too_many, too_long, too_large, greatest_length}
 use Rattle.hz_altern_model.specs.Automata.{UnitPlace, total_size}
 use Rattle.hz_base_model.specs.Limits.{alternative_limit, cycle_limit}
 use Rattle.hz_expand.specs.Answers.{IsMadeIfListed, Makes}
 
 module _ (most : ℕ) (all : List (Alternative UnitPlace)) (few : length all ≤ alternative_limit) (short : greatest_length all ≤ cycle_limit) where
   -- the one limit that such alternatives can pass is that of sizes
-  by_size : excess_within most all ≡ cond (nat_lt most (total_size all)) (Some too_large) None
+  by_size : excess_of most all ≡ cond (nat_lt most (total_size all)) (Some too_large) None
   by_size = rw (le-ltb alternative_limit (length all) few, le-ltb cycle_limit (greatest_length all) short) refl
 
   over : (t : Bool) → nat_lt most (total_size all) ≡ t → (e : Excess) → cond t (Some too_large) None ≡ Some e → most < total_size all
   over true is e passes = ltb-true most (total_size all) is
   over false is e passes = absurd (cc)
 
-  passed : (e : Excess) → excess_within most all ≡ Some e → most < total_size all
+  passed : (e : Excess) → excess_of most all ≡ Some e → most < total_size all
   passed e is = over (nat_lt most (total_size all)) refl e (sym by_size ∙ is)
 
   under : (t : Bool) → nat_lt most (total_size all) ≡ t → cond t (Some too_large) None ≡ None → total_size all ≤ most
   under true is none = absurd (cc)
   under false is none = ltb-false most (total_size all) is
 
-  kept : excess_within most all ≡ None → total_size all ≤ most
+  kept : excess_of most all ≡ None → total_size all ≤ most
   kept is = under (nat_lt most (total_size all)) refl (sym by_size ∙ is)
 
   pub made_told : {E : Type 0} (listed : Result (Vec Alt Global) AlternFault) (made : Result (Option (Vec Alt Global)) E)
-      → ExpandsWithin most all listed → IfOk listed (λ alts. AreSound (alternatives alts.items)) → IsMadeIfListed listed made → IfOk made (Makes most all)
+      → Expands most all listed → IfOk listed (λ alts. AreSound (alternatives alts.items)) → IsMadeIfListed listed made → IfOk made (Makes most all)
   made_told (Ok alts) made expands sound is = subst (λ m. IfOk m (Makes most all)) (sym is) (expands.1, sound, kept expands.0)
   made_told (Err AlternativesLimit) made expands sound is = subst (λ m. IfOk m (Makes most all)) (sym is) (passed too_many expands)
   made_told (Err CyclesLimit) made expands sound is = subst (λ m. IfOk m (Makes most all)) (sym is) (passed too_long expands)
