@@ -6,7 +6,7 @@ program = $(DESTDIR)$(PREFIX)/bin
 page = $(DESTDIR)$(PREFIX)/share/man/man1
 crates := $(shell sed -n 's/^\(hz[a-z_]*\):.*/\1/p' crates.txt)
 # crates of tests alone; the program stands on none of them
-rows := hz_rows hz_check_rows hz_sched_rows hz_text_rows hz_table_rows
+rows := hz_rows hz_check_rows hz_sched_rows hz_text_rows hz_table_rows hz_automata_rows
 lower := $(filter-out hz $(rows),$(crates))
 # what is begun first: the longest chain of crates leads through it
 first := hz_check

@@ -7,6 +7,3 @@ mod packed;
 
 pub use cells::Cells;
 pub use packed::Packed;
-
-#[cfg(test)]
-mod tests;

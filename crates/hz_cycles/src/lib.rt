@@ -8,6 +8,3 @@ mod table;
 pub use cycles::Cycles;
 pub use laws::{cycles_are_below_the_limit, what_is_taken_is_below_the_limits};
 pub use table::{NoMemory, ReservationTable};
-
-#[cfg(test)]
-mod tests;

@@ -7,6 +7,3 @@ mod rows;
 
 pub use grids::{CYCLES, Grid, NoMemory};
 pub use rows::{Row, UNITS};
-
-#[cfg(test)]
-mod tests;

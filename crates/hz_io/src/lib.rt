@@ -16,6 +16,3 @@ pub use mem_sink::MemSink;
 pub use names::FileName;
 pub use output::Sink;
 pub use reading::slurp;
-
-#[cfg(test)]
-mod tests;

@@ -3,4 +3,3 @@ pub mod SettleLemmas
 pub mod ReadLemmas
 pub mod FoldLemmas
 pub mod WalkLaws
-pub mod TestLemmas

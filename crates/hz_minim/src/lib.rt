@@ -34,6 +34,3 @@ pub fn minimise(alloc: Global, plain: &Plain) -> Result<Plain, NoMemory>
     let settled = settle(alloc, plain, leaders)?;
     fold(alloc, plain, &settled)
 }
-
-#[cfg(test)]
-mod tests;

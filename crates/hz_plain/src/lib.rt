@@ -6,6 +6,3 @@ mod steps;
 
 pub use plain::{NoMemory, Plain};
 pub use steps::Steps;
-
-#[cfg(test)]
-mod tests;

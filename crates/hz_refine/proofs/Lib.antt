@@ -4,4 +4,3 @@ pub mod ArrowLaws
 pub mod ApartLaws
 pub mod MoveLaws
 pub mod BucketLaws
-pub mod ExampleLaws

@@ -3,4 +3,3 @@ pub mod Arrows
 pub mod Moves
 pub mod Buckets
 pub mod Kept
-pub mod Examples

@@ -54,6 +54,3 @@ pub fn refine(alloc: Global, plain: &Plain) -> Result<Vec<u32>, NoMemory>
     }
     Ok(partition.blocks)
 }
-
-#[cfg(test)]
-mod tests;

@@ -11,4 +11,3 @@ pub mod QueueLemmas
 pub mod BoardLemmas
 pub mod SchedLemmas
 pub mod TraceLemmas
-pub mod StuckLemmas

@@ -3,4 +3,3 @@ pub mod Rows
 pub mod Waits
 pub mod Standing
 pub mod Pending
-pub mod Examples

@@ -15,6 +15,3 @@ pub use fault::SchedFault;
 pub use parts::{Schedule, Slot};
 pub use scheduling::schedule;
 pub use spelling::spell;
-
-#[cfg(test)]
-mod tests;

@@ -6,6 +6,8 @@ ghost use Rattle.hz_acceptance_model.specs.Events.{cycles_of, IsOfClass};
 ghost use Rattle.hz_replay.specs.Traces.{events_in};
 ghost use Rattle.hz_tables.specs.Machines.{machine_of};
 
+mod stuck;
+
 use hz_auto::compile;
 use hz_check::{Checked, check};
 use hz_depend::{Edge, Graph, graph};

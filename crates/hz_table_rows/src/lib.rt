@@ -1,5 +1,4 @@
-//! Worked rows of what leads to tables and what is done with them: set rules, states, automata, compiled descriptions, traces
-//! on them and their texts.
+//! Worked rows of compiled descriptions, and of the texts of their tables as they are written and read.
 #![tactic(auto)]
 
 #[cfg(test)]

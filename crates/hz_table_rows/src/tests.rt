@@ -2,12 +2,8 @@
 
 ghost use Rattle.std.specs.Prelude.{◌<◌, ◌^◌, length};
 
-mod automata;
 mod compiled;
-mod interners;
 mod reading;
-mod rules;
-mod traces;
 mod writing;
 
 use hz_check::{Checked, check};

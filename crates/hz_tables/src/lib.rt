@@ -10,6 +10,3 @@ pub use hz_plain::{NoMemory, Plain, Steps};
 pub use machine::Machine;
 pub use part::Part;
 pub use table::Table;
-
-#[cfg(test)]
-mod tests;

@@ -1,4 +1,4 @@
-//! Worked rows of what reads texts: forms, expressions and names, descriptions, blocks and their states, and the words of a
+//! Worked rows of what reads files and texts: forms, expressions and names, descriptions, blocks and their states, and the words of a
 //! command.
 #![tactic(auto)]
 

@@ -3,5 +3,6 @@
 mod blocks;
 mod descriptions;
 mod expressions;
+mod files;
 mod forms;
 mod words;
