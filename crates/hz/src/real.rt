@@ -62,6 +62,7 @@ impl<'a, R: HostFiles> Files for RealFiles<'a, R> {
     ghost faults = { λ files. files.faults };
 
     fn open(&mut self, name: &str) -> Result<(), Failed> {
+        self.file = None;
         match fs::open(self.rt, name) {
             Ok(file) => {
                 self.file = Some(file);

@@ -11,6 +11,9 @@ use std::test::Fail;
 /// The name of the file that the test makes.
 const NAME: &str = "hz_real_files_test";
 
+/// The name of the file that is open when another is asked for.
+const FIRST: &str = "hz_real_files_test_first";
+
 /// How many lines are written, each its own number: more bytes than one read gives, and no two parts of them alike.
 const LINES: u32 = 8_000;
 
@@ -58,6 +61,20 @@ fn a_missing_file_is_counted(rt: HostRuntime) -> Result<(), Fail> {
     assert_eq!(rt; files.faults, 1);
     assert_eq!(rt; files.read(&mut [0u8; 4]), Ok(0));
     assert_eq!(rt; files.faults, 1);
+    Ok(())
+}
+
+#[test]
+fn a_file_is_let_go_before_the_next_is_opened(rt: HostRuntime) -> Result<(), Fail> {
+    fs::write(&rt, FIRST, b"first")?;
+    let mut files = RealFiles::new(&rt);
+    let first = files.open(FIRST);
+    fs::remove_file(&rt, FIRST)?;
+    assert_eq!(rt; first, Ok(()));
+    assert_eq!(rt; files.faults, 0);
+    assert_eq!(rt; files.open("hz_real_files_test/none"), Err(Failed));
+    assert_eq!(rt; files.faults, 1);
+    assert_eq!(rt; files.read(&mut [0u8; 4]), Ok(0));
     Ok(())
 }
 
