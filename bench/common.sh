@@ -62,6 +62,21 @@ make_trace() {
     esac
 }
 
+# looking_through PROGRAM: gives the program in this folder what the rows of least tables have to look through a table, in
+# functions `is_row` and `is_table`: the definitions and the proofs
+looking_through() {
+    mkdir -p specs proofs/is_row proofs/is_table
+    echo 'pub mod Leading' > specs/Lib.antt
+    echo 'pub mod LeadingLemmas' > proofs/Lib.antt
+    for file in specs/Leading.antt proofs/LeadingLemmas.antt is_row/Invariants.antt is_table/Invariants.antt is_table/Answers.antt; do
+        case $file in
+            is_*) from=proofs/tests/minimal/$file to=proofs/$file ;;
+            *) from=$file to=$file ;;
+        esac
+        sed "s/hz_automata_rows\.proofs\.tests\.minimal\./$1.proofs./; s/hz_automata_rows\./$1./" "$top/crates/hz_automata_rows/$from" > "$to"
+    done
+}
+
 # build_program PROGRAM SOURCE DEPENDENCIES ARGUMENTS CRATE..: proves and builds a program that measures crates, with
 # these crates copied beside it, into $room/crates/PROGRAM/out, and runs it once with the arguments. The gate stops at a
 # source that no crate of the repository reads, so the source has another ending here and the room is outside the

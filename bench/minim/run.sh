@@ -4,15 +4,10 @@
 # calendars of a unit. The least of five runs each, with the greatest memory, the table's among it.
 . "$(dirname "$0")/../common.sh"
 
-# The program has proofs, which are those of the tests of the crate.
+# The program has proofs, which are those of the rows of least tables.
 top=$(pwd)
 rt() {
-    for proof in is_row is_table; do
-        mkdir -p "proofs/$proof"
-        for file in "$top/crates/hz_minim/proofs/tests/$proof"/*.antt; do
-            sed 's/hz_minim\.proofs\.tests\./minimising.proofs./' "$file" > "proofs/$proof/$(basename "$file")"
-        done
-    done
+    looking_through minimising
     command rt "$@"
 }
 

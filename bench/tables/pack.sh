@@ -4,15 +4,10 @@
 # through tables, packed and as plain rows, that fit the caches and that do not. The least of five runs each.
 . "$(dirname "$0")/../common.sh"
 
-# The program has proofs: those of the tests of hz_minim, and what its counters are.
+# The program has proofs: those of the rows of least tables, and what its counters are.
 top=$(pwd)
 rt() {
-    for proof in is_row is_table; do
-        mkdir -p "proofs/$proof"
-        for file in "$top/crates/hz_minim/proofs/tests/$proof"/*.antt; do
-            sed 's/hz_minim\.proofs\.tests\./packing.proofs./' "$file" > "proofs/$proof/$(basename "$file")"
-        done
-    done
+    looking_through packing
     mkdir -p proofs/run
     printf 'use Rattle.packing.proofs.run.Given as goal\n\nabbrev pub ghosts-walk : goal.ghosts-walk\nghosts-walk a = record { name = a.blank.name; parts = a.blank.parts }\n' > proofs/run/Invariants.antt
     command rt "$@"

@@ -5,16 +5,11 @@
 # greatest memory, the tables' among it.
 . "$(dirname "$0")/../common.sh"
 
-# The program has proofs, which are those of the tests of the crate.
+# The program has proofs: that of the rows of tables for `checked_of`, and its own for `compiled`.
 top=$(pwd)
 rt() {
-    for proof in checked_of; do
-        mkdir -p "proofs/$proof"
-        for file in "$top/crates/hz_tabfile/proofs/writing/tests/$proof"/*.antt; do
-            sed 's/hz_tabfile\.proofs\.writing\.tests\./writing.proofs./' "$file" > "proofs/$proof/$(basename "$file")"
-        done
-    done
-    mkdir -p proofs/compiled
+    mkdir -p proofs/checked_of proofs/compiled
+    sed 's/hz_table_rows\.proofs\.tests\./writing.proofs./' "$top/crates/hz_table_rows/proofs/tests/checked_of/Answers.antt" > proofs/checked_of/Answers.antt
     cp "$top/bench/tables/writing.antt.in" proofs/compiled/Answers.antt
     command rt "$@"
 }
