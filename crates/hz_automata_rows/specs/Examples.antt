@@ -1,4 +1,4 @@
--- Tables of the tests.
+-- A table of the tests.
 use Rattle.std.specs.Prelude.{[], ◌∷◌, Some, None}
 use Rattle.hz_plain.specs.Rows.{Rows}
 

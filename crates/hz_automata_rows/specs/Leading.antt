@@ -1,4 +1,4 @@
--- Tables of the tests.
+-- Tables whose entries are looked at one by one.
 use Rattle.std.specs.Prelude.{◌≡◌, ◌≢◌, ℕ, ◌<◌, ◌≤◌, Some, None, length}
 use Rattle.hz_tables_model.specs.Tables.{Table, entry}
 

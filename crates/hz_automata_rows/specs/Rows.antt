@@ -1,4 +1,4 @@
--- Tables of the tests.
+-- Rows of a table before all of them are there.
 use Rattle.std.specs.Prelude.{◌≡◌, ◌≢◌, ℕ, ◌-◌, ◌<◌, List, Option, Some, None, length, slice_index_or}
 
 -- a row that may stand in a table of so many states and columns

@@ -1,4 +1,4 @@
-//! Worked rows of schedules, on the machines of descriptions.
+//! Worked rows of schedules, on the machines of descriptions and on one by hand.
 #![tactic(auto)]
 
 #[cfg(test)]
