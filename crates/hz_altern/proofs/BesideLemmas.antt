@@ -10,9 +10,9 @@ use Rattle.hz_base_model.proofs.Elements.{Contains-nil}
 use Rattle.hz_cycles.specs.declared.cycles.Cycles.{Cycles}
 use Rattle.hz_altern.specs.Answers.{total_weight, Refuses}
 use Rattle.hz_altern.specs.declared.fault.AlternFault.{AlternFault}
-use Rattle.hz_altern.specs.declared.joining.Joining.TheVariants.{Together}
+use Rattle.hz_altern.specs.declared.listing.joining.Joining.TheVariants.{Together}
 use Rattle.hz_altern.specs.declared.known.Known.{Known}
-use Rattle.hz_altern.specs.declared.leaves.Leaves.{Leaves}
+use Rattle.hz_altern.specs.declared.listing.leaves.Leaves.{Leaves}
 use Rattle.hz_altern.specs.declared.mark.Mark.TheVariants.{Plus}
 use Rattle.hz_altern.specs.Joinings.{IsListed, joined_by}
 use Rattle.hz_altern.specs.Leaves.{all_pairs, BeginsIn, Begins, Takes, AllEndBy, IsGathered}

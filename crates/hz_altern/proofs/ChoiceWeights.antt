@@ -2,8 +2,8 @@
 use Rattle.std.proofs.Common.{◌<◌, ◌≤◌, List, [], ◌∷◌, ◌++◌, length, map, All, ap, arith, length-append}
 use Rattle.std.proofs.lemmas.List.{length-map}
 use Rattle.std.proofs.lemmas.List.Elements.{All-head, All-tail}
-use Rattle.hz_altern.specs.declared.joining.Joining.{Joining}
-use Rattle.hz_altern.specs.declared.joining.Joining.TheVariants.{InSequence, Together}
+use Rattle.hz_altern.specs.declared.listing.joining.Joining.{Joining}
+use Rattle.hz_altern.specs.declared.listing.joining.Joining.TheVariants.{InSequence, Together}
 use Rattle.hz_altern.specs.declared.mark.Mark.{Mark}
 use Rattle.hz_altern.specs.declared.mark.Mark.TheVariants.{Comma, Bar, Plus}
 use Rattle.hz_altern.specs.Answers.{weight, total_weight}

@@ -6,7 +6,7 @@ use Rattle.std.proofs.lemmas.List.Sums.{sum_by-append}
 use Rattle.hz_base_model.specs.Limits.{alternative_limit, cycle_limit}
 use Rattle.hz_altern.specs.declared.fault.AlternFault.{AlternFault}
 use Rattle.hz_altern.specs.declared.fault.AlternFault.TheVariants.{AlternativesLimit, CyclesLimit, SizeLimit, NoMemory}
-use Rattle.hz_altern.specs.declared.measure.Extent.{Extent}
+use Rattle.hz_altern.specs.declared.extents.measure.Extent.{Extent}
 use Rattle.hz_altern.specs.Answers.{total_weight, Refuses, Expands}
 use Rattle.hz_altern.specs.Extents.{told}
 use Rattle.hz_altern.proofs.KnownLemmas.{all_listed}

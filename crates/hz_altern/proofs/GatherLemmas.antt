@@ -11,7 +11,7 @@ use Rattle.hz_base_model.proofs.Elements.{Contains-nil, Contains-map, Contains-f
 use Rattle.hz_cycles.specs.declared.cycles.Cycles.{Cycles}
 use Rattle.hz_altern.specs.declared.known.Known.{Known}
 use Rattle.hz_altern.specs.Shapes.{alternatives}
-use Rattle.hz_altern.specs.declared.leaves.Leaves.{Leaves}
+use Rattle.hz_altern.specs.declared.listing.leaves.Leaves.{Leaves}
 use Rattle.hz_altern.specs.Leaves.{all_pairs, BeginsIn, Begins, BeginsInCopy, AddsCopies, Takes, AllEndBy, IsGathered}
 use Rattle.hz_altern.specs.Tables.{alternatives_in, known_alternatives, is_held}
 use Rattle.hz_altern.proofs.KnownLemmas.{some_of, name_runs}

@@ -15,7 +15,7 @@ use Rattle.hz_regexp.specs.Shape.{expression, expressions}
 use Rattle.hz_altern.specs.declared.fault.AlternFault.{AlternFault}
 use Rattle.hz_altern.specs.declared.fault.AlternFault.TheVariants.{AlternativesLimit, CyclesLimit, SizeLimit, NoMemory}
 use Rattle.hz_altern.specs.declared.known.Known.{Known}
-use Rattle.hz_altern.specs.declared.joining.Joining.TheVariants.{Together}
+use Rattle.hz_altern.specs.declared.listing.joining.Joining.TheVariants.{Together}
 use Rattle.hz_altern.specs.declared.mark.Mark.{Mark}
 use Rattle.hz_altern.specs.declared.mark.Mark.TheVariants.{Comma, Bar, Plus}
 use Rattle.hz_altern.specs.Answers.{total_weight, Refuses}

@@ -10,7 +10,7 @@ use Rattle.hz_base_model.proofs.Elements.{Contains-nil}
 use Rattle.hz_cycles.specs.Sets.{HasCycle, IsLater, IsCopied}
 use Rattle.hz_cycles.specs.declared.cycles.Cycles.{Cycles}
 use Rattle.hz_altern.specs.declared.known.Known.{Known}
-use Rattle.hz_altern.specs.declared.leaves.Leaves.{Leaves}
+use Rattle.hz_altern.specs.declared.listing.leaves.Leaves.{Leaves}
 use Rattle.hz_altern.specs.Leaves.{all_pairs, BeginsIn, Begins, BeginsToo, BeginsInCopy, AddsCopies, HasIn, TakesIn, Takes, EndsBy, IsGathered}
 use Rattle.hz_altern.specs.Tables.{known_alternatives}
 use Rattle.hz_altern.proofs.Lengths.{greatest-followed, greatest-beside}

@@ -4,7 +4,7 @@ use Rattle.std.proofs.lemmas.Bool.{cases_lt}
 use Rattle.std.proofs.Math.Nat.{mul-le-mul_left}
 use Rattle.hz_base_model.specs.Limits.{cycle_limit}
 use Rattle.hz_altern.specs.declared.fault.AlternFault.{AlternFault}
-use Rattle.hz_altern.specs.declared.joining.Joining.TheVariants.{InSequence}
+use Rattle.hz_altern.specs.declared.listing.joining.Joining.TheVariants.{InSequence}
 use Rattle.hz_altern.specs.Answers.{total_weight, Refuses}
 use Rattle.hz_altern.proofs.Weights.{refuses_larger}
 use Rattle.hz_altern.specs.Joinings.{IsListed, joined_by}

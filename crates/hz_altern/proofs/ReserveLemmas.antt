@@ -15,7 +15,7 @@ use Rattle.hz_cycles.specs.declared.cycles.Cycles.{Cycles}
 use Rattle.hz_altern.specs.declared.alternative.Alt.{Alt}
 use Rattle.hz_altern.specs.declared.alternative.Pair.{Pair as StoredPair}
 use Rattle.hz_altern.specs.declared.known.Known.{Known}
-use Rattle.hz_altern.specs.declared.reserving.Reserved.{Reserved}
+use Rattle.hz_altern.specs.declared.listing.reserving.Reserved.{Reserved}
 use Rattle.hz_altern.specs.Leaves.{all_pairs, BeginsIn, TakesIn, EndsBy}
 use Rattle.hz_altern.specs.Reserved.{IsReserved, AreUnits, IsOfPairs, ReservesToo, IsOfUnit, IsOfUnits}
 use Rattle.hz_altern.specs.Shapes.{pair_of, pairs_of, alternative_of, alternatives}

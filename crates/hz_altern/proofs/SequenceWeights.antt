@@ -3,7 +3,7 @@ use Rattle.std.proofs.Common.{◌≡◌, ℕ, suc, ◌+◌, ◌*◌, ◌≤◌, 
 use Rattle.std.proofs.Math.Nat.{add-mul, mul-suc, mul-zero, zero-mul, mul-le-mul}
 use Rattle.std.proofs.lemmas.List.{length-map}
 use Rattle.std.proofs.lemmas.List.Elements.{All-head, All-tail}
-use Rattle.hz_altern.specs.declared.joining.Joining.TheVariants.{InSequence}
+use Rattle.hz_altern.specs.declared.listing.joining.Joining.TheVariants.{InSequence}
 use Rattle.hz_altern.specs.Answers.{weight, total_weight}
 use Rattle.hz_altern.specs.Joinings.{IsListed, joined_by}
 use Rattle.hz_altern.proofs.Weights.{weight-append, weight-cons}

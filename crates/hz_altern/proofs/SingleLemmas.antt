@@ -4,7 +4,7 @@ use Rattle.std.specs.Prelude.{IsTrue, nat_eq}
 use Rattle.std.specs.List.{list_all}
 use Rattle.std.proofs.lemmas.Bool.{and_parts, leb-true, ne_eqb, eqb-true}
 use Rattle.hz_altern.specs.declared.known.Known.{Known}
-use Rattle.hz_altern.specs.declared.singles.Singles.{Singles, out-Singles}
+use Rattle.hz_altern.specs.declared.listing.singles.Singles.{Singles, out-Singles}
 use Rattle.hz_altern.specs.Singles.{TellsOne, TellsSingles, TellSingles}
 use Rattle.hz_altern.specs.Tables.{alternatives_in, known_alternatives, is_held}
 use Rattle.hz_altern.proofs.GatherLemmas.{factors_one, several_of}

@@ -1,6 +1,6 @@
 -- The extents that the code holds, as those of the definitions, and what becomes of them.
 use Rattle.std.specs.Prelude.{ℕ, ◌+◌, ◌*◌, ◌^◌, min, max}
-use Rattle.hz_altern.specs.declared.measure.Extent.{Extent}
+use Rattle.hz_altern.specs.declared.extents.measure.Extent.{Extent}
 use Rattle.hz_altern.specs.declared.mark.Mark.{Mark}
 use Rattle.hz_altern.specs.declared.mark.Mark.TheVariants.{Comma, Bar, Plus}
 use Rattle.hz_altern_model.specs.AlternativeLists as model

@@ -1,8 +1,8 @@
 -- What stands between parts, and what it makes of their alternatives.
 use Rattle.std.specs.Prelude.{ℕ, ◌-◌, List, ◌++◌}
 use Rattle.hz_altern_model.specs.AlternativeLists.{IsPlaced, IsAscending}
-use Rattle.hz_altern.specs.declared.joining.Joining.{Joining}
-use Rattle.hz_altern.specs.declared.joining.Joining.TheVariants.{InSequence, Together}
+use Rattle.hz_altern.specs.declared.listing.joining.Joining.{Joining}
+use Rattle.hz_altern.specs.declared.listing.joining.Joining.TheVariants.{InSequence, Together}
 use Rattle.hz_altern.specs.declared.mark.Mark.{Mark}
 use Rattle.hz_altern.specs.declared.mark.Mark.TheVariants.{Comma, Bar, Plus}
 use Rattle.hz_altern_model.specs.Alternatives.{Alternative, Parts, followed_by, beside, each_choice, in_sequence, any_of, together}

@@ -1,7 +1,7 @@
 -- The units that names take, from the cycles on in which they begin.
 use Rattle.std.specs.Prelude.{◌≡◌, ◌↔◌, ◌⊎◌, ◌<◌, ℕ, List, All}
 use Rattle.std.specs.List.{Contains}
-use Rattle.hz_altern.specs.declared.reserving.Reserved.{Reserved}
+use Rattle.hz_altern.specs.declared.listing.reserving.Reserved.{Reserved}
 use Rattle.hz_altern_model.specs.Automata.{UnitPlace}
 use Rattle.hz_base_model.specs.Limits.{automaton_limit, cycle_limit, unit_limit}
 use Rattle.hz_base_model.specs.Pairs.{Pair, later}

@@ -1,10 +1,14 @@
-//! Extents of names.
+//! Extents: how many alternatives there are, and how long the longest is, with none of them made. `measure` says what an
+//! extent is, `counting` gives that of an expression, and those of names stand here.
 
+use crate::extents::measure::Extent;
 use crate::fault::NoMemory;
-use crate::measure::Extent;
 use hz_regexp::Name;
 use std::alloc::Global;
 use std::collections::BTreeMap;
+
+pub(crate) mod counting;
+pub(crate) mod measure;
 
 /// An extent for each of some names.
 #[derive(Drop)]

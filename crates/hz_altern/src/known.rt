@@ -6,8 +6,8 @@ ghost use Rattle.hz_altern.specs.Extents.{told};
 ghost use Rattle.hz_altern_model.specs.AlternativeLists.{AreSound, extent_of};
 
 use crate::alternative::{Alt, Pair};
+use crate::extents::measure::Extent;
 use crate::fault::NoMemory;
-use crate::measure::Extent;
 use hz_regexp::Name;
 use std::alloc::Global;
 use std::collections::BTreeMap;

@@ -3,29 +3,21 @@
 #![tactic(auto)]
 
 mod alternative;
-mod counting;
-mod expanding;
 mod extents;
 mod fault;
-mod joining;
 mod known;
-mod leaves;
 mod listing;
 mod mark;
-mod measure;
-mod merging;
 mod projecting;
-mod reserving;
-mod singles;
 
 pub use alternative::{Alt, Pair};
-pub use counting::extent;
-pub use expanding::{expand, expand_within};
 pub use extents::Extents;
+pub use extents::counting::extent;
+pub use extents::measure::{ALTERNATIVE_LIMIT, CYCLE_LIMIT, Extent};
 pub use fault::{AlternFault, NoMemory};
 pub use known::Known;
 pub use listing::SIZE_LIMIT;
-pub use measure::{ALTERNATIVE_LIMIT, CYCLE_LIMIT, Extent};
+pub use listing::expanding::{expand, expand_within};
 pub use projecting::project;
 
 #[cfg(test)]

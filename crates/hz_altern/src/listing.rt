@@ -1,10 +1,19 @@
-//! Lists of alternatives that stay within the limit of their size.
+//! Lists of alternatives that stay within the limit of their size. They are made in `expanding`: `joining` and `merging`
+//! make one alternative of two; `singles` tells the parts with one alternative, `leaves` takes these apart into names, and
+//! `reserving` gives the pairs of the names.
 
 use crate::alternative::Alt;
 use crate::fault::AlternFault;
-use crate::joining::{Joining, joined, joined_size};
+use crate::listing::joining::{Joining, joined, joined_size};
 use std::alloc::Global;
 use std::marker::Model;
+
+pub(crate) mod expanding;
+pub(crate) mod joining;
+pub(crate) mod leaves;
+pub(crate) mod merging;
+pub(crate) mod reserving;
+pub(crate) mod singles;
 
 /// So many cycles and pairs may alternatives have together. This profile, docs/RULES.md, 'Limits'.
 pub const SIZE_LIMIT: usize = 2_097_152;
@@ -37,7 +46,7 @@ impl Listing {
     ghost use Rattle.hz_altern.specs.Shapes.{alternatives, alternative_of};
     ghost use Rattle.hz_altern.specs.Answers.{Refuses, weight, total_weight};
     ghost use Rattle.hz_altern.specs.Joinings.{IsListed, joined_by};
-    ghost use Rattle.hz_altern.specs.declared.joining.Joining.TheVariants.{InSequence};
+    ghost use Rattle.hz_altern.specs.declared.listing.joining.Joining.TheVariants.{InSequence};
     ghost use Rattle.hz_altern_model.specs.Alternatives.{each_choice};
     ghost use Rattle.hz_base_model.specs.Limits.{cycle_limit, size_limit};
 

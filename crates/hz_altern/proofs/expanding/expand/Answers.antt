@@ -1,4 +1,0 @@
-use Rattle.hz_altern.proofs.expanding.expand.Goals as goal
-
-pub returns-clause-answer : goal.returns-clause-answer
-returns-clause-answer c = c.expand_within.ensures.answer
