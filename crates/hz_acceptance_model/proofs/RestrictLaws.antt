@@ -5,15 +5,12 @@ use Rattle.std.specs.List.{list_all}
 use Rattle.std.specs.Option.{option_map}
 use Rattle.std.proofs.lemmas.Option.{slice_get-map, slice_get_within, slice_get-get_or}
 use Rattle.std.proofs.lemmas.List.{length-map, map-append}
-use Rattle.std.specs.Bool.{Decides}
 use Rattle.std.proofs.lemmas.Bool.{and_from}
-use Rattle.std.specs.Cmp.Lexicographic.{pointwise, pointwise_decides}
-use Rattle.std.proofs.lemmas.Bool.Decides.{Decides-and, Decides-eqb}
 use Rattle.std.proofs.lemmas.List.Elements.{Contains-get_or, Contains-append_left, Contains-append_right, Contains-append_cases}
 use Rattle.std.proofs.lemmas.List.Sums.{list_all-from_AllPass}
-use Rattle.hz_base_model.specs.Pairs.{Pair, later, placed}
+use Rattle.hz_base_model.specs.Pairs.{Pair, later, placed, grid_eq}
 use Rattle.hz_altern_model.specs.Alternatives.{Alternative}
-use Rattle.hz_altern_model.specs.Automata.{UnitPlace, ascending, cut, inside, is_of, list_in, same_pair, without_repeats}
+use Rattle.hz_altern_model.specs.Automata.{UnitPlace, ascending, cut, inside, is_of, list_in, without_repeats}
 use Rattle.hz_altern_model.specs.Sets.{Statement, Holds, HoldsSome, HoldsPattern, AllowsIn, Fits}
 use Rattle.hz_altern_model.specs.Inside.{unit_numbers, inside_statement, are_inside, is_inside, IsStatementOf}
 use Rattle.hz_acceptance_model.specs.Restricted.{of_pairs, class_in, restricted, IsOf}
@@ -23,6 +20,7 @@ use Rattle.hz_base_model.proofs.Elements.{Contains-nil, Contains-head, Contains-
 use Rattle.hz_altern_model.proofs.AscendingLaws.{same_ascending}
 use Rattle.hz_altern_model.proofs.FirstPlaces.{numbered, number_behind, in_front, front_number, before_map, still_first, was_first}
 use Rattle.hz_acceptance_model.proofs.ReplayLaws.{runs_from_accepted, accepted_from_runs}
+use Rattle.hz_base_model.proofs.PairOrder.{grid_eq-Decides}
 
 module _ (automaton : ℕ) where
   -- a unit of the automaton
@@ -242,17 +240,6 @@ module _ {U : Type 0} (m : Pipeline U) (s : State U) (k : ℕ) where
         at_number i pairs is,
       )
 
-pair_tells : (p q : Pair ℕ) → Decides (same_pair p q) (p ≡ q)
-pair_tells p q =
-    let both = Decides-and (p.unit == q.unit) (p.cycle == q.cycle) (Decides-eqb p.unit q.unit) (Decides-eqb p.cycle q.cycle) in (
-      λ h. let is = both.0 h in ap (λ (u : ℕ). record { unit = u; cycle = p.cycle }) is.0 ∙ ap (λ (c : ℕ). record { unit = q.unit; cycle = c }) is.1,
-      λ e. both.1 (ap (λ (r : Pair ℕ). r.unit) e, ap (λ (r : Pair ℕ). r.cycle) e),
-    )
-
--- the test of two lists of pairs tells whether they are the same
-lists_tell : (ps qs : List (Pair ℕ)) → Decides (pointwise same_pair ps qs) (ps ≡ qs)
-lists_tell ps qs = pointwise_decides pair_tells ps qs
-
 -- the pairs of alternatives made of pairs
 pub pairs_back : (ls : List (List (Pair ℕ))) → map (λ (a : Alternative ℕ). a.pairs) (map of_pairs ls) ≡ ls
 pairs_back [] = refl
@@ -271,12 +258,12 @@ module _ (automaton : ℕ) (m : Pipeline UnitPlace) (is : IsOf automaton m) wher
   o = restricted automaton m
 
   -- the lists of a class, cut down, each later equal one dropped
-  lists_restricted : (s : State UnitPlace) (r : State ℕ) (k : ℕ) → lists_at o r k ≡ without_repeats (pointwise same_pair) (map (cut automaton) (lists_at m s k))
+  lists_restricted : (s : State UnitPlace) (r : State ℕ) (k : ℕ) → lists_at o r k ≡ without_repeats grid_eq (map (cut automaton) (lists_at m s k))
   lists_restricted s r k = ap (λ (c : Option (Class ℕ)). map (λ (a : Alternative ℕ). a.pairs) (of_class c)) (slice_get-map (class_in automaton) m.classes k) ∙ by_class (slice_get m.classes k)
     where
-      by_class : (c : Option (Class UnitPlace)) → map (λ (a : Alternative ℕ). a.pairs) (of_class (option_map (class_in automaton) c)) ≡ without_repeats (pointwise same_pair) (map (cut automaton) (map (λ (a : Alternative UnitPlace). a.pairs) (of_class c)))
+      by_class : (c : Option (Class UnitPlace)) → map (λ (a : Alternative ℕ). a.pairs) (of_class (option_map (class_in automaton) c)) ≡ without_repeats grid_eq (map (cut automaton) (map (λ (a : Alternative UnitPlace). a.pairs) (of_class c)))
       by_class None = refl
-      by_class (Some c) = pairs_back (list_in automaton c.alternatives) ∙ ap (without_repeats (pointwise same_pair)) (cuts_of_pairs automaton c.alternatives)
+      by_class (Some c) = pairs_back (list_in automaton c.alternatives) ∙ ap (without_repeats grid_eq) (cuts_of_pairs automaton c.alternatives)
 
   pub record Follows (s : State UnitPlace) (r : State ℕ) : Type 0 where
     pub now : r.now ≡ s.now
@@ -297,12 +284,12 @@ module _ (automaton : ℕ) (m : Pipeline UnitPlace) (is : IsOf automaton m) wher
     takes_in k i pairs t =
         let lists = lists_at m s k in
         let cuts : map (cut automaton) lists ≡ map (cut automaton) t.before ++ cut automaton pairs ∷ map (cut automaton) t.after = ap (map (cut automaton)) t.parts ∙ map-append (cut automaton) t.before (pairs ∷ t.after) in
-        let kept = still_first (pointwise same_pair) (lists_tell) (map (cut automaton) t.before) (cut automaton pairs) (map (cut automaton) t.after) in (
+        let kept = still_first grid_eq grid_eq-Decides (map (cut automaton) t.before) (cut automaton pairs) (map (cut automaton) t.after) in (
           length kept.before,
           record {
             before = kept.before;
             after = kept.after;
-            parts = lists_restricted s r k ∙ (ap (without_repeats (pointwise same_pair)) cuts ∙ kept.parts);
+            parts = lists_restricted s r k ∙ (ap (without_repeats grid_eq) cuts ∙ kept.parts);
             count = refl;
             fits = fits_in pairs (here_at k pairs (subst (λ (ls : List (List (Pair UnitPlace))). Contains ls pairs) (sym t.parts) (Contains-append_right t.before (pairs ∷ t.after) pairs (Contains-head pairs t.after)))) t.fits;
             first = λ f other there fits.
@@ -322,7 +309,7 @@ module _ (automaton : ℕ) (m : Pipeline UnitPlace) (is : IsOf automaton m) wher
     takes_out : (k j : ℕ) (pairs : List (Pair ℕ)) → TakesFrom o r (lists_at o r k) j pairs → Back k pairs
     takes_out k j pairs t =
         let lists = lists_at m s k in
-        let first = was_first (pointwise same_pair) lists_tell (map (cut automaton) lists) t.before pairs t.after (sym (lists_restricted s r k) ∙ t.parts) in
+        let first = was_first grid_eq grid_eq-Decides (map (cut automaton) lists) t.before pairs t.after (sym (lists_restricted s r k) ∙ t.parts) in
         let split = before_map (cut automaton) lists first.before pairs first.after first.parts in
         let whole_there = subst (λ (ls : List (List (Pair UnitPlace))). Contains ls split.item) (sym split.parts) (Contains-append_right split.before (split.item ∷ split.after) split.item (Contains-head split.item split.after)) in
         record {

@@ -10,14 +10,14 @@ use Rattle.hz_altern.specs.Answers.{weight, total_weight}
 use Rattle.hz_altern.specs.Joinings.{IsListed, joined_by, listed_lists}
 use Rattle.hz_altern.proofs.Weights.{weight-append, weight-cons}
 use Rattle.hz_altern.proofs.MergeLemmas.{swapped}
-use Rattle.hz_base_model.specs.Pairs.{Pair, placed, later}
+use Rattle.hz_base_model.specs.Pairs.{Pair, placed, later, with_pair_by}
 use Rattle.hz_altern_model.specs.Alternatives.{Alternative, each_choice}
-use Rattle.hz_altern_model.specs.Automata.{UnitPlace, with_pair, ascending}
+use Rattle.hz_altern_model.specs.Automata.{UnitPlace, ascending, place_cmp}
 use Rattle.hz_altern_model.proofs.AscendingLaws.{with_pair_cases, ascending_itself}
 
 -- ---- pairs of two lists
 
-more_with_pair : (p : Pair UnitPlace) (qs : List (Pair UnitPlace)) → length qs ≤ length (with_pair p qs)
+more_with_pair : (p : Pair UnitPlace) (qs : List (Pair UnitPlace)) → length qs ≤ length (with_pair_by place_cmp p qs)
 more_with_pair p [] = omega arith
 more_with_pair p (q ∷ qs) =
     let rest = more_with_pair p qs in

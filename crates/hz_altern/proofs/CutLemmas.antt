@@ -1,5 +1,5 @@
 -- Alternatives cut down to an automaton, as lists and as grids.
-use Rattle.std.proofs.Common.{◌≡◌, ◌↔◌, ℕ, ◌+◌, ◌<◌, ◌⊎◌, nat_lt, Bool, true, false, cond, ◌&&◌, ◌||◌, ◌==◌, not, List, [], ◌∷◌, ◌++◌, length, map, filter, take, get_or, All, Contains, refl, sym, ap, ◌∙◌, subst, arith}
+use Rattle.std.proofs.Common.{◌≡◌, ◌↔◌, ℕ, ◌+◌, ◌<◌, ◌⊎◌, nat_lt, Bool, true, false, cond, ◌&&◌, ◌||◌, ◌==◌, not, List, [], ◌∷◌, ◌++◌, length, map, filter, take, get_or, All, Contains, refl, sym, ap, ◌∙◌, subst, arith, IsTrue}
 use Rattle.std.specs.List.{AllPairs, list_any}
 use Rattle.std.specs.Cmp.Lexicographic.{pointwise}
 use Rattle.std.specs.declared.alloc.Global.{Global}
@@ -10,22 +10,29 @@ use Rattle.std.proofs.lemmas.List.{map-append, take_more}
 use Rattle.std.proofs.lemmas.List.Elements.{All-filter, All-map, All-contains, Contains-get_or, filter_passes}
 use Rattle.std.proofs.lemmas.List.Kept.{AllPairs-filter}
 use Rattle.hz_base_model.specs.Limits.{cycle_limit, unit_limit}
-use Rattle.hz_grid.specs.Grids.{IsGrid, HoldsJust, Precedes as PrecedesInside}
-use Rattle.hz_grid.proofs.Pairs.{Precedes_asymmetric, same_grids}
+use Rattle.hz_grid.specs.Grids.{IsGrid, HoldsJust}
+use Rattle.hz_grid.proofs.Pairs.{same_grids}
 use Rattle.hz_altern.specs.declared.alternative.Alt.{Alt}
 use Rattle.hz_altern.specs.Cuts.{within_pair, within_pairs, cuts_of}
 use Rattle.hz_altern.specs.Shapes.{alternative_of, alternatives}
-use Rattle.hz_base_model.specs.Pairs.{Pair}
+use Rattle.hz_base_model.specs.Pairs.{Pair, precedes_by, IsAscendingBy, grid_eq}
 use Rattle.hz_altern_model.specs.AlternativeLists.{IsAscending}
-use Rattle.hz_altern_model.specs.Automata.{UnitPlace, ascending, is_of, inside, cut, list_in, same_pair}
+use Rattle.hz_altern_model.specs.Automata.{UnitPlace, ascending, is_of, inside, cut, list_in}
 use Rattle.hz_base_model.proofs.Ascending.{AllPairs-map, same_from_ascending}
 use Rattle.hz_altern_model.proofs.AscendingLaws.{Precedes, pair_at, IsAscending-ascending, Contains-ascending, Contains-from_ascending}
 use Rattle.hz_base_model.proofs.Elements.{Contains-map, Contains-from_map, Contains-filter, Contains-from_filter}
 use Rattle.hz_altern_model.proofs.PlacedLaws.{All-ascending}
 use Rattle.hz_altern_model.proofs.ListInLaws.{list_in-push}
+use Rattle.hz_base_model.proofs.PairOrder.{grid_one}
+use Rattle.std.specs.Ordering.{nat_cmp, ordering_then, is_lt}
+use Rattle.std.specs.Cmp.{nat_cmp_is}
+use Rattle.std.specs.declared.cmp.Ordering.TheVariants.{Equal}
 
-before_numbers : (a x b y c z : ℕ) → (nat_lt a x || (a == x && (nat_lt b y || (b == y && nat_lt c z)))) ≡ true → b ≡ y → (a < x) ⊎ ((a ≡ x) × (c < z))
-before_numbers a x b y c z h e = grind (arith, nat_tests)
+before_numbers : (a x b y c z : ℕ) → is_lt (ordering_then (nat_cmp a x) (ordering_then (nat_cmp b y) (nat_cmp c z))) ≡ true → b ≡ y → is_lt (ordering_then (nat_cmp a x) (nat_cmp c z)) ≡ true
+before_numbers a x b y c z h e = subst (λ o. is_lt (ordering_then (nat_cmp a x) (ordering_then o (nat_cmp c z))) ≡ true) (sym (nat_cmp_is b y Equal e)) h
+
+abbrev PrecedesInside : Pair ℕ → Pair ℕ → Type 0
+PrecedesInside p q = IsTrue (precedes_by nat_cmp p q)
 
 pair_back : (q : ℕ × ℕ) (p : Pair ℕ) → within_pair q ≡ p → q ≡ (p.unit, p.cycle)
 pair_back q p e = ap (λ (r : Pair ℕ). (r.unit, r.cycle)) e
@@ -104,15 +111,16 @@ module _ (automaton : ℕ) (ps : List (Pair UnitPlace)) (units : All (λ p. p.un
     each_found P each = λ k d within. All-contains P (cut automaton ps) (within_pair (get_or pairs k d)) each (from_found (within_pair (get_or pairs k d)) (Contains-get_or pairs k d within))
 
     -- the same pairs in order are the cut
-    pub pairs_are : AllPairs PrecedesInside (within_pairs pairs) → within_pairs pairs ≡ cut automaton ps
-    pairs_are up = same_from_ascending PrecedesInside Precedes_asymmetric (within_pairs pairs) (cut automaton ps) up (cut_is_grid.ascending)
-        (λ p h. let from = Contains-from_map within_pair pairs p h in from_found p (subst (λ (q : ℕ × ℕ). Contains pairs q) (pair_back from.0 p from.2) from.1))
-        (λ p h. Contains-map within_pair pairs (p.unit, p.cycle) (in_found p h))
+    pub pairs_are : IsAscendingBy nat_cmp (within_pairs pairs) → within_pairs pairs ≡ cut automaton ps
+    pairs_are up = grid_one (within_pairs pairs) (cut automaton ps) up (cut_is_grid.ascending) (λ p. (
+      λ h. let from = Contains-from_map within_pair pairs p h in from_found p (subst (λ (q : ℕ × ℕ). Contains pairs q) (pair_back from.0 p from.2) from.1),
+      λ h. Contains-map within_pair pairs (p.unit, p.cycle) (in_found p h),
+    ))
 
 -- ---- lists of cuts
 
 pub list_in_more : (automaton : ℕ) (alts : List Alt) (i : ℕ) (item : Alt) → i < length alts → item ≡ get_or alts i item →
-    list_in automaton (alternatives (take (i + 1) alts)) ≡ cond (list_any (pointwise same_pair (cut automaton (alternative_of item).pairs)) (list_in automaton (alternatives (take i alts)))) (list_in automaton (alternatives (take i alts))) (list_in automaton (alternatives (take i alts)) ++ cut automaton (alternative_of item).pairs ∷ [])
+    list_in automaton (alternatives (take (i + 1) alts)) ≡ cond (list_any (grid_eq (cut automaton (alternative_of item).pairs)) (list_in automaton (alternatives (take i alts)))) (list_in automaton (alternatives (take i alts))) (list_in automaton (alternatives (take i alts)) ++ cut automaton (alternative_of item).pairs ∷ [])
 list_in_more automaton alts i item h is =
     let more : alternatives (take (i + 1) alts) ≡ alternatives (take i alts) ++ alternative_of item ∷ [] =
     ap alternatives (take_more alts i item h) ∙ (map-append alternative_of (take i alts) (get_or alts i item ∷ []) ∙ ap (λ x. alternatives (take i alts) ++ alternative_of x ∷ []) (sym is)) in
@@ -120,15 +128,15 @@ list_in_more automaton alts i item h is =
 
 -- ---- the set of what was seen
 
-pointwise-map : (xs ys : List (ℕ × ℕ)) → pointwise same_pair (within_pairs xs) (within_pairs ys) ≡ pointwise (λ p q. p.0 == q.0 && p.1 == q.1) xs ys
+pointwise-map : (xs ys : List (ℕ × ℕ)) → grid_eq (within_pairs xs) (within_pairs ys) ≡ pointwise (λ p q. p.0 == q.0 && p.1 == q.1) xs ys
 pointwise-map [] [] = refl
 pointwise-map [] (y ∷ ys) = refl
 pointwise-map (x ∷ xs) [] = refl
 pointwise-map (x ∷ xs) (y ∷ ys) = ap (λ t. (x.0 == y.0 && x.1 == y.1) && t) (pointwise-map xs ys)
 
-pub list_any-cuts : (xs : List (ℕ × ℕ)) (keys : List (Vec (ℕ × ℕ) Global)) → list_any (pointwise same_pair (within_pairs xs)) (cuts_of keys) ≡ list_any (λ k. pointwise (λ p q. p.0 == q.0 && p.1 == q.1) xs k.items) keys
+pub list_any-cuts : (xs : List (ℕ × ℕ)) (keys : List (Vec (ℕ × ℕ) Global)) → list_any (grid_eq (within_pairs xs)) (cuts_of keys) ≡ list_any (λ k. pointwise (λ p q. p.0 == q.0 && p.1 == q.1) xs k.items) keys
 list_any-cuts xs [] = refl
-list_any-cuts xs (k ∷ keys) = ap (λ t. t || list_any (pointwise same_pair (within_pairs xs)) (cuts_of keys)) (pointwise-map xs k.items) ∙ ap (λ t. pointwise (λ p q. p.0 == q.0 && p.1 == q.1) xs k.items || t) (list_any-cuts xs keys)
+list_any-cuts xs (k ∷ keys) = ap (λ t. t || list_any (grid_eq (within_pairs xs)) (cuts_of keys)) (pointwise-map xs k.items) ∙ ap (λ t. pointwise (λ p q. p.0 == q.0 && p.1 == q.1) xs k.items || t) (list_any-cuts xs keys)
 
 cond_not : {A : Type 0} (t : Bool) (x y : A) → cond (not t) x y ≡ cond t y x
 cond_not true x y = refl
@@ -136,8 +144,8 @@ cond_not false x y = refl
 
 -- One more alternative: what was seen, and the grids, become the list with its cut.
 pub cut_joins : (items next seen seen' grids grids' : List (List (Pair ℕ))) (y taken grid : List (Pair ℕ)) (new : Bool) →
-    next ≡ cond (list_any (pointwise same_pair y) items) items (items ++ y ∷ []) → taken ≡ y → grid ≡ y → seen ≡ items → grids ≡ items →
-    new ≡ not (list_any (pointwise same_pair taken) seen) → seen' ≡ cond new (seen ++ taken ∷ []) seen → grids' ≡ cond new (grids ++ grid ∷ []) grids → (grids' ≡ next) × (seen' ≡ next)
+    next ≡ cond (list_any (grid_eq y) items) items (items ++ y ∷ []) → taken ≡ y → grid ≡ y → seen ≡ items → grids ≡ items →
+    new ≡ not (list_any (grid_eq taken) seen) → seen' ≡ cond new (seen ++ taken ∷ []) seen → grids' ≡ cond new (grids ++ grid ∷ []) grids → (grids' ≡ next) × (seen' ≡ next)
 cut_joins items next seen seen' grids grids' y taken grid new is e f g h fresh after made =
-    let turned = cond_not (list_any (pointwise same_pair y) items) (items ++ y ∷ []) items in
+    let turned = cond_not (list_any (grid_eq y) items) (items ++ y ∷ []) items in
     (cc, cc)

@@ -2,22 +2,15 @@
 use Rattle.std.proofs.Common.{◌≡◌, ⊎_elim, true, cond, List, [], ◌∷◌, ◌++◌, length, All, Contains, refl, sym, ap, ◌∙◌, subst, arith}
 use Rattle.std.proofs.lemmas.List.Elements.{All-contains, All-head, All-nil, Contains-get_or, Contains-append_left, Contains-append_right, Contains-append_cases}
 use Rattle.hz_base_model.specs.Pairs.{Pair}
-use Rattle.hz_altern_model.specs.Automata.{UnitPlace, precedes, with_pair, ascending}
+use Rattle.hz_altern_model.specs.Automata.{UnitPlace, ascending}
 use Rattle.hz_altern_model.specs.AlternativeLists.{IsAscending}
 use Rattle.hz_base_model.proofs.Elements.{Contains-head, Contains-tail, Contains-cons_cases}
 use Rattle.hz_base_model.proofs.Ascending.{AllPairs-head, AllPairs-tail}
 use Rattle.hz_altern_model.proofs.SamePairsLaws.{append_swapped}
-use Rattle.hz_altern_model.proofs.AscendingLaws.{Precedes, Precedes_transitive, ascending_same, Contains-from_ascending}
+use Rattle.hz_altern_model.proofs.AscendingLaws.{Precedes, Precedes_transitive, ascending_same, Contains-from_ascending, with_pair_least}
 use Rattle.hz_altern.specs.Merging.{IsLeast}
 use Rattle.hz_altern.specs.declared.alternative.Pair.{Pair as StoredPair}
 use Rattle.hz_altern.specs.Shapes.{pair_of, pairs_of}
-
--- a pair that stands before all others goes first
-with_pair_least : (p : Pair UnitPlace) (qs : List (Pair UnitPlace)) → All (Precedes p) qs → with_pair p qs ≡ p ∷ qs
-with_pair_least p [] below = refl
-with_pair_least p (q ∷ qs) below =
-    let lt : precedes p q ≡ true = All-head (Precedes p) q qs below in
-    ap (λ b. cond b (p ∷ q ∷ qs) (cond (precedes q p) (q ∷ with_pair p qs) (q ∷ qs))) lt
 
 -- what stands behind p in both lists stands behind p in the list of both
 behind_both : (p : Pair UnitPlace) (xs ys : List (Pair UnitPlace)) → All (Precedes p) xs → All (Precedes p) ys → All (Precedes p) (ascending (xs ++ ys))

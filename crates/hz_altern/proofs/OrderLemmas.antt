@@ -1,10 +1,10 @@
 -- Pairs of a unit and a cycle in the order of cycles and then of units.
-use Rattle.std.proofs.Common.{Ordering, ◌≡◌, ◌↔◌, ℕ, Bool, true, ◌&&◌, ◌==◌, List, [], ◌∷◌, map, Contains, sym, subst, arith}
+use Rattle.std.proofs.Common.{Ordering, ◌≡◌, ◌↔◌, ℕ, Bool, true, ◌&&◌, ◌==◌, List, [], ◌∷◌, map, Contains, sym, subst, arith, IsTrue, ap}
 use Rattle.std.specs.List.{AllPairs, dedup}
 use Rattle.std.specs.List.Retain.{IsFiltered, DiffersFromLast}
 use Rattle.std.specs.List.Sorted.{IsPermutation, IsSorted, IsStrictlySortedBy}
 use Rattle.std.specs.Cmp.{IsTotalOrder, IsEquivalence, nat_eq_equiv, on_equiv, and_equiv}
-use Rattle.std.specs.Ordering.{nat_cmp, ordering_then, eq_by_cmp}
+use Rattle.std.specs.Ordering.{nat_cmp, ordering_then, eq_by_cmp, is_lt}
 use Rattle.std.specs.declared.cmp.Ordering.TheVariants.{Less}
 use Rattle.std.proofs.lemmas.Bool.{eqb-true, and_parts}
 use Rattle.std.proofs.lemmas.Bool.Decides.{nat_tests}
@@ -13,9 +13,9 @@ use Rattle.std.proofs.lemmas.List.Elements.{All-from_recursion}
 use Rattle.std.proofs.lemmas.List.Filters.{dedup_is}
 use Rattle.std.proofs.lemmas.List.Kept.{AllPairs-cons, Contains-dedup, Contains-from_dedup, IsStrictlySortedBy-dedup}
 use Rattle.std.proofs.lemmas.List.Sorted.{Contains-permutation, IsPermutation-sym}
-use Rattle.hz_grid.specs.Grids.{Precedes}
 use Rattle.hz_altern.specs.Cuts.{within_pair, within_pairs}
 use Rattle.hz_base_model.proofs.Ascending.{AllPairs-map}
+use Rattle.hz_base_model.specs.Pairs.{precedes_by, IsAscendingBy}
 
 -- by cycle, then by unit
 abbrev pub by_cycle : ℕ × ℕ → ℕ × ℕ → Ordering
@@ -34,8 +34,8 @@ same_equiv = and_equiv (on_equiv (λ (p : ℕ × ℕ). p.0) nat_eq_equiv) (on_eq
 ties : (x y : ℕ × ℕ) → same x y ≡ eq_by_cmp by_cycle x y
 ties x y = grind (arith, nat_tests)
 
-below_precedes : (x y : ℕ × ℕ) → by_cycle x y ≡ Less → Precedes (within_pair x) (within_pair y)
-below_precedes x y e = grind (arith, nat_tests)
+below_precedes : (x y : ℕ × ℕ) → by_cycle x y ≡ Less → IsTrue (precedes_by nat_cmp (within_pair x) (within_pair y))
+below_precedes x y e = ap is_lt e
 
 pub same_is : (x y : ℕ × ℕ) → same x y ≡ true → x ≡ y
 same_is x y e =
@@ -62,8 +62,8 @@ module _ {X : Type 0} (c : X → X → Ordering) (same : X → X → Bool) (tota
   )
 
 module _ (old sorted new : List (ℕ × ℕ)) (moved : IsPermutation old sorted) (filtered : IsFiltered (DiffersFromLast same) [] sorted new) where
-  pub stand_in_order : IsSorted by_cycle sorted → AllPairs Precedes (within_pairs new)
-  stand_in_order = sorted_stand by_cycle same by_cycle_total ties old sorted new moved filtered Precedes within_pair below_precedes (0, 0)
+  pub stand_in_order : IsSorted by_cycle sorted → IsAscendingBy nat_cmp (within_pairs new)
+  stand_in_order = sorted_stand by_cycle same by_cycle_total ties old sorted new moved filtered (λ p q. IsTrue (precedes_by nat_cmp p q)) within_pair below_precedes (0, 0)
 
   pub same_pairs : (pair : ℕ × ℕ) → Contains new pair ↔ Contains old pair
   same_pairs = sorted_same by_cycle same by_cycle_total ties old sorted new moved filtered same_equiv same_is

@@ -1,10 +1,10 @@
 -- Pairs in the order of cycles, automata and units.
-use Rattle.std.proofs.Common.{Ordering, ◌≡◌, ◌↔◌, Bool, true, ◌&&◌, ◌==◌, List, [], Contains, subst, arith}
+use Rattle.std.proofs.Common.{Ordering, ◌≡◌, ◌↔◌, Bool, true, ◌&&◌, ◌==◌, List, [], Contains, subst, arith, refl, sym, ap, ◌∙◌}
 use Rattle.std.specs.List.Retain.{IsFiltered, DiffersFromLast}
 use Rattle.std.specs.List.Sorted.{IsPermutation, IsSorted}
 use Rattle.std.specs.Cmp.{IsTotalOrder, IsEquivalence, nat_eq_equiv, on_equiv, and_equiv}
-use Rattle.std.specs.Ordering.{nat_cmp, ordering_then, eq_by_cmp}
-use Rattle.std.specs.declared.cmp.Ordering.TheVariants.{Less}
+use Rattle.std.specs.Ordering.{nat_cmp, ordering_then, eq_by_cmp, is_lt}
+use Rattle.std.specs.declared.cmp.Ordering.TheVariants.{Less, Equal, Greater}
 use Rattle.std.proofs.lemmas.Bool.{eqb-true, and_parts}
 use Rattle.std.proofs.lemmas.Bool.Decides.{nat_tests}
 use Rattle.std.proofs.lemmas.Cmp.{nat_cmp_total, on_total, then_total}
@@ -35,8 +35,14 @@ stored_equiv = and_equiv (on_equiv (λ (p : StoredPair). p.automaton) nat_eq_equ
 stored_ties : (x y : StoredPair) → same_stored x y ≡ eq_by_cmp by_place x y
 stored_ties x y = grind (arith, nat_tests)
 
+then_then : (r s t : Ordering) → ordering_then (ordering_then r s) t ≡ ordering_then r (ordering_then s t)
+then_then Less s t = refl
+then_then Equal s t = refl
+then_then Greater s t = refl
+
 below_precedes : (x y : StoredPair) → by_place x y ≡ Less → Precedes (pair_of x) (pair_of y)
-below_precedes x y e = grind (arith, nat_tests)
+below_precedes x y e =
+    ap is_lt (sym (then_then (nat_cmp x.cycle y.cycle) (nat_cmp x.automaton y.automaton) (nat_cmp x.unit y.unit)) ∙ e)
 
 stored_is : (x y : StoredPair) → same_stored x y ≡ true → x ≡ y
 stored_is x y e =

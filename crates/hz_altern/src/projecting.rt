@@ -1,13 +1,13 @@
 //! Alternatives cut down to one automaton.
 
 ghost use Rattle.std.specs.Prelude.{◌≡◌, ◌↔◌, ◌++◌, ◌∷◌, ℕ, [], All, Contains, IfOk, not, filter, map, if◌then◌else◌};
-ghost use Rattle.std.specs.Cmp.Lexicographic.{pointwise};
-ghost use Rattle.std.specs.List.{list_any, AllPairs};
-ghost use Rattle.hz_grid.specs.Grids.{Precedes};
+ghost use Rattle.std.specs.List.{list_any};
+ghost use Rattle.std.specs.Ordering.{nat_cmp};
+ghost use Rattle.hz_base_model.specs.Pairs.{IsAscendingBy, grid_eq};
 ghost use Rattle.hz_altern.specs.Cuts.{within_pairs, cuts_of};
 ghost use Rattle.hz_altern.specs.Shapes.{alternative_of, alternatives, pairs_of};
 ghost use Rattle.hz_altern_model.specs.AlternativeLists.{IsCuttable};
-ghost use Rattle.hz_altern_model.specs.Automata.{cut, inside, is_of, list_in, same_pair};
+ghost use Rattle.hz_altern_model.specs.Automata.{cut, inside, is_of, list_in};
 
 use crate::alternative::{Alt, Pair};
 use crate::fault::NoMemory;
@@ -30,7 +30,7 @@ fn within(alloc: Global, pairs: &[Pair], automaton: u8) -> Result<Vec<(u8, u16)>
 
 /// Puts pairs of a unit and a cycle in the order of cycles and then of units, each once.
 fn put_in_order(pairs: &mut Vec<(u8, u16)>)
-    ensures ascending { AllPairs Precedes (within_pairs pairs.new.items) }
+    ensures ascending { IsAscendingBy nat_cmp (within_pairs pairs.new.items) }
     ensures same { (pair : ℕ × ℕ) → Contains pairs.new.items pair ↔ Contains pairs.old.items pair }
 {
     pairs.sort_unstable_by_key(|pair| (pair.1, pair.0));
@@ -51,7 +51,7 @@ fn cut(alloc: Global, alt: &Alt, automaton: u8) -> Result<(Vec<(u8, u16)>, Grid)
 
 /// Adds pairs that are not among those that were seen, and says whether they were new.
 fn is_new(seen: &mut IndexSet<Vec<(u8, u16)>>, pairs: Vec<(u8, u16)>) -> Result<bool, NoMemory>
-    ensures new { IfOk result (λ new. new ≡ not (list_any (pointwise same_pair (within_pairs pairs.items)) (cuts_of seen.old.keys))) }
+    ensures new { IfOk result (λ new. new ≡ not (list_any (grid_eq (within_pairs pairs.items)) (cuts_of seen.old.keys))) }
     ensures seen { IfOk result (λ new. cuts_of seen.new.keys ≡ (if new then cuts_of seen.old.keys ++ within_pairs pairs.items ∷ [] else cuts_of seen.old.keys)) }
 {
     let new = seen.insert(pairs)?;

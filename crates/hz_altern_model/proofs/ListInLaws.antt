@@ -2,18 +2,17 @@
 use Rattle.std.proofs.Common.{◌≡◌, ℕ, ◌<◌, ⊎_elim, Bool, true, false, not, List, [], ◌∷◌, ◌++◌, cond, length, map, filter, Contains, refl, sym, ap, ◌∙◌, subst, arith}
 use Rattle.std.specs.Bool.{Decides}
 use Rattle.std.specs.List.{AllPairs, list_any}
-use Rattle.std.specs.Cmp.Lexicographic.{pointwise}
-use Rattle.std.proofs.lemmas.Bool.{cases_Bool, cond_both, false_from_ne_true, not-true, and_parts, and_from, eqb-true, eq-eqb}
+use Rattle.std.proofs.lemmas.Bool.{cases_Bool, cond_both, false_from_ne_true, not-true}
 use Rattle.std.proofs.lemmas.List.{append-nil, map-append}
 use Rattle.std.proofs.lemmas.List.Folds.{list_any-from_Any}
 use Rattle.std.proofs.lemmas.Map.Views.{Contains-from_any}
-use Rattle.std.proofs.lemmas.Slice.Eq.{slice_eq-Decides}
 use Rattle.std.proofs.lemmas.List.Elements.{filter_passes, filter-append}
 use Rattle.std.proofs.lemmas.List.Kept.{AllPairs-cons, AllPairs-filter}
-use Rattle.hz_base_model.specs.Pairs.{Pair}
+use Rattle.hz_base_model.specs.Pairs.{Pair, grid_eq}
 use Rattle.hz_altern_model.specs.Alternatives.{Alternative}
-use Rattle.hz_altern_model.specs.Automata.{UnitPlace, same_pair, cut, without_repeats, list_in}
+use Rattle.hz_altern_model.specs.Automata.{UnitPlace, cut, without_repeats, list_in}
 use Rattle.hz_base_model.proofs.Elements.{Contains-nil, Contains-head, Contains-tail, Contains-cons_cases, Contains-filter, Contains-from_filter, Contains-map, Contains-from_map}
+use Rattle.hz_base_model.proofs.PairOrder.{grid_eq-Decides}
 
 module _ {A : Type 0} (same : A → A → Bool) where
   pub Contains-from_without_repeats : (x : A) (xs : List A) → Contains (without_repeats same xs) x → Contains xs x
@@ -85,42 +84,31 @@ module _ {A : Type 0} (same : A → A → Bool) (decides : (a b : A) → Decides
       (λ there. old_item y xs (Contains-from_without_repeats same y xs (found y (without_repeats same xs) there)))
       (λ none. new_item y xs (λ m. missing y (without_repeats same xs) none (Contains-without_repeats same decides y xs m)))
 
-pub same_pair-Decides : (p q : Pair ℕ) → Decides (same_pair p q) (p ≡ q)
-same_pair-Decides p q = (
-  λ t.
-      let parts = and_parts _ _ t in
-      ap (λ (unit : ℕ). in_cycle p.cycle unit) (eqb-true _ _ parts.0) ∙ ap (λ (cycle : ℕ). in_cycle cycle q.unit) (eqb-true _ _ parts.1),
-  λ e. and_from _ _ (eq-eqb _ _ (ap (λ (r : Pair ℕ). r.unit) e)) (eq-eqb _ _ (ap (λ (r : Pair ℕ). r.cycle) e)),
-)
-
-pub same_pairs-Decides : (ps qs : List (Pair ℕ)) → Decides (pointwise same_pair ps qs) (ps ≡ qs)
-same_pairs-Decides ps qs = slice_eq-Decides same_pair-Decides ps qs _ refl
-
 -- the cuts of an automaton
 abbrev cuts : ℕ → List (Alternative UnitPlace) → List (List (Pair ℕ))
 cuts automaton alternatives = map (λ a. cut automaton a.pairs) alternatives
 
 pub Contains-list_in : (automaton : ℕ) (alternatives : List (Alternative UnitPlace)) (a : Alternative UnitPlace) → Contains alternatives a → Contains (list_in automaton alternatives) (cut automaton a.pairs)
 Contains-list_in automaton alternatives a h =
-    Contains-without_repeats (pointwise same_pair) same_pairs-Decides (cut automaton a.pairs) (cuts automaton alternatives)
+    Contains-without_repeats grid_eq grid_eq-Decides (cut automaton a.pairs) (cuts automaton alternatives)
     (Contains-map (λ (b : Alternative UnitPlace). cut automaton b.pairs) alternatives a h)
 
 pub Contains-from_list_in : (automaton : ℕ) (alternatives : List (Alternative UnitPlace)) (grid : List (Pair ℕ)) → Contains (list_in automaton alternatives) grid → (a : Alternative UnitPlace) × Contains alternatives a × (cut automaton a.pairs ≡ grid)
 Contains-from_list_in automaton alternatives grid h =
     Contains-from_map (λ (b : Alternative UnitPlace). cut automaton b.pairs) alternatives grid
-    (Contains-from_without_repeats (pointwise same_pair) grid (cuts automaton alternatives) h)
+    (Contains-from_without_repeats grid_eq grid (cuts automaton alternatives) h)
 
 pub apart_in_list : (automaton : ℕ) (alternatives : List (Alternative UnitPlace)) → AllPairs (λ x y. x ≡ y → ⊥) (list_in automaton alternatives)
 apart_in_list automaton alternatives i j d lt within e =
-    let apart = apart_without_repeats (pointwise same_pair) (cuts automaton alternatives) i j d lt within in
-    cc ((same_pairs-Decides _ _).1 e, apart)
+    let apart = apart_without_repeats grid_eq (cuts automaton alternatives) i j d lt within in
+    cc ((grid_eq-Decides _ _).1 e, apart)
 
 pub some_in_list : (automaton : ℕ) (alternatives : List (Alternative UnitPlace)) → 0 < length alternatives → 0 < length (list_in automaton alternatives)
 some_in_list automaton [] h = absurd (omega arith)
 some_in_list automaton (a ∷ others) h = omega arith
 
 -- one more alternative joins the list by its cut
-pub list_in-push : (automaton : ℕ) (alternatives : List (Alternative UnitPlace)) (a : Alternative UnitPlace) → list_in automaton (alternatives ++ a ∷ []) ≡ cond (list_any (pointwise same_pair (cut automaton a.pairs)) (list_in automaton alternatives)) (list_in automaton alternatives) (list_in automaton alternatives ++ cut automaton a.pairs ∷ [])
+pub list_in-push : (automaton : ℕ) (alternatives : List (Alternative UnitPlace)) (a : Alternative UnitPlace) → list_in automaton (alternatives ++ a ∷ []) ≡ cond (list_any (grid_eq (cut automaton a.pairs)) (list_in automaton alternatives)) (list_in automaton alternatives) (list_in automaton alternatives ++ cut automaton a.pairs ∷ [])
 list_in-push automaton alternatives a =
-    ap (without_repeats (pointwise same_pair)) (map-append (λ (b : Alternative UnitPlace). cut automaton b.pairs) alternatives (a ∷ []))
-    ∙ without_repeats-push (pointwise same_pair) same_pairs-Decides (cut automaton a.pairs) (cuts automaton alternatives)
+    ap (without_repeats grid_eq) (map-append (λ (b : Alternative UnitPlace). cut automaton b.pairs) alternatives (a ∷ []))
+    ∙ without_repeats-push grid_eq grid_eq-Decides (cut automaton a.pairs) (cuts automaton alternatives)

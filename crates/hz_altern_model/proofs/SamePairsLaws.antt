@@ -1,5 +1,5 @@
 -- Pairs count as a set: their order and repeats change nothing.
-use Rattle.std.proofs.Common.{ℕ, ◌+◌, List, ◌++◌, Contains, subst, arith, ⊎_elim}
+use Rattle.std.proofs.Common.{ℕ, List, ◌++◌, Contains, subst, arith, ⊎_elim}
 use Rattle.std.proofs.Math.Nat.{max_comm}
 use Rattle.std.proofs.lemmas.List.Elements.{Contains-append_left, Contains-append_right, Contains-append_cases}
 use Rattle.hz_base_model.specs.Pairs.{Pair, SamePairs, later, placed}

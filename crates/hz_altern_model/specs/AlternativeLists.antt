@@ -1,11 +1,10 @@
 -- Lists of alternatives: how many they are, how long and how large, and which lists a description can have. GCC Internals,
 -- 'Specifying processor pipeline description'; the limits are this profile's, docs/RULES.md, 'Limits'.
-use Rattle.std.specs.Prelude.{ℕ, ◌+◌, ◌<◌, ◌≤◌, min, max, List, [], ◌∷◌, Option, Some, None, length, nat_lt, All, IsTrue, if◌then◌else◌}
-use Rattle.std.specs.List.{AllPairs}
+use Rattle.std.specs.Prelude.{ℕ, ◌+◌, ◌<◌, ◌≤◌, min, max, List, [], ◌∷◌, Option, Some, None, length, nat_lt, All, if◌then◌else◌}
 use Rattle.hz_base_model.specs.Limits.{automaton_limit, unit_limit, cycle_limit, alternative_limit}
-use Rattle.hz_base_model.specs.Pairs.{Pair}
+use Rattle.hz_base_model.specs.Pairs.{Pair, IsAscendingBy}
 use Rattle.hz_altern_model.specs.Alternatives.{Alternative}
-use Rattle.hz_altern_model.specs.Automata.{UnitPlace, precedes, total_size}
+use Rattle.hz_altern_model.specs.Automata.{UnitPlace, place_cmp, total_size}
 
 -- for how many cycles the longest runs
 abbrev pub greatest_length : {U : Type 0} → List (Alternative U) → ℕ
@@ -34,7 +33,7 @@ excess_of most alternatives =
 
 -- each pair precedes all later ones, so that none stands twice
 abbrev pub IsAscending : List (Pair UnitPlace) → Type 0
-IsAscending pairs = AllPairs (λ p q. IsTrue (precedes p q)) pairs
+IsAscending = IsAscendingBy place_cmp
 
 -- an alternative that a description can have: it runs for some cycle, its pairs lie within its cycles, and its units are
 -- some that automata can have

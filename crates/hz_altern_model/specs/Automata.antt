@@ -1,8 +1,9 @@
 -- Units of several automata: the one way to list an alternative, and what a class may take in one automaton. GCC
 -- Internals, 'Specifying processor pipeline description', on `define_automaton`; the lists are this profile's, docs/RULES.md.
-use Rattle.std.specs.Prelude.{ℕ, ◌+◌, Bool, ◌&&◌, ◌||◌, ◌==◌, not, nat_lt, List, [], ◌∷◌, map, filter, length, sum_by, if◌then◌else◌}
-use Rattle.std.specs.Cmp.Lexicographic.{pointwise}
-use Rattle.hz_base_model.specs.Pairs.{Pair}
+use Rattle.std.specs.Prelude.{ℕ, ◌+◌, Bool, ◌==◌, not, List, [], ◌∷◌, map, filter, length, sum_by}
+use Rattle.std.specs.declared.cmp.Ordering.{Ordering}
+use Rattle.std.specs.Ordering.{nat_cmp, on, then_cmp}
+use Rattle.hz_base_model.specs.Pairs.{Pair, ascending_by, grid_eq}
 use Rattle.hz_altern_model.specs.Alternatives.{Alternative}
 
 -- a unit by the number of its automaton and its number there
@@ -10,20 +11,13 @@ pub record UnitPlace : Type 0 where
   pub automaton : ℕ
   pub unit : ℕ
 
--- whether a pair stands before another: by cycle, then by automaton, then by unit
-abbrev pub precedes : Pair UnitPlace → Pair UnitPlace → Bool
-precedes p q = nat_lt p.cycle q.cycle
-    || (p.cycle == q.cycle && (nat_lt p.unit.automaton q.unit.automaton || (p.unit.automaton == q.unit.automaton && nat_lt p.unit.unit q.unit.unit)))
-
--- a pair joins pairs that ascend, where it is not among them
-abbrev pub with_pair : Pair UnitPlace → List (Pair UnitPlace) → List (Pair UnitPlace)
-with_pair p [] = p ∷ []
-with_pair p (q ∷ qs) = if precedes p q then p ∷ q ∷ qs else (if precedes q p then q ∷ with_pair p qs else q ∷ qs)
+-- units are ordered by automaton, and in one automaton by number
+abbrev pub place_cmp : UnitPlace → UnitPlace → Ordering
+place_cmp = then_cmp (on (λ u. u.automaton) nat_cmp) (on (λ u. u.unit) nat_cmp)
 
 -- the same set of pairs, ascending and each once
 abbrev pub ascending : List (Pair UnitPlace) → List (Pair UnitPlace)
-ascending [] = []
-ascending (p ∷ ps) = with_pair p (ascending ps)
+ascending = ascending_by place_cmp
 
 -- the alternative with its pairs ascending and each once
 abbrev pub listed : Alternative UnitPlace → Alternative UnitPlace
@@ -49,10 +43,6 @@ inside p = record { unit = p.unit.unit; cycle = p.cycle }
 abbrev pub cut : ℕ → List (Pair UnitPlace) → List (Pair ℕ)
 cut automaton pairs = map inside (filter (is_of automaton) (ascending pairs))
 
--- whether two pairs are equal
-abbrev pub same_pair : Pair ℕ → Pair ℕ → Bool
-same_pair p q = p.unit == q.unit && p.cycle == q.cycle
-
 -- each item once, at the place where it stands first
 abbrev pub without_repeats : {A : Type 0} → (A → A → Bool) → List A → List A
 without_repeats same [] = []
@@ -60,4 +50,4 @@ without_repeats same (x ∷ xs) = x ∷ filter (λ y. not (same x y)) (without_r
 
 -- The list of a class in an automaton: its alternatives cut down to the automaton's units, each later equal one dropped.
 abbrev pub list_in : ℕ → List (Alternative UnitPlace) → List (List (Pair ℕ))
-list_in automaton alternatives = without_repeats (pointwise same_pair) (map (λ a. cut automaton a.pairs) alternatives)
+list_in automaton alternatives = without_repeats grid_eq (map (λ a. cut automaton a.pairs) alternatives)

@@ -4,7 +4,7 @@ use Rattle.std.specs.Prelude.{slice_index_or, MatchBool, IsSomeAnd, IsSorted}
 use Rattle.std.specs.List.{sum_by}
 use Rattle.std.proofs.lemmas.Bool.{cases_lt}
 use Rattle.std.proofs.lemmas.List.{length-map, get_or_default}
-use Rattle.hz_base_model.specs.Pairs.{Pair}
+use Rattle.hz_base_model.specs.Pairs.{Pair, grid_cmp}
 use Rattle.hz_altern_model.specs.Sets.{Statement}
 use Rattle.hz_acceptance_model.specs.Events.{Event, IsOfClass}
 use Rattle.hz_acceptance_model.specs.Fitting.{AskTheSame}
@@ -27,7 +27,7 @@ use Rattle.hz_determ.specs.declared.build.Caps.{Caps}
 use Rattle.hz_determ.specs.Explored.{AreWithin, PassesCap}
 use Rattle.hz_auto_model.specs.AutomatonPipelines.{automaton_at, lists_at, automaton_pipeline}
 use Rattle.hz_auto_model.specs.ClassColumns.{IsColumns}
-use Rattle.hz_auto_model.specs.Compiled.{shows_states, grid_order, IsCompiledPart, IsShown, Shown, Report}
+use Rattle.hz_auto_model.specs.Compiled.{shows_states, IsCompiledPart, IsShown, Shown, Report}
 use Rattle.hz_auto_model.specs.CompiledParts.{cap_of, IsWithinLimits, IsPastLimit, WalksAccepted, TellsWhatIsLeft}
 use Rattle.hz_auto_model.specs.Counted.{CountIs}
 use Rattle.hz_auto_model.proofs.ColumnLaws.{nothing_past}
@@ -129,11 +129,11 @@ module _ (options : Options) (automata : List AutomatonParts) (classes : List Cl
             left_arranged m t grids (slice_index_or sets state []) (slice_index_or shown.states state []) (arranged.at state (omega (arith, here, each)))
             (stands (treatment_of options) (automaton_at automata a).statements rules asked (lists_at classes a) columns part is number grids sets parents auto t state (subst (λ n. All (IsOfClass n) t) (sym lists_count) all) h)
 
-        ascending : All (λ grids. IsSorted grid_order grids) shown.states
+        ascending : All (λ grids. IsSorted grid_cmp grids) shown.states
         ascending i d within =
             let each = arranged.each in
             let at = arranged.at i (omega (arith, within, each)) in
-            subst (IsSorted grid_order) (get_or_default shown.states i [] d within) at.sorted
+            subst (IsSorted grid_cmp) (get_or_default shown.states i [] d within) at.sorted
 
     -- the part that is compiled
     pub compiled_part : (report : Report) → part.name ≡ (automaton_at automata a).name → report.grids ≡ length grids → report.states ≡ length part.rows → report.members ≡ sum_by length sets → ReportedOf report → IsWithinLimits (shows_states options) (lists_at classes a) m → IsCompiledPart true options automata classes a part report

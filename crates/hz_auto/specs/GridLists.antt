@@ -4,8 +4,8 @@ use Rattle.std.specs.Bool.{Decides}
 use Rattle.std.specs.Cmp.{IsEquivalence}
 use Rattle.std.specs.Cmp.Lexicographic.{pointwise, lists_equiv}
 use Rattle.std.proofs.lemmas.Slice.Eq.{slice_eq-Decides}
-use Rattle.hz_base_model.specs.Pairs.{Pair}
-use Rattle.hz_grid.specs.Grids.{grid_eq, grid_eq-laws}
+use Rattle.hz_base_model.specs.Pairs.{Pair, grid_eq}
+use Rattle.hz_grid.specs.Grids.{grid_eq-laws}
 use Rattle.hz_grid.specs.Hashes.{grid_eq-Decides}
 
 pub lists_eq-laws : IsEquivalence (pointwise grid_eq)

@@ -52,7 +52,7 @@ impl PartialEq for GridList {
     ghost use Rattle.std.specs.Prelude.{◌≡◌};
     ghost use Rattle.std.specs.Cmp.{partial_equiv_from_equiv};
     ghost use Rattle.std.specs.Cmp.Lexicographic.{pointwise};
-    ghost use Rattle.hz_grid.specs.Grids.{grid_eq};
+    ghost use Rattle.hz_base_model.specs.Pairs.{grid_eq};
     ghost use Rattle.hz_auto.specs.GridLists.{lists_eq-laws};
 
     ghost eq = { pointwise grid_eq };

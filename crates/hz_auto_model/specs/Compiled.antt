@@ -4,7 +4,7 @@ use Rattle.std.specs.Prelude.{◌≡◌, ℕ, ◌<◌, ◌⊎◌, Bool, false, �
 use Rattle.std.specs.declared.cmp.Ordering.{Ordering}
 use Rattle.std.specs.Ordering.{nat_cmp, on, then_cmp}
 use Rattle.std.specs.Cmp.Lexicographic.{slice_cmp}
-use Rattle.hz_base_model.specs.Pairs.{Pair}
+use Rattle.hz_base_model.specs.Pairs.{Pair, grid_cmp}
 use Rattle.hz_acceptance_model.specs.Events.{Event, IsOfClass}
 use Rattle.hz_acceptance_model.specs.Replay.{Pipeline}
 use Rattle.hz_mdread_model.specs.Descriptions.{Options}
@@ -37,17 +37,13 @@ pub record Report : Type 0 where
 abbrev pub shows_states : Options → Bool
 shows_states options = options.verbose && options.no_minimization
 
--- grids are ordered as their ascending lists of pairs: by cycles first, and in one cycle by units
-abbrev pub grid_order : List (Pair ℕ) → List (Pair ℕ) → Ordering
-grid_order = slice_cmp (then_cmp (on (λ p. p.cycle) nat_cmp) (on (λ p. p.unit) nat_cmp))
-
 -- For each state of a part where it is read first, and in ascending order the grids that all events leave which lead
 -- to it.
 pub record IsShown (classes : ℕ) (m : Pipeline ℕ) (part : Part) (shown : Shown) : Type 0 where
   pub parents : IsBreadthFirst part.rows part.columns shown.parents
   pub each : length shown.states ≡ length part.rows
   pub left : (t : List Event) (state : ℕ) → All (IsOfClass classes) t → part_walk part 0 t ≡ Some state → IsLeft m t (slice_index_or shown.states state [])
-  pub ascending : All (λ grids. IsSorted grid_order grids) shown.states
+  pub ascending : All (λ grids. IsSorted grid_cmp grids) shown.states
 
 -- The part of an automaton of this number, and what is told of it: it has the automaton's name; classes with equal
 -- lists share a column; it walks just what the automaton's pipeline accepts; its states are what accepted events leave

@@ -1,3 +1,4 @@
 pub mod Elements
 pub mod Ascending
+pub mod PairOrder
 pub mod LineLaws

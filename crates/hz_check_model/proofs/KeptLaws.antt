@@ -18,7 +18,7 @@ use Rattle.std.proofs.lemmas.Option.{none-some}
 use Rattle.std.proofs.lemmas.Simd.{map-map}
 use Rattle.std.proofs.lemmas.Slice.Eq.{bytes_eq-Decides}
 use Rattle.hz_altern_model.specs.Alternatives.{Alternative, idle, followed_by, beside, taking, Expression, alternatives_of}
-use Rattle.hz_altern_model.specs.Automata.{cut, ascending, is_of, inside, without_repeats, same_pair, UnitPlace, list_in}
+use Rattle.hz_altern_model.specs.Automata.{cut, ascending, is_of, inside, without_repeats, UnitPlace, list_in}
 use Rattle.hz_check_model.specs.CheckFaults.{names_of_set, has_too_long, is_unit, is_reservable, unknown_in_expression, unknown_in_condition, is_class, names_of_bypass, has_too_many, CheckFault, IsSound, faults_of_names, faults_of_meanings, automaton_sites, unit_sites, reservation_sites, class_sites, attribute_sites, repeated_values, past_units, differs, renumbered, renumbered_behind, sites_of}
 use Rattle.hz_check_model.specs.CountingOrder.{reserving_class, classes_of, reservations_of, reservation_site, Reserving}
 use Rattle.hz_check_model.specs.FirstTold.{Told, Standing, first_told, told_at}
@@ -33,7 +33,7 @@ use Rattle.hz_base_model.specs.Lines.{place_of}
 use Rattle.hz_check_model.specs.Places.{unit_place, places_of, statement_of, reservation_named, unit_or_reservation, meaning, IsKnown, at_name, class_names, automaton_number, automaton_numbers, place_behind, places_behind, unit_places, Known}
 use Rattle.hz_altern_model.specs.Inside.{inside_statement, are_inside, is_inside, unit_numbers}
 use Rattle.hz_altern_model.specs.Meanings.{Meaning, reservation, Mentions, alternatives_of_meaning, IsClosed}
-use Rattle.hz_base_model.specs.Pairs.{Pair, placed, later}
+use Rattle.hz_base_model.specs.Pairs.{Pair, placed, later, grid_eq}
 use Rattle.hz_altern_model.specs.Sets.{Statement}
 use Rattle.hz_check_model.specs.Sites.{Site, is_among, earliest, is_preceded, repeated}
 use Rattle.hz_base_model.proofs.Ascending.{AllPairs-head, AllPairs-tail, AllPairs-append}
@@ -631,7 +631,7 @@ module _ (d : Description) where
     list_few c there n =
         let some = some_in_list n (alternatives_of known c.expression) (some_of c there) in
         let few = few_of c there in
-        let fewer = length-without_repeats (pointwise same_pair) (map (λ a. cut n a.pairs) (alternatives_of known c.expression)) in
+        let fewer = length-without_repeats grid_eq (map (λ a. cut n a.pairs) (alternatives_of known c.expression)) in
         let long = length-map (alternatives_of known c.expression) (λ (a : Alternative UnitPlace). cut n a.pairs) in
         (omega (arith, some), omega (arith, few, fewer, long))
 

@@ -5,20 +5,21 @@ use Rattle.std.specs.Cmp.Lexicographic.{pointwise}
 use Rattle.std.proofs.lemmas.Bool.{cases_lt, cases_eq, cases_order}
 use Rattle.std.proofs.lemmas.Option.{slice_get-map, slice_get-get_or, get_or_from_slice_get}
 use Rattle.std.proofs.lemmas.List.{length-map}
-use Rattle.hz_base_model.specs.Pairs.{Pair, SamePairs, later}
+use Rattle.hz_base_model.specs.Pairs.{Pair, SamePairs, later, grid_eq}
 use Rattle.hz_altern_model.specs.Alternatives.{Alternative}
-use Rattle.hz_altern_model.specs.Automata.{UnitPlace, cut, list_in, same_pair}
+use Rattle.hz_altern_model.specs.Automata.{UnitPlace, cut, list_in}
 use Rattle.hz_altern_model.specs.Inside.{IsStatementOf}
 use Rattle.hz_altern_model.specs.Sets.{Statement, Fits}
 use Rattle.hz_acceptance_model.specs.Replay.{Class, Pipeline, State, FitsAt, MayTake, alternatives_at, of_class, chosen, pairs_at, first_fit}
 use Rattle.hz_acceptance_model.specs.Restricted.{of_pairs, class_in, restricted}
 use Rattle.hz_base_model.proofs.Elements.{Contains-nil, Contains-from_map}
-use Rattle.hz_altern_model.proofs.ListInLaws.{Contains-list_in, apart_in_list, same_pairs-Decides}
+use Rattle.hz_altern_model.proofs.ListInLaws.{Contains-list_in, apart_in_list}
 use Rattle.hz_altern_model.proofs.SamePairsLaws.{fits_same}
 use Rattle.hz_factoring_model.specs.Factored.{state_in}
 use Rattle.hz_factoring_model.proofs.Choices.{Alt, At, there, within, one_item, Alike, Joined, Factors}
 use Rattle.hz_factoring_model.proofs.FirstItems.{FirstWith, first_with}
 use Rattle.hz_factoring_model.proofs.InsideFits.{seen_cut, alike_cut, restricted_statements, fits_inside, allowed_outside, apart_outside}
+use Rattle.hz_base_model.proofs.PairOrder.{grid_eq-Decides}
 
 -- what is found for each number below a count, as a function of all numbers
 pub settle : {X : Type 0} (P : ℕ → X → Type 0) (count : ℕ) (otherwise : X) → ((a : ℕ) → a < count → (x : X) × P a x) → (a : ℕ) → (x : X) × (a < count → P a x)
@@ -81,10 +82,10 @@ module _ (m : Pipeline UnitPlace) where
 
   -- the first alternative that has a grid; those before it have grids before it
   abbrev pub FirstOf : (a k : ℕ) → At (grids a k) → Type 0
-  FirstOf a k g = FirstWith (λ (x : Alt). cut a x.pairs) (pointwise same_pair) same_pairs-Decides (alternatives_at m k) g
+  FirstOf a k g = FirstWith (λ (x : Alt). cut a x.pairs) grid_eq grid_eq-Decides (alternatives_at m k) g
 
   first_of : (a k : ℕ) (g : At (grids a k)) → FirstOf a k g
-  first_of a k g = first_with (λ (x : Alt). cut a x.pairs) (pointwise same_pair) same_pairs-Decides (alternatives_at m k) g
+  first_of a k g = first_with (λ (x : Alt). cut a x.pairs) grid_eq grid_eq-Decides (alternatives_at m k) g
 
   -- the grid of an alternative
   grid_of : (a k : ℕ) (x : At (alternatives_at m k)) → (g : At (grids a k)) × (g.item ≡ cut a ((x.item).pairs))

@@ -1,61 +1,49 @@
 -- The order of grids, by the first unit in which their rows differ.
-use Rattle.std.proofs.Common.{◌≡◌, ◌≢◌, ℕ, ◌+◌, ◌-◌, ◌<◌, ◌≤◌, inl, inr, ⊎_elim, IsTrue, Bool, true, false, max, List, length, get_or, Contains, refl, sym, ap, ◌∙◌, subst, arith}
+use Rattle.std.proofs.Common.{◌≡◌, ◌≢◌, ℕ, ◌+◌, ◌<◌, ◌≤◌, inl, inr, ⊎_elim, IsTrue, Bool, true, false, max, List, length, get_or, Contains, refl, sym, ap, ◌∙◌, subst, arith, ◌⊎◌}
 use Rattle.std.specs.declared.cmp.Ordering.{Ordering}
 use Rattle.std.specs.declared.cmp.Ordering.TheVariants.{Less, Equal, Greater}
-use Rattle.std.specs.Ordering.{nat_cmp, ordering_then}
-use Rattle.std.specs.Cmp.{nat_cmp_is}
-use Rattle.std.proofs.lemmas.Cmp.{ranked, tied_itself}
+use Rattle.std.specs.Ordering.{nat_cmp, is_lt}
+use Rattle.std.specs.Cmp.{IsTotalOrder}
+use Rattle.std.proofs.lemmas.Cmp.{tied_itself, nat_cmp_total}
 use Rattle.std.proofs.lemmas.Bool.{cases_lt}
 use Rattle.std.proofs.lemmas.List.{get_or_past}
 use Rattle.std.specs.List.{AllPairs}
-use Rattle.hz_base_model.specs.Pairs.{Pair}
+use Rattle.hz_base_model.specs.Pairs.{Pair, pair_cmp, grid_cmp}
 use Rattle.hz_grid.specs.Rows.{has_unit, HasUnit, HasAbove}
-use Rattle.hz_grid.specs.Grids.{Precedes}
 use Rattle.hz_grid.specs.Stored.{IsSet, pairs_from, IsRows}
-use Rattle.hz_grid.specs.Orders.{pair_cmp, grid_cmp, pair_cmp-total, grid_cmp-total, HasLater, DifferFirst}
+use Rattle.hz_grid.specs.Orders.{HasLater, DifferFirst}
 use Rattle.hz_grid.proofs.Units.{HasUnit-zero, same_from_units}
 use Rattle.hz_grid.proofs.Pairs.{Holds-rows, IsGrid-pairs_from, row_below, same_rows}
 use Rattle.hz_grid.proofs.Ordered as ordered
+use Rattle.hz_base_model.proofs.PairOrder.{is_less, pair_total, pair_exact, precedes_parts, precedes_from, grid_total}
+use Rattle.std.specs.FinMap.{IsAntisymmetric, nat_cmp-IsAntisymmetric}
 
 -- ---- pairs
 
-Precedes-from : (p q : Pair ℕ) (r s : Ordering) → r ≡ nat_cmp p.cycle q.cycle → s ≡ nat_cmp p.unit q.unit → ordering_then r s ≡ Less → Precedes p q
-Precedes-from p q Less s e f h = inl (ranked p.cycle q.cycle Less e)
-Precedes-from p q Equal Less e f h = inr (ranked p.cycle q.cycle Equal e, ranked p.unit q.unit Less f)
-Precedes-from p q Equal Equal e f h = cc
-Precedes-from p q Equal Greater e f h = cc
-Precedes-from p q Greater s e f h = cc
+abbrev before_pair : Pair ℕ → Pair ℕ → Ordering
+before_pair = pair_cmp nat_cmp
 
-same-from : (p q : Pair ℕ) (r s : Ordering) → r ≡ nat_cmp p.cycle q.cycle → s ≡ nat_cmp p.unit q.unit → ordering_then r s ≡ Equal → p ≡ q
-same-from p q Less s e f h = cc
-same-from p q Equal Less e f h = cc
-same-from p q Equal Equal e f h =
-    let cycles : p.cycle ≡ q.cycle = ranked p.cycle q.cycle Equal e in
-    let units : p.unit ≡ q.unit = ranked p.unit q.unit Equal f in
-    ap (λ unit. record { unit = unit; cycle = p.cycle }) units ∙ ap (λ cycle. record { unit = q.unit; cycle = cycle }) cycles
-same-from p q Equal Greater e f h = cc
-same-from p q Greater s e f h = cc
+pub before_total : IsTotalOrder before_pair
+before_total = pair_total nat_cmp nat_cmp_total nat_cmp-IsAntisymmetric
 
-pub pair_cmp-Precedes : (p q : Pair ℕ) → pair_cmp p q ≡ Less → Precedes p q
-pair_cmp-Precedes p q h = Precedes-from p q (nat_cmp p.cycle q.cycle) (nat_cmp p.unit q.unit) refl refl h
+pub before_exact : IsAntisymmetric before_pair
+before_exact = pair_exact nat_cmp nat_cmp_total nat_cmp-IsAntisymmetric
 
-pub Precedes-pair_cmp : (p q : Pair ℕ) → Precedes p q → pair_cmp p q ≡ Less
-Precedes-pair_cmp p q (inl lt) =
-    let e : Less ≡ nat_cmp p.cycle q.cycle = nat_cmp_is p.cycle q.cycle Less lt in
-    ap (λ r. ordering_then r (nat_cmp p.unit q.unit)) (sym e)
-Precedes-pair_cmp p q (inr both) =
-    let e : Equal ≡ nat_cmp p.cycle q.cycle = nat_cmp_is p.cycle q.cycle Equal both.0 in
-    let f : Less ≡ nat_cmp p.unit q.unit = nat_cmp_is p.unit q.unit Less both.1 in
-    ap (λ r. ordering_then r (nat_cmp p.unit q.unit)) (sym e) ∙ sym f
+-- an earlier cycle, or a lower unit of the same cycle
+abbrev Precedes : Pair ℕ → Pair ℕ → Type 0
+Precedes p q = (p.cycle < q.cycle) ⊎ ((p.cycle ≡ q.cycle) × (p.unit < q.unit))
 
-pub pair_cmp-exact : (p q : Pair ℕ) → pair_cmp p q ≡ Equal → p ≡ q
-pair_cmp-exact p q h = same-from p q (nat_cmp p.cycle q.cycle) (nat_cmp p.unit q.unit) refl refl h
+less_precedes : (p q : Pair ℕ) → before_pair p q ≡ Less → Precedes p q
+less_precedes p q h = precedes_parts p q (ap is_lt h)
+
+precedes_less : (p q : Pair ℕ) → Precedes p q → before_pair p q ≡ Less
+precedes_less p q h = is_less (before_pair p q) (precedes_from p q h)
 
 abbrev IsAlone : List (Pair ℕ) → List (Pair ℕ) → Pair ℕ → Type 0
-IsAlone = ordered.IsFirstAlone pair_cmp pair_cmp-total pair_cmp-exact
+IsAlone = ordered.IsFirstAlone before_pair before_total before_exact
 
-ascends : (rows : List ℕ) → IsRows rows → AllPairs (λ p q. pair_cmp p q ≡ Less) (pairs_from 0 rows)
-ascends rows is = λ i j d lt within. Precedes-pair_cmp _ _ ((IsGrid-pairs_from rows is).ascending i j d lt within)
+ascends : (rows : List ℕ) → IsRows rows → AllPairs (λ p q. before_pair p q ≡ Less) (pairs_from 0 rows)
+ascends rows is = λ i j d lt within. is_less _ ((IsGrid-pairs_from rows is).ascending i j d lt within)
 
 -- ---- rows
 
@@ -86,24 +74,24 @@ module _ (a b : List ℕ) (is_a : IsRows a) (is_b : IsRows b) (cycle unit : ℕ)
   alone set = record {
     there = (Holds-rows a is_a unit cycle).1 set;
     absent = λ m. d.differ.here (set ∙ sym ((Holds-rows b is_b unit cycle).0 m));
-    to = λ q before m. (Holds-rows b is_b q.unit q.cycle).1 (sym (moved q (pair_cmp-Precedes q here before)) ∙ (Holds-rows a is_a q.unit q.cycle).0 m);
-    from = λ q before m. (Holds-rows a is_a q.unit q.cycle).1 (moved q (pair_cmp-Precedes q here before) ∙ (Holds-rows b is_b q.unit q.cycle).0 m);
+    to = λ q before m. (Holds-rows b is_b q.unit q.cycle).1 (sym (moved q (less_precedes q here before)) ∙ (Holds-rows a is_a q.unit q.cycle).0 m);
+    from = λ q before m. (Holds-rows a is_a q.unit q.cycle).1 (moved q (less_precedes q here before) ∙ (Holds-rows b is_b q.unit q.cycle).0 m);
   }
 
-  none_later : (rows : List ℕ) → IsRows rows → (HasLater rows cycle unit → ⊥) → (q : Pair ℕ) → pair_cmp here q ≡ Less → Contains (pairs_from 0 rows) q → ⊥
+  none_later : (rows : List ℕ) → IsRows rows → (HasLater rows cycle unit → ⊥) → (q : Pair ℕ) → before_pair here q ≡ Less → Contains (pairs_from 0 rows) q → ⊥
   none_later rows is none q after m =
       let set = (Holds-rows rows is q.unit q.cycle).0 m in
-      none (q.unit, q.cycle, set, pair_cmp-Precedes here q after)
+      none (q.unit, q.cycle, set, less_precedes here q after)
 
-  some_later : (rows : List ℕ) → IsRows rows → ((HasLater rows cycle unit → ⊥) → ⊥) → ((q : Pair ℕ) → pair_cmp here q ≡ Less → Contains (pairs_from 0 rows) q → ⊥) → ⊥
+  some_later : (rows : List ℕ) → IsRows rows → ((HasLater rows cycle unit → ⊥) → ⊥) → ((q : Pair ℕ) → before_pair here q ≡ Less → Contains (pairs_from 0 rows) q → ⊥) → ⊥
   some_later rows is some none =
-      some (λ (other, later, set, after). none (record { unit = other; cycle = later }) (Precedes-pair_cmp here (record { unit = other; cycle = later }) after) ((Holds-rows rows is other later).1 set))
+      some (λ (other, later, set, after). none (record { unit = other; cycle = later }) (precedes_less here (record { unit = other; cycle = later }) after) ((Holds-rows rows is other later).1 set))
 
   pub less_in_first : HasUnit (get_or a cycle 0) unit → ((HasLater b cycle unit → ⊥) → ⊥) → Less ≡ grid_cmp (pairs_from 0 a) (pairs_from 0 b)
-  less_in_first set some = sym (ordered.first_where_later pair_cmp pair_cmp-total pair_cmp-exact here _ _ (ascends a is_a) (ascends b is_b) (alone set) (some_later b is_b some))
+  less_in_first set some = sym (ordered.first_where_later before_pair before_total before_exact here _ _ (ascends a is_a) (ascends b is_b) (alone set) (some_later b is_b some))
 
   pub greater_in_first : HasUnit (get_or a cycle 0) unit → (HasLater b cycle unit → ⊥) → Greater ≡ grid_cmp (pairs_from 0 a) (pairs_from 0 b)
-  greater_in_first set none = sym (ordered.last_where_none pair_cmp pair_cmp-total pair_cmp-exact here _ _ (ascends a is_a) (ascends b is_b) (alone set) (none_later b is_b none))
+  greater_in_first set none = sym (ordered.last_where_none before_pair before_total before_exact here _ _ (ascends a is_a) (ascends b is_b) (alone set) (none_later b is_b none))
 
 -- the unit that only one of them has is in the second where it is not in the first
 pub in_second : (a b : List ℕ) (cycle unit : ℕ) → DifferFirst a b cycle unit → (HasUnit (get_or a cycle 0) unit → ⊥) → HasUnit (get_or b cycle 0) unit
@@ -117,13 +105,13 @@ in_second a b cycle unit d none = other (has_unit (get_or a cycle 0) unit) (has_
 module _ (a b : List ℕ) (is_a : IsRows a) (is_b : IsRows b) (cycle unit : ℕ) (d : DifferFirst a b cycle unit) where
   pub greater_in_second : (HasUnit (get_or a cycle 0) unit → ⊥) → ((HasLater a cycle unit → ⊥) → ⊥) → Greater ≡ grid_cmp (pairs_from 0 a) (pairs_from 0 b)
   greater_in_second unset some =
-      sym (ordered.last_where_later pair_cmp pair_cmp-total pair_cmp-exact (record { unit = unit; cycle = cycle }) _ _ (ascends a is_a) (ascends b is_b)
+      sym (ordered.last_where_later before_pair before_total before_exact (record { unit = unit; cycle = cycle }) _ _ (ascends a is_a) (ascends b is_b)
       (alone b a is_b is_a cycle unit (swapped a b cycle unit d) (in_second a b cycle unit d unset))
       (some_later a b is_a is_b cycle unit d a is_a some))
 
   pub less_in_second : (HasUnit (get_or a cycle 0) unit → ⊥) → (HasLater a cycle unit → ⊥) → Less ≡ grid_cmp (pairs_from 0 a) (pairs_from 0 b)
   less_in_second unset none =
-      sym (ordered.first_where_none pair_cmp pair_cmp-total pair_cmp-exact (record { unit = unit; cycle = cycle }) _ _ (ascends a is_a) (ascends b is_b)
+      sym (ordered.first_where_none before_pair before_total before_exact (record { unit = unit; cycle = cycle }) _ _ (ascends a is_a) (ascends b is_b)
       (alone b a is_b is_a cycle unit (swapped a b cycle unit d) (in_second a b cycle unit d unset))
       (none_later a b is_a is_b cycle unit d a is_a none))
 
@@ -135,7 +123,7 @@ equal_rows a b is_a is_b same =
     (λ (past : max (length a) (length b) ≤ k). get_or_past a k 0 (omega arith) ∙ sym (get_or_past b k 0 (omega arith)))
     (cases_lt k (max (length a) (length b))) in
     let equal = same_rows a b is_a is_b (λ unit k. (λ h. subst (λ row. HasUnit row unit) (everywhere k) h, λ h. subst (λ row. HasUnit row unit) (sym (everywhere k)) h)) in
-    subst (λ rows. Equal ≡ grid_cmp (pairs_from 0 a) (pairs_from 0 rows)) equal (sym (tied_itself grid_cmp-total (pairs_from 0 a)))
+    subst (λ rows. Equal ≡ grid_cmp (pairs_from 0 a) (pairs_from 0 rows)) equal (sym (tied_itself grid_total (pairs_from 0 a)))
 
 -- a row that is asked for past the end has no unit
 pub row_or_empty : (rows : List ℕ) (cycle empty : ℕ) → ((unit : ℕ) → HasUnit empty unit → ⊥) → get_or rows cycle empty ≡ get_or rows cycle 0

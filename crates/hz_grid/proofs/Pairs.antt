@@ -1,5 +1,5 @@
 -- The pairs of rows.
-use Rattle.std.proofs.Common.{◌≡◌, ℕ, ◌+◌, ◌-◌, ◌<◌, ◌≤◌, zero, suc, inl, inr, ⊎_elim, ◌↔◌, IsTrue, Bool, nat_eq, List, [], ◌∷◌, length, get_or, Contains, refl, sym, ap, arith}
+use Rattle.std.proofs.Common.{◌≡◌, ℕ, ◌+◌, ◌-◌, ◌<◌, ◌≤◌, zero, suc, inl, ⊎_elim, ◌↔◌, IsTrue, Bool, nat_eq, List, [], ◌∷◌, length, get_or, Contains, refl, sym, ap, arith}
 use Rattle.std.specs.List.{range_with_len, AllPairs}
 use Rattle.std.specs.Cmp.Lexicographic.{pointwise}
 use Rattle.std.proofs.lemmas.Bool.{cases_lt}
@@ -8,14 +8,16 @@ use Rattle.std.proofs.lemmas.List.{get_or_past, ext_get_or}
 use Rattle.std.proofs.lemmas.List.Elements.{Contains-append_left, Contains-append_right, Contains-append_cases, Contains-get_or}
 use Rattle.std.proofs.lemmas.List.Kept.{AllPairs-filter}
 use Rattle.std.proofs.lemmas.Slice.Eq.{slice_eq-Decides}
-use Rattle.hz_base_model.specs.Pairs.{Pair}
+use Rattle.hz_base_model.specs.Pairs.{Pair, precedes_by, IsAscendingBy, grid_eq}
 use Rattle.hz_grid.specs.Rows.{has_unit, HasUnit}
-use Rattle.hz_grid.specs.Grids.{Holds, Precedes, IsGrid, HasSamePairs, grid_eq}
+use Rattle.hz_grid.specs.Grids.{Holds, IsGrid, HasSamePairs}
 use Rattle.hz_grid.specs.Hashes.{grid_eq-Decides}
 use Rattle.hz_grid.specs.Stored.{IsSet, units_of, row_pairs, pairs_from, IsRows}
 use Rattle.hz_grid.proofs.Units.{HasUnit-zero, same_from_units}
 use Rattle.hz_base_model.proofs.Elements.{Contains-nil, Contains-filter, Contains-from_filter, Contains-map, Contains-from_map, Contains-range, Contains-from_range}
-use Rattle.hz_base_model.proofs.Ascending.{AllPairs-append, AllPairs-map, AllPairs-range, same_from_ascending}
+use Rattle.hz_base_model.proofs.Ascending.{AllPairs-append, AllPairs-map, AllPairs-range}
+use Rattle.hz_base_model.proofs.PairOrder.{lower_unit, precedes_from, grid_one}
+use Rattle.std.specs.Ordering.{nat_cmp}
 
 -- ---- the units of one row
 
@@ -80,16 +82,19 @@ Holds-rows rows is unit cycle = (
       rw e at (Holds-pairs_from 0 rows unit cycle (is.units unit cycle h) h),
 )
 
-AllPairs-pairs_from : (start : ℕ) (rows : List ℕ) → AllPairs Precedes (pairs_from start rows)
+abbrev Precedes : Pair ℕ → Pair ℕ → Type 0
+Precedes p q = IsTrue (precedes_by nat_cmp p q)
+
+AllPairs-pairs_from : (start : ℕ) (rows : List ℕ) → IsAscendingBy nat_cmp (pairs_from start rows)
 AllPairs-pairs_from start [] = λ i j d lt within. absurd (omega arith)
 AllPairs-pairs_from start (row ∷ rows) =
     AllPairs-append Precedes (row_pairs start row) (pairs_from (start + 1) rows)
-    (AllPairs-map (λ a b. a < b) Precedes (in_cycle start) (λ a b lt. inr (refl, lt)) 0 (units_of row) (AllPairs-units_of row))
+    (AllPairs-map (λ a b. a < b) Precedes (in_cycle start) (λ a b lt. lower_unit (in_cycle start a) (in_cycle start b) refl lt) 0 (units_of row) (AllPairs-units_of row))
     (AllPairs-pairs_from (start + 1) rows)
     (λ p q m n.
     let first = pair_from_row start row p m in
     let second = set_from_pairs (start + 1) rows q n in
-    inl (omega (arith, first.0, second.1)))
+    precedes_from p q (inl (omega (arith, first.0, second.1))))
 
 -- a unit stands below the last row
 pub row_below : (rows : List ℕ) (unit cycle : ℕ) → IsSet rows unit cycle → cycle < length rows
@@ -112,16 +117,10 @@ IsGrid-pairs_from rows is = record {
 
 -- ---- equal grids
 
-pub Precedes_asymmetric : (p q : Pair ℕ) → Precedes p q → Precedes q p → ⊥
-Precedes_asymmetric p q (inl a) (inl b) = omega arith
-Precedes_asymmetric p q (inl a) (inr b) = omega arith
-Precedes_asymmetric p q (inr a) (inl b) = omega arith
-Precedes_asymmetric p q (inr a) (inr b) = omega arith
-
 -- grids with the same pairs are equal
 pub same_grids : (first second : List (Pair ℕ)) → IsGrid first → IsGrid second → HasSamePairs first second → first ≡ second
 same_grids first second a b same =
-    same_from_ascending Precedes Precedes_asymmetric first second a.ascending b.ascending (λ p. (same p).0) (λ p. (same p).1)
+    grid_one first second a.ascending b.ascending same
 
 -- rows with the same units are equal
 no_longer : (a b : List ℕ) → IsRows b → ((unit cycle : ℕ) → IsSet b unit cycle → IsSet a unit cycle) → length b ≤ length a

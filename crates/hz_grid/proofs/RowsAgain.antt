@@ -1,5 +1,5 @@
 -- The rows of a grid, found again from its pairs.
-use Rattle.std.proofs.Common.{◌≡◌, ℕ, ◌+◌, ◌-◌, ◌*◌, ◌^◌, ◌<◌, ◌≤◌, zero, suc, ⊎_elim, ◌↔◌, IsTrue, Bool, true, false, List, [], ◌∷◌, length, map, get_or, Contains, refl, sym, ap, ◌∙◌, arith}
+use Rattle.std.proofs.Common.{◌≡◌, ℕ, ◌+◌, ◌-◌, ◌*◌, ◌^◌, ◌<◌, ◌≤◌, zero, suc, ⊎_elim, ◌↔◌, IsTrue, Bool, true, false, List, [], ◌∷◌, length, map, get_or, Contains, refl, sym, ap, ◌∙◌, arith, nat_eq}
 use Rattle.std.specs.Int.{bit_at}
 use Rattle.std.specs.List.{range_with_len}
 use Rattle.std.proofs.lemmas.Bool.{cases_lt, cases_eq}
@@ -8,14 +8,15 @@ use Rattle.std.proofs.lemmas.List.FromFn.{length-range_with_len, get_or-range_wi
 use Rattle.std.proofs.lemmas.Map.Views.{Contains-from_any, list_any-from_Contains}
 use Rattle.std.proofs.lemmas.Nat.Bits.{bit_at_cat_low, bit_at_cat_high, bit_at_above, bit_at_lowest}
 use Rattle.std.specs.Cmp.{IsEquivalence, nat_eq_equiv, on_equiv, and_equiv}
-use Rattle.hz_base_model.specs.Pairs.{Pair}
+use Rattle.hz_base_model.specs.Pairs.{Pair, same_pair}
 use Rattle.hz_base_model.proofs.Elements.{Contains-nil, Contains-head, Contains-tail, Contains-cons_cases}
 use Rattle.hz_grid.specs.Rows.{HasUnit}
-use Rattle.hz_grid.specs.Grids.{Holds, pair_eq}
+use Rattle.hz_grid.specs.Grids.{Holds}
 use Rattle.hz_grid.specs.Stored.{pairs_from, IsRows}
-use Rattle.hz_grid.specs.Hashes.{bit_of, number_of, has_pair, row_in, cycles_in, rows_in, pair_eq-Decides}
+use Rattle.hz_grid.specs.Hashes.{bit_of, number_of, has_pair, row_in, cycles_in, rows_in}
 use Rattle.hz_grid.proofs.Units.{HasUnit-from_bit, bit_from_HasUnit, same_from_units}
 use Rattle.hz_grid.proofs.Pairs.{Holds-rows, row_below, set_from_pairs}
+use Rattle.hz_base_model.proofs.PairOrder.{same_pair-Decides}
 
 -- ---- a number by its bits
 
@@ -63,12 +64,12 @@ HasUnit-number_of test n unit = (
 
 -- ---- the rows
 
-pair_equivalence : IsEquivalence pair_eq
+pair_equivalence : IsEquivalence (same_pair nat_eq)
 pair_equivalence = and_equiv (on_equiv (λ (p : Pair ℕ). p.unit) nat_eq_equiv) (on_equiv (λ (p : Pair ℕ). p.cycle) nat_eq_equiv)
 
 has_pair-Holds : (pairs : List (Pair ℕ)) (cycle unit : ℕ) → IsTrue (has_pair pairs cycle unit) ↔ Holds pairs unit cycle
 has_pair-Holds pairs cycle unit = (
-  λ t. Contains-from_any (λ p q e. (pair_eq-Decides p q).0 e) (record { unit = unit; cycle = cycle }) pairs t,
+  λ t. Contains-from_any (λ p q e. (same_pair-Decides p q).0 e) (record { unit = unit; cycle = cycle }) pairs t,
   λ h. list_any-from_Contains pair_equivalence (record { unit = unit; cycle = cycle }) pairs h,
 )
 

@@ -1,8 +1,8 @@
-use Rattle.std.specs.Prelude.{◌≡◌, ◌⊎◌, ◌↔◌, ℕ, ◌<◌, Bool, ◌&&◌, ◌==◌, List, All, Contains}
-use Rattle.std.specs.List.{AllPairs}
-use Rattle.std.specs.Cmp.Lexicographic.{pointwise, lists_equiv}
+use Rattle.std.specs.Prelude.{◌⊎◌, ◌↔◌, ℕ, ◌<◌, List, All, Contains}
+use Rattle.std.specs.Cmp.Lexicographic.{lists_equiv}
 use Rattle.std.specs.Cmp.{IsEquivalence, nat_eq_equiv, on_equiv, and_equiv}
-use Rattle.hz_base_model.specs.Pairs.{Pair, later}
+use Rattle.std.specs.Ordering.{nat_cmp}
+use Rattle.hz_base_model.specs.Pairs.{Pair, later, IsAscendingBy, grid_eq}
 use Rattle.hz_grid.specs.declared.rows.TheConstants.{UNITS}
 use Rattle.hz_grid.specs.declared.grids.TheConstants.{CYCLES}
 
@@ -10,13 +10,9 @@ use Rattle.hz_grid.specs.declared.grids.TheConstants.{CYCLES}
 abbrev pub Holds : List (Pair ℕ) → ℕ → ℕ → Type 0
 Holds grid unit cycle = Contains grid (record { unit = unit; cycle = cycle })
 
--- an earlier cycle, or a lower unit of the same cycle
-abbrev pub Precedes : Pair ℕ → Pair ℕ → Type 0
-Precedes p q = (p.cycle < q.cycle) ⊎ ((p.cycle ≡ q.cycle) × (p.unit < q.unit))
-
 -- a set of pairs as the one list in which each pair precedes all later ones, with units and cycles in their range
 pub record IsGrid (grid : List (Pair ℕ)) : Type 0 where
-  pub ascending : AllPairs Precedes grid
+  pub ascending : IsAscendingBy nat_cmp grid
   pub units : All (λ p. p.unit < UNITS) grid
   pub cycles : All (λ p. p.cycle < CYCLES) grid
 
@@ -39,14 +35,6 @@ IsAdvanced old new = (p : Pair ℕ) → Contains new p ↔ Contains old (later 1
 -- a pair is in the one grid exactly where it is in the other
 abbrev pub HasSamePairs : List (Pair ℕ) → List (Pair ℕ) → Type 0
 HasSamePairs first second = (p : Pair ℕ) → Contains first p ↔ Contains second p
-
--- whether two pairs are equal
-abbrev pub pair_eq : Pair ℕ → Pair ℕ → Bool
-pair_eq p q = p.unit == q.unit && p.cycle == q.cycle
-
--- whether two grids are equal, as lists
-abbrev pub grid_eq : List (Pair ℕ) → List (Pair ℕ) → Bool
-grid_eq = pointwise pair_eq
 
 -- `==` on grids is an equivalence
 pub grid_eq-laws : IsEquivalence grid_eq

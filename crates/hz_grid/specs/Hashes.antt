@@ -1,14 +1,10 @@
 -- What is fed to a hasher for a grid: its rows, found again from its pairs.
-use Rattle.std.specs.Prelude.{◌≡◌, ℕ, zero, suc, ◌+◌, ◌*◌, ◌^◌, max, Bool, true, false, List, [], ◌∷◌, map}
+use Rattle.std.specs.Prelude.{ℕ, zero, suc, ◌+◌, ◌*◌, ◌^◌, max, Bool, true, false, nat_eq, List, [], ◌∷◌, map}
 use Rattle.std.specs.List.{range_with_len, list_any}
-use Rattle.std.specs.Bool.{Decides}
 use Rattle.std.specs.Hash as fed
-use Rattle.std.proofs.Common.{ap, ◌∙◌, refl, eq-eqb}
-use Rattle.std.proofs.lemmas.Bool.{and_parts, and_from, eqb-true}
-use Rattle.std.proofs.lemmas.Slice.Eq.{slice_eq-Decides}
-use Rattle.hz_base_model.specs.Pairs.{Pair}
+use Rattle.hz_base_model.specs.Pairs.{Pair, same_pair, grid_eq}
+pub use Rattle.hz_base_model.proofs.PairOrder.{grid_eq-Decides}
 use Rattle.hz_grid.specs.declared.rows.TheConstants.{UNITS}
-use Rattle.hz_grid.specs.Grids.{pair_eq, grid_eq}
 
 -- a bit
 abbrev pub bit_of : Bool → ℕ
@@ -22,7 +18,7 @@ number_of test (suc n) = bit_of (test n) * 2 ^ n + number_of test n
 
 -- whether the pair of that unit and cycle is in the list
 abbrev pub has_pair : List (Pair ℕ) → ℕ → ℕ → Bool
-has_pair pairs cycle unit = list_any (pair_eq (record { unit = unit; cycle = cycle })) pairs
+has_pair pairs cycle unit = list_any (same_pair nat_eq (record { unit = unit; cycle = cycle })) pairs
 
 -- the row of a cycle
 unfoldable pub row_in : List (Pair ℕ) → ℕ → ℕ
@@ -40,20 +36,6 @@ rows_in pairs = map (row_in pairs) (range_with_len 0 (cycles_in pairs))
 -- what is fed for a grid: how many rows, and each of them
 abbrev pub fed_for : List (Pair ℕ) → fed.HashWrites
 fed_for pairs = fed.slice fed.u128 (rows_in pairs)
-
-pub pair_eq-Decides : (p q : Pair ℕ) → Decides (pair_eq p q) (p ≡ q)
-pair_eq-Decides p q = (
-  λ t.
-      let parts = and_parts _ _ t in
-      let units = eqb-true _ _ parts.0 in
-      let cycles = eqb-true _ _ parts.1 in
-      ap (λ unit. record { unit = unit; cycle = p.cycle }) units ∙ ap (λ cycle. record { unit = q.unit; cycle = cycle }) cycles,
-  λ e. and_from _ _ (eq-eqb _ _ (ap (λ (r : Pair ℕ). r.unit) e)) (eq-eqb _ _ (ap (λ (r : Pair ℕ). r.cycle) e)),
-)
-
--- `==` on grids decides `≡`
-pub grid_eq-Decides : (first second : List (Pair ℕ)) → Decides (grid_eq first second) (first ≡ second)
-grid_eq-Decides first second = slice_eq-Decides pair_eq-Decides first second _ refl
 
 -- equal grids are fed alike
 pub same_grids_are_fed_alike : fed.Alike grid_eq fed_for

@@ -1,32 +1,17 @@
 -- The order of grids: that of their ascending lists of pairs.
-use Rattle.std.specs.Prelude.{◌≡◌, ◌⊎◌, ℕ, ◌<◌, ◌==◌, ◌&&◌, Bool, true, false, List, slice_index, refl}
+use Rattle.std.specs.Prelude.{◌≡◌, ◌⊎◌, ℕ, ◌<◌, ◌==◌, ◌&&◌, Bool, true, false, nat_eq, List, slice_index, refl}
 use Rattle.std.proofs.Common.{◌∙◌}
-use Rattle.std.specs.declared.cmp.Ordering.{Ordering}
-use Rattle.std.specs.Ordering.{nat_cmp, on, then_cmp, as_partial_cmp, eq_by_cmp}
-use Rattle.std.specs.Cmp.{IsTotalOrder, IsPartialOrder, po, on_total, then_total, nat_cmp_total, both_tied, unsigned_ties}
-use Rattle.std.specs.Cmp.Lexicographic.{slice_cmp, lists_total, lists_ties}
-use Rattle.hz_base_model.specs.Pairs.{Pair}
+use Rattle.std.specs.Ordering.{nat_cmp, as_partial_cmp, eq_by_cmp}
+use Rattle.std.specs.Cmp.{IsPartialOrder, po, both_tied, unsigned_ties}
+use Rattle.std.specs.Cmp.Lexicographic.{lists_ties}
+use Rattle.hz_base_model.specs.Pairs.{Pair, pair_cmp, same_pair, grid_eq, grid_cmp}
+pub use Rattle.hz_base_model.proofs.PairOrder.{grid_total}
 use Rattle.hz_grid.specs.Rows.{DifferAt}
-use Rattle.hz_grid.specs.Grids.{pair_eq, grid_eq}
 use Rattle.hz_grid.specs.Stored.{IsSet}
-
--- pairs are ordered by their cycle, and in one cycle by their unit
-abbrev pub pair_cmp : Pair ℕ → Pair ℕ → Ordering
-pair_cmp = then_cmp (on (λ p. p.cycle) nat_cmp) (on (λ p. p.unit) nat_cmp)
-
--- grids are ordered as lists: the first pair that is not the same decides, and a front comes before the whole
-abbrev pub grid_cmp : List (Pair ℕ) → List (Pair ℕ) → Ordering
-grid_cmp = slice_cmp pair_cmp
-
-pub pair_cmp-total : IsTotalOrder pair_cmp
-pair_cmp-total = then_total (on_total (λ (p : Pair ℕ). p.cycle) nat_cmp_total) (on_total (λ (p : Pair ℕ). p.unit) nat_cmp_total)
-
-pub grid_cmp-total : IsTotalOrder grid_cmp
-grid_cmp-total = lists_total pair_cmp-total
 
 -- equal grids are those that no order tells apart
 pub grid_eq-cmp : (first second : List (Pair ℕ)) → grid_eq first second ≡ eq_by_cmp grid_cmp first second
-grid_eq-cmp = lists_ties pair_cmp pair_ties
+grid_eq-cmp = lists_ties (pair_cmp nat_cmp) pair_ties
   where
     swapped : (a b : Bool) → (a && b) ≡ (b && a)
     swapped true true = refl
@@ -34,11 +19,11 @@ grid_eq-cmp = lists_ties pair_cmp pair_ties
     swapped false true = refl
     swapped false false = refl
 
-    pair_ties : (p q : Pair ℕ) → pair_eq p q ≡ eq_by_cmp pair_cmp p q
+    pair_ties : (p q : Pair ℕ) → same_pair nat_eq p q ≡ eq_by_cmp (pair_cmp nat_cmp) p q
     pair_ties p q = swapped (p.unit == q.unit) (p.cycle == q.cycle) ∙ both_tied _ _ (nat_cmp p.cycle q.cycle) (nat_cmp p.unit q.unit) (unsigned_ties p.cycle q.cycle) (unsigned_ties p.unit q.unit)
 
 pub grid_cmp-partial : IsPartialOrder grid_eq (as_partial_cmp grid_cmp)
-grid_cmp-partial = po grid_cmp-total grid_eq-cmp
+grid_cmp-partial = po grid_total grid_eq-cmp
 
 -- the rows have a pair behind that of this unit and cycle
 abbrev pub HasLater : List ℕ → ℕ → ℕ → Type 0

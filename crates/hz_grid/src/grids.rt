@@ -128,7 +128,8 @@ impl Grid {
 impl PartialEq for Grid {
     ghost use Rattle.std.specs.Prelude.{◌≡◌, ◌↔◌, IsTrue, nat_eq};
     ghost use Rattle.std.specs.Cmp.{partial_equiv_from_equiv};
-    ghost use Rattle.hz_grid.specs.Grids.{HasSamePairs, grid_eq, grid_eq-laws};
+    ghost use Rattle.hz_grid.specs.Grids.{HasSamePairs, grid_eq-laws};
+    ghost use Rattle.hz_base_model.specs.Pairs.{grid_eq};
 
     ghost eq = { grid_eq };
 
@@ -151,7 +152,8 @@ impl Eq for Grid {
 
 impl PartialOrd for Grid {
     ghost use Rattle.std.specs.Ordering.{as_partial_cmp};
-    ghost use Rattle.hz_grid.specs.Orders.{grid_cmp, grid_cmp-partial};
+    ghost use Rattle.hz_base_model.specs.Pairs.{grid_cmp};
+    ghost use Rattle.hz_grid.specs.Orders.{grid_cmp-partial};
 
     ghost partial_cmp = { as_partial_cmp grid_cmp };
 
@@ -164,11 +166,12 @@ impl PartialOrd for Grid {
 
 impl Ord for Grid {
     ghost use Rattle.std.specs.Prelude.{◌≡◌, refl};
-    ghost use Rattle.hz_grid.specs.Orders.{grid_cmp, grid_cmp-total, grid_eq-cmp};
+    ghost use Rattle.hz_base_model.specs.Pairs.{grid_cmp};
+    ghost use Rattle.hz_grid.specs.Orders.{grid_total, grid_eq-cmp};
 
     ghost cmp = { grid_cmp };
 
-    ghost total = { grid_cmp-total };
+    ghost total = { grid_total };
 
     ghost matches_partial_cmp = { λ a b. refl };
 

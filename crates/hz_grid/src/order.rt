@@ -1,6 +1,7 @@
 //! The order of grids.
 ghost use Rattle.std.specs.Prelude.{◌≡◌, ◌<◌, ℕ, length, slice_index, IsTrue};
-ghost use Rattle.hz_grid.specs.Orders.{grid_cmp, HasLater, DifferFirst};
+ghost use Rattle.hz_base_model.specs.Pairs.{grid_cmp};
+ghost use Rattle.hz_grid.specs.Orders.{HasLater, DifferFirst};
 ghost use Rattle.hz_grid.specs.Stored.{IsRows, pairs_from};
 ghost use Rattle.hz_grid.specs.declared.grids.TheConstants.{CYCLES};
 ghost use Rattle.hz_grid.specs.declared.rows.TheConstants.{UNITS};

@@ -10,17 +10,17 @@ use Rattle.std.proofs.Math.Seq.{get_or-append_seam}
 use Rattle.hz_base_model.specs.Pairs.{Pair}
 use Rattle.hz_base_model.proofs.Ascending.{AllPairs-append}
 use Rattle.hz_base_model.proofs.Elements.{Contains-nil, Contains-cons_cases}
-use Rattle.hz_altern_model.proofs.ListInLaws.{same_pairs-Decides}
 use Rattle.hz_auto_model.specs.ClassColumns.{IsColumns}
 use Rattle.hz_auto_model.specs.CompiledParts.{HasColumns}
 use Rattle.hz_schedulable_model.proofs.ToldLaws.{IsTold, some_told}
 use Rattle.hz_left_model.proofs.ListingLaws.{told_by}
+use Rattle.hz_base_model.proofs.PairOrder.{grid_eq-Decides}
 
 abbrev ClassLists : Type 0
 ClassLists = List (List (List (Pair ℕ)))
 
 same_list_told : (xs ys : List (List (Pair ℕ))) → IsTold (xs ≡ ys)
-same_list_told xs ys = told_by _ (slice_eq-Decides same_pairs-Decides xs ys _ refl)
+same_list_told xs ys = told_by _ (slice_eq-Decides grid_eq-Decides xs ys _ refl)
 
 module _ {X : Type 0} (xs : List X) (x : X) where
   -- the items before one more, and that one

@@ -14,10 +14,12 @@ use Rattle.hz_reach_model.proofs.CountLaws.{no_count_both}
 use Rattle.hz_auto_model.specs.AutomatonPipelines.{automaton_pipeline}
 use Rattle.hz_auto_model.specs.Counted.{CountIs}
 use Rattle.hz_auto_model.specs.Compiled.{Shown, IsShown, Report, shows_states, IsCompiledPart}
-use Rattle.hz_single_model.specs.Told.{ShowTheSame, TellTheSame, IsAscending, ListsAscending}
+use Rattle.hz_single_model.specs.Told.{ShowTheSame, TellTheSame, ListsAscending}
 use Rattle.hz_single_model.proofs.PartLaws.{one_part, filled_part}
 use Rattle.hz_single_model.proofs.WordLaws.{IsFilled}
 use Rattle.hz_single_model.proofs.ShownLaws.{show_the_same, shown_one}
+use Rattle.hz_base_model.specs.Pairs.{IsAscendingBy}
+use Rattle.std.specs.Ordering.{nat_cmp}
 
 -- a count is one number
 count_one : {U : Type 0} (m : Pipeline U) (columns : ℕ) (kind : Count) (n k : ℕ) → CountIs m columns kind n → CountIs m columns kind k → n ≡ k
@@ -45,7 +47,7 @@ told_one Q (Some one) (Some other) h k same = ap Some (same (h one refl) (k othe
 
 -- each grid that is shown is listed in ascending order
 abbrev Ascends : Shown → Type 0
-Ascends shown = All (λ grids. All IsAscending grids) shown.states
+Ascends shown = All (λ grids. All (IsAscendingBy nat_cmp) grids) shown.states
 
 module _ (stay : Bool) (options : Options) (automata : List AutomatonParts) (classes : List ClassParts) (a : ℕ) (part other : Part) (report report' : Report) (is : IsTable part.rows part.columns) (is' : IsTable other.rows other.columns) (p : IsCompiledPart stay options automata classes a part report) (q : IsCompiledPart stay options automata classes a other report') where
   abbrev m : Pipeline ℕ

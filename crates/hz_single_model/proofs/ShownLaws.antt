@@ -11,7 +11,7 @@ use Rattle.std.specs.declared.cmp.Ordering.TheVariants.{Less, Equal, Greater}
 use Rattle.std.proofs.lemmas.Cmp.{nat_cmp_total, on_total, then_total}
 use Rattle.std.proofs.lemmas.List.{ext_get_or}
 use Rattle.std.proofs.lemmas.List.Elements.{All-contains}
-use Rattle.hz_base_model.specs.Pairs.{Pair, SamePairs}
+use Rattle.hz_base_model.specs.Pairs.{Pair, SamePairs, IsAscendingBy, grid_cmp}
 use Rattle.hz_base_model.proofs.Ascending.{same_from_ascending}
 use Rattle.hz_acceptance_model.specs.Replay.{Pipeline}
 use Rattle.hz_tables_model.specs.Tables.{Table, walk, IsTable, IsReached}
@@ -20,11 +20,12 @@ use Rattle.hz_tables_model.specs.Machines.{Part}
 use Rattle.hz_reach_model.specs.Reach.{AreDifferent, IsLeft, SameGrids, HasGrids}
 use Rattle.hz_reach_model.proofs.CountLaws.{same_pairs_itself}
 use Rattle.hz_minim_model.proofs.PlaceLaws.{Order, before, after, at, order}
-use Rattle.hz_auto_model.specs.Compiled.{Shown, IsShown, grid_order}
+use Rattle.hz_auto_model.specs.Compiled.{Shown, IsShown}
 use Rattle.hz_auto_model.proofs.CompiledLaws.{left_same}
-use Rattle.hz_single_model.specs.Told.{ShowTheSame, Precedes, IsAscending}
+use Rattle.hz_single_model.specs.Told.{ShowTheSame}
 use Rattle.hz_single_model.proofs.OrderLaws.{sorted_one}
 use Rattle.hz_single_model.proofs.WordLaws.{IsFilled, spells_walked}
+use Rattle.hz_base_model.proofs.PairOrder.{grid_one, grid_total, grid_exact}
 
 -- ---- where states are read first
 
@@ -48,42 +49,19 @@ parents_one table columns parents others is also = ext_get_or (0, 0) parents oth
 
 -- ---- grids that are listed in ascending order
 
-precedes_once : (p q : Pair ℕ) → Precedes p q → Precedes q p → ⊥
-precedes_once p q (inl a) (inl b) = omega (arith, a, b)
-precedes_once p q (inl a) (inr b) = omega (arith, a, b.0)
-precedes_once p q (inr a) (inl b) = omega (arith, a.0, b)
-precedes_once p q (inr a) (inr b) = omega (arith, a.1, b.1)
-
-grid_one : (x y : List (Pair ℕ)) → IsAscending x → IsAscending y → SamePairs x y → x ≡ y
-grid_one x y up up' same = same_from_ascending Precedes precedes_once x y up up' (λ p c. (same p).0 c) (λ p c. (same p).1 c)
-
-order_total : IsTotalOrder grid_order
-order_total = lists_total (then_total (on_total (λ (p : Pair ℕ). p.cycle) nat_cmp_total) (on_total (λ (p : Pair ℕ). p.unit) nat_cmp_total))
-
-order_tells : IsAntisymmetric grid_order
-order_tells = slice_cmp-IsAntisymmetric (λ p q e. pair_tells p q (nat_cmp p.cycle q.cycle) refl e)
-  where
-    pair_tells : (p q : Pair ℕ) (o : Ordering) → nat_cmp p.cycle q.cycle ≡ o → then_cmp (on (λ (r : Pair ℕ). r.cycle) nat_cmp) (on (λ (r : Pair ℕ). r.unit) nat_cmp) p q ≡ Equal → p ≡ q
-    pair_tells p q Less e h = absurd (let same = h in cc)
-    pair_tells p q Greater e h = absurd (let same = h in cc)
-    pair_tells p q Equal e h =
-        let cycles = nat_cmp-IsAntisymmetric p.cycle q.cycle e in
-        let units = nat_cmp-IsAntisymmetric p.unit q.unit (rw e at h) in
-        λ i. record { unit = units i; cycle = cycles i }
-
 -- lists of the same grids, each once, in ascending order
-module _ (xs ys : List (List (Pair ℕ))) (up : All IsAscending xs) (up' : All IsAscending ys) where
-  has : (vs ws : List (List (Pair ℕ))) → All IsAscending vs → All IsAscending ws → HasGrids vs ws → (x : List (Pair ℕ)) → Contains vs x → Contains ws x
+module _ (xs ys : List (List (Pair ℕ))) (up : All (IsAscendingBy nat_cmp) xs) (up' : All (IsAscendingBy nat_cmp) ys) where
+  has : (vs ws : List (List (Pair ℕ))) → All (IsAscendingBy nat_cmp) vs → All (IsAscendingBy nat_cmp) ws → HasGrids vs ws → (x : List (Pair ℕ)) → Contains vs x → Contains ws x
   has vs ws ups ups' there x c =
       let found = there x c in
-      let same = grid_one x found.0 (All-contains IsAscending vs x ups c) (All-contains IsAscending ws found.0 ups' found.1) found.2 in
+      let same = grid_one x found.0 (All-contains (IsAscendingBy nat_cmp) vs x ups c) (All-contains (IsAscendingBy nat_cmp) ws found.0 ups' found.1) found.2 in
       subst (Contains ws) (sym same) found.1
 
   unequal : (vs : List (List (Pair ℕ))) → AreDifferent SamePairs vs → AllPairs (λ x y. x ≢ y) vs
   unequal vs different i j d less inside e = different i j d less inside (subst (SamePairs (get_or vs i d)) e (same_pairs_itself (get_or vs i d)))
 
-  grids_one : IsSorted grid_order xs → IsSorted grid_order ys → AreDifferent SamePairs xs → AreDifferent SamePairs ys → SameGrids xs ys → xs ≡ ys
-  grids_one sorted sorted' different different' same = sorted_one grid_order order_total order_tells xs ys sorted sorted' (unequal xs different) (unequal ys different') (has xs ys up up' same.there) (has ys xs up' up same.back)
+  grids_one : IsSorted grid_cmp xs → IsSorted grid_cmp ys → AreDifferent SamePairs xs → AreDifferent SamePairs ys → SameGrids xs ys → xs ≡ ys
+  grids_one sorted sorted' different different' same = sorted_one grid_cmp grid_total grid_exact xs ys sorted sorted' (unequal xs different) (unequal ys different') (has xs ys up up' same.there) (has ys xs up' up same.back)
 
 -- ---- what is shown
 
@@ -105,7 +83,7 @@ module _ (classes : ℕ) (m : Pipeline ℕ) (part : Part) (is : IsTable part.row
         left_same m both.0 (slice_index_or one.states state []) (slice_index_or other.states state []) both.1 both.2;
   }
 
-  pub shown_one : All (λ grids. All IsAscending grids) one.states → All (λ grids. All IsAscending grids) other.states → one ≡ other
+  pub shown_one : All (λ grids. All (IsAscendingBy nat_cmp) grids) one.states → All (λ grids. All (IsAscendingBy nat_cmp) grids) other.states → one ≡ other
   shown_one up up' = λ i. record { parents = show_the_same.parents i; states = states i }
     where
       states : one.states ≡ other.states

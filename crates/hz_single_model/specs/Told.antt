@@ -1,9 +1,8 @@
--- What two reports have in common that are told of one machine. Grids are sets of pairs; that a list of pairs ascends by
--- cycle, then by unit, each pair once, is this profile's, docs/RULES.md.
+-- What two reports have in common that are told of one machine. Grids are sets of pairs.
 use Rattle.std.specs.Prelude.{◌≡◌, ◌⊎◌, ℕ, ◌<◌, List, [], None, MatchOption, IsSomeAnd, All, length, slice_index_or}
 use Rattle.std.specs.Option.{ForSome}
-use Rattle.std.specs.List.{AllPairs}
-use Rattle.hz_base_model.specs.Pairs.{Pair}
+use Rattle.std.specs.Ordering.{nat_cmp}
+use Rattle.hz_base_model.specs.Pairs.{IsAscendingBy}
 use Rattle.hz_reach_model.specs.Reach.{SameGrids}
 use Rattle.hz_auto_model.specs.Compiled.{Shown, Report, report_at}
 
@@ -25,14 +24,6 @@ pub record AllTellTheSame (reports others : List Report) : Type 0 where
   pub each : length reports ≡ length others
   pub told : (a : ℕ) → a < length reports → TellTheSame (report_at reports a) (report_at others a)
 
--- an earlier cycle, or a lower unit of the same cycle
-abbrev pub Precedes : Pair ℕ → Pair ℕ → Type 0
-Precedes p q = (p.cycle < q.cycle) ⊎ ((p.cycle ≡ q.cycle) × (p.unit < q.unit))
-
--- each pair of a grid precedes all later ones: the one way to list a set of pairs
-abbrev pub IsAscending : List (Pair ℕ) → Type 0
-IsAscending grid = AllPairs Precedes grid
-
--- each grid that is shown is listed so
+-- each grid that is shown is listed the one way
 abbrev pub ListsAscending : Report → Type 0
-ListsAscending report = ForSome report.shown (λ shown. All (λ grids. All IsAscending grids) shown.states)
+ListsAscending report = ForSome report.shown (λ shown. All (λ grids. All (IsAscendingBy nat_cmp) grids) shown.states)

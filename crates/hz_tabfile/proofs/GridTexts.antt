@@ -1,19 +1,22 @@
 -- The pairs of a grid, cycle by cycle.
-use Rattle.std.proofs.Common.{◌≡◌, ℕ, zero, suc, ◌+◌, ◌<◌, ◌≤◌, Bool, true, false, ◌==◌, inl, inr, ⊎_elim, ◌↔◌, List, [], ◌∷◌, ◌++◌, length, map, filter, Contains, All, if◌then◌else◌, refl, sym, ap, subst, ◌∙◌, arith}
+use Rattle.std.proofs.Common.{◌≡◌, ℕ, zero, suc, ◌+◌, ◌<◌, ◌≤◌, Bool, true, false, ◌==◌, inl, inr, ⊎_elim, ◌↔◌, List, [], ◌∷◌, ◌++◌, length, map, filter, Contains, All, if◌then◌else◌, refl, sym, ap, subst, ◌∙◌, arith, IsTrue}
 use Rattle.std.specs.Prelude.{slice_index_or}
 use Rattle.std.specs.List.{flat_map, range_with_len, AllPairs}
 use Rattle.std.proofs.lemmas.Bool.{eqb-true, eq-eqb}
 use Rattle.std.proofs.lemmas.List.{append_assoc}
 use Rattle.std.proofs.lemmas.List.Kept.{AllPairs-filter}
 use Rattle.std.proofs.lemmas.List.Elements.{Contains-append_left, Contains-append_right, Contains-append_cases, All-contains}
-use Rattle.hz_base_model.specs.Pairs.{Pair}
+use Rattle.hz_base_model.specs.Pairs.{Pair, precedes_by, IsAscendingBy}
 use Rattle.hz_base_model.proofs.Elements.{Contains-nil, Contains-filter, Contains-from_filter, Contains-map, Contains-from_map, Contains-range}
 use Rattle.hz_base_model.proofs.Ascending.{AllPairs-append, AllPairs-map, AllPairs-range, same_from_ascending}
 use Rattle.hz_grid.specs.Rows.{has_unit, HasUnit}
-use Rattle.hz_grid.specs.Grids.{Holds, Precedes, IsGrid}
-use Rattle.hz_grid.proofs.Pairs.{Precedes_asymmetric}
+use Rattle.hz_grid.specs.Grids.{Holds, IsGrid}
 use Rattle.hz_tabtext_model.specs.Texts.{pair_field}
 use Rattle.hz_tabfile.specs.Pages.{spaced, unit_text, pairs_text}
+use Rattle.hz_base_model.proofs.PairOrder.{Precedes_asymmetric, precedes_from, lower_unit, grid_one}
+use Rattle.std.specs.Ordering.{nat_cmp}
+use Rattle.std.specs.FinMap.{nat_cmp-IsAntisymmetric}
+use Rattle.std.proofs.lemmas.Cmp.{nat_cmp_total}
 
 -- the pairs of one cycle
 abbrev pub in_cycle : List (Pair ℕ) → ℕ → List (Pair ℕ)
@@ -47,7 +50,10 @@ to_cycles grid start zero p there k is low = absurd (omega (arith, low))
 to_cycles grid start (suc n) p there zero is low = Contains-append_left (in_cycle grid start) (by_cycles grid (start + 1) n) p (to_cycle grid start p there (omega (arith, is)))
 to_cycles grid start (suc n) p there (suc k) is low = Contains-append_right (in_cycle grid start) (by_cycles grid (start + 1) n) p (to_cycles grid (start + 1) n p there k (omega (arith, is)) (omega (arith, low)))
 
-ascends : (grid : List (Pair ℕ)) → AllPairs Precedes grid → (start n : ℕ) → AllPairs Precedes (by_cycles grid start n)
+abbrev Precedes : Pair ℕ → Pair ℕ → Type 0
+Precedes p q = IsTrue (precedes_by nat_cmp p q)
+
+ascends : (grid : List (Pair ℕ)) → IsAscendingBy nat_cmp grid → (start n : ℕ) → IsAscendingBy nat_cmp (by_cycles grid start n)
 ascends grid is start zero = λ i j d lt within. absurd (omega arith)
 ascends grid is start (suc n) =
     AllPairs-append Precedes (in_cycle grid start) (by_cycles grid (start + 1) n)
@@ -56,14 +62,13 @@ ascends grid is start (suc n) =
     (λ p q m k.
     let first = from_cycle grid start p m in
     let second = from_cycles grid (start + 1) n q k in
-    inl (omega (arith, first.1, second.1)))
+    precedes_from p q (inl (omega (arith, first.1, second.1))))
 
 -- a grid is its cycles, one after the other
 pub cycle_by_cycle : (grid : List (Pair ℕ)) → IsGrid grid → (n : ℕ) → ((unit cycle : ℕ) → Holds grid unit cycle → cycle < n) → by_cycles grid 0 n ≡ grid
 cycle_by_cycle grid is n below =
-    same_from_ascending Precedes Precedes_asymmetric (by_cycles grid 0 n) grid (ascends grid is.ascending 0 n) is.ascending
-    (λ p h. (from_cycles grid 0 n p h).0)
-    (λ p h. to_cycles grid 0 n p h p.cycle (omega arith) (below p.unit p.cycle h))
+    grid_one (by_cycles grid 0 n) grid (ascends grid is.ascending 0 n) is.ascending
+    (λ p. (λ h. (from_cycles grid 0 n p h).0, λ h. to_cycles grid 0 n p h p.cycle (omega arith) (below p.unit p.cycle h)))
 
 -- the units of a row, below a number
 abbrev row_units : ℕ → ℕ → List ℕ
@@ -72,9 +77,9 @@ row_units row n = filter (has_unit row) (range_with_len 0 n)
 -- the pairs of a cycle are those of the units of its row
 cycle_is_row : (grid : List (Pair ℕ)) → IsGrid grid → (cycle row n : ℕ) → ((unit : ℕ) → HasUnit row unit ↔ Holds grid unit cycle) → ((p : Pair ℕ) → Contains grid p → p.unit < n) → in_cycle grid cycle ≡ map (at_cycle cycle) (row_units row n)
 cycle_is_row grid is cycle row n same below =
-    same_from_ascending Precedes Precedes_asymmetric (in_cycle grid cycle) (map (at_cycle cycle) (row_units row n))
+    same_from_ascending Precedes (Precedes_asymmetric nat_cmp nat_cmp_total nat_cmp-IsAntisymmetric) (in_cycle grid cycle) (map (at_cycle cycle) (row_units row n))
     (AllPairs-filter Precedes (λ (p : Pair ℕ). p.cycle == cycle) grid is.ascending)
-    (AllPairs-map (λ a b. a < b) Precedes (at_cycle cycle) (λ a b lt. inr (refl, lt)) 0 (row_units row n) (AllPairs-filter (λ a b. a < b) (has_unit row) (range_with_len 0 n) (AllPairs-range n)))
+    (AllPairs-map (λ a b. a < b) Precedes (at_cycle cycle) (λ a b lt. lower_unit (at_cycle cycle a) (at_cycle cycle b) refl lt) 0 (row_units row n) (AllPairs-filter (λ a b. a < b) (has_unit row) (range_with_len 0 n) (AllPairs-range n)))
     (λ p h.
     let both = from_cycle grid cycle p h in
     let there : Holds grid p.unit cycle = subst (λ (c : ℕ). Holds grid p.unit c) both.1 both.0 in

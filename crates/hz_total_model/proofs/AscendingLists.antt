@@ -1,4 +1,4 @@
--- Of every list there is one of the same items that ascends, each item once: of pairs, of grids, and of numbers below a bound.
+-- Of every list there is one of the same items that ascends, each item once: of grids, and of numbers below a bound.
 use Rattle.std.proofs.Common.{Ordering, ◌≡◌, ◌⊎◌, inl, inr, ⊎_elim, ℕ, zero, suc, ◌+◌, ◌<◌, ◌≤◌, List, [], ◌∷◌, ◌++◌, get_or, Contains, refl, sym, ap, ◌∙◌, subst, arith}
 use Rattle.std.specs.List.{AllPairs}
 use Rattle.std.specs.List.Sorted.{IsSorted}
@@ -11,12 +11,11 @@ use Rattle.std.proofs.lemmas.Bool.{cases_lt}
 use Rattle.std.proofs.lemmas.Cmp.{nat_cmp_total, on_total, then_total}
 use Rattle.std.proofs.lemmas.List.Elements.{All-contains, Contains-get_or, Contains-append_left, Contains-append_right, Contains-append_cases}
 use Rattle.std.proofs.lemmas.List.Kept.{AllPairs-cons}
-use Rattle.hz_base_model.specs.Pairs.{Pair, SamePairs}
+use Rattle.hz_base_model.specs.Pairs.{Pair, SamePairs, grid_cmp}
 use Rattle.hz_base_model.proofs.Ascending.{AllPairs-head, AllPairs-tail, AllPairs-append, same_from_ascending}
 use Rattle.hz_base_model.proofs.Elements.{Contains-nil, Contains-head, Contains-tail, Contains-cons_cases}
-use Rattle.hz_auto_model.specs.Compiled.{grid_order}
 use Rattle.hz_schedulable_model.proofs.ToldLaws.{IsTold}
-use Rattle.hz_single_model.specs.Told.{Precedes, IsAscending}
+use Rattle.hz_base_model.proofs.PairOrder.{grid_total, grid_exact}
 
 -- The items of the one list and one more, in ascending order.
 record IsWith {X : Type 0} (R : X → X → Type 0) (x : X) (ys zs : List X) : Type 0 where
@@ -114,84 +113,32 @@ module _ {X : Type 0} (R : X → X → Type 0) (order : (x y : X) → R x y ⊎ 
         },
       )
 
--- ---- pairs
-
-pair_order : (p q : Pair ℕ) → Precedes p q ⊎ ((p ≡ q) ⊎ Precedes q p)
-pair_order p q = ⊎_elim
-    (λ (less : p.cycle < q.cycle). inl (inl less))
-    (λ (more : q.cycle ≤ p.cycle). ⊎_elim
-    (λ (less : q.cycle < p.cycle). inr (inr (inl less)))
-    (λ (other : p.cycle ≤ q.cycle). units (omega (arith, more, other)))
-    (cases_lt q.cycle p.cycle))
-    (cases_lt p.cycle q.cycle)
-  where
-    units : p.cycle ≡ q.cycle → Precedes p q ⊎ ((p ≡ q) ⊎ Precedes q p)
-    units same = ⊎_elim
-        (λ (less : p.unit < q.unit). inl (inr (same, less)))
-        (λ (more : q.unit ≤ p.unit). ⊎_elim
-        (λ (less : q.unit < p.unit). inr (inr (inr (sym same, less))))
-        (λ (other : p.unit ≤ q.unit). let unit : p.unit ≡ q.unit = omega (arith, more, other) in inr (inl (λ i. record { unit = unit i; cycle = same i })))
-        (cases_lt q.unit p.unit))
-        (cases_lt p.unit q.unit)
-
-pair_chain : (p q r : Pair ℕ) → Precedes p q → Precedes q r → Precedes p r
-pair_chain p q r (inl a) (inl b) = inl (omega (arith, a, b))
-pair_chain p q r (inl a) (inr b) = let same = b.0 in inl (omega (arith, a, same))
-pair_chain p q r (inr a) (inl b) = let same = a.0 in inl (omega (arith, same, b))
-pair_chain p q r (inr a) (inr b) = let same = a.0 in let other = b.0 in let less = a.1 in let more = b.1 in inr (omega (arith, same, other), omega (arith, less, more))
-
-pair_once : (p q : Pair ℕ) → Precedes p q → Precedes q p → ⊥
-pair_once p q (inl a) (inl b) = omega (arith, a, b)
-pair_once p q (inl a) (inr b) = let same = b.0 in omega (arith, a, same)
-pair_once p q (inr a) (inl b) = let same = a.0 in omega (arith, same, b)
-pair_once p q (inr a) (inr b) = let less = a.1 in let more = b.1 in omega (arith, less, more)
-
-pub pairs_listed : (xs : List (Pair ℕ)) → (ys : List (Pair ℕ)) × IsAscending ys × SamePairs ys xs
-pairs_listed xs = let (ys, is) = ascending_list Precedes pair_order pair_chain xs in (ys, is.up, λ p. (λ h. is.only p h, λ h. is.all p h))
-
-pub grid_is : (x y : List (Pair ℕ)) → IsAscending x → IsAscending y → SamePairs x y → x ≡ y
-grid_is x y up up' same = same_from_ascending Precedes pair_once x y up up' (λ p c. (same p).0 c) (λ p c. (same p).1 c)
-
 -- ---- grids
 
-order_total : IsTotalOrder grid_order
-order_total = lists_total (then_total (on_total (λ (p : Pair ℕ). p.cycle) nat_cmp_total) (on_total (λ (p : Pair ℕ). p.unit) nat_cmp_total))
-
-order_tells : IsAntisymmetric grid_order
-order_tells = slice_cmp-IsAntisymmetric (λ p q e. pair_tells p q (nat_cmp p.cycle q.cycle) refl e)
-  where
-    pair_tells : (p q : Pair ℕ) (o : Ordering) → nat_cmp p.cycle q.cycle ≡ o → then_cmp (on (λ (r : Pair ℕ). r.cycle) nat_cmp) (on (λ (r : Pair ℕ). r.unit) nat_cmp) p q ≡ Equal → p ≡ q
-    pair_tells p q Less e h = absurd (let same = h in cc)
-    pair_tells p q Greater e h = absurd (let same = h in cc)
-    pair_tells p q Equal e h =
-        let cycles = nat_cmp-IsAntisymmetric p.cycle q.cycle e in
-        let units = nat_cmp-IsAntisymmetric p.unit q.unit (rw e at h) in
-        λ i. record { unit = units i; cycle = cycles i }
-
 abbrev pub IsBelow : List (Pair ℕ) → List (Pair ℕ) → Type 0
-IsBelow x y = grid_order x y ≡ Less
+IsBelow x y = grid_cmp x y ≡ Less
 
 grid_place : (x y : List (Pair ℕ)) → IsBelow x y ⊎ ((x ≡ y) ⊎ IsBelow y x)
-grid_place x y = by_order (grid_order x y) refl
+grid_place x y = by_order (grid_cmp x y) refl
   where
-    by_order : (o : Ordering) → grid_order x y ≡ o → IsBelow x y ⊎ ((x ≡ y) ⊎ IsBelow y x)
+    by_order : (o : Ordering) → grid_cmp x y ≡ o → IsBelow x y ⊎ ((x ≡ y) ⊎ IsBelow y x)
     by_order Less e = inl e
-    by_order Equal e = inr (inl (order_tells x y e))
-    by_order Greater e = inr (inr (order_total.antisymm y x ∙ ap ordering_reverse e))
+    by_order Equal e = inr (inl (grid_exact x y e))
+    by_order Greater e = inr (inr (grid_total.antisymm y x ∙ ap ordering_reverse e))
 
 pub below_once : (x y : List (Pair ℕ)) → IsBelow x y → x ≡ y → ⊥
 below_once x y below same =
     let other : IsBelow y y = subst (λ z. IsBelow z y) same below in
-    let turned = order_total.antisymm y y ∙ ap ordering_reverse other in
+    let turned = grid_total.antisymm y y ∙ ap ordering_reverse other in
     cc
 
 pub grids_listed : (xs : List (List (Pair ℕ))) → (ys : List (List (Pair ℕ))) × IsListed IsBelow xs ys
-grids_listed xs = ascending_list IsBelow grid_place (λ x y z one other. order_total.trans x y z one other) xs
+grids_listed xs = ascending_list IsBelow grid_place (λ x y z one other. grid_total.trans x y z one other) xs
 
-pub sorted_below : (xs : List (List (Pair ℕ))) → AllPairs IsBelow xs → IsSorted grid_order xs
+pub sorted_below : (xs : List (List (Pair ℕ))) → AllPairs IsBelow xs → IsSorted grid_cmp xs
 sorted_below xs up k d low inside =
     let below = up k (k + 1) d (omega arith) inside in
-    ap is_lt (order_total.antisymm (get_or xs (k + 1) d) (get_or xs k d) ∙ ap ordering_reverse below)
+    ap is_lt (grid_total.antisymm (get_or xs (k + 1) d) (get_or xs k d) ∙ ap ordering_reverse below)
 
 -- ---- numbers
 

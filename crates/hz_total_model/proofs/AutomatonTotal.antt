@@ -6,7 +6,7 @@ use Rattle.std.proofs.lemmas.Bool.{cases_lt}
 use Rattle.std.proofs.lemmas.List.{append-nil, length-map, get_or_default}
 use Rattle.std.proofs.lemmas.List.Elements.{All-head, All-tail, Contains-get_or, Contains-append_left, Contains-append_right, Contains-append_cases}
 use Rattle.std.proofs.lemmas.Option.{none-some}
-use Rattle.hz_base_model.specs.Pairs.{Pair, SamePairs}
+use Rattle.hz_base_model.specs.Pairs.{Pair, SamePairs, ascending_by, IsAscendingBy}
 use Rattle.hz_base_model.proofs.Ascending.{AllPairs-map}
 use Rattle.hz_base_model.proofs.Elements.{Contains-nil, Contains-head, Contains-tail, Contains-cons_cases, Contains-map, Contains-from_map}
 use Rattle.hz_acceptance_model.specs.Events.{Event}
@@ -31,10 +31,13 @@ use Rattle.hz_left_model.proofs.ListingLaws.{told_by, pairs_told}
 use Rattle.hz_left_model.proofs.ExploreLaws.{some_is_told}
 use Rattle.hz_left_model.proofs.OnwardLaws.{leaves_alike}
 use Rattle.hz_left_model.proofs.StateCounts.{grids_itself, grids_joined, same_left, same_grids_told, left_of, is_left, forth, back, more_alike, accepted_front}
-use Rattle.hz_single_model.specs.Told.{IsAscending}
-use Rattle.hz_total_model.proofs.AscendingLists.{IsListed, IsBelow, AreBelow, pairs_listed, grids_listed, grid_is, below_once, numbers_listed}
+use Rattle.hz_total_model.proofs.AscendingLists.{IsListed, IsBelow, AreBelow, grids_listed, below_once, numbers_listed}
 use Rattle.hz_total_model.proofs.NumberingLaws.{Numbered, finished, all_led, all_different, some_is}
 use Rattle.hz_total_model.proofs.NumberedTables.{Alike, Stands, run, listed_values, IsNumberedTable, some_table, all_items, walked_at, some_alike, entry_row}
+use Rattle.hz_base_model.proofs.PairOrder.{IsAscending-ascending, same_ascending, grid_one}
+use Rattle.std.specs.Ordering.{nat_cmp}
+use Rattle.std.specs.FinMap.{nat_cmp-IsAntisymmetric}
+use Rattle.std.proofs.lemmas.Cmp.{nat_cmp_total}
 
 -- an item, if both hold
 abbrev taken : {A B X : Type 0} → IsTold A → IsTold B → X → Option X
@@ -174,28 +177,34 @@ module _ (m : Pipeline ℕ) (columns : ℕ) where
       omega (arith, less, all, sum_by_ones states, sum_by_ones most.items, length-map s.items left)
 
   -- the grids that some of these events leave
-  gathered : (ts : List (List Event)) → (gs : List (List (Pair ℕ))) × ((t : List Event) (g : List (Pair ℕ)) → Contains ts t → Contains (left t) g → (x : List (Pair ℕ)) × Contains gs x × IsAscending x × SamePairs x g) × ((x : List (Pair ℕ)) → Contains gs x → IsAscending x × ((t : List Event) × Contains ts t × ((g : List (Pair ℕ)) × Contains (left t) g × SamePairs x g)))
+  gathered : (ts : List (List Event)) → (gs : List (List (Pair ℕ))) × ((t : List Event) (g : List (Pair ℕ)) → Contains ts t → Contains (left t) g → (x : List (Pair ℕ)) × Contains gs x × IsAscendingBy nat_cmp x × SamePairs x g) × ((x : List (Pair ℕ)) → Contains gs x → IsAscendingBy nat_cmp x × ((t : List Event) × Contains ts t × ((g : List (Pair ℕ)) × Contains (left t) g × SamePairs x g)))
   gathered [] = ([], λ t g h k. absurd (Contains-nil t h), λ x h. absurd (Contains-nil x h))
   gathered (t ∷ ts) =
       let (gs, all, only) = gathered ts in
       let here = map plain (left t) in (
         here ++ gs,
         λ v g h k. ⊎_elim
-            (λ (e : t ≡ v). (plain g, Contains-append_left here gs (plain g) (Contains-map plain (left t) g (subst (λ u. Contains (left u) g) (sym e) k)), (pairs_listed g).1, (pairs_listed g).2))
+            (λ (e : t ≡ v). (plain g, Contains-append_left here gs (plain g) (Contains-map plain (left t) g (subst (λ u. Contains (left u) g) (sym e) k)), plain_ascends g, plain_same g))
             (λ (there : Contains ts v). let found = all v g there k in (found.0, Contains-append_right here gs found.0 found.1, found.2, found.3))
             (Contains-cons_cases t v ts h),
         λ x h. ⊎_elim
             (λ (k : Contains here x).
             let (g, there, same) = Contains-from_map plain (left t) x k in (
-              subst IsAscending same (pairs_listed g).1,
-              (t, Contains-head t ts, (g, there, subst (λ y. SamePairs y g) same (pairs_listed g).2)),
+              subst (IsAscendingBy nat_cmp) same (plain_ascends g),
+              (t, Contains-head t ts, (g, there, subst (λ y. SamePairs y g) same (plain_same g))),
             ))
             (λ (k : Contains gs x). let (up, (v, there, found)) = only x k in (up, (v, Contains-tail t v ts there, found)))
             (Contains-append_cases here gs x h),
       )
     where
       plain : List (Pair ℕ) → List (Pair ℕ)
-      plain g = (pairs_listed g).0
+      plain = ascending_by nat_cmp
+
+      plain_ascends : (g : List (Pair ℕ)) → IsAscendingBy nat_cmp (plain g)
+      plain_ascends = IsAscending-ascending nat_cmp nat_cmp_total nat_cmp-IsAntisymmetric
+
+      plain_same : (g : List (Pair ℕ)) → SamePairs (plain g) g
+      plain_same = same_ascending nat_cmp nat_cmp_total nat_cmp-IsAntisymmetric
 
   module _ (none : (k : ℕ) → columns ≤ k → alternatives_at m k ≡ []) (table : Table) (items : List (List Event)) (places : List (ℕ × ℕ)) (numbers : IsNumberedTable Same columns next [] table items places) where
     abbrev IsAt : Option (List Event) → Option ℕ → Type 0
@@ -251,20 +260,20 @@ module _ (m : Pipeline ℕ) (columns : ℕ) where
     placed : (t : List Event) → Contains items t → (k : ℕ) × (k < length table) × (item k ≡ t)
     placed t (k, low, at) = let each = numbers.each in (k, omega (arith, low, each), get_or_default items k [] t low ∙ at)
 
-    module _ (gs : List (List (Pair ℕ))) (gather : (t : List Event) (g : List (Pair ℕ)) → Contains items t → Contains (left t) g → (x : List (Pair ℕ)) × Contains gs x × IsAscending x × SamePairs x g) (only : (x : List (Pair ℕ)) → Contains gs x → IsAscending x × ((t : List Event) × Contains items t × ((g : List (Pair ℕ)) × Contains (left t) g × SamePairs x g)))
+    module _ (gs : List (List (Pair ℕ))) (gather : (t : List Event) (g : List (Pair ℕ)) → Contains items t → Contains (left t) g → (x : List (Pair ℕ)) × Contains gs x × IsAscendingBy nat_cmp x × SamePairs x g) (only : (x : List (Pair ℕ)) → Contains gs x → IsAscendingBy nat_cmp x × ((t : List Event) × Contains items t × ((g : List (Pair ℕ)) × Contains (left t) g × SamePairs x g)))
         (grids : List (List (Pair ℕ))) (listed : IsListed IsBelow gs grids) where
       reached : (x : List (Pair ℕ)) → Contains grids x → IsReachedGrid m x
       reached x h =
           let (up, (t, there, (g, in_left, same))) = only x (listed.only x h) in
           (t, leaves_alike m t g x same ((left_is t).only g in_left))
 
-      ascending_grids : All IsAscending grids
+      ascending_grids : All (IsAscendingBy nat_cmp) grids
       ascending_grids i d low = (only (get_or grids i d) (listed.only (get_or grids i d) (Contains-get_or grids i d low))).0
 
       once : AreDifferent SamePairs grids
       once i j d less low same =
           below_once (get_or grids i d) (get_or grids j d) (listed.up i j d less low)
-          (grid_is (get_or grids i d) (get_or grids j d) (ascending_grids i d (omega (arith, less, low))) (ascending_grids j d low) same)
+          (grid_one (get_or grids i d) (get_or grids j d) (ascending_grids i d (omega (arith, less, low))) (ascending_grids j d low) same)
 
       -- what an item leaves is a grid of them
       grid_of : (k : ℕ) → k < length table → (g : List (Pair ℕ)) → Contains (left (item k)) g → (n : ℕ) × (n < length grids) × SamePairs (grid_at grids n) g
@@ -389,7 +398,7 @@ pub record HasAutomaton (m : Pipeline ℕ) (columns : ℕ) : Type 0 where
   pub parents : List (ℕ × ℕ)
   pub is : IsAutomaton m columns table grids sets parents
   pub below : AllPairs IsBelow grids
-  pub ascending : All IsAscending grids
+  pub ascending : All (IsAscendingBy nat_cmp) grids
 
 pub some_automaton : (m : Pipeline ℕ) (columns : ℕ) → ((k : ℕ) → columns ≤ k → alternatives_at m k ≡ []) → (n : ℕ) → CountIsAtMost m columns count.states n → HasAutomaton m columns
 some_automaton m columns none n most =

@@ -10,7 +10,7 @@ use Rattle.std.proofs.lemmas.List.Elements.{All-contains, Contains-get_or, Conta
 use Rattle.std.proofs.lemmas.List.Kept.{AllPairs-from_increasing}
 use Rattle.std.proofs.lemmas.Option.{none-some, slice_get_within, get_or_from_slice_get}
 use Rattle.hz_base_model.specs.Limits.{cycle_limit}
-use Rattle.hz_base_model.specs.Pairs.{Pair, later, placed}
+use Rattle.hz_base_model.specs.Pairs.{Pair, later, placed, grid_cmp, IsAscendingBy}
 use Rattle.hz_base_model.proofs.Ascending.{AllPairs-map}
 use Rattle.hz_base_model.proofs.Elements.{Contains-nil, Contains-from_map}
 use Rattle.hz_altern_model.specs.Sets.{Statement}
@@ -37,14 +37,14 @@ use Rattle.hz_reach_model.specs.Counts as count
 use Rattle.hz_reach_model.proofs.CountLaws.{no_count_both}
 use Rattle.hz_auto_model.specs.AutomatonPipelines.{automaton_at, lists_at, automaton_pipeline}
 use Rattle.hz_auto_model.specs.ClassColumns.{IsColumns}
-use Rattle.hz_auto_model.specs.Compiled.{Shown, Report, shows_states, grid_order, IsShown, IsCompiledPart}
+use Rattle.hz_auto_model.specs.Compiled.{Shown, Report, shows_states, IsShown, IsCompiledPart}
 use Rattle.hz_auto_model.specs.CompiledParts.{cap_of, IsWithinLimits, WalksAccepted, TellsWhatIsLeft}
 use Rattle.hz_auto_model.specs.Counted.{CountIs}
 use Rattle.hz_auto_model.proofs.ColumnLaws.{nothing_past}
 use Rattle.hz_auto_model.proofs.CompiledLaws.{walks_accepted, tells_left, numbered, stands, low, counts_above, counts_most}
 use Rattle.hz_auto_model.proofs.ReportLaws.{states_of, grid_count, state_count, cell_count, member_count}
 use Rattle.hz_left_model.proofs.CountsTold.{counts_told}
-use Rattle.hz_single_model.specs.Told.{IsAscending, ListsAscending}
+use Rattle.hz_single_model.specs.Told.{ListsAscending}
 use Rattle.hz_tabtext_model.specs.Said.{counts_said}
 use Rattle.hz_tabtext_model.specs.Texts.{AreCounts}
 use Rattle.hz_total_model.proofs.AscendingLists.{IsBelow, sorted_below}
@@ -52,6 +52,7 @@ use Rattle.hz_total_model.proofs.ApartTold.{no_more}
 use Rattle.hz_total_model.proofs.NumberingLaws.{some_is}
 use Rattle.hz_total_model.proofs.LeastTables.{least_table}
 use Rattle.hz_total_model.proofs.AutomatonTotal.{HasAutomaton, some_automaton}
+use Rattle.std.specs.Ordering.{nat_cmp}
 
 -- ---- cycles of what is left
 
@@ -249,7 +250,7 @@ module _ (options : Options) (automata : List AutomatonParts) (classes : List Cl
             let inside = low (treatment_of options) statements statements asks lists columns part is number has.grids has.sets has.parents has.is t state h in
             subst (IsLeft m t) (sym (state_is state inside))
             (stands (treatment_of options) statements statements asks lists columns part is number has.grids has.sets has.parents has.is t state (subst (λ k. All (IsOfClass k) t) (sym lists_count) all) h);
-        ascending = all_states (IsSorted grid_order) (λ state inside. sorted_below (state_at has.grids has.sets state) (state_below state inside));
+        ascending = all_states (IsSorted grid_cmp) (λ state inside. sorted_below (state_at has.grids has.sets state) (state_below state inside));
       }
 
       shown_told : (b : Bool) → MatchBool b (IsSomeAnd (shown_by b) (IsShown (length classes) m part)) (shown_by b ≡ None)
@@ -328,7 +329,7 @@ module _ (options : Options) (automata : List AutomatonParts) (classes : List Cl
         kept = is_part;
         rows = few_rows;
         counts = counts_low;
-        ascending = for_shown (λ (s : Shown). All (λ grids. All IsAscending grids) s.states) (all_states (All IsAscending) (of_states IsAscending has.ascending)) (shows_states options);
+        ascending = for_shown (λ (s : Shown). All (λ grids. All (IsAscendingBy nat_cmp) grids) s.states) (all_states (All (IsAscendingBy nat_cmp)) (of_states (IsAscendingBy nat_cmp) has.ascending)) (shows_states options);
         cycles = for_shown (λ (s : Shown). All (All AreLow) s.states) (all_states (All AreLow) (of_states AreLow cycles_low)) (shows_states options);
       }
 

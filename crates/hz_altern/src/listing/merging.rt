@@ -3,7 +3,8 @@
 ghost use Rattle.std.specs.Prelude.{◌≡◌, ◌+◌, ◌≤◌, ◌++◌, [], length, IfOk, IfSome, IfNone};
 ghost use Rattle.hz_altern.specs.Merging.{IsLeast};
 ghost use Rattle.hz_altern.specs.Shapes.{pair_of, pairs_of};
-ghost use Rattle.hz_altern_model.specs.Automata.{precedes, ascending};
+ghost use Rattle.hz_altern_model.specs.Automata.{place_cmp, ascending};
+ghost use Rattle.hz_base_model.specs.Pairs.{precedes_by};
 ghost use Rattle.hz_altern_model.specs.AlternativeLists.{IsAscending};
 
 use crate::alternative::Pair;
@@ -13,7 +14,7 @@ use std::alloc::Global;
 impl Pair {
     /// Whether the pair stands before another: by cycle, then by automaton, then by unit.
     fn precedes(self, other: Pair) -> bool
-        ensures { result ≡ precedes (pair_of self) (pair_of other) }
+        ensures { result ≡ precedes_by place_cmp (pair_of self) (pair_of other) }
     {
         self.cycle < other.cycle
             || (self.cycle == other.cycle

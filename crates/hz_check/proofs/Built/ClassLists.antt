@@ -13,11 +13,11 @@ use Rattle.hz_mdread.specs.Shape.{class_item}
 use Rattle.hz_check.specs.Parts.Classes.{lists_in, class_with, classes_with}
 use Rattle.hz_check.proofs.Lists.Next.{map-map, taken_more}
 use Rattle.hz_altern_model.specs.Alternatives.{Alternative, alternatives_of}
-use Rattle.hz_altern_model.specs.Automata.{UnitPlace, ascending, listed, cut, inside, is_of, list_in, same_pair, without_repeats}
+use Rattle.hz_altern_model.specs.Automata.{UnitPlace, ascending, listed, cut, inside, is_of, list_in, without_repeats}
 use Rattle.hz_check_model.specs.Places.{Known}
 use Rattle.hz_check_model.specs.CheckedParts.{ClassParts, automaton_count, class_parts}
 use Rattle.hz_mdread_model.specs.Descriptions.{Description, ClassItem}
-use Rattle.hz_base_model.specs.Pairs.{Pair}
+use Rattle.hz_base_model.specs.Pairs.{Pair, grid_eq}
 use Rattle.hz_altern_model.proofs.AscendingLaws.{IsAscending-ascending, ascending_itself}
 
 -- a listed alternative is cut down to the same pairs
@@ -25,7 +25,7 @@ cut_listed : (automaton : ℕ) (a : Alternative UnitPlace) → cut automaton (as
 cut_listed automaton a = ap (λ (ps : List (Pair UnitPlace)). map inside (filter (is_of automaton) ps)) (ascending_itself (ascending a.pairs) (IsAscending-ascending a.pairs))
 
 pub list_in-listed : (automaton : ℕ) (alts : List (Alternative UnitPlace)) → list_in automaton (map listed alts) ≡ list_in automaton alts
-list_in-listed automaton alts = ap (without_repeats (pointwise same_pair))
+list_in-listed automaton alts = ap (without_repeats grid_eq)
     (map-map (λ (a : Alternative UnitPlace). cut automaton a.pairs) listed alts ∙ ap (λ (f : Alternative UnitPlace → List (Pair ℕ)). map f alts) (fun_ext (cut_listed automaton)))
 
 lists_in-listed : (automata : ℕ) (alts : List (Alternative UnitPlace)) → lists_in automata (map listed alts) ≡ lists_in automata alts

@@ -3,7 +3,7 @@ use Rattle.std.specs.Prelude.{All, IsTrue}
 use Rattle.std.specs.Option.{ForSome}
 use Rattle.hz_base_model.specs.Limits.{cycle_limit}
 use Rattle.hz_base_model.specs.Names.{is_name}
-use Rattle.hz_base_model.specs.Pairs.{Pair}
+use Rattle.hz_base_model.specs.Pairs.{Pair, IsAscendingBy}
 use Rattle.hz_check.specs.declared.checked.CheckedAutomaton.{CheckedAutomaton}
 use Rattle.hz_check.specs.Shape.{automaton_of}
 use Rattle.hz_check_model.specs.CheckedParts.{AutomatonParts}
@@ -17,9 +17,10 @@ use Rattle.hz_auto_model.specs.Compiled.{Report}
 use Rattle.hz_tabtext_model.specs.Texts.{AreCounts}
 use Rattle.hz_tabtext_model.specs.Said.{counts_said}
 use Rattle.hz_grid.specs.Grids.{IsGrid}
-use Rattle.hz_single_model.specs.Told.{IsAscending, ListsAscending}
+use Rattle.hz_single_model.specs.Told.{ListsAscending}
 use Rattle.hz_tabfile.proofs.Ranges.{all_made, shown_again, shown_weaker}
 use Rattle.hz_tabfile.proofs.writing.ranges.is_in_range.Goals as goal
+use Rattle.std.specs.Ordering.{nat_cmp}
 
 pub returns-clause-range : goal.returns-clause-range
 returns-clause-range c =
@@ -41,4 +42,4 @@ pub returns-clause-listed : goal.returns-clause-listed
 returns-clause-listed c =
     let all = subst (λ (rs : List AutoReport). All (λ (r : AutoReport). ForSome r.shown (λ shown. All (λ grids. All IsGrid grids.items) shown.grids.items)) rs) c.deref-6.ensures.value c.are_shown.ensures in
     all_made ListsAscending report_of c.args.compiled.now.reports.items
-    (λ i d low. shown_again (All IsAscending) _ (shown_weaker (All IsGrid) (All IsAscending) (λ grids h j e within. (h j e within).ascending) _ (all i d low)))
+    (λ i d low. shown_again (All (IsAscendingBy nat_cmp)) _ (shown_weaker (All IsGrid) (All (IsAscendingBy nat_cmp)) (λ grids h j e within. (h j e within).ascending) _ (all i d low)))
