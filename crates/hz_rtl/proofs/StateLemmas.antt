@@ -11,7 +11,7 @@ use Rattle.hz_rtl_model.specs.States.{Place, reg, cell, State, Store, stored, al
 use Rattle.hz_rtltext_model.specs.StateForms.{empty_state}
 use Rattle.hz_rtl.specs.declared.block.Insn.{Insn}
 use Rattle.hz_rtl.specs.declared.block.Effect.{Effect as CodeEffect}
-use Rattle.hz_rtl.specs.declared.store.Store.{Store as CodeStore}
+use Rattle.hz_rtl.specs.declared.running.store.Store.{Store as CodeStore}
 use Rattle.hz_rtl.specs.Shape.{effect, instruction}
 use Rattle.hz_rtl.specs.States.{word_at}
 use Rattle.hz_rtl.specs.Stores.{store}

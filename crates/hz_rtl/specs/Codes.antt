@@ -1,10 +1,10 @@
 -- What lists are, as the definitions have it.
-use Rattle.hz_rtl.specs.declared.codes.ValueCode.{ValueCode}
-use Rattle.hz_rtl.specs.declared.codes.ValueCode.TheVariants as values
-use Rattle.hz_rtl.specs.declared.codes.PlaceCode.{PlaceCode}
-use Rattle.hz_rtl.specs.declared.codes.PlaceCode.TheVariants as places
-use Rattle.hz_rtl.specs.declared.codes.EffectCode.{EffectCode}
-use Rattle.hz_rtl.specs.declared.codes.EffectCode.TheVariants as effects
+use Rattle.hz_rtl.specs.declared.reading.codes.ValueCode.{ValueCode}
+use Rattle.hz_rtl.specs.declared.reading.codes.ValueCode.TheVariants as values
+use Rattle.hz_rtl.specs.declared.reading.codes.PlaceCode.{PlaceCode}
+use Rattle.hz_rtl.specs.declared.reading.codes.PlaceCode.TheVariants as places
+use Rattle.hz_rtl.specs.declared.reading.codes.EffectCode.{EffectCode}
+use Rattle.hz_rtl.specs.declared.reading.codes.EffectCode.TheVariants as effects
 use Rattle.hz_rtltext_model.specs.Values as model
 use Rattle.hz_rtl.specs.Shape.{unary_operator, binary_operator}
 

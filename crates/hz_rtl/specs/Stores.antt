@@ -1,7 +1,7 @@
 -- The stores that the code holds, as what the definitions speak of.
-use Rattle.hz_rtl.specs.declared.store.Spot.{Spot}
-use Rattle.hz_rtl.specs.declared.store.Spot.TheVariants.{Register, Cell}
-use Rattle.hz_rtl.specs.declared.store.Store.{Store}
+use Rattle.hz_rtl.specs.declared.running.store.Spot.{Spot}
+use Rattle.hz_rtl.specs.declared.running.store.Spot.TheVariants.{Register, Cell}
+use Rattle.hz_rtl.specs.declared.running.store.Store.{Store}
 use Rattle.hz_rtl_model.specs.States as model
 
 abbrev pub place : Spot → model.Place

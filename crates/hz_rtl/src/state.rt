@@ -5,7 +5,7 @@ ghost use Rattle.std.specs.Ordering.{nat_cmp};
 ghost use Rattle.std.specs.BTreeMap.{get, IsOrdered};
 ghost use Rattle.std.proofs.Props.{props};
 
-use crate::store::{Spot, Store};
+use crate::running::store::{Spot, Store};
 use hz_regexp::NoMemory;
 use std::alloc::Global;
 use std::collections::BTreeMap;
