@@ -9,7 +9,7 @@ use Rattle.hz_rtl.specs.declared.block.Insn.{Insn}
 use Rattle.hz_check.specs.declared.checked.Checked.{Checked}
 use Rattle.hz_check.specs.declared.checked.CheckedBypass.{CheckedBypass}
 use Rattle.hz_check.specs.Shape.{bypass_of}
-use Rattle.hz_depend.specs.declared.nodes.Node.{Node}
+use Rattle.hz_depend.specs.declared.building.nodes.Node.{Node}
 use Rattle.hz_depend.specs.declared.parts.Edge.{Edge}
 use Rattle.hz_depend.specs.declared.parts.Graph.{Graph}
 use Rattle.hz_depend.specs.declared.parts.GraphInsn.{GraphInsn}

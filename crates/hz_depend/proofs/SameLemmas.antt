@@ -6,7 +6,7 @@ use Rattle.std.specs.Option.{option_map}
 use Rattle.std.proofs.lemmas.Bool.{eqb-true, eq-eqb}
 use Rattle.hz_check.specs.declared.checked.CheckedBypass.{CheckedBypass}
 use Rattle.hz_check.specs.Shape.{bypass_of}
-use Rattle.hz_depend.specs.declared.access.Based.{Based}
+use Rattle.hz_depend.specs.declared.finding.access.Based.{Based}
 use Rattle.hz_depend.specs.Cells.{based, cells}
 use Rattle.hz_depend.specs.Held.{Held, meet, number}
 use Rattle.hz_depend_model.specs.Accesses.{is_among}

@@ -1,7 +1,7 @@
 -- The addresses that the code keeps, as what the definitions speak of.
 use Rattle.std.specs.Prelude.{List, map, Option}
 use Rattle.std.specs.Option.{option_map}
-use Rattle.hz_depend.specs.declared.access.Based.{Based}
+use Rattle.hz_depend.specs.declared.finding.access.Based.{Based}
 use Rattle.hz_depend_model.specs.Accesses as model
 
 abbrev pub based : Based → model.Based

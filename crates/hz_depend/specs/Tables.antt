@@ -6,10 +6,10 @@ use Rattle.std.specs.BTreeMap as tree
 use Rattle.std.specs.BTreeMap.{BTreeMap}
 use Rattle.std.specs.declared.alloc.Global.{Global}
 use Rattle.std.specs.declared.vec.Vec.{Vec}
-use Rattle.hz_depend.specs.declared.by_register.ByRegister.{ByRegister}
-use Rattle.hz_depend.specs.declared.by_cell.ByKey.{ByKey}
-use Rattle.hz_depend.specs.declared.by_cell.ByCell.{ByCell}
-use Rattle.hz_depend.specs.declared.tables.Tables.{Tables}
+use Rattle.hz_depend.specs.declared.finding.by_register.ByRegister.{ByRegister}
+use Rattle.hz_depend.specs.declared.finding.by_cell.ByKey.{ByKey}
+use Rattle.hz_depend.specs.declared.finding.by_cell.ByCell.{ByCell}
+use Rattle.hz_depend.specs.declared.finding.tables.Tables.{Tables}
 use Rattle.hz_depend.specs.Lists.{lists_of}
 use Rattle.hz_depend.specs.Noted.{Key, CellPlaces, Places}
 

@@ -4,15 +4,19 @@ ghost use Rattle.std.specs.Prelude.{◌≡◌, ◌≤◌, ◌<◌, ℕ, List, le
 ghost use Rattle.hz_depend.specs.GraphShape.{IsGraphOf, IsSchedulable, class_fault_in, first_class_fault};
 ghost use Rattle.hz_depend.specs.Relaxing.{height_at};
 
-use crate::edges::edges_of;
+use crate::building::edges::edges_of;
+use crate::building::heights::{height_at, sums_of};
+use crate::building::nodes::{Node, first_class_fault, nodes_of};
 use crate::fault::DependFault;
-use crate::heights::{height_at, sums_of};
-use crate::nodes::{Node, first_class_fault, nodes_of};
 use crate::parts::{Graph, GraphInsn};
 use hz_check::Checked;
 use hz_regexp::NoMemory;
 use hz_rtl::{Block, Insn};
 use std::alloc::Global;
+
+pub(crate) mod edges;
+pub(crate) mod heights;
+pub(crate) mod nodes;
 
 /// The instructions of a graph.
 fn insns_of(
