@@ -10,13 +10,13 @@ ghost use Rattle.hz_tool.specs.Decisions.{Agrees, CountsReport, NamesFile, IsOfO
 ghost use Rattle.hz_tool.specs.Endings.{IsAppended, AppendsFile, AppendsDrill, AppendsSchedule, AppendsTables, Completes, IsCutShort};
 ghost use Rattle.hz_words.specs.Shape.{words_in, order_in};
 
-use super::drilling::judge_drill;
-use super::evaluating::judge_eval;
-use super::read::read_file;
-use super::replaying::judge_replay;
-use super::scheduling::judge_schedule;
-use super::tabulating::judge_compile;
-use super::walking::judge_walk;
+use crate::commands::drilling::judge_drill;
+use crate::commands::evaluating::judge_eval;
+use crate::commands::replaying::judge_replay;
+use crate::commands::scheduling::judge_schedule;
+use crate::commands::tabulating::judge_compile;
+use crate::commands::walking::judge_walk;
+use crate::phases::read::read_file;
 use hz_io::{Files, Sink};
 use hz_report::{Report, write_report};
 use hz_words::{

@@ -1,0 +1,74 @@
+//! The machine of a checked description.
+
+ghost use Rattle.std.specs.Prelude.{◌≡◌, ◌<◌, IfOk, IfErr, [], length, map, slice_index_or};
+ghost use Rattle.hz_auto.specs.Machines.{IsFaultOf};
+ghost use Rattle.hz_tool.specs.Compiled.{IsCompiledBy};
+ghost use Rattle.hz_check.specs.Checked.{IsCheckedOf};
+ghost use Rattle.hz_mdread_model.specs.Descriptions.{Description};
+ghost use Rattle.hz_sched_model.specs.Machines.{Settles};
+ghost use Rattle.hz_tables.specs.Machines.{machine_of};
+ghost use Rattle.hz_tool.specs.Decisions.{IsJudged};
+ghost use Rattle.hz_tool.specs.Fronts.{IsLimitReport};
+ghost use Rattle.hz_tool.specs.Machines.{IsMachineFor};
+
+use crate::phases::turning::{limited, states_report};
+use hz_auto::{AutoFault, Compiled, compile};
+use hz_check::Checked;
+use hz_regexp::{Name, NoMemory};
+use hz_report::Report;
+use hz_tables::Machine;
+use std::alloc::Global;
+
+/// The name of an automaton.
+fn name_of(checked: &Checked, automaton: u32) -> Result<Name, NoMemory>
+    requires { automaton < length checked.now.automata.items }
+    ensures { IfOk result (λ name. name ≡ slice_index_or (map (λ a. a.name) checked.now.automata.items) automaton []) }
+{
+    checked.automata[automaton as usize].name.copy()
+}
+
+/// The report of a description that is not compiled.
+fn fault_report<'a>(file: &'a str, checked: &Checked, fault: AutoFault) -> Report<'a>
+    requires { IsFaultOf checked.now fault }
+    ensures kind { IsJudged result }
+    ensures told { (d : Description) (is : IsCheckedOf d checked.now) → IsLimitReport file.entry.now d is.known result }
+{
+    match limited(fault) {
+        Some(automaton) => states_report(file, name_of(checked, automaton)),
+        None => Report::Memory,
+    }
+}
+
+/// What is compiled of a description without a fault, or the report of its first automaton that has too many states.
+pub fn judge_compiled<'a>(
+    alloc: Global,
+    file: &'a str,
+    checked: &Checked,
+) -> Result<Compiled, Report<'a>>
+    ensures ok { IfOk result (IsCompiledBy checked.now) }
+    ensures kind { IfErr result IsJudged }
+    ensures err { IfErr result (λ report. (d : Description) (is : IsCheckedOf d checked.now) → IsLimitReport file.entry.now d is.known report) }
+{
+    match compile(alloc, checked) {
+        Ok(compiled) => Ok(compiled),
+        Err(fault) => Err(fault_report(file, checked, fault)),
+    }
+}
+
+/// The machine of a description without a fault, or the report of its first automaton that has too many states.
+pub fn judge_states<'a>(
+    alloc: Global,
+    file: &'a str,
+    checked: &Checked,
+) -> Result<Machine, Report<'a>>
+    ensures ok { IfOk result (λ machine. (d : Description) (is : IsCheckedOf d checked.now) → IsMachineFor d is.known (machine_of machine)) }
+    ensures classes { IfOk result (λ machine. length machine.classes.items ≡ length checked.now.classes.items) }
+    ensures settles { IfOk result (λ machine. Settles (machine_of machine)) }
+    ensures kind { IfErr result IsJudged }
+    ensures err { IfErr result (λ report. (d : Description) (is : IsCheckedOf d checked.now) → IsLimitReport file.entry.now d is.known report) }
+{
+    match judge_compiled(alloc, file, checked) {
+        Ok(compiled) => Ok(compiled.machine),
+        Err(report) => Err(report),
+    }
+}

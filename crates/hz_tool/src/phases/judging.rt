@@ -1,0 +1,118 @@
+//! The texts judged, one phase after the other; the first that refuses gives the report.
+
+ghost use Rattle.std.specs.Prelude.{◌≡◌, ◌^◌, ◌<◌, ◌≤◌, IfOk, IfErr, IsTrue, length};
+ghost use Rattle.std.specs.List.{AllPairs};
+ghost use Rattle.hz_mdread_model.specs.DescriptionForms as description_forms;
+ghost use Rattle.hz_mdread_model.specs.DescriptionShape.{IsWellFormed, IsCheckable, SharesAutomaton};
+ghost use Rattle.hz_sexp_model.specs.Forms as forms;
+ghost use Rattle.hz_base_model.specs.Lines.{lines_of};
+ghost use Rattle.hz_rtl.specs.Shape.{instructions};
+ghost use Rattle.hz_rtl.specs.States.{words};
+ghost use Rattle.hz_rtltext_model.specs.BlockForms as blocks;
+ghost use Rattle.hz_rtltext_model.specs.StateForms as states;
+ghost use Rattle.hz_trace_model.specs.Traces.{Trace, event_lines};
+ghost use Rattle.hz_check.specs.Checked.{IsCheckedOf};
+ghost use Rattle.hz_mdread.specs.Shape.{description};
+ghost use Rattle.hz_sexp.specs.Shape.{trees};
+ghost use Rattle.hz_tool.specs.Decisions.{IsFormsReport, IsDescriptionReport, IsCheckReport, IsRtlReport, IsTraceReport};
+ghost use Rattle.hz_replay.specs.Traces.{events_in, lines_in};
+
+use crate::phases::turning::{
+    check_report, description_report, form_report, line_report, rtl_report,
+};
+use hz_check::{Checked, check};
+use hz_mdread::{Description, read_description};
+use hz_replay::{Event, read_trace};
+use hz_report::Report;
+use hz_rtl::{Block, State, read_block, read_state};
+use hz_sexp::{Form, read_forms};
+use hz_tables::Machine;
+use std::alloc::Global;
+
+/// The forms of a text, or the report of its first fault.
+pub fn judge_forms<'a>(alloc: Global, file: &'a str, text: &[u8]) -> Result<Vec<Form>, Report<'a>>
+    requires { length text.now < 2 ^ 32 }
+    ensures ok { IfOk result (λ read. forms.Reads text.now (trees read.items)) }
+    ensures err { IfErr result (IsFormsReport file.entry.now text.now) }
+{
+    match read_forms(alloc, text) {
+        Ok(read) => Ok(read),
+        Err(fault) => Err(form_report(file, fault)),
+    }
+}
+
+/// The description that forms say, or the report of the first fault of a form.
+pub fn judge_description<'a>(
+    alloc: Global,
+    file: &'a str,
+    read: &[Form],
+) -> Result<Description, Report<'a>>
+    requires count { description_forms.form_count (trees read.now) < 2 ^ 32 }
+    requires strings { IsTrue (description_forms.strings_below (2 ^ 32) (trees read.now)) }
+    ensures ok { IfOk result (λ d. description_forms.Reads (trees read.now) (description d)) }
+    ensures formed { IfOk result (λ d. IsWellFormed (description d)) }
+    ensures err { IfErr result (IsDescriptionReport file.entry.now (trees read.now)) }
+{
+    match read_description(alloc, read) {
+        Ok(description) => Ok(description),
+        Err(fault) => Err(description_report(file, fault)),
+    }
+}
+
+/// The description without a fault, or the report of the fault that is told.
+pub fn judge_check<'a>(
+    alloc: Global,
+    file: &'a str,
+    described: Description,
+) -> Result<Checked, Report<'a>>
+    requires formed { IsCheckable (description described) }
+    requires shared { AllPairs SharesAutomaton (description described).units }
+    ensures ok { IfOk result (IsCheckedOf (description described)) }
+    ensures err { IfErr result (IsCheckReport file.entry.now (description described)) }
+{
+    match check(alloc, described) {
+        Ok(checked) => Ok(checked),
+        Err(fault) => Err(check_report(file, fault)),
+    }
+}
+
+/// The block that forms are, or the report of the first that is wrong.
+pub fn judge_block<'a>(alloc: Global, file: &'a str, read: &[Form]) -> Result<Block, Report<'a>>
+    ensures ok { IfOk result (λ block. blocks.Reads (trees read.now) (instructions block)) }
+    ensures few { IfOk result (λ block. length block.insns.items ≤ blocks.instruction_limit) }
+    ensures err { IfErr result (IsRtlReport file.entry.now (blocks.FaultAt (trees read.now))) }
+{
+    match read_block(alloc, read) {
+        Ok(block) => Ok(block),
+        Err(fault) => Err(rtl_report(file, fault)),
+    }
+}
+
+/// The state that forms give, or the report of the first that is wrong.
+pub fn judge_state<'a>(alloc: Global, file: &'a str, read: &[Form]) -> Result<State, Report<'a>>
+    ensures ok { IfOk result (λ state. states.Reads (trees read.now) (words state)) }
+    ensures err { IfErr result (IsRtlReport file.entry.now (states.FaultAt (trees read.now))) }
+{
+    match read_state(alloc, read) {
+        Ok(state) => Ok(state),
+        Err(fault) => Err(rtl_report(file, fault)),
+    }
+}
+
+/// The events of a trace over the classes of a machine, or the report of its first wrong line.
+pub fn judge_trace<'a>(
+    alloc: Global,
+    file: &'a str,
+    machine: &Machine,
+    text: &[u8],
+) -> Result<Vec<Event>, Report<'a>>
+    requires { length text.now < 2 ^ 32 }
+    ensures ok { IfOk result (λ events. Trace machine.now.classes.items text.now (events_in events.items)) }
+    ensures lines { IfOk result (λ events. lines_in events.items ≡ event_lines machine.now.classes.items 1 (lines_of text.now)) }
+    ensures err { IfErr result (IsTraceReport file.entry.now machine.now.classes.items text.now) }
+{
+    match read_trace(alloc, text, machine) {
+        Ok(events) => Ok(events),
+        Err(fault) => Err(line_report(file, fault)),
+    }
+}
