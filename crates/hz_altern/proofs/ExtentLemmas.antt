@@ -4,7 +4,8 @@ use Rattle.std.proofs.lemmas.List.{length-map}
 use Rattle.std.proofs.lemmas.Bool.{and_parts, leb-true}
 use Rattle.std.proofs.Common.{true, take, drop, Option, Some, subst, length-drop, length-take}
 use Rattle.std.specs.Prelude.{IsTrue}
-use Rattle.hz_base_model.specs.Limits.{alternative_limit, cycle_limit}
+use Rattle.hz_base_model.specs.Limits.{cycle_limit}
+use Rattle.hz_altern_model.specs.Limits.{alternative_limit}
 use Rattle.hz_regexp.specs.declared.expr.Expr.{Expr}
 use Rattle.hz_regexp.specs.Shape.{expressions}
 use Rattle.hz_altern.specs.declared.mark.Mark.{Mark}

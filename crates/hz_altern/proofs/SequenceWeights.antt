@@ -7,7 +7,7 @@ use Rattle.hz_altern.specs.declared.listing.joining.Joining.TheVariants.{InSeque
 use Rattle.hz_altern.specs.Answers.{weight, total_weight}
 use Rattle.hz_altern.specs.Joinings.{IsListed, joined_by}
 use Rattle.hz_altern.proofs.Weights.{weight-append, weight-cons}
-use Rattle.hz_base_model.specs.Limits.{size_limit}
+use Rattle.hz_altern_model.specs.Limits.{size_limit}
 use Rattle.hz_base_model.specs.Pairs.{placed, later}
 use Rattle.hz_altern_model.specs.Alternatives.{Alternative, each_choice}
 use Rattle.hz_altern_model.specs.Automata.{UnitPlace}

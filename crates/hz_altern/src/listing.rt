@@ -31,7 +31,7 @@ impl Model for Listing {
     ghost use Rattle.hz_altern.specs.Answers.{total_weight};
     ghost use Rattle.hz_altern_model.specs.Alternatives.{Alternative};
     ghost use Rattle.hz_altern_model.specs.Automata.{UnitPlace};
-    ghost use Rattle.hz_base_model.specs.Limits.{size_limit};
+    ghost use Rattle.hz_altern_model.specs.Limits.{size_limit};
 
     ghost Value = { List (Alternative UnitPlace) };
 
@@ -48,7 +48,8 @@ impl Listing {
     ghost use Rattle.hz_altern.specs.Joinings.{IsListed, joined_by};
     ghost use Rattle.hz_altern.specs.declared.listing.joining.Joining.TheVariants.{InSequence};
     ghost use Rattle.hz_altern_model.specs.Alternatives.{each_choice};
-    ghost use Rattle.hz_base_model.specs.Limits.{cycle_limit, size_limit};
+    ghost use Rattle.hz_base_model.specs.Limits.{cycle_limit};
+    ghost use Rattle.hz_altern_model.specs.Limits.{size_limit};
 
     /// No alternative.
     pub fn new(alloc: Global) -> Listing

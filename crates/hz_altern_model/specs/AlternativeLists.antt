@@ -1,7 +1,8 @@
 -- Lists of alternatives: how many they are, how long and how large, and which lists a description can have. GCC Internals,
 -- 'Specifying processor pipeline description'; the limits are this profile's, docs/RULES.md, 'Limits'.
 use Rattle.std.specs.Prelude.{ℕ, ◌+◌, ◌<◌, ◌≤◌, min, max, List, [], ◌∷◌, Option, Some, None, length, nat_lt, All, if◌then◌else◌}
-use Rattle.hz_base_model.specs.Limits.{automaton_limit, unit_limit, cycle_limit, alternative_limit}
+use Rattle.hz_base_model.specs.Limits.{automaton_limit, unit_limit, cycle_limit}
+use Rattle.hz_altern_model.specs.Limits.{alternative_limit}
 use Rattle.hz_base_model.specs.Pairs.{Pair, IsAscendingBy}
 use Rattle.hz_altern_model.specs.Alternatives.{Alternative}
 use Rattle.hz_altern_model.specs.Automata.{UnitPlace, place_cmp, total_size}

@@ -1,7 +1,7 @@
 -- Expressions that can be written, and how many alternatives they have. GCC Internals, 'Specifying processor pipeline
 -- description', on the regular expressions of `define_reservation` and `define_insn_reservation`.
 use Rattle.std.specs.Prelude.{ℕ, zero, suc, ◌+◌, ◌*◌, Bool, true, false, ◌&&◌, nat_le, List, length}
-use Rattle.hz_base_model.specs.Limits.{repeat_limit}
+use Rattle.hz_altern_model.specs.Limits.{repeat_limit}
 use Rattle.hz_altern_model.specs.Alternatives.{Alternative, Expression, named, nothing, sequence, one_of, all_of, repeat, Parts, none, more, alternatives_of}
 
 -- two parts or more

@@ -6,3 +6,4 @@ pub mod Automata
 pub mod AlternativeLists
 pub mod Sets
 pub mod Inside
+pub mod Limits

@@ -13,7 +13,8 @@ use Rattle.hz_mdread_model.specs.DescriptionForms.{DescriptionFault}
 use Rattle.hz_mdread_model.specs.Descriptions.{Description}
 use Rattle.hz_answer_model.specs.FaultTexts.{form_word, description_words, check_line, check_status, trace_word, tables_word, class_line, stuck_line}
 use Rattle.hz_sexp_model.specs.Forms.{FormFault}
-use Rattle.hz_base_model.specs.Limits.{description_limit, trace_limit}
+use Rattle.hz_mdread_model.specs.Limits.{description_limit}
+use Rattle.hz_trace_model.specs.Limits.{trace_limit}
 use Rattle.hz_base_model.specs.Lines.{lines_of}
 use Rattle.hz_trace_model.specs.Traces.{TraceFault, event_lines}
 use Rattle.hz_trace_model.proofs.TraceLaws.{one_trace, one_trace_fault, trace_or_fault}

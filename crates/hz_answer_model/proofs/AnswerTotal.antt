@@ -19,7 +19,8 @@ use Rattle.hz_mdread_model.specs.DescriptionForms as description_forms
 use Rattle.hz_mdread_model.specs.DescriptionShape.{IsWellFormed, IsCheckable}
 use Rattle.hz_mdread_model.specs.Descriptions.{Description}
 use Rattle.hz_answer_model.specs.FaultTexts.{form_word, description_words, check_line, check_status, trace_word, tables_word, class_line, stuck_line}
-use Rattle.hz_base_model.specs.Limits.{description_limit, trace_limit}
+use Rattle.hz_mdread_model.specs.Limits.{description_limit}
+use Rattle.hz_trace_model.specs.Limits.{trace_limit}
 use Rattle.hz_base_model.specs.Lines.{lines_of}
 use Rattle.hz_sexp_model.specs.Forms as forms
 use Rattle.hz_check_model.specs.CheckedParts.{automaton_names, automaton_count, automata_of, class_parts, bypass_parts, attributes_of}

@@ -4,7 +4,8 @@ use Rattle.std.proofs.lemmas.Bool.{le-ltb}
 use Rattle.std.proofs.lemmas.Option.{same_Some}
 use Rattle.hz_acceptance_model.specs.Events.{issues_of, cycles_of}
 use Rattle.hz_auto_model.specs.DescriptionLimits.{AllKeepLimits}
-use Rattle.hz_base_model.specs.Limits.{description_limit, trace_limit}
+use Rattle.hz_mdread_model.specs.Limits.{description_limit}
+use Rattle.hz_trace_model.specs.Limits.{trace_limit}
 use Rattle.hz_check_model.specs.Places.{Known}
 use Rattle.hz_mdread_model.specs.Descriptions.{Description}
 use Rattle.hz_tables_model.specs.Machines.{Machine}

@@ -14,7 +14,8 @@ use Rattle.hz_mdread_model.specs.Descriptions.{Description}
 use Rattle.hz_mdread_model.specs.DescriptionForms as description_forms
 use Rattle.hz_mdread_model.proofs.CheckableLaws.{can_be_checked}
 use Rattle.hz_mdread_model.proofs.DescriptionFormedAll.{well_formed}
-use Rattle.hz_base_model.specs.Limits.{description_limit, trace_limit}
+use Rattle.hz_mdread_model.specs.Limits.{description_limit}
+use Rattle.hz_trace_model.specs.Limits.{trace_limit}
 use Rattle.hz_check_model.specs.CheckFaults.{IsSound}
 use Rattle.hz_check_model.specs.Places.{Known}
 use Rattle.hz_rtltext_model.proofs.Numbers.{all_few}

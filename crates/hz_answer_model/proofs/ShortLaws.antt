@@ -1,7 +1,7 @@
 -- The text of the tables of a description is within its limit of bytes, where nothing is told of states.
 use Rattle.std.proofs.Common.{◌≡◌, ℕ, ◌≤◌, false, List, length, sym, subst, arith}
 use Rattle.hz_auto_model.specs.Compiled.{shows_states}
-use Rattle.hz_base_model.specs.Limits.{description_limit}
+use Rattle.hz_mdread_model.specs.Limits.{description_limit}
 use Rattle.hz_check_model.specs.Places.{Known}
 use Rattle.hz_extent_model.proofs.TablesSizes.{tables_most}
 use Rattle.hz_mdread_model.specs.Descriptions.{Description}

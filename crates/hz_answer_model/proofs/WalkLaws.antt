@@ -14,7 +14,8 @@ use Rattle.hz_acceptance_model.specs.Replay.{Accepted, FirstRefused, Class}
 use Rattle.hz_altern_model.specs.Automata.{UnitPlace}
 use Rattle.hz_auto_model.specs.DescriptionLimits.{AllKeepLimits}
 use Rattle.hz_auto_model.proofs.DescriptionLaws.{machine_accepts, unwalked_refused}
-use Rattle.hz_base_model.specs.Limits.{description_limit, trace_limit}
+use Rattle.hz_mdread_model.specs.Limits.{description_limit}
+use Rattle.hz_trace_model.specs.Limits.{trace_limit}
 use Rattle.hz_base_model.specs.Lines.{lines_of}
 use Rattle.hz_check_model.specs.CheckedParts.{class_parts}
 use Rattle.hz_check_model.specs.CheckFaults.{CheckFaultAt}

@@ -6,7 +6,8 @@ use Rattle.hz_mdread_model.specs.DescriptionForms.{DescriptionFault}
 use Rattle.hz_mdread_model.specs.DescriptionForms as description_forms
 use Rattle.hz_mdread_model.specs.Descriptions.{Description}
 use Rattle.hz_answer_model.specs.FaultTexts.{description_words, check_line, check_status}
-use Rattle.hz_base_model.specs.Limits.{description_limit, trace_limit}
+use Rattle.hz_mdread_model.specs.Limits.{description_limit}
+use Rattle.hz_trace_model.specs.Limits.{trace_limit}
 use Rattle.hz_check_model.specs.CheckedParts.{automaton_names}
 use Rattle.hz_pipeline_model.specs.Pipelines.{pipeline_with}
 use Rattle.hz_auto_model.specs.DescriptionLimits.{AllKeepLimits, IsFirstPastLimit}

@@ -6,7 +6,7 @@ use Rattle.hz_mdread_model.specs.Descriptions.{Description}
 use Rattle.hz_mdread_model.specs.DescriptionForms as description_forms
 use Rattle.hz_check_model.specs.CheckFaults.{IsSound}
 use Rattle.hz_check_model.specs.Places.{Known, class_names}
-use Rattle.hz_base_model.specs.Limits.{advance_limit, trace_limit}
+use Rattle.hz_trace_model.specs.Limits.{advance_limit, trace_limit}
 use Rattle.hz_acceptance_model.specs.Events.{Event, issues_of, cycles_of}
 use Rattle.hz_acceptance_model.specs.Replay.{Accepted}
 use Rattle.hz_auto_model.specs.Compiled.{shows_states}

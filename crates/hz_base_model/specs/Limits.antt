@@ -1,4 +1,5 @@
--- The limits of this profile: docs/RULES.md, 'Limits'.
+-- The limits that the check of descriptions asks, and automata or their tables too: docs/RULES.md, 'Limits'. The others stand in the
+-- `Limits` of the crate of their subject.
 use Rattle.std.specs.Prelude.{ℕ}
 
 -- units of one automaton
@@ -15,31 +16,3 @@ class_limit = 1024
 -- automata of a description
 abbrev pub automaton_limit : ℕ
 automaton_limit = 16
-
--- alternatives of a class or of a reservation
-abbrev pub alternative_limit : ℕ
-alternative_limit = 4096
-
--- the cycles and pairs of alternatives together
-abbrev pub size_limit : ℕ
-size_limit = 2097152
-
--- the greatest number after `*`
-abbrev pub repeat_limit : ℕ
-repeat_limit = 65535
-
--- the greatest latency and the greatest number of a bypass
-abbrev pub latency_limit : ℕ
-latency_limit = 1000
-
--- bytes of a description
-abbrev pub description_limit : ℕ
-description_limit = 4194304
-
--- bytes of a trace
-abbrev pub trace_limit : ℕ
-trace_limit = 67108864
-
--- all the advances of a trace together
-abbrev pub advance_limit : ℕ
-advance_limit = 16777216

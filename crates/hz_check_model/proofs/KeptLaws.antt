@@ -28,7 +28,9 @@ use Rattle.hz_check_model.specs.CheckedShape.{IsKept}
 use Rattle.hz_mdread_model.specs.DescriptionShape.{IsCheckableReservation, IsCheckable, IsCheckableClass, IsCheckableBypass}
 use Rattle.hz_mdread_model.specs.Descriptions.{SetItem, ReservationItem, Description, AutomatonItem, UnitItem, ClassItem, BypassItem, AttributeItem}
 use Rattle.hz_altern_model.specs.Expressions.{is_expression}
-use Rattle.hz_base_model.specs.Limits.{cycle_limit, alternative_limit, automaton_limit, unit_limit, class_limit, latency_limit}
+use Rattle.hz_base_model.specs.Limits.{cycle_limit, automaton_limit, unit_limit, class_limit}
+use Rattle.hz_altern_model.specs.Limits.{alternative_limit}
+use Rattle.hz_mdread_model.specs.Limits.{latency_limit}
 use Rattle.hz_base_model.specs.Lines.{place_of}
 use Rattle.hz_check_model.specs.Places.{unit_place, places_of, statement_of, reservation_named, unit_or_reservation, meaning, IsKnown, at_name, class_names, automaton_number, automaton_numbers, place_behind, places_behind, unit_places, Known}
 use Rattle.hz_altern_model.specs.Inside.{inside_statement, are_inside, is_inside, unit_numbers}

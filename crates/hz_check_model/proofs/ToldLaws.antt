@@ -9,7 +9,8 @@ use Rattle.std.proofs.lemmas.Slice.Eq.{bytes_eq-Decides}
 use Rattle.std.proofs.lemmas.List.{append-nil}
 use Rattle.std.proofs.lemmas.List.Sums.{sum_by-append}
 use Rattle.std.proofs.lemmas.List.Elements.{Contains-append_left, Contains-append_right, Contains-append_cases}
-use Rattle.hz_base_model.specs.Limits.{unit_limit, size_limit}
+use Rattle.hz_base_model.specs.Limits.{unit_limit}
+use Rattle.hz_altern_model.specs.Limits.{size_limit}
 use Rattle.hz_base_model.proofs.Elements.{Contains-nil, Contains-head, Contains-tail, Contains-cons_cases, Contains-filter, Contains-from_filter, Contains-map, Contains-from_map}
 use Rattle.hz_altern_model.specs.Automata.{total_size}
 use Rattle.hz_mdread_model.specs.Descriptions.{Description, UnitItem, BypassItem}

@@ -3,7 +3,8 @@ use Rattle.std.specs.Prelude.{◌≡◌, ℕ, Bool, false, true, ◌&&◌, ◌||
 use Rattle.std.specs.Option.{option_map}
 use Rattle.std.specs.List.{list_any, flat_map, filter_map}
 use Rattle.std.specs.Str.{bytes_eq}
-use Rattle.hz_base_model.specs.Limits.{automaton_limit, unit_limit, class_limit, alternative_limit, cycle_limit}
+use Rattle.hz_base_model.specs.Limits.{automaton_limit, unit_limit, class_limit, cycle_limit}
+use Rattle.hz_altern_model.specs.Limits.{alternative_limit}
 use Rattle.hz_altern_model.specs.Alternatives.{Expression}
 use Rattle.hz_altern_model.specs.Automata.{UnitPlace}
 use Rattle.hz_altern_model.specs.Meanings.{Reaches}

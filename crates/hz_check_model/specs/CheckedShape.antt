@@ -2,7 +2,9 @@
 use Rattle.std.specs.Prelude.{◌≡◌, ◌≢◌, ℕ, ◌<◌, ◌≤◌, List, [], Some, slice_get, slice_index_or, length, map, All}
 use Rattle.std.specs.List.{Contains, flat_map, AllPairs}
 use Rattle.hz_check_model.specs.CheckedParts.{AutomatonParts, ClassParts, BypassParts}
-use Rattle.hz_base_model.specs.Limits.{automaton_limit, unit_limit, class_limit, alternative_limit, cycle_limit, latency_limit}
+use Rattle.hz_base_model.specs.Limits.{automaton_limit, unit_limit, class_limit, cycle_limit}
+use Rattle.hz_altern_model.specs.Limits.{alternative_limit}
+use Rattle.hz_mdread_model.specs.Limits.{latency_limit}
 
 pub record IsKept (automata : List AutomatonParts) (classes : List ClassParts) (bypasses : List BypassParts) (attributes : List (List ℕ × List (List ℕ))) : Type 0 where
   -- there is an automaton

@@ -2,7 +2,7 @@
 use Rattle.std.specs.Prelude.{ℕ, ◌+◌, Bool, true, false, ◌&&◌, not, nat_lt, List, [], ◌∷◌, ◌++◌, map, if◌then◌else◌, IsTrue, IsFalse}
 use Rattle.std.specs.Option.{option_map}
 use Rattle.std.specs.List.{filter_map}
-use Rattle.hz_base_model.specs.Limits.{size_limit}
+use Rattle.hz_altern_model.specs.Limits.{size_limit}
 use Rattle.hz_altern_model.specs.Alternatives.{Alternative, Expression, alternatives_of}
 use Rattle.hz_altern_model.specs.Automata.{UnitPlace, total_size}
 use Rattle.hz_altern_model.specs.NamesIn.{names_in}

@@ -2,7 +2,8 @@
 -- `units_past_their_limit_are_told`, `places_count_units_before`, `size_is_told_where_it_passes`, `second_numbers_are_told`.
 use Rattle.std.specs.Prelude.{◌≡◌, ◌≢◌, ◌⊎◌, ◌<◌, ◌≤◌, ◌==◌, ℕ, List, [], ◌∷◌, ◌++◌, filter, length}
 use Rattle.std.specs.List.{Contains, sum_by}
-use Rattle.hz_base_model.specs.Limits.{unit_limit, size_limit}
+use Rattle.hz_base_model.specs.Limits.{unit_limit}
+use Rattle.hz_altern_model.specs.Limits.{size_limit}
 use Rattle.hz_altern_model.specs.Automata.{total_size}
 use Rattle.hz_mdread_model.specs.Descriptions.{Description, UnitItem, BypassItem}
 use Rattle.hz_check_model.specs.Sites.{Site}

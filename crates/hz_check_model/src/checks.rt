@@ -2,7 +2,7 @@
 
 ghost use Rattle.std.specs.Prelude.{◌≡◌, ◌≢◌, ◌≤◌, ◌↔◌, ◌⊎◌, List, [], ◌∷◌, ◌++◌, length, slice_get, map, All, Contains, Some, None, IsFalse};
 ghost use Rattle.std.specs.List.{AllPairs};
-ghost use Rattle.hz_base_model.specs.Limits.{size_limit};
+ghost use Rattle.hz_altern_model.specs.Limits.{size_limit};
 ghost use Rattle.hz_check_model.specs.CheckFaults.{CheckFault, CheckFaultAt, IsSound, IsFirst, IsUnfolded, past_units, second_numbers};
 ghost use Rattle.hz_check_model.specs.CountingOrder.{Reserving, past_size, reservations_of, classes_of};
 ghost use Rattle.hz_check_model.specs.Places.{automaton_number, unit_places, Known, meaning};

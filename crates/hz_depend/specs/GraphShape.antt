@@ -1,6 +1,6 @@
 -- What the code answers of a block, as what the definitions speak of.
 use Rattle.std.specs.Prelude.{◌≡◌, ℕ, suc, ◌<◌, ◌≤◌, List, [], ◌∷◌, map, length, Option, Some, None, Result, Ok, Err, slice_index, All}
-use Rattle.hz_base_model.specs.Limits.{latency_limit}
+use Rattle.hz_mdread_model.specs.Limits.{latency_limit}
 use Rattle.hz_rtl.specs.declared.block.Block.{Block}
 use Rattle.hz_rtl.specs.declared.block.Insn.{Insn}
 use Rattle.hz_rtl.specs.Shape.{instructions}

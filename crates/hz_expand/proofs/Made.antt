@@ -11,7 +11,8 @@ use Rattle.hz_altern.specs.Shapes.{alternatives}
 use Rattle.hz_altern_model.specs.Alternatives.{Alternative}
 use Rattle.hz_altern_model.specs.AlternativeLists.{AreSound, Excess, excess_of, too_many, too_long, too_large, greatest_length}
 use Rattle.hz_altern_model.specs.Automata.{UnitPlace, total_size}
-use Rattle.hz_base_model.specs.Limits.{alternative_limit, cycle_limit}
+use Rattle.hz_base_model.specs.Limits.{cycle_limit}
+use Rattle.hz_altern_model.specs.Limits.{alternative_limit}
 use Rattle.hz_expand.specs.Answers.{IsMadeIfListed, Makes}
 
 module _ (most : ℕ) (all : List (Alternative UnitPlace)) (few : length all ≤ alternative_limit) (short : greatest_length all ≤ cycle_limit) where

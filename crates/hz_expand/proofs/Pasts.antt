@@ -5,7 +5,8 @@ use Rattle.std.specs.List.{list_any}
 use Rattle.std.proofs.lemmas.Bool.Decides.{nat_tests}
 use Rattle.std.proofs.lemmas.List.{drop_more, append-nil, get_or-map, length-map}
 use Rattle.std.proofs.lemmas.List.Elements.{Contains-append_left, Contains-append_right}
-use Rattle.hz_base_model.specs.Limits.{alternative_limit, cycle_limit}
+use Rattle.hz_base_model.specs.Limits.{cycle_limit}
+use Rattle.hz_altern_model.specs.Limits.{alternative_limit}
 use Rattle.hz_altern.specs.Tables.{AreRight}
 use Rattle.hz_expand.specs.declared.extents.PastExtents.{PastExtents}
 use Rattle.hz_expand.specs.Past.{sites_of, AreCountable, AreRightFor, TellsBehind, ArePast}

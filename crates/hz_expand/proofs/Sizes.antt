@@ -32,7 +32,8 @@ use Rattle.hz_check_model.specs.CountingOrder.{Reserving, reserving_class, reser
 use Rattle.hz_check_model.specs.FirstTold.{first_told}
 use Rattle.hz_mdread_model.specs.Descriptions.{Description}
 use Rattle.hz_mdread_model.specs.DescriptionShape.{IsCheckable}
-use Rattle.hz_base_model.specs.Limits.{size_limit, alternative_limit, cycle_limit}
+use Rattle.hz_base_model.specs.Limits.{cycle_limit}
+use Rattle.hz_altern_model.specs.Limits.{size_limit, alternative_limit}
 use Rattle.hz_check_model.specs.Places.{IsKnown, Known}
 use Rattle.hz_check_model.specs.Sites.{Site, earliest}
 use Rattle.hz_check_model.proofs.EarliestLaws.{no_site}

@@ -17,7 +17,7 @@ use Rattle.hz_altern_model.specs.Automata.{UnitPlace, listed, total_size}
 use Rattle.hz_check_model.specs.CheckFaults.{past_limit, size}
 use Rattle.hz_check_model.specs.CountingOrder.{Reserving}
 use Rattle.hz_mdread_model.specs.Descriptions.{Description}
-use Rattle.hz_base_model.specs.Limits.{size_limit}
+use Rattle.hz_altern_model.specs.Limits.{size_limit}
 use Rattle.hz_check_model.specs.Places.{IsKnown, Known}
 use Rattle.hz_check_model.specs.Sites as model
 use Rattle.hz_unfold.specs.Places.{site_of}

@@ -8,7 +8,8 @@ ghost use Rattle.hz_altern_model.specs.AlternativeLists.{AreSound, greatest_leng
 ghost use Rattle.hz_altern_model.specs.Alternatives.{alternatives_of};
 ghost use Rattle.hz_altern_model.specs.Automata.{listed};
 ghost use Rattle.hz_altern_model.specs.Expressions.{is_expression};
-ghost use Rattle.hz_base_model.specs.Limits.{alternative_limit, cycle_limit, size_limit};
+ghost use Rattle.hz_base_model.specs.Limits.{cycle_limit};
+ghost use Rattle.hz_altern_model.specs.Limits.{alternative_limit, size_limit};
 ghost use Rattle.hz_altern_model.specs.NamesIn.{all_names};
 ghost use Rattle.hz_regexp.specs.Shape.{expression};
 ghost use Rattle.hz_expand.specs.Answers.{IsMadeIfListed, Makes};
@@ -79,7 +80,8 @@ impl Expansion {
     ghost use Rattle.hz_altern_model.specs.AlternativeLists.{AreSound, greatest_length};
     ghost use Rattle.hz_altern_model.specs.Alternatives.{alternatives_of};
     ghost use Rattle.hz_altern_model.specs.Expressions.{is_expression};
-    ghost use Rattle.hz_base_model.specs.Limits.{alternative_limit, cycle_limit, size_limit};
+    ghost use Rattle.hz_base_model.specs.Limits.{cycle_limit};
+    ghost use Rattle.hz_altern_model.specs.Limits.{alternative_limit, size_limit};
     ghost use Rattle.hz_altern_model.specs.NamesIn.{all_names};
     ghost use Rattle.hz_regexp.specs.Shape.{expression};
 

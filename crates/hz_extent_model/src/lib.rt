@@ -3,7 +3,7 @@
 
 ghost use Rattle.std.specs.Prelude.{◌≡◌, ◌≤◌, ◌+◌, ℕ, List, false, length, map, All};
 ghost use Rattle.std.specs.List.{sum_by};
-ghost use Rattle.hz_base_model.specs.Limits.{description_limit};
+ghost use Rattle.hz_mdread_model.specs.Limits.{description_limit};
 ghost use Rattle.hz_sexp_model.specs.Trees.{Trees};
 ghost use Rattle.hz_sexp_model.specs.Forms as texts;
 ghost use Rattle.hz_mdread_model.specs.Descriptions.{Options, Description};

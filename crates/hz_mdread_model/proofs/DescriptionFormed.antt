@@ -10,7 +10,7 @@ use Rattle.std.proofs.lemmas.Bool.{leb-true}
 use Rattle.hz_altern_model.specs.Alternatives.{Expression}
 use Rattle.hz_regexp_model.specs.ExpressionTexts as expression
 use Rattle.hz_altern_model.specs.Expressions.{is_expression}
-use Rattle.hz_base_model.specs.Limits as limits
+use Rattle.hz_mdread_model.specs.Limits as limits
 use Rattle.hz_base_model.specs.Lines.{separated}
 use Rattle.hz_base_model.specs.Names.{is_name}
 use Rattle.hz_altern_model.specs.Sets.{SetKind, exclusion, presence, final_presence, absence, final_absence}

@@ -9,7 +9,7 @@ use Rattle.std.specs.Str.{bytes_eq}
 use Rattle.hz_altern_model.specs.Alternatives.{Expression}
 use Rattle.hz_regexp_model.specs.ExpressionTexts.{ExpressionFault}
 use Rattle.hz_regexp_model.specs.ExpressionTexts as expression
-use Rattle.hz_base_model.specs.Limits as limits
+use Rattle.hz_mdread_model.specs.Limits as limits
 use Rattle.hz_base_model.specs.Lines.{separated}
 use Rattle.hz_base_model.specs.Names.{is_name}
 use Rattle.hz_altern_model.specs.Sets.{SetKind, exclusion, presence, final_presence, absence, final_absence}

@@ -4,7 +4,7 @@ use Rattle.std.specs.Prelude.{◌≡◌, ℕ, ◌<◌, ◌≤◌, Bool, true, fa
 use Rattle.std.specs.List.{list_all, AllPairs}
 use Rattle.std.specs.Option.{option_map_or}
 use Rattle.hz_altern_model.specs.Expressions.{is_expression}
-use Rattle.hz_base_model.specs.Limits as limits
+use Rattle.hz_mdread_model.specs.Limits as limits
 use Rattle.hz_base_model.specs.Names.{is_name}
 use Rattle.hz_altern_model.specs.Sets.{SetKind}
 use Rattle.hz_mdread_model.specs.Descriptions.{Condition, Conditions, constant, matches, negation, conjunction, disjunction, none, more, AutomatonItem, UnitItem, ReservationItem, ClassItem, BypassItem, SetItem, AttributeItem, Description}

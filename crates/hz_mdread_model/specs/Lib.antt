@@ -3,3 +3,4 @@ pub mod DescriptionShape
 pub mod DescriptionForms
 pub mod Conditions
 pub mod AddedItems
+pub mod Limits

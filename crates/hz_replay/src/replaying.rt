@@ -2,7 +2,7 @@
 
 ghost use Rattle.std.specs.Prelude.{◌≡◌, ◌+◌, ◌*◌, ◌<◌, ◌≤◌, ◌^◌, ◌∷◌, [], length, All, Some, None};
 ghost use Rattle.std.specs.Bool.{OnTrue, OnFalse};
-ghost use Rattle.hz_base_model.specs.Limits.{advance_limit};
+ghost use Rattle.hz_trace_model.specs.Limits.{advance_limit};
 ghost use Rattle.hz_acceptance_model.specs.Events.{advance, issues_of, cycles_of, IsOfClass};
 ghost use Rattle.hz_tables_model.specs.Machines.{parts_walk};
 ghost use Rattle.hz_tables.specs.Machines.{machine_of};

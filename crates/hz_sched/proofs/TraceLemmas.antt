@@ -3,7 +3,7 @@ use Rattle.std.proofs.Common.{ℕ, ◌<◌, ◌≤◌, ◌*◌, List, length, Al
 use Rattle.std.specs.List.{AllPairs}
 use Rattle.std.proofs.lemmas.List.{length-map}
 use Rattle.std.proofs.lemmas.List.Elements.{All-map}
-use Rattle.hz_base_model.specs.Limits.{advance_limit}
+use Rattle.hz_trace_model.specs.Limits.{advance_limit}
 use Rattle.hz_acceptance_model.specs.Events.{IsOfClass, cycles_of}
 use Rattle.hz_depend.specs.declared.parts.Graph as depend
 use Rattle.hz_depend.specs.GraphShape.{IsSchedulable}

@@ -2,7 +2,7 @@
 
 ghost use Rattle.std.specs.Prelude.{◌≡◌, ◌≤◌, ◌<◌, ◌+◌, ◌==◌, ◌++◌, ◌∷◌, [], None, length, All, IfOk, OnOk, filter, replicate, ◌^◌};
 ghost use Rattle.std.specs.List.{Contains};
-ghost use Rattle.hz_base_model.specs.Limits.{latency_limit};
+ghost use Rattle.hz_mdread_model.specs.Limits.{latency_limit};
 ghost use Rattle.hz_sched_model.specs.Schedules as model;
 ghost use Rattle.hz_sched.specs.Shape.{graph_of, slots_of};
 ghost use Rattle.hz_sched.specs.Waits.{issued_at, and_issued};

@@ -1,7 +1,7 @@
 -- One text has one list of events or one fault.
 use Rattle.std.proofs.Common.{◌≡◌, ℕ, suc, ◌+◌, ◌≤◌, ◌⊎◌, inl, inr, ⊎_elim, false, cond, List, [], ◌∷◌, ◌++◌, length, refl, ap, ◌∙◌, subst, arith, nat_lt, add-zero, zero-add}
 use Rattle.std.proofs.lemmas.Bool.{le-ltb, lt-ltb, cases_lt}
-use Rattle.hz_base_model.specs.Limits.{advance_limit}
+use Rattle.hz_trace_model.specs.Limits.{advance_limit}
 use Rattle.hz_base_model.specs.Lines.{lines_of}
 use Rattle.hz_acceptance_model.specs.Events.{Event, issue, advance, cycles_of}
 use Rattle.hz_trace_model.specs.Traces.{TraceFault, too_many_advances, Line, skipped, says, wrong, line_says, Say, Trace, WrongAfter, TraceFaultAt, event_lines}

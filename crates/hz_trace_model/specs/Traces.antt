@@ -3,7 +3,7 @@ use Rattle.std.specs.Prelude.{◌≡◌, ℕ, ◌+◌, ◌-◌, ◌<◌, ◌≤�
 use Rattle.std.specs.List.{prefix_len, suffix_len, position_or_len}
 use Rattle.std.specs.Option.{option_map_or}
 use Rattle.std.specs.Str.{bytes_eq}
-use Rattle.hz_base_model.specs.Limits.{advance_limit}
+use Rattle.hz_trace_model.specs.Limits.{advance_limit}
 use Rattle.hz_base_model.specs.Names.{is_name}
 use Rattle.hz_base_model.specs.Lines.{lines_of, number_of, place_of}
 use Rattle.hz_acceptance_model.specs.Events.{Event, issue, advance, cycles_of}

@@ -1,7 +1,8 @@
 //! How many alternatives there are, and how long the longest is.
 
 ghost use Rattle.std.specs.Prelude.{◌≤◌, ◌+◌};
-ghost use Rattle.hz_base_model.specs.Limits.{alternative_limit, cycle_limit};
+ghost use Rattle.hz_base_model.specs.Limits.{cycle_limit};
+ghost use Rattle.hz_altern_model.specs.Limits.{alternative_limit};
 
 use crate::mark::Mark;
 use hz_grid::CYCLES;

@@ -11,7 +11,8 @@ ghost use Rattle.hz_altern_model.specs.Alternatives.{alternatives_of, together, 
 ghost use Rattle.hz_altern_model.specs.AlternativeLists.{AreSound, greatest_length};
 ghost use Rattle.hz_altern_model.specs.Automata.{listed};
 ghost use Rattle.hz_altern_model.specs.Expressions.{is_expression, are_expressions};
-ghost use Rattle.hz_base_model.specs.Limits.{cycle_limit, size_limit};
+ghost use Rattle.hz_base_model.specs.Limits.{cycle_limit};
+ghost use Rattle.hz_altern_model.specs.Limits.{size_limit};
 ghost use Rattle.hz_altern_model.specs.NamesIn.{all_names, all_names_in};
 ghost use Rattle.hz_regexp.specs.Shape.{expression, expressions};
 

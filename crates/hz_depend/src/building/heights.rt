@@ -2,7 +2,7 @@
 
 ghost use Rattle.std.specs.Prelude.{◌≡◌, ◌≤◌, ◌<◌, length, map, All, IfOk};
 ghost use Rattle.std.specs.List.{AllPairs};
-ghost use Rattle.hz_base_model.specs.Limits.{latency_limit};
+ghost use Rattle.hz_mdread_model.specs.Limits.{latency_limit};
 ghost use Rattle.hz_depend.specs.GraphShape.{edge_of};
 ghost use Rattle.hz_depend.specs.Relaxing.{height_at, relaxed};
 

@@ -1,7 +1,7 @@
 //! The phases of `replay`, in their order: the description, its machine, the trace and its replay.
 
 ghost use Rattle.std.specs.Prelude.{◌≡◌, ℕ, ◌<◌, ◌≤◌, ◌^◌, length, slice_get, All};
-ghost use Rattle.hz_base_model.specs.Limits.{advance_limit};
+ghost use Rattle.hz_trace_model.specs.Limits.{advance_limit};
 ghost use Rattle.hz_acceptance_model.specs.Events.{issue, cycles_of, IsOfClass};
 ghost use Rattle.hz_answer_model.specs.Answers.{ReplaysDescription, Judges};
 ghost use Rattle.hz_answer_model.specs.TableAnswers.{Walks, WalksTrace};

@@ -1,6 +1,6 @@
 use Rattle.std.proofs.Common.{◌≡◌, ◌≤◌, ℕ, List, length, map, All, sym, ap, ◌∙◌, subst, arith}
 use Rattle.std.proofs.lemmas.List.{length-map}
-use Rattle.hz_base_model.specs.Limits.{advance_limit}
+use Rattle.hz_trace_model.specs.Limits.{advance_limit}
 use Rattle.hz_acceptance_model.specs.Events.{Event, IsOfClass, cycles_of}
 use Rattle.hz_mdread.specs.Shape.{options as options_of}
 use Rattle.hz_check_model.specs.CheckedParts.{ClassParts}

@@ -1,7 +1,8 @@
 use Rattle.std.proofs.Common.{◌≡◌, ℕ, ◌+◌, ◌/◌, ◌<◌, ◌≤◌, max, [], ◌∷◌, ◌++◌, List, length, map, take, Some, All, sym, ap, ◌∙◌, subst, arith, rules}
 use Rattle.std.specs.Prelude.{IsTrue, IfOk, IfErr}
 use Rattle.std.proofs.lemmas.Result.{err_from_is_err_and}
-use Rattle.hz_base_model.specs.Limits.{cycle_limit, size_limit}
+use Rattle.hz_base_model.specs.Limits.{cycle_limit}
+use Rattle.hz_altern_model.specs.Limits.{size_limit}
 use Rattle.hz_base_model.specs.Pairs.{Pair}
 use Rattle.hz_altern.specs.Answers.{Refuses}
 use Rattle.hz_regexp.specs.Shape.{expression, expressions}

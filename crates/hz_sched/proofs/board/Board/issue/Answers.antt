@@ -1,7 +1,7 @@
 use Rattle.std.proofs.Common.{◌<◌, ◌≤◌, ℕ, List, length, map, Contains, sym, ap, ◌∙◌, subst, arith}
 use Rattle.std.proofs.lemmas.List.{length-map}
 use Rattle.std.proofs.lemmas.List.Elements.{All-map, All-contains}
-use Rattle.hz_base_model.specs.Limits.{latency_limit}
+use Rattle.hz_mdread_model.specs.Limits.{latency_limit}
 use Rattle.hz_depend_model.specs.Graphs.{Edge}
 use Rattle.hz_depend.specs.GraphShape.{edge_of}
 use Rattle.hz_sched_model.specs.Schedules.{class_at}
