@@ -10,8 +10,8 @@ use Rattle.hz_base_model.specs.Lines.{place_of}
 use Rattle.hz_check_model.specs.Sites.{is_among}
 
 -- the first place of each name in the list is held
-abbrev pub IsPlaced : ByName ℕ → List (List ℕ) → Type 0
-IsPlaced table names = (name : List ℕ) → held table name ≡ place_of name names
+abbrev pub HoldsPlaces : ByName ℕ → List (List ℕ) → Type 0
+HoldsPlaces table names = (name : List ℕ) → held table name ≡ place_of name names
 
 -- the names of the list are held, and no others
 abbrev pub IsJust : ByName (Unit {0}) → List (List ℕ) → Type 0

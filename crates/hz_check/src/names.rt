@@ -3,7 +3,7 @@
 ghost use Rattle.std.specs.Prelude.{◌≡◌, map, List, ℕ};
 ghost use Rattle.hz_mdread.specs.Shape.{description};
 ghost use Rattle.hz_check.specs.Names.Held.{held};
-ghost use Rattle.hz_check.specs.Names.{IsPlaced, test_by, test_of};
+ghost use Rattle.hz_check.specs.Names.{HoldsPlaces, test_by, test_of};
 ghost use Rattle.hz_check.specs.Names.Homes.{AreHomes};
 ghost use Rattle.hz_check_model.specs.CheckFaults.{values_of};
 ghost use Rattle.hz_check_model.specs.Places.{class_names};
@@ -39,11 +39,11 @@ pub(crate) struct Names<'a> {
     pub classes: ByName<'a, usize>,
     /// For each attribute its values.
     pub values: ByName<'a, ByName<'a, ()>>,
-    ghost automata_placed: { IsPlaced automata (map (λ a. a.name) (description desc.now).automata) },
+    ghost automata_placed: { HoldsPlaces automata (map (λ a. a.name) (description desc.now).automata) },
     ghost homes_right: { AreHomes (description desc.now) homes },
-    ghost units_placed: { IsPlaced units (map (λ u. u.name) (description desc.now).units) },
-    ghost reservations_placed: { IsPlaced reservations (map (λ r. r.name) (description desc.now).reservations) },
-    ghost classes_placed: { IsPlaced classes (class_names (description desc.now)) },
+    ghost units_placed: { HoldsPlaces units (map (λ u. u.name) (description desc.now).units) },
+    ghost reservations_placed: { HoldsPlaces reservations (map (λ r. r.name) (description desc.now).reservations) },
+    ghost classes_placed: { HoldsPlaces classes (class_names (description desc.now)) },
     ghost values_right: { (name : List ℕ) → test_by (held values name) ≡ test_of (values_of (description desc.now).attributes name) },
 }
 
@@ -55,7 +55,7 @@ impl<'a> Names<'a> {
     ghost use Rattle.hz_mdread.specs.Shape.{description, unit_item};
     ghost use Rattle.hz_mdread_model.specs.DescriptionShape.{SharesAutomaton};
     ghost use Rattle.hz_check.specs.Names.Held.{held};
-    ghost use Rattle.hz_check.specs.Names.{IsPlaced, test_by, test_of};
+    ghost use Rattle.hz_check.specs.Names.{HoldsPlaces, test_by, test_of};
     ghost use Rattle.hz_check.specs.Names.Homes.{AreHomes, automaton_place};
     ghost use Rattle.hz_check_model.specs.CheckFaults.{is_unit, is_reservable, is_class, values_of, home};
     ghost use Rattle.hz_check_model.specs.Places.{class_names, automaton_number};

@@ -6,7 +6,7 @@ ghost use Rattle.hz_base_model.specs.Lines.{place_of};
 ghost use Rattle.hz_mdread.specs.Shape.{description};
 ghost use Rattle.hz_mdread_model.specs.DescriptionShape.{SharesAutomaton};
 ghost use Rattle.hz_mdread_model.specs.Descriptions as model;
-ghost use Rattle.hz_check.specs.Names.{IsPlaced};
+ghost use Rattle.hz_check.specs.Names.{HoldsPlaces};
 ghost use Rattle.hz_check.specs.Names.Homes.{AreHomes, automaton_place};
 
 use crate::names::by_name::ByName;
@@ -17,7 +17,7 @@ use std::collections::BTreeMap;
 
 /// The number of the automaton that a unit names, where it is defined.
 fn home_of<'a>(automata: &ByName<'a, usize>, unit: &'a UnitItem) -> Option<usize>
-    ensures { (d : model.Description) → IsPlaced automata.now (map (λ a. a.name) d.automata) → result ≡ automaton_place d unit.now.automaton }
+    ensures { (d : model.Description) → HoldsPlaces automata.now (map (λ a. a.name) d.automata) → result ≡ automaton_place d unit.now.automaton }
 {
     match &unit.automaton {
         Some(name) => automata.find(name).copied(),
@@ -32,7 +32,7 @@ pub(crate) fn homes_of<'a>(
     automata: &ByName<'a, usize>,
 ) -> Result<BTreeMap<u32, Option<usize>>, NoMemory>
     requires shared { AllPairs SharesAutomaton (description desc.now).units }
-    requires placed { IsPlaced automata.now (map (λ a. a.name) (description desc.now).automata) }
+    requires placed { HoldsPlaces automata.now (map (λ a. a.name) (description desc.now).automata) }
     ensures { IfOk result (AreHomes (description desc.now)) }
 {
     let mut homes = BTreeMap::new(alloc);

@@ -6,7 +6,7 @@ ghost use Rattle.std.specs.Str.{bytes_eq};
 ghost use Rattle.std.specs.Option.{option_copied};
 ghost use Rattle.hz_mdread.specs.Shape.{attribute_item};
 ghost use Rattle.hz_check.specs.Names.Held.{held, is_held};
-ghost use Rattle.hz_check.specs.Names.{IsPlaced, IsJust, test_by, test_of};
+ghost use Rattle.hz_check.specs.Names.{HoldsPlaces, IsJust, test_by, test_of};
 ghost use Rattle.hz_check.specs.Names.First.{first_of};
 ghost use Rattle.hz_check_model.specs.CheckFaults as model;
 
@@ -21,7 +21,7 @@ pub(crate) fn places_of<T: Defines>(
     alloc: Global,
     items: &[T],
 ) -> Result<ByName<'_, usize>, NoMemory>
-    ensures { IfOk result (λ table. IsPlaced table (map (λ i. (T.site i).name) items.now)) }
+    ensures { IfOk result (λ table. HoldsPlaces table (map (λ i. (T.site i).name) items.now)) }
 {
     let mut table = ByName::new(alloc);
     for (place, item) in items.iter().enumerate() {
