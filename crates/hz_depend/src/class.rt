@@ -4,6 +4,7 @@ ghost use Rattle.std.specs.Prelude.{◌≡◌, ◌<◌, ◌≤◌, length, map, 
 ghost use Rattle.std.specs.List.{find, list_any};
 ghost use Rattle.std.specs.Option.{option_map, option_copied};
 ghost use Rattle.std.specs.Str.{bytes_eq};
+ghost use Rattle.hz_base_model.specs.Limits.{class_limit};
 ghost use Rattle.hz_check.specs.Shape.{attribute_of};
 ghost use Rattle.hz_depend_model.specs.Classes as model;
 ghost use Rattle.hz_depend.specs.Faults.{fault};
@@ -83,7 +84,7 @@ fn one_class(
     given: &[(Name, Name)],
     defaults: &[(Name, Name)],
 ) -> Result<u32, ClassFault>
-    requires { length classes.now ≤ 1024 }
+    requires { length classes.now ≤ class_limit }
     ensures ok { IfOk result (λ class. model.the_one (model.holding_from 0 (value_of given.now defaults.now) (conditions_of classes.now)) ≡ Ok class) }
     ensures within { IfOk result (λ class. class < length classes.now) }
     ensures err { IfErr result (λ e. model.the_one (model.holding_from 0 (value_of given.now defaults.now) (conditions_of classes.now)) ≡ Err (fault e)) }

@@ -1,6 +1,7 @@
 -- How far a schedule has come. These words are only to prove with.
 use Rattle.std.specs.Prelude.{◌≡◌, ℕ, zero, suc, ◌+◌, ◌-◌, ◌<◌, ◌≤◌, true, is_some, if◌then◌else◌, List, [], ◌∷◌, ◌++◌, length, Option, Some}
 use Rattle.std.specs.List.{Contains, AllPairs}
+use Rattle.hz_mdread_model.specs.Limits.{latency_limit}
 use Rattle.hz_acceptance_model.specs.Events.{advance}
 use Rattle.hz_tables_model.specs.Machines.{Machine, machine_walk}
 use Rattle.hz_depend_model.specs.Graphs.{Edge}
@@ -24,7 +25,7 @@ left_below at (suc n) = (if is_some (at n) then 0 else 1) + left_below at n
 
 -- Edges lead upwards among the instructions, and their costs are small.
 pub record IsUpward (g : Graph) : Type 0 where
-  pub upward : (e : Edge) → Contains g.edges e → (e.from < e.to) × (e.to < length g.nodes) × (e.cost ≤ 1000)
+  pub upward : (e : Edge) → Contains g.edges e → (e.from < e.to) × (e.to < length g.nodes) × (e.cost ≤ latency_limit)
 
 -- The class of each instruction can be issued from the start.
 pub record AllStart (m : Machine) (g : Graph) : Type 0 where

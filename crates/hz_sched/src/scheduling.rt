@@ -52,7 +52,7 @@ fn issue_next<L: Ledger>(
     ensures present { OnOk result (board.new.cycle ≡ model.present 0 (slots_of board.new.slots.items)) }
     ensures fewer { OnOk result (suc (left_below (issued_at (slots_of board.new.slots.items)) (length graph.now.insns.items)) ≡ left_below (issued_at (slots_of board.old.slots.items)) (length graph.now.insns.items)) }
     ensures more { OnOk result (length board.new.slots.items ≡ length board.old.slots.items + 1) }
-    ensures soon { OnOk result (board.new.cycle ≤ board.old.cycle + 1256) }
+    ensures soon { OnOk result (board.new.cycle ≤ board.old.cycle + most_wait) }
 {
     for _wait in 0..MOST_WAIT {
         board.queue.ripen(graph, board.cycle)?;

@@ -10,9 +10,9 @@ use Rattle.hz_sched_model.specs.Schedules.{Graph}
 abbrev pub IsWalked : Machine → List Event → Type 0
 IsWalked m t = IsSome (machine_walk m t)
 
--- A machine settles: behind any events of its classes that it walks, 256 cycles more lead each part to its start.
+-- A machine settles: behind any events of its classes that it walks, `cycle_limit` cycles more lead each part to its start.
 pub record Settles (m : Machine) : Type 0 where
-  pub settles : (t : List Event) → All (IsOfClass (length m.classes)) t → IsWalked m t → machine_walk m (t ++ advance 256 ∷ []) ≡ Some (starts_of m)
+  pub settles : (t : List Event) → All (IsOfClass (length m.classes)) t → IsWalked m t → machine_walk m (t ++ advance cycle_limit ∷ []) ≡ Some (starts_of m)
 
 -- A schedule's issue comes at most so many cycles behind the one before it: then all waits are over, and the machine has settled.
 abbrev pub most_wait : ℕ

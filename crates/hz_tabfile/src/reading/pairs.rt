@@ -8,6 +8,7 @@ ghost use Rattle.hz_tabfile.specs.Judged.{Judges};
 use super::cutting::place;
 use super::numbers::number_below;
 use super::wrong::Wrong;
+use hz_grid::CYCLES;
 use hz_regexp::is_name;
 
 /// What stands before the first colon, or all where there is none.
@@ -42,5 +43,5 @@ pub fn has_unit(field: &[u8]) -> bool
 pub fn cycle(field: &[u8]) -> Result<u32, Wrong>
     ensures { Judges (λ cycle. cycle) result (model.cycle_in field.now) }
 {
-    number_below(before_colon(field), 256)
+    number_below(before_colon(field), CYCLES as u32)
 }
