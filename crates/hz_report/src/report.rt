@@ -1,6 +1,6 @@
 //! What the program answers, and its status.
 
-ghost use Rattle.std.specs.Prelude.{◌≡◌};
+ghost use Rattle.std.specs.Prelude.{◌≡◌, ◌≤◌};
 
 use super::kind::{ExpressionKind, InsnKind, Kind, NamedKind};
 use hz_auto::Compiled;
@@ -113,7 +113,8 @@ impl Report<'_> {
 
     /// The status that the program ends with, where the text is written whole.
     pub fn status(&self) -> u8
-        ensures { result ≡ status_of self.now }
+        ensures value { result ≡ status_of self.now }
+        ensures range { result ≤ 7 }
     {
         match self {
             Report::Accepted { .. } => 0,

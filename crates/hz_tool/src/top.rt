@@ -197,6 +197,7 @@ pub fn run<F: Files, S: Sink>(alloc: Global, words: &[String], files: &mut F, ou
     requires out { S.faults out.old < 2 ^ 64 - 1 }
 
     // When each status comes.
+    ensures range { result ≤ 7 }
     ensures sink { (result ≡ 7) ↔ (S.faults out.old < S.faults out.new) }
     ensures file { (result ≡ 6) ↔ ((F.faults files.old < F.faults files.new) × (S.faults out.new ≡ S.faults out.old)) }
     ensures lacks { ForSome (F.held files.old) (λ held. F.steady files.old → F.faults files.old < F.faults files.new → (text : List ℕ) × Answer (words_in words.now) held 6 text) }

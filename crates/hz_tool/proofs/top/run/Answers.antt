@@ -8,7 +8,7 @@ use Rattle.hz_tool.proofs.top.run.Goals as goal
 pub returns-in-Ok-clause-file_line : goal.returns-in-Ok-clause-file_line
 returns-in-Ok-clause-file_line g c = λ six. record {
   text = _;
-  says = says_file (words_in c.args.words.now) c.decide-report.result (sym c.status.ensures ∙ six) c.decide-report.ensures.file;
+  says = says_file (words_in c.args.words.now) c.decide-report.result (sym c.status.ensures.value ∙ six) c.decide-report.ensures.file;
   appended = c.in-Ok.ensures.appended;
 }
 
@@ -25,7 +25,7 @@ returns-clause-cut g c = λ held told seven. record {
 
 pub returns-in-Ok-clause-exact : goal.returns-in-Ok-clause-exact
 returns-in-Ok-clause-exact g c = λ held told same which status text a.
-    subst (λ (n : ℕ). (n ≡ status) ⊎ (n ≡ 5)) (sym c.status.ensures) (status_exact (words_in c.args.words.now) held c.decide-report.result (c.decide-report.ensures.answer held told which) status text a)
+    subst (λ (n : ℕ). (n ≡ status) ⊎ (n ≡ 5)) (sym c.status.ensures.value) (status_exact (words_in c.args.words.now) held c.decide-report.result (c.decide-report.ensures.answer held told which) status text a)
 
 pub returns-in-Ok-clause-lacks : goal.returns-in-Ok-clause-lacks
 returns-in-Ok-clause-lacks g c = λ held told steady more.
@@ -33,7 +33,7 @@ returns-in-Ok-clause-lacks g c = λ held told steady more.
 
 pub returns-in-Ok-clause-complete : goal.returns-in-Ok-clause-complete
 returns-in-Ok-clause-complete g c = λ held told same which.
-    subst (λ (n : ℕ). Completes (words_in c.args.words.now) held n (g.S.Sink.written c.args.out.now) (g.S.Sink.written c.write_report.new.out)) (sym c.status.ensures)
+    subst (λ (n : ℕ). Completes (words_in c.args.words.now) held n (g.S.Sink.written c.args.out.now) (g.S.Sink.written c.write_report.new.out)) (sym c.status.ensures.value)
     (completes (words_in c.args.words.now) held c.decide-report.result _ _ (c.decide-report.ensures.answer held told which) c.in-Ok.ensures.appended)
 
 pub returns-clause-lacks : goal.returns-clause-lacks
@@ -42,12 +42,12 @@ returns-clause-lacks g c = λ held told steady more.
 
 pub returns-in-Ok-clause-schedules : goal.returns-in-Ok-clause-schedules
 returns-in-Ok-clause-schedules g c = λ held told zero description block is.
-    appends_schedule (words_in c.args.words.now) held _ _ (g.F.Files.steady c.args.files.now) c.decide-report.result _ _ c.decide-report.ensures.counts (c.decide-report.ensures.answer held told) (sym c.status.ensures ∙ zero) description block is c.in-Ok.ensures.appended
+    appends_schedule (words_in c.args.words.now) held _ _ (g.F.Files.steady c.args.files.now) c.decide-report.result _ _ c.decide-report.ensures.counts (c.decide-report.ensures.answer held told) (sym c.status.ensures.value ∙ zero) description block is c.in-Ok.ensures.appended
 
 pub returns-in-Ok-clause-tables : goal.returns-in-Ok-clause-tables
 returns-in-Ok-clause-tables g c = λ held told zero description is.
-    appends_tables (words_in c.args.words.now) held _ _ (g.F.Files.steady c.args.files.now) c.decide-report.result _ _ c.decide-report.ensures.counts (c.decide-report.ensures.answer held told) (sym c.status.ensures ∙ zero) description is c.in-Ok.ensures.appended
+    appends_tables (words_in c.args.words.now) held _ _ (g.F.Files.steady c.args.files.now) c.decide-report.result _ _ c.decide-report.ensures.counts (c.decide-report.ensures.answer held told) (sym c.status.ensures.value ∙ zero) description is c.in-Ok.ensures.appended
 
 pub returns-in-Ok-clause-drills : goal.returns-in-Ok-clause-drills
 returns-in-Ok-clause-drills g c = λ held told zero description number turns is.
-    appends_drill (words_in c.args.words.now) held _ _ (g.F.Files.steady c.args.files.now) c.decide-report.result _ _ c.decide-report.ensures.counts (c.decide-report.ensures.answer held told) (sym c.status.ensures ∙ zero) description number turns is c.in-Ok.ensures.appended
+    appends_drill (words_in c.args.words.now) held _ _ (g.F.Files.steady c.args.files.now) c.decide-report.result _ _ c.decide-report.ensures.counts (c.decide-report.ensures.answer held told) (sym c.status.ensures.value ∙ zero) description number turns is c.in-Ok.ensures.appended
