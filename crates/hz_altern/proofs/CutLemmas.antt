@@ -1,5 +1,5 @@
 -- Alternatives cut down to an automaton, as lists and as grids.
-use Rattle.std.proofs.Common.{◌≡◌, ◌↔◌, ℕ, ◌+◌, ◌<◌, ◌⊎◌, nat_lt, Bool, true, false, cond, ◌&&◌, ◌||◌, ◌==◌, not, List, [], ◌∷◌, ◌++◌, length, map, filter, take, get_or, All, Contains, refl, sym, ap, ◌∙◌, subst, arith, IsTrue}
+use Rattle.std.proofs.Common.{◌≡◌, ◌↔◌, ℕ, ◌+◌, ◌<◌, Bool, true, false, cond, ◌&&◌, ◌||◌, ◌==◌, not, List, [], ◌∷◌, ◌++◌, length, map, filter, take, get_or, All, Contains, refl, sym, ap, ◌∙◌, subst, arith, IsTrue}
 use Rattle.std.specs.List.{AllPairs, list_any}
 use Rattle.std.specs.Cmp.Lexicographic.{pointwise}
 use Rattle.std.specs.declared.alloc.Global.{Global}
@@ -18,7 +18,7 @@ use Rattle.hz_altern.specs.Shapes.{alternative_of, alternatives}
 use Rattle.hz_base_model.specs.Pairs.{Pair, precedes_by, IsAscendingBy, grid_eq}
 use Rattle.hz_altern_model.specs.AlternativeLists.{IsAscending}
 use Rattle.hz_altern_model.specs.Automata.{UnitPlace, ascending, is_of, inside, cut, list_in}
-use Rattle.hz_base_model.proofs.Ascending.{AllPairs-map, same_from_ascending}
+use Rattle.hz_base_model.proofs.Ascending.{AllPairs-map}
 use Rattle.hz_altern_model.proofs.AscendingLaws.{Precedes, pair_at, IsAscending-ascending, Contains-ascending, Contains-from_ascending}
 use Rattle.hz_base_model.proofs.Elements.{Contains-map, Contains-from_map, Contains-filter, Contains-from_filter}
 use Rattle.hz_altern_model.proofs.PlacedLaws.{All-ascending}

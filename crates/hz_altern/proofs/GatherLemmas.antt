@@ -10,7 +10,6 @@ use Rattle.hz_base_model.specs.Pairs.{Pair, placed, later}
 use Rattle.hz_base_model.proofs.Elements.{Contains-nil, Contains-map, Contains-from_map}
 use Rattle.hz_cycles.specs.declared.cycles.Cycles.{Cycles}
 use Rattle.hz_altern.specs.declared.known.Known.{Known}
-use Rattle.hz_altern.specs.Shapes.{alternatives}
 use Rattle.hz_altern.specs.declared.listing.leaves.Leaves.{Leaves}
 use Rattle.hz_altern.specs.Leaves.{all_pairs, BeginsIn, Begins, BeginsInCopy, AddsCopies, Takes, AllEndBy, IsGathered}
 use Rattle.hz_altern.specs.Tables.{alternatives_in, known_alternatives, is_held}

@@ -1,9 +1,6 @@
 -- The machine that is compiled of automata and classes, and what is told of it. Bala and Rubin, 'Efficient Instruction
 -- Scheduling Using Finite State Automata', MICRO-28; the limits and what is told are this profile's, docs/RULES.md.
 use Rattle.std.specs.Prelude.{◌≡◌, ℕ, ◌<◌, ◌⊎◌, Bool, false, ◌&&◌, MatchBool, List, [], Option, Some, None, IsSomeAnd, IsSorted, length, map, All, slice_index_or}
-use Rattle.std.specs.declared.cmp.Ordering.{Ordering}
-use Rattle.std.specs.Ordering.{nat_cmp, on, then_cmp}
-use Rattle.std.specs.Cmp.Lexicographic.{slice_cmp}
 use Rattle.hz_base_model.specs.Pairs.{Pair, grid_cmp}
 use Rattle.hz_acceptance_model.specs.Events.{Event, IsOfClass}
 use Rattle.hz_acceptance_model.specs.Replay.{Pipeline}

@@ -1,6 +1,5 @@
 -- What holds of the parts of every description without a fault.
 use Rattle.std.proofs.Common.{◌≡◌, ◌≢◌, ℕ, zero, suc, ◌+◌, ◌<◌, ◌≤◌, ◌⊎◌, inl, inr, ⊎_elim, Bool, true, false, List, [], ◌∷◌, ◌++◌, length, map, filter, drop, Contains, All, Option, Some, None, get_or, slice_get, refl, sym, ap, ◌∙◌, subst, arith}
-use Rattle.std.specs.Cmp.Lexicographic.{pointwise}
 use Rattle.std.specs.List.{flat_map, filter_map, range_with_len, position, position_or_len, AllPairs, list_any, list_all, AllZip}
 use Rattle.std.specs.Option.{IsSome}
 use Rattle.std.specs.Prelude.{nat_lt, ◌||◌, ◌==◌, cond, is_some, not, codes, ◌&&◌, IsTrue, max}

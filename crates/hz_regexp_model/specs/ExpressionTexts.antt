@@ -4,7 +4,7 @@ use Rattle.std.specs.Prelude.{◌≡◌, ℕ, ◌+◌, ◌-◌, Bool, true, fals
 use Rattle.std.specs.Char.{is_ascii_whitespace}
 use Rattle.std.specs.List.{fold, prefix_len}
 use Rattle.std.specs.Str.{bytes_eq}
-use Rattle.hz_altern_model.specs.Alternatives.{Expression, named, nothing, sequence, one_of, all_of, repeat, Parts, none, parts_of}
+use Rattle.hz_altern_model.specs.Alternatives.{Expression, named, nothing, sequence, one_of, all_of, repeat, Parts, parts_of}
 use Rattle.hz_base_model.specs.Lines.{number_of}
 use Rattle.hz_altern_model.specs.Limits.{repeat_limit}
 use Rattle.hz_base_model.specs.Names.{is_name_byte}

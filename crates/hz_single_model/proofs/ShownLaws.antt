@@ -1,18 +1,12 @@
 -- What is shown of the states of a part is determined, but for how the pairs of a grid are listed.
-use Rattle.std.proofs.Common.{Ordering, ◌≡◌, ◌≢◌, inl, inr, ℕ, zero, suc, ◌<◌, List, [], length, get_or, Contains, All, Some, refl, sym, ap, ◌∙◌, subst, arith}
+use Rattle.std.proofs.Common.{◌≡◌, ◌≢◌, ℕ, zero, suc, ◌<◌, List, [], length, get_or, Contains, All, Some, sym, ap, ◌∙◌, subst, arith}
 use Rattle.std.specs.Prelude.{slice_index_or}
 use Rattle.std.specs.List.{AllPairs}
 use Rattle.std.specs.List.Sorted.{IsSorted}
-use Rattle.std.specs.Cmp.{IsTotalOrder}
-use Rattle.std.specs.FinMap.{IsAntisymmetric, nat_cmp-IsAntisymmetric, slice_cmp-IsAntisymmetric}
-use Rattle.std.specs.Ordering.{nat_cmp, on, then_cmp}
-use Rattle.std.specs.Cmp.Lexicographic.{lists_total}
-use Rattle.std.specs.declared.cmp.Ordering.TheVariants.{Less, Equal, Greater}
-use Rattle.std.proofs.lemmas.Cmp.{nat_cmp_total, on_total, then_total}
+use Rattle.std.specs.Ordering.{nat_cmp}
 use Rattle.std.proofs.lemmas.List.{ext_get_or}
 use Rattle.std.proofs.lemmas.List.Elements.{All-contains}
 use Rattle.hz_base_model.specs.Pairs.{Pair, SamePairs, IsAscendingBy, grid_cmp}
-use Rattle.hz_base_model.proofs.Ascending.{same_from_ascending}
 use Rattle.hz_acceptance_model.specs.Replay.{Pipeline}
 use Rattle.hz_tables_model.specs.Tables.{Table, walk, IsTable, IsReached}
 use Rattle.hz_tables_model.specs.Orders.{IsFirstRead, place_of, IsBreadthFirst}

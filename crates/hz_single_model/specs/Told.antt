@@ -1,5 +1,5 @@
 -- What two reports have in common that are told of one machine. Grids are sets of pairs.
-use Rattle.std.specs.Prelude.{◌≡◌, ◌⊎◌, ℕ, ◌<◌, List, [], None, MatchOption, IsSomeAnd, All, length, slice_index_or}
+use Rattle.std.specs.Prelude.{◌≡◌, ℕ, ◌<◌, List, [], None, MatchOption, IsSomeAnd, All, length, slice_index_or}
 use Rattle.std.specs.Option.{ForSome}
 use Rattle.std.specs.Ordering.{nat_cmp}
 use Rattle.hz_base_model.specs.Pairs.{IsAscendingBy}

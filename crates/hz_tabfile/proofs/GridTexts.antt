@@ -1,7 +1,7 @@
 -- The pairs of a grid, cycle by cycle.
-use Rattle.std.proofs.Common.{◌≡◌, ℕ, zero, suc, ◌+◌, ◌<◌, ◌≤◌, Bool, true, false, ◌==◌, inl, inr, ⊎_elim, ◌↔◌, List, [], ◌∷◌, ◌++◌, length, map, filter, Contains, All, if◌then◌else◌, refl, sym, ap, subst, ◌∙◌, arith, IsTrue}
+use Rattle.std.proofs.Common.{◌≡◌, ℕ, zero, suc, ◌+◌, ◌<◌, ◌≤◌, Bool, true, false, ◌==◌, inl, ⊎_elim, ◌↔◌, List, [], ◌∷◌, ◌++◌, length, map, filter, Contains, All, if◌then◌else◌, refl, sym, ap, subst, ◌∙◌, arith, IsTrue}
 use Rattle.std.specs.Prelude.{slice_index_or}
-use Rattle.std.specs.List.{flat_map, range_with_len, AllPairs}
+use Rattle.std.specs.List.{flat_map, range_with_len}
 use Rattle.std.proofs.lemmas.Bool.{eqb-true, eq-eqb}
 use Rattle.std.proofs.lemmas.List.{append_assoc}
 use Rattle.std.proofs.lemmas.List.Kept.{AllPairs-filter}
