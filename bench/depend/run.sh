@@ -13,8 +13,7 @@ rt() {
 }
 
 build_program depending bench/depend/depending.rt.in 'hz_mdread_model hz_sexp hz_mdread hz_check hz_rtl hz_depend' 'all 16 graph' \
-    hz_base_model hz_sexp_model hz_altern_model hz_regexp_model hz_split_model hz_acceptance_model hz_mdread_model hz_check_model hz_rtl_model hz_rtltext_model hz_depend_model \
-    hz_sexp hz_grid hz_unitsets hz_regexp hz_mdread hz_altern hz_unfold hz_expand hz_split hz_check hz_rtl hz_depend
+    $(below hz_depend)
 depending=$room/crates/depending/out/depending
 
 echo "kind instructions edges ms doubling ns_a_pair peak_kb"

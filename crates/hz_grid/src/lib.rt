@@ -6,4 +6,4 @@ mod order;
 mod rows;
 
 pub use grids::{CYCLES, Grid, NoMemory};
-pub use rows::{Row, UNITS};
+pub use rows::{Row, UNITS, rows_are_sets_of_units};

@@ -90,3 +90,8 @@ impl Row {
         }
     }
 }
+
+/// Rows with the same units are equal.
+pub fn rows_are_sets_of_units()
+    ensures { (first second : ℕ) → ((unit : ℕ) → HasUnit first unit ↔ HasUnit second unit) → first ≡ second }
+{}
