@@ -12,13 +12,10 @@ mod projecting;
 
 pub use alternative::{Alt, Pair};
 pub use extents::Extents;
-pub use extents::counting::extent;
+pub use extents::counting::{Held, extent};
 pub use extents::measure::{ALTERNATIVE_LIMIT, CYCLE_LIMIT, Extent};
 pub use fault::{AlternFault, NoMemory};
 pub use known::Known;
 pub use listing::SIZE_LIMIT;
 pub use listing::expanding::{expand, expand_within};
 pub use projecting::project;
-
-#[cfg(test)]
-mod tests;

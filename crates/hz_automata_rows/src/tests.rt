@@ -5,6 +5,7 @@ ghost use Rattle.hz_automata_rows.specs.Examples.{shared};
 ghost use Rattle.hz_tables.specs.Parts.{part_of};
 ghost use Rattle.hz_tables_model.specs.Machines.{IsPart};
 
+mod alternatives;
 mod automata;
 mod cycles;
 mod explored;

@@ -9,10 +9,9 @@ ghost use Rattle.hz_altern_model.specs.Alternatives.{parts_of};
 ghost use Rattle.hz_altern_model.specs.NamesIn.{all_names, all_names_in};
 ghost use Rattle.hz_regexp.specs.Shape.{expression, expressions};
 
-use crate::extents::counting::Held;
-use crate::{
-    Alt, AlternFault, Extent, Extents, Known, Pair, SIZE_LIMIT, expand, expand_within, extent,
-    project,
+use hz_altern::{
+    Alt, AlternFault, Extent, Extents, Held, Known, Pair, SIZE_LIMIT, expand, expand_within,
+    extent, project,
 };
 use hz_grid::Grid;
 use hz_regexp::{Expr, Name, parse_expr};

@@ -1,6 +1,6 @@
 use Rattle.std.proofs.Common.{◌+◌, ◌*◌}
 use Rattle.hz_altern.proofs.Nodes.{nodes, all_nodes}
-use Rattle.hz_altern.proofs.tests.+names.Given as goal
+use Rattle.hz_automata_rows.proofs.tests.alternatives.+names.Given as goal
 
 abbrev pub decreases-holds : goal.decreases-holds
 decreases-holds g l = 2 * nodes l.expr.now
