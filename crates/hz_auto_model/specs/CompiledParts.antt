@@ -4,7 +4,7 @@ use Rattle.std.specs.Prelude.{◌≡◌, ◌↔◌, ℕ, ◌<◌, Bool, List, Is
 use Rattle.hz_base_model.specs.Pairs.{Pair}
 use Rattle.hz_acceptance_model.specs.Events.{Event, IsOfClass}
 use Rattle.hz_acceptance_model.specs.Replay.{Pipeline, Accepted}
-use Rattle.hz_tables_model.specs.StateLimits.{grid_limit, state_limit, member_limit, cell_limit}
+use Rattle.hz_tables_model.specs.StateLimits.{grid_limit, state_limit, member_limit, cell_limit, shown_limit, shown_member_limit}
 use Rattle.hz_tables_model.specs.Tables.{IsReached}
 use Rattle.hz_tables_model.specs.Machines.{Part, part_walk}
 use Rattle.hz_tables_model.specs.Orders.{IsBreadthFirst}
@@ -33,9 +33,9 @@ HasColumns lists n = (columns : List (List (List (Pair ℕ)))) × (map : List �
 
 -- The limits of a count: smaller ones where each state's reservations are to be shown.
 abbrev pub cap_of : (shown : Bool) → Count → ℕ
-cap_of shown grids = if shown then 4096 else grid_limit
-cap_of shown states = if shown then 4096 else state_limit
-cap_of shown members = if shown then 65536 else member_limit
+cap_of shown grids = if shown then shown_limit else grid_limit
+cap_of shown states = if shown then shown_limit else state_limit
+cap_of shown members = if shown then shown_member_limit else member_limit
 cap_of shown cells = cell_limit
 
 -- every count of an automaton with these lists is within its limit

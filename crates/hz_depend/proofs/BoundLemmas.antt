@@ -6,7 +6,7 @@ use Rattle.std.proofs.lemmas.List.{length-map}
 use Rattle.std.proofs.lemmas.List.Elements.{All-map, All-drop}
 use Rattle.hz_base_model.proofs.Ascending.{AllPairs-map}
 use Rattle.hz_check.proofs.Lists.InOrder.{AllPairs-drop}
-use Rattle.hz_depend.specs.declared.building.nodes.Node.{Node}
+use Rattle.hz_depend.specs.declared.nodes.Node.{Node}
 use Rattle.hz_depend.specs.declared.parts.Edge.{Edge}
 use Rattle.hz_depend.specs.GraphShape.{edge_of}
 use Rattle.hz_depend.specs.Relaxing.{height_at, relaxed}

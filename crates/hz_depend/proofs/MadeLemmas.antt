@@ -9,7 +9,7 @@ use Rattle.hz_rtl.specs.declared.block.Insn.{Insn}
 use Rattle.hz_check.specs.declared.checked.Checked.{Checked}
 use Rattle.hz_check.specs.declared.checked.CheckedBypass.{CheckedBypass}
 use Rattle.hz_check.specs.Shape.{bypass_of}
-use Rattle.hz_depend.specs.declared.building.nodes.Node.{Node}
+use Rattle.hz_depend.specs.declared.nodes.Node.{Node}
 use Rattle.hz_depend.specs.declared.parts.Edge.{Edge}
 use Rattle.hz_depend.specs.declared.parts.Graph.{Graph}
 use Rattle.hz_depend.specs.declared.parts.GraphInsn.{GraphInsn}
@@ -24,6 +24,7 @@ use Rattle.hz_depend.proofs.FoundLemmas.{Before, all_before}
 use Rattle.hz_depend.proofs.HeightLemmas.{heights_are}
 use Rattle.hz_depend.proofs.BoundLemmas.{latencies_in, small_latency, all_up, all_ordered, sums_length}
 use Rattle.hz_depend.proofs.GraphLemmas.{map_map, all_of, bypasses, numbers, all, graph_is, edge_is, small}
+use Rattle.hz_rtl_model.specs.Limits.{instruction_limit}
 
 -- The instructions and the edges that are found of a block.
 pub record Made (checked : Checked) (insns : List Insn) (nodes : List Node) (edges : List Edge) : Type 0 where
@@ -140,7 +141,7 @@ module _ (checked : Checked) (block : Block) (nodes : List Node) (sums : List (O
       ordered : AllPairs (λ a b. a.from < b.to) g.edges.items
       ordered = edges_ordered checked insns nodes g.edges.items m
 
-  pub is_schedulable : (n : ℕ) → length insns ≤ 4096 → All (λ k. k.class < n) nodes → IsSchedulable n g
+  pub is_schedulable : (n : ℕ) → length insns ≤ instruction_limit → All (λ k. k.class < n) nodes → IsSchedulable n g
   is_schedulable n few within = record {
     few = let a = ap length same_numbers in let b = length-map g.insns.items (λ (i : GraphInsn). i.number) in let c = length-map insns (λ (i : Insn). i.number) in omega arith;
     classes = all_of (λ (c : ℕ). c < n) (λ (i : GraphInsn). i.class) g.insns.items (λ c h. All-contains (λ (c : ℕ). c < n) classes_in c (rw same_classes (All-map (λ (c : ℕ). c < n) (λ (k : Node). k.class) nodes within)) h);

@@ -15,6 +15,7 @@ use Rattle.hz_depend.specs.Shape.{class_for}
 use Rattle.hz_depend_model.specs.Classes.{ClassFault, timing_of}
 use Rattle.hz_depend_model.specs.Dependences.{Timing}
 use Rattle.hz_depend_model.specs.Graphs as model
+use Rattle.hz_rtl_model.specs.Limits.{instruction_limit}
 
 abbrev pub edge_of : Edge → model.Edge
 edge_of e = record { from = e.from; to = e.to; cost = e.cost }
@@ -42,7 +43,7 @@ pub record IsGraphOf (checked : Checked) (block : Block) (graph : Graph) : Type 
 -- What a list scheduler asks of a graph: few instructions, classes in range, edges that lead upwards, and no cost or latency that
 -- is too great.
 pub record IsSchedulable (class_count : ℕ) (graph : Graph) : Type 0 where
-  pub few : length graph.insns.items ≤ 4096
+  pub few : length graph.insns.items ≤ instruction_limit
   pub classes : All (λ i. i.class < class_count) graph.insns.items
   pub latencies : All (λ i. i.latency ≤ latency_limit) graph.insns.items
   pub edges : All (λ e. (e.from < e.to) × (e.to < length graph.insns.items) × (e.cost ≤ latency_limit)) graph.edges.items

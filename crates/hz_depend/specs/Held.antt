@@ -6,7 +6,7 @@ use Rattle.hz_rtl.specs.declared.block.Insn.{Insn}
 use Rattle.hz_rtl.specs.Shape.{instruction}
 use Rattle.hz_check.specs.declared.checked.Checked.{Checked}
 use Rattle.hz_check_model.specs.CheckedParts.{BypassParts}
-use Rattle.hz_depend.specs.declared.building.nodes.Node.{Node}
+use Rattle.hz_depend.specs.declared.nodes.Node.{Node}
 use Rattle.hz_depend.specs.Cells.{cells}
 use Rattle.hz_depend.specs.Shape.{class_for}
 use Rattle.hz_depend.specs.GraphShape.{latencies_of}

@@ -3,11 +3,12 @@
 ghost use Rattle.std.specs.Prelude.{◌≡◌, ◌≤◌, ◌<◌, ℕ, List, length, map, slice_index, IfOk};
 ghost use Rattle.hz_depend.specs.GraphShape.{IsGraphOf, IsSchedulable, class_fault_in, first_class_fault};
 ghost use Rattle.hz_depend.specs.Relaxing.{height_at};
+ghost use Rattle.hz_rtl_model.specs.Limits.{instruction_limit};
 
 use crate::building::edges::edges_of;
 use crate::building::heights::{height_at, sums_of};
-use crate::building::nodes::{Node, first_class_fault, nodes_of};
 use crate::fault::DependFault;
+use crate::nodes::{Node, first_class_fault, nodes_of};
 use crate::parts::{Graph, GraphInsn};
 use hz_check::Checked;
 use hz_regexp::NoMemory;
@@ -16,7 +17,6 @@ use std::alloc::Global;
 
 pub(crate) mod edges;
 pub(crate) mod heights;
-pub(crate) mod nodes;
 
 /// The instructions of a graph.
 fn insns_of(
@@ -50,7 +50,7 @@ fn insns_of(
 /// The dependence graph of a block of at most 4,096 instructions: one edge for each dependence, with its cost in cycles, and
 /// heights. The first instruction in the order of the source whose class is wrong is told.
 pub fn graph(alloc: Global, checked: &Checked, block: &Block) -> Result<Graph, DependFault>
-    requires { length block.now.insns.items ≤ 4096 }
+    requires { length block.now.insns.items ≤ instruction_limit }
     ensures graph { IfOk result (λ graph. IsGraphOf checked.now block.now graph) }
     ensures schedulable { IfOk result (λ graph. IsSchedulable (length checked.now.classes.items) graph) }
     ensures fault { class_fault_in result ≡ first_class_fault 0 checked.now block.now.insns.items }

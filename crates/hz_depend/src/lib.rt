@@ -5,6 +5,7 @@ mod building;
 mod class;
 mod fault;
 mod finding;
+mod nodes;
 mod parts;
 
 pub use building::graph;

@@ -2,8 +2,8 @@
 
 ghost use Rattle.std.specs.Prelude.{◌<◌, ◌≤◌, ◌^◌, length};
 
-use crate::building::nodes::{Node, first_class_fault, nodes_of};
 use crate::finding::pairs::{REGISTERS, cost};
+use crate::nodes::{Node, first_class_fault, nodes_of};
 use crate::{DependFault, Edge, Graph, class_of, graph};
 use hz_check::{Checked, CheckedBypass, check};
 use hz_mdread::read_description;

@@ -8,9 +8,9 @@ use Rattle.std.proofs.lemmas.List.{get_or_past, ext_get_or}
 use Rattle.std.proofs.lemmas.List.Elements.{Contains-append_left, Contains-append_right, Contains-append_cases, Contains-get_or}
 use Rattle.std.proofs.lemmas.List.Kept.{AllPairs-filter}
 use Rattle.std.proofs.lemmas.Slice.Eq.{slice_eq-Decides}
-use Rattle.hz_base_model.specs.Pairs.{Pair, precedes_by, IsAscendingBy, grid_eq}
+use Rattle.hz_base_model.specs.Pairs.{Pair, precedes_by, IsAscendingBy, grid_eq, SamePairs}
 use Rattle.hz_grid.specs.Rows.{has_unit, HasUnit}
-use Rattle.hz_grid.specs.Grids.{Holds, IsGrid, HasSamePairs}
+use Rattle.hz_grid.specs.Grids.{Holds, IsGrid}
 use Rattle.hz_grid.specs.Hashes.{grid_eq-Decides}
 use Rattle.hz_grid.specs.Stored.{IsSet, units_of, row_pairs, pairs_from, IsRows}
 use Rattle.hz_grid.proofs.Units.{HasUnit-zero, same_from_units}
@@ -118,7 +118,7 @@ IsGrid-pairs_from rows is = record {
 -- ---- equal grids
 
 -- grids with the same pairs are equal
-pub same_grids : (first second : List (Pair ℕ)) → IsGrid first → IsGrid second → HasSamePairs first second → first ≡ second
+pub same_grids : (first second : List (Pair ℕ)) → IsGrid first → IsGrid second → SamePairs first second → first ≡ second
 same_grids first second a b same =
     grid_one first second a.ascending b.ascending same
 
@@ -155,7 +155,7 @@ pub grid_eq-rows : (a b : List ℕ) → IsRows a → IsRows b → (r : Bool) →
 grid_eq-rows a b is_a is_b r e =
     same_from_decides r _ (same_from_rows a b is_a is_b r e) (grid_eq-Decides (pairs_from 0 a) (pairs_from 0 b))
 
-pub sets_from_rows : (a b : List ℕ) → IsRows a → IsRows b → (r : Bool) → r ≡ pointwise nat_eq a b → IsTrue r ↔ HasSamePairs (pairs_from 0 a) (pairs_from 0 b)
+pub sets_from_rows : (a b : List ℕ) → IsRows a → IsRows b → (r : Bool) → r ≡ pointwise nat_eq a b → IsTrue r ↔ SamePairs (pairs_from 0 a) (pairs_from 0 b)
 sets_from_rows a b is_a is_b r e =
     let equal = same_from_rows a b is_a is_b r e in (
       λ t p. let same = equal.0 t in (λ h. rw same at h, λ h. rw same h),

@@ -32,10 +32,6 @@ IsUnion first second union = (p : Pair ℕ) → Contains union p ↔ (Contains f
 abbrev pub IsAdvanced : List (Pair ℕ) → List (Pair ℕ) → Type 0
 IsAdvanced old new = (p : Pair ℕ) → Contains new p ↔ Contains old (later 1 p)
 
--- a pair is in the one grid exactly where it is in the other
-abbrev pub HasSamePairs : List (Pair ℕ) → List (Pair ℕ) → Type 0
-HasSamePairs first second = (p : Pair ℕ) → Contains first p ↔ Contains second p
-
 -- `==` on grids is an equivalence
 pub grid_eq-laws : IsEquivalence grid_eq
 grid_eq-laws = lists_equiv (and_equiv (on_equiv (λ (p : Pair ℕ). p.unit) nat_eq_equiv) (on_equiv (λ (p : Pair ℕ). p.cycle) nat_eq_equiv))

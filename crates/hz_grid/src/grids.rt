@@ -128,8 +128,8 @@ impl Grid {
 impl PartialEq for Grid {
     ghost use Rattle.std.specs.Prelude.{◌≡◌, ◌↔◌, IsTrue, nat_eq};
     ghost use Rattle.std.specs.Cmp.{partial_equiv_from_equiv};
-    ghost use Rattle.hz_grid.specs.Grids.{HasSamePairs, grid_eq-laws};
-    ghost use Rattle.hz_base_model.specs.Pairs.{grid_eq};
+    ghost use Rattle.hz_grid.specs.Grids.{grid_eq-laws};
+    ghost use Rattle.hz_base_model.specs.Pairs.{SamePairs, grid_eq};
 
     ghost eq = { grid_eq };
 
@@ -138,7 +138,7 @@ impl PartialEq for Grid {
     fn eq(&self, other: &Grid) -> bool
         ensures same { result ≡ grid_eq self.now other.now }
         ensures equal { IsTrue result ↔ (self.now ≡ other.now) }
-        ensures pairs { IsTrue result ↔ HasSamePairs self.now other.now }
+        ensures pairs { IsTrue result ↔ SamePairs self.now other.now }
     {
         self.rows == other.rows
     }

@@ -1,12 +1,8 @@
 -- Traces that are drawn over a machine.
 use Rattle.std.specs.Prelude.{IsSome, List}
 use Rattle.hz_acceptance_model.specs.Events as events
-use Rattle.hz_tables_model.specs.Machines.{Machine, machine_walk, parts_walk}
+use Rattle.hz_tables_model.specs.Machines.{parts_walk}
 use Rattle.hz_replay.specs.Replaying.{Standing}
-
--- the machine walks these events
-abbrev pub IsWalked : Machine → List events.Event → Type 0
-IsWalked m t = IsSome (machine_walk m t)
 
 -- the machine walks these events from where its parts stand
 abbrev pub WalksFrom : Standing → List events.Event → Type 0

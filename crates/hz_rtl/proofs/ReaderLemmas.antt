@@ -12,6 +12,7 @@ use Rattle.hz_rtltext_model.proofs.Numbers.{all_few}
 use Rattle.hz_rtl.specs.declared.block.Insn.{Insn}
 use Rattle.hz_rtl.specs.Shape.{instruction}
 use Rattle.hz_rtl.proofs.EffectLemmas.{forms_from}
+use Rattle.hz_rtl_model.specs.Limits.{instruction_limit}
 
 pub has_number_is : (insns : List Insn) (number : ℕ) → model.has_number (map instruction insns) number ≡ list_any (λ i. i.number == number) insns
 has_number_is [] number = refl
@@ -43,7 +44,7 @@ module _ (forms : List Form) (i : ℕ) (form : Form) (inside : i < length forms)
 pub instructions_end : (forms : List Form) (i : ℕ) (before : List Instruction) → length forms ≤ i → model.instructions_after before (trees (drop i forms)) ≡ model.instructions_after [] (trees forms) → model.instructions_after [] (trees forms) ≡ Ok before
 instructions_end forms i before past so = sym so ∙ ap (λ (fs : List Form). model.instructions_after before (trees fs)) (drop_all i forms past)
 
-pub few_read : (forms : Trees) (insns : List Insn) → model.Reads forms (map instruction insns) → length insns ≤ model.instruction_limit
+pub few_read : (forms : Trees) (insns : List Insn) → model.Reads forms (map instruction insns) → length insns ≤ instruction_limit
 few_read forms insns is =
     let few = all_few [] forms (map instruction insns) (omega arith) is in
     let long = length-map insns instruction in

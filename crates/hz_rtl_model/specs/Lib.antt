@@ -1,3 +1,4 @@
 pub mod Operators
 pub mod Blocks
 pub mod States
+pub mod Limits

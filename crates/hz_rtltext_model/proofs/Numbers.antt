@@ -9,7 +9,8 @@ use Rattle.hz_base_model.proofs.Elements.{Contains-nil, Contains-cons_cases}
 use Rattle.hz_sexp_model.specs.Trees.{Tree, Trees, list, atom, none, more, line_of}
 use Rattle.hz_rtl_model.specs.Blocks.{Instruction}
 use Rattle.hz_rtltext_model.specs.Operands.{Judged, RtlFault, insn_limit, and_then, unless_twice, number_in}
-use Rattle.hz_rtltext_model.specs.BlockForms.{has_number, pattern_of, attributes_after, instruction_with, instruction_of, next_instruction, instructions_after, instruction_limit}
+use Rattle.hz_rtltext_model.specs.BlockForms.{has_number, pattern_of, attributes_after, instruction_with, instruction_of, next_instruction, instructions_after}
+use Rattle.hz_rtl_model.specs.Limits.{instruction_limit}
 
 -- what leads to a good value is good
 pub ok_of : {A B : Type 0} → (judged : Judged A) (next : A → Judged B) (y : B) → and_then judged next ≡ Ok y → (x : A) × (judged ≡ Ok x) × (next x ≡ Ok y)

@@ -6,6 +6,7 @@ use Rattle.hz_sexp_model.specs.Trees.{Tree, Trees, vector, none, more, line_of, 
 use Rattle.hz_rtl_model.specs.Blocks.{Effect, Instruction}
 use Rattle.hz_rtltext_model.specs.Operands.{Judged, RtlFault, bad_shape, insn_limit, and_then, unless_twice, by_head, number_in, name_in}
 use Rattle.hz_rtltext_model.specs.Values.{effect_of, effect_headed}
+use Rattle.hz_rtl_model.specs.Limits.{instruction_limit}
 
 -- effects from left to right
 abbrev pub effects_of : Trees → Judged (List Effect)
@@ -72,10 +73,6 @@ instruction_with before line operands = Err (bad_shape, line)
 abbrev pub instruction_of : List Instruction → Tree → Judged Instruction
 instruction_of before form =
     by_head (λ line word operands. if bytes_eq word (codes "insn") then instruction_with before line operands else Err (bad_shape, line)) form
-
--- how many instructions a block may have
-abbrev pub instruction_limit : ℕ
-instruction_limit = 4096
 
 -- the next instruction of a block; a form behind the last that may stand is wrong, whatever it holds
 abbrev pub next_instruction : List Instruction → Tree → Judged Instruction

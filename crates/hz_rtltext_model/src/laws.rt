@@ -9,6 +9,7 @@ ghost use Rattle.hz_rtltext_model.specs.Operands.{RtlFault};
 ghost use Rattle.hz_rtltext_model.specs.BlockForms as blocks;
 ghost use Rattle.hz_rtltext_model.specs.StateForms as states;
 ghost use Rattle.hz_rtltext_model.specs.StateTexts.{Listing, IsListing, IsText};
+ghost use Rattle.hz_rtl_model.specs.Limits.{instruction_limit};
 
 /// A block has a fault exactly where a form is wrong behind a front that is a block.
 pub fn blocks_fail_at_their_first_wrong_form()
@@ -18,7 +19,7 @@ pub fn blocks_fail_at_their_first_wrong_form()
 /// No two instructions of a block have one number, and there are not too many.
 pub fn numbers_of_a_block_differ()
     ensures numbers { (forms : Trees) (block : List Instruction) → blocks.Reads forms block → AllPairs (λ a b. IsFalse (a.number == b.number)) block }
-    ensures count { (forms : Trees) (block : List Instruction) → blocks.Reads forms block → length block ≤ blocks.instruction_limit }
+    ensures count { (forms : Trees) (block : List Instruction) → blocks.Reads forms block → length block ≤ instruction_limit }
 {}
 
 /// A state has a fault exactly where a form is wrong behind a front that gives words.

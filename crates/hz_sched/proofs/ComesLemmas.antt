@@ -3,9 +3,9 @@ use Rattle.std.proofs.Common.{◌≡◌, ℕ, ◌+◌, ◌-◌, ◌<◌, ◌≤�
 use Rattle.std.specs.Prelude.{IsSome}
 use Rattle.hz_acceptance_model.specs.Events.{issue, advance, IsOfClass}
 use Rattle.std.proofs.lemmas.List.Elements.{All-append, All-cons, All-nil}
-use Rattle.hz_tables_model.specs.Machines.{Machine, parts_walk, machine_walk, starts_of}
+use Rattle.hz_tables_model.specs.Machines.{Machine, parts_walk, machine_walk, starts_of, IsWalked}
 use Rattle.hz_sched_model.specs.Schedules.{Graph, Slot, class_at, present, spell, IsReady, IsCandidate}
-use Rattle.hz_sched_model.specs.Machines.{IsWalked, Settles, can_start}
+use Rattle.hz_sched_model.specs.Machines.{Settles, can_start}
 use Rattle.hz_sched_model.proofs.SameSchedules.{greedy_within, spelled_of_class}
 use Rattle.hz_sched.specs.Waits.{issued_at}
 use Rattle.hz_sched.specs.Standing.{IsAt, IsUpward, left_below}

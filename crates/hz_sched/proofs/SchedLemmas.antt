@@ -11,7 +11,7 @@ use Rattle.std.proofs.lemmas.List.Elements.{All-get_or, All-contains, All-map, C
 use Rattle.std.proofs.lemmas.Option.{slice_get-get_or}
 use Rattle.hz_base_model.proofs.Elements.{Contains-map}
 use Rattle.hz_acceptance_model.specs.Events.{Event, issue, advance}
-use Rattle.hz_tables_model.specs.Machines.{Part, Machine, no_part, part_at, parts_walk, machine_walk, starts_of, onto_states, word_of, IsPart, IsMachine}
+use Rattle.hz_tables_model.specs.Machines.{Part, Machine, no_part, part_at, parts_walk, machine_walk, starts_of, onto_states, word_of, IsPart, IsMachine, IsWalked}
 use Rattle.hz_tables_model.proofs.TableLaws.{walk_stays}
 use Rattle.hz_tables_model.proofs.MachineLaws.{machine_walk-each, machine_walk-part}
 use Rattle.hz_replay.specs.Replaying.{Standing, AreStates}
@@ -19,7 +19,7 @@ use Rattle.hz_depend.specs.declared.parts.Graph as depend_graph
 use Rattle.hz_depend.specs.declared.parts.GraphInsn.{GraphInsn}
 use Rattle.hz_depend.specs.GraphShape.{edge_of, IsSchedulable}
 use Rattle.hz_sched_model.specs.Schedules.{Node, Graph, Slot, class_at, present, GoesBefore, Greedy, IsCandidate}
-use Rattle.hz_sched_model.specs.Machines.{IsWalked, Settles, can_start}
+use Rattle.hz_sched_model.specs.Machines.{Settles, can_start}
 use Rattle.hz_sched_model.proofs.SameSchedules.{greedy_within}
 use Rattle.hz_sched.specs.Shape.{graph_of, node_of, slot_of, slots_of}
 use Rattle.hz_sched.specs.declared.parts.Slot as made

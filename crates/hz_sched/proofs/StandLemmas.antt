@@ -5,9 +5,8 @@ use Rattle.std.proofs.lemmas.Bool.{cases_lt}
 use Rattle.hz_base_model.proofs.Elements.{Contains-nil, Contains-cons_cases, Contains-map}
 use Rattle.std.proofs.lemmas.List.Elements.{Contains-append_cases}
 use Rattle.hz_acceptance_model.specs.Events.{issue, advance}
-use Rattle.hz_tables_model.specs.Machines.{Machine, parts_walk, machine_walk, starts_of}
+use Rattle.hz_tables_model.specs.Machines.{Machine, parts_walk, machine_walk, starts_of, IsWalked}
 use Rattle.hz_sched_model.specs.Schedules.{Graph, Slot, class_at, places, present, advance_to, spell, GoesBefore, Legal, Greedy, IsCandidate, FollowsGreedily}
-use Rattle.hz_sched_model.specs.Machines.{IsWalked}
 use Rattle.hz_sched_model.proofs.GrowLaws.{greedy-push, legal_when_all}
 use Rattle.hz_sched.specs.Waits.{issued_at, and_issued}
 use Rattle.hz_sched.specs.Standing.{IsAt, left_below}

@@ -7,6 +7,7 @@ ghost use Rattle.hz_sched_model.specs.Schedules as model;
 ghost use Rattle.hz_sched.specs.Shape.{graph_of, slots_of};
 ghost use Rattle.hz_sched.specs.Waits.{issued_at, and_issued};
 ghost use Rattle.hz_sched.specs.Pending.{key_of, keys_at, AreWaits, IsQueue, AreLater};
+ghost use Rattle.hz_rtl_model.specs.Limits.{instruction_limit};
 
 use crate::parts::Slot;
 use crate::queue::{Queue, height_at};
@@ -40,7 +41,7 @@ fn no_waits(alloc: Global, count: usize) -> Result<Vec<u32>, NoMemory>
 impl Board {
     /// Nothing is issued yet. The classes are numbers below this one.
     pub fn new(alloc: Global, graph: &Graph, classes: usize) -> Result<Board, NoMemory>
-        requires few { length graph.now.insns.items ≤ 4096 }
+        requires few { length graph.now.insns.items ≤ instruction_limit }
         requires classes { All (λ i. i.class < classes) graph.now.insns.items }
         requires edges { All (λ e. e.to < length graph.now.insns.items) graph.now.edges.items }
         ensures slots { IfOk result (λ board. board.slots.items ≡ []) }

@@ -6,6 +6,7 @@ ghost use Rattle.hz_tables_model.specs.Machines.{parts_walk};
 ghost use Rattle.hz_tables.specs.Machines.{machine_of};
 ghost use Rattle.hz_replay.specs.Replaying.{AreStates};
 ghost use Rattle.hz_sched_model.specs.Machines.{can_start};
+ghost use Rattle.hz_rtl_model.specs.Limits.{instruction_limit};
 
 use hz_depend::GraphInsn;
 use hz_replay::Replayer;
@@ -55,7 +56,7 @@ fn first_unfit(machine: &Machine, states: &[u32], insns: &[GraphInsn]) -> Option
 
 /// The place of the first instruction whose class can't be issued from the start.
 pub fn first_stuck(alloc: Global, machine: &Machine, insns: &[GraphInsn]) -> Option<u32>
-    requires few { length insns.now ≤ 4096 }
+    requires few { length insns.now ≤ instruction_limit }
     requires classes { All (λ i. i.class < length machine.now.classes.items) insns.now }
     ensures { result ≡ position (λ i. not (can_start (machine_of machine.now) i.class)) insns.now }
 {

@@ -13,6 +13,7 @@ ghost use Rattle.hz_sched_model.specs.Schedules as model;
 ghost use Rattle.hz_depend.specs.GraphShape.{edge_of};
 ghost use Rattle.hz_sched.specs.Shape.{graph_of};
 ghost use Rattle.hz_sched.specs.Pending.{key_cmp, wait_cmp, may, keys_at, ripe_front, one_waits, all_wait, free_below, with_head, without_head, ChangesRow, IsInRange, IsQueue, AreLater};
+ghost use Rattle.hz_rtl_model.specs.Limits.{instruction_limit};
 
 use crate::fitting::fits;
 use crate::spelling::class_at;
@@ -135,7 +136,7 @@ fn all_free(
     ripes: &[u32],
 ) -> Result<BTreeSet<(u32, u32)>, NoMemory>
     requires size { length counts.now ≡ length ripes.now }
-    requires few { length counts.now ≤ 4096 }
+    requires few { length counts.now ≤ instruction_limit }
     ensures waiting { IfOk result (λ waiting. waiting.keys ≡ free_below counts.now ripes.now (length counts.now)) }
     ensures ordered { IfOk result (λ waiting. IsStrictlySortedBy wait_cmp waiting.keys) }
 {
@@ -168,7 +169,7 @@ impl Queue {
         ripes: &[u32],
     ) -> Result<Queue, NoMemory>
         requires size { length counts.now ≡ length ripes.now }
-        requires few { length counts.now ≤ 4096 }
+        requires few { length counts.now ≤ instruction_limit }
         ensures size { IfOk result (λ queue. length queue.ready.items ≡ classes) }
         ensures waiting { IfOk result (λ queue. queue.waiting.keys ≡ free_below counts.now ripes.now (length counts.now)) }
         ensures ordered { IfOk result (λ queue. IsStrictlySortedBy wait_cmp queue.waiting.keys) }

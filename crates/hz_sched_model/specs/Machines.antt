@@ -1,14 +1,10 @@
 -- What a list scheduler asks of a machine of tables, and what it refuses. This profile, docs/RULES.md, 'List schedules'.
-use Rattle.std.specs.Prelude.{◌≡◌, ℕ, ◌+◌, Bool, not, List, [], ◌∷◌, ◌++◌, length, position, All, Option, Some, IsSome, is_some}
+use Rattle.std.specs.Prelude.{◌≡◌, ℕ, ◌+◌, Bool, not, List, [], ◌∷◌, ◌++◌, length, position, All, Option, Some, is_some}
 use Rattle.hz_base_model.specs.Limits.{cycle_limit}
 use Rattle.hz_mdread_model.specs.Limits.{latency_limit}
 use Rattle.hz_acceptance_model.specs.Events.{Event, issue, advance, IsOfClass}
-use Rattle.hz_tables_model.specs.Machines.{Machine, machine_walk, starts_of}
+use Rattle.hz_tables_model.specs.Machines.{Machine, machine_walk, starts_of, IsWalked}
 use Rattle.hz_sched_model.specs.Schedules.{Graph}
-
--- the machine walks these events
-abbrev pub IsWalked : Machine → List Event → Type 0
-IsWalked m t = IsSome (machine_walk m t)
 
 -- A machine settles: behind any events of its classes that it walks, `cycle_limit` cycles more lead each part to its start.
 pub record Settles (m : Machine) : Type 0 where

@@ -4,9 +4,8 @@ ghost use Rattle.std.specs.Prelude.{◌≡◌, ◌↔◌, ◌<◌, ◌≤◌, �
 ghost use Rattle.std.specs.List.{AllPairs};
 ghost use Rattle.hz_acceptance_model.specs.Events.{Event, IsOfClass, issues_of, cycles_of};
 ghost use Rattle.hz_acceptance_model.specs.Replay.{Pipeline, Accepted};
-ghost use Rattle.hz_tables_model.specs.Machines.{Machine};
+ghost use Rattle.hz_tables_model.specs.Machines.{Machine, IsWalked};
 ghost use Rattle.hz_sched_model.specs.Schedules.{Graph, Slot, present, spell, Legal, Greedy};
-ghost use Rattle.hz_sched_model.specs.Machines.{IsWalked};
 
 /// Which traces are accepted, whatever tells it: a machine that walks them, or the pipeline of a description.
 pub trait Acceptance {

@@ -9,11 +9,11 @@ use Rattle.hz_check_model.specs.CheckFaults.{IsSound}
 use Rattle.hz_check_model.specs.Places.{Known}
 use Rattle.hz_check_model.specs.CheckedParts.{automata_of, class_parts}
 use Rattle.hz_pipeline_model.specs.Pipelines.{pipeline_with}
-use Rattle.hz_tables_model.specs.Machines.{Machine}
+use Rattle.hz_tables_model.specs.Machines.{Machine, IsWalked}
 use Rattle.hz_auto_model.specs.Compiled.{Report, IsCompiled}
 use Rattle.hz_auto_model.proofs.DescriptionLaws.{machine_accepts}
 use Rattle.hz_sched_model.specs.Schedules.{Graph, Slot, class_at, Legal, Greedy}
-use Rattle.hz_sched_model.specs.Machines.{IsWalked, can_start, cannot_start_alone}
+use Rattle.hz_sched_model.specs.Machines.{can_start, cannot_start_alone}
 use Rattle.hz_sched_model.proofs.SameSchedules.{class_below, legal_there, greedy_there}
 use Rattle.hz_sched_model.proofs.StuckLaws.{first_stuck, none_stuck}
 

@@ -11,10 +11,10 @@ ghost use Rattle.hz_check_model.specs.Places.{Known};
 ghost use Rattle.hz_check_model.specs.CheckedParts.{AutomatonParts, ClassParts, BypassParts, automata_of, class_parts};
 ghost use Rattle.hz_check_model.specs.CheckedShape.{IsKept};
 ghost use Rattle.hz_pipeline_model.specs.Pipelines.{pipeline_with};
-ghost use Rattle.hz_tables_model.specs.Machines.{Machine, IsMachine};
+ghost use Rattle.hz_tables_model.specs.Machines.{Machine, IsMachine, IsWalked};
 ghost use Rattle.hz_auto_model.specs.Compiled.{Report, IsCompiled};
 ghost use Rattle.hz_sched_model.specs.Schedules.{Graph, Slot, class_at, Legal, Greedy};
-ghost use Rattle.hz_sched_model.specs.Machines.{IsWalked, Settles, cannot_start_alone};
+ghost use Rattle.hz_sched_model.specs.Machines.{Settles, cannot_start_alone};
 
 /// The machine that is compiled of automata and classes without a fault settles: behind any events that it walks, 256 cycles
 /// more lead each part to its start.

@@ -1,6 +1,6 @@
 -- Machines of tables: a table for each automaton, stepped side by side. Bala and Rubin, 'Efficient Instruction
 -- Scheduling Using Finite State Automata', MICRO-28; what is kept of a machine is this profile's, docs/RULES.md.
-use Rattle.std.specs.Prelude.{◌≡◌, ◌≢◌, ℕ, ◌+◌, ◌*◌, ◌<◌, ◌≤◌, List, [], ◌∷◌, ◌++◌, Option, Some, None, length, replicate, slice_index_or, All}
+use Rattle.std.specs.Prelude.{◌≡◌, ◌≢◌, ℕ, ◌+◌, ◌*◌, ◌<◌, ◌≤◌, List, [], ◌∷◌, ◌++◌, Option, Some, None, length, replicate, slice_index_or, All, IsSome}
 use Rattle.std.specs.List.{AllPairs}
 use Rattle.hz_base_model.specs.Limits.{automaton_limit, class_limit}
 use Rattle.hz_acceptance_model.specs.Events.{Event, issue, advance}
@@ -65,6 +65,10 @@ starts_of m = replicate (length m.parts) 0
 -- the states after events, one for each part, from the start of every part; none where a part has no next state
 abbrev pub machine_walk : Machine → List Event → Option (List ℕ)
 machine_walk m t = parts_walk m.parts (starts_of m) t
+
+-- the machine walks these events
+abbrev pub IsWalked : Machine → List Event → Type 0
+IsWalked m t = IsSome (machine_walk m t)
 
 -- What holds of a part, of a machine with so many classes: each class has a column before the advance, there are at most
 -- as many columns as classes, and the entries are not too many.

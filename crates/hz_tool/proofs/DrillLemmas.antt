@@ -15,12 +15,11 @@ use Rattle.hz_drill_model.proofs.DrillLaws.{drawn_there, draws_counts}
 use Rattle.hz_mdread_model.specs.Descriptions.{Description}
 use Rattle.hz_pipeline_model.specs.Pipelines.{pipeline_with}
 use Rattle.hz_replay.specs.declared.event.Event.{Event as Placed}
-use Rattle.hz_replay.specs.Drilling.{IsWalked}
 use Rattle.hz_replay.specs.Lines.{event_of}
 use Rattle.hz_replay.specs.Replaying.{issues_in}
 use Rattle.hz_replay.specs.Traces.{events_in}
 use Rattle.hz_tables.specs.Machines.{machine_of}
-use Rattle.hz_tables_model.specs.Machines.{Machine, IsMachine, machine_walk}
+use Rattle.hz_tables_model.specs.Machines.{Machine, IsMachine, machine_walk, IsWalked}
 use Rattle.hz_tool.proofs.MachineLemmas.{classes_count, compiled_of, machine_for}
 use Rattle.hz_tool.specs.Compiled.{IsCompiledBy}
 

@@ -13,12 +13,11 @@ use Rattle.hz_rtl.specs.declared.block.Block.{Block}
 use Rattle.hz_rtl.specs.Shape.{instruction, instructions}
 use Rattle.hz_rtl_model.specs.Blocks.{Instruction}
 use Rattle.hz_sched.specs.Shape.{graph_of, node_of}
-use Rattle.hz_sched_model.specs.Machines.{IsWalked}
 use Rattle.hz_sched_model.specs.Schedules.{Graph, Node, Slot, Legal, Greedy}
 use Rattle.hz_sched_model.proofs.SameSchedules.{legal_there, greedy_there}
 use Rattle.hz_scheduled_model.specs.BlockGraphs.{IsGraphOf}
 use Rattle.hz_scheduled_model.specs.BlockSchedules.{IsScheduleOf}
-use Rattle.hz_tables_model.specs.Machines.{Machine}
+use Rattle.hz_tables_model.specs.Machines.{Machine, IsWalked}
 use Rattle.hz_tool.specs.Machines.{IsMachineFor}
 use Rattle.hz_answer_model.proofs.WalkLaws.{map_twice}
 

@@ -23,28 +23,29 @@ use Rattle.hz_unitsets.specs.declared.row_rules.Rule.{Rule}
 use Rattle.hz_unitsets.specs.contracts.row_rules.RulePartialEq.TheImpl.{eq-value}
 use Rattle.hz_unitsets.specs.contracts.set_rules.SetKind.{the_type}
 use Rattle.hz_unitsets.specs.SetRules.{kind_of, statement_of, statements_of, IsInRange, ordered}
-use Rattle.hz_unitsets.specs.RowRules.{units_in, statement_in, IsRow, IsBounded, IsKept, AreSame}
+use Rattle.hz_unitsets.specs.RowRules.{statement_in, IsRow, IsBounded, IsKept, AreSame}
 use Rattle.hz_unitsets.proofs.InOrder.{rules_ask_the_same}
-use Rattle.hz_unitsets.proofs.RowUnits.{Contains-units_in, unit_from_units_in}
+use Rattle.hz_unitsets.proofs.RowUnits.{Contains-units_of, unit_from_units_in}
+use Rattle.hz_grid.specs.Stored.{units_of}
 
 -- ---- a rule is known by its statement
 
 abbrev equal : Rule → Rule → Bool
 equal = eq-value.it
 
-same_row : (one other : ℕ) → IsRow one → IsRow other → units_in one ≡ units_in other → one ≡ other
+same_row : (one other : ℕ) → IsRow one → IsRow other → units_of one ≡ units_of other → one ≡ other
 same_row one other is_one is_other e = same_from_units one other (λ unit. (
-  λ h. unit_from_units_in other unit (subst (λ (units : List ℕ). Contains units unit) e (Contains-units_in one unit is_one h)),
-  λ h. unit_from_units_in one unit (subst (λ (units : List ℕ). Contains units unit) (sym e) (Contains-units_in other unit is_other h)),
+  λ h. unit_from_units_in other unit (subst (λ (units : List ℕ). Contains units unit) e (Contains-units_of one unit is_one h)),
+  λ h. unit_from_units_in one unit (subst (λ (units : List ℕ). Contains units unit) (sym e) (Contains-units_of other unit is_other h)),
 ))
 
-same_rows : (xs ys : List ℕ) → All IsRow xs → All IsRow ys → map units_in xs ≡ map units_in ys → xs ≡ ys
+same_rows : (xs ys : List ℕ) → All IsRow xs → All IsRow ys → map units_of xs ≡ map units_of ys → xs ≡ ys
 same_rows [] [] are_xs are_ys e = refl
 same_rows [] (y ∷ ys) are_xs are_ys e = absurd (cc)
 same_rows (x ∷ xs) [] are_xs are_ys e = absurd (cc)
 same_rows (x ∷ xs) (y ∷ ys) are_xs are_ys e =
-    let head : units_in x ≡ units_in y = cc in
-    let tail : map units_in xs ≡ map units_in ys = cc in
+    let head : units_of x ≡ units_of y = cc in
+    let tail : map units_of xs ≡ map units_of ys = cc in
     let first = same_row x y (All-head IsRow x xs are_xs) (All-head IsRow y ys are_ys) head in
     let rest = same_rows xs ys (All-tail IsRow x xs are_xs) (All-tail IsRow y ys are_ys) tail in
     ap (λ r. r ∷ xs) first ∙ ap (λ rs. y ∷ rs) rest
@@ -81,7 +82,7 @@ statement_of_equal x y e =
     let kind : x.kind ≡ y.kind = same_true the_type (search rules) _ _ parts.0 in
     let units = eqb-true x.units y.units rows.0 in
     let patterns = (rows_decide x.patterns.items y.patterns.items).0 rows.1 in
-    λ i. record { kind = kind_of (kind i); units = units_in (units i); patterns = map units_in (patterns i) }
+    λ i. record { kind = kind_of (kind i); units = units_of (units i); patterns = map units_of (patterns i) }
 
 equal_by_statement : (x y : Rule) → IsBounded x → IsBounded y → statement_in x ≡ statement_in y → equal x y ≡ true
 equal_by_statement x y is_x is_y e =

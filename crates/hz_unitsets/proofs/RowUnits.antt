@@ -9,34 +9,35 @@ use Rattle.hz_altern_model.specs.Sets.{HoldsSome, HoldsPattern}
 use Rattle.hz_base_model.proofs.Elements.{Contains-nil, Contains-filter, Contains-from_filter, Contains-map, Contains-from_map, Contains-range}
 use Rattle.hz_grid.specs.Rows.{has_unit, HasUnit, RowsMeet, IsWithin}
 use Rattle.hz_unitsets.specs.SetRules.{in_order}
-use Rattle.hz_unitsets.specs.RowRules.{units_in, IsRow}
+use Rattle.hz_unitsets.specs.RowRules.{IsRow}
 use Rattle.hz_unitsets.proofs.InOrder.{list_any_decides}
+use Rattle.hz_grid.specs.Stored.{units_of}
 
-pub Contains-units_in : (row unit : ℕ) → IsRow row → HasUnit row unit → Contains (units_in row) unit
-unfolding units_in
-Contains-units_in row unit is h = Contains-filter (has_unit row) unit h (range_with_len 0 128) (Contains-range 128 unit (is.below unit h))
+pub Contains-units_of : (row unit : ℕ) → IsRow row → HasUnit row unit → Contains (units_of row) unit
+unfolding units_of
+Contains-units_of row unit is h = Contains-filter (has_unit row) unit h (range_with_len 0 128) (Contains-range 128 unit (is.below unit h))
 
-pub unit_from_units_in : (row unit : ℕ) → Contains (units_in row) unit → HasUnit row unit
-unfolding units_in
+pub unit_from_units_in : (row unit : ℕ) → Contains (units_of row) unit → HasUnit row unit
+unfolding units_of
 unit_from_units_in row unit h = (Contains-from_filter (has_unit row) unit (range_with_len 0 128) h).1
 
-pub some_unit : (units row : ℕ) → IsRow units → RowsMeet units row ↔ HoldsSome (units_in units) (HasUnit row)
+pub some_unit : (units row : ℕ) → IsRow units → RowsMeet units row ↔ HoldsSome (units_of units) (HasUnit row)
 some_unit units row is = (
-  λ h. (h.0, Contains-units_in units h.0 is h.1, h.2),
+  λ h. (h.0, Contains-units_of units h.0 is h.1, h.2),
   λ h. (h.0, unit_from_units_in units h.0 h.1, h.2),
 )
 
-pub some_pattern : (patterns : List ℕ) (row : ℕ) → All IsRow patterns → Any (λ pattern. IsWithin pattern row) patterns ↔ HoldsPattern (map units_in patterns) (HasUnit row)
+pub some_pattern : (patterns : List ℕ) (row : ℕ) → All IsRow patterns → Any (λ pattern. IsWithin pattern row) patterns ↔ HoldsPattern (map units_of patterns) (HasUnit row)
 some_pattern patterns row are = (
-  λ h. (units_in h.1, Contains-map units_in patterns h.1 (h.0, h.2, h.3), λ unit is. h.4 unit (unit_from_units_in h.1 unit is)),
+  λ h. (units_of h.1, Contains-map units_of patterns h.1 (h.0, h.2, h.3), λ unit is. h.4 unit (unit_from_units_in h.1 unit is)),
   λ h.
-      let found = Contains-from_map units_in patterns h.0 h.1 in
+      let found = Contains-from_map units_of patterns h.0 h.1 in
       let is : IsRow found.0 = All-contains IsRow patterns found.0 are found.1 in (
         found.1.0,
         found.0,
         found.1.1,
         found.1.2,
-        λ unit has. h.2 unit (subst (λ (units : List ℕ). Contains units unit) found.2 (Contains-units_in found.0 unit is has)),
+        λ unit has. h.2 unit (subst (λ (units : List ℕ). Contains units unit) found.2 (Contains-units_of found.0 unit is has)),
       ),
 )
 
@@ -62,9 +63,9 @@ HasJust-more units k old new within just gains unit =
 pub IsRow-just : (units : List ℕ) (row : ℕ) → All (λ unit. unit < 128) units → HasJust units row → IsRow row
 IsRow-just units row small just = record { below = λ unit h. All-contains (λ u. u < 128) units unit small ((just unit).0 h) }
 
-pub units_in-just : (units : List ℕ) (row : ℕ) → HasJust units row → units_in row ≡ in_order units
-unfolding units_in in_order
-units_in-just units row just =
+pub units_of-just : (units : List ℕ) (row : ℕ) → HasJust units row → units_of row ≡ in_order units
+unfolding units_of in_order
+units_of-just units row just =
     filter_agree (has_unit row) (λ unit. list_any (λ u. u == unit) units)
     (λ unit. same_from_decides (has_unit row unit) (list_any (λ u. u == unit) units) (just unit) (list_any_decides units unit))
     (range_with_len 0 128)

@@ -8,14 +8,11 @@ use Rattle.hz_grid.specs.Rows.{has_unit, HasUnit, IsWithin}
 use Rattle.hz_unitsets.specs.declared.row_rules.Rule.{Rule}
 use Rattle.hz_unitsets.specs.declared.rules.Asked.{Asked}
 use Rattle.hz_unitsets.specs.SetRules.{kind_of}
-
--- the units of a row, ascending
-unfoldable pub units_in : ℕ → List ℕ
-units_in row = filter (has_unit row) (range_with_len 0 UNITS)
+use Rattle.hz_grid.specs.Stored.{units_of}
 
 -- the statement that a rule is
 abbrev pub statement_in : Rule → Statement ℕ
-statement_in rule = record { kind = kind_of rule.kind; units = units_in rule.units; patterns = map units_in rule.patterns.items }
+statement_in rule = record { kind = kind_of rule.kind; units = units_of rule.units; patterns = map units_of rule.patterns.items }
 
 -- each unit of the row is a unit of an automaton
 pub record IsRow (row : ℕ) : Type 0 where

@@ -4,7 +4,8 @@ ghost use Rattle.std.specs.Prelude.{◌≡◌, ◌↔◌, ◌<◌, ℕ, map, All
 ghost use Rattle.hz_altern_model.specs.Sets.{AllowsIn, HoldsSome, HoldsPattern};
 ghost use Rattle.hz_grid.specs.Rows.{HasUnit, IsWithin};
 ghost use Rattle.hz_unitsets.specs.SetRules.{statement_of, IsInRange, in_order, ordered};
-ghost use Rattle.hz_unitsets.specs.RowRules.{units_in, statement_in, IsRow, IsBounded, IsTrigger, Breaks, StandsIn, StandsAt};
+ghost use Rattle.hz_unitsets.specs.RowRules.{statement_in, IsRow, IsBounded, IsTrigger, Breaks, StandsIn, StandsAt};
+ghost use Rattle.hz_grid.specs.Stored.{units_of};
 
 use crate::set_rules::{SetKind, SetRule};
 pub use hz_grid::NoMemory;
@@ -98,7 +99,7 @@ impl Rule {
     // Whether the row has a unit of the rule.
     fn holds_some(&self, row: Row) -> bool
         requires { IsBounded self.now }
-        ensures { IsTrue result ↔ HoldsSome (units_in self.now.units) (HasUnit row) }
+        ensures { IsTrue result ↔ HoldsSome (units_of self.now.units) (HasUnit row) }
     {
         self.units.meets(row)
     }
@@ -106,7 +107,7 @@ impl Rule {
     // Whether some pattern is wholly in the row.
     fn holds_pattern(&self, row: Row) -> bool
         requires { IsBounded self.now }
-        ensures { IsTrue result ↔ HoldsPattern (map units_in self.now.patterns.items) (HasUnit row) }
+        ensures { IsTrue result ↔ HoldsPattern (map units_of self.now.patterns.items) (HasUnit row) }
     {
         self.patterns.iter().any(|pattern| pattern.within(row))
     }
@@ -116,7 +117,7 @@ impl Rule {
 fn row_of(units: &[u8]) -> Row
     requires { All (λ unit. unit < UNITS) units.now }
     ensures row { IsRow result }
-    ensures units { units_in result ≡ in_order units.now }
+    ensures units { units_of result ≡ in_order units.now }
 {
     let mut row = Row::empty();
     for unit in units {

@@ -5,11 +5,12 @@ ghost use Rattle.hz_check.specs.Shape.{bypass_of};
 ghost use Rattle.hz_depend_model.specs.Accesses.{is_among};
 ghost use Rattle.hz_depend.specs.GraphShape.{edge_of};
 ghost use Rattle.hz_depend.specs.Held.{held, found_among, all_found};
+ghost use Rattle.hz_rtl_model.specs.Limits.{instruction_limit};
 
-use crate::building::nodes::Node;
 use crate::finding::access::Touched;
 use crate::finding::pairs::{REGISTERS, cost};
 use crate::finding::tables::Tables;
+use crate::nodes::Node;
 use crate::parts::Edge;
 use hz_check::CheckedBypass;
 use hz_regexp::NoMemory;
@@ -26,8 +27,8 @@ fn add_edges(
     second: &Node,
 ) -> Result<(), NoMemory>
     requires registers { length last.now ≡ 256 }
-    requires few { length firsts.now ≤ 4096 }
-    requires place { to < 4096 }
+    requires few { length firsts.now ≤ instruction_limit }
+    requires place { to < instruction_limit }
     requires stamps { length firsts.now ≤ length stamps.now }
     ensures { OnOk result (map edge_of edges.new.items ≡ map edge_of edges.old.items ++ found_among (λ i. slice_index stamps.now i == to + 1) (slice_index last.now) (map bypass_of bypasses.now) to (held second.now) 0 (map held firsts.now)) }
 {
@@ -58,7 +59,7 @@ pub fn edges_of(
     bypasses: &[CheckedBypass],
     nodes: &[Node],
 ) -> Result<Vec<Edge>, NoMemory>
-    requires { length nodes.now ≤ 4096 }
+    requires { length nodes.now ≤ instruction_limit }
     ensures { IfOk result (λ edges. map edge_of edges.items ≡ all_found (map bypass_of bypasses.now) (map held nodes.now) (length nodes.now)) }
 {
     let mut last = [0; REGISTERS];

@@ -5,8 +5,9 @@ ghost use Rattle.std.specs.List.{AllPairs};
 ghost use Rattle.hz_mdread_model.specs.Limits.{latency_limit};
 ghost use Rattle.hz_depend.specs.GraphShape.{edge_of};
 ghost use Rattle.hz_depend.specs.Relaxing.{height_at, relaxed};
+ghost use Rattle.hz_rtl_model.specs.Limits.{instruction_limit};
 
-use crate::building::nodes::Node;
+use crate::nodes::Node;
 use crate::parts::Edge;
 use hz_regexp::NoMemory;
 use std::alloc::Global;
@@ -23,7 +24,7 @@ pub fn height_at(nodes: &[Node], sums: &[Option<u32>], place: usize) -> u32
 /// For each instruction the greatest sum of the cost of an edge that leads from it and the height where that leads, if one
 /// leads from it. No edge leads from a place at or behind one to which a later edge leads.
 pub fn sums_of(alloc: Global, nodes: &[Node], edges: &[Edge]) -> Result<Vec<Option<u32>>, NoMemory>
-    requires few { length nodes.now ≤ 4096 }
+    requires few { length nodes.now ≤ instruction_limit }
     requires latencies { All (λ n. n.latency ≤ latency_limit) nodes.now }
     requires edges { All (λ e. (e.from < e.to) × (e.to < length nodes.now) × (e.cost ≤ latency_limit)) edges.now }
     requires ordered { AllPairs (λ a b. a.from < b.to) edges.now }

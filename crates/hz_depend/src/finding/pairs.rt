@@ -11,8 +11,8 @@ ghost use Rattle.hz_depend.specs.Cells.{based, cells};
 ghost use Rattle.hz_depend.specs.Held as model;
 ghost use Rattle.hz_depend.specs.Held.{held};
 
-use crate::building::nodes::Node;
 use crate::finding::access::{Based, Touched};
+use crate::nodes::Node;
 use hz_check::CheckedBypass;
 
 /// How many registers there are.

@@ -8,11 +8,11 @@ ghost use Rattle.hz_depend.specs.Noted.{IsBlank, HasNoted, candidates};
 ghost use Rattle.hz_depend.specs.Tables.{tables_of};
 ghost use Rattle.std.specs.List.{flat_map};
 
-use crate::building::nodes::Node;
 use crate::finding::by_cell::ByCell;
 use crate::finding::by_register::ByRegister;
 use crate::finding::marks::mark_before;
 use crate::finding::pairs::after;
+use crate::nodes::Node;
 use hz_regexp::NoMemory;
 use std::alloc::Global;
 

@@ -6,6 +6,7 @@ ghost use Rattle.hz_rtltext_model.specs.BlockForms as model;
 ghost use Rattle.hz_rtl.specs.Faults.{Tells};
 ghost use Rattle.hz_rtl.specs.Shape.{instruction, instructions};
 ghost use Rattle.hz_sexp.specs.Shape.{tree, trees};
+ghost use Rattle.hz_rtl_model.specs.Limits.{instruction_limit};
 
 use crate::block::{Block, Insn};
 use crate::fault::RtlFault;
@@ -147,7 +148,7 @@ fn next_insn(alloc: Global, before: &[Insn], form: &Form) -> Result<Insn, RtlFau
 /// twice at that of its `insn`; `NoMemory` where there was none. This profile, docs/RULES.md, 'Blocks'.
 pub fn read_block(alloc: Global, forms: &[Form]) -> Result<Block, RtlFault>
     ensures reads { IfOk result (λ block. model.Reads (trees forms.now) (instructions block)) }
-    ensures few { IfOk result (λ block. length block.insns.items ≤ model.instruction_limit) }
+    ensures few { IfOk result (λ block. length block.insns.items ≤ instruction_limit) }
     ensures faults { IfErr result (Tells (model.FaultAt (trees forms.now))) }
 {
     let mut insns = Vec::new(alloc);

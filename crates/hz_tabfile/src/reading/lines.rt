@@ -18,6 +18,18 @@ use hz_regexp::{Name, is_name};
 use indexmap::IndexSet;
 use std::alloc::Global;
 
+/// The classes of a machine.
+const CLASSES: u32 = 1_024;
+
+/// The automata of a machine.
+const AUTOMATA: u32 = 16;
+
+/// The states of a table.
+const STATES: u32 = 65_536;
+
+/// The entries of a table, those of the advance among them.
+const CELLS: u32 = 4_194_304;
+
 /// Whether the treatment is that of `ndfa`: `treatment first` or `treatment ndfa`.
 #[tactic(auto, unfolding(hz_tabtext_model::specs::Lines::treatment_in))]
 pub fn treatment(line: &[u8]) -> Result<bool, Wrong>
@@ -40,7 +52,7 @@ pub fn classes(line: &[u8]) -> Result<u32, Wrong>
     ensures few { IfOk result (λ count. count ≤ class_limit) }
 {
     let count = number(one(line, b"classes")?)?;
-    if count > 1024 {
+    if count > CLASSES {
         return Err(Wrong::OutOfRange);
     }
     Ok(count)
@@ -67,7 +79,7 @@ pub fn automata(line: &[u8]) -> Result<u32, Wrong>
     ensures { Judges (λ count. count) result (model.automata_in line.now) }
 {
     let count = number(one(line, b"automata")?)?;
-    if count < 1 || count > 16 {
+    if count < 1 || count > AUTOMATA {
         return Err(Wrong::OutOfRange);
     }
     Ok(count)
@@ -91,7 +103,7 @@ pub fn head(alloc: Global, line: &[u8], classes: u32) -> Result<Head, Wrong>
         return Err(Wrong::OutOfRange);
     }
     let states = number(states)?;
-    if states < 1 || states > 65_536 || states * (columns + 1) > 4_194_304 {
+    if states < 1 || states > STATES || states * (columns + 1) > CELLS {
         return Err(Wrong::OutOfRange);
     }
     // Memory is taken for the name only where the numbers are in their ranges.

@@ -7,12 +7,11 @@ ghost use Rattle.hz_answer_model.specs.DrillAnswers.{Drills};
 ghost use Rattle.hz_check.specs.Checked.{IsCheckedOf};
 ghost use Rattle.hz_drill_model.specs.Drills.{Drawn};
 ghost use Rattle.hz_mdread_model.specs.Descriptions.{Description};
-ghost use Rattle.hz_replay.specs.Drilling.{IsWalked};
 ghost use Rattle.hz_replay.specs.Lines.{event_of};
 ghost use Rattle.hz_replay.specs.Replaying.{issues_in};
 ghost use Rattle.hz_replay.specs.Traces.{events_in};
 ghost use Rattle.hz_tables.specs.Machines.{machine_of};
-ghost use Rattle.hz_tables_model.specs.Machines.{machine_walk};
+ghost use Rattle.hz_tables_model.specs.Machines.{machine_walk, IsWalked};
 ghost use Rattle.hz_tool.specs.Compiled.{IsCompiledBy};
 ghost use Rattle.hz_tool.specs.Decisions.{Agrees, IsJudged};
 

@@ -6,7 +6,7 @@ ghost use Rattle.hz_answer_model.specs.BlockAnswers.{IsBlock, IsState, Evaluates
 ghost use Rattle.hz_rtl.specs.Shape.{instructions};
 ghost use Rattle.hz_rtl.specs.States.{words};
 ghost use Rattle.hz_rtl_model.specs.States.{run};
-ghost use Rattle.hz_rtltext_model.specs.BlockForms.{instruction_limit};
+ghost use Rattle.hz_rtl_model.specs.Limits.{instruction_limit};
 ghost use Rattle.hz_sexp.specs.Shape.{trees};
 ghost use Rattle.hz_tool.specs.Decisions.{Agrees, IsJudged};
 

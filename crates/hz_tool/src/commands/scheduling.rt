@@ -19,6 +19,7 @@ ghost use Rattle.hz_tool.specs.Decisions.{Agrees, IsJudged};
 ghost use Rattle.hz_tool.specs.Machines.{IsMachineFor};
 ghost use Rattle.hz_tool.specs.Blocks.{IsFaultIn, IsWrongIn, IsStuckIn};
 ghost use Rattle.hz_tool.specs.Turnings.{IsClassReport, IsDependReport, IsSchedReport};
+ghost use Rattle.hz_rtl_model.specs.Limits.{instruction_limit};
 
 use crate::phases::compiling::judge_states;
 use crate::phases::describing::judge_described;
@@ -130,7 +131,7 @@ fn block_report<'a>(
     machine: Machine,
     block: &Block,
 ) -> Report<'a>
-    requires few { length block.now.insns.items ≤ 4096 }
+    requires few { length block.now.insns.items ≤ instruction_limit }
     requires settles { Settles (machine_of machine) }
     requires classes { length machine.classes.items ≡ length checked.now.classes.items }
     ensures kind { IsJudged result }

@@ -16,6 +16,7 @@ ghost use Rattle.hz_mdread.specs.Shape.{description};
 ghost use Rattle.hz_sexp.specs.Shape.{trees};
 ghost use Rattle.hz_tool.specs.Decisions.{IsFormsReport, IsDescriptionReport, IsCheckReport, IsRtlReport, IsTraceReport};
 ghost use Rattle.hz_replay.specs.Traces.{events_in, lines_in};
+ghost use Rattle.hz_rtl_model.specs.Limits.{instruction_limit};
 
 use crate::phases::turning::{
     check_report, description_report, form_report, line_report, rtl_report,
@@ -79,7 +80,7 @@ pub fn judge_check<'a>(
 /// The block that forms are, or the report of the first that is wrong.
 pub fn judge_block<'a>(alloc: Global, file: &'a str, read: &[Form]) -> Result<Block, Report<'a>>
     ensures ok { IfOk result (λ block. blocks.Reads (trees read.now) (instructions block)) }
-    ensures few { IfOk result (λ block. length block.insns.items ≤ blocks.instruction_limit) }
+    ensures few { IfOk result (λ block. length block.insns.items ≤ instruction_limit) }
     ensures err { IfErr result (IsRtlReport file.entry.now (blocks.FaultAt (trees read.now))) }
 {
     match read_block(alloc, read) {

@@ -1,7 +1,7 @@
 use Rattle.hz_acceptance_model.specs.Replay.{Accepted}
-use Rattle.hz_sched_model.specs.Machines.{IsWalked}
 use Rattle.hz_sched_model.proofs.OneSchedule.{one_schedule}
 use Rattle.hz_sched_model.proofs.laws.one_schedule_on_each.Goals as goal
+use Rattle.hz_tables_model.specs.Machines.{IsWalked}
 
 pub returns-clause-machine : goal.returns-clause-machine
 returns-clause-machine g c = λ m graph s t legal greedy lawful eager. one_schedule (IsWalked m) graph s t legal greedy lawful eager

@@ -1,7 +1,7 @@
 use Rattle.hz_acceptance_model.specs.Replay.{Accepted}
-use Rattle.hz_sched_model.specs.Machines.{IsWalked}
 use Rattle.hz_sched_model.proofs.SameSchedules.{legal_there, greedy_there}
 use Rattle.hz_sched_model.proofs.laws.schedules_on_machines_are_on_their_pipelines.Goals as goal
+use Rattle.hz_tables_model.specs.Machines.{IsWalked}
 
 pub returns-clause-legal : goal.returns-clause-legal
 returns-clause-legal g c = λ m p classes agree graph ranges slots. (

@@ -1,5 +1,5 @@
 use Rattle.std.proofs.lemmas.List.{take_all}
-use Rattle.hz_unitsets.proofs.RowUnits.{HasJust-more, IsRow-just, units_in-just}
+use Rattle.hz_unitsets.proofs.RowUnits.{HasJust-more, IsRow-just, units_of-just}
 use Rattle.hz_unitsets.proofs.row_rules.row_of.Goals as goal
 
 pub loop-unit-preserved : goal.loop-unit-preserved
@@ -13,4 +13,4 @@ returns-clause-row c =
 pub returns-clause-units : goal.returns-clause-units
 returns-clause-units c =
     let all = rw (take_all c.loop-unit.unit-index c.args.units.now c.loop-unit-test.false) at c.loop-unit.invariant in
-    units_in-just c.args.units.now c.loop-unit.row all
+    units_of-just c.args.units.now c.loop-unit.row all

@@ -1,7 +1,7 @@
 use Rattle.std.proofs.Common.{◌≡◌, ◌++◌, ◌<◌, drop, map, length, All, None}
 use Rattle.hz_depend.specs.GraphShape.{first_class_fault}
 use Rattle.hz_depend.specs.Held.{held, node_for}
-use Rattle.hz_depend.proofs.building.nodes.nodes_of.Given as goal
+use Rattle.hz_depend.proofs.nodes.nodes_of.Given as goal
 
 -- the instructions so far, with those that are left, are all, and of these no class is wrong
 abbrev pub invariant-loop-insn : goal.invariant-loop-insn

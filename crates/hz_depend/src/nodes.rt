@@ -7,6 +7,7 @@ ghost use Rattle.hz_depend.specs.Faults.{placed};
 ghost use Rattle.hz_depend.specs.Held.{held, node_for};
 ghost use Rattle.hz_depend.specs.Shape.{class_for};
 ghost use Rattle.std.specs.Result.{is_ok};
+ghost use Rattle.hz_rtl_model.specs.Limits.{instruction_limit};
 
 use crate::class::{ClassFault, class_of};
 use crate::finding::access::{Access, access_of};
@@ -25,7 +26,7 @@ pub struct Node {
 
 /// The place of the first instruction whose class is wrong, and what is wrong.
 pub fn first_class_fault(checked: &Checked, insns: &[Insn]) -> Option<(u32, ClassFault)>
-    requires { length insns.now ≤ 4096 }
+    requires { length insns.now ≤ instruction_limit }
     ensures { option_map placed result ≡ first_class_fault 0 checked.now insns.now }
 {
     for (place, insn) in insns.iter().enumerate() {

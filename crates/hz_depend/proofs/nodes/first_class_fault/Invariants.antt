@@ -1,6 +1,6 @@
 use Rattle.std.proofs.Common.{◌≡◌, drop}
 use Rattle.hz_depend.specs.GraphShape.{first_class_fault}
-use Rattle.hz_depend.proofs.building.nodes.first_class_fault.Given as goal
+use Rattle.hz_depend.proofs.nodes.first_class_fault.Given as goal
 
 -- what is left decides
 abbrev pub invariant-loop-place : goal.invariant-loop-place
