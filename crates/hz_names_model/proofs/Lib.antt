@@ -1,0 +1,5 @@
+pub mod Listing
+pub mod NamesAt
+pub mod NameLaws
+pub mod UnknownLaws
+pub mod SoundLaws
