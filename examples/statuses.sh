@@ -345,6 +345,27 @@ expect_sink replay d
 { head -c 20 d; sleep 1; tail -c +21 d; } | { expect 0 'accepted 2 issues 1 cycles' replay /dev/stdin t; exit $bad; } || bad=1
 { head -c 3 twice; sleep 1; tail -c +4 twice; } | { expect 1 'refused line 2 x' replay d /dev/stdin; exit $bad; } || bad=1
 
+# each text is read once, also where a fault, a limit or a refusal is told: what comes in a pipe is gone behind the first read
+once() {
+    file=$1
+    shift
+    cat "$file" | { expect "$@"; exit $bad; } || bad=1
+}
+once circle 2 'fault /dev/stdin line 1 CircularReservation r' compile /dev/stdin
+once alternatives 3 'limit /dev/stdin line 2 Alternatives x' compile /dev/stdin
+once states 3 'limit /dev/stdin automaton -' compile /dev/stdin
+once circle 2 'fault /dev/stdin line 1 CircularReservation r' replay /dev/stdin t
+once bad 2 'fault /dev/stdin line 2 BadLine' replay d /dev/stdin
+once zero 2 'fault /dev/stdin line 9 BadNumber' walk /dev/stdin t
+once bad 2 'fault /dev/stdin line 2 BadLine' walk k /dev/stdin
+once both 1 'refused line 2 y' walk k /dev/stdin
+once circle 2 'fault /dev/stdin line 1 CircularReservation r' schedule /dev/stdin b
+once code 2 'fault /dev/stdin line 2 UnknownCode' schedule d /dev/stdin
+once ambiguous 2 'fault /dev/stdin line 2 Ambiguous insn 2 x y' schedule classes /dev/stdin
+once code 2 'fault /dev/stdin line 2 UnknownCode' eval /dev/stdin s
+once b 2 'fault /dev/stdin line 1 BadShape' eval b /dev/stdin
+once circle 2 'fault /dev/stdin line 1 CircularReservation r' drill /dev/stdin 1 4
+
 # words
 expect 4 "$usage"
 expect 4 "$usage" compile
