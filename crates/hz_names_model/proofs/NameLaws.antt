@@ -16,7 +16,7 @@ use Rattle.hz_check_model.specs.ToldPlaces.{StandsBefore, unit_site}
 use Rattle.hz_check_model.proofs.KeptLaws.{among, from_among}
 use Rattle.hz_check_model.proofs.PlaceLaws.{from_filter_map}
 use Rattle.hz_check_model.proofs.ToldLaws.{second_names}
-use Rattle.hz_names_model.specs.NameFaults.{IsNameSpace, IsSecondName, IsReservedName, IsUnknownAutomaton, IsWithoutAutomaton, IsSelfExclusion, IsStranger, IsAt}
+use Rattle.hz_names_model.specs.NameFaults.{IsNameSpace, IsSecondName, IsReservedName, IsUnknownAutomaton, IsWithoutAutomaton, IsSelfExclusion, IsStranger, IsAt, site_at}
 use Rattle.hz_names_model.proofs.NamesAt.{site_told, among_items, kept}
 use Rattle.hz_names_model.proofs.Listing.{from_flat_map, in_flat_map, in_filter_map, told_tells, tells_told}
 
@@ -138,17 +138,13 @@ automaton_names d = map (λ a. a.name) d.automata
 no_automaton : (d : Description) (name : List ℕ) → is_among name (automaton_names d) ≡ false ↔ ((a : AutomatonItem) → Contains d.automata a → a.name ≢ name)
 no_automaton d name = among_items (λ (a : AutomatonItem). a.name) d.automata name
 
--- the name, where the unit stands
-abbrev named_at : UnitItem → List ℕ → Site
-named_at u name = record { line = u.line; form = u.form; name = name }
-
 unknown_of : (d : Description) (s : Site) (u : UnitItem) → Contains d.units u → (o : Option (List ℕ)) → u.automaton ≡ o
-    → option_and_then (λ name. if is_among name (automaton_names d) then None else Some (named_at u name)) o ≡ Some s → IsUnknownAutomaton d s
+    → option_and_then (λ name. if is_among name (automaton_names d) then None else Some (site_at u.line u.form name)) o ≡ Some s → IsUnknownAutomaton d s
 unknown_of d s u there None e is = absurd (none-some s is)
-unknown_of d s u there (Some name) e is = cond_both (is_among name (automaton_names d)) None (Some (named_at u name)) (λ (o : Option Site). o ≡ Some s → IsUnknownAutomaton d s)
+unknown_of d s u there (Some name) e is = cond_both (is_among name (automaton_names d)) None (Some (site_at u.line u.form name)) (λ (o : Option Site). o ≡ Some s → IsUnknownAutomaton d s)
     (λ _ h. absurd (none-some s h))
     (λ fails h.
-    let made : named_at u name ≡ s = same_Some (named_at u name) s h in
+    let made : site_at u.line u.form name ≡ s = same_Some (site_at u.line u.form name) s h in
     let same : name ≡ s.name = ap (λ (x : Site). x.name) made in
     record {
       u = u;
@@ -170,10 +166,10 @@ unknown_automaton d s = (there, back)
     back : IsUnknownAutomaton d s → Contains (unknown_automata d) s
     back h =
         let fails = (no_automaton d s.name).1 h.unknown in
-        let made : ◌≡◌ {A = Site} (named_at h.u s.name) s = λ i. record { line = sym (h.place).0 i; form = sym (h.place).1 i; name = s.name } in
+        let made : ◌≡◌ {A = Site} (site_at (h.u).line (h.u).form s.name) s = λ i. record { line = sym (h.place).0 i; form = sym (h.place).1 i; name = s.name } in
         let told : unknown_automaton_of (automaton_names d) h.u ≡ Some s =
-        ap (λ (o : Option (List ℕ)). option_and_then (λ name. if is_among name (automaton_names d) then None else Some (named_at h.u name)) o) h.named
-        ∙ subst (λ (b : Bool). cond b None (Some (named_at h.u s.name)) ≡ Some s) (sym fails) (ap Some made) in
+        ap (λ (o : Option (List ℕ)). option_and_then (λ name. if is_among name (automaton_names d) then None else Some (site_at (h.u).line (h.u).form name)) o) h.named
+        ∙ subst (λ (b : Bool). cond b None (Some (site_at (h.u).line (h.u).form s.name)) ≡ Some s) (sym fails) (ap Some made) in
         in_filter_map (unknown_automaton_of (automaton_names d)) d.units h.u s h.there told
 
 -- Units without an automaton.

@@ -1,7 +1,7 @@
 -- Names at the place of their form, and names that are not among others.
-use Rattle.std.proofs.Common.{◌≡◌, ◌≢◌, ℕ, Bool, true, false, List, map, filter, Contains, refl, sym, ap, ◌∙◌, subst}
+use Rattle.std.proofs.Common.{◌≡◌, ◌≢◌, ℕ, Bool, true, false, List, map, filter, Contains, sym, ap, ◌∙◌, subst}
 use Rattle.std.specs.Prelude.{◌↔◌, not}
-use Rattle.std.proofs.lemmas.Bool.{false_from_ne_true, not_from_false}
+use Rattle.std.proofs.lemmas.Bool.{false_from_ne_true, not-true, not_from_false}
 use Rattle.hz_base_model.proofs.Elements.{Contains-filter, Contains-from_filter, Contains-map, Contains-from_map}
 use Rattle.hz_check_model.specs.CheckFaults.{sites_of}
 use Rattle.hz_check_model.specs.Sites.{Site, is_among}
@@ -34,13 +34,9 @@ among_items {A} name_of items name = (
       (λ known. let (x, there, same) = Contains-from_map name_of items name (from_among name (map name_of items) known) in none x there same),
 )
 
-not_true : (b : Bool) → not b ≡ true → b ≡ false
-not_true true e = absurd (cc)
-not_true false e = refl
-
 -- what a filter by a test that fails has
 pub kept : (p : List ℕ → Bool) (names : List (List ℕ)) (name : List ℕ) → Contains (filter (λ n. not (p n)) names) name ↔ (Contains names name × (p name ≡ false))
 kept p names name = (
-  λ c. let found = Contains-from_filter (λ n. not (p n)) name names c in (found.0, not_true (p name) found.1),
+  λ c. let found = Contains-from_filter (λ n. not (p n)) name names c in (found.0, not-true (p name) found.1),
   λ h. Contains-filter (λ n. not (p n)) name (not_from_false (p name) h.1) names h.0,
 )

@@ -1,9 +1,9 @@
 -- Names that are told as unknown.
-use Rattle.std.proofs.Common.{inl, inr, ◌≡◌, ◌≢◌, ⊎_elim, ℕ, suc, Bool, true, false, List, [], ◌∷◌, ◌++◌, map, filter, Contains, All, Option, Some, None, refl, sym, ap, ◌∙◌, subst, arith}
-use Rattle.std.specs.Prelude.{◌↔◌, ◌||◌, not}
+use Rattle.std.proofs.Common.{inl, inr, ◌≡◌, ◌≢◌, ⊎_elim, ℕ, suc, Bool, false, List, [], ◌∷◌, ◌++◌, map, filter, Contains, All, Option, Some, None, refl, sym, ap, ◌∙◌, subst, arith}
+use Rattle.std.specs.Prelude.{◌↔◌, not}
 use Rattle.std.specs.List.{flat_map}
 use Rattle.std.specs.Str.{bytes_eq}
-use Rattle.std.proofs.lemmas.Bool.{cond_both, false_from_ne_true, both_ways}
+use Rattle.std.proofs.lemmas.Bool.{or_parts, or_from, cond_both, false_from_ne_true, both_ways}
 use Rattle.std.proofs.lemmas.Slice.Eq.{bytes_eq-Decides}
 use Rattle.std.proofs.lemmas.List.Elements.{All-nil, All-cons, All-contains, Contains-append_left, Contains-append_right, Contains-append_cases}
 use Rattle.std.proofs.lemmas.Option.{none-some, same_Some}
@@ -20,13 +20,6 @@ use Rattle.hz_names_model.specs.UnknownNames.{IsNoUnit, IsNoReservation, IsNoCla
 use Rattle.hz_names_model.proofs.Listing.{from_flat_map, in_flat_map}
 use Rattle.hz_names_model.proofs.NamesAt.{site_told, among_items, kept}
 
-both_false : (a b : Bool) → (a || b) ≡ false → (a ≡ false) × (b ≡ false)
-both_false true b e = absurd (cc)
-both_false false b e = (refl, e)
-
-false_both : (a b : Bool) → a ≡ false → b ≡ false → (a || b) ≡ false
-false_both a b p q = ap (λ x. x || b) p ∙ q
-
 no_unit : (d : Description) (name : List ℕ) → is_unit d name ≡ false ↔ IsNoUnit d name
 no_unit d name = among_items (λ (u : UnitItem). u.name) d.units name
 
@@ -35,8 +28,8 @@ no_class d name = among_items (λ (c : ClassItem). c.name) d.classes name
 
 not_reservable : (d : Description) (name : List ℕ) → is_reservable d name ≡ false ↔ (IsNoUnit d name × IsNoReservation d name)
 not_reservable d name = (
-  λ e. let both = both_false (is_unit d name) (is_among name (map (λ (r : ReservationItem). r.name) d.reservations)) e in ((no_unit d name).0 both.0, (among_items (λ (r : ReservationItem). r.name) d.reservations name).0 both.1),
-  λ h. false_both (is_unit d name) (is_among name (map (λ (r : ReservationItem). r.name) d.reservations)) ((no_unit d name).1 h.0) ((among_items (λ (r : ReservationItem). r.name) d.reservations name).1 h.1),
+  λ e. let both = or_parts (is_unit d name) (is_among name (map (λ (r : ReservationItem). r.name) d.reservations)) e in ((no_unit d name).0 both.0, (among_items (λ (r : ReservationItem). r.name) d.reservations name).0 both.1),
+  λ h. or_from (is_unit d name) (is_among name (map (λ (r : ReservationItem). r.name) d.reservations)) ((no_unit d name).1 h.0) ((among_items (λ (r : ReservationItem). r.name) d.reservations name).1 h.1),
 )
 
 in_expression : (d : Description) (e : Expression) (name : List ℕ) → Contains (unknown_in_expression d e) name ↔ (Contains (names_in e) name × IsNoUnit d name × IsNoReservation d name)
