@@ -5,44 +5,55 @@ GCC_SOURCE ?= /usr/src/gcc-12/gcc-12*.tar.xz
 program = $(DESTDIR)$(PREFIX)/bin
 page = $(DESTDIR)$(PREFIX)/share/man/man1
 crates := $(shell sed -n 's/^\(hz[a-z_]*\):.*/\1/p' crates.txt)
-# crates of tests alone; the program stands on none of them
-rows := hz_rows hz_check_rows hz_sched_rows hz_text_rows hz_table_rows hz_automata_rows
-lower := $(filter-out hz $(rows),$(crates))
+# those that the program needs; crates of rows are only tests
+lower := $(filter-out hz %_rows,$(crates))
 # what is begun first: the longest chain of crates leads through it
 first := hz_check
-# how many crates are built beside each other: as many as there are processors, each with 4 GB of memory
+# how many crates are built beside each other, or jobs work on one crate: as many as there are processors, each with 4 GB of memory
 processors := $(shell nproc)
 beside := $(shell awk -v most=$(processors) '/^MemAvailable/ { room = int($$2 / 4000000) } END { print room < 1 ? 1 : room < most ? room : most }' /proc/meminfo)
 ifeq ($(filter -j%,$(MAKEFLAGS)),)
 MAKEFLAGS += -j$(beside)
 endif
 
-.PHONY: all try test examples check-walk check-memory check-gcc bench install uninstall clean
+# With a kit whose `rt ci` takes names of crates, checkouts on one machine share what they build: crates come beside each other, each in a
+# copy of the repository (tools/build_crate.sh says how). With an older kit they share nothing: all are built in this folder, one after the
+# other, each by all processors.
+shares := $(shell rt help 2>&1 | grep -q 'rt ci \[\{0,1\}NAME' && command -v flock)
+ifeq ($(shares),)
+.NOTPARALLEL:
+build = cd crates/$(1) && rt lib --jobs $(beside)
+jobs = --jobs $(beside)
+else
+build = sh tools/build_crate.sh $(1) $(beside)
+jobs =
+endif
+
+.PHONY: all try test examples check-walk check-memory check-gcc bench install uninstall dist deb clean
 
 all: bin/hz
 
-# sources CRATE: its files, and what it stands on
+# sources CRATE: its files, and the list of what it needs
 sources = crates.txt $(shell find crates/$(1) -path '*/out' -prune -o \( -name '*.rt' -o -name '*.antt' \) -print)
-# needs CRATE: the crates of the repository that it stands on
+# needs CRATE: the crates of the repository that it needs
 needs = $(filter $(crates),$(shell sed -n 's/^$(1): *//p' crates.txt))
 
 bin/built:
 	@mkdir -p bin/built
 	@echo "hz: proving and building $(words $(lower)) crates and the program; bin/built has what the prover says of each"
 
-# Each crate is proved and built behind those that it stands on; bin/built/CRATE.log has what the prover says. tools/build_crate.sh says how
-# they come beside each other.
+# Each crate is proved and built after those that it needs; bin/built/CRATE.log has what the prover says.
 define crate
 bin/built/$(1): $(call sources,$(1)) $(addprefix bin/built/,$(call needs,$(1))) | bin/built
-	@sh tools/build_crate.sh $(1) $(beside) > bin/built/$(1).log 2>&1 || { tail -n 20 bin/built/$(1).log; exit 1; }
+	@( $(call build,$(1)) ) > bin/built/$(1).log 2>&1 || { tail -n 20 bin/built/$(1).log; exit 1; }
 	@touch $$@
 	@echo "hz: $(1), $$$$(ls bin/built | grep -vc '[.]log$$$$') of $(words $(lower))"
 endef
 $(foreach each,$(lower),$(eval $(call crate,$(each))))
 
-# `rt run` takes what it stands on from the copies, which then go
+# `rt run` takes what is in this folder, or in the copies, which are then removed
 bin/hz: $(call sources,hz) $(addprefix bin/built/,$(first) $(call needs,hz))
-	@{ cd crates/hz && rt run -- replay ../../examples/divider/machine.md ../../examples/divider/spaced.trace 2>&1; echo "status $$?"; } > bin/built/hz.log
+	@{ cd crates/hz && rt run $(jobs) -- replay ../../examples/divider/machine.md ../../examples/divider/spaced.trace 2>&1; echo "status $$?"; } > bin/built/hz.log
 	@grep -q '^status 0$$' bin/built/hz.log || { tail -n 20 bin/built/hz.log; exit 1; }
 	@grep '^accepted' bin/built/hz.log
 	@cp crates/hz/out/hz bin/hz
@@ -70,7 +81,7 @@ examples: bin/hz
 check-walk: bin/hz
 	@python3 tools/check_walk.py bin/hz
 
-# memory refused to a few commands, one request at a time: each run tells it, or answers as ever
+# memory refused to a few commands, one request at a time: each run reports it, or answers as before
 check-memory: bin/hz
 	@python3 tools/check_memory.py bin/hz
 
@@ -105,6 +116,17 @@ install: bin/hz
 uninstall:
 	@rm -f "$(program)/hz" "$(page)/hz.1"
 	@echo "hz: removed $(program)/hz and $(page)/hz.1"
+
+# a release beside bin/hz, a tar file or a Debian package, of the version in VERSION; each is tried in a folder of its own
+version = $(firstword $(shell cat VERSION))
+
+dist: bin/hz
+	@sh tools/release.sh dist bin/hz
+	@sh tools/try_dist.sh bin/hz-$(version)-linux-$(shell uname -m).tar.gz
+
+deb: bin/hz
+	@sh tools/release.sh deb bin/hz
+	@sh tools/try_deb.sh bin/hz_$(version)_$(shell dpkg --print-architecture).deb bin/hz
 
 clean:
 	@rm -rf bin bench/data

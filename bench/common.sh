@@ -80,7 +80,7 @@ looking_through() {
 # build_program PROGRAM SOURCE DEPENDENCIES ARGUMENTS CRATE..: proves and builds a program that measures crates, with
 # these crates copied beside it, into $room/crates/PROGRAM/out, and runs it once with the arguments. The gate stops at a
 # source that no crate of the repository reads, so the source has another ending here and the room is outside the
-# repository.
+# repository. With a kit with which checkouts share nothing, what is built of these crates is taken along.
 build_program() {
     program=$1 source=$2 dependencies=$3 arguments=$4
     shift 4
@@ -88,11 +88,16 @@ build_program() {
     trap 'rm -rf "$room"' EXIT
     mkdir -p "$room/crates/$program/src"
     cp "$source" "$room/crates/$program/src/main.rt"
+    shares=$(command rt help 2>&1 | grep 'rt ci \[\{0,1\}NAME')
     for crate in "$@"; do
         mkdir -p "$room/crates/$crate"
         for part in src specs proofs; do
             if [ -d "crates/$crate/$part" ]; then cp -r "crates/$crate/$part" "$room/crates/$crate"; fi
         done
+        if [ -z "$shares" ] && [ -d "crates/$crate/out/rlib" ]; then
+            mkdir "$room/crates/$crate/out"
+            cp -rl "crates/$crate/out/rlib" "$room/crates/$crate/out" 2> /dev/null || cp -r "crates/$crate/out/rlib" "$room/crates/$crate/out"
+        fi
         grep "^$crate:" crates.txt >> "$room/crates.txt"
     done
     echo "$program: $dependencies" >> "$room/crates.txt"

@@ -1,15 +1,11 @@
 #!/bin/sh
-# build_crate.sh CRATE COPIES: proves and builds a crate as a library. `rt lib` keeps the crates below to itself, so in one folder crates
-# come one after the other. So a crate is built in the first of COPIES copies of the repository, bin/copies/1 and on, in which no other is;
-# what one copy has built of the same text the others take from it. While another crate is built too, this one has two processors.
+# build_crate.sh CRATE COPIES: proves and builds a crate as a library, for a kit with which checkouts share what they build. `rt lib` keeps
+# the crates below to itself, so in one folder crates come one after the other. So a crate is built in the first of COPIES copies of the
+# repository, bin/copies/1 and on, in which no other is; what one copy has built of the same text the others take from it. While another
+# crate is built too, this one has two processors.
 crate=$1
 copies=$2
 
-# (without flock there are no copies: `rt` has each crate wait for the others)
-if ! command -v flock > /dev/null; then
-    cd "crates/$crate" || exit 2
-    exec rt lib
-fi
 mkdir -p bin/copies || exit 2
 
 copy=1

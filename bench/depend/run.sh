@@ -12,7 +12,7 @@ rt() {
     command rt "$@"
 }
 
-build_program depending bench/depend/depending.rt.in 'hz_mdread_model hz_sexp hz_mdread hz_check hz_rtl hz_depend' 'all 16 graph' \
+build_program depending bench/depend/depending.rt.in 'hz_description_model hz_sexp hz_mdread hz_check hz_rtl hz_depend' 'all 16 graph' \
     $(below hz_depend)
 depending=$room/crates/depending/out/depending
 

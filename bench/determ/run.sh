@@ -5,8 +5,8 @@
 # greatest memory.
 . "$(dirname "$0")/../common.sh"
 
-build_program exploring bench/determ/exploring.rt.in 'hz_grid hz_unitsets hz_states hz_plain hz_determ' 'delays 4' \
-    hz_base_model hz_altern_model hz_acceptance_model hz_tables_model hz_reach_model hz_grid hz_unitsets hz_regexp_model hz_regexp hz_states hz_plain hz_explore hz_determ
+build_program exploring bench/determ/exploring.rt.in 'hz_grid hz_unitsets hz_states hz_tables hz_determ' 'delays 4' \
+    $(below hz_determ)
 exploring=$room/crates/exploring/out/exploring
 
 echo "what number states grids ms doubling ns_a_transition peak_kb"

@@ -11,8 +11,8 @@ rt() {
     command rt "$@"
 }
 
-build_program minimising bench/minim/minimising.rt.in 'hz_tables_model hz_plain hz_minim_model hz_minim' 'chain 4 1' \
-    hz_base_model hz_altern_model hz_acceptance_model hz_tables_model hz_minim_model hz_regexp_model hz_regexp hz_plain hz_refine hz_minim
+build_program minimising bench/minim/minimising.rt.in 'hz_automata_model hz_tables hz_minim' 'chain 4 1' \
+    $(below hz_minim)
 minimising=$room/crates/minimising/out/minimising
 
 echo "kind states columns least ms doubling peak_kb"

@@ -13,8 +13,7 @@ rt() {
     command rt "$@"
 }
 
-build_program packing bench/tables/packing.rt.in 'hz_tables_model hz_plain hz_comb hz_tables hz_minim_model hz_minim' 'full 4 1 pack' \
-    $({ below hz_tables; below hz_minim; } | sort -u)
+build_program packing bench/tables/packing.rt.in 'hz_automata_model hz_tables' 'full 4 1 pack' $(below hz_tables)
 packing=$room/crates/packing/out/packing
 
 echo "kind states columns places entries ratio ms peak_kb"

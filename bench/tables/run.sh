@@ -5,7 +5,7 @@
 # cells without an empty one, with the greatest memory beside that of the text alone. The least of five runs each.
 . "$(dirname "$0")/../common.sh"
 
-build_program reading bench/tables/reading.rt.in 'hz_plain hz_comb hz_tables hz_tabfile' "$(pwd)/bench/data/empty" $(below hz_tabfile)
+build_program reading bench/tables/reading.rt.in 'hz_tables hz_tabfile' "$(pwd)/bench/data/empty" $(below hz_tabfile)
 reading=$room/crates/reading/out/reading
 
 # make_text AUTOMATA COLUMNS EMPTY: the text, with this share of entries that are empty

@@ -5,17 +5,17 @@
 # greatest memory, the tables' among it.
 . "$(dirname "$0")/../common.sh"
 
-# The program has proofs: that of the rows of tables for `checked_of`, and its own for `compiled`.
+# The program has proofs: that of the dependence graphs for `checked_of`, and its own for `compiled`.
 top=$(pwd)
 rt() {
     mkdir -p proofs/checked_of proofs/compiled
-    sed 's/hz_table_rows\.proofs\.tests\./writing.proofs./' "$top/crates/hz_table_rows/proofs/tests/checked_of/Answers.antt" > proofs/checked_of/Answers.antt
+    sed 's/depending\./writing./' "$top/bench/depend/checked_of.antt.in" > proofs/checked_of/Answers.antt
     cp "$top/bench/tables/writing.antt.in" proofs/compiled/Answers.antt
     command rt "$@"
 }
 
 build_program writing bench/tables/writing.rt.in \
-    'hz_base_model hz_sexp_model hz_mdread_model hz_check_model hz_auto_model hz_tables_model hz_tabtext_model hz_io hz_sexp hz_mdread hz_check hz_auto hz_tabfile' '1 4 1' $(below hz_tabfile)
+    'hz_base_model hz_description_model hz_automata_model hz_tabtext_model hz_io hz_sexp hz_mdread hz_check hz_auto hz_tabfile' '1 4 1' $(below hz_tabfile)
 writing=$room/crates/writing/out/writing
 
 echo "automata classes rounds bytes ms MB_a_second doubling peak_kB"

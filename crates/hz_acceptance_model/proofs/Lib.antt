@@ -1,8 +1,3 @@
-pub mod SameLaws
-pub mod FittingLaws
-pub mod ReplayLaws
-pub mod AcceptanceLaws
-pub mod ChoiceLaws
-pub mod PlayLaws
-pub mod RestrictLaws
-pub mod Rows
+pub mod Accepting
+pub mod Pipelines
+pub mod Traces

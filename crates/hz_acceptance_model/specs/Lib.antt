@@ -1,6 +1,3 @@
-pub mod Events
-pub mod Replay
-pub mod Fitting
-pub mod Plays
-pub mod Examples
-pub mod Restricted
+pub mod Accepting
+pub mod Pipelines
+pub mod Traces

@@ -2,9 +2,9 @@
 
 ghost use Rattle.std.specs.Prelude.{◌≡◌, ℕ, ◌+◌, ◌↔◌, ◌⊎◌, Bool, Contains, List, ◌∷◌, ◌++◌, take, Some, slice_get};
 ghost use Rattle.std.specs.Bool.{Decides};
-ghost use Rattle.hz_acceptance_model.specs.Plays.{Tells, plays, accepts};
-ghost use Rattle.hz_acceptance_model.specs.Replay.{Pipeline, SamePipeline, State, Plays, IsPlayable, first_fit, ChoiceFirst, IsChoice, Accepted, FirstRefused};
-ghost use Rattle.hz_acceptance_model.specs.Events.{Event, issue, advance};
+ghost use Rattle.hz_acceptance_model.specs.Accepting.Plays.{Tells, plays, accepts};
+ghost use Rattle.hz_acceptance_model.specs.Accepting.Replay.{Pipeline, SamePipeline, State, Plays, IsPlayable, first_fit, ChoiceFirst, IsChoice, Accepted, FirstRefused};
+ghost use Rattle.hz_acceptance_model.specs.Accepting.Events.{Event, issue, advance};
 
 /// Where a list of events is accepted, each of its prefixes is.
 pub fn prefixes_are_accepted<U>()

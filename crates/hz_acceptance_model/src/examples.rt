@@ -1,10 +1,10 @@
 //! Worked examples of the rules, computed on the definitions.
 
 ghost use Rattle.std.specs.Prelude.{◌≡◌, List, [], ◌∷◌, codes};
-ghost use Rattle.hz_acceptance_model.specs.Events.{issue, advance};
-ghost use Rattle.hz_acceptance_model.specs.Replay.{first_fit, any_fit, Accepted, FirstRefused};
-ghost use Rattle.hz_altern_model.specs.Sets.{final_presence};
-ghost use Rattle.hz_acceptance_model.specs.Examples.{superscalar, simple, mult, div, float, choice, slot_present, slots_together, slot_absent, pattern_present, excluded_later, two_stages, two_lengths};
+ghost use Rattle.hz_acceptance_model.specs.Accepting.Events.{issue, advance};
+ghost use Rattle.hz_acceptance_model.specs.Accepting.Replay.{first_fit, any_fit, Accepted, FirstRefused};
+ghost use Rattle.hz_description_model.specs.Reservations.Sets.{final_presence};
+ghost use Rattle.hz_acceptance_model.specs.Accepting.Examples.{superscalar, simple, mult, div, float, choice, slot_present, slots_together, slot_absent, pattern_present, excluded_later, two_stages, two_lengths};
 
 /// The superscalar example: a third `simple` finds both integer pipelines taken; after a `float` two `simple` would need
 /// one port more; the divider is held for eight cycles.

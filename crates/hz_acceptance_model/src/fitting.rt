@@ -2,10 +2,10 @@
 
 ghost use Rattle.std.specs.Prelude.{◌≡◌, ◌↔◌, ℕ, List, [], ◌++◌};
 ghost use Rattle.hz_base_model.specs.Pairs.{Pair, SamePairs, placed};
-ghost use Rattle.hz_altern_model.specs.Sets.{Statement, Fits};
-ghost use Rattle.hz_acceptance_model.specs.Replay.{Pipeline, State, Plays, start};
-ghost use Rattle.hz_acceptance_model.specs.Events.{Event};
-ghost use Rattle.hz_acceptance_model.specs.Fitting.{IsFuture, IsUnbroken};
+ghost use Rattle.hz_description_model.specs.Reservations.Sets.{Statement, Fits};
+ghost use Rattle.hz_acceptance_model.specs.Accepting.Replay.{Pipeline, State, Plays, start};
+ghost use Rattle.hz_acceptance_model.specs.Accepting.Events.{Event};
+ghost use Rattle.hz_acceptance_model.specs.Accepting.Fitting.{IsFuture, IsUnbroken};
 
 /// Fitting is of sets of pairs: how the source and the added pairs are listed changes nothing.
 pub fn fitting_is_of_sets<U>()

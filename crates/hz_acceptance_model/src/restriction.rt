@@ -1,10 +1,10 @@
 //! Laws of a pipeline inside one automaton.
 
 ghost use Rattle.std.specs.Prelude.{ℕ, ◌↔◌, List};
-ghost use Rattle.hz_altern_model.specs.Automata.{UnitPlace};
-ghost use Rattle.hz_acceptance_model.specs.Restricted.{IsOf, restricted};
-ghost use Rattle.hz_acceptance_model.specs.Replay.{Pipeline, Accepted, FirstRefused};
-ghost use Rattle.hz_acceptance_model.specs.Events.{Event};
+ghost use Rattle.hz_description_model.specs.Reservations.Automata.{UnitPlace};
+ghost use Rattle.hz_acceptance_model.specs.Accepting.Restricted.{IsOf, restricted};
+ghost use Rattle.hz_acceptance_model.specs.Accepting.Replay.{Pipeline, Accepted, FirstRefused};
+ghost use Rattle.hz_acceptance_model.specs.Accepting.Events.{Event};
 
 /// A machine with the units of one automaton alone accepts and refuses as its restriction to that automaton does, where
 /// equal items of a class's list count once.

@@ -1,5 +1,5 @@
 -- Parts that begin in the same cycle, of which those with one alternative are joined as one and the others one by one.
-use Rattle.std.proofs.Common.{◌≡◌, ◌↔◌, inl, inr, ⊎_elim, Contains, ℕ, ◌+◌, ◌<◌, ◌≤◌, max, List, [], ◌∷◌, ◌++◌, length, map, take, drop, get_or, All, refl, sym, ap, ◌∙◌, subst, arith, append_assoc, length-append}
+use Rattle.std.proofs.Common.{◌≡◌, inl, inr, ⊎_elim, Contains, ℕ, ◌+◌, ◌<◌, ◌≤◌, max, List, [], ◌∷◌, ◌++◌, length, map, take, drop, get_or, All, refl, sym, ap, ◌∙◌, subst, arith, append_assoc, length-append}
 use Rattle.std.specs.Prelude.{IsTrue}
 use Rattle.std.proofs.lemmas.Bool.{and_parts}
 use Rattle.std.proofs.lemmas.List.{append-nil, length-map}
@@ -7,7 +7,7 @@ use Rattle.std.proofs.lemmas.List.Elements.{All-contains, All-head, All-tail, Al
 use Rattle.hz_base_model.specs.Limits.{cycle_limit, automaton_limit, unit_limit}
 use Rattle.hz_base_model.specs.Pairs.{Pair, SamePairs, placed}
 use Rattle.hz_base_model.proofs.Elements.{Contains-nil}
-use Rattle.hz_cycles.specs.declared.cycles.Cycles.{Cycles}
+use Rattle.hz_grid.specs.declared.cycles.Cycles.{Cycles}
 use Rattle.hz_altern.specs.Answers.{total_weight, Refuses}
 use Rattle.hz_altern.specs.declared.fault.AlternFault.{AlternFault}
 use Rattle.hz_altern.specs.declared.listing.joining.Joining.TheVariants.{Together}
@@ -15,7 +15,7 @@ use Rattle.hz_altern.specs.declared.known.Known.{Known}
 use Rattle.hz_altern.specs.declared.listing.leaves.Leaves.{Leaves}
 use Rattle.hz_altern.specs.declared.mark.Mark.TheVariants.{Plus}
 use Rattle.hz_altern.specs.Joinings.{IsListed, joined_by}
-use Rattle.hz_altern.specs.Leaves.{all_pairs, BeginsIn, Begins, Takes, AllEndBy, IsGathered}
+use Rattle.hz_altern.specs.Leaves.{all_pairs, BeginsIn, Begins, Takes, AreTaken, AllEndBy, IsGathered}
 use Rattle.hz_altern.specs.Tables.{alternatives_in, known_alternatives, is_held}
 use Rattle.hz_altern.proofs.ChoiceWeights.{firsts_weigh, seconds_weigh}
 use Rattle.hz_altern.proofs.GatherLemmas.{together_of, part_at}
@@ -28,16 +28,16 @@ use Rattle.hz_altern.proofs.PartLemmas.{halves, are_expressions-append, all_name
 use Rattle.hz_altern.proofs.Weights.{refuses_larger}
 use Rattle.hz_regexp.specs.declared.expr.Expr.{Expr}
 use Rattle.hz_regexp.specs.Shape.{expression, expressions}
-use Rattle.hz_altern_model.specs.Alternatives.{Alternative, Expression, nothing, idle, beside, each_choice, alternatives_of, parts_of}
-use Rattle.hz_altern_model.specs.AlternativeLists.{IsPlaced, IsAscending, greatest_length}
-use Rattle.hz_altern_model.specs.Automata.{UnitPlace, ascending, listed}
-use Rattle.hz_altern_model.specs.Expressions.{is_expression, are_expressions}
-use Rattle.hz_altern_model.specs.NamesIn.{all_names, all_names_in}
-use Rattle.hz_altern_model.proofs.AscendingLaws.{same_ascending, ascending_same, ascending_is}
-use Rattle.hz_altern_model.proofs.ExpressionLaws.{length-each_choice, one_beside, positive_product}
-use Rattle.hz_altern_model.proofs.ListedLaws.{map-each_choice, each_choice-assoc, All-each_choice, listed_beside, together-append}
-use Rattle.hz_altern_model.proofs.PlacedLaws.{beside_placed, idle_placed}
-use Rattle.hz_altern_model.proofs.SamePairsLaws.{same_append, append_swapped}
+use Rattle.hz_description_model.specs.Reservations.Alternatives.{Alternative, Expression, nothing, idle, beside, each_choice, alternatives_of, parts_of}
+use Rattle.hz_description_model.specs.Reservations.AlternativeLists.{IsPlaced, IsAscending, greatest_length}
+use Rattle.hz_description_model.specs.Reservations.Automata.{UnitPlace, ascending, listed}
+use Rattle.hz_description_model.specs.Reservations.Expressions.{is_expression, are_expressions}
+use Rattle.hz_description_model.specs.Reservations.NamesIn.{all_names, all_names_in}
+use Rattle.hz_description_model.proofs.Reservations.AscendingLaws.{same_ascending, ascending_same, ascending_is}
+use Rattle.hz_description_model.proofs.Reservations.ExpressionLaws.{length-each_choice, one_beside, positive_product}
+use Rattle.hz_description_model.proofs.Reservations.ListedLaws.{map-each_choice, each_choice-assoc, All-each_choice, listed_beside, together-append}
+use Rattle.hz_description_model.proofs.Reservations.PlacedLaws.{beside_placed, idle_placed}
+use Rattle.hz_description_model.proofs.Reservations.SamePairsLaws.{same_append, append_swapped}
 
 abbrev Alternatives : Type 0
 Alternatives = List (Alternative UnitPlace)
@@ -134,7 +134,7 @@ placed_same a b pairs cycles is =
 pub record IsBeside (known : Known) (es : List Expression) (leaves : Leaves) (cycles : ℕ) (others : Alternatives) : Type 0 where
   pub ends : AllEndBy known cycle_limit leaves
   pub pairs : List (Pair UnitPlace)
-  pub taken : (p : Pair UnitPlace) → Contains pairs p ↔ Takes known leaves p
+  pub taken : AreTaken known leaves pairs
   pub is_placed : IsPlaced (whole pairs cycles)
   pub short : cycles ≤ cycle_limit
   pub are_listed : All IsListed others
@@ -254,10 +254,6 @@ module _ (known : Known) where
           (seconds_weigh Together (listed (whole before.pairs cycles) ∷ []) (joins others (map listed xs))
           (All-cons IsListed _ [] (IsListed-listed _ before.is_placed) (All-nil IsListed)) listed_both (omega arith)))
 
-      -- what is refused of the part is refused of the parts so far
-      pub refused_part : (most : ℕ) (fault : AlternFault) → Refuses most (map listed xs) fault → Refuses most (map listed (of (nothing ∷ (es ++ e ∷ [])))) fault
-      refused_part most fault refusal = refused_more most fault (refuses_larger most (map listed xs) (joins others (map listed xs)) (seconds_weigh Together others (map listed xs) before.are_listed listed_more before.some) fault refusal)
-
   -- ---- all parts
 
   module _ (es : List Expression) (some : 0 < length es) (formed : IsTrue (are_expressions (parts_of es))) where
@@ -320,17 +316,25 @@ module _ (known : Known) where
   pub refused_idle : (es : List Expression) → 0 < length es → IsTrue (are_expressions (parts_of es)) → IsTrue (all_names_in (is_held (alternatives_in known)) (parts_of es)) → (most : ℕ) (fault : AlternFault) → Refuses most (idle ∷ []) fault → Refuses most (map listed (of es)) fault
   refused_idle es = refused_front [] es
 
+-- what is refused of a part is refused of all choices of it and of others
+pub refused_part : (known : Known) (e : Expression) → IsTrue (is_expression e) → (others : Alternatives) → 0 < length others → All IsListed others
+    → (most : ℕ) (fault : AlternFault) → Refuses most (map listed (alternatives_of (known_alternatives known) e)) fault → Refuses most (joins others (map listed (alternatives_of (known_alternatives known) e))) fault
+refused_part known e formed others some each most =
+    let xs = map listed (alternatives_of (known_alternatives known) e) in
+    refuses_larger most xs (joins others xs) (seconds_weigh Together others xs each (all_listed _ (placed_of known e formed)) some)
+
+-- ---- what is taken, listed
+
+pub listed_taken : (known : Known) (leaves : Leaves) (made taken : List (Pair UnitPlace)) → IsAscending made → AreTaken known leaves made → AreTaken known leaves taken → made ≡ ascending taken
+listed_taken known leaves made taken up same are = sym (ascending_is taken made up (λ p. (λ c. (are p).1 ((same p).0 c), λ c. (same p).1 ((are p).0 c))))
+
 -- ---- the single one and the others
 
 module _ (known : Known) (es : List Expression) (leaves : Leaves) (cycles : ℕ) (others : Alternatives) (are : IsBeside known es leaves cycles others) (some : 0 < length es) (formed : IsTrue (are_expressions (parts_of es))) where
   abbrev one : Alternatives
   one = listed (whole are.pairs cycles) ∷ []
 
-  -- what is listed of the leaves is the one alternative
-  pub listed_pairs : (pairs : List (Pair UnitPlace)) → IsAscending pairs → ((p : Pair UnitPlace) → Contains pairs p ↔ Takes known leaves p) → pairs ≡ ascending are.pairs
-  listed_pairs pairs up same = sym (ascending_is are.pairs pairs up (λ p. (λ c. (are.taken p).1 ((same p).0 c), λ c. (same p).1 ((are.taken p).0 c))))
-
-  -- and none of its pairs is too late
+  -- no pair of the one alternative is too late
   pub within_length : (p : Pair UnitPlace) → Takes known leaves p → p.cycle < cycles
   within_length p t = All-contains (λ (q : Pair UnitPlace). q.cycle < cycles) are.pairs p are.is_placed.within ((are.taken p).1 t)
 

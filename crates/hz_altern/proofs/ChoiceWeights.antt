@@ -11,9 +11,9 @@ use Rattle.hz_altern.specs.Joinings.{IsListed, joined_by, listed_lists}
 use Rattle.hz_altern.proofs.Weights.{weight-append, weight-cons}
 use Rattle.hz_altern.proofs.MergeLemmas.{swapped}
 use Rattle.hz_base_model.specs.Pairs.{Pair, placed, later, with_pair_by}
-use Rattle.hz_altern_model.specs.Alternatives.{Alternative, each_choice}
-use Rattle.hz_altern_model.specs.Automata.{UnitPlace, ascending, place_cmp}
-use Rattle.hz_altern_model.proofs.AscendingLaws.{with_pair_cases, ascending_itself}
+use Rattle.hz_description_model.specs.Reservations.Alternatives.{Alternative, each_choice}
+use Rattle.hz_description_model.specs.Reservations.Automata.{UnitPlace, ascending, place_cmp}
+use Rattle.hz_description_model.proofs.Reservations.AscendingLaws.{with_pair_cases, ascending_itself}
 
 -- ---- pairs of two lists
 

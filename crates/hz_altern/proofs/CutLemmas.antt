@@ -5,7 +5,6 @@ use Rattle.std.specs.Cmp.Lexicographic.{pointwise}
 use Rattle.std.specs.declared.alloc.Global.{Global}
 use Rattle.std.specs.declared.vec.Vec.{Vec}
 use Rattle.std.proofs.lemmas.Bool.{eqb-true}
-use Rattle.std.proofs.lemmas.Bool.Decides.{nat_tests}
 use Rattle.std.proofs.lemmas.List.{map-append, take_more}
 use Rattle.std.proofs.lemmas.List.Elements.{All-filter, All-map, All-contains, Contains-get_or, filter_passes}
 use Rattle.std.proofs.lemmas.List.Kept.{AllPairs-filter}
@@ -16,13 +15,13 @@ use Rattle.hz_altern.specs.declared.alternative.Alt.{Alt}
 use Rattle.hz_altern.specs.Cuts.{within_pair, within_pairs, cuts_of}
 use Rattle.hz_altern.specs.Shapes.{alternative_of, alternatives}
 use Rattle.hz_base_model.specs.Pairs.{Pair, precedes_by, IsAscendingBy, grid_eq}
-use Rattle.hz_altern_model.specs.AlternativeLists.{IsAscending}
-use Rattle.hz_altern_model.specs.Automata.{UnitPlace, ascending, is_of, inside, cut, list_in}
+use Rattle.hz_description_model.specs.Reservations.AlternativeLists.{IsAscending}
+use Rattle.hz_description_model.specs.Reservations.Automata.{UnitPlace, ascending, is_of, inside, cut, list_in}
 use Rattle.hz_base_model.proofs.Ascending.{AllPairs-map}
-use Rattle.hz_altern_model.proofs.AscendingLaws.{Precedes, pair_at, IsAscending-ascending, Contains-ascending, Contains-from_ascending}
+use Rattle.hz_description_model.proofs.Reservations.AscendingLaws.{Precedes, pair_at, IsAscending-ascending, Contains-ascending, Contains-from_ascending}
 use Rattle.hz_base_model.proofs.Elements.{Contains-map, Contains-from_map, Contains-filter, Contains-from_filter}
-use Rattle.hz_altern_model.proofs.PlacedLaws.{All-ascending}
-use Rattle.hz_altern_model.proofs.ListInLaws.{list_in-push}
+use Rattle.hz_description_model.proofs.Reservations.PlacedLaws.{All-ascending}
+use Rattle.hz_description_model.proofs.Reservations.ListInLaws.{list_in-push}
 use Rattle.hz_base_model.proofs.PairOrder.{grid_one}
 use Rattle.std.specs.Ordering.{nat_cmp, ordering_then, is_lt}
 use Rattle.std.specs.Cmp.{nat_cmp_is}

@@ -4,7 +4,7 @@ use Rattle.std.proofs.lemmas.Bool.{lt-ltb, le-ltb}
 use Rattle.std.proofs.lemmas.List.{length-map}
 use Rattle.std.proofs.lemmas.List.Sums.{sum_by-append}
 use Rattle.hz_base_model.specs.Limits.{cycle_limit}
-use Rattle.hz_altern_model.specs.Limits.{alternative_limit}
+use Rattle.hz_description_model.specs.Reservations.Limits.{alternative_limit}
 use Rattle.hz_altern.specs.declared.fault.AlternFault.{AlternFault}
 use Rattle.hz_altern.specs.declared.fault.AlternFault.TheVariants.{AlternativesLimit, CyclesLimit, SizeLimit, NoMemory}
 use Rattle.hz_altern.specs.declared.extents.measure.Extent.{Extent}
@@ -14,9 +14,9 @@ use Rattle.hz_altern.proofs.KnownLemmas.{all_listed}
 use Rattle.hz_altern.proofs.Lengths.{length_within}
 use Rattle.hz_altern.proofs.Weights.{weight-cons}
 use Rattle.hz_altern.proofs.HalfLemmas.{greatest-listed}
-use Rattle.hz_altern_model.specs.Alternatives.{Alternative}
-use Rattle.hz_altern_model.specs.AlternativeLists.{extent_of, excess_of, too_many, too_long, too_large, greatest_length, IsPlaced, AreSound}
-use Rattle.hz_altern_model.specs.Automata.{UnitPlace, listed, size_of, total_size}
+use Rattle.hz_description_model.specs.Reservations.Alternatives.{Alternative}
+use Rattle.hz_description_model.specs.Reservations.AlternativeLists.{extent_of, excess_of, too_many, too_long, too_large, greatest_length, IsPlaced, AreSound}
+use Rattle.hz_description_model.specs.Reservations.Automata.{UnitPlace, listed, size_of, total_size}
 
 -- listed alternatives are as large as they count
 pub total_listed : (all : List (Alternative UnitPlace)) → total_weight (map listed all) ≡ total_size all

@@ -5,7 +5,7 @@ use Rattle.std.proofs.lemmas.Bool.{and_parts, leb-true}
 use Rattle.std.proofs.Common.{true, take, drop, Option, Some, subst, length-drop, length-take}
 use Rattle.std.specs.Prelude.{IsTrue}
 use Rattle.hz_base_model.specs.Limits.{cycle_limit}
-use Rattle.hz_altern_model.specs.Limits.{alternative_limit}
+use Rattle.hz_description_model.specs.Reservations.Limits.{alternative_limit}
 use Rattle.hz_regexp.specs.declared.expr.Expr.{Expr}
 use Rattle.hz_regexp.specs.Shape.{expressions}
 use Rattle.hz_altern.specs.declared.mark.Mark.{Mark}
@@ -16,11 +16,11 @@ use Rattle.hz_altern.specs.Extents.{cut_extent, joined_extents, repeated_extent}
 use Rattle.hz_altern.proofs.Lengths.{greatest-append, greatest-followed, greatest-beside, greatest-copies}
 use Rattle.hz_altern.proofs.Cutting.{cut_product, cut_power, cut_times}
 use Rattle.hz_altern.proofs.PartLemmas.{halves, formed_halves, right_halves, joined_parts-append, some_joined}
-use Rattle.hz_altern_model.specs.Expressions.{is_expression, are_expressions}
-use Rattle.hz_altern_model.specs.Alternatives.{parts_of, Alternative, Expression, named, nothing, repeat, alternatives_of, each_choice, followed_by, beside, copies}
-use Rattle.hz_altern_model.specs.AlternativeLists.{Extent, extent_of, greatest_length}
-use Rattle.hz_altern_model.specs.Automata.{UnitPlace}
-use Rattle.hz_altern_model.proofs.ExpressionLaws.{length-each_choice, count_copies, some_alternatives}
+use Rattle.hz_description_model.specs.Reservations.Expressions.{is_expression, are_expressions}
+use Rattle.hz_description_model.specs.Reservations.Alternatives.{parts_of, Alternative, Expression, named, nothing, repeat, alternatives_of, each_choice, followed_by, beside, copies}
+use Rattle.hz_description_model.specs.Reservations.AlternativeLists.{Extent, extent_of, greatest_length}
+use Rattle.hz_description_model.specs.Reservations.Automata.{UnitPlace}
+use Rattle.hz_description_model.proofs.Reservations.ExpressionLaws.{length-each_choice, count_copies, some_alternatives}
 
 extent_from : (xs : List (Alternative UnitPlace)) (count longest : ℕ) → length xs ≡ count → greatest_length xs ≡ longest → extent_of xs ≡ cut_extent count longest
 extent_from xs count longest e f = ap (λ n. cut_extent n (greatest_length xs)) e ∙ ap (cut_extent count) f

@@ -8,7 +8,7 @@ use Rattle.std.proofs.lemmas.List.Elements.{Contains-append_left, Contains-appen
 use Rattle.hz_base_model.specs.Limits.{cycle_limit}
 use Rattle.hz_base_model.specs.Pairs.{Pair, placed, later}
 use Rattle.hz_base_model.proofs.Elements.{Contains-nil, Contains-map, Contains-from_map}
-use Rattle.hz_cycles.specs.declared.cycles.Cycles.{Cycles}
+use Rattle.hz_grid.specs.declared.cycles.Cycles.{Cycles}
 use Rattle.hz_altern.specs.declared.known.Known.{Known}
 use Rattle.hz_altern.specs.declared.listing.leaves.Leaves.{Leaves}
 use Rattle.hz_altern.specs.Leaves.{all_pairs, BeginsIn, Begins, BeginsInCopy, AddsCopies, Takes, AllEndBy, IsGathered}
@@ -20,13 +20,13 @@ use Rattle.hz_altern.proofs.Nodes.{nodes, all_nodes}
 use Rattle.hz_altern.proofs.PartLemmas.{halves}
 use Rattle.hz_regexp.specs.declared.expr.Expr.{Expr}
 use Rattle.hz_regexp.specs.Shape.{expression, expressions}
-use Rattle.hz_altern_model.specs.Alternatives.{Alternative, Expression, followed_by, beside, each_choice, copies, alternatives_of, in_sequence, any_of, together, parts_of}
-use Rattle.hz_altern_model.specs.AlternativeLists.{greatest_length}
-use Rattle.hz_altern_model.specs.Automata.{UnitPlace}
-use Rattle.hz_altern_model.specs.Expressions.{are_several, is_expression, are_expressions}
-use Rattle.hz_altern_model.specs.NamesIn.{all_names, all_names_in}
-use Rattle.hz_altern_model.proofs.ExpressionLaws.{length-each_choice, one_followed, one_beside}
-use Rattle.hz_altern_model.proofs.ListedLaws.{in_sequence-append, together-append, copies-add}
+use Rattle.hz_description_model.specs.Reservations.Alternatives.{Alternative, Expression, followed_by, beside, each_choice, copies, alternatives_of, in_sequence, any_of, together, parts_of}
+use Rattle.hz_description_model.specs.Reservations.AlternativeLists.{greatest_length}
+use Rattle.hz_description_model.specs.Reservations.Automata.{UnitPlace}
+use Rattle.hz_description_model.specs.Reservations.Expressions.{are_several, is_expression, are_expressions}
+use Rattle.hz_description_model.specs.Reservations.NamesIn.{all_names, all_names_in}
+use Rattle.hz_description_model.proofs.Reservations.ExpressionLaws.{length-each_choice, one_followed, one_beside}
+use Rattle.hz_description_model.proofs.Reservations.ListedLaws.{in_sequence-append, together-append, copies-add}
 
 -- ---- parts of the code one by one
 

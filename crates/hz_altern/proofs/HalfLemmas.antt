@@ -28,12 +28,12 @@ use Rattle.hz_altern.proofs.PartLemmas.{are_expressions-append, all_names_in-app
 use Rattle.hz_altern.proofs.ListedLemmas.{copies_one, copies_short, copies_refused}
 use Rattle.hz_altern.proofs.Nodes.{nodes, all_nodes, Cut, cut_in_two}
 use Rattle.hz_altern.proofs.Weights.{refuses_larger, weight-append}
-use Rattle.hz_altern_model.specs.Alternatives.{Alternative, Expression, repeat, alternatives_of, each_choice, followed_by, beside, copies, parts_of}
-use Rattle.hz_altern_model.specs.AlternativeLists.{IsPlaced, greatest_length}
-use Rattle.hz_altern_model.specs.Automata.{UnitPlace, listed}
-use Rattle.hz_altern_model.specs.Expressions.{is_expression, are_expressions}
-use Rattle.hz_altern_model.specs.NamesIn.{all_names, all_names_in}
-use Rattle.hz_altern_model.proofs.ListedLaws.{map-each_choice, listed_followed, listed_beside}
+use Rattle.hz_description_model.specs.Reservations.Alternatives.{Alternative, Expression, repeat, alternatives_of, each_choice, followed_by, beside, copies, parts_of}
+use Rattle.hz_description_model.specs.Reservations.AlternativeLists.{IsPlaced, greatest_length}
+use Rattle.hz_description_model.specs.Reservations.Automata.{UnitPlace, listed}
+use Rattle.hz_description_model.specs.Reservations.Expressions.{is_expression, are_expressions}
+use Rattle.hz_description_model.specs.Reservations.NamesIn.{all_names, all_names_in}
+use Rattle.hz_description_model.proofs.Reservations.ListedLaws.{map-each_choice, listed_followed, listed_beside}
 
 -- ---- listing joined lists is joining listed ones
 

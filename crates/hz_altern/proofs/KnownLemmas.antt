@@ -16,13 +16,13 @@ use Rattle.hz_altern.specs.Tables.{alternatives_in, known_alternatives, known_ex
 use Rattle.hz_altern.specs.Extents.{told}
 use Rattle.hz_altern.proofs.PartLemmas.{some_joined}
 use Rattle.hz_altern.proofs.ListedLemmas.{listed_itself, IsListed-listed}
-use Rattle.hz_altern_model.specs.Alternatives.{Alternative, Expression, alternatives_of, parts_of}
-use Rattle.hz_altern_model.specs.AlternativeLists.{IsPlaced, extent_of, greatest_length}
-use Rattle.hz_altern_model.specs.Automata.{UnitPlace, listed}
-use Rattle.hz_altern_model.specs.Expressions.{is_expression, are_expressions}
-use Rattle.hz_altern_model.specs.NamesIn.{all_names, all_names_in}
-use Rattle.hz_altern_model.proofs.ExpressionLaws.{some_alternatives}
-use Rattle.hz_altern_model.proofs.PlacedLaws.{placed_alternatives, placed_sequence, placed_any, placed_together, name_passes, name_in_passes}
+use Rattle.hz_description_model.specs.Reservations.Alternatives.{Alternative, Expression, alternatives_of, parts_of}
+use Rattle.hz_description_model.specs.Reservations.AlternativeLists.{IsPlaced, extent_of, greatest_length}
+use Rattle.hz_description_model.specs.Reservations.Automata.{UnitPlace, listed}
+use Rattle.hz_description_model.specs.Reservations.Expressions.{is_expression, are_expressions}
+use Rattle.hz_description_model.specs.Reservations.NamesIn.{all_names, all_names_in}
+use Rattle.hz_description_model.proofs.Reservations.ExpressionLaws.{some_alternatives}
+use Rattle.hz_description_model.proofs.Reservations.PlacedLaws.{placed_alternatives, placed_sequence, placed_any, placed_together, name_passes, name_in_passes}
 
 -- ---- one name
 

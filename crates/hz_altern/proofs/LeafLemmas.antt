@@ -7,16 +7,16 @@ use Rattle.std.specs.Map.{lookup}
 use Rattle.indexmap.specs.IndexMap.{insert_entry}
 use Rattle.hz_base_model.specs.Pairs.{Pair, placed, later}
 use Rattle.hz_base_model.proofs.Elements.{Contains-nil}
-use Rattle.hz_cycles.specs.Sets.{HasCycle, IsLater, IsCopied}
-use Rattle.hz_cycles.specs.declared.cycles.Cycles.{Cycles}
+use Rattle.hz_grid.specs.Sets.{HasCycle, IsLater, IsCopied}
+use Rattle.hz_grid.specs.declared.cycles.Cycles.{Cycles}
 use Rattle.hz_altern.specs.declared.known.Known.{Known}
 use Rattle.hz_altern.specs.declared.listing.leaves.Leaves.{Leaves}
 use Rattle.hz_altern.specs.Leaves.{all_pairs, BeginsIn, Begins, BeginsToo, BeginsInCopy, AddsCopies, HasIn, TakesIn, Takes, EndsBy, IsGathered}
 use Rattle.hz_altern.specs.Tables.{known_alternatives}
 use Rattle.hz_altern.proofs.Lengths.{greatest-followed, greatest-beside}
-use Rattle.hz_altern_model.specs.Alternatives.{Alternative, followed_by, beside, each_choice}
-use Rattle.hz_altern_model.specs.AlternativeLists.{greatest_length}
-use Rattle.hz_altern_model.specs.Automata.{UnitPlace}
+use Rattle.hz_description_model.specs.Reservations.Alternatives.{Alternative, followed_by, beside, each_choice}
+use Rattle.hz_description_model.specs.Reservations.AlternativeLists.{greatest_length}
+use Rattle.hz_description_model.specs.Reservations.Automata.{UnitPlace}
 
 abbrev Pairs : Type 0
 Pairs = List (Pair UnitPlace)

@@ -5,10 +5,10 @@ use Rattle.std.proofs.lemmas.List.Elements.{All-head, All-tail, All-nil, All-con
 use Rattle.hz_base_model.specs.Limits.{cycle_limit}
 use Rattle.hz_altern.specs.declared.alternative.Alt.{Alt}
 use Rattle.hz_altern.specs.Shapes.{alternatives, alternative_of}
-use Rattle.hz_altern_model.specs.Alternatives.{Alternative, followed_by, beside, each_choice, copies}
-use Rattle.hz_altern_model.specs.AlternativeLists.{greatest_length, IsSound}
-use Rattle.hz_altern_model.specs.Automata.{UnitPlace}
-use Rattle.hz_altern_model.proofs.ExpressionLaws.{some_copies}
+use Rattle.hz_description_model.specs.Reservations.Alternatives.{Alternative, followed_by, beside, each_choice, copies}
+use Rattle.hz_description_model.specs.Reservations.AlternativeLists.{greatest_length, IsSound}
+use Rattle.hz_description_model.specs.Reservations.Automata.{UnitPlace}
+use Rattle.hz_description_model.proofs.Reservations.ExpressionLaws.{some_copies}
 
 module _ {U : Type 0} where
   pub greatest-append : (xs ys : List (Alternative U)) → greatest_length (xs ++ ys) ≡ max (greatest_length xs) (greatest_length ys)

@@ -11,13 +11,13 @@ use Rattle.hz_altern.specs.Joinings.{IsListed, joined_by}
 use Rattle.hz_altern.proofs.Lengths.{greatest-copies}
 use Rattle.hz_altern.proofs.ChoiceWeights.{firsts_weigh}
 use Rattle.hz_base_model.specs.Pairs.{Pair}
-use Rattle.hz_altern_model.specs.Alternatives.{Alternative, each_choice, followed_by, copies}
-use Rattle.hz_altern_model.specs.AlternativeLists.{IsPlaced, greatest_length}
-use Rattle.hz_altern_model.specs.Automata.{UnitPlace, listed}
-use Rattle.hz_altern_model.proofs.AscendingLaws.{IsAscending-ascending, ascending_itself}
-use Rattle.hz_altern_model.proofs.ExpressionLaws.{one_followed, some_copies}
-use Rattle.hz_altern_model.proofs.ListedLaws.{All-each_choice, copies-add, listed_followed}
-use Rattle.hz_altern_model.proofs.PlacedLaws.{followed_placed, listed_placed}
+use Rattle.hz_description_model.specs.Reservations.Alternatives.{Alternative, each_choice, followed_by, copies}
+use Rattle.hz_description_model.specs.Reservations.AlternativeLists.{IsPlaced, greatest_length}
+use Rattle.hz_description_model.specs.Reservations.Automata.{UnitPlace, listed}
+use Rattle.hz_description_model.proofs.Reservations.AscendingLaws.{IsAscending-ascending, ascending_itself}
+use Rattle.hz_description_model.proofs.Reservations.ExpressionLaws.{one_followed, some_copies}
+use Rattle.hz_description_model.proofs.Reservations.ListedLaws.{All-each_choice, copies-add, listed_followed}
+use Rattle.hz_description_model.proofs.Reservations.PlacedLaws.{followed_placed, listed_placed}
 
 abbrev whole : List (Pair UnitPlace) → ℕ → Alternative UnitPlace
 whole pairs cycles = record { pairs = pairs; cycles = cycles }

@@ -2,12 +2,12 @@
 use Rattle.std.proofs.Common.{◌≡◌, ⊎_elim, List, [], ◌∷◌, ◌++◌, length, All, Contains, refl, sym, ap, ◌∙◌, subst, arith}
 use Rattle.std.proofs.lemmas.List.Elements.{All-contains, All-nil, Contains-get_or, Contains-append_left, Contains-append_right, Contains-append_cases}
 use Rattle.hz_base_model.specs.Pairs.{Pair}
-use Rattle.hz_altern_model.specs.Automata.{UnitPlace, ascending}
-use Rattle.hz_altern_model.specs.AlternativeLists.{IsAscending}
+use Rattle.hz_description_model.specs.Reservations.Automata.{UnitPlace, ascending}
+use Rattle.hz_description_model.specs.Reservations.AlternativeLists.{IsAscending}
 use Rattle.hz_base_model.proofs.Elements.{Contains-head, Contains-tail, Contains-cons_cases}
 use Rattle.hz_base_model.proofs.Ascending.{AllPairs-head, AllPairs-tail}
-use Rattle.hz_altern_model.proofs.SamePairsLaws.{append_swapped}
-use Rattle.hz_altern_model.proofs.AscendingLaws.{Precedes, Precedes_transitive, ascending_same, Contains-from_ascending, with_pair_least}
+use Rattle.hz_description_model.proofs.Reservations.SamePairsLaws.{append_swapped}
+use Rattle.hz_description_model.proofs.Reservations.AscendingLaws.{Precedes, Precedes_transitive, ascending_same, Contains-from_ascending, with_pair_least}
 use Rattle.hz_altern.specs.Merging.{IsLeast}
 use Rattle.hz_altern.specs.declared.alternative.Pair.{Pair as StoredPair}
 use Rattle.hz_altern.specs.Shapes.{pair_of, pairs_of}

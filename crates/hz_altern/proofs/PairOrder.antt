@@ -14,9 +14,9 @@ use Rattle.hz_altern.specs.declared.alternative.Pair.{Pair as StoredPair}
 use Rattle.hz_altern.specs.contracts.alternative.PairPartialEq.TheImpl.{eq-value}
 use Rattle.hz_altern.specs.Shapes.{pair_of, pairs_of}
 use Rattle.hz_altern.proofs.OrderLemmas.{sorted_stand, sorted_same}
-use Rattle.hz_altern_model.specs.AlternativeLists.{IsAscending}
-use Rattle.hz_altern_model.specs.Automata.{UnitPlace}
-use Rattle.hz_altern_model.proofs.AscendingLaws.{Precedes}
+use Rattle.hz_description_model.specs.Reservations.AlternativeLists.{IsAscending}
+use Rattle.hz_description_model.specs.Reservations.Automata.{UnitPlace}
+use Rattle.hz_description_model.proofs.Reservations.AscendingLaws.{Precedes}
 
 -- by cycle, then by automaton, then by unit
 abbrev pub by_place : StoredPair → StoredPair → Ordering

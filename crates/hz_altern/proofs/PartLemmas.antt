@@ -9,14 +9,14 @@ use Rattle.hz_altern.specs.declared.mark.Mark.{Mark}
 use Rattle.hz_altern.specs.declared.mark.Mark.TheVariants.{Comma, Bar, Plus}
 use Rattle.hz_altern.specs.Joinings.{joined_parts, joined_lists}
 use Rattle.hz_altern.specs.Tables.{AreRight, AreRightIn}
-use Rattle.hz_altern_model.specs.AlternativeLists.{Extent}
-use Rattle.hz_altern_model.specs.Alternatives.{Alternative, Expression, alternatives_of, any_of, parts_of}
-use Rattle.hz_altern_model.specs.Automata.{UnitPlace}
-use Rattle.hz_altern_model.specs.Expressions.{are_expressions}
-use Rattle.hz_altern_model.specs.Meanings.{MentionsIn}
-use Rattle.hz_altern_model.specs.NamesIn.{all_names_in}
-use Rattle.hz_altern_model.proofs.ExpressionLaws.{one_followed, one_beside, one_of_one, some_sequence, some_together, some_alternatives}
-use Rattle.hz_altern_model.proofs.ListedLaws.{in_sequence-append, together-append, any_of-append}
+use Rattle.hz_description_model.specs.Reservations.AlternativeLists.{Extent}
+use Rattle.hz_description_model.specs.Reservations.Alternatives.{Alternative, Expression, alternatives_of, any_of, parts_of}
+use Rattle.hz_description_model.specs.Reservations.Automata.{UnitPlace}
+use Rattle.hz_description_model.specs.Reservations.Expressions.{are_expressions}
+use Rattle.hz_description_model.specs.Reservations.Meanings.{MentionsIn}
+use Rattle.hz_description_model.specs.Reservations.NamesIn.{all_names_in}
+use Rattle.hz_description_model.proofs.Reservations.ExpressionLaws.{one_followed, one_beside, one_of_one, some_sequence, some_together, some_alternatives}
+use Rattle.hz_description_model.proofs.Reservations.ListedLaws.{in_sequence-append, together-append, any_of-append}
 
 -- ---- lists of expressions
 

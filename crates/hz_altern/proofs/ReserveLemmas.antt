@@ -9,9 +9,9 @@ use Rattle.indexmap.proofs.CallerLemmas.{Contains-list_any}
 use Rattle.hz_base_model.specs.Limits.{automaton_limit, cycle_limit, unit_limit}
 use Rattle.hz_base_model.specs.Pairs.{Pair, later, placed}
 use Rattle.hz_base_model.proofs.Elements.{Contains-nil, Contains-cons_cases, Contains-map, Contains-from_map}
-use Rattle.hz_cycles.specs.Sets.{HasCycle, IsLater}
-use Rattle.hz_cycles.specs.Tables.{IsTaken}
-use Rattle.hz_cycles.specs.declared.cycles.Cycles.{Cycles}
+use Rattle.hz_grid.specs.Sets.{HasCycle, IsLater}
+use Rattle.hz_grid.specs.Tables.{IsTaken}
+use Rattle.hz_grid.specs.declared.cycles.Cycles.{Cycles}
 use Rattle.hz_altern.specs.declared.alternative.Alt.{Alt}
 use Rattle.hz_altern.specs.declared.alternative.Pair.{Pair as StoredPair}
 use Rattle.hz_altern.specs.declared.known.Known.{Known}
@@ -22,8 +22,8 @@ use Rattle.hz_altern.specs.Shapes.{pair_of, pairs_of, alternative_of, alternativ
 use Rattle.hz_altern.specs.Tables.{known_alternatives}
 use Rattle.hz_altern.proofs.LeafLemmas.{begins_front, begins_back, begins_cases, next_entry, taken_again}
 use Rattle.hz_altern.proofs.OrderLemmas.{same, same_equiv, same_is}
-use Rattle.hz_altern_model.specs.AlternativeLists.{IsSound, greatest_length}
-use Rattle.hz_altern_model.specs.Automata.{UnitPlace}
+use Rattle.hz_description_model.specs.Reservations.AlternativeLists.{IsSound, greatest_length}
+use Rattle.hz_description_model.specs.Reservations.Automata.{UnitPlace}
 
 abbrev Pairs : Type 0
 Pairs = List (Pair UnitPlace)

@@ -7,10 +7,10 @@ use Rattle.hz_altern.specs.declared.listing.joining.Joining.TheVariants.{InSeque
 use Rattle.hz_altern.specs.Answers.{weight, total_weight}
 use Rattle.hz_altern.specs.Joinings.{IsListed, joined_by}
 use Rattle.hz_altern.proofs.Weights.{weight-append, weight-cons}
-use Rattle.hz_altern_model.specs.Limits.{size_limit}
+use Rattle.hz_description_model.specs.Reservations.Limits.{size_limit}
 use Rattle.hz_base_model.specs.Pairs.{placed, later}
-use Rattle.hz_altern_model.specs.Alternatives.{Alternative, each_choice}
-use Rattle.hz_altern_model.specs.Automata.{UnitPlace}
+use Rattle.hz_description_model.specs.Reservations.Alternatives.{Alternative, each_choice}
+use Rattle.hz_description_model.specs.Reservations.Automata.{UnitPlace}
 
 -- there are no more alternatives than they have cycles
 pub few_listed : (xs : List (Alternative UnitPlace)) → All IsListed xs → length xs ≤ total_weight xs

@@ -8,7 +8,7 @@ use Rattle.hz_regexp.specs.declared.expr.Expr.TheOpen.{Expr-F}
 use Rattle.hz_regexp.specs.declared.expr.Expr.TheVariants.{Named, Nothing, Seq, Oneof, Allof, Repeat, rolls-Named, rolls-Nothing, rolls-Seq, rolls-Oneof, rolls-Allof, rolls-Repeat}
 use Rattle.hz_regexp.specs.declared.expr.Expr.TheFolds.{fold-roll-Expr}
 use Rattle.hz_regexp.specs.Shape.{expression, expressions, expression_step}
-use Rattle.hz_altern_model.specs.Alternatives.{Expression, named, nothing, sequence, one_of, all_of, repeat, parts_of}
+use Rattle.hz_description_model.specs.Reservations.Alternatives.{Expression, named, nothing, sequence, one_of, all_of, repeat, parts_of}
 
 pub named_is : (name : List ℕ) → expression (Named name) ≡ named name
 named_is name = ap expression (sym (rolls-Named name)) ∙ fold-roll-Expr Expression expression_step (Expr-F.Named name)

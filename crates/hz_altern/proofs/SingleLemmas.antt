@@ -1,5 +1,5 @@
 -- Which parts of an expression have one alternative.
-use Rattle.std.proofs.Common.{◌≡◌, ℕ, zero, suc, ◌+◌, ◌*◌, ◌<◌, ◌≤◌, Bool, true, false, ◌&&◌, List, [], ◌∷◌, ◌++◌, length, take, drop, get_or, refl, sym, ap, ◌∙◌, subst, arith}
+use Rattle.std.proofs.Common.{◌≡◌, ℕ, zero, suc, ◌*◌, ◌<◌, ◌≤◌, Bool, true, false, ◌&&◌, List, [], ◌∷◌, ◌++◌, length, take, drop, get_or, refl, sym, ap, ◌∙◌, subst, arith}
 use Rattle.std.specs.Prelude.{IsTrue, nat_eq}
 use Rattle.std.specs.List.{list_all}
 use Rattle.std.proofs.lemmas.Bool.{and_parts, leb-true, ne_eqb, eqb-true}
@@ -10,11 +10,11 @@ use Rattle.hz_altern.specs.Tables.{alternatives_in, known_alternatives, is_held}
 use Rattle.hz_altern.proofs.GatherLemmas.{factors_one, several_of}
 use Rattle.hz_regexp.specs.declared.expr.Expr.{Expr}
 use Rattle.hz_regexp.specs.Shape.{expression, expressions}
-use Rattle.hz_altern_model.specs.Alternatives.{Alternative, Expression, named, nothing, sequence, one_of, all_of, repeat, Parts, none, more, followed_by, beside, each_choice, copies, alternatives_of, in_sequence, any_of, together, parts_of}
-use Rattle.hz_altern_model.specs.Automata.{UnitPlace}
-use Rattle.hz_altern_model.specs.Expressions.{are_several, is_expression, are_expressions}
-use Rattle.hz_altern_model.specs.NamesIn.{all_names_in}
-use Rattle.hz_altern_model.proofs.ExpressionLaws.{length-each_choice}
+use Rattle.hz_description_model.specs.Reservations.Alternatives.{Alternative, Expression, named, nothing, sequence, one_of, all_of, repeat, Parts, none, more, followed_by, beside, each_choice, copies, alternatives_of, in_sequence, any_of, together, parts_of}
+use Rattle.hz_description_model.specs.Reservations.Automata.{UnitPlace}
+use Rattle.hz_description_model.specs.Reservations.Expressions.{are_several, is_expression, are_expressions}
+use Rattle.hz_description_model.specs.Reservations.NamesIn.{all_names_in}
+use Rattle.hz_description_model.proofs.Reservations.ExpressionLaws.{length-each_choice}
 
 -- ---- numbers that are one
 

@@ -8,9 +8,9 @@ use Rattle.hz_altern.specs.declared.fault.AlternFault.{AlternFault}
 use Rattle.hz_altern.specs.declared.fault.AlternFault.TheVariants.{AlternativesLimit, CyclesLimit, SizeLimit, NoMemory}
 use Rattle.hz_altern.specs.Answers.{weight, total_weight, Refuses}
 use Rattle.hz_altern.specs.Shapes.{alternative_of, alternatives}
-use Rattle.hz_altern_model.specs.Alternatives.{Alternative, each_choice}
-use Rattle.hz_altern_model.specs.Automata.{UnitPlace}
-use Rattle.hz_altern_model.specs.AlternativeLists.{greatest_length}
+use Rattle.hz_description_model.specs.Reservations.Alternatives.{Alternative, each_choice}
+use Rattle.hz_description_model.specs.Reservations.Automata.{UnitPlace}
+use Rattle.hz_description_model.specs.Reservations.AlternativeLists.{greatest_length}
 use Rattle.hz_altern.specs.Joinings.{IsListed}
 use Rattle.hz_altern.proofs.ListLemmas.{All-from_map}
 use Rattle.hz_altern.proofs.Lengths.{greatest-append, length_within}

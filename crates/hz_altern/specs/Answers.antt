@@ -6,9 +6,9 @@ use Rattle.hz_altern.specs.declared.alternative.Alt.{Alt}
 use Rattle.hz_altern.specs.declared.fault.AlternFault.{AlternFault}
 use Rattle.hz_altern.specs.declared.fault.AlternFault.TheVariants.{AlternativesLimit, CyclesLimit, SizeLimit, NoMemory}
 use Rattle.hz_altern.specs.Shapes.{alternatives}
-use Rattle.hz_altern_model.specs.Alternatives.{Alternative}
-use Rattle.hz_altern_model.specs.AlternativeLists.{too_many, too_long, too_large, excess_of}
-use Rattle.hz_altern_model.specs.Automata.{UnitPlace, listed}
+use Rattle.hz_description_model.specs.Reservations.Alternatives.{Alternative}
+use Rattle.hz_description_model.specs.Reservations.AlternativeLists.{too_many, too_long, too_large, excess_of}
+use Rattle.hz_description_model.specs.Reservations.Automata.{UnitPlace, listed}
 
 -- What is answered for these alternatives, where they may have no more than so many cycles and pairs together: all of them
 -- in their order, each listed the one way, where they pass no limit, and otherwise the first limit that they pass. Want of

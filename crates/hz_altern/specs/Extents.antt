@@ -3,9 +3,9 @@ use Rattle.std.specs.Prelude.{ℕ, ◌+◌, ◌*◌, ◌^◌, min, max}
 use Rattle.hz_altern.specs.declared.extents.measure.Extent.{Extent}
 use Rattle.hz_altern.specs.declared.mark.Mark.{Mark}
 use Rattle.hz_altern.specs.declared.mark.Mark.TheVariants.{Comma, Bar, Plus}
-use Rattle.hz_altern_model.specs.AlternativeLists as model
+use Rattle.hz_description_model.specs.Reservations.AlternativeLists as model
 use Rattle.hz_base_model.specs.Limits.{cycle_limit}
-use Rattle.hz_altern_model.specs.Limits.{alternative_limit}
+use Rattle.hz_description_model.specs.Reservations.Limits.{alternative_limit}
 
 -- what an extent says
 abbrev pub told : Extent → model.Extent

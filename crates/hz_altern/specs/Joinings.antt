@@ -1,12 +1,13 @@
 -- What stands between parts, and what it makes of their alternatives.
-use Rattle.std.specs.Prelude.{ℕ, ◌-◌, List, ◌++◌}
-use Rattle.hz_altern_model.specs.AlternativeLists.{IsPlaced, IsAscending}
+use Rattle.std.specs.Prelude.{ℕ, ◌-◌, List, [], ◌∷◌, ◌++◌, map}
+use Rattle.hz_description_model.specs.Reservations.AlternativeLists.{IsPlaced, IsAscending}
+use Rattle.hz_base_model.specs.Pairs.{Pair}
 use Rattle.hz_altern.specs.declared.listing.joining.Joining.{Joining}
 use Rattle.hz_altern.specs.declared.listing.joining.Joining.TheVariants.{InSequence, Together}
 use Rattle.hz_altern.specs.declared.mark.Mark.{Mark}
 use Rattle.hz_altern.specs.declared.mark.Mark.TheVariants.{Comma, Bar, Plus}
-use Rattle.hz_altern_model.specs.Alternatives.{Alternative, Parts, followed_by, beside, each_choice, in_sequence, any_of, together}
-use Rattle.hz_altern_model.specs.Automata.{UnitPlace, listed}
+use Rattle.hz_description_model.specs.Reservations.Alternatives.{Alternative, Parts, followed_by, beside, each_choice, in_sequence, any_of, together}
+use Rattle.hz_description_model.specs.Reservations.Automata.{UnitPlace, listed}
 
 -- two alternatives as one, listed the one way where they are
 abbrev pub joined_by : Joining → Alternative UnitPlace → Alternative UnitPlace → Alternative UnitPlace
@@ -35,6 +36,14 @@ abbrev pub listed_lists : Mark → List (Alternative UnitPlace) → List (Altern
 listed_lists Comma xs ys = each_choice (joined_by InSequence) xs ys
 listed_lists Bar xs ys = xs ++ ys
 listed_lists Plus xs ys = each_choice (joined_by Together) xs ys
+
+-- the choices of listed alternatives and of what is listed of others, from the same cycle on
+abbrev pub listed_beside : List (Alternative UnitPlace) → List (Alternative UnitPlace) → List (Alternative UnitPlace)
+listed_beside xs ys = each_choice (joined_by Together) xs (map listed ys)
+
+-- one alternative of these pairs that runs for so many cycles, listed
+abbrev pub only_listed : List (Pair UnitPlace) → ℕ → List (Alternative UnitPlace)
+only_listed pairs cycles = listed (record { pairs = pairs; cycles = cycles }) ∷ []
 
 -- how large a second list may be behind a first one of this size, where with this mark between them they may be so large
 abbrev pub left_behind : Mark → ℕ → ℕ → ℕ

@@ -1,14 +1,14 @@
 -- Names with one alternative, each from some cycles on: what parts that begin in the same cycle are taken apart into.
 use Rattle.std.specs.Prelude.{◌≡◌, ◌↔◌, ◌⊎◌, ℕ, ◌+◌, ◌*◌, ◌<◌, ◌≤◌, List, [], ◌∷◌, Option, None, Some, length}
 use Rattle.std.specs.List.{Contains, flat_map}
-use Rattle.hz_cycles.specs.Sets.{HasCycle}
-use Rattle.hz_cycles.specs.declared.cycles.Cycles.{Cycles}
+use Rattle.hz_grid.specs.Sets.{HasCycle}
+use Rattle.hz_grid.specs.declared.cycles.Cycles.{Cycles}
 use Rattle.hz_altern.specs.declared.known.Known.{Known}
 use Rattle.hz_altern.specs.declared.listing.leaves.Leaves.{Leaves}
 use Rattle.hz_altern.specs.Tables.{known_alternatives}
-use Rattle.hz_altern_model.specs.Alternatives.{Alternative}
-use Rattle.hz_altern_model.specs.AlternativeLists.{greatest_length}
-use Rattle.hz_altern_model.specs.Automata.{UnitPlace}
+use Rattle.hz_description_model.specs.Reservations.Alternatives.{Alternative}
+use Rattle.hz_description_model.specs.Reservations.AlternativeLists.{greatest_length}
+use Rattle.hz_description_model.specs.Reservations.Automata.{UnitPlace}
 use Rattle.hz_base_model.specs.Limits.{cycle_limit}
 use Rattle.hz_base_model.specs.Pairs.{Pair, placed}
 
@@ -40,6 +40,10 @@ pub record TakesIn (known : Known) (entries : List (List ℕ × Cycles)) (p : Pa
 -- the same of leaves
 abbrev pub Takes : Known → Leaves → Pair UnitPlace → Type 0
 Takes known leaves p = TakesIn known leaves.names.entries p
+
+-- these are the pairs that leaves take
+abbrev pub AreTaken : Known → Leaves → List (Pair UnitPlace) → Type 0
+AreTaken known leaves pairs = (p : Pair UnitPlace) → Contains pairs p ↔ Takes known leaves p
 
 -- the name has one alternative, and from the cycle on that ends in time
 pub record EndsBy (known : Known) (most : ℕ) (name : List ℕ) (start : ℕ) : Type 0 where

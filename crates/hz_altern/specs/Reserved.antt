@@ -2,12 +2,12 @@
 use Rattle.std.specs.Prelude.{◌≡◌, ◌↔◌, ◌⊎◌, ◌<◌, ℕ, List, All}
 use Rattle.std.specs.List.{Contains}
 use Rattle.hz_altern.specs.declared.listing.reserving.Reserved.{Reserved}
-use Rattle.hz_altern_model.specs.Automata.{UnitPlace}
+use Rattle.hz_description_model.specs.Reservations.Automata.{UnitPlace}
 use Rattle.hz_base_model.specs.Limits.{automaton_limit, cycle_limit, unit_limit}
 use Rattle.hz_base_model.specs.Pairs.{Pair, later}
-use Rattle.hz_cycles.specs.Sets.{HasCycle}
-use Rattle.hz_cycles.specs.Tables.{IsTaken}
-use Rattle.hz_cycles.specs.declared.cycles.Cycles.{Cycles}
+use Rattle.hz_grid.specs.Sets.{HasCycle}
+use Rattle.hz_grid.specs.Tables.{IsTaken}
+use Rattle.hz_grid.specs.declared.cycles.Cycles.{Cycles}
 
 -- the pair's unit is taken in its cycle
 abbrev pub IsReserved : Reserved → Pair UnitPlace → Type 0

@@ -3,8 +3,8 @@ use Rattle.std.specs.Prelude.{List, map}
 use Rattle.hz_altern.specs.declared.alternative.Pair.{Pair as StoredPair}
 use Rattle.hz_altern.specs.declared.alternative.Alt.{Alt}
 use Rattle.hz_base_model.specs.Pairs.{Pair}
-use Rattle.hz_altern_model.specs.Alternatives.{Alternative}
-use Rattle.hz_altern_model.specs.Automata.{UnitPlace}
+use Rattle.hz_description_model.specs.Reservations.Alternatives.{Alternative}
+use Rattle.hz_description_model.specs.Reservations.Automata.{UnitPlace}
 
 -- a pair
 abbrev pub pair_of : StoredPair → Pair UnitPlace

@@ -1,8 +1,8 @@
 -- Which parts of an expression have one alternative, as the code holds it.
 use Rattle.std.specs.Prelude.{◌≡◌, ℕ, true, ⊤, List, [], ◌∷◌, length, nat_eq}
 use Rattle.hz_altern.specs.declared.listing.singles.Singles.{Singles, out-Singles}
-use Rattle.hz_altern_model.specs.Alternatives.{Alternative, Expression, named, nothing, sequence, one_of, all_of, repeat, Parts, none, more, in_sequence, any_of, together}
-use Rattle.hz_altern_model.specs.Automata.{UnitPlace}
+use Rattle.hz_description_model.specs.Reservations.Alternatives.{Alternative, Expression, named, nothing, sequence, one_of, all_of, repeat, Parts, none, more, in_sequence, any_of, together}
+use Rattle.hz_description_model.specs.Reservations.Automata.{UnitPlace}
 
 -- there is one alternative exactly where that is told
 abbrev pub TellsOne : List (Alternative UnitPlace) → Singles → Type 0

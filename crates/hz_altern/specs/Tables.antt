@@ -8,10 +8,10 @@ use Rattle.hz_altern.specs.declared.extents.Extents.{Extents}
 use Rattle.hz_altern.specs.declared.known.Known.{Known}
 use Rattle.hz_altern.specs.Shapes.{alternatives}
 use Rattle.hz_altern.specs.Extents.{told}
-use Rattle.hz_altern_model.specs.Alternatives.{Alternative, Expression, Parts}
-use Rattle.hz_altern_model.specs.AlternativeLists.{Extent, extent_of}
-use Rattle.hz_altern_model.specs.Automata.{UnitPlace}
-use Rattle.hz_altern_model.specs.Meanings.{Mentions, MentionsIn}
+use Rattle.hz_description_model.specs.Reservations.Alternatives.{Alternative, Expression, Parts}
+use Rattle.hz_description_model.specs.Reservations.AlternativeLists.{Extent, extent_of}
+use Rattle.hz_description_model.specs.Reservations.Automata.{UnitPlace}
+use Rattle.hz_description_model.specs.Reservations.Meanings.{Mentions, MentionsIn}
 
 -- the extent that is held for a name
 abbrev pub extent_in : Extents → List ℕ → Option Extent

@@ -3,7 +3,7 @@
 ghost use Rattle.std.specs.Prelude.{◌≡◌};
 ghost use Rattle.hz_altern.specs.Shapes.{alternatives};
 ghost use Rattle.hz_altern.specs.Extents.{told};
-ghost use Rattle.hz_altern_model.specs.AlternativeLists.{AreSound, extent_of};
+ghost use Rattle.hz_description_model.specs.Reservations.AlternativeLists.{AreSound, extent_of};
 
 use crate::alternative::{Alt, Pair};
 use crate::extents::measure::Extent;
@@ -32,8 +32,8 @@ impl Known {
     ghost use Rattle.std.specs.Prelude.{◌≡◌, ◌<◌, ℕ, List, [], ◌∷◌, None, OnOk, OnErr};
     ghost use Rattle.hz_altern.specs.Shapes.{alternatives};
     ghost use Rattle.hz_altern.specs.Tables.{alternatives_in, Adds, IsKept};
-    ghost use Rattle.hz_altern_model.specs.Alternatives.{taking};
-    ghost use Rattle.hz_altern_model.specs.AlternativeLists.{AreSound};
+    ghost use Rattle.hz_description_model.specs.Reservations.Alternatives.{taking};
+    ghost use Rattle.hz_description_model.specs.Reservations.AlternativeLists.{AreSound};
     ghost use Rattle.hz_base_model.specs.Limits.{automaton_limit, unit_limit};
     ghost use Rattle.std.specs.Option.{option_map, option_copied};
 

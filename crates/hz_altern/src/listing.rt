@@ -29,9 +29,9 @@ impl Model for Listing {
     ghost use Rattle.std.specs.Prelude.{◌≡◌, ◌≤◌, List};
     ghost use Rattle.hz_altern.specs.Shapes.{alternatives};
     ghost use Rattle.hz_altern.specs.Answers.{total_weight};
-    ghost use Rattle.hz_altern_model.specs.Alternatives.{Alternative};
-    ghost use Rattle.hz_altern_model.specs.Automata.{UnitPlace};
-    ghost use Rattle.hz_altern_model.specs.Limits.{size_limit};
+    ghost use Rattle.hz_description_model.specs.Reservations.Alternatives.{Alternative};
+    ghost use Rattle.hz_description_model.specs.Reservations.Automata.{UnitPlace};
+    ghost use Rattle.hz_description_model.specs.Reservations.Limits.{size_limit};
 
     ghost Value = { List (Alternative UnitPlace) };
 
@@ -47,9 +47,9 @@ impl Listing {
     ghost use Rattle.hz_altern.specs.Answers.{Refuses, weight, total_weight};
     ghost use Rattle.hz_altern.specs.Joinings.{IsListed, joined_by};
     ghost use Rattle.hz_altern.specs.declared.listing.joining.Joining.TheVariants.{InSequence};
-    ghost use Rattle.hz_altern_model.specs.Alternatives.{each_choice};
+    ghost use Rattle.hz_description_model.specs.Reservations.Alternatives.{each_choice};
     ghost use Rattle.hz_base_model.specs.Limits.{cycle_limit};
-    ghost use Rattle.hz_altern_model.specs.Limits.{size_limit};
+    ghost use Rattle.hz_description_model.specs.Reservations.Limits.{size_limit};
 
     /// No alternative.
     pub fn new(alloc: Global) -> Listing

@@ -6,8 +6,8 @@ ghost use Rattle.std.specs.Ordering.{nat_cmp};
 ghost use Rattle.hz_base_model.specs.Pairs.{IsAscendingBy, grid_eq};
 ghost use Rattle.hz_altern.specs.Cuts.{within_pairs, cuts_of};
 ghost use Rattle.hz_altern.specs.Shapes.{alternative_of, alternatives, pairs_of};
-ghost use Rattle.hz_altern_model.specs.AlternativeLists.{IsCuttable};
-ghost use Rattle.hz_altern_model.specs.Automata.{cut, inside, is_of, list_in};
+ghost use Rattle.hz_description_model.specs.Reservations.AlternativeLists.{IsCuttable};
+ghost use Rattle.hz_description_model.specs.Reservations.Automata.{cut, inside, is_of, list_in};
 
 use crate::alternative::{Alt, Pair};
 use crate::fault::NoMemory;

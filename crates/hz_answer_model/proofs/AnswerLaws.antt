@@ -2,34 +2,34 @@
 use Rattle.std.proofs.Common.{refl, ◌≡◌, ℕ, ◌<◌, ◌≤◌, ⊎_elim, arith, slice_index_or, inl, inr, true, false, List, [], ◌∷◌, ◌++◌, map, length, Option, Some, None, MatchOption, MatchBool, nat_lt, slice_get, sym, ap, ◌∙◌, subst}
 use Rattle.std.proofs.lemmas.Bool.{cases_lt}
 use Rattle.std.proofs.lemmas.Option.{same_Some}
-use Rattle.hz_sexp_model.proofs.FormsLaws.{one_reading, one_fault, forms_or_fault}
-use Rattle.hz_mdread_model.proofs.DescriptionLaws.{one_description, one_fault_of_descriptions, description_or_fault}
-use Rattle.hz_check_model.proofs.CheckLaws.{fault_one, fault_or_sound, sound_one}
-use Rattle.hz_acceptance_model.proofs.AcceptanceLaws.{one_refused, accepted_or_refused}
+use Rattle.hz_base_model.proofs.Forms.FormsLaws.{one_reading, one_fault, forms_or_fault}
+use Rattle.hz_description_model.proofs.Reading.DescriptionLaws.{one_description, one_fault_of_descriptions, description_or_fault}
+use Rattle.hz_description_model.proofs.Check.CheckLaws.{fault_one, fault_or_sound, sound_one}
+use Rattle.hz_acceptance_model.proofs.Accepting.AcceptanceLaws.{one_refused, accepted_or_refused}
 use Rattle.hz_answer_model.specs.Answers.{Describes, Checks, HasDescription, Compiles, CompilesDescription, DrillsDescription, Replays, ReplaysTrace, ReplaysDescription, Judges, SchedulesByDescription, IsIssueOf, AnswersOrder, Answer}
-use Rattle.hz_check_model.specs.CheckFaults.{CheckFault}
-use Rattle.hz_check_model.specs.Places.{Known, class_names}
-use Rattle.hz_mdread_model.specs.DescriptionForms.{DescriptionFault}
-use Rattle.hz_mdread_model.specs.Descriptions.{Description}
+use Rattle.hz_description_model.specs.Check.CheckFaults.{CheckFault}
+use Rattle.hz_description_model.specs.Check.Places.{Known, class_names}
+use Rattle.hz_description_model.specs.Reading.DescriptionForms.{DescriptionFault}
+use Rattle.hz_description_model.specs.Reading.Descriptions.{Description}
 use Rattle.hz_answer_model.specs.FaultTexts.{form_word, description_words, check_line, check_status, trace_word, tables_word, class_line, stuck_line}
-use Rattle.hz_sexp_model.specs.Forms.{FormFault}
-use Rattle.hz_mdread_model.specs.Limits.{description_limit}
-use Rattle.hz_trace_model.specs.Limits.{trace_limit}
+use Rattle.hz_base_model.specs.Forms.Forms.{FormFault}
+use Rattle.hz_description_model.specs.Reading.Limits.{description_limit}
+use Rattle.hz_acceptance_model.specs.Traces.TraceLimits.{trace_limit}
 use Rattle.hz_base_model.specs.Lines.{lines_of}
-use Rattle.hz_trace_model.specs.Traces.{TraceFault, event_lines}
-use Rattle.hz_trace_model.proofs.TraceLaws.{one_trace, one_trace_fault, trace_or_fault}
-use Rattle.hz_check_model.specs.CheckedParts.{automaton_names}
-use Rattle.hz_pipeline_model.specs.Pipelines.{pipeline_with}
-use Rattle.hz_acceptance_model.specs.Restricted.{restricted}
-use Rattle.hz_reach_model.specs.Counts.{Count}
-use Rattle.hz_auto_model.specs.AutomatonPipelines.{class_lists}
-use Rattle.hz_auto_model.specs.Compiled.{shows_states}
-use Rattle.hz_auto_model.specs.DescriptionLimits.{KeepsLimits, PassesLimit, IsFirstPastLimit}
-use Rattle.hz_auto_model.proofs.LimitLaws.{within_or_past}
-use Rattle.hz_acceptance_model.specs.Replay.{Pipeline, Class}
-use Rattle.hz_acceptance_model.specs.Events.{Event, issue}
+use Rattle.hz_acceptance_model.specs.Traces.Traces.{TraceFault, event_lines}
+use Rattle.hz_acceptance_model.proofs.Traces.TraceLaws.{one_trace, one_trace_fault, trace_or_fault}
+use Rattle.hz_description_model.specs.Check.CheckedParts.{automaton_names}
+use Rattle.hz_acceptance_model.specs.Pipelines.Pipelines.{pipeline_with}
+use Rattle.hz_acceptance_model.specs.Accepting.Restricted.{restricted}
+use Rattle.hz_automata_model.specs.Reaching.Counts.{Count}
+use Rattle.hz_automata_model.specs.Compiling.AutomatonPipelines.{class_lists}
+use Rattle.hz_automata_model.specs.Compiling.Compiled.{shows_states}
+use Rattle.hz_automata_model.specs.Compiling.DescriptionLimits.{KeepsLimits, PassesLimit, IsFirstPastLimit}
+use Rattle.hz_automata_model.proofs.Compiling.LimitLaws.{within_or_past}
+use Rattle.hz_acceptance_model.specs.Accepting.Replay.{Pipeline, Class}
+use Rattle.hz_acceptance_model.specs.Accepting.Events.{Event, issue}
 use Rattle.hz_answer_model.specs.Texts.{file_line, limit_line, fault_line, states_line, usage_line, refused_line, slot_line, scheduled_line}
-use Rattle.hz_sexp_model.specs.Trees.{Trees}
+use Rattle.hz_base_model.specs.Forms.Trees.{Trees}
 use Rattle.hz_words_model.specs.Words.{Order, compile, replay, walk, schedule, eval, drill, order_of}
 use Rattle.hz_answer_model.specs.Phases.{Held, Says, Next, Opens, HasForms, Traces}
 use Rattle.hz_answer_model.specs.TableAnswers.{tables_limit, WritesTablesOf, HasTables, IsIssueIn, Walks, WalksTrace}
@@ -40,17 +40,17 @@ use Rattle.hz_answer_model.specs.DrillAnswers.{Drills}
 use Rattle.hz_answer_model.specs.BlockAnswers.{block_limit, state_text_limit, IsBlock, IsState, Evaluates, JudgesBlock}
 use Rattle.hz_answer_model.specs.FaultTexts.{rtl_word}
 use Rattle.hz_answer_model.specs.ScheduleAnswers.{schedule_text, HasClasses, Schedules, SchedulesBlock}
-use Rattle.hz_sched_model.specs.Schedules.{Graph, Slot, present}
-use Rattle.hz_scheduled_model.specs.BlockGraphs.{classes_of}
-use Rattle.hz_scheduled_model.proofs.BlockLaws.{one_of_a_block}
-use Rattle.hz_scheduled_model.proofs.FaultLaws.{one_wrong_class, wrong_class_or_all, one_stuck, stuck_or_all}
-use Rattle.hz_rtl_model.specs.Blocks.{Instruction}
-use Rattle.hz_rtl_model.specs.States.{State, run, all_stored}
-use Rattle.hz_rtltext_model.specs.Operands.{RtlFault, Judged}
-use Rattle.hz_rtltext_model.specs.BlockForms as blocks
-use Rattle.hz_rtltext_model.specs.StateForms as states
-use Rattle.hz_rtltext_model.proofs.Listings.{same_text}
-use Rattle.hz_tables_model.specs.Machines.{Machine}
+use Rattle.hz_block_model.specs.Scheduling.Schedules.{Graph, Slot, present}
+use Rattle.hz_block_model.specs.Scheduled.BlockGraphs.{classes_of}
+use Rattle.hz_block_model.proofs.Scheduled.BlockLaws.{one_of_a_block}
+use Rattle.hz_block_model.proofs.Scheduled.FaultLaws.{one_wrong_class, wrong_class_or_all, one_stuck, stuck_or_all}
+use Rattle.hz_block_model.specs.Running.Blocks.{Instruction}
+use Rattle.hz_block_model.specs.Running.States.{State, run, all_stored}
+use Rattle.hz_block_model.specs.Texts.Operands.{RtlFault, Judged}
+use Rattle.hz_block_model.specs.Texts.BlockForms as blocks
+use Rattle.hz_block_model.specs.Texts.StateForms as states
+use Rattle.hz_block_model.proofs.Texts.Listings.{same_text}
+use Rattle.hz_automata_model.specs.Tables.Machines.{Machine}
 use Rattle.hz_tabtext_model.specs.Judging.{Fault}
 use Rattle.hz_tabtext_model.proofs.TextAgain.{tables_again}
 use Rattle.hz_tabtext_model.proofs.Steps.{ok_is}

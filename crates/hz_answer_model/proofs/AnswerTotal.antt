@@ -4,36 +4,36 @@ use Rattle.std.proofs.lemmas.Bool.{cases_lt}
 use Rattle.std.proofs.lemmas.List.Elements.{All-get_or}
 use Rattle.std.proofs.lemmas.Option.{slice_get-get_or, slice_get_within, get_or_from_slice_get}
 use Rattle.hz_answer_model.proofs.EventLaws.{issue_named, events_known}
-use Rattle.hz_sexp_model.proofs.FormsFront.{every_text}
-use Rattle.hz_mdread_model.proofs.DescriptionLaws.{every_list}
-use Rattle.hz_mdread_model.proofs.DescriptionFormedAll.{well_formed}
-use Rattle.hz_mdread_model.proofs.CheckableLaws.{can_be_checked}
-use Rattle.hz_check_model.proofs.CheckTotal.{sound_or_fault}
-use Rattle.hz_acceptance_model.proofs.AcceptanceLaws.{refused_issue}
-use Rattle.hz_acceptance_model.proofs.PlayLaws.{accepted_or_first_refused}
-use Rattle.hz_acceptance_model.proofs.Rows.{same_unit, places_tell}
+use Rattle.hz_base_model.proofs.Forms.FormsFront.{every_text}
+use Rattle.hz_description_model.proofs.Reading.DescriptionLaws.{every_list}
+use Rattle.hz_description_model.proofs.Reading.DescriptionFormedAll.{well_formed}
+use Rattle.hz_description_model.proofs.Reading.CheckableLaws.{can_be_checked}
+use Rattle.hz_description_model.proofs.Check.CheckTotal.{sound_or_fault}
+use Rattle.hz_acceptance_model.proofs.Accepting.AcceptanceLaws.{refused_issue}
+use Rattle.hz_acceptance_model.proofs.Accepting.PlayLaws.{accepted_or_first_refused}
+use Rattle.hz_acceptance_model.proofs.Accepting.Rows.{same_unit, places_tell}
 use Rattle.hz_answer_model.specs.Answers.{Describes, Checks, HasDescription, Compiles, CompilesDescription, DrillsDescription, Replays, ReplaysTrace, ReplaysDescription, Judges, SchedulesByDescription, IsIssueOf, AnswersOrder, Answer}
-use Rattle.hz_check_model.specs.CheckFaults.{CheckFault, CheckFaultAt, IsSound}
-use Rattle.hz_check_model.specs.Places.{Known, class_names}
-use Rattle.hz_mdread_model.specs.DescriptionForms as description_forms
-use Rattle.hz_mdread_model.specs.DescriptionShape.{IsWellFormed, IsCheckable}
-use Rattle.hz_mdread_model.specs.Descriptions.{Description}
+use Rattle.hz_description_model.specs.Check.CheckFaults.{CheckFault, CheckFaultAt, IsSound}
+use Rattle.hz_description_model.specs.Check.Places.{Known, class_names}
+use Rattle.hz_description_model.specs.Reading.DescriptionForms as description_forms
+use Rattle.hz_description_model.specs.Reading.DescriptionShape.{IsWellFormed, IsCheckable}
+use Rattle.hz_description_model.specs.Reading.Descriptions.{Description}
 use Rattle.hz_answer_model.specs.FaultTexts.{form_word, description_words, check_line, check_status, trace_word, tables_word, class_line, stuck_line}
-use Rattle.hz_mdread_model.specs.Limits.{description_limit}
-use Rattle.hz_trace_model.specs.Limits.{trace_limit}
+use Rattle.hz_description_model.specs.Reading.Limits.{description_limit}
+use Rattle.hz_acceptance_model.specs.Traces.TraceLimits.{trace_limit}
 use Rattle.hz_base_model.specs.Lines.{lines_of}
-use Rattle.hz_sexp_model.specs.Forms as forms
-use Rattle.hz_check_model.specs.CheckedParts.{automaton_names, automaton_count, automata_of, class_parts, bypass_parts, attributes_of}
-use Rattle.hz_check_model.proofs.KeptLaws.{parts_kept}
-use Rattle.hz_pipeline_model.specs.Pipelines.{pipeline_with}
-use Rattle.hz_reach_model.specs.Counts.{Count}
-use Rattle.hz_auto_model.specs.DescriptionLimits.{KeepsLimits, AllKeepLimits, PassesLimit, IsFirstPastLimit}
-use Rattle.hz_acceptance_model.specs.Replay.{FirstRefused}
-use Rattle.hz_acceptance_model.specs.Events.{Event, issue, cycles_of, issues_of, IsOfClass}
-use Rattle.hz_trace_model.specs.Traces.{Trace, TraceFault, TraceFaultAt, event_lines}
-use Rattle.hz_trace_model.proofs.TraceLaws.{trace_of_every_text, counted_lines}
+use Rattle.hz_base_model.specs.Forms.Forms as forms
+use Rattle.hz_description_model.specs.Check.CheckedParts.{automaton_names, automaton_count, automata_of, class_parts, bypass_parts, attributes_of}
+use Rattle.hz_description_model.proofs.Check.KeptLaws.{parts_kept}
+use Rattle.hz_acceptance_model.specs.Pipelines.Pipelines.{pipeline_with}
+use Rattle.hz_automata_model.specs.Reaching.Counts.{Count}
+use Rattle.hz_automata_model.specs.Compiling.DescriptionLimits.{KeepsLimits, AllKeepLimits, PassesLimit, IsFirstPastLimit}
+use Rattle.hz_acceptance_model.specs.Accepting.Replay.{FirstRefused}
+use Rattle.hz_acceptance_model.specs.Accepting.Events.{Event, issue, cycles_of, issues_of, IsOfClass}
+use Rattle.hz_acceptance_model.specs.Traces.Traces.{Trace, TraceFault, TraceFaultAt, event_lines}
+use Rattle.hz_acceptance_model.proofs.Traces.TraceLaws.{trace_of_every_text, counted_lines}
 use Rattle.hz_answer_model.specs.Texts.{file_line, limit_line, fault_line, usage_line, refused_line, accepted_line, states_line}
-use Rattle.hz_sexp_model.specs.Trees.{Trees}
+use Rattle.hz_base_model.specs.Forms.Trees.{Trees}
 use Rattle.hz_words_model.specs.Words.{Order, compile, replay, walk, schedule, eval, drill, order_of}
 use Rattle.hz_answer_model.specs.Phases.{Held, Says, Next, Opens, HasForms}
 use Rattle.hz_answer_model.specs.TableAnswers.{tables_limit, IsTablesOf, WritesTablesOf, HasTables, IsFirstUnwalked, Walks, WalksTrace}
@@ -43,20 +43,20 @@ use Rattle.hz_answer_model.specs.DrillAnswers.{Drills}
 use Rattle.hz_answer_model.specs.BlockAnswers.{block_limit, state_text_limit, IsBlock, IsState, Evaluates, JudgesBlock}
 use Rattle.hz_answer_model.specs.FaultTexts.{rtl_word}
 use Rattle.hz_answer_model.specs.ScheduleAnswers.{schedule_text, HasClasses, Schedules, SchedulesBlock}
-use Rattle.hz_depend_model.specs.Classes.{ClassFault}
-use Rattle.hz_scheduled_model.specs.BlockGraphs.{IsFirstClassFault}
-use Rattle.hz_scheduled_model.specs.BlockSchedules.{StartsAlone, IsFirstStuck}
-use Rattle.hz_left_model.proofs.LimitsTold.{are_counted}
-use Rattle.hz_schedulable_model.proofs.ScheduleTotal.{some_schedule_of}
-use Rattle.hz_scheduled_model.proofs.GraphLaws.{HasClass}
-use Rattle.hz_scheduled_model.proofs.FaultLaws.{classes_or_fault, starts_or_stuck}
+use Rattle.hz_block_model.specs.Dependences.Classes.{ClassFault}
+use Rattle.hz_block_model.specs.Scheduled.BlockGraphs.{IsFirstClassFault}
+use Rattle.hz_block_model.specs.Scheduled.BlockSchedules.{StartsAlone, IsFirstStuck}
+use Rattle.hz_answer_laws.proofs.Leaving.LimitsTold.{are_counted}
+use Rattle.hz_answer_laws.proofs.Schedulable.ScheduleTotal.{some_schedule_of}
+use Rattle.hz_block_model.proofs.Scheduled.GraphLaws.{HasClass}
+use Rattle.hz_block_model.proofs.Scheduled.FaultLaws.{classes_or_fault, starts_or_stuck}
 use Rattle.hz_answer_model.proofs.ListingTotal.{IsFinite, finite_given, finite_run, has_text}
-use Rattle.hz_rtl_model.specs.Blocks.{Instruction}
-use Rattle.hz_rtl_model.specs.States.{State, Store, run, all_stored}
-use Rattle.hz_rtltext_model.specs.Operands.{Judged}
-use Rattle.hz_rtltext_model.specs.BlockForms as blocks
-use Rattle.hz_rtltext_model.specs.StateForms as states
-use Rattle.hz_tables_model.specs.Machines.{Machine, IsMachine, machine_walk}
+use Rattle.hz_block_model.specs.Running.Blocks.{Instruction}
+use Rattle.hz_block_model.specs.Running.States.{State, Store, run, all_stored}
+use Rattle.hz_block_model.specs.Texts.Operands.{Judged}
+use Rattle.hz_block_model.specs.Texts.BlockForms as blocks
+use Rattle.hz_block_model.specs.Texts.StateForms as states
+use Rattle.hz_automata_model.specs.Tables.Machines.{Machine, IsMachine, machine_walk}
 use Rattle.hz_tabtext_model.specs.Judging.{Fault}
 use Rattle.hz_tabtext_model.specs.Reading.{tables_in}
 use Rattle.hz_tabtext_model.proofs.MachineLaws.{text_machine}
@@ -65,7 +65,7 @@ use Rattle.hz_tabtext_model.proofs.CompiledSaid.{can_be_said}
 use Rattle.hz_tabtext_model.proofs.SaidLaws.{said_is_text}
 use Rattle.hz_tabtext_model.specs.Said.{tables_said}
 use Rattle.hz_tabtext_model.specs.Texts.{spelled}
-use Rattle.hz_total_model.proofs.MachineTotal.{HasMachine, some_machine}
+use Rattle.hz_answer_laws.proofs.Totality.MachineTotal.{HasMachine, some_machine}
 use Rattle.std.specs.List.{range_with_len}
 use Rattle.std.specs.Prelude.{Ok, Err, Result, IsSome, slice_index_or}
 

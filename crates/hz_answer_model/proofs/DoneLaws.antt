@@ -1,17 +1,17 @@
 -- What status 0 tells of each phase of an answer.
 use Rattle.std.proofs.Common.{◌≡◌, ℕ, inl, inr, Bool, true, false, List, length, Option, Some, None, MatchOption, MatchBool, nat_lt, refl, arith}
-use Rattle.hz_auto_model.specs.DescriptionLimits.{AllKeepLimits}
-use Rattle.hz_sexp_model.specs.Trees.{Trees}
-use Rattle.hz_sexp_model.specs.Forms as forms
-use Rattle.hz_mdread_model.specs.Descriptions.{Description}
-use Rattle.hz_mdread_model.specs.DescriptionForms as description_forms
-use Rattle.hz_check_model.specs.CheckFaults as check
-use Rattle.hz_check_model.specs.CheckFaults.{CheckFault, IsSound}
-use Rattle.hz_check_model.specs.Places.{Known}
-use Rattle.hz_rtl_model.specs.Blocks.{Instruction}
-use Rattle.hz_rtltext_model.specs.BlockForms as blocks
-use Rattle.hz_sched_model.specs.Schedules.{Graph, Slot}
-use Rattle.hz_scheduled_model.specs.BlockSchedules.{IsScheduleOf}
+use Rattle.hz_automata_model.specs.Compiling.DescriptionLimits.{AllKeepLimits}
+use Rattle.hz_base_model.specs.Forms.Trees.{Trees}
+use Rattle.hz_base_model.specs.Forms.Forms as forms
+use Rattle.hz_description_model.specs.Reading.Descriptions.{Description}
+use Rattle.hz_description_model.specs.Reading.DescriptionForms as description_forms
+use Rattle.hz_description_model.specs.Check.CheckFaults as check
+use Rattle.hz_description_model.specs.Check.CheckFaults.{CheckFault, IsSound}
+use Rattle.hz_description_model.specs.Check.Places.{Known}
+use Rattle.hz_block_model.specs.Running.Blocks.{Instruction}
+use Rattle.hz_block_model.specs.Texts.BlockForms as blocks
+use Rattle.hz_block_model.specs.Scheduling.Schedules.{Graph, Slot}
+use Rattle.hz_block_model.specs.Scheduled.BlockSchedules.{IsScheduleOf}
 use Rattle.hz_answer_model.specs.Texts.{file_line, limit_line}
 use Rattle.hz_answer_model.specs.FaultTexts.{check_status}
 use Rattle.hz_answer_model.specs.Phases.{Says, Next, HasForms}

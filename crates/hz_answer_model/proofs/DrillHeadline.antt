@@ -2,13 +2,13 @@
 use Rattle.std.proofs.Common.{◌≡◌, ℕ, inl, false, List, length, Some, nat_lt, refl, sym, ◌∙◌, subst}
 use Rattle.std.proofs.lemmas.Bool.{le-ltb}
 use Rattle.std.proofs.lemmas.Option.{same_Some}
-use Rattle.hz_acceptance_model.specs.Events.{issues_of, cycles_of}
-use Rattle.hz_auto_model.specs.DescriptionLimits.{AllKeepLimits}
-use Rattle.hz_mdread_model.specs.Limits.{description_limit}
-use Rattle.hz_trace_model.specs.Limits.{trace_limit}
-use Rattle.hz_check_model.specs.Places.{Known}
-use Rattle.hz_mdread_model.specs.Descriptions.{Description}
-use Rattle.hz_tables_model.specs.Machines.{Machine}
+use Rattle.hz_acceptance_model.specs.Accepting.Events.{issues_of, cycles_of}
+use Rattle.hz_automata_model.specs.Compiling.DescriptionLimits.{AllKeepLimits}
+use Rattle.hz_description_model.specs.Reading.Limits.{description_limit}
+use Rattle.hz_acceptance_model.specs.Traces.TraceLimits.{trace_limit}
+use Rattle.hz_description_model.specs.Check.Places.{Known}
+use Rattle.hz_description_model.specs.Reading.Descriptions.{Description}
+use Rattle.hz_automata_model.specs.Tables.Machines.{Machine}
 use Rattle.hz_tabtext_model.specs.Texts.{TableText}
 use Rattle.hz_answer_model.specs.Answers.{HasDescription, Judges, DrillsDescription, AnswersCompile, AnswersDrill}
 use Rattle.hz_answer_model.specs.DrillAnswers.{Drills, IsDrillOf}

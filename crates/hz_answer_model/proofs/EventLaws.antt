@@ -9,12 +9,12 @@ use Rattle.std.specs.Prelude.{◌==◌}
 use Rattle.std.specs.Str.{bytes_eq}
 use Rattle.hz_answer_model.specs.Answers.{IsIssueOf}
 use Rattle.hz_base_model.specs.Lines.{place_of, number_of}
-use Rattle.hz_mdread_model.specs.Descriptions.{Description, ClassItem}
-use Rattle.hz_check_model.specs.Places.{class_names, Known}
-use Rattle.hz_pipeline_model.specs.Pipelines.{class_of, pipeline_with}
-use Rattle.hz_acceptance_model.specs.Events.{Event, issue, advance, IsOfClass}
+use Rattle.hz_description_model.specs.Reading.Descriptions.{Description, ClassItem}
+use Rattle.hz_description_model.specs.Check.Places.{class_names, Known}
+use Rattle.hz_acceptance_model.specs.Pipelines.Pipelines.{class_of, pipeline_with}
+use Rattle.hz_acceptance_model.specs.Accepting.Events.{Event, issue, advance, IsOfClass}
 use Rattle.hz_base_model.specs.Names.{is_name}
-use Rattle.hz_trace_model.specs.Traces.{skipped, says, wrong, bad_line, unknown_class, without_margin, first_word, operand, says_issue, says_advance, says_words, says_content, Say, nothing, skips, tells}
+use Rattle.hz_acceptance_model.specs.Traces.Traces.{skipped, says, wrong, bad_line, unknown_class, without_margin, first_word, operand, says_issue, says_advance, says_words, says_content, Say, nothing, skips, tells}
 
 -- an issue is of the class of its number
 pub issue_named : (d : Description) (known : Known) (e : Option Event) (k : ℕ) (name : List ℕ) → e ≡ Some (issue k) → slice_get (class_names d) k ≡ Some name → IsIssueOf (pipeline_with d known) e name

@@ -3,25 +3,25 @@ use Rattle.std.proofs.Common.{◌≡◌, ℕ, inl, Bool, false, List, [], length
 use Rattle.std.specs.List.{AllPairs}
 use Rattle.std.proofs.lemmas.Bool.{le-ltb}
 use Rattle.std.proofs.lemmas.Option.{same_Some}
-use Rattle.hz_sexp_model.proofs.FormsLaws.{one_reading}
-use Rattle.hz_mdread_model.proofs.DescriptionLaws.{one_description}
-use Rattle.hz_check_model.proofs.CheckLaws.{sound_one}
-use Rattle.hz_acceptance_model.specs.Events.{issues_of, cycles_of}
-use Rattle.hz_auto_model.specs.DescriptionLimits.{AllKeepLimits}
-use Rattle.hz_sched_model.proofs.TraceLaws.{issues_spelled, cycles_spelled}
-use Rattle.hz_sexp_model.specs.Trees.{Trees}
-use Rattle.hz_mdread_model.specs.Descriptions.{Description}
-use Rattle.hz_mdread_model.specs.DescriptionForms as description_forms
-use Rattle.hz_mdread_model.proofs.CheckableLaws.{can_be_checked}
-use Rattle.hz_mdread_model.proofs.DescriptionFormedAll.{well_formed}
-use Rattle.hz_mdread_model.specs.Limits.{description_limit}
-use Rattle.hz_trace_model.specs.Limits.{trace_limit}
-use Rattle.hz_check_model.specs.CheckFaults.{IsSound}
-use Rattle.hz_check_model.specs.Places.{Known}
-use Rattle.hz_rtltext_model.proofs.Numbers.{all_few}
-use Rattle.hz_sched_model.specs.Schedules.{Graph, Slot, present, spell}
-use Rattle.hz_scheduled_model.proofs.BlockLaws.{legal_keeps}
-use Rattle.hz_schedulable_model.proofs.ScheduleTotal.{short_trace}
+use Rattle.hz_base_model.proofs.Forms.FormsLaws.{one_reading}
+use Rattle.hz_description_model.proofs.Reading.DescriptionLaws.{one_description}
+use Rattle.hz_description_model.proofs.Check.CheckLaws.{sound_one}
+use Rattle.hz_acceptance_model.specs.Accepting.Events.{issues_of, cycles_of}
+use Rattle.hz_automata_model.specs.Compiling.DescriptionLimits.{AllKeepLimits}
+use Rattle.hz_block_model.proofs.Scheduling.TraceLaws.{issues_spelled, cycles_spelled}
+use Rattle.hz_base_model.specs.Forms.Trees.{Trees}
+use Rattle.hz_description_model.specs.Reading.Descriptions.{Description}
+use Rattle.hz_description_model.specs.Reading.DescriptionForms as description_forms
+use Rattle.hz_description_model.proofs.Reading.CheckableLaws.{can_be_checked}
+use Rattle.hz_description_model.proofs.Reading.DescriptionFormedAll.{well_formed}
+use Rattle.hz_description_model.specs.Reading.Limits.{description_limit}
+use Rattle.hz_acceptance_model.specs.Traces.TraceLimits.{trace_limit}
+use Rattle.hz_description_model.specs.Check.CheckFaults.{IsSound}
+use Rattle.hz_description_model.specs.Check.Places.{Known}
+use Rattle.hz_block_model.proofs.Texts.Numbers.{all_few}
+use Rattle.hz_block_model.specs.Scheduling.Schedules.{Graph, Slot, present, spell}
+use Rattle.hz_block_model.proofs.Scheduled.BlockLaws.{legal_keeps}
+use Rattle.hz_answer_laws.proofs.Schedulable.ScheduleTotal.{short_trace}
 use Rattle.hz_answer_model.specs.Texts.{file_line, limit_line, accepted_line}
 use Rattle.hz_answer_model.specs.Phases.{Held, Says, Opens}
 use Rattle.hz_answer_model.specs.BlockAnswers.{block_limit, IsBlock}

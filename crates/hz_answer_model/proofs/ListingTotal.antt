@@ -8,11 +8,11 @@ use Rattle.std.specs.List.{AllPairs, range_with_len}
 use Rattle.std.specs.Prelude.{slice_index}
 use Rattle.hz_base_model.proofs.Ascending.{AllPairs-map, AllPairs-range}
 use Rattle.hz_base_model.proofs.Elements.{Contains-filter, Contains-from_filter, Contains-map, Contains-from_map, Contains-range}
-use Rattle.hz_rtl_model.specs.Blocks.{Instruction}
-use Rattle.hz_rtl_model.specs.States.{Place, reg, cell, State, Store, stored, all_stored, stores_of, after_place, run}
-use Rattle.hz_rtltext_model.specs.Operands.{register_count}
-use Rattle.hz_rtltext_model.specs.StateForms.{empty_state}
-use Rattle.hz_rtltext_model.specs.StateTexts.{Listing, IsListing, IsText, listing_text}
+use Rattle.hz_block_model.specs.Running.Blocks.{Instruction}
+use Rattle.hz_block_model.specs.Running.States.{Place, reg, cell, State, Store, stored, all_stored, stores_of, after_place, run}
+use Rattle.hz_block_model.specs.Texts.Operands.{register_count}
+use Rattle.hz_block_model.specs.Texts.StateForms.{empty_state}
+use Rattle.hz_block_model.specs.Texts.StateTexts.{Listing, IsListing, IsText, listing_text}
 
 -- all cells from some address on are 0
 abbrev pub IsFinite : State → Type 0

@@ -1,10 +1,10 @@
 -- The text of the tables of a description is within its limit of bytes, where nothing is told of states.
 use Rattle.std.proofs.Common.{◌≡◌, ℕ, ◌≤◌, false, List, length, sym, subst, arith}
-use Rattle.hz_auto_model.specs.Compiled.{shows_states}
-use Rattle.hz_mdread_model.specs.Limits.{description_limit}
-use Rattle.hz_check_model.specs.Places.{Known}
-use Rattle.hz_extent_model.proofs.TablesSizes.{tables_most}
-use Rattle.hz_mdread_model.specs.Descriptions.{Description}
+use Rattle.hz_automata_model.specs.Compiling.Compiled.{shows_states}
+use Rattle.hz_description_model.specs.Reading.Limits.{description_limit}
+use Rattle.hz_description_model.specs.Check.Places.{Known}
+use Rattle.hz_answer_laws.proofs.Sizes.TablesSizes.{tables_most}
+use Rattle.hz_description_model.specs.Reading.Descriptions.{Description}
 use Rattle.hz_tabtext_model.proofs.MachineLaws.{text_machine}
 use Rattle.hz_answer_model.specs.Headline.{IsDescribed}
 use Rattle.hz_answer_model.specs.TableAnswers.{tables_limit, IsTablesOf}

@@ -6,31 +6,31 @@ use Rattle.std.specs.Option.{option_map}
 use Rattle.std.proofs.lemmas.Bool.{le-ltb, ltb-false}
 use Rattle.std.proofs.lemmas.List.Elements.{All-take}
 use Rattle.std.proofs.lemmas.Option.{none-some, same_Some, slice_get-map, slice_get_within}
-use Rattle.hz_sexp_model.proofs.FormsLaws.{one_reading, forms_or_fault}
-use Rattle.hz_mdread_model.proofs.DescriptionLaws.{one_description, description_or_fault}
-use Rattle.hz_check_model.proofs.CheckLaws.{fault_or_sound}
-use Rattle.hz_acceptance_model.specs.Events.{Event, issue, IsOfClass}
-use Rattle.hz_acceptance_model.specs.Replay.{Accepted, FirstRefused, Class}
-use Rattle.hz_altern_model.specs.Automata.{UnitPlace}
-use Rattle.hz_auto_model.specs.DescriptionLimits.{AllKeepLimits}
-use Rattle.hz_auto_model.proofs.DescriptionLaws.{machine_accepts, unwalked_refused}
-use Rattle.hz_mdread_model.specs.Limits.{description_limit}
-use Rattle.hz_trace_model.specs.Limits.{trace_limit}
+use Rattle.hz_base_model.proofs.Forms.FormsLaws.{one_reading, forms_or_fault}
+use Rattle.hz_description_model.proofs.Reading.DescriptionLaws.{one_description, description_or_fault}
+use Rattle.hz_description_model.proofs.Check.CheckLaws.{fault_or_sound}
+use Rattle.hz_acceptance_model.specs.Accepting.Events.{Event, issue, IsOfClass}
+use Rattle.hz_acceptance_model.specs.Accepting.Replay.{Accepted, FirstRefused, Class}
+use Rattle.hz_description_model.specs.Reservations.Automata.{UnitPlace}
+use Rattle.hz_automata_model.specs.Compiling.DescriptionLimits.{AllKeepLimits}
+use Rattle.hz_automata_model.proofs.Compiling.DescriptionLaws.{machine_accepts, unwalked_refused}
+use Rattle.hz_description_model.specs.Reading.Limits.{description_limit}
+use Rattle.hz_acceptance_model.specs.Traces.TraceLimits.{trace_limit}
 use Rattle.hz_base_model.specs.Lines.{lines_of}
-use Rattle.hz_check_model.specs.CheckedParts.{class_parts}
-use Rattle.hz_check_model.specs.CheckFaults.{CheckFaultAt}
-use Rattle.hz_check_model.specs.Places.{Known, class_names}
-use Rattle.hz_mdread_model.specs.Descriptions.{Description, ClassItem}
-use Rattle.hz_mdread_model.specs.DescriptionForms as description_forms
-use Rattle.hz_sexp_model.specs.Trees.{Trees}
-use Rattle.hz_pipeline_model.specs.Pipelines.{class_of, pipeline_with}
-use Rattle.hz_tables_model.specs.Machines.{Machine, machine_walk}
+use Rattle.hz_description_model.specs.Check.CheckedParts.{class_parts}
+use Rattle.hz_description_model.specs.Check.CheckFaults.{CheckFaultAt}
+use Rattle.hz_description_model.specs.Check.Places.{Known, class_names}
+use Rattle.hz_description_model.specs.Reading.Descriptions.{Description, ClassItem}
+use Rattle.hz_description_model.specs.Reading.DescriptionForms as description_forms
+use Rattle.hz_base_model.specs.Forms.Trees.{Trees}
+use Rattle.hz_acceptance_model.specs.Pipelines.Pipelines.{class_of, pipeline_with}
+use Rattle.hz_automata_model.specs.Tables.Machines.{Machine, machine_walk}
 use Rattle.hz_tabtext_model.specs.Judging.{Fault}
 use Rattle.hz_tabtext_model.specs.Reading.{tables_in}
 use Rattle.hz_tabtext_model.specs.Texts.{TableText}
 use Rattle.hz_tabtext_model.proofs.TextAgain.{tables_again}
 use Rattle.hz_tabtext_model.proofs.Steps.{ok_is}
-use Rattle.hz_trace_model.specs.Traces.{Trace, event_lines}
+use Rattle.hz_acceptance_model.specs.Traces.Traces.{Trace, event_lines}
 use Rattle.hz_answer_model.specs.Answers.{HasDescription, Compiles, Replays, ReplaysTrace, ReplaysDescription, Judges, CompilesDescription, AnswersCompile}
 use Rattle.hz_answer_model.specs.Headline.{IsDescribed, WritesTables, WalkIsReplay}
 use Rattle.hz_answer_model.specs.Phases.{Held, Says, Next, Opens, Traces}

@@ -1,23 +1,23 @@
 -- What the program answers: this profile, docs/FORMATS.md, 'Answers'.
 use Rattle.std.specs.Prelude.{◌≡◌, ℕ, List, [], Option, Some, MatchOption, ◌⊎◌, slice_get, slice_index_or}
-use Rattle.hz_check_model.specs.CheckFaults.{CheckFault, CheckFaultAt, IsSound}
-use Rattle.hz_check_model.specs.Places.{Known, class_names}
-use Rattle.hz_mdread_model.specs.DescriptionForms.{DescriptionFault}
-use Rattle.hz_mdread_model.specs.DescriptionForms as description_forms
-use Rattle.hz_mdread_model.specs.Descriptions.{Description}
+use Rattle.hz_description_model.specs.Check.CheckFaults.{CheckFault, CheckFaultAt, IsSound}
+use Rattle.hz_description_model.specs.Check.Places.{Known, class_names}
+use Rattle.hz_description_model.specs.Reading.DescriptionForms.{DescriptionFault}
+use Rattle.hz_description_model.specs.Reading.DescriptionForms as description_forms
+use Rattle.hz_description_model.specs.Reading.Descriptions.{Description}
 use Rattle.hz_answer_model.specs.FaultTexts.{description_words, check_line, check_status}
-use Rattle.hz_mdread_model.specs.Limits.{description_limit}
-use Rattle.hz_trace_model.specs.Limits.{trace_limit}
-use Rattle.hz_check_model.specs.CheckedParts.{automaton_names}
-use Rattle.hz_pipeline_model.specs.Pipelines.{pipeline_with}
-use Rattle.hz_auto_model.specs.DescriptionLimits.{AllKeepLimits, IsFirstPastLimit}
-use Rattle.hz_acceptance_model.specs.Events.{Event, issue, issues_of, cycles_of}
-use Rattle.hz_acceptance_model.specs.Replay.{Pipeline, Class, Accepted, FirstRefused}
-use Rattle.hz_check_model.specs.Sites.{Site}
+use Rattle.hz_description_model.specs.Reading.Limits.{description_limit}
+use Rattle.hz_acceptance_model.specs.Traces.TraceLimits.{trace_limit}
+use Rattle.hz_description_model.specs.Check.CheckedParts.{automaton_names}
+use Rattle.hz_acceptance_model.specs.Pipelines.Pipelines.{pipeline_with}
+use Rattle.hz_automata_model.specs.Compiling.DescriptionLimits.{AllKeepLimits, IsFirstPastLimit}
+use Rattle.hz_acceptance_model.specs.Accepting.Events.{Event, issue, issues_of, cycles_of}
+use Rattle.hz_acceptance_model.specs.Accepting.Replay.{Pipeline, Class, Accepted, FirstRefused}
+use Rattle.hz_description_model.specs.Check.Sites.{Site}
 use Rattle.hz_base_model.specs.Lines.{lines_of}
-use Rattle.hz_trace_model.specs.Traces.{event_lines}
+use Rattle.hz_acceptance_model.specs.Traces.Traces.{event_lines}
 use Rattle.hz_answer_model.specs.Texts.{usage_line, fault_line, states_line, accepted_line, refused_line}
-use Rattle.hz_sexp_model.specs.Trees.{Trees}
+use Rattle.hz_base_model.specs.Forms.Trees.{Trees}
 use Rattle.hz_words_model.specs.Words.{Order, compile, replay, walk, schedule, eval, drill, order_of}
 use Rattle.hz_answer_model.specs.Phases.{Held, Says, Next, Opens, HasForms, Traces}
 use Rattle.hz_answer_model.specs.BlockAnswers.{block_limit, state_text_limit, JudgesBlock}

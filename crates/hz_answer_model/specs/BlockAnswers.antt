@@ -1,13 +1,13 @@
 -- What a block is, and what `eval` answers: this profile, docs/FORMATS.md, 'Answers'.
 use Rattle.std.specs.Prelude.{◌≡◌, ℕ, List, [], ◌∷◌, length, ◌⊎◌}
 use Rattle.std.specs.List.{range_with_len}
-use Rattle.hz_sexp_model.specs.Trees.{Trees}
-use Rattle.hz_rtl_model.specs.Blocks.{Instruction}
-use Rattle.hz_rtl_model.specs.States.{State, run}
-use Rattle.hz_rtltext_model.specs.Operands.{RtlFault}
-use Rattle.hz_rtltext_model.specs.BlockForms as blocks
-use Rattle.hz_rtltext_model.specs.StateForms as states
-use Rattle.hz_rtltext_model.specs.StateTexts.{IsText}
+use Rattle.hz_base_model.specs.Forms.Trees.{Trees}
+use Rattle.hz_block_model.specs.Running.Blocks.{Instruction}
+use Rattle.hz_block_model.specs.Running.States.{State, run}
+use Rattle.hz_block_model.specs.Texts.Operands.{RtlFault}
+use Rattle.hz_block_model.specs.Texts.BlockForms as blocks
+use Rattle.hz_block_model.specs.Texts.StateForms as states
+use Rattle.hz_block_model.specs.Texts.StateTexts.{IsText}
 use Rattle.hz_answer_model.specs.FaultTexts.{rtl_word}
 use Rattle.hz_answer_model.specs.Phases.{Says, Next, HasForms}
 use Rattle.hz_answer_model.specs.Texts.{fault_line}

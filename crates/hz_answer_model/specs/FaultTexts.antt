@@ -1,22 +1,22 @@
 -- The texts of faults. This profile, docs/FORMATS.md, 'Answers'.
 use Rattle.std.specs.Prelude.{ℕ, List, [], ◌∷◌, codes, decimal, slice_index_or}
 use Rattle.std.specs.List.{flat_map}
-use Rattle.hz_sexp_model.specs.Forms.{FormFault}
-use Rattle.hz_sexp_model.specs.Forms as form
-use Rattle.hz_regexp_model.specs.ExpressionTexts.{ExpressionFault}
-use Rattle.hz_regexp_model.specs.ExpressionTexts as expression
-use Rattle.hz_mdread_model.specs.DescriptionForms.{DescriptionFault}
-use Rattle.hz_mdread_model.specs.DescriptionForms as description
-use Rattle.hz_check_model.specs.CheckFaults.{CheckFault, LimitName}
-use Rattle.hz_check_model.specs.CheckFaults as check
-use Rattle.hz_check_model.specs.Sites.{Site}
-use Rattle.hz_rtltext_model.specs.Operands.{RtlFault}
-use Rattle.hz_rtltext_model.specs.Operands as rtl
-use Rattle.hz_rtl_model.specs.Blocks.{Instruction}
-use Rattle.hz_depend_model.specs.Classes.{ClassFault}
-use Rattle.hz_depend_model.specs.Classes as class
-use Rattle.hz_trace_model.specs.Traces.{TraceFault}
-use Rattle.hz_trace_model.specs.Traces as trace
+use Rattle.hz_base_model.specs.Forms.Forms.{FormFault}
+use Rattle.hz_base_model.specs.Forms.Forms as form
+use Rattle.hz_description_model.specs.Grammar.ExpressionTexts.{ExpressionFault}
+use Rattle.hz_description_model.specs.Grammar.ExpressionTexts as expression
+use Rattle.hz_description_model.specs.Reading.DescriptionForms.{DescriptionFault}
+use Rattle.hz_description_model.specs.Reading.DescriptionForms as description
+use Rattle.hz_description_model.specs.Check.CheckFaults.{CheckFault, LimitName}
+use Rattle.hz_description_model.specs.Check.CheckFaults as check
+use Rattle.hz_description_model.specs.Check.Sites.{Site}
+use Rattle.hz_block_model.specs.Texts.Operands.{RtlFault}
+use Rattle.hz_block_model.specs.Texts.Operands as rtl
+use Rattle.hz_block_model.specs.Running.Blocks.{Instruction}
+use Rattle.hz_block_model.specs.Dependences.Classes.{ClassFault}
+use Rattle.hz_block_model.specs.Dependences.Classes as class
+use Rattle.hz_acceptance_model.specs.Traces.Traces.{TraceFault}
+use Rattle.hz_acceptance_model.specs.Traces.Traces as trace
 use Rattle.hz_tabtext_model.specs.Judging.{Kind}
 use Rattle.hz_tabtext_model.specs.Judging as tables
 use Rattle.hz_answer_model.specs.Texts.{fault_line, passed_line}

@@ -1,22 +1,22 @@
 -- What is written of a schedule, of tables and of a drill, and what `replay` and `walk` answer of them, in the words of the promise: README.md.
 use Rattle.std.specs.Prelude.{◌≡◌, ◌↔◌, ℕ, ◌≤◌, ◌<◌, false, List, length, Some}
-use Rattle.hz_sexp_model.specs.Trees.{Trees}
-use Rattle.hz_sexp_model.specs.Forms as forms
-use Rattle.hz_mdread_model.specs.Descriptions.{Description}
-use Rattle.hz_mdread_model.specs.DescriptionForms as description_forms
-use Rattle.hz_check_model.specs.CheckFaults.{IsSound}
-use Rattle.hz_check_model.specs.Places.{Known, class_names}
-use Rattle.hz_trace_model.specs.Limits.{advance_limit, trace_limit}
-use Rattle.hz_acceptance_model.specs.Events.{Event, issues_of, cycles_of}
-use Rattle.hz_acceptance_model.specs.Replay.{Accepted}
-use Rattle.hz_auto_model.specs.Compiled.{shows_states}
-use Rattle.hz_pipeline_model.specs.Pipelines.{pipeline_with}
-use Rattle.hz_rtl_model.specs.Blocks.{Instruction}
-use Rattle.hz_rtltext_model.specs.BlockForms as blocks
-use Rattle.hz_sched_model.specs.Schedules.{Graph, Slot, present, spell}
-use Rattle.hz_scheduled_model.specs.BlockGraphs.{IsGraphOf}
-use Rattle.hz_scheduled_model.specs.BlockSchedules.{KeepsBlock}
-use Rattle.hz_trace_model.specs.Traces.{Trace}
+use Rattle.hz_base_model.specs.Forms.Trees.{Trees}
+use Rattle.hz_base_model.specs.Forms.Forms as forms
+use Rattle.hz_description_model.specs.Reading.Descriptions.{Description}
+use Rattle.hz_description_model.specs.Reading.DescriptionForms as description_forms
+use Rattle.hz_description_model.specs.Check.CheckFaults.{IsSound}
+use Rattle.hz_description_model.specs.Check.Places.{Known, class_names}
+use Rattle.hz_acceptance_model.specs.Traces.TraceLimits.{advance_limit, trace_limit}
+use Rattle.hz_acceptance_model.specs.Accepting.Events.{Event, issues_of, cycles_of}
+use Rattle.hz_acceptance_model.specs.Accepting.Replay.{Accepted}
+use Rattle.hz_automata_model.specs.Compiling.Compiled.{shows_states}
+use Rattle.hz_acceptance_model.specs.Pipelines.Pipelines.{pipeline_with}
+use Rattle.hz_block_model.specs.Running.Blocks.{Instruction}
+use Rattle.hz_block_model.specs.Texts.BlockForms as blocks
+use Rattle.hz_block_model.specs.Scheduling.Schedules.{Graph, Slot, present, spell}
+use Rattle.hz_block_model.specs.Scheduled.BlockGraphs.{IsGraphOf}
+use Rattle.hz_block_model.specs.Scheduled.BlockSchedules.{KeepsBlock}
+use Rattle.hz_acceptance_model.specs.Traces.Traces.{Trace}
 use Rattle.hz_tabtext_model.specs.Texts.{TableText}
 use Rattle.hz_answer_model.specs.Answers.{AnswersCompile, AnswersReplay, AnswersWalk}
 use Rattle.hz_answer_model.specs.DrillAnswers.{IsDrillOf}

@@ -1,10 +1,10 @@
 -- Phases of an answer: reading files, forms and traces. The first that refuses decides. This profile, docs/FORMATS.md, 'Answers'.
 use Rattle.std.specs.Prelude.{◌≡◌, ℕ, List, [], ◌∷◌, Option, MatchOption, MatchBool, nat_lt, length, ◌⊎◌}
-use Rattle.hz_sexp_model.specs.Forms.{FormFault}
-use Rattle.hz_sexp_model.specs.Forms as forms
-use Rattle.hz_sexp_model.specs.Trees.{Trees}
-use Rattle.hz_acceptance_model.specs.Events.{Event}
-use Rattle.hz_trace_model.specs.Traces.{Trace, TraceFault, TraceFaultAt}
+use Rattle.hz_base_model.specs.Forms.Forms.{FormFault}
+use Rattle.hz_base_model.specs.Forms.Forms as forms
+use Rattle.hz_base_model.specs.Forms.Trees.{Trees}
+use Rattle.hz_acceptance_model.specs.Accepting.Events.{Event}
+use Rattle.hz_acceptance_model.specs.Traces.Traces.{Trace, TraceFault, TraceFaultAt}
 use Rattle.hz_answer_model.specs.FaultTexts.{form_word, trace_word}
 use Rattle.hz_answer_model.specs.Texts.{file_line, limit_line, fault_line}
 

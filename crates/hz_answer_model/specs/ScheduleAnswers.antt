@@ -1,13 +1,13 @@
 -- What `schedule` answers: this profile, docs/FORMATS.md, 'Answers'.
 use Rattle.std.specs.Prelude.{◌≡◌, ℕ, List, [], ◌++◌, map, length, All, Ok, ◌⊎◌, slice_index, slice_index_or}
 use Rattle.std.specs.List.{flat_map}
-use Rattle.hz_mdread_model.specs.Descriptions.{Description}
-use Rattle.hz_check_model.specs.Places.{Known, class_names}
-use Rattle.hz_rtl_model.specs.Blocks.{Instruction}
-use Rattle.hz_depend_model.specs.Classes.{ClassFault}
-use Rattle.hz_sched_model.specs.Schedules.{Graph, Slot, class_at, present}
-use Rattle.hz_scheduled_model.specs.BlockGraphs.{class_in, IsFirstClassFault}
-use Rattle.hz_scheduled_model.specs.BlockSchedules.{StartsAlone, IsFirstStuck, IsScheduleOf}
+use Rattle.hz_description_model.specs.Reading.Descriptions.{Description}
+use Rattle.hz_description_model.specs.Check.Places.{Known, class_names}
+use Rattle.hz_block_model.specs.Running.Blocks.{Instruction}
+use Rattle.hz_block_model.specs.Dependences.Classes.{ClassFault}
+use Rattle.hz_block_model.specs.Scheduling.Schedules.{Graph, Slot, class_at, present}
+use Rattle.hz_block_model.specs.Scheduled.BlockGraphs.{class_in, IsFirstClassFault}
+use Rattle.hz_block_model.specs.Scheduled.BlockSchedules.{StartsAlone, IsFirstStuck, IsScheduleOf}
 use Rattle.hz_answer_model.specs.BlockAnswers.{IsBlock}
 use Rattle.hz_answer_model.specs.FaultTexts.{class_line, stuck_line}
 use Rattle.hz_answer_model.specs.Phases.{Says, HasForms}

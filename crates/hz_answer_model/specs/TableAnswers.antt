@@ -1,18 +1,18 @@
 -- What `compile` and `walk` answer: this profile, docs/FORMATS.md, 'Answers'.
 use Rattle.std.specs.Prelude.{◌≡◌, ℕ, ◌+◌, List, [], ◌∷◌, map, All, take, slice_get, Option, Some, None, IsSome, Err, ◌⊎◌}
-use Rattle.hz_acceptance_model.specs.Events.{Event, issue, issues_of, cycles_of}
-use Rattle.hz_auto_model.specs.Compiled.{Report, IsCompiled}
+use Rattle.hz_acceptance_model.specs.Accepting.Events.{Event, issue, issues_of, cycles_of}
+use Rattle.hz_automata_model.specs.Compiling.Compiled.{Report, IsCompiled}
 use Rattle.hz_base_model.specs.Lines.{lines_of}
-use Rattle.hz_check_model.specs.CheckedParts.{automata_of, class_parts}
-use Rattle.hz_check_model.specs.Places.{Known}
-use Rattle.hz_mdread_model.specs.Descriptions.{Description}
-use Rattle.hz_single_model.specs.Told.{ListsAscending}
-use Rattle.hz_tables_model.specs.Machines.{Machine, machine_walk}
+use Rattle.hz_description_model.specs.Check.CheckedParts.{automata_of, class_parts}
+use Rattle.hz_description_model.specs.Check.Places.{Known}
+use Rattle.hz_description_model.specs.Reading.Descriptions.{Description}
+use Rattle.hz_automata_model.specs.Single.Told.{ListsAscending}
+use Rattle.hz_automata_model.specs.Tables.Machines.{Machine, machine_walk}
 use Rattle.hz_tabtext_model.specs.Judging.{Fault}
 use Rattle.hz_tabtext_model.specs.Reading.{tables_in}
 use Rattle.hz_tabtext_model.specs.Said.{tables_said}
 use Rattle.hz_tabtext_model.specs.Texts.{TableText, spelled}
-use Rattle.hz_trace_model.specs.Traces.{event_lines}
+use Rattle.hz_acceptance_model.specs.Traces.Traces.{event_lines}
 use Rattle.hz_answer_model.specs.FaultTexts.{tables_word}
 use Rattle.hz_answer_model.specs.Phases.{Says, Next, Traces}
 use Rattle.hz_answer_model.specs.Texts.{fault_line, accepted_line, refused_line}

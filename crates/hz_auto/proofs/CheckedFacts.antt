@@ -8,8 +8,8 @@ use Rattle.std.specs.declared.alloc.Global.{Global}
 use Rattle.std.specs.declared.vec.Vec.{Vec}
 use Rattle.hz_base_model.specs.Pairs.{Pair}
 use Rattle.hz_base_model.specs.Limits.{automaton_limit, class_limit, unit_limit}
-use Rattle.hz_altern_model.specs.Sets.{Statement}
-use Rattle.hz_check_model.specs.CheckedParts.{AutomatonParts, ClassParts}
+use Rattle.hz_description_model.specs.Reservations.Sets.{Statement}
+use Rattle.hz_description_model.specs.Check.CheckedParts.{AutomatonParts, ClassParts}
 use Rattle.hz_check.specs.declared.checked.Checked.{Checked}
 use Rattle.hz_check.specs.declared.checked.CheckedAutomaton.{CheckedAutomaton}
 use Rattle.hz_check.specs.declared.checked.CheckedClass.{CheckedClass}
@@ -17,9 +17,9 @@ use Rattle.hz_check.specs.Shape.{automaton_of, class_of}
 use Rattle.hz_unitsets.specs.SetRules.{statement_of, statements_of, IsInRange}
 use Rattle.hz_tables.specs.declared.part.Part.{Part}
 use Rattle.hz_tables.specs.Parts.{part_of}
-use Rattle.hz_tables_model.specs.Machines as model
-use Rattle.hz_tables_model.specs.Machines.{IsMachine, IsPart}
-use Rattle.hz_auto_model.specs.AutomatonPipelines.{automaton_at, lists_at}
+use Rattle.hz_automata_model.specs.Tables.Machines as model
+use Rattle.hz_automata_model.specs.Tables.Machines.{IsMachine, IsPart}
+use Rattle.hz_automata_model.specs.Compiling.AutomatonPipelines.{automaton_at, lists_at}
 
 pub map_twice : {A B C : Type 0} (f : B → C) (g : A → B) (xs : List A) → map f (map g xs) ≡ map (λ x. f (g x)) xs
 map_twice f g [] = refl

@@ -2,20 +2,20 @@
 use Rattle.std.proofs.Common.{◌≡◌, ℕ, ◌+◌, ◌*◌, ◌<◌, ◌≤◌, Bool, true, false, List, [], ◌∷◌, ◌++◌, length, replicate, All, Option, Some, None, refl, sym, ap, ◌∙◌, subst, arith}
 use Rattle.std.specs.Prelude.{is_some, MatchBool, IsSomeAnd, slice_index_or, ◌&&◌}
 use Rattle.std.proofs.Math.Nat.{mul-le-mul_left}
-use Rattle.hz_acceptance_model.specs.Events.{Event, issue, advance}
-use Rattle.hz_acceptance_model.specs.Replay.{Pipeline}
-use Rattle.hz_mdread_model.specs.Descriptions.{Options}
-use Rattle.hz_check_model.specs.CheckedParts.{AutomatonParts, ClassParts}
-use Rattle.hz_tables_model.specs.Tables.{walk}
-use Rattle.hz_tables_model.specs.Machines.{Part, IsPart, part_walk, word_of}
-use Rattle.hz_tables_model.specs.StateLimits.{cell_limit}
-use Rattle.hz_tables_model.proofs.TableLaws.{breadth_first_reached}
-use Rattle.hz_reach_model.specs.Counts.{Count}
-use Rattle.hz_reach_model.specs.Counts as count
-use Rattle.hz_auto_model.specs.AutomatonPipelines.{automaton_pipeline, lists_at}
-use Rattle.hz_auto_model.specs.ClassColumns.{IsColumns}
-use Rattle.hz_auto_model.specs.Compiled.{shows_states, IsCompiledPart, IsShown, Shown, Report}
-use Rattle.hz_auto_model.specs.Counted.{CountIs}
+use Rattle.hz_acceptance_model.specs.Accepting.Events.{Event, issue, advance}
+use Rattle.hz_acceptance_model.specs.Accepting.Replay.{Pipeline}
+use Rattle.hz_description_model.specs.Reading.Descriptions.{Options}
+use Rattle.hz_description_model.specs.Check.CheckedParts.{AutomatonParts, ClassParts}
+use Rattle.hz_automata_model.specs.Tables.Tables.{walk}
+use Rattle.hz_automata_model.specs.Tables.Machines.{Part, IsPart, part_walk, word_of}
+use Rattle.hz_automata_model.specs.Tables.StateLimits.{cell_limit}
+use Rattle.hz_automata_model.proofs.Tables.TableLaws.{breadth_first_reached}
+use Rattle.hz_automata_model.specs.Reaching.Counts.{Count}
+use Rattle.hz_automata_model.specs.Reaching.Counts as count
+use Rattle.hz_automata_model.specs.Compiling.AutomatonPipelines.{automaton_pipeline, lists_at}
+use Rattle.hz_automata_model.specs.Compiling.ClassColumns.{IsColumns}
+use Rattle.hz_automata_model.specs.Compiling.Compiled.{shows_states, IsCompiledPart, IsShown, Shown, Report}
+use Rattle.hz_automata_model.specs.Compiling.Counted.{CountIs}
 use Rattle.hz_auto.specs.Parts.{IsLeast}
 
 -- events take the same columns in parts with one map

@@ -3,27 +3,27 @@ use Rattle.std.proofs.Common.{◌≡◌, ℕ, ◌+◌, ◌<◌, ◌≤◌, ◌�
 use Rattle.std.proofs.lemmas.Bool.{cases_lt}
 use Rattle.std.proofs.lemmas.List.{length-map, length_push, map_push, get_or_append_left}
 use Rattle.std.proofs.Math.Seq.{get_or-append_seam}
-use Rattle.hz_mdread_model.specs.Descriptions.{Options}
-use Rattle.hz_check_model.specs.CheckedParts.{AutomatonParts, ClassParts}
+use Rattle.hz_description_model.specs.Reading.Descriptions.{Options}
+use Rattle.hz_description_model.specs.Check.CheckedParts.{AutomatonParts, ClassParts}
 use Rattle.hz_check.specs.declared.checked.Checked.{Checked}
 use Rattle.hz_auto.proofs.CheckedFacts.{map_twice}
 use Rattle.hz_check.specs.Shape.{automaton_of, class_of}
 use Rattle.hz_mdread.specs.Shape.{options as options_of}
 use Rattle.std.specs.Prelude.{if◌then◌else◌}
 use Rattle.std.specs.List.{sum_by}
-use Rattle.hz_acceptance_model.specs.Replay.{Pipeline, first_fit, any_fit}
-use Rattle.hz_reach_model.specs.Counts.{Count}
-use Rattle.hz_reach_model.specs.Counts as count
-use Rattle.hz_reach_model.proofs.LimitLaws.{grids_above_states, grids_above_members}
+use Rattle.hz_acceptance_model.specs.Accepting.Replay.{Pipeline, first_fit, any_fit}
+use Rattle.hz_automata_model.specs.Reaching.Counts.{Count}
+use Rattle.hz_automata_model.specs.Reaching.Counts as count
+use Rattle.hz_automata_model.proofs.Reaching.LimitLaws.{grids_above_states, grids_above_members}
 use Rattle.hz_states.specs.declared.fault.StateFault.{StateFault}
 use Rattle.hz_states.specs.declared.fault.StateFault.TheVariants.{GridLimit, SetLimit, MemberLimit, CellLimit, NoMemory}
 use Rattle.hz_tables.specs.declared.part.Part.{Part}
 use Rattle.hz_tables.specs.Parts.{part_of}
-use Rattle.hz_tables_model.specs.Machines.{Machine, no_part, part_at}
-use Rattle.hz_auto_model.specs.AutomatonPipelines.{lists_at, automaton_pipeline}
-use Rattle.hz_auto_model.specs.Compiled.{IsCompiledPart, IsCompiled, IsFirstPast, report_at, shows_states}
-use Rattle.hz_auto_model.specs.CompiledParts.{cap_of, IsPastLimit}
-use Rattle.hz_pipeline_model.specs.Pipelines.{treatment_of}
+use Rattle.hz_automata_model.specs.Tables.Machines.{Machine, no_part, part_at}
+use Rattle.hz_automata_model.specs.Compiling.AutomatonPipelines.{lists_at, automaton_pipeline}
+use Rattle.hz_automata_model.specs.Compiling.Compiled.{IsCompiledPart, IsCompiled, IsFirstPast, report_at, shows_states}
+use Rattle.hz_automata_model.specs.Compiling.CompiledParts.{cap_of, IsPastLimit}
+use Rattle.hz_acceptance_model.specs.Pipelines.Pipelines.{treatment_of}
 use Rattle.hz_base_model.specs.Pairs.{Pair}
 use Rattle.hz_auto.specs.declared.fault.AutoFault.{AutoFault}
 use Rattle.hz_auto.specs.declared.fault.AutoFault.TheVariants.{Limit}

@@ -5,34 +5,34 @@ use Rattle.std.specs.List.{sum_by}
 use Rattle.std.proofs.lemmas.Bool.{cases_lt}
 use Rattle.std.proofs.lemmas.List.{length-map, get_or_default}
 use Rattle.hz_base_model.specs.Pairs.{Pair, grid_cmp}
-use Rattle.hz_altern_model.specs.Sets.{Statement}
-use Rattle.hz_acceptance_model.specs.Events.{Event, IsOfClass}
-use Rattle.hz_acceptance_model.specs.Fitting.{AskTheSame}
-use Rattle.hz_acceptance_model.specs.Replay.{Pipeline, alternatives_at}
-use Rattle.hz_mdread_model.specs.Descriptions.{Options}
-use Rattle.hz_check_model.specs.CheckedParts.{AutomatonParts, ClassParts}
-use Rattle.hz_pipeline_model.specs.Pipelines.{treatment_of}
-use Rattle.hz_tables_model.specs.Machines.{Part, IsPart, part_walk}
-use Rattle.hz_tables_model.specs.Orders.{IsBreadthFirst}
-use Rattle.hz_tables_model.specs.StateLimits.{cell_limit, member_limit, grid_limit}
-use Rattle.hz_reach_model.specs.Reach.{IsLeft}
-use Rattle.hz_reach_model.specs.Columns.{pipeline_on}
-use Rattle.hz_reach_model.specs.Counts.{Count, CountIsAbove, CountIsAtMost}
-use Rattle.hz_reach_model.specs.Counts as count
-use Rattle.hz_reach_model.specs.Built.{IsAutomaton}
-use Rattle.hz_reach_model.proofs.CountLaws.{no_count_both}
+use Rattle.hz_description_model.specs.Reservations.Sets.{Statement}
+use Rattle.hz_acceptance_model.specs.Accepting.Events.{Event, IsOfClass}
+use Rattle.hz_acceptance_model.specs.Accepting.Fitting.{AskTheSame}
+use Rattle.hz_acceptance_model.specs.Accepting.Replay.{Pipeline, alternatives_at}
+use Rattle.hz_description_model.specs.Reading.Descriptions.{Options}
+use Rattle.hz_description_model.specs.Check.CheckedParts.{AutomatonParts, ClassParts}
+use Rattle.hz_acceptance_model.specs.Pipelines.Pipelines.{treatment_of}
+use Rattle.hz_automata_model.specs.Tables.Machines.{Part, IsPart, part_walk}
+use Rattle.hz_automata_model.specs.Tables.Orders.{IsBreadthFirst}
+use Rattle.hz_automata_model.specs.Tables.StateLimits.{cell_limit, member_limit, grid_limit}
+use Rattle.hz_automata_model.specs.Reaching.Reach.{IsLeft}
+use Rattle.hz_automata_model.specs.Reaching.Columns.{pipeline_on}
+use Rattle.hz_automata_model.specs.Reaching.Counts.{Count, CountIsAbove, CountIsAtMost}
+use Rattle.hz_automata_model.specs.Reaching.Counts as count
+use Rattle.hz_automata_model.specs.Reaching.Built.{IsAutomaton}
+use Rattle.hz_automata_model.proofs.Reaching.CountLaws.{no_count_both}
 use Rattle.hz_states.specs.declared.fault.StateFault.{StateFault}
 use Rattle.hz_states.specs.declared.fault.StateFault.TheVariants.{GridLimit, SetLimit, MemberLimit, CellLimit, NoMemory}
 use Rattle.hz_determ.specs.declared.build.Caps.{Caps}
 use Rattle.hz_determ.specs.Explored.{AreWithin, PassesCap}
-use Rattle.hz_auto_model.specs.AutomatonPipelines.{automaton_at, lists_at, automaton_pipeline}
-use Rattle.hz_auto_model.specs.ClassColumns.{IsColumns}
-use Rattle.hz_auto_model.specs.Compiled.{shows_states, IsCompiledPart, IsShown, Shown, Report}
-use Rattle.hz_auto_model.specs.CompiledParts.{cap_of, IsWithinLimits, IsPastLimit, WalksAccepted, TellsWhatIsLeft}
-use Rattle.hz_auto_model.specs.Counted.{CountIs}
-use Rattle.hz_auto_model.proofs.ColumnLaws.{nothing_past}
-use Rattle.hz_auto_model.proofs.CompiledLaws.{walks_accepted, tells_left, numbered, stands, low, counts_above, counts_most}
-use Rattle.hz_auto_model.proofs.ReportLaws.{grid_count, state_count, cell_count, member_count}
+use Rattle.hz_automata_model.specs.Compiling.AutomatonPipelines.{automaton_at, lists_at, automaton_pipeline}
+use Rattle.hz_automata_model.specs.Compiling.ClassColumns.{IsColumns}
+use Rattle.hz_automata_model.specs.Compiling.Compiled.{shows_states, IsCompiledPart, IsShown, Shown, Report}
+use Rattle.hz_automata_model.specs.Compiling.CompiledParts.{cap_of, IsWithinLimits, IsPastLimit, WalksAccepted, TellsWhatIsLeft}
+use Rattle.hz_automata_model.specs.Compiling.Counted.{CountIs}
+use Rattle.hz_automata_model.proofs.Compiling.ColumnLaws.{nothing_past}
+use Rattle.hz_automata_model.proofs.Compiling.CompiledLaws.{walks_accepted, tells_left, numbered, stands, low, counts_above, counts_most}
+use Rattle.hz_automata_model.proofs.Compiling.ReportLaws.{grid_count, state_count, cell_count, member_count}
 use Rattle.hz_auto.specs.Parts.{IsCapped, IsPastAt}
 use Rattle.hz_auto.specs.Reports.{AreArranged}
 use Rattle.hz_auto.proofs.ColumnLemmas.{few_columns, columns_within}

@@ -1,6 +1,6 @@
 -- A table of the tests.
 use Rattle.std.specs.Prelude.{[], ◌∷◌, Some, None}
-use Rattle.hz_plain.specs.Rows.{Rows}
+use Rattle.hz_tables.specs.Rows.{Rows}
 
 -- a unit that one class takes for a cycle: it is free in state 0, and taken in state 1
 abbrev pub shared : Rows

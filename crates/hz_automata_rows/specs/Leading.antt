@@ -1,6 +1,6 @@
 -- Tables whose entries are looked at one by one.
 use Rattle.std.specs.Prelude.{◌≡◌, ◌≢◌, ℕ, ◌<◌, ◌≤◌, Some, None, length}
-use Rattle.hz_tables_model.specs.Tables.{Table, entry}
+use Rattle.hz_automata_model.specs.Tables.Tables.{Table, entry}
 
 -- the entries of a state in the first k columns are states
 pub record LeadsWithin (table : Table) (state k : ℕ) : Type 0 where

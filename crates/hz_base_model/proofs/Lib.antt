@@ -2,3 +2,4 @@ pub mod Elements
 pub mod Ascending
 pub mod PairOrder
 pub mod LineLaws
+pub mod Forms

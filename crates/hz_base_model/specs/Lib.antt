@@ -2,3 +2,4 @@ pub mod Names
 pub mod Lines
 pub mod Pairs
 pub mod Limits
+pub mod Forms

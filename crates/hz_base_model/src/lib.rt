@@ -1,2 +1,4 @@
-//! Names, lines, pairs and limits: the definitions that all others stand on.
+//! Names, lines, pairs and forms: what all texts and definitions share, and their laws.
 #![tactic(auto)]
+
+pub mod form_laws;

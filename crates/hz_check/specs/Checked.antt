@@ -3,10 +3,10 @@ use Rattle.std.specs.Prelude.{◌≡◌, map}
 use Rattle.hz_check.specs.declared.checked.Checked.{Checked}
 use Rattle.hz_check.specs.Shape.{automaton_of, class_of, bypass_of, attribute_of}
 use Rattle.hz_mdread.specs.Shape.{options as options_of}
-use Rattle.hz_check_model.specs.CheckedParts.{automata_of, class_parts, bypass_parts, attributes_of, defaults_of}
-use Rattle.hz_check_model.specs.CheckFaults.{IsSound}
-use Rattle.hz_check_model.specs.Places.{Known}
-use Rattle.hz_mdread_model.specs.Descriptions.{Description}
+use Rattle.hz_description_model.specs.Check.CheckedParts.{automata_of, class_parts, bypass_parts, attributes_of, defaults_of}
+use Rattle.hz_description_model.specs.Check.CheckFaults.{IsSound}
+use Rattle.hz_description_model.specs.Check.Places.{Known}
+use Rattle.hz_description_model.specs.Reading.Descriptions.{Description}
 
 -- What is held is what a description without a fault gives.
 pub record IsCheckedOf (d : Description) (checked : Checked) : Type 0 where

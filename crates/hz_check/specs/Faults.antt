@@ -11,15 +11,15 @@ use Rattle.hz_check.specs.declared.fault.CheckFault.TheVariants.{TwiceDefined, R
 use Rattle.hz_check.specs.declared.faults.told.Wrong.{Wrong}
 use Rattle.hz_check.specs.declared.faults.told.Wrong.TheVariants as wrong
 use Rattle.hz_check.specs.declared.faults.told.Told.{Told}
-use Rattle.hz_expand.specs.declared.fault.Unexpanded.{Unexpanded}
-use Rattle.hz_expand.specs.declared.fault.Unexpanded.TheVariants as unexpanded
-use Rattle.hz_unfold.specs.declared.fault.OrderFault.{OrderFault}
-use Rattle.hz_unfold.specs.declared.fault.OrderFault.TheVariants as order
-use Rattle.hz_unfold.specs.declared.site.Site.{Site}
-use Rattle.hz_unfold.specs.Places.{site_of}
-use Rattle.hz_check_model.specs.CheckFaults as model
-use Rattle.hz_check_model.specs.FirstTold as first
-use Rattle.hz_mdread_model.specs.Descriptions.{Description}
+use Rattle.hz_check_reservations.specs.declared.listing.unexpanded.Unexpanded.{Unexpanded}
+use Rattle.hz_check_reservations.specs.declared.listing.unexpanded.Unexpanded.TheVariants as unexpanded
+use Rattle.hz_check_reservations.specs.declared.ordering.fault.OrderFault.{OrderFault}
+use Rattle.hz_check_reservations.specs.declared.ordering.fault.OrderFault.TheVariants as order
+use Rattle.hz_check_reservations.specs.declared.ordering.site.Site.{Site}
+use Rattle.hz_check_reservations.specs.Places.{site_of}
+use Rattle.hz_description_model.specs.Check.CheckFaults as model
+use Rattle.hz_description_model.specs.Check.FirstTold as first
+use Rattle.hz_description_model.specs.Reading.Descriptions.{Description}
 
 -- the name of a limit
 abbrev pub limit_of : LimitName → model.LimitName

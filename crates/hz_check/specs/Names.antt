@@ -7,7 +7,7 @@ use Rattle.std.specs.Option.{option_map}
 use Rattle.hz_check.specs.declared.names.by_name.ByName.{ByName}
 use Rattle.hz_check.specs.Names.Held.{held, is_held}
 use Rattle.hz_base_model.specs.Lines.{place_of}
-use Rattle.hz_check_model.specs.Sites.{is_among}
+use Rattle.hz_description_model.specs.Check.Sites.{is_among}
 
 -- the first place of each name in the list is held
 abbrev pub HoldsPlaces : ByName ℕ → List (List ℕ) → Type 0

@@ -5,14 +5,14 @@ use Rattle.std.specs.Prelude.{◌≡◌, map, All}
 use Rattle.hz_altern.specs.Shapes.{alternatives}
 use Rattle.hz_check.specs.declared.parts.Parts.{Parts}
 use Rattle.hz_check.specs.Shape.{automaton_of, bypass_of}
-use Rattle.hz_expand.specs.Shape.{lists_of}
-use Rattle.hz_altern_model.specs.AlternativeLists.{AreSound}
-use Rattle.hz_altern_model.specs.Alternatives.{alternatives_of}
-use Rattle.hz_altern_model.specs.Automata.{listed}
-use Rattle.hz_check_model.specs.CheckFaults.{IsSound}
-use Rattle.hz_check_model.specs.Places.{Known}
-use Rattle.hz_check_model.specs.CheckedParts.{automata_of, bypass_parts}
-use Rattle.hz_mdread_model.specs.Descriptions.{Description}
+use Rattle.hz_check_reservations.specs.Shape.{lists_of}
+use Rattle.hz_description_model.specs.Reservations.AlternativeLists.{AreSound}
+use Rattle.hz_description_model.specs.Reservations.Alternatives.{alternatives_of}
+use Rattle.hz_description_model.specs.Reservations.Automata.{listed}
+use Rattle.hz_description_model.specs.Check.CheckFaults.{IsSound}
+use Rattle.hz_description_model.specs.Check.Places.{Known}
+use Rattle.hz_description_model.specs.Check.CheckedParts.{automata_of, bypass_parts}
+use Rattle.hz_description_model.specs.Reading.Descriptions.{Description}
 
 -- the description has no fault, and these are its automata, its bypasses and the alternatives of its classes
 pub record IsPartsOf (d : Description) (parts : Parts) : Type 0 where

@@ -7,7 +7,7 @@ use Rattle.hz_check.specs.declared.checked.CheckedClass.{CheckedClass}
 use Rattle.hz_check.specs.declared.checked.CheckedBypass.{CheckedBypass}
 use Rattle.hz_mdread.specs.Shape.{condition}
 use Rattle.hz_unitsets.specs.SetRules.{statements_of}
-use Rattle.hz_check_model.specs.CheckedParts.{AutomatonParts, ClassParts, BypassParts}
+use Rattle.hz_description_model.specs.Check.CheckedParts.{AutomatonParts, ClassParts, BypassParts}
 
 -- an automaton
 abbrev pub automaton_of : CheckedAutomaton → AutomatonParts

@@ -2,7 +2,7 @@
 
 ghost use Rattle.std.specs.Prelude.{map};
 ghost use Rattle.hz_check.specs.Shape.{automaton_of, class_of, bypass_of, attribute_of};
-ghost use Rattle.hz_check_model.specs.CheckedShape.{IsKept};
+ghost use Rattle.hz_description_model.specs.Check.CheckedShape.{IsKept};
 ghost use Rattle.std.proofs.Props.{props};
 
 use hz_grid::Grid;

@@ -6,7 +6,7 @@ ghost use Rattle.hz_mdread.specs.Shape.{description};
 ghost use Rattle.hz_check.specs.Checked.{IsCheckedOf};
 ghost use Rattle.hz_check.specs.Faults.{Tells, IsToldAt};
 ghost use Rattle.hz_check.specs.Parts.{IsPartsOf};
-ghost use Rattle.hz_mdread_model.specs.DescriptionShape.{IsCheckable, SharesAutomaton};
+ghost use Rattle.hz_description_model.specs.Reading.DescriptionShape.{IsCheckable, SharesAutomaton};
 
 use crate::checked::Checked;
 use crate::fault::CheckFault;

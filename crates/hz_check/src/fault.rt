@@ -5,6 +5,7 @@ ghost use Rattle.hz_check.specs.declared.fault.CheckFault.TheVariants.{NoMemory 
 
 use hz_regexp::Name;
 use std::alloc::{AllocError, AllocFailed};
+use std::fmt::{self, Display, Formatter, Write};
 use thiserror::Error;
 
 /// What a limit of a description counts. This profile, docs/RULES.md, 'Limits'.
@@ -30,81 +31,118 @@ pub enum LimitName {
 #[derive(Debug, Drop, Error)]
 pub enum CheckFault {
     /// The name is defined the second time in its name space, or the value in its attribute.
-    #[error("line {line}: defined twice")]
     TwiceDefined {
         line: u32,
         name: Name,
     },
     /// A unit or a reservation is called `nothing`.
-    #[error("line {line}: a reserved name")]
     ReservedName {
         line: u32,
         name: Name,
     },
     /// The name is not defined as the kind that is wanted where it stands.
-    #[error("line {line}: an unknown name")]
     UnknownName {
         line: u32,
         name: Name,
     },
     /// The automaton that a unit names is not defined.
-    #[error("line {line}: an unknown automaton")]
     UnknownAutomaton {
         line: u32,
         name: Name,
     },
     /// An automaton is defined, and the unit names none.
-    #[error("line {line}: a unit without an automaton")]
     UnitNeedsAutomaton {
         line: u32,
         name: Name,
     },
     /// The reservation reaches itself through names.
-    #[error("line {line}: a circular reservation")]
     CircularReservation {
         line: u32,
         name: Name,
     },
     /// The unit is in both strings of one exclusion.
-    #[error("line {line}: a unit that excludes itself")]
     SelfExclusion {
         line: u32,
         name: Name,
     },
     /// The unit of a set has another automaton than its first unit.
-    #[error("line {line}: a set over several automata")]
     SetAcrossAutomata {
         line: u32,
         name: Name,
     },
     /// The limit is passed here.
-    #[error("line {line}: too large")]
     Limit {
         what: LimitName,
         line: u32,
         name: Name,
     },
     /// An alternation of the class holds units of two automata.
-    #[error("line {line}: an alternation of two automata")]
     AlternationOfTwoAutomata {
         line: u32,
         name: Name,
     },
     /// The class has units of two automata, and a part of two lengths stands before a comma or in a repeat.
-    #[error("line {line}: an alternation of two lengths")]
     AlternationOfTwoLengths {
         line: u32,
         name: Name,
     },
     /// A bypass gives a pair of classes another number than an earlier one; the name is the producing class.
-    #[error("line {line}: a second number of a bypass")]
     BypassTwice {
         line: u32,
         name: Name,
     },
     /// Memory ran out.
-    #[error("out of memory")]
     NoMemory,
+}
+
+impl CheckFault {
+    /// The line of the form; want of memory has none.
+    fn line(&self) -> Option<u32> {
+        match self {
+            CheckFault::TwiceDefined { line, .. }
+            | CheckFault::ReservedName { line, .. }
+            | CheckFault::UnknownName { line, .. }
+            | CheckFault::UnknownAutomaton { line, .. }
+            | CheckFault::UnitNeedsAutomaton { line, .. }
+            | CheckFault::CircularReservation { line, .. }
+            | CheckFault::SelfExclusion { line, .. }
+            | CheckFault::SetAcrossAutomata { line, .. }
+            | CheckFault::Limit { line, .. }
+            | CheckFault::AlternationOfTwoAutomata { line, .. }
+            | CheckFault::AlternationOfTwoLengths { line, .. }
+            | CheckFault::BypassTwice { line, .. } => Some(*line),
+            CheckFault::NoMemory => None,
+        }
+    }
+
+    /// What is wrong, in words.
+    fn words(&self) -> &'static str {
+        match self {
+            CheckFault::TwiceDefined { .. } => "defined twice",
+            CheckFault::ReservedName { .. } => "a reserved name",
+            CheckFault::UnknownName { .. } => "an unknown name",
+            CheckFault::UnknownAutomaton { .. } => "an unknown automaton",
+            CheckFault::UnitNeedsAutomaton { .. } => "a unit without an automaton",
+            CheckFault::CircularReservation { .. } => "a circular reservation",
+            CheckFault::SelfExclusion { .. } => "a unit that excludes itself",
+            CheckFault::SetAcrossAutomata { .. } => "a set over several automata",
+            CheckFault::Limit { .. } => "too large",
+            CheckFault::AlternationOfTwoAutomata { .. } => "an alternation of two automata",
+            CheckFault::AlternationOfTwoLengths { .. } => "an alternation of two lengths",
+            CheckFault::BypassTwice { .. } => "a second number of a bypass",
+            CheckFault::NoMemory => "out of memory",
+        }
+    }
+}
+
+impl Display for CheckFault {
+    fn fmt<W: Write>(&self, f: &mut Formatter<W>) -> fmt::Result {
+        let words = self.words();
+        match self.line() {
+            Some(line) => write!(f, "line {line}: {words}"),
+            None => write!(f, "{words}"),
+        }
+    }
 }
 
 impl From<AllocError> for CheckFault {

@@ -1,6 +1,6 @@
 //! The faults, in files by what is asked, in the order in which `steps` asks them: a name that is twice defined, a reserved name, an
 //! unknown name, an unknown automaton, a unit that needs an automaton (`of_names` joins these); a circular reservation, of
-//! which `hz_unfold` tells; a self exclusion, a set across automata; the limits; an
+//! which `hz_check_reservations` tells; a self exclusion, a set across automata; the limits; an
 //! alternation of two automata, and one of two lengths; a bypass twice.
 
 pub(crate) mod alternations;

@@ -5,8 +5,8 @@ ghost use Rattle.hz_mdread.specs.Shape.{description};
 ghost use Rattle.hz_check.specs.Names.Held.{held};
 ghost use Rattle.hz_check.specs.Names.{HoldsPlaces, test_by, test_of};
 ghost use Rattle.hz_check.specs.Names.Homes.{AreHomes};
-ghost use Rattle.hz_check_model.specs.CheckFaults.{values_of};
-ghost use Rattle.hz_check_model.specs.Places.{class_names};
+ghost use Rattle.hz_description_model.specs.Check.CheckFaults.{values_of};
+ghost use Rattle.hz_description_model.specs.Check.Places.{class_names};
 
 use crate::names::by_name::ByName;
 use crate::names::homes::homes_of;
@@ -53,12 +53,12 @@ impl<'a> Names<'a> {
     ghost use Rattle.std.specs.Option.{option_copied};
     ghost use Rattle.hz_check.specs.Names.First.{first_of};
     ghost use Rattle.hz_mdread.specs.Shape.{description, unit_item};
-    ghost use Rattle.hz_mdread_model.specs.DescriptionShape.{SharesAutomaton};
+    ghost use Rattle.hz_description_model.specs.Reading.DescriptionShape.{SharesAutomaton};
     ghost use Rattle.hz_check.specs.Names.Held.{held};
     ghost use Rattle.hz_check.specs.Names.{HoldsPlaces, test_by, test_of};
     ghost use Rattle.hz_check.specs.Names.Homes.{AreHomes, automaton_place};
-    ghost use Rattle.hz_check_model.specs.CheckFaults.{is_unit, is_reservable, is_class, values_of, home};
-    ghost use Rattle.hz_check_model.specs.Places.{class_names, automaton_number};
+    ghost use Rattle.hz_description_model.specs.Check.CheckFaults.{is_unit, is_reservable, is_class, values_of, home};
+    ghost use Rattle.hz_description_model.specs.Check.Places.{class_names, automaton_number};
 
     /// The names of a description.
     pub fn of(alloc: Global, desc: &'a Description) -> Result<Names<'a>, NoMemory>

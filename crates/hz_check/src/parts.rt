@@ -1,11 +1,15 @@
 //! What is made of a description without a fault while it is still whole.
 
-ghost use Rattle.std.specs.Prelude.{IfOk, IfErr};
+ghost use Rattle.std.specs.Prelude.{◌≡◌, IfOk, IfErr, map};
 ghost use Rattle.std.specs.List.{AllPairs};
 ghost use Rattle.hz_mdread.specs.Shape.{description};
+ghost use Rattle.hz_check.specs.Faults.PastUnits.{ArePlaces};
+ghost use Rattle.hz_check.specs.Faults.Steps.{IsOrdered, AreWithin, AreLists};
 ghost use Rattle.hz_check.specs.Faults.{Tells, IsToldAt};
 ghost use Rattle.hz_check.specs.Parts.{IsPartsOf};
-ghost use Rattle.hz_mdread_model.specs.DescriptionShape.{IsCheckable, SharesAutomaton};
+ghost use Rattle.hz_check.specs.Shape.{automaton_of, bypass_of};
+ghost use Rattle.hz_description_model.specs.Check.CheckedParts.{automata_of, bypass_parts};
+ghost use Rattle.hz_description_model.specs.Reading.DescriptionShape.{IsCheckable, SharesAutomaton};
 
 use crate::checked::{CheckedAutomaton, CheckedBypass};
 use crate::fault::CheckFault;
@@ -14,10 +18,13 @@ use crate::faults::bypass_twice::second_number;
 use crate::faults::past_expansions::expanded;
 use crate::faults::steps::{named, ordered, placed};
 use crate::faults::told::{Wrong, refused};
+use crate::names::Names;
 use crate::parts::assembly::{automata, bypasses};
 use crate::parts::placed_sets::placed_sets;
 use hz_altern::Alt;
+use hz_check_reservations::UnitPlace;
 use hz_mdread::Description;
+use hz_regexp::NoMemory;
 use std::alloc::Global;
 
 pub(crate) mod assembly;
@@ -31,6 +38,76 @@ pub(crate) struct Parts {
     pub automata: Vec<CheckedAutomaton>,
     pub bypasses: Vec<CheckedBypass>,
     pub lists: Vec<Vec<Alt>>,
+}
+
+/// The alternatives of the classes, where no fault that is told of them or of the bypasses stands. The units have these
+/// places, and the numbers of the order are places of reservations, and behind them places of classes.
+fn class_lists(
+    alloc: Global,
+    names: &Names<'_>,
+    places: &[UnitPlace],
+    order: &[usize],
+) -> Result<Vec<Vec<Alt>>, CheckFault>
+    requires ordered { IsOrdered (description names.now.desc.now) order.now }
+    requires within { AreWithin (description names.now.desc.now) }
+    requires places { ArePlaces (description names.now.desc.now) places.now }
+    ensures ok { IfOk result (λ lists. AreLists (description names.now.desc.now) order.now lists.items) }
+    ensures err { IfErr result (Tells (IsToldAt (description names.now.desc.now))) }
+{
+    let desc = names.desc;
+    let expanded = match expanded(alloc, desc, places, order) {
+        Ok(lists) => lists,
+        Err(fault) => return Err(fault),
+    };
+    let lists = match unbroken(alloc, desc, places, order, expanded) {
+        Ok(lists) => lists,
+        Err(fault) => return Err(fault),
+    };
+    match second_number(alloc, names)? {
+        Some(site) => Err(refused(Wrong::BypassTwice, site)),
+        None => Ok(lists),
+    }
+}
+
+/// The automata and the bypasses, with the alternatives of the classes as they are. The units have these places.
+fn assemble(
+    alloc: Global,
+    names: &Names<'_>,
+    places: &[UnitPlace],
+    lists: Vec<Vec<Alt>>,
+) -> Result<Parts, NoMemory>
+    requires within { AreWithin (description names.now.desc.now) }
+    requires places { ArePlaces (description names.now.desc.now) places.now }
+    ensures automata { IfOk result (λ parts. map automaton_of parts.automata.items ≡ automata_of (description names.now.desc.now)) }
+    ensures bypasses { IfOk result (λ parts. map bypass_of parts.bypasses.items ≡ map (bypass_parts (description names.now.desc.now)) (description names.now.desc.now).bypasses) }
+    ensures lists { IfOk result (λ parts. parts.lists.items ≡ lists.items) }
+{
+    let sets = placed_sets(alloc, names, places)?;
+    let automata = automata(alloc, names, &sets)?;
+    let bypasses = bypasses(alloc, names)?;
+    Ok(Parts {
+        automata,
+        bypasses,
+        lists,
+    })
+}
+
+/// The parts of a description whose names are right, or the fault that is told. The numbers of the order are places of
+/// reservations, and behind them places of classes.
+fn ordered_parts(alloc: Global, names: &Names<'_>, order: &[usize]) -> Result<Parts, CheckFault>
+    requires { IsOrdered (description names.now.desc.now) order.now }
+    ensures ok { IfOk result (IsPartsOf (description names.now.desc.now)) }
+    ensures err { IfErr result (Tells (IsToldAt (description names.now.desc.now))) }
+{
+    let places = match placed(alloc, names, order) {
+        Ok(places) => places,
+        Err(fault) => return Err(fault),
+    };
+    let lists = match class_lists(alloc, names, &places, order) {
+        Ok(lists) => lists,
+        Err(fault) => return Err(fault),
+    };
+    Ok(assemble(alloc, names, &places, lists)?)
 }
 
 /// The parts of a description without a fault, or the fault that is told.
@@ -48,27 +125,5 @@ pub(crate) fn parts_of(alloc: Global, desc: &Description) -> Result<Parts, Check
         Ok(order) => order,
         Err(fault) => return Err(fault),
     };
-    let places = match placed(alloc, &names, &order.numbers) {
-        Ok(places) => places,
-        Err(fault) => return Err(fault),
-    };
-    let expanded = match expanded(alloc, desc, &places, &order.numbers) {
-        Ok(lists) => lists,
-        Err(fault) => return Err(fault),
-    };
-    let lists = match unbroken(alloc, desc, &places, &order.numbers, expanded) {
-        Ok(lists) => lists,
-        Err(fault) => return Err(fault),
-    };
-    if let Some(site) = second_number(alloc, &names)? {
-        return Err(refused(Wrong::BypassTwice, site));
-    }
-    let sets = placed_sets(alloc, &names, &places)?;
-    let automata = automata(alloc, &names, &sets)?;
-    let bypasses = bypasses(alloc, &names)?;
-    Ok(Parts {
-        automata,
-        bypasses,
-        lists,
-    })
+    ordered_parts(alloc, &names, &order.numbers)
 }

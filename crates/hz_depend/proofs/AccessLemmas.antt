@@ -3,8 +3,8 @@ use Rattle.std.proofs.Common.{◌≡◌, ℕ, Option, Some, None, refl}
 use Rattle.hz_rtl.specs.declared.block.Op2.{Op2}
 use Rattle.hz_rtl.specs.declared.block.Op2.TheVariants.{Plus}
 use Rattle.hz_rtl.specs.Shape.{binary_operator}
-use Rattle.hz_rtl_model.specs.Operators.{plus}
-use Rattle.hz_depend_model.specs.Accesses.{sum_of}
+use Rattle.hz_block_model.specs.Running.Operators.{plus}
+use Rattle.hz_block_model.specs.Dependences.Accesses.{sum_of}
 
 pub no_left : (right : Option ℕ) → sum_of plus None right ≡ None
 no_left right = refl

@@ -6,11 +6,11 @@ use Rattle.std.specs.Option.{option_map_or}
 use Rattle.std.proofs.lemmas.Bool.{cases_lt, lt-ltb, ltb-true, eqb-true, eq-eqb}
 use Rattle.std.proofs.lemmas.List.Elements.{Contains-append_left, Contains-append_right}
 use Rattle.hz_base_model.proofs.Elements.{Contains-head}
-use Rattle.hz_rtl_model.specs.Operators.{word_count}
-use Rattle.hz_check_model.specs.CheckedParts.{BypassParts}
-use Rattle.hz_depend_model.specs.Accesses.{Based, is_among}
-use Rattle.hz_depend_model.specs.Dependences.{apart_by}
-use Rattle.hz_depend_model.specs.Graphs.{Edge}
+use Rattle.hz_block_model.specs.Running.Operators.{word_count}
+use Rattle.hz_description_model.specs.Check.CheckedParts.{BypassParts}
+use Rattle.hz_block_model.specs.Dependences.Accesses.{Based, is_among}
+use Rattle.hz_block_model.specs.Dependences.Dependences.{apart_by}
+use Rattle.hz_block_model.specs.Dependences.Graphs.{Edge}
 use Rattle.hz_depend.specs.Held.{Held, meet, cost_by, is_true, is_anti, is_output, cost_held, number, edge_by, found, found_among, writes, last_of}
 use Rattle.hz_depend.specs.Lists.{list_at}
 use Rattle.hz_depend.specs.Marks.{place_before, all_lists, other_lists, below}

@@ -5,10 +5,10 @@ use Rattle.std.proofs.Math.Path.{fun_ext}
 use Rattle.std.proofs.lemmas.List.{take-map}
 use Rattle.std.proofs.lemmas.Option.{slice_get-map}
 use Rattle.std.specs.Option.{option_map}
-use Rattle.hz_check_model.specs.CheckedParts.{BypassParts}
+use Rattle.hz_description_model.specs.Check.CheckedParts.{BypassParts}
 use Rattle.hz_depend.specs.declared.nodes.Node.{Node}
-use Rattle.hz_depend_model.specs.Accesses.{is_among}
-use Rattle.hz_depend_model.specs.Graphs.{Edge}
+use Rattle.hz_block_model.specs.Dependences.Accesses.{is_among}
+use Rattle.hz_block_model.specs.Dependences.Graphs.{Edge}
 use Rattle.hz_depend.specs.Held.{Held, held, found, writes, last_of, edges_to, all_found}
 
 pub zeros : (n r : ℕ) → slice_index (replicate n 0) r ≡ 0

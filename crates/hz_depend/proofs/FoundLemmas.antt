@@ -7,8 +7,8 @@ use Rattle.std.proofs.lemmas.Option.{slice_get_within}
 use Rattle.std.proofs.lemmas.List.Elements.{Contains-append_left, Contains-append_right, Contains-append_cases}
 use Rattle.hz_base_model.proofs.Elements.{Contains-nil, Contains-head, Contains-cons_cases}
 use Rattle.hz_base_model.proofs.Ascending.{AllPairs-append}
-use Rattle.hz_check_model.specs.CheckedParts.{BypassParts}
-use Rattle.hz_depend_model.specs.Graphs.{Edge}
+use Rattle.hz_description_model.specs.Check.CheckedParts.{BypassParts}
+use Rattle.hz_block_model.specs.Dependences.Graphs.{Edge}
 use Rattle.hz_depend.specs.Held.{Held, cost_held, edge_by, found, last_of, edges_to, all_found}
 
 -- An edge that was found to a place from an instruction that stands from another on.

@@ -11,13 +11,13 @@ use Rattle.hz_rtl.specs.Shape.{instruction}
 use Rattle.hz_check.specs.declared.checked.Checked.{Checked}
 use Rattle.hz_check.specs.declared.checked.CheckedClass.{CheckedClass}
 use Rattle.hz_check.specs.Shape.{bypass_of, class_of}
-use Rattle.hz_check_model.specs.CheckedParts.{BypassParts}
-use Rattle.hz_depend_model.specs.Accesses.{access_of}
-use Rattle.hz_depend_model.specs.Classes.{bypass_between}
-use Rattle.hz_depend_model.specs.Dependences as model
-use Rattle.hz_depend_model.specs.Dependences.{depends, Timing}
-use Rattle.hz_depend_model.specs.Graphs.{Edge, edge, IsGraph}
-use Rattle.hz_depend_model.proofs.UpwardLaws.{upwards}
+use Rattle.hz_description_model.specs.Check.CheckedParts.{BypassParts}
+use Rattle.hz_block_model.specs.Dependences.Accesses.{access_of}
+use Rattle.hz_block_model.specs.Dependences.Classes.{bypass_between}
+use Rattle.hz_block_model.specs.Dependences.Dependences as model
+use Rattle.hz_block_model.specs.Dependences.Dependences.{depends, Timing}
+use Rattle.hz_block_model.specs.Dependences.Graphs.{Edge, edge, IsGraph}
+use Rattle.hz_block_model.proofs.Dependences.UpwardLaws.{upwards}
 use Rattle.hz_depend.specs.GraphShape.{latencies_of, timing_in}
 use Rattle.hz_depend.specs.Held.{Held, node_for, class_number, number, cost_by, cost_held, is_true, is_anti, is_output, last_of, all_found}
 use Rattle.hz_depend.proofs.LastLemmas.{nodes_in, block_in}

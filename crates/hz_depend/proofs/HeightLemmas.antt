@@ -7,7 +7,7 @@ use Rattle.std.proofs.lemmas.List.{length-replicate}
 use Rattle.std.proofs.lemmas.List.Elements.{All-contains}
 use Rattle.hz_base_model.proofs.Elements.{Contains-nil, Contains-head, Contains-tail, Contains-cons_cases}
 use Rattle.hz_base_model.proofs.Ascending.{AllPairs-head, AllPairs-tail}
-use Rattle.hz_depend_model.specs.Graphs.{Edge, IsHeight}
+use Rattle.hz_block_model.specs.Dependences.Graphs.{Edge, IsHeight}
 use Rattle.hz_depend.specs.Relaxing.{height_at, relaxed}
 use Rattle.hz_depend.proofs.FoundLemmas.{Before}
 

@@ -17,14 +17,14 @@ use Rattle.hz_depend.specs.Shape.{class_for}
 use Rattle.hz_depend.specs.GraphShape.{edge_of, latencies_of, first_class_fault, IsGraphOf, IsSchedulable}
 use Rattle.hz_depend.specs.Held.{Held, held, node_for, class_number, number_of_class, all_found}
 use Rattle.hz_depend.specs.Relaxing.{height_at, relaxed}
-use Rattle.hz_depend_model.specs.Graphs as model
-use Rattle.hz_depend_model.specs.Classes.{ClassFault}
+use Rattle.hz_block_model.specs.Dependences.Graphs as model
+use Rattle.hz_block_model.specs.Dependences.Classes.{ClassFault}
 use Rattle.hz_depend.proofs.LastLemmas.{nodes_in}
 use Rattle.hz_depend.proofs.FoundLemmas.{Before, all_before}
 use Rattle.hz_depend.proofs.HeightLemmas.{heights_are}
 use Rattle.hz_depend.proofs.BoundLemmas.{latencies_in, small_latency, all_up, all_ordered, sums_length}
 use Rattle.hz_depend.proofs.GraphLemmas.{map_map, all_of, bypasses, numbers, all, graph_is, edge_is, small}
-use Rattle.hz_rtl_model.specs.Limits.{instruction_limit}
+use Rattle.hz_block_model.specs.Running.Limits.{instruction_limit}
 
 -- The instructions and the edges that are found of a block.
 pub record Made (checked : Checked) (insns : List Insn) (nodes : List Node) (edges : List Edge) : Type 0 where

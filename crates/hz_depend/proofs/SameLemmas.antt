@@ -9,9 +9,9 @@ use Rattle.hz_check.specs.Shape.{bypass_of}
 use Rattle.hz_depend.specs.declared.finding.access.Based.{Based}
 use Rattle.hz_depend.specs.Cells.{based, cells}
 use Rattle.hz_depend.specs.Held.{Held, meet, number}
-use Rattle.hz_depend_model.specs.Accesses.{is_among}
-use Rattle.hz_depend_model.specs.Dependences.{apart_by}
-use Rattle.hz_depend_model.specs.Classes.{bypass_between}
+use Rattle.hz_block_model.specs.Dependences.Accesses.{is_among}
+use Rattle.hz_block_model.specs.Dependences.Dependences.{apart_by}
+use Rattle.hz_block_model.specs.Dependences.Classes.{bypass_between}
 
 -- the second of two tests decides where the first fails
 pub or_else : (a b p m : Bool) → p ≡ a → a ≡ false → b ≡ m → b ≡ (p || m)

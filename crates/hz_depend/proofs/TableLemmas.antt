@@ -6,8 +6,8 @@ use Rattle.std.proofs.Math.Path.{fun_ext}
 use Rattle.std.proofs.lemmas.Bool.{eq-eqb}
 use Rattle.std.proofs.lemmas.List.{take-map, length-map}
 use Rattle.std.proofs.lemmas.Option.{slice_get-map, slice_get_within}
-use Rattle.hz_check_model.specs.CheckedParts.{BypassParts}
-use Rattle.hz_depend_model.specs.Accesses.{Based}
+use Rattle.hz_description_model.specs.Check.CheckedParts.{BypassParts}
+use Rattle.hz_block_model.specs.Dependences.Accesses.{Based}
 use Rattle.hz_depend.specs.declared.nodes.Node.{Node}
 use Rattle.hz_depend.specs.Held.{Held, held, found, found_among, cost_held, last_of}
 use Rattle.hz_depend.specs.Lists.{list_at}

@@ -1,7 +1,7 @@
 -- What the code holds of what an instruction reads and writes.
 use Rattle.std.specs.Prelude.{◌≡◌, map}
 use Rattle.hz_depend.specs.declared.finding.access.Access.{Access}
-use Rattle.hz_depend_model.specs.Accesses as model
+use Rattle.hz_block_model.specs.Dependences.Accesses as model
 use Rattle.hz_depend.specs.Cells.{cells}
 
 pub record IsAccess (a : Access) (m : model.Access) : Type 0 where

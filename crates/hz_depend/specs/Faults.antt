@@ -2,7 +2,7 @@
 use Rattle.hz_depend.specs.declared.class.ClassFault.{ClassFault}
 use Rattle.hz_depend.specs.declared.class.ClassFault.TheVariants.{UnknownAttribute, UnknownValue, NoClass, Ambiguous}
 use Rattle.std.specs.Prelude.{ℕ}
-use Rattle.hz_depend_model.specs.Classes as model
+use Rattle.hz_block_model.specs.Dependences.Classes as model
 
 abbrev pub fault : ClassFault → model.ClassFault
 fault UnknownAttribute = model.unknown_attribute

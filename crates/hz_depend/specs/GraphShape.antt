@@ -1,6 +1,6 @@
 -- What the code answers of a block, as what the definitions speak of.
 use Rattle.std.specs.Prelude.{◌≡◌, ℕ, suc, ◌<◌, ◌≤◌, List, [], ◌∷◌, map, length, Option, Some, None, Result, Ok, Err, slice_index, All}
-use Rattle.hz_mdread_model.specs.Limits.{latency_limit}
+use Rattle.hz_description_model.specs.Reading.Limits.{latency_limit}
 use Rattle.hz_rtl.specs.declared.block.Block.{Block}
 use Rattle.hz_rtl.specs.declared.block.Insn.{Insn}
 use Rattle.hz_rtl.specs.Shape.{instructions}
@@ -12,10 +12,10 @@ use Rattle.hz_depend.specs.declared.fault.DependFault.{DependFault}
 use Rattle.hz_depend.specs.declared.fault.DependFault.TheVariants.{Class, NoMemory}
 use Rattle.hz_depend.specs.Faults.{fault}
 use Rattle.hz_depend.specs.Shape.{class_for}
-use Rattle.hz_depend_model.specs.Classes.{ClassFault, timing_of}
-use Rattle.hz_depend_model.specs.Dependences.{Timing}
-use Rattle.hz_depend_model.specs.Graphs as model
-use Rattle.hz_rtl_model.specs.Limits.{instruction_limit}
+use Rattle.hz_block_model.specs.Dependences.Classes.{ClassFault, timing_of}
+use Rattle.hz_block_model.specs.Dependences.Dependences.{Timing}
+use Rattle.hz_block_model.specs.Dependences.Graphs as model
+use Rattle.hz_block_model.specs.Running.Limits.{instruction_limit}
 
 abbrev pub edge_of : Edge → model.Edge
 edge_of e = record { from = e.from; to = e.to; cost = e.cost }

@@ -5,15 +5,15 @@ use Rattle.std.specs.Option.{option_map, option_to_list}
 use Rattle.hz_rtl.specs.declared.block.Insn.{Insn}
 use Rattle.hz_rtl.specs.Shape.{instruction}
 use Rattle.hz_check.specs.declared.checked.Checked.{Checked}
-use Rattle.hz_check_model.specs.CheckedParts.{BypassParts}
+use Rattle.hz_description_model.specs.Check.CheckedParts.{BypassParts}
 use Rattle.hz_depend.specs.declared.nodes.Node.{Node}
 use Rattle.hz_depend.specs.Cells.{cells}
 use Rattle.hz_depend.specs.Shape.{class_for}
 use Rattle.hz_depend.specs.GraphShape.{latencies_of}
-use Rattle.hz_depend_model.specs.Accesses.{Access, access_of, is_among, Based, based_of}
-use Rattle.hz_depend_model.specs.Dependences.{apart_by}
-use Rattle.hz_depend_model.specs.Classes.{ClassFault, bypass_between}
-use Rattle.hz_depend_model.specs.Graphs.{Edge}
+use Rattle.hz_block_model.specs.Dependences.Accesses.{Access, access_of, is_among, Based, based_of}
+use Rattle.hz_block_model.specs.Dependences.Dependences.{apart_by}
+use Rattle.hz_block_model.specs.Dependences.Classes.{ClassFault, bypass_between}
+use Rattle.hz_block_model.specs.Dependences.Graphs.{Edge}
 
 -- An instruction: its class, its latency, and what it reads and writes.
 pub record Held : Type 0 where

@@ -3,8 +3,8 @@
 use Rattle.std.specs.Prelude.{◌≡◌, ℕ, zero, suc, ◌-◌, ◌%◌, ◌==◌, Bool, true, false, ◌&&◌, if◌then◌else◌, List, [], ◌∷◌, ◌++◌, Option, Some, None, length, slice_get}
 use Rattle.std.specs.List.{flat_map}
 use Rattle.std.specs.Option.{option_map_or}
-use Rattle.hz_rtl_model.specs.Operators.{word_count}
-use Rattle.hz_depend_model.specs.Accesses.{Based}
+use Rattle.hz_block_model.specs.Running.Operators.{word_count}
+use Rattle.hz_block_model.specs.Dependences.Accesses.{Based}
 use Rattle.hz_depend.specs.Held.{Held}
 use Rattle.hz_depend.specs.Lists.{list_at}
 use Rattle.hz_depend.specs.Marks.{below, place_before, all_lists, other_lists}

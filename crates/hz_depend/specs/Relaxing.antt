@@ -1,6 +1,6 @@
 -- Heights, edge by edge from the last to the first. These words are only to prove with.
 use Rattle.std.specs.Prelude.{ℕ, ◌+◌, List, [], ◌∷◌, max, length, replicate, Option, Some, None, unwrap_or, slice_index, slice_index_or, slice_set}
-use Rattle.hz_depend_model.specs.Graphs.{Edge}
+use Rattle.hz_block_model.specs.Dependences.Graphs.{Edge}
 
 -- the height of a place by the edges so far: the greatest sum where an edge leads from it, else the latency
 abbrev pub height_at : List ℕ → List (Option ℕ) → ℕ → ℕ

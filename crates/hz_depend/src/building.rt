@@ -3,7 +3,7 @@
 ghost use Rattle.std.specs.Prelude.{◌≡◌, ◌≤◌, ◌<◌, ℕ, List, length, map, slice_index, IfOk};
 ghost use Rattle.hz_depend.specs.GraphShape.{IsGraphOf, IsSchedulable, class_fault_in, first_class_fault};
 ghost use Rattle.hz_depend.specs.Relaxing.{height_at};
-ghost use Rattle.hz_rtl_model.specs.Limits.{instruction_limit};
+ghost use Rattle.hz_block_model.specs.Running.Limits.{instruction_limit};
 
 use crate::building::edges::edges_of;
 use crate::building::heights::{height_at, sums_of};

@@ -12,6 +12,3 @@ pub use building::graph;
 pub use class::{ClassFault, class_of};
 pub use fault::DependFault;
 pub use parts::{Edge, Graph, GraphInsn};
-
-#[cfg(test)]
-mod tests;

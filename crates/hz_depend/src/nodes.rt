@@ -7,7 +7,7 @@ ghost use Rattle.hz_depend.specs.Faults.{placed};
 ghost use Rattle.hz_depend.specs.Held.{held, node_for};
 ghost use Rattle.hz_depend.specs.Shape.{class_for};
 ghost use Rattle.std.specs.Result.{is_ok};
-ghost use Rattle.hz_rtl_model.specs.Limits.{instruction_limit};
+ghost use Rattle.hz_block_model.specs.Running.Limits.{instruction_limit};
 
 use crate::class::{ClassFault, class_of};
 use crate::finding::access::{Access, access_of};

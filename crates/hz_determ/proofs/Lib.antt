@@ -1,3 +1,7 @@
+pub mod FlatLemmas
+pub mod JoinLemmas
+pub mod ListsLemmas
+pub mod SpaceLemmas
 pub mod UnionLemmas
 pub mod ReadLemmas
 pub mod SetLemmas

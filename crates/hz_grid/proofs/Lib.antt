@@ -1,3 +1,5 @@
+pub mod Bits
+pub mod SetLemmas
 pub mod Pairs
 pub mod Steps
 pub mod Units

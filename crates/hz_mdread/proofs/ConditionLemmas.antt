@@ -5,9 +5,9 @@ use Rattle.std.specs.Str.{bytes_eq}
 use Rattle.std.proofs.lemmas.List.{drop_more}
 use Rattle.hz_mdread.specs.declared.condition.Condition.{Condition}
 use Rattle.hz_mdread.specs.Shape.{condition, conditions}
-use Rattle.hz_mdread_model.specs.Descriptions as model
-use Rattle.hz_mdread_model.specs.DescriptionForms as forms
-use Rattle.hz_mdread_model.specs.DescriptionShape.{are_several}
+use Rattle.hz_description_model.specs.Reading.Descriptions as model
+use Rattle.hz_description_model.specs.Reading.DescriptionForms as forms
+use Rattle.hz_description_model.specs.Reading.DescriptionShape.{are_several}
 
 -- the tests from a place on begin with the test there
 pub conditions_from_place : (tests : List Condition) (i : ℕ) (test : Condition) → i < length tests → test ≡ get_or tests i test → conditions (drop i tests) ≡ model.more (condition test) (conditions (drop (i + 1) tests))

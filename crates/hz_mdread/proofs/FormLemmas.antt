@@ -4,9 +4,9 @@ use Rattle.hz_sexp.specs.declared.form.Form.{Form, out-Form}
 use Rattle.hz_sexp.specs.declared.form.Node.TheOpen.{Node-F}
 use Rattle.hz_sexp.specs.declared.form.Node.TheFolds.{fold_out-Form, fold_out-Node}
 use Rattle.hz_sexp.specs.Shape.{tree, trees, node_step, form_step}
-use Rattle.hz_sexp_model.specs.Trees.{Tree, Trees, list, atom, more, line_of}
-use Rattle.hz_mdread_model.specs.DescriptionShape.{FormKind}
-use Rattle.hz_mdread_model.specs.DescriptionForms.{Said, headed, kind_of, form_of_kind, form_says, string_below, strings_below}
+use Rattle.hz_base_model.specs.Forms.Trees.{Tree, Trees, list, atom, more, line_of}
+use Rattle.hz_description_model.specs.Reading.DescriptionShape.{FormKind}
+use Rattle.hz_description_model.specs.Reading.DescriptionForms.{Said, headed, kind_of, form_of_kind, form_says, string_below, strings_below}
 
 line_of_step : (node : Node-F (ℕ → Tree) Tree) (line : ℕ) → line_of (node_step node line) ≡ line
 line_of_step (Node-F.List forms) line = refl

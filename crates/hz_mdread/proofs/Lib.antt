@@ -1,5 +1,6 @@
 pub mod OperandLemmas
 pub mod ListLemmas
+pub mod ClassLemmas
 pub mod ConditionLemmas
 pub mod ConditionViews
 pub mod TestLemmas

@@ -7,9 +7,9 @@ use Rattle.std.specs.declared.vec.Vec.{Vec}
 use Rattle.std.specs.Borrow.{Bor}
 use Rattle.std.proofs.lemmas.List.{drop_more, drop_all}
 use Rattle.std.specs.List.{list_all, slice_split, onto_first}
-use Rattle.hz_mdread_model.specs.Descriptions.{Options}
-use Rattle.hz_mdread_model.specs.DescriptionForms.{names_of, kept, with_option, with_options}
-use Rattle.hz_mdread_model.specs.DescriptionShape.{are_names}
+use Rattle.hz_description_model.specs.Reading.Descriptions.{Options}
+use Rattle.hz_description_model.specs.Reading.DescriptionForms.{names_of, kept, with_option, with_options}
+use Rattle.hz_description_model.specs.Reading.DescriptionShape.{are_names}
 use Rattle.hz_base_model.specs.Lines.{separated, trimmed}
 use Rattle.hz_base_model.specs.Names.{is_name}
 use Rattle.hz_regexp.specs.declared.lists.NamesFault.{NamesFault}

@@ -2,8 +2,8 @@
 use Rattle.std.proofs.Common.{◌≡◌, ℕ, ◌≤◌, false, List, [], ◌∷◌, length, None, Err, refl, arith}
 use Rattle.hz_sexp.specs.declared.form.Form.{Form}
 use Rattle.hz_sexp.specs.Shape.{trees}
-use Rattle.hz_mdread_model.specs.DescriptionForms as model
-use Rattle.hz_altern_model.specs.Sets.{SetKind}
+use Rattle.hz_description_model.specs.Reading.DescriptionForms as model
+use Rattle.hz_description_model.specs.Reservations.Sets.{SetKind}
 
 pub no_constant : (operands : List Form) → (length operands ≡ 1 → ⊥) → model.constant_in (trees operands) ≡ None
 no_constant [] h = refl

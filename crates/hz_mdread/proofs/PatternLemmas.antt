@@ -1,31 +1,19 @@
 -- The words of a pattern, and patterns one after another.
-use Rattle.std.proofs.Common.{◌≡◌, ℕ, ◌+◌, ◌<◌, ◌≤◌, ◌==◌, Bool, true, false, ◌&&◌, not, cond, List, [], ◌∷◌, ◌++◌, length, get_or, drop, map, Some, None, refl, sym, ap, ◌∙◌, append_assoc}
+use Rattle.std.proofs.Common.{◌≡◌, ℕ, ◌+◌, ◌<◌, ◌≤◌, ◌==◌, Bool, true, false, ◌&&◌, cond, List, [], ◌∷◌, ◌++◌, length, get_or, drop, map, Some, None, refl, sym, ap, ◌∙◌, append_assoc, arith}
 use Rattle.std.specs.Borrow.{Bor}
-use Rattle.std.specs.List.{list_all, filter}
+use Rattle.std.specs.List.{list_all}
+use Rattle.std.proofs.lemmas.Bool.{eqb-true}
 use Rattle.std.proofs.lemmas.List.Folds.{list_all-append}
 use Rattle.std.proofs.lemmas.List.{drop_more, drop_all, append-nil}
-use Rattle.hz_mdread_model.specs.DescriptionForms.{is_empty, words, kept, patterns_of}
-use Rattle.hz_mdread_model.specs.DescriptionShape.{are_names, are_patterns}
+use Rattle.hz_description_model.specs.Reading.DescriptionForms.{is_empty, words, kept, patterns_of}
+use Rattle.hz_description_model.specs.Reading.DescriptionShape.{are_names, are_patterns}
 use Rattle.hz_base_model.specs.Names.{is_name}
 use Rattle.hz_regexp.specs.Named.{name_of}
 use Rattle.hz_mdread.proofs.ListLemmas.{some_part}
 
--- the parts that are not empty
-abbrev pub filled : List (List ℕ) → List (List ℕ)
-filled parts = filter (λ part. not (is_empty part)) parts
-
 -- the parts that are borrowed
 abbrev pub now_all : List (Bor (List ℕ)) → List (List ℕ)
 now_all parts = map (λ p. p.now) parts
-
--- a part that has no length 0 is not empty
-pub not_empty : (part : List ℕ) → (length part == 0) ≡ false → is_empty part ≡ false
-not_empty [] h = h
-not_empty (b ∷ part) h = refl
-
--- another is one
-pub part_taken : (parts : List (Bor (List ℕ))) (i : ℕ) (d : Bor (List ℕ)) → i < length parts → is_empty (get_or parts i d).now ≡ false → filled (now_all (drop i parts)) ≡ (get_or parts i d).now ∷ filled (now_all (drop (i + 1) parts))
-part_taken parts i d inside e = rw (drop_more parts i d inside, e) refl
 
 no_name : (word : List ℕ) → name_of word ≡ None → is_name word ≡ false
 no_name word e = go (is_name word) e
@@ -42,13 +30,55 @@ all_fail : (p : List ℕ → Bool) (before : List (List ℕ)) (word : List ℕ) 
 all_fail p [] word rest e = rw e refl
 all_fail p (first ∷ before) word rest e = rw (all_fail p before word rest e) (and_false (p first))
 
--- a word that is no name spoils a pattern
-pub names_fail : (before : List (List ℕ)) (word : List ℕ) (rest all : List (List ℕ)) → before ++ word ∷ rest ≡ all → name_of word ≡ None → kept (are_names all) all ≡ None
-names_fail before word rest all is e = rw (← is, go before) refl
+-- a word that is no name spoils all
+pub names_fail : (before : List (List ℕ)) (borrowed : List (Bor (List ℕ))) (i : ℕ) (d : Bor (List ℕ)) (all : List (List ℕ)) → i < length borrowed → before ++ now_all (drop i borrowed) ≡ all → name_of (get_or borrowed i d).now ≡ None
+    → kept (list_all is_name all) all ≡ None
+names_fail before borrowed i d all inside is e =
+    let word = (get_or borrowed i d).now in
+    rw (← is, drop_more borrowed i d inside, all_fail is_name before word (now_all (drop (i + 1) borrowed)) (no_name word e)) refl
+
+some_name : (name word : List ℕ) → name_of word ≡ Some name → (name ≡ word) × (is_name word ≡ true)
+some_name name word e = go (is_name word) e
   where
-    go : (before : List (List ℕ)) → are_names (before ++ word ∷ rest) ≡ false
-    go [] = all_fail is_name [] word rest (no_name word e)
-    go (first ∷ before) = all_fail is_name (first ∷ before) word rest (no_name word e)
+    go : (b : Bool) → cond b (Some word) None ≡ Some name → (name ≡ word) × (b ≡ true)
+    go true h = (cc, refl)
+    go false h = absurd (cc)
+
+-- one more name
+pub name_more : (before : List (List ℕ)) (borrowed : List (Bor (List ℕ))) (i : ℕ) (d : Bor (List ℕ)) (name : List ℕ) (all : List (List ℕ)) → i < length borrowed → name_of (get_or borrowed i d).now ≡ Some name
+    → before ++ now_all (drop i borrowed) ≡ all → list_all is_name before ≡ true → ((before ++ name ∷ []) ++ now_all (drop (i + 1) borrowed) ≡ all) × (list_all is_name (before ++ name ∷ []) ≡ true)
+name_more before borrowed i d name all inside e is good =
+    let word = (get_or borrowed i d).now in
+    let (same, named) = some_name name word e in
+    let here = rw (drop_more borrowed i d inside) at is in
+    (rw (same, append_assoc before (word ∷ []) (now_all (drop (i + 1) borrowed))) here, rw (same, list_all-append is_name before (word ∷ []), good, named) refl)
+
+-- all of them are names
+pub names_kept : (found : List (List ℕ)) (borrowed : List (Bor (List ℕ))) (i : ℕ) → length borrowed ≤ i → found ++ now_all (drop i borrowed) ≡ now_all borrowed → list_all is_name found ≡ true
+    → Some found ≡ kept (list_all is_name (now_all borrowed)) (now_all borrowed)
+names_kept found borrowed i past is good =
+    let e : found ≡ now_all borrowed = sym (append-nil found) ∙ rw (drop_all i borrowed past) at is in
+    let here : Some found ≡ kept (list_all is_name found) found = rw good refl in
+    here ∙ ap (λ (names : List (List ℕ)). kept (list_all is_name names) names) e
+
+-- without a word there is no pattern
+pub none_kept : (borrowed : List (Bor (List ℕ))) (all : List (List ℕ)) → now_all borrowed ≡ all → (length borrowed == 0) ≡ true → kept (are_names all) all ≡ None
+none_kept [] all is h = rw (← is) refl
+none_kept (b ∷ borrowed) all is h = absurd (let e : length (b ∷ borrowed) ≡ 0 = eqb-true (length (b ∷ borrowed)) 0 h in omega arith)
+
+-- of one word or more it is enough that each is a name
+pub all_kept : (borrowed : List (Bor (List ℕ))) (all : List (List ℕ)) → now_all borrowed ≡ all → (length borrowed == 0) ≡ false → kept (list_all is_name (now_all borrowed)) (now_all borrowed) ≡ kept (are_names all) all
+all_kept [] all is h = absurd (cc)
+all_kept (b ∷ borrowed) all is h = rw (← is) refl
+
+-- a part without bytes is empty
+pub empty_is : (part : List ℕ) → (length part == 0) ≡ is_empty part
+empty_is [] = refl
+empty_is (b ∷ part) = go (length (b ∷ part) == 0) refl
+  where
+    go : (t : Bool) → (length (b ∷ part) == 0) ≡ t → t ≡ false
+    go true e = absurd (let none : length (b ∷ part) ≡ 0 = eqb-true (length (b ∷ part)) 0 e in omega arith)
+    go false e = refl
 
 no_pattern : (names : List (List ℕ)) → kept (are_names names) names ≡ None → are_names names ≡ false
 no_pattern names e = go (are_names names) e

@@ -5,12 +5,12 @@ use Rattle.hz_sexp.specs.declared.form.Form.{Form, out-Form}
 use Rattle.hz_sexp.specs.Shape.{tree, trees}
 use Rattle.hz_regexp.specs.declared.fault.ExprFault.{ExprFault}
 use Rattle.hz_regexp.specs.declared.fault.ExprFault.TheVariants.{Unexpected, Empty, RepeatZero, TooDeep, NumberTooLarge, NoMemory}
-use Rattle.hz_regexp_model.specs.ExpressionTexts.{ExpressionFault}
-use Rattle.hz_sexp_model.specs.Trees.{more}
-use Rattle.hz_mdread_model.specs.Descriptions.{Description, no_items}
-use Rattle.hz_mdread_model.specs.DescriptionShape.{IsWellFormed}
-use Rattle.hz_mdread_model.specs.DescriptionForms.{DescriptionFault, bad_expression, form_says, forms_say, form_count, Reads, FaultAt}
-use Rattle.hz_mdread_model.proofs.DescriptionFormedAll.{well_formed}
+use Rattle.hz_description_model.specs.Grammar.ExpressionTexts.{ExpressionFault}
+use Rattle.hz_base_model.specs.Forms.Trees.{more}
+use Rattle.hz_description_model.specs.Reading.Descriptions.{Description, no_items}
+use Rattle.hz_description_model.specs.Reading.DescriptionShape.{IsWellFormed}
+use Rattle.hz_description_model.specs.Reading.DescriptionForms.{DescriptionFault, bad_expression, form_says, forms_say, form_count, Reads, FaultAt}
+use Rattle.hz_description_model.proofs.Reading.DescriptionFormedAll.{well_formed}
 use Rattle.hz_mdread.specs.declared.fault.Wrong.{Wrong}
 use Rattle.hz_mdread.specs.declared.fault.Wrong.TheVariants as wrong
 use Rattle.hz_mdread.specs.Faults.{Tells, TellsOf, TellsExpression, fault_at}

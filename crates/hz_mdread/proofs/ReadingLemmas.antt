@@ -3,12 +3,12 @@ use Rattle.std.proofs.Common.{◌≡◌, ℕ, List, Some, Ok, Err, refl}
 use Rattle.hz_regexp.specs.declared.fault.ExprFault.{ExprFault}
 use Rattle.hz_regexp.specs.declared.fault.ExprFault.TheVariants.{Unexpected, Empty, RepeatZero, TooDeep, NumberTooLarge, NoMemory}
 use Rattle.hz_regexp.specs.Faults as regexp
-use Rattle.hz_altern_model.specs.Alternatives.{Expression}
-use Rattle.hz_regexp_model.specs.ExpressionTexts.{ExpressionFault, Reads, FaultAt}
-use Rattle.hz_mdread_model.specs.DescriptionForms.{bad_expression, IsReading, expression_in, quoted_bytes}
-use Rattle.hz_sexp_model.specs.Trees.{Tree}
-use Rattle.hz_mdread_model.proofs.DescriptionLaws.{is_reading}
-use Rattle.hz_regexp_model.proofs.ExpressionTextsLaws.{read_is, fault_is}
+use Rattle.hz_description_model.specs.Reservations.Alternatives.{Expression}
+use Rattle.hz_description_model.specs.Grammar.ExpressionTexts.{ExpressionFault, Reads, FaultAt}
+use Rattle.hz_description_model.specs.Reading.DescriptionForms.{bad_expression, IsReading, expression_in, quoted_bytes}
+use Rattle.hz_base_model.specs.Forms.Trees.{Tree}
+use Rattle.hz_description_model.proofs.Reading.DescriptionLaws.{is_reading}
+use Rattle.hz_description_model.proofs.Grammar.ExpressionTextsLaws.{read_is, fault_is}
 use Rattle.hz_mdread.specs.Faults.{TellsOf, bad_expression_of}
 use Rattle.hz_mdread.specs.Reading.{reading}
 

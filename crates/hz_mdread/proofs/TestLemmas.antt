@@ -6,9 +6,9 @@ use Rattle.std.specs.Str.{bytes_eq}
 use Rattle.std.proofs.lemmas.List.{drop_more, drop_all, map-append}
 use Rattle.hz_sexp.specs.declared.form.Form.{Form}
 use Rattle.hz_sexp.specs.Shape.{tree, trees}
-use Rattle.hz_sexp_model.specs.Trees.{Tree, Trees, list, vector, atom, quoted, number, none, more}
-use Rattle.hz_mdread_model.specs.Descriptions as model
-use Rattle.hz_mdread_model.specs.DescriptionForms.{headed, condition_in, conditions_in, constant_in, test_in, joined}
+use Rattle.hz_base_model.specs.Forms.Trees.{Tree, Trees, list, vector, atom, quoted, number, none, more}
+use Rattle.hz_description_model.specs.Reading.Descriptions as model
+use Rattle.hz_description_model.specs.Reading.DescriptionForms.{headed, condition_in, conditions_in, constant_in, test_in, joined}
 use Rattle.hz_mdread.specs.declared.condition.Condition.{Condition}
 use Rattle.hz_mdread.specs.Shape.{condition, conditions_from, conditions}
 

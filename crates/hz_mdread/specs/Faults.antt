@@ -8,8 +8,8 @@ use Rattle.hz_regexp.specs.declared.fault.ExprFault.{ExprFault}
 use Rattle.hz_regexp.specs.declared.fault.ExprFault.TheVariants.{Unexpected, Empty, RepeatZero, TooDeep, NumberTooLarge, NoMemory}
 use Rattle.hz_regexp.specs.declared.lists.NamesFault.{NamesFault}
 use Rattle.hz_regexp.specs.declared.lists.NamesFault.TheVariants as names
-use Rattle.hz_regexp_model.specs.ExpressionTexts.{ExpressionFault, unexpected, no_token, repeat_zero, too_deep, number_too_large}
-use Rattle.hz_mdread_model.specs.DescriptionForms.{DescriptionFault, unknown_form, bad_shape, bad_condition, unknown_option, latency_limit, unknown_guard, bad_expression}
+use Rattle.hz_description_model.specs.Grammar.ExpressionTexts.{ExpressionFault, unexpected, no_token, repeat_zero, too_deep, number_too_large}
+use Rattle.hz_description_model.specs.Reading.DescriptionForms.{DescriptionFault, unknown_form, bad_shape, bad_condition, unknown_option, latency_limit, unknown_guard, bad_expression}
 
 -- what is said of an expression's fault and its place holds of this one, which is not want of memory
 abbrev pub TellsExpression : (ExpressionFault → ℕ → Type 0) → ExprFault → Type 0

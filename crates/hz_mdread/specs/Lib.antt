@@ -1,3 +1,4 @@
 pub mod Shape
 pub mod Reading
 pub mod Faults
+pub mod Classes

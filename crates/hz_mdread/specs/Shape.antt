@@ -19,10 +19,10 @@ use Rattle.hz_mdread.specs.declared.items.Addition.TheVariants as code
 use Rattle.hz_mdread.specs.declared.kinds.FormKind.{FormKind}
 use Rattle.hz_mdread.specs.declared.kinds.FormKind.TheVariants as kinds
 use Rattle.hz_mdread.specs.declared.options.Options.{Options}
-use Rattle.hz_mdread_model.specs.Descriptions as model
-use Rattle.hz_mdread_model.specs.DescriptionForms as forms
-use Rattle.hz_mdread_model.specs.DescriptionShape as shape
-use Rattle.hz_altern_model.specs.Sets as sets
+use Rattle.hz_description_model.specs.Reading.Descriptions as model
+use Rattle.hz_description_model.specs.Reading.DescriptionForms as forms
+use Rattle.hz_description_model.specs.Reading.DescriptionShape as shape
+use Rattle.hz_description_model.specs.Reservations.Sets as sets
 
 -- conditions side by side
 abbrev pub conditions_from : List model.Condition → model.Conditions

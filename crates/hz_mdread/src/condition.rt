@@ -2,7 +2,7 @@
 
 ghost use Rattle.std.specs.Prelude.{◌≡◌};
 ghost use Rattle.std.specs.Option.{option_copied};
-ghost use Rattle.hz_mdread_model.specs.Conditions as model;
+ghost use Rattle.hz_description_model.specs.Reading.Conditions as model;
 ghost use Rattle.hz_mdread.specs.Shape.{condition, conditions};
 
 use hz_regexp::Name;

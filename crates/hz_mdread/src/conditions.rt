@@ -2,8 +2,8 @@
 
 ghost use Rattle.std.specs.Prelude.{◌≡◌, IfOk};
 ghost use Rattle.std.specs.Option.{option_map};
-ghost use Rattle.hz_mdread_model.specs.DescriptionForms as model;
-ghost use Rattle.hz_mdread_model.specs.DescriptionShape.{are_several};
+ghost use Rattle.hz_description_model.specs.Reading.DescriptionForms as model;
+ghost use Rattle.hz_description_model.specs.Reading.DescriptionShape.{are_several};
 ghost use Rattle.hz_mdread.specs.Shape.{condition, conditions};
 ghost use Rattle.hz_sexp.specs.Shape.{tree, trees};
 

@@ -1,8 +1,8 @@
 //! What a description holds.
 
 ghost use Rattle.std.specs.Prelude.{◌≡◌, OnOk};
-ghost use Rattle.hz_mdread_model.specs.Descriptions.{no_items};
-ghost use Rattle.hz_mdread_model.specs.DescriptionForms as model;
+ghost use Rattle.hz_description_model.specs.Reading.Descriptions.{no_items};
+ghost use Rattle.hz_description_model.specs.Reading.DescriptionForms as model;
 ghost use Rattle.hz_mdread.specs.Shape.{addition, description};
 
 use crate::items::{
@@ -47,15 +47,17 @@ impl Description {
         ensures { OnOk result (description self.new ≡ model.with_addition (description self.old) (addition added)) }
     {
         match added {
-            Addition::Automata(mut items) => self.automata.append(&mut items)?,
-            Addition::Units(mut items) => self.units.append(&mut items)?,
-            Addition::Reservation(item) => self.reservations.push(item)?,
-            Addition::Class(item) => self.classes.push(item)?,
-            Addition::Bypass(item) => self.bypasses.push(item)?,
-            Addition::Set(item) => self.sets.push(item)?,
-            Addition::Options(options) => self.options = self.options.or(options),
-            Addition::Attribute(item) => self.attributes.push(item)?,
+            Addition::Automata(mut items) => Ok(self.automata.append(&mut items)?),
+            Addition::Units(mut items) => Ok(self.units.append(&mut items)?),
+            Addition::Reservation(item) => Ok(self.reservations.push(item)?),
+            Addition::Class(item) => Ok(self.classes.push(item)?),
+            Addition::Bypass(item) => Ok(self.bypasses.push(item)?),
+            Addition::Set(item) => Ok(self.sets.push(item)?),
+            Addition::Attribute(item) => Ok(self.attributes.push(item)?),
+            Addition::Options(options) => {
+                self.options = self.options.or(options);
+                Ok(())
+            }
         }
-        Ok(())
     }
 }

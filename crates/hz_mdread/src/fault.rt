@@ -38,7 +38,7 @@ pub enum MdFault {
 }
 
 /// What is wrong with one form.
-#[derive(Clone, Copy, Debug)]
+#[derive(Clone, Copy)]
 pub enum Wrong {
     UnknownForm,
     BadShape,

@@ -2,7 +2,8 @@
 
 ghost use Rattle.std.specs.Prelude.{◌≡◌, ◌^◌, map, IfOk, IfErr, IsTrue, Ok, Err};
 ghost use Rattle.std.specs.Option.{option_copied, ok_or};
-ghost use Rattle.hz_mdread_model.specs.DescriptionForms as model;
+ghost use Rattle.hz_description_model.specs.Reading.DescriptionForms as model;
+ghost use Rattle.hz_mdread.specs.Classes.{class_head, class_with};
 ghost use Rattle.hz_mdread.specs.Faults.{TellsOf};
 ghost use Rattle.hz_mdread.specs.Reading.{reading};
 ghost use Rattle.hz_mdread.specs.Shape.{addition, automaton_item, condition, unit_item, kind_in, set_kind};
@@ -26,7 +27,7 @@ use hz_sexp::Form;
 use std::alloc::Global;
 
 /// The line of a form, and its number in the file.
-#[derive(Clone, Copy, Debug)]
+#[derive(Clone, Copy)]
 pub struct Place {
     pub line: u32,
     pub form: u32,
@@ -174,8 +175,47 @@ fn condition_at(alloc: Global, form: &Form) -> Result<Condition, Wrong>
     }
 }
 
-/// `(define_insn_reservation "name" latency condition "regexp")`. The limit of the latency is asked before memory for the
-/// name is.
+/// The name and the latency of a class. The limit of the latency is asked before memory for the name is.
+#[tactic(auto, unfolding(crate::specs::Classes::class_head))]
+fn class_head(alloc: Global, name: &Form, latency: &Form) -> Result<(Name, u32), Wrong>
+    ensures ok { IfOk result (λ head. class_head (tree name.now) (tree latency.now) ≡ Ok head) }
+    ensures err { IfErr result (TellsOf (λ fault. class_head (tree name.now) (tree latency.now) ≡ Err fault)) }
+{
+    if !is_named(name) {
+        return Err(Wrong::BadShape);
+    }
+    let latency = limited_number(latency)?;
+    let name = name_at(alloc, name)?;
+    Ok((name, latency))
+}
+
+/// The class of a name and a latency, by the operands behind them.
+#[tactic(auto, unfolding(crate::specs::Classes::class_with))]
+fn class_with(
+    alloc: Global,
+    place: Place,
+    head: (Name, u32),
+    condition: &Form,
+    regexp: &Form,
+) -> Result<Addition, Wrong>
+    requires { IsTrue (model.string_below (2 ^ 32) (tree regexp.now)) }
+    ensures ok { IfOk result (λ added. class_with place.line place.form head (tree condition.now) (tree regexp.now) ≡ Ok (addition added)) }
+    ensures err { IfErr result (TellsOf (λ fault. class_with place.line place.form head (tree condition.now) (tree regexp.now) ≡ Err fault)) }
+{
+    let condition = condition_at(alloc, condition)?;
+    let expr = expression_in(alloc, regexp)?;
+    let (name, latency) = head;
+    Ok(Addition::Class(ClassItem {
+        line: place.line,
+        form: place.form,
+        name,
+        latency,
+        condition,
+        expr,
+    }))
+}
+
+/// `(define_insn_reservation "name" latency condition "regexp")`
 #[tactic(auto, using(crate::proofs::OperandLemmas::no_class))]
 fn class_form(alloc: Global, place: Place, operands: &[Form]) -> Result<Addition, Wrong>
     requires { IsTrue (model.strings_below (2 ^ 32) (trees operands.now)) }
@@ -188,21 +228,8 @@ fn class_form(alloc: Global, place: Place, operands: &[Form]) -> Result<Addition
     let [name, latency, condition, regexp] = operands else {
         unreachable!()
     };
-    if !is_named(name) {
-        return Err(Wrong::BadShape);
-    }
-    let latency = limited_number(latency)?;
-    let name = name_at(alloc, name)?;
-    let condition = condition_at(alloc, condition)?;
-    let expr = expression_in(alloc, regexp)?;
-    Ok(Addition::Class(ClassItem {
-        line: place.line,
-        form: place.form,
-        name,
-        latency,
-        condition,
-        expr,
-    }))
+    let head = class_head(alloc, name, latency)?;
+    class_with(alloc, place, head, condition, regexp)
 }
 
 /// Whether a string stands behind three operands.

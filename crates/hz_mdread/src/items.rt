@@ -89,7 +89,7 @@ pub struct AttrItem {
 }
 
 /// What one form adds to a description.
-#[derive(Debug, Drop)]
+#[derive(Drop)]
 pub enum Addition {
     Automata(Vec<AutomatonItem>),
     Units(Vec<UnitItem>),

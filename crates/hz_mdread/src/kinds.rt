@@ -2,13 +2,13 @@
 
 ghost use Rattle.std.specs.Prelude.{◌≡◌};
 ghost use Rattle.std.specs.Option.{option_map};
-ghost use Rattle.hz_mdread_model.specs.DescriptionForms as model;
+ghost use Rattle.hz_description_model.specs.Reading.DescriptionForms as model;
 ghost use Rattle.hz_mdread.specs.Shape.{kind_in, set_kind};
 
 use crate::items::SetForm;
 
 /// The kinds of forms.
-#[derive(Clone, Copy, Debug)]
+#[derive(Clone, Copy)]
 pub enum FormKind {
     DefineAutomaton,
     DefineCpuUnit,

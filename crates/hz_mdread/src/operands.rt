@@ -2,7 +2,7 @@
 
 ghost use Rattle.std.specs.Prelude.{◌≡◌, ◌↔◌, ◌≤◌, ◌^◌, map, IfOk, IfErr, IsTrue, IsSome, Ok, Err};
 ghost use Rattle.std.specs.Option.{option_map};
-ghost use Rattle.hz_mdread_model.specs.DescriptionForms as model;
+ghost use Rattle.hz_description_model.specs.Reading.DescriptionForms as model;
 ghost use Rattle.hz_mdread.specs.Faults.{TellsOf, IsListIfRead};
 ghost use Rattle.hz_mdread.specs.Reading.{reading};
 ghost use Rattle.hz_mdread.specs.Shape.{set_kind};

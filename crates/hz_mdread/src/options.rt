@@ -2,8 +2,8 @@
 
 ghost use Rattle.std.specs.Prelude.{◌≡◌, IfOk};
 ghost use Rattle.std.specs.Option.{option_map};
-ghost use Rattle.hz_mdread_model.specs.Descriptions.{no_options};
-ghost use Rattle.hz_mdread_model.specs.DescriptionForms as model;
+ghost use Rattle.hz_description_model.specs.Reading.Descriptions.{no_options};
+ghost use Rattle.hz_description_model.specs.Reading.DescriptionForms as model;
 ghost use Rattle.hz_base_model.specs.Lines.{separated};
 ghost use Rattle.hz_mdread.specs.Shape.{options};
 

@@ -1,12 +1,12 @@
 //! Patterns of units.
 
-ghost use Rattle.std.specs.Prelude.{◌≡◌, ◌==◌, map, IfOk, Some};
-ghost use Rattle.std.specs.Char.{is_ascii_whitespace};
-ghost use Rattle.std.specs.List.{slice_split};
+ghost use Rattle.std.specs.Prelude.{◌≡◌, ◌==◌, not, map, IfOk, Some};
+ghost use Rattle.std.specs.List.{list_all, slice_split};
 ghost use Rattle.std.specs.Option.{option_map};
-ghost use Rattle.hz_mdread_model.specs.DescriptionForms as model;
-ghost use Rattle.hz_mdread_model.specs.DescriptionShape.{are_names, are_patterns};
+ghost use Rattle.hz_description_model.specs.Reading.DescriptionForms as model;
+ghost use Rattle.hz_description_model.specs.Reading.DescriptionShape.{are_names, are_patterns};
 ghost use Rattle.hz_base_model.specs.Lines as lines;
+ghost use Rattle.hz_base_model.specs.Names.{is_name};
 
 use hz_regexp::{Name, NoMemory};
 use std::alloc::Global;
@@ -25,31 +25,47 @@ pub fn trimmed(piece: &[u8]) -> &[u8]
     piece.trim_ascii()
 }
 
-/// The parts between bytes of white space, some of them empty.
-fn parts(alloc: Global, text: &[u8]) -> Result<Vec<&[u8]>, NoMemory>
-    ensures { IfOk result (λ parts. map (λ part. part.now) parts.items ≡ slice_split is_ascii_whitespace text.now) }
+/// Whether a part has a byte.
+#[tactic(auto, using(crate::proofs::PatternLemmas::empty_is))]
+fn is_word(part: &[u8]) -> bool
+    ensures { result ≡ not (model.is_empty part.now) }
 {
-    text.split(|b| b.is_ascii_whitespace()).collect(alloc)
+    !part.is_empty()
 }
 
-/// The names of a pattern, with white space between them. `None` where there is none, or a word is no name.
-fn pattern_of(alloc: Global, piece: &[u8]) -> Result<Option<Vec<Name>>, NoMemory>
-    ensures { IfOk result (λ found. option_map (λ names. names.items) found ≡ model.kept (are_names (model.words piece.now)) (model.words piece.now)) }
+/// The words between white space.
+fn words(alloc: Global, text: &[u8]) -> Result<Vec<&[u8]>, NoMemory>
+    ensures { IfOk result (λ words. map (λ word. word.now) words.items ≡ model.words text.now) }
+{
+    text.split(|b| b.is_ascii_whitespace())
+        .filter(|part| is_word(part))
+        .collect(alloc)
+}
+
+/// The names that words are. `None` where one is no name.
+fn names_of_words(alloc: Global, words: &[&[u8]]) -> Result<Option<Vec<Name>>, NoMemory>
+    ensures { IfOk result (λ found. option_map (λ names. names.items) found ≡ model.kept (list_all is_name (map (λ word. word.now) words.now)) (map (λ word. word.now) words.now)) }
 {
     let mut names = Vec::new(alloc);
-    for part in &parts(alloc, piece)? {
-        if part.is_empty() {
-            continue;
-        }
-        match Name::of(alloc, part)? {
+    for word in words {
+        match Name::of(alloc, word)? {
             Some(name) => names.push(name)?,
             None => return Ok(None),
         }
     }
-    if names.is_empty() {
+    Ok(Some(names))
+}
+
+/// The names of a pattern, with white space between them. `None` where there is none, or a word is no name.
+#[tactic(auto, using(crate::proofs::PatternLemmas::none_kept, crate::proofs::PatternLemmas::all_kept))]
+fn pattern_of(alloc: Global, piece: &[u8]) -> Result<Option<Vec<Name>>, NoMemory>
+    ensures { IfOk result (λ found. option_map (λ names. names.items) found ≡ model.kept (are_names (model.words piece.now)) (model.words piece.now)) }
+{
+    let words = words(alloc, piece)?;
+    if words.is_empty() {
         return Ok(None);
     }
-    Ok(Some(names))
+    names_of_words(alloc, &words)
 }
 
 /// The patterns between commas. `None` where one is empty or has a word that is no name.

@@ -1,8 +1,8 @@
 //! The reader of descriptions.
 
 ghost use Rattle.std.specs.Prelude.{◌<◌, ◌^◌, IfOk, IfErr, IsTrue};
-ghost use Rattle.hz_mdread_model.specs.DescriptionForms.{Reads, FaultAt, form_count, strings_below};
-ghost use Rattle.hz_mdread_model.specs.DescriptionShape.{IsWellFormed};
+ghost use Rattle.hz_description_model.specs.Reading.DescriptionForms.{Reads, FaultAt, form_count, strings_below};
+ghost use Rattle.hz_description_model.specs.Reading.DescriptionShape.{IsWellFormed};
 ghost use Rattle.hz_mdread.specs.Faults.{Tells};
 ghost use Rattle.hz_mdread.specs.Shape.{description};
 ghost use Rattle.hz_sexp.specs.Shape.{trees};

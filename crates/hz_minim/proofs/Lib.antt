@@ -1,3 +1,9 @@
+pub mod ListLaws
+pub mod TableLaws
+pub mod ArrowLaws
+pub mod ApartLaws
+pub mod MoveLaws
+pub mod BucketLaws
 pub mod LeadLemmas
 pub mod SettleLemmas
 pub mod ReadLemmas

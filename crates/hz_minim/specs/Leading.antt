@@ -1,8 +1,8 @@
 -- Leaders: for each state one that stands for it.
 use Rattle.std.specs.Prelude.{◌≡◌, ◌≢◌, ◌⊎◌, ℕ, zero, suc, ◌+◌, ◌<◌, ◌≤◌, ◌==◌, List, Option, Some, None, if◌then◌else◌, All, length, slice_index_or, slice_set}
-use Rattle.hz_tables_model.specs.Tables.{Table, entry}
-use Rattle.hz_tables_model.specs.Apart.{Apart}
-use Rattle.hz_minim_model.specs.Blocks.{block_of}
+use Rattle.hz_automata_model.specs.Tables.Tables.{Table, entry}
+use Rattle.hz_automata_model.specs.Tables.Apart.{Apart}
+use Rattle.hz_automata_model.specs.Least.Blocks.{block_of}
 
 -- the leader of a state
 abbrev pub leader_of : List ℕ → ℕ → ℕ

@@ -2,18 +2,25 @@
 #![tactic(auto)]
 
 ghost use Rattle.std.specs.Prelude.{◌≡◌, ◌≤◌, IfOk, length};
-ghost use Rattle.hz_tables_model.specs.Tables.{IsTable};
-ghost use Rattle.hz_tables_model.specs.Apart.{WalkTheSame};
-ghost use Rattle.hz_minim_model.specs.Normal.{IsNormal};
+ghost use Rattle.hz_automata_model.specs.Tables.Tables.{IsTable};
+ghost use Rattle.hz_automata_model.specs.Tables.Apart.{WalkTheSame};
+ghost use Rattle.hz_automata_model.specs.Least.Normal.{IsNormal};
 
+mod arrows;
+mod blocks;
+mod buckets;
 mod folding;
 mod leading;
+mod lists;
+mod marks;
+mod partition;
 mod settling;
+mod splitting;
 
+pub use blocks::refine;
 use folding::fold;
-pub use hz_plain::NoMemory;
-use hz_plain::Plain;
-use hz_refine::refine;
+pub use hz_tables::NoMemory;
+use hz_tables::Plain;
 use leading::leaders_of;
 use settling::settle;
 use std::alloc::Global;

@@ -1,12 +1,12 @@
 -- The tokens that the reader has taken, and what is wrong with the next one or with the end.
 use Rattle.std.proofs.Common.{◌≡◌, ℕ, List, [], ◌∷◌, ◌++◌, length, refl, sym, ap, ◌∙◌, subst, Ok, Err, Some, None}
 use Rattle.std.proofs.lemmas.List.{append-nil}
-use Rattle.hz_altern_model.specs.Alternatives.{Expression}
-use Rattle.hz_regexp_model.specs.ExpressionTexts.{place, tokens, Reads, FaultAt, ExpressionFault, unexpected, no_token}
-use Rattle.hz_regexp_model.specs.ExpressionTexts as model
-use Rattle.hz_regexp_model.specs.ExpressionSteps.{State, start, take, finish}
-use Rattle.hz_regexp_model.proofs.ExpressionTextsFront.{Leads, start_leads, take_leads, behind}
-use Rattle.hz_regexp_model.proofs.ExpressionTextsLaws.{take_wrong, read_end, cut_short}
+use Rattle.hz_description_model.specs.Reservations.Alternatives.{Expression}
+use Rattle.hz_description_model.specs.Grammar.ExpressionTexts.{place, tokens, Reads, FaultAt, ExpressionFault, unexpected, no_token}
+use Rattle.hz_description_model.specs.Grammar.ExpressionTexts as model
+use Rattle.hz_description_model.specs.Grammar.ExpressionSteps.{State, start, take, finish}
+use Rattle.hz_description_model.proofs.Grammar.ExpressionTextsFront.{Leads, start_leads, take_leads, behind}
+use Rattle.hz_description_model.proofs.Grammar.ExpressionTextsLaws.{take_wrong, read_end, cut_short}
 use Rattle.hz_regexp.specs.declared.fault.ExprFault.{ExprFault}
 use Rattle.hz_regexp.specs.declared.fault.ExprFault.TheVariants.{Unexpected, Empty, RepeatZero, TooDeep, NumberTooLarge, NoMemory}
 use Rattle.hz_regexp.specs.declared.tokens.Token.{Token}

@@ -8,7 +8,7 @@ use Rattle.hz_base_model.specs.Lines.{number_from}
 use Rattle.hz_base_model.proofs.LineLaws.{number_from_more}
 use Rattle.std.proofs.lemmas.Bool.Decides.{nat_tests}
 use Rattle.std.proofs.lemmas.List.Sums.{prefix_len-le-length}
-use Rattle.hz_regexp_model.specs.ExpressionTexts.{word, tokens_from, lone_token}
+use Rattle.hz_description_model.specs.Grammar.ExpressionTexts.{word, tokens_from, lone_token}
 use Rattle.hz_base_model.specs.Names.{is_name, is_name_byte}
 
 twice_not : (p : ℕ → Bool) (xs : List ℕ) → prefix_len (λ x. not (not (p x))) xs ≡ prefix_len p xs

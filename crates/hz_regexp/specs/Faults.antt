@@ -2,7 +2,7 @@
 use Rattle.std.specs.Prelude.{ℕ, ⊤}
 use Rattle.hz_regexp.specs.declared.fault.ExprFault.{ExprFault}
 use Rattle.hz_regexp.specs.declared.fault.ExprFault.TheVariants.{Unexpected, Empty, RepeatZero, TooDeep, NumberTooLarge, NoMemory}
-use Rattle.hz_regexp_model.specs.ExpressionTexts.{ExpressionFault, unexpected, no_token, repeat_zero, too_deep, number_too_large}
+use Rattle.hz_description_model.specs.Grammar.ExpressionTexts.{ExpressionFault, unexpected, no_token, repeat_zero, too_deep, number_too_large}
 
 -- what is said of a fault and its place holds of this one; want of memory says nothing
 abbrev pub Tells : (ExpressionFault → ℕ → Type 0) → ExprFault → Type 0

@@ -3,7 +3,7 @@ use Rattle.std.specs.Prelude.{List, map}
 use Rattle.hz_regexp.specs.declared.expr.Expr.{Expr}
 use Rattle.hz_regexp.specs.declared.expr.Expr.TheOpen.{Expr-F}
 use Rattle.hz_regexp.specs.declared.expr.Expr.TheFolds.{fold-Expr}
-use Rattle.hz_altern_model.specs.Alternatives.{Expression, named, nothing, sequence, one_of, all_of, repeat, parts_of}
+use Rattle.hz_description_model.specs.Reservations.Alternatives.{Expression, named, nothing, sequence, one_of, all_of, repeat, parts_of}
 
 -- an expression whose parts are known
 abbrev pub expression_step : Expr-F Expression → Expression

@@ -11,8 +11,8 @@ use Rattle.hz_regexp.specs.Faults.{Tells}
 use Rattle.hz_regexp.specs.Shape.{expression}
 use Rattle.hz_regexp.specs.Levels.{open_of}
 use Rattle.hz_regexp.specs.Tokens.{token_of}
-use Rattle.hz_regexp_model.specs.ExpressionSteps.{Open, State, nothing_yet, element, starred, repeated, take}
-use Rattle.hz_regexp_model.specs.ExpressionSteps as steps
+use Rattle.hz_description_model.specs.Grammar.ExpressionSteps.{Open, State, nothing_yet, element, starred, repeated, take}
+use Rattle.hz_description_model.specs.Grammar.ExpressionSteps as steps
 
 -- the levels around the innermost one, the next outer one first
 abbrev pub opens_in : List Level → List Open

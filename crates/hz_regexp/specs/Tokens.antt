@@ -4,8 +4,8 @@ use Rattle.hz_regexp.specs.declared.tokens.Mark.{Mark}
 use Rattle.hz_regexp.specs.declared.tokens.Mark.TheVariants.{Comma, Bar, Plus}
 use Rattle.hz_regexp.specs.declared.tokens.Token.{Token}
 use Rattle.hz_regexp.specs.declared.tokens.Token.TheVariants as code
-use Rattle.hz_regexp_model.specs.ExpressionTexts.{word, mark, star, opens, closes, foreign, comma, bar, plus, tokens_from}
-use Rattle.hz_regexp_model.specs.ExpressionTexts as model
+use Rattle.hz_description_model.specs.Grammar.ExpressionTexts.{word, mark, star, opens, closes, foreign, comma, bar, plus, tokens_from}
+use Rattle.hz_description_model.specs.Grammar.ExpressionTexts as model
 use Rattle.hz_base_model.specs.Names.{is_name}
 
 -- a mark

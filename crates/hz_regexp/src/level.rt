@@ -1,8 +1,8 @@
 //! The parts of an expression that stand in one pair of parentheses.
 
 ghost use Rattle.std.specs.Prelude.{◌≡◌, ◌++◌, ◌∷◌, [], IfOk};
-ghost use Rattle.hz_regexp_model.specs.ExpressionTexts.{joined_by};
-ghost use Rattle.hz_regexp_model.specs.ExpressionSteps.{unopened, before, sequence_with};
+ghost use Rattle.hz_description_model.specs.Grammar.ExpressionTexts.{joined_by};
+ghost use Rattle.hz_description_model.specs.Grammar.ExpressionSteps.{unopened, before, sequence_with};
 ghost use Rattle.hz_regexp.specs.Shape.{expression, expressions};
 ghost use Rattle.hz_regexp.specs.Tokens.{mark_of};
 ghost use Rattle.hz_regexp.specs.Levels.{open_of};

@@ -1,9 +1,9 @@
 //! The reader of expressions.
 
 ghost use Rattle.std.specs.Prelude.{◌≡◌, ◌<◌, ◌^◌, length, IsTrue, IfOk, IfErr, Some, None};
-ghost use Rattle.hz_regexp_model.specs.ExpressionTexts.{Reads, FaultAt, unexpected, element_of};
-ghost use Rattle.hz_altern_model.specs.Expressions.{is_expression};
-ghost use Rattle.hz_regexp_model.specs.ExpressionSteps as steps;
+ghost use Rattle.hz_description_model.specs.Grammar.ExpressionTexts.{Reads, FaultAt, unexpected, element_of};
+ghost use Rattle.hz_description_model.specs.Reservations.Expressions.{is_expression};
+ghost use Rattle.hz_description_model.specs.Grammar.ExpressionSteps as steps;
 ghost use Rattle.hz_regexp.specs.Faults.{Tells};
 ghost use Rattle.hz_regexp.specs.Shape.{expression};
 ghost use Rattle.hz_regexp.specs.State.{state_of, state_with, Takes, Refuses};

@@ -4,7 +4,7 @@ ghost use Rattle.std.specs.Prelude.{◌≡◌, ◌+◌, ◌-◌, ◌*◌, ◌≤
 ghost use Rattle.std.specs.Char.{is_ascii_whitespace};
 ghost use Rattle.std.specs.List.{prefix_len};
 ghost use Rattle.std.specs.Option.{option_map};
-ghost use Rattle.hz_regexp_model.specs.ExpressionTexts as model;
+ghost use Rattle.hz_description_model.specs.Grammar.ExpressionTexts as model;
 ghost use Rattle.hz_base_model.specs.Lines.{number_of};
 ghost use Rattle.hz_base_model.specs.Names as names;
 ghost use Rattle.hz_regexp.specs.Tokens.{IsNamed, token_of, tokens_at};

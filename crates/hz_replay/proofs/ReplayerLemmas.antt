@@ -3,10 +3,10 @@ use Rattle.std.proofs.Common.{◌≡◌, ℕ, zero, suc, ◌<◌, List, [], ◌�
 use Rattle.std.specs.Prelude.{All}
 use Rattle.std.proofs.lemmas.List.{length-replicate}
 use Rattle.std.proofs.lemmas.List.Elements.{All-get_or, All-head, All-tail}
-use Rattle.hz_acceptance_model.specs.Events.{Event, advance}
-use Rattle.hz_tables_model.specs.Machines.{Part, Machine, no_part, part_at, part_walk, parts_walk, onto_states, word_of, starts_of, IsPart, IsMachine}
-use Rattle.hz_tables_model.proofs.TableLaws.{walk_stays}
-use Rattle.hz_tables_model.proofs.MachineLaws.{advance_alone}
+use Rattle.hz_acceptance_model.specs.Accepting.Events.{Event, advance}
+use Rattle.hz_automata_model.specs.Tables.Machines.{Part, Machine, no_part, part_at, part_walk, parts_walk, onto_states, word_of, starts_of, IsPart, IsMachine}
+use Rattle.hz_automata_model.proofs.Tables.TableLaws.{walk_stays}
+use Rattle.hz_automata_model.proofs.Tables.MachineLaws.{advance_alone}
 use Rattle.hz_replay.specs.Replaying.{AreStates}
 
 pub zeros : (n : ℕ) → length {A = ℕ} (replicate n 0) ≡ n

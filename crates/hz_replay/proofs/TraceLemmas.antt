@@ -2,10 +2,10 @@
 use Rattle.std.proofs.Common.{◌≡◌, ℕ, ◌+◌, ◌≤◌, Bool, true, false, cond, nat_le, List, [], ◌∷◌, ◌++◌, length, map, Option, Some, None, Result, Ok, Err, refl, sym, ap, ◌∙◌, subst, arith, append_assoc}
 use Rattle.std.proofs.lemmas.List.{append-nil, map-append}
 use Rattle.std.proofs.lemmas.Bool.{leb-true, leb-false}
-use Rattle.hz_trace_model.specs.Limits.{advance_limit}
+use Rattle.hz_acceptance_model.specs.Traces.TraceLimits.{advance_limit}
 use Rattle.hz_base_model.specs.Lines.{lines_of}
-use Rattle.hz_acceptance_model.specs.Events.{Event, issue, advance, cycles_of}
-use Rattle.hz_trace_model.specs.Traces.{Trace, TraceFault, bad_line, unknown_class, too_many_advances, TraceFaultAt, Line, skipped, says, wrong, line_says, Say, nothing, skips, tells, WrongAfter, line_alone, advances, event_lines, numbered}
+use Rattle.hz_acceptance_model.specs.Accepting.Events.{Event, issue, advance, cycles_of}
+use Rattle.hz_acceptance_model.specs.Traces.Traces.{Trace, TraceFault, bad_line, unknown_class, too_many_advances, TraceFaultAt, Line, skipped, says, wrong, line_says, Say, nothing, skips, tells, WrongAfter, line_alone, advances, event_lines, numbered}
 use Rattle.std.specs.Option.{option_map}
 use Rattle.hz_replay.specs.declared.event.What.{What}
 use Rattle.hz_replay.specs.Lines.{event_of, judged, judgement}

@@ -1,7 +1,7 @@
 -- A trace as the reader makes it, line after line.
 use Rattle.std.specs.Prelude.{◌≡◌, ℕ, ◌+◌, List, [], ◌∷◌, ◌++◌, map, Option, Some, None, Result, Ok, Err}
-use Rattle.hz_acceptance_model.specs.Events as events
-use Rattle.hz_trace_model.specs.Traces.{TraceFault, bad_line, unknown_class, too_many_advances, TraceFaultAt, line_says}
+use Rattle.hz_acceptance_model.specs.Accepting.Events as events
+use Rattle.hz_acceptance_model.specs.Traces.Traces.{TraceFault, bad_line, unknown_class, too_many_advances, TraceFaultAt, line_says}
 use Rattle.hz_replay.specs.Lines.{event_of, fault_of, judged}
 use Rattle.hz_replay.specs.declared.words.Wrong.{Wrong as WrongLine}
 use Rattle.hz_replay.specs.declared.event.Event.{Event}

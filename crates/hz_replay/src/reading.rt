@@ -3,8 +3,8 @@
 ghost use Rattle.std.specs.Prelude.{◌≡◌, ◌<◌, ◌≤◌, length, IfOk};
 ghost use Rattle.std.specs.List.{slice_range};
 ghost use Rattle.hz_base_model.specs.Limits.{class_limit};
-ghost use Rattle.hz_trace_model.specs.Limits.{advance_limit};
-ghost use Rattle.hz_trace_model.specs.Traces as model;
+ghost use Rattle.hz_acceptance_model.specs.Traces.TraceLimits.{advance_limit};
+ghost use Rattle.hz_acceptance_model.specs.Traces.Traces as model;
 ghost use Rattle.hz_replay.specs.Lines.{said, capped_line, judged, judgement};
 ghost use Rattle.hz_replay.specs.Names.{names_in};
 ghost use Rattle.indexmap.specs.IndexSet.{index_set_len};

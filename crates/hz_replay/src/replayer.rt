@@ -3,9 +3,9 @@
 ghost use Rattle.std.specs.Prelude.{◌≡◌, ◌+◌, ◌*◌, ◌<◌, ◌≤◌, ◌∷◌, [], length, replicate, IsTrue, IfSome, Some, None};
 ghost use Rattle.std.specs.Bool.{OnTrue, OnFalse};
 ghost use Rattle.std.specs.Option.{option_map, ForSome};
-ghost use Rattle.hz_tables_model.specs.Machines.{parts_walk, starts_of};
+ghost use Rattle.hz_automata_model.specs.Tables.Machines.{parts_walk, starts_of};
 ghost use Rattle.hz_tables.specs.Machines.{machine_of};
-ghost use Rattle.hz_acceptance_model.specs.Events.{issue, advance};
+ghost use Rattle.hz_acceptance_model.specs.Accepting.Events.{issue, advance};
 ghost use Rattle.hz_replay.specs.Replaying.{event_for, AreStates};
 
 use hz_tables::{Machine, Steps};

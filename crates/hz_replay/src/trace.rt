@@ -5,7 +5,7 @@ ghost use Rattle.std.specs.Prelude.{◌≡◌, ◌≢◌, ◌<◌, ◌≤◌, �
 ghost use Rattle.std.specs.Option.{option_map};
 ghost use Rattle.hz_base_model.specs.Limits.{class_limit};
 ghost use Rattle.hz_base_model.specs.Lines.{lines_of};
-ghost use Rattle.hz_trace_model.specs.Traces.{Trace, event_lines};
+ghost use Rattle.hz_acceptance_model.specs.Traces.Traces.{Trace, event_lines};
 ghost use Rattle.hz_replay.specs.Names.{names_in};
 ghost use Rattle.hz_replay.specs.Lines.{event_of};
 ghost use Rattle.hz_replay.specs.Traces.{events_in, lines_in, IsTraceFault, IsFaultOfLine, placed_in, noted, cycles_in};

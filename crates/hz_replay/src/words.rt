@@ -4,7 +4,7 @@ ghost use Rattle.std.specs.Prelude.{◌≡◌, ◌≤◌, ◌+◌};
 ghost use Rattle.std.specs.Option.{option_map};
 ghost use Rattle.hz_base_model.specs.Limits.{class_limit};
 ghost use Rattle.hz_base_model.specs.Lines.{number_of};
-ghost use Rattle.hz_trace_model.specs.Traces as model;
+ghost use Rattle.hz_acceptance_model.specs.Traces.Traces as model;
 ghost use Rattle.hz_replay.specs.Names.{names_in};
 ghost use Rattle.hz_replay.specs.Lines.{capped, said, capped_line};
 ghost use Rattle.indexmap.specs.IndexSet.{index_set_len};

@@ -2,7 +2,7 @@
 use Rattle.std.proofs.Common.{◌≡◌, ℕ, zero, suc, ◌+◌, ◌<◌, ◌≤◌, List, [], ◌∷◌, ◌++◌, length, get_or, drop, refl, sym, ap, ◌∙◌, append_assoc, arith}
 use Rattle.std.proofs.lemmas.List.{append-nil}
 use Rattle.std.specs.List.{flat_map, enumerate_from}
-use Rattle.hz_rtltext_model.specs.StateTexts.{register_line, cell_line}
+use Rattle.hz_block_model.specs.Texts.StateTexts.{register_line, cell_line}
 
 -- the lines of registers, of which the first has this number
 abbrev pub register_lines : ℕ → List ℕ → List ℕ

@@ -6,8 +6,8 @@ use Rattle.hz_depend.specs.declared.parts.Graph.{Graph}
 use Rattle.hz_depend.specs.declared.parts.GraphInsn.{GraphInsn}
 use Rattle.hz_sched.specs.declared.parts.Slot.{Slot}
 use Rattle.hz_sched.specs.Shape.{graph_of, node_of}
-use Rattle.hz_sched_model.specs.Schedules.{Node, class_at}
-use Rattle.hz_sched_model.proofs.SameSchedules.{class_below}
+use Rattle.hz_block_model.specs.Scheduling.Schedules.{Node, class_at}
+use Rattle.hz_block_model.proofs.Scheduling.SameSchedules.{class_below}
 
 -- a slot, read where there is none
 abbrev pub some_slot : Slot

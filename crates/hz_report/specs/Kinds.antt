@@ -8,20 +8,20 @@ use Rattle.hz_report.specs.declared.kind.NamedKind.{NamedKind}
 use Rattle.hz_report.specs.declared.kind.NamedKind.TheVariants as named
 use Rattle.hz_report.specs.declared.kind.InsnKind.{InsnKind}
 use Rattle.hz_report.specs.declared.kind.InsnKind.TheVariants as insn
-use Rattle.hz_check_model.specs.CheckFaults.{CheckFault}
-use Rattle.hz_check_model.specs.CheckFaults as check
-use Rattle.hz_mdread_model.specs.DescriptionForms.{DescriptionFault}
-use Rattle.hz_mdread_model.specs.DescriptionForms as description
-use Rattle.hz_regexp_model.specs.ExpressionTexts.{ExpressionFault}
-use Rattle.hz_regexp_model.specs.ExpressionTexts as text
-use Rattle.hz_rtltext_model.specs.Operands.{RtlFault}
-use Rattle.hz_rtltext_model.specs.Operands as rtl
-use Rattle.hz_trace_model.specs.Traces.{TraceFault}
-use Rattle.hz_trace_model.specs.Traces as trace
+use Rattle.hz_description_model.specs.Check.CheckFaults.{CheckFault}
+use Rattle.hz_description_model.specs.Check.CheckFaults as check
+use Rattle.hz_description_model.specs.Reading.DescriptionForms.{DescriptionFault}
+use Rattle.hz_description_model.specs.Reading.DescriptionForms as description
+use Rattle.hz_description_model.specs.Grammar.ExpressionTexts.{ExpressionFault}
+use Rattle.hz_description_model.specs.Grammar.ExpressionTexts as text
+use Rattle.hz_block_model.specs.Texts.Operands.{RtlFault}
+use Rattle.hz_block_model.specs.Texts.Operands as rtl
+use Rattle.hz_acceptance_model.specs.Traces.Traces.{TraceFault}
+use Rattle.hz_acceptance_model.specs.Traces.Traces as trace
 use Rattle.hz_tabtext_model.specs.Judging.{Kind as TablesKind}
 use Rattle.hz_tabtext_model.specs.Judging as tables
-use Rattle.hz_sexp_model.specs.Forms.{FormFault}
-use Rattle.hz_sexp_model.specs.Forms as form
+use Rattle.hz_base_model.specs.Forms.Forms.{FormFault}
+use Rattle.hz_base_model.specs.Forms.Forms as form
 
 -- the word of a fault of a form
 abbrev pub kind_word : Kind → List ℕ

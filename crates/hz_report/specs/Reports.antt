@@ -7,7 +7,7 @@ use Rattle.hz_tabfile.specs.Saying.{says, IsSayable}
 use Rattle.hz_tabtext_model.specs.Texts.{spelled}
 use Rattle.hz_rtl.specs.Listings.{listing}
 use Rattle.hz_sched.specs.Shape.{graph_of, slots_of}
-use Rattle.hz_rtltext_model.specs.StateTexts.{listing_text}
+use Rattle.hz_block_model.specs.Texts.StateTexts.{listing_text}
 use Rattle.hz_report.specs.Kinds.{kind_word, expression_word, named_word, insn_word}
 use Rattle.hz_report.specs.declared.report.Report.{Report}
 use Rattle.hz_report.specs.declared.report.Report.TheVariants.{Accepted, Refused, Tables, Scheduled, Drill, After, Fault, Expression, Named, Insn, Ambiguous, Passed, States, Long, Usage, Memory, File}

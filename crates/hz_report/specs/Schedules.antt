@@ -4,7 +4,7 @@ use Rattle.std.specs.List.{flat_map}
 use Rattle.hz_answer_model.specs.Texts.{slot_line, scheduled_line}
 use Rattle.hz_depend.specs.declared.parts.Graph as depend
 use Rattle.hz_sched.specs.declared.parts.Schedule.{Schedule}
-use Rattle.hz_sched_model.specs.Schedules.{Graph, Slot, class_at, present}
+use Rattle.hz_block_model.specs.Scheduling.Schedules.{Graph, Slot, class_at, present}
 use Rattle.hz_tables.specs.declared.machine.Machine.{Machine}
 
 -- the line of a slot: its cycle, and the number and the class of the instruction

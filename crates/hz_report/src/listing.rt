@@ -4,7 +4,7 @@ ghost use Rattle.std.specs.Prelude.{◌≡◌, ◌-◌, ◌^◌, ◌<◌, ◌∷
 ghost use Rattle.std.specs.List.{concat, flat_map, enumerate_from};
 ghost use Rattle.hz_io.specs.Sink.{Writes};
 ghost use Rattle.hz_rtl.specs.Listings.{listing};
-ghost use Rattle.hz_rtltext_model.specs.StateTexts.{register_line, cell_line, listing_text};
+ghost use Rattle.hz_block_model.specs.Texts.StateTexts.{register_line, cell_line, listing_text};
 
 use super::pieces::put_all;
 use hz_io::{Failed, Sink};

@@ -5,7 +5,7 @@ ghost use Rattle.std.specs.List.{flat_map};
 ghost use Rattle.hz_io.specs.Sink.{Writes};
 ghost use Rattle.hz_answer_model.specs.Texts as model;
 ghost use Rattle.hz_sched.specs.Shape.{graph_of, slot_of, slots_of};
-ghost use Rattle.hz_sched_model.specs.Schedules.{class_at, present};
+ghost use Rattle.hz_block_model.specs.Scheduling.Schedules.{class_at, present};
 ghost use Rattle.hz_report.specs.Schedules.{IsInRange, line_by, schedule_by};
 
 use super::pieces::put_all;

@@ -4,14 +4,14 @@ use Rattle.std.proofs.Common.{◌≡◌, ℕ, ◌+◌, ◌<◌, ◌≤◌, ◌==
 use Rattle.std.proofs.lemmas.List.{append-nil, drop_more, drop_all}
 use Rattle.hz_sexp.specs.declared.form.Form.{Form}
 use Rattle.hz_sexp.specs.Shape.{tree, trees}
-use Rattle.hz_sexp_model.specs.Trees.{Tree, Trees, vector, more}
-use Rattle.hz_rtl_model.specs.Blocks.{Effect}
-use Rattle.hz_rtl_model.specs.States.{Store}
-use Rattle.hz_rtltext_model.specs.Operands.{Judged, RtlFault, bad_shape, and_then}
+use Rattle.hz_base_model.specs.Forms.Trees.{Tree, Trees, vector, more}
+use Rattle.hz_block_model.specs.Running.Blocks.{Effect}
+use Rattle.hz_block_model.specs.Running.States.{Store}
+use Rattle.hz_block_model.specs.Texts.Operands.{Judged, RtlFault, bad_shape, and_then}
 use Rattle.hz_rtl.specs.Heads.{vector_in}
-use Rattle.hz_rtltext_model.specs.Values as model
-use Rattle.hz_rtltext_model.specs.BlockForms as blocks
-use Rattle.hz_rtltext_model.specs.StateForms as states
+use Rattle.hz_block_model.specs.Texts.Values as model
+use Rattle.hz_block_model.specs.Texts.BlockForms as blocks
+use Rattle.hz_block_model.specs.Texts.StateForms as states
 
 module _ (line : ℕ) where
   pub no_place : (code : model.TargetCode) (operands : List Form) → (length operands ≡ 1 → ⊥) → model.target_with line code (trees operands) ≡ Err (bad_shape, line)

@@ -4,10 +4,10 @@ use Rattle.hz_sexp.specs.declared.form.Form.{Form, out-Form}
 use Rattle.hz_sexp.specs.declared.form.Node.TheOpen.{Node-F}
 use Rattle.hz_sexp.specs.declared.form.Node.TheFolds.{fold_out-Form, fold_out-Node}
 use Rattle.hz_sexp.specs.Shape.{tree, trees, node_step, form_step}
-use Rattle.hz_sexp_model.specs.Trees.{Tree, Trees, list, vector, atom, quoted, number, none, more, line_of}
-use Rattle.hz_rtl_model.specs.Blocks.{Value}
-use Rattle.hz_rtltext_model.specs.Operands.{Judged, bad_shape, unknown_code, and_then, or_fault, by_head}
-use Rattle.hz_rtltext_model.specs.Values.{ValueCode, value_code, value_with, value_of, values_of}
+use Rattle.hz_base_model.specs.Forms.Trees.{Tree, Trees, list, vector, atom, quoted, number, none, more, line_of}
+use Rattle.hz_block_model.specs.Running.Blocks.{Value}
+use Rattle.hz_block_model.specs.Texts.Operands.{Judged, bad_shape, unknown_code, and_then, or_fault, by_head}
+use Rattle.hz_block_model.specs.Texts.Values.{ValueCode, value_code, value_with, value_of, values_of}
 use Rattle.hz_rtl.specs.Heads.{head_of, judged}
 
 line_of_step : (node : Node-F (ℕ → Tree) Tree) (line : ℕ) → line_of (node_step node line) ≡ line

@@ -10,7 +10,7 @@ use Rattle.std.proofs.lemmas.Cmp.{nat_cmp_total, eq_by_cmp_equiv}
 use Rattle.std.proofs.lemmas.List.{length-map, get_or-map}
 use Rattle.std.proofs.lemmas.Map.Keys.{Less-from_sorted, IsDistinct-from_sorted}
 use Rattle.std.proofs.lemmas.Map.Views.{Contains-from_lookup, lookup-from_Contains}
-use Rattle.hz_rtltext_model.specs.StateTexts.{IsListing}
+use Rattle.hz_block_model.specs.Texts.StateTexts.{IsListing}
 use Rattle.hz_rtl.specs.declared.state.State.{State}
 use Rattle.hz_rtl.specs.Listings.{listing}
 use Rattle.hz_rtl.specs.States.{words}

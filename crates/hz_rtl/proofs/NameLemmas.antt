@@ -6,7 +6,7 @@ use Rattle.std.specs.Cmp.Lexicographic.{slice_cmp}
 use Rattle.std.specs.BTreeSet as tree
 use Rattle.std.specs.BTreeSet.{BTreeSet}
 use Rattle.std.proofs.lemmas.Map.Text.{is_eq-slice_cmp}
-use Rattle.hz_rtltext_model.specs.BlockForms.{gives}
+use Rattle.hz_block_model.specs.Texts.BlockForms.{gives}
 use Rattle.hz_rtl.specs.NameSets.{is_held}
 
 or_last : (b old : Bool) → cond b true old ≡ (old || (b || false))

@@ -4,15 +4,15 @@ use Rattle.std.specs.List.{list_any}
 use Rattle.std.proofs.lemmas.List.{drop_all, length-map}
 use Rattle.hz_sexp.specs.declared.form.Form.{Form}
 use Rattle.hz_sexp.specs.Shape.{tree, trees}
-use Rattle.hz_sexp_model.specs.Trees.{Trees}
-use Rattle.hz_rtl_model.specs.Blocks.{Instruction}
-use Rattle.hz_rtltext_model.specs.Operands.{Judged, RtlFault, and_then}
-use Rattle.hz_rtltext_model.specs.BlockForms as model
-use Rattle.hz_rtltext_model.proofs.Numbers.{all_few}
+use Rattle.hz_base_model.specs.Forms.Trees.{Trees}
+use Rattle.hz_block_model.specs.Running.Blocks.{Instruction}
+use Rattle.hz_block_model.specs.Texts.Operands.{Judged, RtlFault, and_then}
+use Rattle.hz_block_model.specs.Texts.BlockForms as model
+use Rattle.hz_block_model.proofs.Texts.Numbers.{all_few}
 use Rattle.hz_rtl.specs.declared.block.Insn.{Insn}
 use Rattle.hz_rtl.specs.Shape.{instruction}
 use Rattle.hz_rtl.proofs.EffectLemmas.{forms_from}
-use Rattle.hz_rtl_model.specs.Limits.{instruction_limit}
+use Rattle.hz_block_model.specs.Running.Limits.{instruction_limit}
 
 pub has_number_is : (insns : List Insn) (number : ℕ) → model.has_number (map instruction insns) number ≡ list_any (λ i. i.number == number) insns
 has_number_is [] number = refl

@@ -6,9 +6,9 @@ use Rattle.std.specs.BTreeMap.{BTreeMap}
 use Rattle.std.proofs.Math.Path.{fun_ext}
 use Rattle.std.proofs.lemmas.Bool.{cases_lt}
 use Rattle.std.proofs.lemmas.List.{append-nil, drop_more, drop_all, get_or-replicate, get_or_past, length-replicate}
-use Rattle.hz_rtl_model.specs.Blocks.{Effect, Instruction}
-use Rattle.hz_rtl_model.specs.States.{Place, reg, cell, State, Store, stored, all_stored, stores_of, after_place, run}
-use Rattle.hz_rtltext_model.specs.StateForms.{empty_state}
+use Rattle.hz_block_model.specs.Running.Blocks.{Effect, Instruction}
+use Rattle.hz_block_model.specs.Running.States.{Place, reg, cell, State, Store, stored, all_stored, stores_of, after_place, run}
+use Rattle.hz_block_model.specs.Texts.StateForms.{empty_state}
 use Rattle.hz_rtl.specs.declared.block.Insn.{Insn}
 use Rattle.hz_rtl.specs.declared.block.Effect.{Effect as CodeEffect}
 use Rattle.hz_rtl.specs.declared.running.store.Store.{Store as CodeStore}

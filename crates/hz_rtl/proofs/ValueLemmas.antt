@@ -2,9 +2,9 @@
 use Rattle.std.proofs.Common.{◌≡◌, ℕ, List, [], ◌∷◌, length, Err, refl}
 use Rattle.hz_sexp.specs.declared.form.Form.{Form}
 use Rattle.hz_sexp.specs.Shape.{trees}
-use Rattle.hz_rtl_model.specs.Operators.{UnaryOperator, BinaryOperator}
-use Rattle.hz_rtltext_model.specs.Operands.{bad_shape}
-use Rattle.hz_rtltext_model.specs.Values.{register_code, constant_code, memory_code, choice_code, unary_code, binary_code, value_with}
+use Rattle.hz_block_model.specs.Running.Operators.{UnaryOperator, BinaryOperator}
+use Rattle.hz_block_model.specs.Texts.Operands.{bad_shape}
+use Rattle.hz_block_model.specs.Texts.Values.{register_code, constant_code, memory_code, choice_code, unary_code, binary_code, value_with}
 use Rattle.hz_rtl.specs.Heads.{judged}
 
 module _ (line : ℕ) where

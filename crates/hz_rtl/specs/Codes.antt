@@ -5,7 +5,7 @@ use Rattle.hz_rtl.specs.declared.reading.codes.PlaceCode.{PlaceCode}
 use Rattle.hz_rtl.specs.declared.reading.codes.PlaceCode.TheVariants as places
 use Rattle.hz_rtl.specs.declared.reading.codes.EffectCode.{EffectCode}
 use Rattle.hz_rtl.specs.declared.reading.codes.EffectCode.TheVariants as effects
-use Rattle.hz_rtltext_model.specs.Values as model
+use Rattle.hz_block_model.specs.Texts.Values as model
 use Rattle.hz_rtl.specs.Shape.{unary_operator, binary_operator}
 
 abbrev pub value_code : ValueCode → model.ValueCode

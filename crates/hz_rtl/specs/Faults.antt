@@ -2,7 +2,7 @@
 use Rattle.std.specs.Prelude.{ℕ, ⊤}
 use Rattle.hz_rtl.specs.declared.fault.RtlFault.{RtlFault}
 use Rattle.hz_rtl.specs.declared.fault.RtlFault.TheVariants.{BadShape, UnknownCode, RegisterRange, Twice, InsnLimit, NoMemory}
-use Rattle.hz_rtltext_model.specs.Operands as model
+use Rattle.hz_block_model.specs.Texts.Operands as model
 
 -- what is said of a fault and its line holds of this one; want of memory says nothing
 abbrev pub Tells : (model.RtlFault → ℕ → Type 0) → RtlFault → Type 0

@@ -2,10 +2,10 @@
 use Rattle.std.specs.Prelude.{ℕ, List, Option, Some, None, map}
 use Rattle.hz_sexp.specs.declared.form.Form.{Form}
 use Rattle.hz_sexp.specs.Shape.{tree}
-use Rattle.hz_sexp_model.specs.Trees.{Tree, Trees, list, vector, atom, more}
-use Rattle.hz_rtl_model.specs.Blocks.{Value}
-use Rattle.hz_rtltext_model.specs.Operands.{Judged}
-use Rattle.hz_rtltext_model.specs.Values.{value_of}
+use Rattle.hz_base_model.specs.Forms.Trees.{Tree, Trees, list, vector, atom, more}
+use Rattle.hz_block_model.specs.Running.Blocks.{Value}
+use Rattle.hz_block_model.specs.Texts.Operands.{Judged}
+use Rattle.hz_block_model.specs.Texts.Values.{value_of}
 
 -- the word that a list begins with, and its operands
 abbrev pub head_of : Tree → Option (List ℕ × Trees)

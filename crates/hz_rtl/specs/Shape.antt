@@ -13,8 +13,8 @@ use Rattle.hz_rtl.specs.declared.block.Effect.{Effect}
 use Rattle.hz_rtl.specs.declared.block.Effect.TheVariants as effects
 use Rattle.hz_rtl.specs.declared.block.Insn.{Insn}
 use Rattle.hz_rtl.specs.declared.block.Block.{Block}
-use Rattle.hz_rtl_model.specs.Operators as operators
-use Rattle.hz_rtl_model.specs.Blocks as model
+use Rattle.hz_block_model.specs.Running.Operators as operators
+use Rattle.hz_block_model.specs.Running.Blocks as model
 
 abbrev pub unary_operator : Op1 → operators.UnaryOperator
 unary_operator one.Neg = operators.neg

@@ -3,7 +3,7 @@ use Rattle.std.specs.Prelude.{ℕ, List, slice_index, unwrap_or}
 use Rattle.std.specs.Ordering.{nat_cmp}
 use Rattle.std.specs.BTreeMap.{BTreeMap, get}
 use Rattle.hz_rtl.specs.declared.state.State.{State}
-use Rattle.hz_rtl_model.specs.States as model
+use Rattle.hz_block_model.specs.Running.States as model
 
 -- the word at a place, where registers and cells hold these
 abbrev pub word_at : List ℕ → BTreeMap ℕ ℕ → model.Place → ℕ

@@ -2,7 +2,7 @@
 use Rattle.hz_rtl.specs.declared.running.store.Spot.{Spot}
 use Rattle.hz_rtl.specs.declared.running.store.Spot.TheVariants.{Register, Cell}
 use Rattle.hz_rtl.specs.declared.running.store.Store.{Store}
-use Rattle.hz_rtl_model.specs.States as model
+use Rattle.hz_block_model.specs.Running.States as model
 
 abbrev pub place : Spot → model.Place
 place (Register number) = model.reg number

@@ -1,6 +1,6 @@
 //! Laws of the states that are held.
 
-ghost use Rattle.hz_rtltext_model.specs.StateTexts.{IsListing};
+ghost use Rattle.hz_block_model.specs.Texts.StateTexts.{IsListing};
 ghost use Rattle.hz_rtl.specs.declared.state.State.{State};
 ghost use Rattle.hz_rtl.specs.Listings.{listing};
 ghost use Rattle.hz_rtl.specs.States.{words};

@@ -27,8 +27,8 @@ pub struct State {
 
 impl State {
     ghost use Rattle.std.specs.Prelude.{IfOk, OnOk};
-    ghost use Rattle.hz_rtltext_model.specs.StateForms.{empty_state};
-    ghost use Rattle.hz_rtl_model.specs.States as model;
+    ghost use Rattle.hz_block_model.specs.Texts.StateForms.{empty_state};
+    ghost use Rattle.hz_block_model.specs.Running.States as model;
     ghost use Rattle.hz_rtl.specs.States.{words};
     ghost use Rattle.hz_rtl.specs.Stores.{place, store};
 

@@ -10,13 +10,13 @@ use Rattle.std.proofs.Math.Seq.{take-append_seam}
 use Rattle.std.proofs.lemmas.Bool.{lt-ltb}
 use Rattle.std.proofs.lemmas.List.{length-map, get_or-map}
 use Rattle.std.proofs.lemmas.List.Elements.{All-map, All-filter}
-use Rattle.hz_acceptance_model.specs.Events.{issue}
-use Rattle.hz_tables_model.specs.Machines.{Machine, parts_walk, IsWalked}
+use Rattle.hz_acceptance_model.specs.Accepting.Events.{issue}
+use Rattle.hz_automata_model.specs.Tables.Machines.{Machine, parts_walk, IsWalked}
 use Rattle.hz_depend.specs.declared.parts.Edge as depend
 use Rattle.hz_depend.specs.declared.parts.GraphInsn.{GraphInsn}
 use Rattle.hz_depend.specs.GraphShape.{edge_of}
-use Rattle.hz_depend_model.specs.Graphs.{Edge}
-use Rattle.hz_sched_model.specs.Schedules.{Node, Graph, Slot, class_at, height_at, GoesBefore, IsCandidate}
+use Rattle.hz_block_model.specs.Dependences.Graphs.{Edge}
+use Rattle.hz_block_model.specs.Scheduling.Schedules.{Node, Graph, Slot, class_at, height_at, GoesBefore, IsCandidate}
 use Rattle.hz_sched.specs.Shape.{node_of}
 use Rattle.hz_sched.specs.Waits.{issued_at, and_issued, ripe, leading, ripe_from}
 use Rattle.hz_sched.specs.Pending.{Key, key_cmp, key_of, Wait, wait_cmp, keys_at, free_below, AreWaits, AreQueued, IsQueue, AreLater, may}

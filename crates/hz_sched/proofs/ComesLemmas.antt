@@ -1,16 +1,16 @@
 -- An issue always comes.
 use Rattle.std.proofs.Common.{◌≡◌, ℕ, ◌+◌, ◌-◌, ◌<◌, ◌≤◌, true, List, [], ◌∷◌, ◌++◌, length, Option, Some, None, is_some, All, refl, sym, ap, ◌∙◌, subst, append_assoc, arith}
 use Rattle.std.specs.Prelude.{IsSome}
-use Rattle.hz_acceptance_model.specs.Events.{issue, advance, IsOfClass}
+use Rattle.hz_acceptance_model.specs.Accepting.Events.{issue, advance, IsOfClass}
 use Rattle.std.proofs.lemmas.List.Elements.{All-append, All-cons, All-nil}
-use Rattle.hz_tables_model.specs.Machines.{Machine, parts_walk, machine_walk, starts_of, IsWalked}
-use Rattle.hz_sched_model.specs.Schedules.{Graph, Slot, class_at, present, spell, IsReady, IsCandidate}
-use Rattle.hz_sched_model.specs.Machines.{Settles, can_start}
-use Rattle.hz_sched_model.proofs.SameSchedules.{greedy_within, spelled_of_class}
+use Rattle.hz_automata_model.specs.Tables.Machines.{Machine, parts_walk, machine_walk, starts_of, IsWalked}
+use Rattle.hz_block_model.specs.Scheduling.Schedules.{Graph, Slot, class_at, present, spell, IsReady, IsCandidate}
+use Rattle.hz_block_model.specs.Scheduling.Machines.{Settles, can_start}
+use Rattle.hz_block_model.proofs.Scheduling.SameSchedules.{greedy_within, spelled_of_class}
 use Rattle.hz_sched.specs.Waits.{issued_at}
 use Rattle.hz_sched.specs.Standing.{IsAt, IsUpward, left_below}
 use Rattle.hz_sched.proofs.SlotLemmas.{none_issued, slot_of_issue, Least, least_left}
-use Rattle.hz_sched_model.proofs.SlotLaws.{below_present}
+use Rattle.hz_block_model.proofs.Scheduling.SlotLaws.{below_present}
 use Rattle.hz_sched.proofs.WalkLemmas.{front_walked, walk_behind, walk_to, walk_split}
 
 some_of : {A : Type 0} (o : Option A) → is_some o ≡ true → (x : A) × (o ≡ Some x)

@@ -11,8 +11,8 @@ use Rattle.std.specs.Set.{remove_key}
 use Rattle.std.proofs.lemmas.Bool.{eqb-true, eqb-false, eq-eqb, leb-true, le-leb}
 use Rattle.std.proofs.lemmas.Map.Keys.{sorted_tail}
 use Rattle.hz_base_model.proofs.Elements.{Contains-nil, Contains-head, Contains-tail, Contains-cons_cases}
-use Rattle.hz_depend_model.specs.Graphs.{Edge}
-use Rattle.hz_sched_model.specs.Schedules.{Graph, class_at}
+use Rattle.hz_block_model.specs.Dependences.Graphs.{Edge}
+use Rattle.hz_block_model.specs.Scheduling.Schedules.{Graph, class_at}
 use Rattle.hz_sched.specs.Waits.{issued_at, and_issued, missing, ripe, leading, ripe_from}
 use Rattle.hz_sched.specs.Pending.{Key, key_cmp, key_of, Wait, wait_cmp, keys_at, ripe_front, one_waits, all_wait, free_below, without_head, with_head, ChangesRow, AreWaits, IsFree, IsWaiting, IsRipe, AreHeads, AreInRange, AreQueued, AreLater}
 use Rattle.hz_sched.proofs.SlotLemmas.{same_issued, other_issued}

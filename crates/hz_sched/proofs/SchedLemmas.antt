@@ -10,17 +10,17 @@ use Rattle.std.proofs.lemmas.List.Sums.{fails_before_first}
 use Rattle.std.proofs.lemmas.List.Elements.{All-get_or, All-contains, All-map, Contains-get_or}
 use Rattle.std.proofs.lemmas.Option.{slice_get-get_or}
 use Rattle.hz_base_model.proofs.Elements.{Contains-map}
-use Rattle.hz_acceptance_model.specs.Events.{Event, issue, advance}
-use Rattle.hz_tables_model.specs.Machines.{Part, Machine, no_part, part_at, parts_walk, machine_walk, starts_of, onto_states, word_of, IsPart, IsMachine, IsWalked}
-use Rattle.hz_tables_model.proofs.TableLaws.{walk_stays}
-use Rattle.hz_tables_model.proofs.MachineLaws.{machine_walk-each, machine_walk-part}
+use Rattle.hz_acceptance_model.specs.Accepting.Events.{Event, issue, advance}
+use Rattle.hz_automata_model.specs.Tables.Machines.{Part, Machine, no_part, part_at, parts_walk, machine_walk, starts_of, onto_states, word_of, IsPart, IsMachine, IsWalked}
+use Rattle.hz_automata_model.proofs.Tables.TableLaws.{walk_stays}
+use Rattle.hz_automata_model.proofs.Tables.MachineLaws.{machine_walk-each, machine_walk-part}
 use Rattle.hz_replay.specs.Replaying.{Standing, AreStates}
 use Rattle.hz_depend.specs.declared.parts.Graph as depend_graph
 use Rattle.hz_depend.specs.declared.parts.GraphInsn.{GraphInsn}
 use Rattle.hz_depend.specs.GraphShape.{edge_of, IsSchedulable}
-use Rattle.hz_sched_model.specs.Schedules.{Node, Graph, Slot, class_at, present, GoesBefore, Greedy, IsCandidate}
-use Rattle.hz_sched_model.specs.Machines.{Settles, can_start}
-use Rattle.hz_sched_model.proofs.SameSchedules.{greedy_within}
+use Rattle.hz_block_model.specs.Scheduling.Schedules.{Node, Graph, Slot, class_at, present, GoesBefore, Greedy, IsCandidate}
+use Rattle.hz_block_model.specs.Scheduling.Machines.{Settles, can_start}
+use Rattle.hz_block_model.proofs.Scheduling.SameSchedules.{greedy_within}
 use Rattle.hz_sched.specs.Shape.{graph_of, node_of, slot_of, slots_of}
 use Rattle.hz_sched.specs.declared.parts.Slot as made
 use Rattle.hz_sched.specs.declared.board.Board.{Board}
@@ -28,7 +28,7 @@ use Rattle.hz_sched.specs.declared.queue.Queue.{Queue}
 use Rattle.hz_sched.specs.Waits.{issued_at, and_issued}
 use Rattle.hz_sched.specs.Standing.{IsAt, IsUpward, AllStart, left_below}
 use Rattle.hz_sched.specs.Pending.{Key, key_of, keys_at, AreWaits, IsInRange, IsQueue, AreLater, IsBoard, may}
-use Rattle.hz_sched_model.proofs.SlotLaws.{present-push, below_present}
+use Rattle.hz_block_model.proofs.Scheduling.SlotLaws.{present-push, below_present}
 use Rattle.hz_sched.proofs.SlotLemmas.{left_less}
 use Rattle.hz_sched.proofs.StandLemmas.{at_start, next_cycle, next_issue, now_issued, was_left, candidate_fits}
 use Rattle.hz_sched.proofs.ComesLemmas.{some_comes}

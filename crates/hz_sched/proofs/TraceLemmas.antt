@@ -3,18 +3,18 @@ use Rattle.std.proofs.Common.{ℕ, ◌<◌, ◌≤◌, ◌*◌, List, length, Al
 use Rattle.std.specs.List.{AllPairs}
 use Rattle.std.proofs.lemmas.List.{length-map}
 use Rattle.std.proofs.lemmas.List.Elements.{All-map}
-use Rattle.hz_trace_model.specs.Limits.{advance_limit}
-use Rattle.hz_acceptance_model.specs.Events.{IsOfClass, cycles_of}
+use Rattle.hz_acceptance_model.specs.Traces.TraceLimits.{advance_limit}
+use Rattle.hz_acceptance_model.specs.Accepting.Events.{IsOfClass, cycles_of}
 use Rattle.hz_depend.specs.declared.parts.Graph as depend
 use Rattle.hz_depend.specs.GraphShape.{IsSchedulable}
-use Rattle.hz_sched_model.specs.Schedules.{Slot, spell}
-use Rattle.hz_sched_model.specs.Machines.{most_wait}
-use Rattle.hz_sched_model.proofs.SameSchedules.{AreWithin, spelled_of_class}
-use Rattle.hz_sched_model.proofs.TraceLaws.{cycles_spelled, present_within}
+use Rattle.hz_block_model.specs.Scheduling.Schedules.{Slot, spell}
+use Rattle.hz_block_model.specs.Scheduling.Machines.{most_wait}
+use Rattle.hz_block_model.proofs.Scheduling.SameSchedules.{AreWithin, spelled_of_class}
+use Rattle.hz_block_model.proofs.Scheduling.TraceLaws.{cycles_spelled, present_within}
 use Rattle.hz_sched.specs.declared.parts.Slot as made
 use Rattle.hz_sched.specs.Shape.{graph_of, node_of, slot_of, slots_of}
 use Rattle.hz_sched.proofs.SchedLemmas.{ranges_of}
-use Rattle.hz_rtl_model.specs.Limits.{instruction_limit}
+use Rattle.hz_block_model.specs.Running.Limits.{instruction_limit}
 
 pub spelled_classes : (classes : ℕ) (g : depend.Graph) (slots : List made.Slot) → IsSchedulable classes g → All (λ x. x.place < length g.insns.items) slots → All (IsOfClass classes) (spell (graph_of g) (slots_of slots))
 spelled_classes classes g slots is places = spelled_of_class classes (graph_of g) (ranges_of classes g is) 0 (slots_of slots) within

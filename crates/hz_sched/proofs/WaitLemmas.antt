@@ -2,8 +2,8 @@
 use Rattle.std.proofs.Common.{◌≡◌, ℕ, ◌+◌, ◌≤◌, ◌==◌, ⊎_elim, Bool, true, false, ◌&&◌, not, cond, max, List, [], ◌∷◌, filter, Option, Some, None, is_some, Contains, refl, sym, ap, ◌∙◌, subst, arith}
 use Rattle.std.proofs.lemmas.Bool.{eqb-true, eq-eqb}
 use Rattle.hz_base_model.proofs.Elements.{Contains-nil, Contains-head, Contains-tail, Contains-cons_cases}
-use Rattle.hz_depend_model.specs.Graphs.{Edge}
-use Rattle.hz_sched_model.specs.Schedules.{Graph, Slot, IsReady}
+use Rattle.hz_block_model.specs.Dependences.Graphs.{Edge}
+use Rattle.hz_block_model.specs.Scheduling.Schedules.{Graph, Slot, IsReady}
 use Rattle.hz_sched.specs.Waits.{issued_at, and_issued, missing, waited, ripe, leading, ripe_from}
 use Rattle.hz_sched.proofs.SlotLemmas.{slot_of_issue}
 

@@ -3,11 +3,11 @@ use Rattle.std.proofs.Common.{◌≡◌, ℕ, ◌+◌, ◌-◌, ◌≤◌, Bool,
 use Rattle.std.specs.Prelude.{nat_lt, IsSome, option_and_then}
 use Rattle.std.proofs.lemmas.Bool.{ltb-false}
 use Rattle.std.proofs.lemmas.List.{replicate-append-replicate, append-nil}
-use Rattle.hz_acceptance_model.specs.Events.{Event, advance}
-use Rattle.hz_tables_model.specs.Tables.{walk}
-use Rattle.hz_tables_model.specs.Machines.{Part, Machine, word_of, part_walk, parts_walk, machine_walk, starts_of, onto_states}
-use Rattle.hz_tables_model.proofs.MachineLaws.{word_of-append, parts_walk-append}
-use Rattle.hz_sched_model.specs.Schedules.{advance_to}
+use Rattle.hz_acceptance_model.specs.Accepting.Events.{Event, advance}
+use Rattle.hz_automata_model.specs.Tables.Tables.{walk}
+use Rattle.hz_automata_model.specs.Tables.Machines.{Part, Machine, word_of, part_walk, parts_walk, machine_walk, starts_of, onto_states}
+use Rattle.hz_automata_model.proofs.Tables.MachineLaws.{word_of-append, parts_walk-append}
+use Rattle.hz_block_model.specs.Scheduling.Schedules.{advance_to}
 
 -- ---- words
 

@@ -6,8 +6,8 @@ use Rattle.hz_replay.specs.Traces.{lines_in}
 use Rattle.hz_depend.specs.declared.parts.Graph as depend
 use Rattle.hz_depend.specs.declared.parts.GraphInsn.{GraphInsn}
 use Rattle.hz_depend.specs.GraphShape.{edge_of}
-use Rattle.hz_sched_model.specs.Schedules.{Node, Graph}
-use Rattle.hz_sched_model.specs.Schedules as model
+use Rattle.hz_block_model.specs.Scheduling.Schedules.{Node, Graph}
+use Rattle.hz_block_model.specs.Scheduling.Schedules as model
 use Rattle.hz_sched.specs.declared.parts.Slot.{Slot}
 use Rattle.hz_sched.specs.declared.parts.Schedule.{Schedule}
 use Rattle.hz_sched.specs.declared.fault.SchedFault.{SchedFault}

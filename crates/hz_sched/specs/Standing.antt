@@ -1,12 +1,12 @@
 -- How far a schedule has come. These words are only to prove with.
 use Rattle.std.specs.Prelude.{◌≡◌, ℕ, zero, suc, ◌+◌, ◌-◌, ◌<◌, ◌≤◌, true, is_some, if◌then◌else◌, List, [], ◌∷◌, ◌++◌, length, Option, Some}
 use Rattle.std.specs.List.{Contains, AllPairs}
-use Rattle.hz_mdread_model.specs.Limits.{latency_limit}
-use Rattle.hz_acceptance_model.specs.Events.{advance}
-use Rattle.hz_tables_model.specs.Machines.{Machine, machine_walk, IsWalked}
-use Rattle.hz_depend_model.specs.Graphs.{Edge}
-use Rattle.hz_sched_model.specs.Schedules.{Graph, Slot, class_at, present, spell, Greedy, IsCandidate}
-use Rattle.hz_sched_model.specs.Machines.{can_start}
+use Rattle.hz_description_model.specs.Reading.Limits.{latency_limit}
+use Rattle.hz_acceptance_model.specs.Accepting.Events.{advance}
+use Rattle.hz_automata_model.specs.Tables.Machines.{Machine, machine_walk, IsWalked}
+use Rattle.hz_block_model.specs.Dependences.Graphs.{Edge}
+use Rattle.hz_block_model.specs.Scheduling.Schedules.{Graph, Slot, class_at, present, spell, Greedy, IsCandidate}
+use Rattle.hz_block_model.specs.Scheduling.Machines.{can_start}
 use Rattle.hz_sched.specs.Waits.{issued_at}
 
 -- These slots are greedy, no candidate stands at a cycle behind them and before this one, and the machine is in these states.

@@ -1,7 +1,7 @@
 -- What instructions wait for. These words are only to prove with.
 use Rattle.std.specs.Prelude.{ℕ, ◌+◌, ◌==◌, ◌&&◌, not, is_some, if◌then◌else◌, max, List, [], ◌∷◌, Option, Some, None}
-use Rattle.hz_depend_model.specs.Graphs.{Edge}
-use Rattle.hz_sched_model.specs.Schedules.{Slot}
+use Rattle.hz_block_model.specs.Dependences.Graphs.{Edge}
+use Rattle.hz_block_model.specs.Scheduling.Schedules.{Slot}
 
 -- the cycle in which an instruction is issued, if it is
 abbrev pub issued_at : List Slot → ℕ → Option ℕ

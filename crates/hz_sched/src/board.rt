@@ -2,12 +2,12 @@
 
 ghost use Rattle.std.specs.Prelude.{◌≡◌, ◌≤◌, ◌<◌, ◌+◌, ◌==◌, ◌++◌, ◌∷◌, [], None, length, All, IfOk, OnOk, filter, replicate, ◌^◌};
 ghost use Rattle.std.specs.List.{Contains};
-ghost use Rattle.hz_mdread_model.specs.Limits.{latency_limit};
-ghost use Rattle.hz_sched_model.specs.Schedules as model;
+ghost use Rattle.hz_description_model.specs.Reading.Limits.{latency_limit};
+ghost use Rattle.hz_block_model.specs.Scheduling.Schedules as model;
 ghost use Rattle.hz_sched.specs.Shape.{graph_of, slots_of};
 ghost use Rattle.hz_sched.specs.Waits.{issued_at, and_issued};
 ghost use Rattle.hz_sched.specs.Pending.{key_of, keys_at, AreWaits, IsQueue, AreLater};
-ghost use Rattle.hz_rtl_model.specs.Limits.{instruction_limit};
+ghost use Rattle.hz_block_model.specs.Running.Limits.{instruction_limit};
 
 use crate::parts::Slot;
 use crate::queue::{Queue, height_at};

@@ -9,11 +9,11 @@ ghost use Rattle.std.specs.BTreeMap.{is_at};
 ghost use Rattle.std.specs.Set.{remove_key};
 ghost use Rattle.hz_tables.specs.Machines.{machine_of};
 ghost use Rattle.hz_replay.specs.Replaying.{AreStates};
-ghost use Rattle.hz_sched_model.specs.Schedules as model;
+ghost use Rattle.hz_block_model.specs.Scheduling.Schedules as model;
 ghost use Rattle.hz_depend.specs.GraphShape.{edge_of};
 ghost use Rattle.hz_sched.specs.Shape.{graph_of};
 ghost use Rattle.hz_sched.specs.Pending.{key_cmp, wait_cmp, may, keys_at, ripe_front, one_waits, all_wait, free_below, with_head, without_head, ChangesRow, IsInRange, IsQueue, AreLater};
-ghost use Rattle.hz_rtl_model.specs.Limits.{instruction_limit};
+ghost use Rattle.hz_block_model.specs.Running.Limits.{instruction_limit};
 
 use crate::fitting::fits;
 use crate::spelling::class_at;

@@ -3,14 +3,14 @@
 ghost use Rattle.std.specs.Prelude.{◌≡◌, ◌≤◌, ◌<◌, ◌+◌, ◌*◌, ◌==◌, ◌^◌, ℕ, suc, true, filter, length, map, All, IfOk, OnOk};
 ghost use Rattle.hz_tables.specs.Machines.{machine_of};
 ghost use Rattle.hz_depend.specs.GraphShape.{IsSchedulable};
-ghost use Rattle.hz_sched_model.specs.Schedules as model;
-ghost use Rattle.hz_sched_model.specs.Machines.{Settles, most_wait, can_start, cannot_start_alone};
+ghost use Rattle.hz_block_model.specs.Scheduling.Schedules as model;
+ghost use Rattle.hz_block_model.specs.Scheduling.Machines.{Settles, most_wait, can_start, cannot_start_alone};
 ghost use Rattle.hz_sched.specs.Shape.{graph_of, slots_of, alone_in};
 ghost use Rattle.hz_sched.specs.Rows.{row_at};
 ghost use Rattle.hz_sched.specs.Waits.{issued_at};
 ghost use Rattle.hz_sched.specs.Standing.{left_below, AllStart};
 ghost use Rattle.hz_sched.specs.Pending.{IsBoard};
-ghost use Rattle.hz_tables_model.specs.Machines.{IsWalked};
+ghost use Rattle.hz_automata_model.specs.Tables.Machines.{IsWalked};
 
 use crate::board::Board;
 use crate::fault::SchedFault;

@@ -4,7 +4,7 @@ ghost use Rattle.std.specs.Prelude.{◌≡◌, ◌+◌, ◌*◌, ◌<◌, ◌≤
 ghost use Rattle.std.specs.List.{range_with_len};
 ghost use Rattle.hz_replay.specs.Lines.{event_of};
 ghost use Rattle.hz_replay.specs.Traces.{events_in, lines_in};
-ghost use Rattle.hz_sched_model.specs.Schedules as model;
+ghost use Rattle.hz_block_model.specs.Scheduling.Schedules as model;
 ghost use Rattle.hz_sched.specs.Shape.{graph_of, slots_of, AreNumbered};
 
 use crate::parts::Schedule;

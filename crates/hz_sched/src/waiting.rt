@@ -2,7 +2,7 @@
 //! which it has waited for the others.
 
 ghost use Rattle.std.specs.Prelude.{◌≡◌, ◌≤◌, ◌<◌, ◌+◌, ◌-◌, ◌^◌, ◌==◌, ℕ, if◌then◌else◌, max, length, map, slice_index, All, IfOk};
-ghost use Rattle.hz_mdread_model.specs.Limits.{latency_limit};
+ghost use Rattle.hz_description_model.specs.Reading.Limits.{latency_limit};
 ghost use Rattle.hz_depend.specs.GraphShape.{edge_of};
 ghost use Rattle.hz_sched.specs.Waits.{leading, ripe_from};
 

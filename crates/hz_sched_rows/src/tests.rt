@@ -1,8 +1,8 @@
 //! Schedules of blocks on the machines of descriptions, their traces, and what a replay answers of them.
 
 ghost use Rattle.std.specs.Prelude.{◌≡◌, ◌≤◌, ◌<◌, ◌^◌, length, All};
-ghost use Rattle.hz_trace_model.specs.Limits.{advance_limit};
-ghost use Rattle.hz_acceptance_model.specs.Events.{cycles_of, IsOfClass};
+ghost use Rattle.hz_acceptance_model.specs.Traces.TraceLimits.{advance_limit};
+ghost use Rattle.hz_acceptance_model.specs.Accepting.Events.{cycles_of, IsOfClass};
 ghost use Rattle.hz_replay.specs.Traces.{events_in};
 ghost use Rattle.hz_tables.specs.Machines.{machine_of};
 

@@ -10,7 +10,7 @@ use Rattle.std.proofs.lemmas.Bool.{and_parts, leb-true, cases_Bool, eqb-true, le
 use Rattle.std.proofs.lemmas.Int.Digits.{digits_value_more}
 use Rattle.std.proofs.lemmas.Str.{digit_value_digit}
 use Rattle.std.proofs.lemmas.Str.Parse.{digits_value-take-le}
-use Rattle.hz_sexp_model.specs.Forms.{is_digit, is_digits, integer_of, is_in_range}
+use Rattle.hz_base_model.specs.Forms.Forms.{is_digit, is_digits, integer_of, is_in_range}
 
 digit_at : (bytes : List ℕ) (k : ℕ) → IsTrue (list_all is_digit bytes) → k < length bytes → IsTrue (is_digit (get_or bytes k 0))
 digit_at [] k all h = absurd (omega arith)

@@ -8,7 +8,7 @@ use Rattle.hz_sexp.specs.declared.form.Node.TheFolds.{fold-Node, fold-roll-Form,
 use Rattle.hz_sexp.specs.declared.form.Form.{Form}
 use Rattle.hz_sexp.specs.declared.form.Node.{Node}
 use Rattle.hz_sexp.specs.Shape.{tree, node_step, form_step}
-use Rattle.hz_sexp_model.specs.Trees.{Tree, atom, quoted, number}
+use Rattle.hz_base_model.specs.Forms.Trees.{Tree, atom, quoted, number}
 
 -- the tree of a form is that of its node
 tree_of_node : (line : ℕ) (node : Node) (n : Node-F Node Form) → roll-Node n ≡ node

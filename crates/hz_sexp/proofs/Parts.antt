@@ -3,7 +3,7 @@ use Rattle.std.proofs.Common.{◌≡◌, ℕ, zero, suc, ◌<◌, List, [], ◌�
 use Rattle.std.specs.Prelude.{IsTrue, IsFalse}
 use Rattle.std.proofs.lemmas.Bool.{ne_eqb}
 use Rattle.std.proofs.lemmas.List.{append-nil}
-use Rattle.hz_sexp_model.specs.Forms.{line_after, ends_comment, goes_on, is_string_byte, is_plain, escaped, Word, Comment, Inside, FormFault}
+use Rattle.hz_base_model.specs.Forms.Forms.{line_after, ends_comment, goes_on, is_string_byte, is_plain, escaped, Word, Comment, Inside, FormFault}
 use Rattle.hz_sexp.specs.declared.fault.SexpFault.{SexpFault}
 use Rattle.hz_sexp.specs.declared.fault.SexpFault.TheVariants.{Unclosed, Stray, BadEscape, TooDeep, BadByte, NumberTooLarge, NoMemory}
 use Rattle.hz_sexp.specs.Faults.{Tells}

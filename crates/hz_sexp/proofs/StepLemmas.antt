@@ -2,8 +2,8 @@
 use Rattle.std.proofs.Common.{◌≡◌, ℕ, List, [], ◌∷◌, drop, refl, Some, None}
 use Rattle.std.specs.Prelude.{IsTrue, IsFalse, ℤ, ◌==◌}
 use Rattle.std.proofs.lemmas.Bool.{and_parts, eqb-true}
-use Rattle.hz_sexp_model.specs.Trees.{atom, number}
-use Rattle.hz_sexp_model.specs.Forms.{leaf, begins_comment, goes_on, Word, Comment, integer_of, is_in_range, Step, Faulty, unclosed, number_too_large, role, quote, Inside}
+use Rattle.hz_base_model.specs.Forms.Trees.{atom, number}
+use Rattle.hz_base_model.specs.Forms.Forms.{leaf, begins_comment, goes_on, Word, Comment, integer_of, is_in_range, Step, Faulty, unclosed, number_too_large, role, quote, Inside}
 use Rattle.hz_sexp.specs.declared.fault.SexpFault.{SexpFault}
 use Rattle.hz_sexp.specs.Faults.{Tells}
 use Rattle.hz_sexp.specs.Steps.{IsWrong, IsWrongInString}

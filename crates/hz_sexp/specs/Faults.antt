@@ -2,7 +2,7 @@
 use Rattle.std.specs.Prelude.{ℕ, ⊤}
 use Rattle.hz_sexp.specs.declared.fault.SexpFault.{SexpFault}
 use Rattle.hz_sexp.specs.declared.fault.SexpFault.TheVariants.{Unclosed, Stray, BadEscape, TooDeep, BadByte, NumberTooLarge, NoMemory}
-use Rattle.hz_sexp_model.specs.Forms.{FormFault, unclosed, stray, bad_escape, too_deep, bad_byte, number_too_large}
+use Rattle.hz_base_model.specs.Forms.Forms.{FormFault, unclosed, stray, bad_escape, too_deep, bad_byte, number_too_large}
 
 -- what is said of a fault and its line holds of this one; want of memory says nothing
 abbrev pub Tells : (FormFault → ℕ → Type 0) → SexpFault → Type 0

@@ -3,7 +3,7 @@ use Rattle.hz_sexp.specs.declared.byte.Bracket.{Bracket}
 use Rattle.hz_sexp.specs.declared.byte.Bracket.TheVariants.{Round, Square}
 use Rattle.hz_sexp.specs.declared.byte.Role.{Role}
 use Rattle.hz_sexp.specs.declared.byte.Role.TheVariants.{Blank, Semicolon, Quote, Letter, Foreign, Opener, Closer}
-use Rattle.hz_sexp_model.specs.Forms as model
+use Rattle.hz_base_model.specs.Forms.Forms as model
 
 abbrev pub bracket_of : Bracket → model.Bracket
 bracket_of Round = model.round

@@ -3,7 +3,7 @@ use Rattle.std.specs.Prelude.{ℕ, List, [], ◌∷◌, map}
 use Rattle.hz_sexp.specs.declared.form.Form.{Form}
 use Rattle.hz_sexp.specs.declared.form.Node.TheOpen.{Form-F, Node-F}
 use Rattle.hz_sexp.specs.declared.form.Node.TheFolds.{fold-Form}
-use Rattle.hz_sexp_model.specs.Trees.{Tree, Trees, none, more, list, vector, atom, quoted, number}
+use Rattle.hz_base_model.specs.Forms.Trees.{Tree, Trees, none, more, list, vector, atom, quoted, number}
 
 -- forms side by side
 abbrev pub trees_from : List Tree → Trees

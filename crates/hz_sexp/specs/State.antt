@@ -6,9 +6,9 @@ use Rattle.hz_sexp.specs.declared.step.Token.{Token}
 use Rattle.hz_sexp.specs.declared.step.Token.TheVariants.{Open, Close, Leaf}
 use Rattle.hz_sexp.specs.Kinds.{bracket_of}
 use Rattle.hz_sexp.specs.Shape.{tree, trees}
-use Rattle.hz_sexp_model.specs.Forms as model
-use Rattle.hz_sexp_model.specs.Forms.{OpenBracket, open_after_all, FormFault, stray, too_deep, unclosed, closed, depth_limit}
-use Rattle.hz_sexp_model.specs.FormFronts as fronts
+use Rattle.hz_base_model.specs.Forms.Forms as model
+use Rattle.hz_base_model.specs.Forms.Forms.{OpenBracket, open_after_all, FormFault, stray, too_deep, unclosed, closed, depth_limit}
+use Rattle.hz_base_model.specs.Forms.FormFronts as fronts
 
 -- a token that begins at a line
 abbrev pub token_of : ℕ → Token → model.Token

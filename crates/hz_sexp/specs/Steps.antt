@@ -5,7 +5,7 @@ use Rattle.hz_sexp.specs.declared.string.Part.{Part}
 use Rattle.hz_sexp.specs.declared.string.Part.TheVariants.{End, Byte, Nothing}
 use Rattle.hz_sexp.specs.declared.word.Spelled.{Spelled}
 use Rattle.hz_sexp.specs.declared.word.Spelled.TheVariants.{Other, Number, TooLarge}
-use Rattle.hz_sexp_model.specs.Forms.{OpenBracket, role, quote, integer_of, is_in_range, Inside, Comment, Step, Token, line_after, FormFault, Faulty}
+use Rattle.hz_base_model.specs.Forms.Forms.{OpenBracket, role, quote, integer_of, is_in_range, Inside, Comment, Step, Token, line_after, FormFault, Faulty}
 
 -- what a word is
 abbrev pub IsSpelled : List ℕ → Spelled → Type 0

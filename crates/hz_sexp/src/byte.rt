@@ -1,7 +1,7 @@
 //! What a byte is, by itself.
 
 ghost use Rattle.std.specs.Prelude.{◌≡◌, IsTrue};
-ghost use Rattle.hz_sexp_model.specs.Forms as model;
+ghost use Rattle.hz_base_model.specs.Forms.Forms as model;
 ghost use Rattle.hz_sexp.specs.Kinds.{role_of};
 
 /// The two kinds of brackets.

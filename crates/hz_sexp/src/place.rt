@@ -1,7 +1,7 @@
 //! A place in a text.
 
 ghost use Rattle.std.specs.Prelude.{◌≡◌, ℕ, ◌+◌, ◌^◌, ◌≤◌, ◌<◌, [], length, drop, MatchOption, IfSome, IfNone};
-ghost use Rattle.hz_sexp_model.specs.Forms.{line_end, Comment, begins};
+ghost use Rattle.hz_base_model.specs.Forms.Forms.{line_end, Comment, begins};
 
 /// What is left of a text, and the line where it begins, counted from 1.
 #[derive(Clone, Copy)]

@@ -1,8 +1,8 @@
 //! The reader of forms.
 
 ghost use Rattle.std.specs.Prelude.{◌≡◌, [], ◌∷◌, ◌++◌, ◌<◌, ◌^◌, length, IfOk, IfErr};
-ghost use Rattle.hz_sexp_model.specs.Forms.{Reads, FaultAt, leaf};
-ghost use Rattle.hz_sexp_model.specs.FormFronts.{enclosed_by};
+ghost use Rattle.hz_base_model.specs.Forms.Forms.{Reads, FaultAt, leaf};
+ghost use Rattle.hz_base_model.specs.Forms.FormFronts.{enclosed_by};
 ghost use Rattle.hz_sexp.specs.Faults.{Tells};
 ghost use Rattle.hz_sexp.specs.Kinds.{bracket_of};
 ghost use Rattle.hz_sexp.specs.Shape.{tree, trees};

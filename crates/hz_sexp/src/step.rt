@@ -1,7 +1,7 @@
 //! One step over a text.
 
 ghost use Rattle.std.specs.Prelude.{◌≡◌, ℕ, ◌<◌, ◌∷◌, [], length, IfOk, IfErr, IsTrue, Some};
-ghost use Rattle.hz_sexp_model.specs.Forms as model;
+ghost use Rattle.hz_base_model.specs.Forms.Forms as model;
 ghost use Rattle.hz_sexp.specs.Faults.{Tells};
 ghost use Rattle.hz_sexp.specs.Shape.{tree};
 ghost use Rattle.hz_sexp.specs.Steps.{IsStep, IsWrong};

@@ -1,7 +1,7 @@
 //! Quoted strings.
 
 ghost use Rattle.std.specs.Prelude.{◌≡◌, ◌≤◌, ◌<◌, ◌+◌, ◌^◌, ◌∷◌, length, IfOk, IfErr};
-ghost use Rattle.hz_sexp_model.specs.Forms.{Inside, Faulty, role, quote, OpenBracket};
+ghost use Rattle.hz_base_model.specs.Forms.Forms.{Inside, Faulty, role, quote, OpenBracket};
 ghost use Rattle.hz_sexp.specs.Faults.{Tells};
 ghost use Rattle.hz_sexp.specs.Steps.{IsPart, IsString, IsWrongInString};
 

@@ -3,8 +3,8 @@
 ghost use Rattle.std.specs.Prelude.{◌≡◌, ◌≤◌, ◌<◌, ◌^◌, ◌∷◌, length, take, drop, IsTrue, SomeIff, neg_ℤ, pos};
 ghost use Rattle.std.specs.List.{list_all};
 ghost use Rattle.std.specs.Str.Parse.{digits_value};
-ghost use Rattle.hz_sexp_model.specs.Forms as model;
-ghost use Rattle.hz_sexp_model.specs.Forms.{Word};
+ghost use Rattle.hz_base_model.specs.Forms.Forms as model;
+ghost use Rattle.hz_base_model.specs.Forms.Forms.{Word};
 ghost use Rattle.hz_sexp.specs.Steps.{IsSpelled};
 
 use crate::byte::is_letter;

@@ -5,18 +5,18 @@ use Rattle.std.proofs.lemmas.List.{get_or-map, length-map}
 use Rattle.hz_check.specs.declared.checked.Checked.{Checked}
 use Rattle.hz_check.specs.declared.checked.CheckedAutomaton.{CheckedAutomaton}
 use Rattle.hz_check.specs.Shape.{automaton_of}
-use Rattle.hz_check_model.specs.CheckedParts.{AutomatonParts}
+use Rattle.hz_description_model.specs.Check.CheckedParts.{AutomatonParts}
 use Rattle.hz_auto.specs.declared.compiled.Compiled.{Compiled}
 use Rattle.hz_auto.specs.declared.report.AutoReport.{AutoReport}
 use Rattle.hz_auto.specs.Reports.{report_of}
 use Rattle.hz_auto.specs.Machines.{reports_of}
-use Rattle.hz_auto_model.specs.AutomatonPipelines.{automaton_at}
-use Rattle.hz_auto_model.specs.Compiled as compiled
-use Rattle.hz_auto_model.specs.Compiled.{Report, report_at, shows_states}
+use Rattle.hz_automata_model.specs.Compiling.AutomatonPipelines.{automaton_at}
+use Rattle.hz_automata_model.specs.Compiling.Compiled as compiled
+use Rattle.hz_automata_model.specs.Compiling.Compiled.{Report, report_at, shows_states}
 use Rattle.hz_mdread.specs.Shape.{options as options_of}
 use Rattle.hz_tables.specs.declared.part.Part as kept
 use Rattle.hz_tables.specs.Parts.{part_of}
-use Rattle.hz_tables_model.specs.Machines.{Part, no_part}
+use Rattle.hz_automata_model.specs.Tables.Machines.{Part, no_part}
 use Rattle.hz_tabtext_model.specs.Texts.{PartText}
 use Rattle.hz_tabtext_model.specs.Said.{part_said, IsShownOf}
 use Rattle.hz_tabfile.specs.Saying.{parts_says, IsSayable, IsWritable, AreWritable}

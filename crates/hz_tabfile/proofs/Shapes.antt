@@ -2,10 +2,10 @@
 use Rattle.std.proofs.Common.{◌≡◌, ℕ, ◌<◌, ◌≤◌, zero, suc, List, [], ◌∷◌, ◌++◌, get_or, Option, Some, None, subst, arith}
 use Rattle.std.specs.List.{AllByRecursion}
 use Rattle.std.proofs.lemmas.List.Elements.{All-from_recursion}
-use Rattle.hz_tables_model.specs.StateLimits.{state_limit}
-use Rattle.hz_tables_model.specs.Tables.{Table}
+use Rattle.hz_automata_model.specs.Tables.StateLimits.{state_limit}
+use Rattle.hz_automata_model.specs.Tables.Tables.{Table}
 use Rattle.hz_tabfile.specs.Texts.{AreTargets}
-use Rattle.hz_plain.specs.Rows.{IsState, AreStates}
+use Rattle.hz_tables.specs.Rows.{IsState, AreStates}
 use Rattle.hz_tabtext_model.specs.Texts.{IsEntry}
 
 entry_is_state : (states : ℕ) → states ≤ state_limit → (entry : Option ℕ) → IsEntry states entry → IsState entry

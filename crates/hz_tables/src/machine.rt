@@ -3,11 +3,11 @@
 ghost use Rattle.std.specs.Prelude.{◌≡◌, ◌+◌, ◌<◌, ◌≤◌, IfSome, length, map};
 ghost use Rattle.std.specs.Option.{ForSome};
 ghost use Rattle.std.proofs.Props.{props};
-ghost use Rattle.hz_tables_model.specs.Machines.{IsMachine};
+ghost use Rattle.hz_automata_model.specs.Tables.Machines.{IsMachine};
 ghost use Rattle.hz_tables.specs.Parts.{part_of};
 
+use crate::Steps;
 use crate::part::Part;
-use hz_plain::Steps;
 use hz_regexp::Name;
 use std::sync::ledger::Ledger;
 
@@ -22,7 +22,7 @@ pub struct Machine {
 }
 
 impl Machine {
-    ghost use Rattle.hz_tables_model.specs.Machines.{part_at, next_of};
+    ghost use Rattle.hz_automata_model.specs.Tables.Machines.{part_at, next_of};
     ghost use Rattle.hz_tables.specs.Machines.{machine_of};
 
     /// The next state of a part at an issue of a class, or at the advance of one cycle where there is no class; none

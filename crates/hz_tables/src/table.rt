@@ -1,11 +1,10 @@
 //! A table, however it is kept.
 
 ghost use Rattle.std.specs.Prelude.{◌≡◌, ◌+◌, ◌<◌, ◌≤◌, ℕ, Some, length, IfOk};
-ghost use Rattle.hz_tables_model.specs.StateLimits.{state_limit};
-ghost use Rattle.hz_tables_model.specs.Tables.{entry};
+ghost use Rattle.hz_automata_model.specs.Tables.StateLimits.{state_limit};
+ghost use Rattle.hz_automata_model.specs.Tables.Tables.{entry};
 
-use hz_comb::Packed;
-use hz_plain::{NoMemory, Plain, Steps};
+use crate::{NoMemory, Packed, Plain, Steps};
 use std::alloc::Global;
 use std::sync::ledger::Ledger;
 

@@ -8,21 +8,21 @@ use Rattle.std.proofs.lemmas.List.Elements.{All-from_recursion, All-contains, Al
 use Rattle.std.proofs.lemmas.Option.{slice_get-get_or, slice_get_past, get_or_from_slice_get}
 use Rattle.hz_base_model.specs.Pairs.{Pair, later, placed}
 use Rattle.hz_base_model.proofs.Elements.{Contains-nil, Contains-from_map}
-use Rattle.hz_altern_model.specs.Alternatives.{Alternative}
-use Rattle.hz_acceptance_model.specs.Events.{Event, issue, advance, IsOfClass}
-use Rattle.hz_acceptance_model.specs.Replay.{Class, Pipeline, of_class, alternatives_at, pairs_at, chosen, calendar}
-use Rattle.hz_acceptance_model.specs.Restricted.{of_pairs}
-use Rattle.hz_mdread_model.specs.Descriptions.{Options}
-use Rattle.hz_check_model.specs.CheckedParts.{AutomatonParts, ClassParts, BypassParts}
-use Rattle.hz_check_model.specs.CheckedShape.{IsKept}
-use Rattle.hz_tables_model.specs.Tables.{row_of, entry, walk, IsTable, IsReached}
-use Rattle.hz_tables_model.specs.Machines.{Part, Machine, IsMachine, part_at, no_part, column_of, word_of, part_walk}
-use Rattle.hz_reach_model.specs.Reach.{Leaves}
-use Rattle.hz_reach_model.specs.Columns.{class_of_grids}
-use Rattle.hz_auto_model.specs.AutomatonPipelines.{automaton_at, lists_at, automaton_pipeline}
-use Rattle.hz_auto_model.specs.ClassColumns.{IsColumns}
-use Rattle.hz_auto_model.specs.Compiled as compiled
-use Rattle.hz_auto_model.specs.Compiled.{Report, report_at, shows_states, IsShown, IsCompiledPart, IsCompiled}
+use Rattle.hz_description_model.specs.Reservations.Alternatives.{Alternative}
+use Rattle.hz_acceptance_model.specs.Accepting.Events.{Event, issue, advance, IsOfClass}
+use Rattle.hz_acceptance_model.specs.Accepting.Replay.{Class, Pipeline, of_class, alternatives_at, pairs_at, chosen, calendar}
+use Rattle.hz_acceptance_model.specs.Accepting.Restricted.{of_pairs}
+use Rattle.hz_description_model.specs.Reading.Descriptions.{Options}
+use Rattle.hz_description_model.specs.Check.CheckedParts.{AutomatonParts, ClassParts, BypassParts}
+use Rattle.hz_description_model.specs.Check.CheckedShape.{IsKept}
+use Rattle.hz_automata_model.specs.Tables.Tables.{row_of, entry, walk, IsTable, IsReached}
+use Rattle.hz_automata_model.specs.Tables.Machines.{Part, Machine, IsMachine, part_at, no_part, column_of, word_of, part_walk}
+use Rattle.hz_automata_model.specs.Reaching.Reach.{Leaves}
+use Rattle.hz_automata_model.specs.Reaching.Columns.{class_of_grids}
+use Rattle.hz_automata_model.specs.Compiling.AutomatonPipelines.{automaton_at, lists_at, automaton_pipeline}
+use Rattle.hz_automata_model.specs.Compiling.ClassColumns.{IsColumns}
+use Rattle.hz_automata_model.specs.Compiling.Compiled as compiled
+use Rattle.hz_automata_model.specs.Compiling.Compiled.{Report, report_at, shows_states, IsShown, IsCompiledPart, IsCompiled}
 use Rattle.hz_tabtext_model.specs.Said.{IsShownOf, CanBeSaid}
 
 -- ---- events that lead to a state

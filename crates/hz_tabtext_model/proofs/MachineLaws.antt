@@ -4,9 +4,9 @@ use Rattle.std.specs.List.{AllByRecursion}
 use Rattle.std.proofs.lemmas.Bool.{cases_lt}
 use Rattle.std.proofs.lemmas.List.{get_or-map, length-map, get_or_past, get_or_at, length-append}
 use Rattle.std.proofs.lemmas.List.Elements.{All-from_recursion, All-get_or}
-use Rattle.hz_tables_model.specs.StateLimits.{cell_limit}
-use Rattle.hz_tables_model.specs.Tables.{Table, row_of, entry, IsTable}
-use Rattle.hz_tables_model.specs.Machines.{Machine, IsPart, IsMachine}
+use Rattle.hz_automata_model.specs.Tables.StateLimits.{cell_limit}
+use Rattle.hz_automata_model.specs.Tables.Tables.{Table, row_of, entry, IsTable}
+use Rattle.hz_automata_model.specs.Tables.Machines.{Machine, IsPart, IsMachine}
 use Rattle.hz_tabtext_model.specs.Texts.{RowText, PartText, TablesText, IsEntry, IsRow, IsPartText, IsTables, part_of, machine_of, TableText}
 use Rattle.hz_tabtext_model.specs.Fields.{is_nil}
 use Rattle.hz_tabtext_model.specs.Reading.{Rest, row_at, machine_at}

@@ -9,7 +9,7 @@ use Rattle.std.proofs.lemmas.List.Folds.{list_all-append}
 use Rattle.std.proofs.lemmas.Slice.Eq.{bytes_eq-Decides}
 use Rattle.hz_base_model.specs.Names.{is_name}
 use Rattle.hz_base_model.specs.Limits.{class_limit}
-use Rattle.hz_tables_model.specs.Machines as machines
+use Rattle.hz_automata_model.specs.Tables.Machines as machines
 use Rattle.hz_tabtext_model.specs.Judging.{Kind, Fault, ◌>>=◌}
 use Rattle.hz_tabtext_model.specs.Fields.{is_nil, fields_of, is_headed}
 use Rattle.hz_tabtext_model.specs.Lines.{header_in, treatment_in, classes_in, is_new, class_in, automata_in, Head, head_in, map_in, counts_in, row_in, origin_in, end_in}

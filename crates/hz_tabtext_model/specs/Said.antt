@@ -5,14 +5,14 @@ use Rattle.std.specs.List.{enumerate_from}
 use Rattle.hz_base_model.specs.Limits.{cycle_limit}
 use Rattle.hz_base_model.specs.Names.{is_name}
 use Rattle.hz_base_model.specs.Pairs.{Pair}
-use Rattle.hz_mdread_model.specs.Descriptions.{Options}
-use Rattle.hz_check_model.specs.CheckedParts.{AutomatonParts}
-use Rattle.hz_tables_model.specs.Machines.{Part, Machine, part_at}
-use Rattle.hz_tables_model.specs.Orders.{place_of}
-use Rattle.hz_tables_model.specs.StateLimits.{state_limit}
-use Rattle.hz_auto_model.specs.AutomatonPipelines.{automaton_at}
-use Rattle.hz_auto_model.specs.Compiled as compiled
-use Rattle.hz_auto_model.specs.Compiled.{Report, report_at, shows_states}
+use Rattle.hz_description_model.specs.Reading.Descriptions.{Options}
+use Rattle.hz_description_model.specs.Check.CheckedParts.{AutomatonParts}
+use Rattle.hz_automata_model.specs.Tables.Machines.{Part, Machine, part_at}
+use Rattle.hz_automata_model.specs.Tables.Orders.{place_of}
+use Rattle.hz_automata_model.specs.Tables.StateLimits.{state_limit}
+use Rattle.hz_automata_model.specs.Compiling.AutomatonPipelines.{automaton_at}
+use Rattle.hz_automata_model.specs.Compiling.Compiled as compiled
+use Rattle.hz_automata_model.specs.Compiling.Compiled.{Report, report_at, shows_states}
 use Rattle.hz_tabtext_model.specs.Texts.{Shown, RowText, Counts, PartText, TablesText, AreCounts}
 
 -- a grid with the names of these units for their numbers

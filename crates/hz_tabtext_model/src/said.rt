@@ -1,11 +1,11 @@
 //! Laws of what is said of compiled descriptions.
 
 ghost use Rattle.std.specs.Prelude.{ℕ, List};
-ghost use Rattle.hz_mdread_model.specs.Descriptions.{Options};
-ghost use Rattle.hz_check_model.specs.CheckedParts.{AutomatonParts, ClassParts, BypassParts};
-ghost use Rattle.hz_check_model.specs.CheckedShape.{IsKept};
-ghost use Rattle.hz_auto_model.specs.Compiled.{Report, IsCompiled};
-ghost use Rattle.hz_tables_model.specs.Machines.{Machine, IsMachine};
+ghost use Rattle.hz_description_model.specs.Reading.Descriptions.{Options};
+ghost use Rattle.hz_description_model.specs.Check.CheckedParts.{AutomatonParts, ClassParts, BypassParts};
+ghost use Rattle.hz_description_model.specs.Check.CheckedShape.{IsKept};
+ghost use Rattle.hz_automata_model.specs.Compiling.Compiled.{Report, IsCompiled};
+ghost use Rattle.hz_automata_model.specs.Tables.Machines.{Machine, IsMachine};
 ghost use Rattle.hz_tabtext_model.specs.Texts.{TableText, spelled};
 ghost use Rattle.hz_tabtext_model.specs.Said.{tables_said, CanBeSaid, IsInRange};
 

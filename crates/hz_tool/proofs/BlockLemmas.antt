@@ -11,26 +11,26 @@ use Rattle.hz_check.specs.declared.checked.Checked.{Checked}
 use Rattle.hz_check.specs.declared.checked.CheckedClass.{CheckedClass}
 use Rattle.hz_check.specs.Checked.{IsCheckedOf}
 use Rattle.hz_check.specs.Shape.{attribute_of, bypass_of, class_of}
-use Rattle.hz_check_model.specs.CheckedParts.{ClassParts, BypassParts, class_parts, attributes_of, defaults_of}
+use Rattle.hz_description_model.specs.Check.CheckedParts.{ClassParts, BypassParts, class_parts, attributes_of, defaults_of}
 use Rattle.hz_depend.specs.declared.parts.Graph as declared
 use Rattle.hz_depend.specs.declared.parts.GraphInsn.{GraphInsn}
 use Rattle.hz_depend.specs.GraphShape.{edge_of, latencies_of, first_class_fault}
 use Rattle.hz_depend.specs.GraphShape as depend
 use Rattle.hz_depend.specs.Shape.{class_for, conditions_of}
-use Rattle.hz_depend_model.specs.Classes.{ClassFault, holding_from, the_one, timing_of}
-use Rattle.hz_depend_model.specs.Classes as classes
-use Rattle.hz_depend_model.specs.Dependences.{Timing}
-use Rattle.hz_depend_model.specs.Graphs.{IsGraph, IsHeight}
+use Rattle.hz_block_model.specs.Dependences.Classes.{ClassFault, holding_from, the_one, timing_of}
+use Rattle.hz_block_model.specs.Dependences.Classes as classes
+use Rattle.hz_block_model.specs.Dependences.Dependences.{Timing}
+use Rattle.hz_block_model.specs.Dependences.Graphs.{IsGraph, IsHeight}
 use Rattle.hz_mdread.specs.Shape.{condition}
-use Rattle.hz_mdread_model.specs.Conditions.{holds, value_of}
-use Rattle.hz_mdread_model.specs.Descriptions.{Description, Condition}
+use Rattle.hz_description_model.specs.Reading.Conditions.{holds, value_of}
+use Rattle.hz_description_model.specs.Reading.Descriptions.{Description, Condition}
 use Rattle.hz_rtl.specs.declared.block.Block.{Block}
 use Rattle.hz_rtl.specs.declared.block.Insn.{Insn}
 use Rattle.hz_rtl.specs.Shape.{instruction, instructions}
-use Rattle.hz_rtl_model.specs.Blocks.{Instruction}
+use Rattle.hz_block_model.specs.Running.Blocks.{Instruction}
 use Rattle.hz_sched.specs.Shape.{graph_of, node_of}
-use Rattle.hz_sched_model.specs.Schedules.{Node}
-use Rattle.hz_scheduled_model.specs.BlockGraphs.{class_in, latencies_in, timing_in, classes_of, IsGraphOf, IsFirstClassFault}
+use Rattle.hz_block_model.specs.Scheduling.Schedules.{Node}
+use Rattle.hz_block_model.specs.Scheduled.BlockGraphs.{class_in, latencies_in, timing_in, classes_of, IsGraphOf, IsFirstClassFault}
 use Rattle.hz_answer_model.proofs.WalkLaws.{map_twice}
 use Rattle.hz_tool.specs.Blocks.{IsFaultIn}
 

@@ -7,27 +7,27 @@ use Rattle.std.proofs.lemmas.Option.{slice_get-map}
 use Rattle.hz_answer_model.specs.FaultTexts.{class_line}
 use Rattle.hz_answer_model.specs.Phases.{Says}
 use Rattle.hz_answer_model.specs.ScheduleAnswers.{HasClasses, Schedules}
-use Rattle.hz_check_model.specs.Places.{Known, class_names}
+use Rattle.hz_description_model.specs.Check.Places.{Known, class_names}
 use Rattle.hz_depend.specs.Faults.{fault as fault_of}
 use Rattle.hz_depend.specs.GraphShape.{class_fault_in}
 use Rattle.hz_depend.specs.declared.class.ClassFault as code
 use Rattle.hz_depend.specs.declared.class.ClassFault.TheVariants as class
 use Rattle.hz_depend.specs.declared.fault.DependFault.{DependFault}
 use Rattle.hz_depend.specs.declared.fault.DependFault.TheVariants as depend
-use Rattle.hz_depend_model.specs.Classes.{ClassFault}
-use Rattle.hz_depend_model.specs.Classes as classes
-use Rattle.hz_mdread_model.specs.Descriptions.{Description}
+use Rattle.hz_block_model.specs.Dependences.Classes.{ClassFault}
+use Rattle.hz_block_model.specs.Dependences.Classes as classes
+use Rattle.hz_description_model.specs.Reading.Descriptions.{Description}
 use Rattle.hz_report.specs.declared.kind.InsnKind.TheVariants as insn_kind
 use Rattle.hz_report.specs.declared.report.Report.{Report}
 use Rattle.hz_report.specs.declared.report.Report.TheVariants as report
 use Rattle.hz_rtl.specs.Shape.{instruction}
 use Rattle.hz_rtl.specs.declared.block.Insn.{Insn}
-use Rattle.hz_rtl_model.specs.Blocks.{Instruction}
+use Rattle.hz_block_model.specs.Running.Blocks.{Instruction}
 use Rattle.hz_sched.specs.Shape.{alone_in}
 use Rattle.hz_sched.specs.declared.fault.SchedFault.{SchedFault}
 use Rattle.hz_sched.specs.declared.fault.SchedFault.TheVariants as sched
-use Rattle.hz_scheduled_model.specs.BlockGraphs.{IsFirstClassFault}
-use Rattle.hz_scheduled_model.specs.BlockSchedules.{IsFirstStuck}
+use Rattle.hz_block_model.specs.Scheduled.BlockGraphs.{IsFirstClassFault}
+use Rattle.hz_block_model.specs.Scheduled.BlockSchedules.{IsFirstStuck}
 use Rattle.hz_tool.proofs.JudgeLemmas.{class_refused, stuck_refused}
 use Rattle.hz_tool.specs.Blocks.{IsFaultIn, IsWrongIn, IsStuckIn}
 use Rattle.hz_tool.specs.Decisions.{Agrees, IsJudged}

@@ -5,29 +5,29 @@ use Rattle.hz_check.specs.Faults.{limit_of}
 use Rattle.hz_answer_model.specs.Answers.{Describes, Checks, HasDescription}
 use Rattle.hz_answer_model.specs.Phases.{Says, Next, HasForms}
 use Rattle.hz_answer_model.specs.ScheduleAnswers.{HasClasses, Schedules}
-use Rattle.hz_depend_model.specs.Classes.{ClassFault}
-use Rattle.hz_scheduled_model.specs.BlockGraphs.{class_in, IsFirstClassFault}
-use Rattle.hz_scheduled_model.specs.BlockSchedules.{IsFirstStuck}
-use Rattle.hz_check_model.specs.CheckFaults.{IsSound, limit}
-use Rattle.hz_check_model.specs.Places.{Known, class_names}
-use Rattle.hz_mdread_model.specs.DescriptionForms.{DescriptionFault}
-use Rattle.hz_mdread_model.specs.DescriptionForms as description_forms
-use Rattle.hz_mdread_model.specs.Descriptions.{Description}
+use Rattle.hz_block_model.specs.Dependences.Classes.{ClassFault}
+use Rattle.hz_block_model.specs.Scheduled.BlockGraphs.{class_in, IsFirstClassFault}
+use Rattle.hz_block_model.specs.Scheduled.BlockSchedules.{IsFirstStuck}
+use Rattle.hz_description_model.specs.Check.CheckFaults.{IsSound, limit}
+use Rattle.hz_description_model.specs.Check.Places.{Known, class_names}
+use Rattle.hz_description_model.specs.Reading.DescriptionForms.{DescriptionFault}
+use Rattle.hz_description_model.specs.Reading.DescriptionForms as description_forms
+use Rattle.hz_description_model.specs.Reading.Descriptions.{Description}
 use Rattle.hz_answer_model.specs.FaultTexts.{form_word, expression_word, description_words, check_line, check_status, class_line, stuck_line}
 use Rattle.hz_answer_model.specs.FaultTexts as texts
-use Rattle.hz_sexp_model.specs.Forms.{FormFault}
-use Rattle.hz_sexp_model.specs.Forms as forms
-use Rattle.hz_check_model.specs.Sites.{Site}
+use Rattle.hz_base_model.specs.Forms.Forms.{FormFault}
+use Rattle.hz_base_model.specs.Forms.Forms as forms
+use Rattle.hz_description_model.specs.Check.Sites.{Site}
 use Rattle.hz_answer_model.specs.Texts.{fault_line, passed_line}
-use Rattle.hz_sexp_model.specs.Trees.{Trees}
+use Rattle.hz_base_model.specs.Forms.Trees.{Trees}
 use Rattle.hz_answer_model.specs.BlockAnswers.{IsBlock, IsState}
 use Rattle.hz_answer_model.specs.FaultTexts.{rtl_word}
-use Rattle.hz_rtl_model.specs.Blocks.{Instruction}
-use Rattle.hz_rtl_model.specs.States.{State}
-use Rattle.hz_rtltext_model.specs.Operands.{RtlFault}
-use Rattle.hz_rtltext_model.specs.Operands as rtl
-use Rattle.hz_rtltext_model.specs.BlockForms as blocks
-use Rattle.hz_rtltext_model.specs.StateForms as states
+use Rattle.hz_block_model.specs.Running.Blocks.{Instruction}
+use Rattle.hz_block_model.specs.Running.States.{State}
+use Rattle.hz_block_model.specs.Texts.Operands.{RtlFault}
+use Rattle.hz_block_model.specs.Texts.Operands as rtl
+use Rattle.hz_block_model.specs.Texts.BlockForms as blocks
+use Rattle.hz_block_model.specs.Texts.StateForms as states
 use Rattle.hz_tool.proofs.AnswerLemmas.{agrees_weaker}
 use Rattle.hz_check.specs.declared.checked.Checked.{Checked}
 use Rattle.hz_tool.specs.Fronts.{IsCheckedIn, IsDescribedReport}

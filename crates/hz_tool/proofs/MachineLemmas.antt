@@ -2,23 +2,23 @@
 use Rattle.std.proofs.Common.{◌≡◌, ℕ, suc, List, [], ◌∷◌, length, map, take, Some, None, slice_get, inl, inr, refl, sym, ap, ◌∙◌, subst, add-one}
 use Rattle.std.specs.Prelude.{slice_index_or}
 use Rattle.std.proofs.lemmas.List.{length-map}
-use Rattle.hz_acceptance_model.specs.Events.{Event}
+use Rattle.hz_acceptance_model.specs.Accepting.Events.{Event}
 use Rattle.hz_answer_model.specs.Answers.{ReplaysTrace, Compiles}
 use Rattle.hz_answer_model.specs.TableAnswers.{Walks, WalksTrace}
 use Rattle.hz_answer_model.proofs.WalkLaws.{map_twice, traced_both}
 use Rattle.hz_answer_model.specs.Texts.{states_line}
-use Rattle.hz_auto_model.specs.Compiled.{IsCompiled, IsFirstPast, Report as Told}
-use Rattle.hz_auto_model.proofs.DescriptionLaws.{machine_accepts, all_keep, first_past}
+use Rattle.hz_automata_model.specs.Compiling.Compiled.{IsCompiled, IsFirstPast, Report as Told}
+use Rattle.hz_automata_model.proofs.Compiling.DescriptionLaws.{machine_accepts, all_keep, first_past}
 use Rattle.hz_check.specs.declared.checked.Checked.{Checked}
 use Rattle.hz_check.specs.Checked.{IsCheckedOf}
 use Rattle.hz_check.specs.Shape.{automaton_of, class_of}
-use Rattle.hz_check_model.specs.CheckedParts.{AutomatonParts, ClassParts, automaton_names, automata_from, automata_of, class_parts}
-use Rattle.hz_check_model.specs.Places.{Known}
+use Rattle.hz_description_model.specs.Check.CheckedParts.{AutomatonParts, ClassParts, automaton_names, automata_from, automata_of, class_parts}
+use Rattle.hz_description_model.specs.Check.Places.{Known}
 use Rattle.hz_mdread.specs.Shape.{options as options_of}
-use Rattle.hz_mdread_model.specs.Descriptions.{Description, Options}
-use Rattle.hz_reach_model.specs.Counts.{Count}
+use Rattle.hz_description_model.specs.Reading.Descriptions.{Description, Options}
+use Rattle.hz_automata_model.specs.Reaching.Counts.{Count}
 use Rattle.hz_replay.specs.Replaying.{FirstUnwalked}
-use Rattle.hz_tables_model.specs.Machines.{Machine, machine_walk}
+use Rattle.hz_automata_model.specs.Tables.Machines.{Machine, machine_walk}
 use Rattle.hz_tool.proofs.AnswerLemmas.{agrees_weaker}
 use Rattle.hz_tool.specs.Decisions.{Agrees}
 use Rattle.hz_tool.specs.Fronts.{IsStatesReport, IsLimitReport}

@@ -3,8 +3,8 @@ use Rattle.std.proofs.lemmas.Bool.{le-ltb}
 use Rattle.hz_answer_model.specs.Answers.{Answer, AnswersOrder, Judges, HasDescription, SchedulesByDescription, CompilesDescription, DrillsDescription, AnswersCompile, AnswersReplay, AnswersWalk, AnswersSchedule, AnswersEval, AnswersDrill}
 use Rattle.hz_answer_model.specs.BlockAnswers.{block_limit, state_text_limit, JudgesBlock}
 use Rattle.hz_answer_model.specs.Phases.{Held, Next, Opens, Says}
-use Rattle.hz_mdread_model.specs.Limits.{description_limit}
-use Rattle.hz_trace_model.specs.Limits.{trace_limit}
+use Rattle.hz_description_model.specs.Reading.Limits.{description_limit}
+use Rattle.hz_acceptance_model.specs.Traces.TraceLimits.{trace_limit}
 use Rattle.hz_answer_model.specs.Texts.{file_line, limit_line, usage_line}
 use Rattle.hz_words_model.specs.Words.{Order, compile, schedule, drill, order_of}
 use Rattle.hz_tool.specs.Decisions.{Agrees, CountsReport, NamesFile, IsFileWord}

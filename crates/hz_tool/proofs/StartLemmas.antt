@@ -2,20 +2,20 @@
 use Rattle.std.proofs.Common.{◌≡◌, ℕ, ◌<◌, Bool, true, false, List, [], ◌∷◌, length, Some, None, All, slice_get, sym, ◌∙◌, subst, arith}
 use Rattle.std.specs.Prelude.{IsSome, ◌↔◌}
 use Rattle.std.proofs.lemmas.List.Elements.{All-nil, All-cons}
-use Rattle.hz_acceptance_model.specs.Events.{issue, IsOfClass}
-use Rattle.hz_acceptance_model.specs.Replay.{Accepted}
-use Rattle.hz_check_model.specs.Places.{Known}
-use Rattle.hz_mdread_model.specs.Descriptions.{Description}
-use Rattle.hz_pipeline_model.specs.Pipelines.{pipeline_with}
-use Rattle.hz_rtl_model.specs.Blocks.{Instruction}
-use Rattle.hz_sched_model.specs.Machines.{can_start, cannot_start_alone}
-use Rattle.hz_sched_model.specs.Schedules.{Graph, class_at}
-use Rattle.hz_sched_model.proofs.SameSchedules.{class_below}
-use Rattle.hz_sched_model.proofs.StuckLaws.{none_stuck, first_stuck as stuck_first}
-use Rattle.hz_scheduled_model.specs.BlockGraphs.{IsGraphOf}
-use Rattle.hz_scheduled_model.specs.BlockSchedules.{StartsAlone, IsFirstStuck}
-use Rattle.hz_scheduled_model.proofs.FaultLaws.{starts_of_places, stuck_of_place}
-use Rattle.hz_tables_model.specs.Machines.{Machine, machine_walk}
+use Rattle.hz_acceptance_model.specs.Accepting.Events.{issue, IsOfClass}
+use Rattle.hz_acceptance_model.specs.Accepting.Replay.{Accepted}
+use Rattle.hz_description_model.specs.Check.Places.{Known}
+use Rattle.hz_description_model.specs.Reading.Descriptions.{Description}
+use Rattle.hz_acceptance_model.specs.Pipelines.Pipelines.{pipeline_with}
+use Rattle.hz_block_model.specs.Running.Blocks.{Instruction}
+use Rattle.hz_block_model.specs.Scheduling.Machines.{can_start, cannot_start_alone}
+use Rattle.hz_block_model.specs.Scheduling.Schedules.{Graph, class_at}
+use Rattle.hz_block_model.proofs.Scheduling.SameSchedules.{class_below}
+use Rattle.hz_block_model.proofs.Scheduling.StuckLaws.{none_stuck, first_stuck as stuck_first}
+use Rattle.hz_block_model.specs.Scheduled.BlockGraphs.{IsGraphOf}
+use Rattle.hz_block_model.specs.Scheduled.BlockSchedules.{StartsAlone, IsFirstStuck}
+use Rattle.hz_block_model.proofs.Scheduled.FaultLaws.{starts_of_places, stuck_of_place}
+use Rattle.hz_automata_model.specs.Tables.Machines.{Machine, machine_walk}
 use Rattle.hz_tool.specs.Machines.{IsMachineFor}
 
 not_both : (b : Bool) → b ≡ true → b ≡ false → ⊥

@@ -7,17 +7,17 @@ use Rattle.hz_answer_model.specs.TableAnswers.{HasTables}
 use Rattle.hz_answer_model.specs.Texts.{fault_line}
 use Rattle.hz_auto.specs.declared.compiled.Compiled.{Compiled}
 use Rattle.hz_auto.specs.Machines.{reports_of}
-use Rattle.hz_auto_model.proofs.DescriptionLaws.{all_keep}
+use Rattle.hz_automata_model.proofs.Compiling.DescriptionLaws.{all_keep}
 use Rattle.hz_check.specs.declared.checked.Checked.{Checked}
 use Rattle.hz_check.specs.Checked.{IsCheckedOf}
 use Rattle.hz_check.specs.Shape.{automaton_of}
-use Rattle.hz_check_model.specs.CheckedParts.{AutomatonParts}
+use Rattle.hz_description_model.specs.Check.CheckedParts.{AutomatonParts}
 use Rattle.hz_mdread.specs.Shape.{options as options_of}
-use Rattle.hz_mdread_model.specs.Descriptions.{Description, Options}
+use Rattle.hz_description_model.specs.Reading.Descriptions.{Description, Options}
 use Rattle.hz_tabfile.specs.Saying.{says}
-use Rattle.hz_single_model.specs.Told.{ListsAscending}
+use Rattle.hz_automata_model.specs.Single.Told.{ListsAscending}
 use Rattle.hz_tables.specs.Machines.{machine_of}
-use Rattle.hz_tables_model.specs.Machines.{Machine}
+use Rattle.hz_automata_model.specs.Tables.Machines.{Machine}
 use Rattle.hz_tabtext_model.specs.Judging.{Kind as Wrong}
 use Rattle.hz_tabtext_model.specs.Judging as tables
 use Rattle.hz_tabtext_model.specs.Reading.{tables_in}

@@ -4,7 +4,7 @@ use Rattle.std.specs.Prelude.{◌==◌}
 use Rattle.std.specs.Option.{option_map}
 use Rattle.std.proofs.lemmas.List.{length-map}
 use Rattle.std.proofs.lemmas.Option.{slice_get-map, slice_get-get_or}
-use Rattle.hz_acceptance_model.specs.Events.{Event}
+use Rattle.hz_acceptance_model.specs.Accepting.Events.{Event}
 use Rattle.hz_answer_model.specs.Phases.{Traces}
 use Rattle.hz_answer_model.specs.FaultTexts.{trace_word}
 use Rattle.hz_answer_model.specs.Texts.{fault_line}
@@ -14,8 +14,8 @@ use Rattle.hz_replay.specs.declared.event.Event.{Event as Placed}
 use Rattle.hz_replay.specs.declared.event.What.TheVariants.{Issue}
 use Rattle.hz_replay.specs.Lines.{event_of}
 use Rattle.hz_replay.specs.Traces.{events_in, lines_in}
-use Rattle.hz_trace_model.specs.Traces.{Trace, TraceFault, TraceFaultAt, Line, line_says, event_lines, numbered}
-use Rattle.hz_trace_model.specs.Traces as trace
+use Rattle.hz_acceptance_model.specs.Traces.Traces.{Trace, TraceFault, TraceFaultAt, Line, line_says, event_lines, numbered}
+use Rattle.hz_acceptance_model.specs.Traces.Traces as trace
 use Rattle.hz_tool.proofs.AnswerLemmas.{agrees_weaker}
 use Rattle.hz_tool.specs.Decisions.{Agrees, IsTraceReport}
 use Rattle.hz_report.specs.Kinds.{kind_word, trace_fault}

@@ -2,12 +2,12 @@
 use Rattle.std.proofs.Common.{◌≡◌, ℕ, List, map, Some, Result, Ok, Err, slice_get, refl, sym, ap, ◌∙◌, subst}
 use Rattle.std.specs.Prelude.{IfOk}
 use Rattle.std.specs.Borrow.{Bor}
-use Rattle.hz_acceptance_model.specs.Events.{Event, issue}
+use Rattle.hz_acceptance_model.specs.Accepting.Events.{Event, issue}
 use Rattle.hz_auto.specs.Faults.{count_of}
 use Rattle.hz_auto.specs.Machines.{IsFaultOf}
 use Rattle.hz_auto.specs.declared.fault.AutoFault.{AutoFault}
 use Rattle.hz_auto.specs.declared.fault.AutoFault.TheVariants as auto_fault
-use Rattle.hz_auto_model.specs.Compiled.{IsFirstPast}
+use Rattle.hz_automata_model.specs.Compiling.Compiled.{IsFirstPast}
 use Rattle.hz_check.specs.Faults.{IsToldAt}
 use Rattle.hz_check.specs.Faults as check_faults
 use Rattle.hz_check.specs.Shape.{automaton_of, class_of}
@@ -18,9 +18,9 @@ use Rattle.hz_mdread.specs.Faults as description_faults
 use Rattle.hz_mdread.specs.Shape.{options as options_of}
 use Rattle.hz_mdread.specs.declared.fault.MdFault.{MdFault}
 use Rattle.hz_mdread.specs.declared.fault.MdFault.TheVariants as description
-use Rattle.hz_mdread_model.specs.DescriptionForms as description_forms
-use Rattle.hz_mdread_model.specs.Descriptions.{Description}
-use Rattle.hz_reach_model.specs.Counts.{Count}
+use Rattle.hz_description_model.specs.Reading.DescriptionForms as description_forms
+use Rattle.hz_description_model.specs.Reading.Descriptions.{Description}
+use Rattle.hz_automata_model.specs.Reaching.Counts.{Count}
 use Rattle.hz_regexp.specs.declared.fault.ExprFault.{ExprFault}
 use Rattle.hz_regexp.specs.declared.fault.ExprFault.TheVariants as expression
 use Rattle.hz_replay.specs.Traces.{IsTraceFault}
@@ -30,17 +30,17 @@ use Rattle.hz_report.specs.declared.report.Report.{Report}
 use Rattle.hz_rtl.specs.Faults as rtl_faults
 use Rattle.hz_rtl.specs.declared.fault.RtlFault.{RtlFault}
 use Rattle.hz_rtl.specs.declared.fault.RtlFault.TheVariants as rtl
-use Rattle.hz_rtltext_model.specs.Operands as operands
+use Rattle.hz_block_model.specs.Texts.Operands as operands
 use Rattle.hz_sexp.specs.Faults as form_faults
 use Rattle.hz_sexp.specs.declared.fault.SexpFault.{SexpFault}
 use Rattle.hz_sexp.specs.declared.fault.SexpFault.TheVariants as form
-use Rattle.hz_sexp_model.specs.Forms as forms
-use Rattle.hz_sexp_model.specs.Trees.{Trees}
+use Rattle.hz_base_model.specs.Forms.Forms as forms
+use Rattle.hz_base_model.specs.Forms.Trees.{Trees}
 use Rattle.hz_tabfile.specs.Given.{Tells}
 use Rattle.hz_tabfile.specs.declared.reading.fault.TabFault.{TabFault}
 use Rattle.hz_tabfile.specs.declared.reading.fault.TabFault.TheVariants as tables
 use Rattle.hz_tabtext_model.specs.Reading.{tables_in}
-use Rattle.hz_tables_model.specs.Machines.{Machine}
+use Rattle.hz_automata_model.specs.Tables.Machines.{Machine}
 use Rattle.hz_tool.specs.Decisions.{Agrees, IsJudged, IsFormsReport, IsDescriptionReport, IsCheckReport, IsRtlReport, IsTablesReport, IsTraceReport}
 use Rattle.hz_tool.specs.Fronts.{IsStatesReport}
 use Rattle.hz_tool.specs.Machines.{Refuses}

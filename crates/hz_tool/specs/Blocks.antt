@@ -3,7 +3,7 @@ use Rattle.std.specs.Prelude.{⊤, ℕ, ◌<◌}
 use Rattle.hz_depend.specs.Faults.{fault as fault_of}
 use Rattle.hz_depend.specs.declared.fault.DependFault.{DependFault}
 use Rattle.hz_depend.specs.declared.fault.DependFault.TheVariants as depend
-use Rattle.hz_depend_model.specs.Classes.{ClassFault, ambiguous}
+use Rattle.hz_block_model.specs.Dependences.Classes.{ClassFault, ambiguous}
 use Rattle.hz_sched.specs.declared.fault.SchedFault.{SchedFault}
 use Rattle.hz_sched.specs.declared.fault.SchedFault.TheVariants as sched
 

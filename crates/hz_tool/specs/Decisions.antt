@@ -4,17 +4,17 @@ use Rattle.std.specs.declared.alloc.Global.{Global}
 use Rattle.std.specs.declared.vec.Vec.{Vec}
 use Rattle.hz_check.specs.Faults.{limit_of, IsToldAt}
 use Rattle.hz_answer_model.specs.Phases.{Held}
-use Rattle.hz_check_model.specs.CheckFaults.{limit}
-use Rattle.hz_mdread_model.specs.DescriptionForms as description_forms
-use Rattle.hz_mdread_model.specs.Descriptions.{Description}
-use Rattle.hz_sexp_model.specs.Forms as forms
-use Rattle.hz_sexp_model.specs.Trees.{Trees}
+use Rattle.hz_description_model.specs.Check.CheckFaults.{limit}
+use Rattle.hz_description_model.specs.Reading.DescriptionForms as description_forms
+use Rattle.hz_description_model.specs.Reading.Descriptions.{Description}
+use Rattle.hz_base_model.specs.Forms.Forms as forms
+use Rattle.hz_base_model.specs.Forms.Trees.{Trees}
 use Rattle.hz_words_model.specs.Words.{Order, compile, replay, walk, schedule, eval, drill, order_of}
 use Rattle.hz_report.specs.Kinds.{form_fault, description_fault, expression_fault, named_fault, rtl_fault, tables_fault, trace_fault}
-use Rattle.hz_rtltext_model.specs.Operands.{RtlFault}
+use Rattle.hz_block_model.specs.Texts.Operands.{RtlFault}
 use Rattle.hz_tabfile.specs.Saying.{IsSayable}
 use Rattle.hz_tabtext_model.specs.Reading.{tables_in}
-use Rattle.hz_trace_model.specs.Traces.{TraceFaultAt}
+use Rattle.hz_acceptance_model.specs.Traces.Traces.{TraceFaultAt}
 use Rattle.hz_report.specs.Reports.{status_of, text_of}
 use Rattle.hz_report.specs.Schedules.{IsInRange}
 use Rattle.hz_report.specs.declared.report.Report.{Report}

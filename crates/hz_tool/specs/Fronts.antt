@@ -1,14 +1,14 @@
 -- What the phases on a description give to those behind them.
 use Rattle.std.specs.Prelude.{◌≡◌, ◌⊎◌, ⊤, ℕ, List, [], slice_index_or}
-use Rattle.hz_auto_model.specs.DescriptionLimits.{IsFirstPastLimit}
+use Rattle.hz_automata_model.specs.Compiling.DescriptionLimits.{IsFirstPastLimit}
 use Rattle.hz_check.specs.Checked.{IsCheckedOf}
 use Rattle.hz_check.specs.declared.checked.Checked.{Checked}
-use Rattle.hz_check_model.specs.CheckedParts.{automaton_names}
-use Rattle.hz_check_model.specs.Places.{Known}
-use Rattle.hz_mdread_model.specs.DescriptionForms as description_forms
-use Rattle.hz_mdread_model.specs.Descriptions.{Description}
-use Rattle.hz_sexp_model.specs.Forms as forms
-use Rattle.hz_sexp_model.specs.Trees.{Trees}
+use Rattle.hz_description_model.specs.Check.CheckedParts.{automaton_names}
+use Rattle.hz_description_model.specs.Check.Places.{Known}
+use Rattle.hz_description_model.specs.Reading.DescriptionForms as description_forms
+use Rattle.hz_description_model.specs.Reading.Descriptions.{Description}
+use Rattle.hz_base_model.specs.Forms.Forms as forms
+use Rattle.hz_base_model.specs.Forms.Trees.{Trees}
 use Rattle.hz_report.specs.declared.report.Report.{Report}
 use Rattle.hz_report.specs.declared.report.Report.TheVariants.{States, Memory}
 use Rattle.hz_tool.specs.Decisions.{IsFormsReport, IsDescriptionReport, IsCheckReport}

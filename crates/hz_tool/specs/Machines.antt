@@ -1,14 +1,14 @@
 -- The machine of a description, and what is told of its replay.
 use Rattle.std.specs.Prelude.{◌≡◌, ◌↔◌, ℕ, ◌<◌, List, Some, IsSome, All, length, slice_get}
-use Rattle.hz_acceptance_model.specs.Events.{Event, issue, IsOfClass}
-use Rattle.hz_acceptance_model.specs.Replay.{Accepted}
+use Rattle.hz_acceptance_model.specs.Accepting.Events.{Event, issue, IsOfClass}
+use Rattle.hz_acceptance_model.specs.Accepting.Replay.{Accepted}
 use Rattle.hz_answer_model.specs.Phases.{Says}
 use Rattle.hz_answer_model.specs.Texts.{refused_line}
-use Rattle.hz_auto_model.specs.DescriptionLimits.{AllKeepLimits}
-use Rattle.hz_check_model.specs.Places.{Known, class_names}
-use Rattle.hz_mdread_model.specs.Descriptions.{Description}
-use Rattle.hz_pipeline_model.specs.Pipelines.{pipeline_with}
-use Rattle.hz_tables_model.specs.Machines.{Machine, machine_walk}
+use Rattle.hz_automata_model.specs.Compiling.DescriptionLimits.{AllKeepLimits}
+use Rattle.hz_description_model.specs.Check.Places.{Known, class_names}
+use Rattle.hz_description_model.specs.Reading.Descriptions.{Description}
+use Rattle.hz_acceptance_model.specs.Pipelines.Pipelines.{pipeline_with}
+use Rattle.hz_automata_model.specs.Tables.Machines.{Machine, machine_walk}
 
 -- The machine has the classes of the description, whose automata are within their limits of states, and walks just the events that the
 -- description accepts.

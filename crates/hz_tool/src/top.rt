@@ -8,7 +8,7 @@ ghost use Rattle.hz_words_model.specs.Words as model;
 ghost use Rattle.hz_report.specs.Reports.{IsTellable};
 ghost use Rattle.hz_tool.specs.Decisions.{Agrees, CountsReport, NamesFile, IsOfOrder, IsFileOf, IsFileWord, ReportsWords};
 ghost use Rattle.hz_tool.specs.Endings.{IsAppended, AppendsFile, AppendsDrill, AppendsSchedule, AppendsTables, Completes, IsCutShort};
-ghost use Rattle.hz_words.specs.Shape.{words_in, order_in};
+ghost use Rattle.hz_tool_words.specs.Shape.{words_in, order_in};
 
 use crate::commands::drilling::judge_drill;
 use crate::commands::evaluating::judge_eval;
@@ -19,7 +19,7 @@ use crate::commands::walking::judge_walk;
 use crate::phases::read::read_file;
 use hz_io::{Files, Sink};
 use hz_report::{Report, write_report};
-use hz_words::{
+use hz_tool_words::{
     CompileOrder, DrillOrder, EvalOrder, Order, ReplayOrder, ScheduleOrder, WalkOrder, order_of,
 };
 use std::alloc::Global;

@@ -4,11 +4,11 @@ use Rattle.std.proofs.lemmas.Bool.{cases_lt}
 use Rattle.std.proofs.lemmas.List.{append-nil, append_assoc, map_push}
 use Rattle.std.proofs.lemmas.List.Elements.{All-contains, All-map, All-push, Contains-get_or, Contains-append_left, Contains-append_right, Contains-append_cases}
 use Rattle.hz_base_model.specs.Pairs.{Pair, placed}
-use Rattle.hz_altern_model.specs.Sets.{Statement, exclusion, Holds, HoldsSome, HoldsPattern, AllowsIn, Fits}
+use Rattle.hz_description_model.specs.Reservations.Sets.{Statement, exclusion, Holds, HoldsSome, HoldsPattern, AllowsIn, Fits}
 use Rattle.hz_base_model.proofs.Elements.{Contains-map}
-use Rattle.hz_altern_model.proofs.FitLaws.{allows_same, some_with, pattern_with, holds_moved, iff_back}
-use Rattle.hz_acceptance_model.specs.Fitting.{IsUnbroken}
-use Rattle.hz_acceptance_model.proofs.FittingLaws.{holds_append}
+use Rattle.hz_description_model.proofs.Reservations.FitLaws.{allows_same, some_with, pattern_with, holds_moved, iff_back}
+use Rattle.hz_acceptance_model.specs.Accepting.Fitting.{IsUnbroken}
+use Rattle.hz_acceptance_model.proofs.Accepting.FittingLaws.{holds_append}
 use Rattle.hz_grid.specs.Rows.{HasUnit, RowsMeet, IsWithin}
 use Rattle.hz_grid.specs.Grids.{Meets}
 use Rattle.hz_unitsets.specs.declared.set_rules.SetKind.{SetKind}

@@ -12,9 +12,9 @@ use Rattle.std.proofs.lemmas.List.Folds.{Any-from_list_any, list_any-from_Any}
 use Rattle.std.proofs.lemmas.List.Quantifiers.{all_pairs_push}
 use Rattle.indexmap.specs.IndexSet.{insert_key}
 use Rattle.hz_base_model.proofs.Elements.{Contains-map, Contains-from_map}
-use Rattle.hz_altern_model.specs.Sets.{Statement}
-use Rattle.hz_altern_model.specs.Sets as model
-use Rattle.hz_acceptance_model.specs.Fitting.{AskTheSame}
+use Rattle.hz_description_model.specs.Reservations.Sets.{Statement}
+use Rattle.hz_description_model.specs.Reservations.Sets as model
+use Rattle.hz_acceptance_model.specs.Accepting.Fitting.{AskTheSame}
 use Rattle.hz_grid.proofs.Units.{same_from_units}
 use Rattle.hz_unitsets.specs.declared.set_rules.SetKind.{SetKind}
 use Rattle.hz_unitsets.specs.declared.set_rules.SetKind.TheVariants.{Exclusion, Presence, FinalPresence, Absence, FinalAbsence}

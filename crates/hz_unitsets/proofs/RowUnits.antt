@@ -5,7 +5,7 @@ use Rattle.std.specs.List.{Any, list_any, range_with_len}
 use Rattle.std.proofs.lemmas.Bool.Decides.{same_from_decides}
 use Rattle.std.proofs.lemmas.List.{take_more}
 use Rattle.std.proofs.lemmas.List.Elements.{All-contains, filter_agree, Contains-append_left, Contains-push, Contains-push_cases}
-use Rattle.hz_altern_model.specs.Sets.{HoldsSome, HoldsPattern}
+use Rattle.hz_description_model.specs.Reservations.Sets.{HoldsSome, HoldsPattern}
 use Rattle.hz_base_model.proofs.Elements.{Contains-nil, Contains-filter, Contains-from_filter, Contains-map, Contains-from_map, Contains-range}
 use Rattle.hz_grid.specs.Rows.{has_unit, HasUnit, RowsMeet, IsWithin}
 use Rattle.hz_unitsets.specs.SetRules.{in_order}

@@ -2,7 +2,7 @@
 use Rattle.std.specs.Prelude.{◌≡◌, ◌⊎◌, ℕ, ◌<◌, List, [], ◌∷◌, map, filter, ◌++◌, All, Contains}
 use Rattle.std.specs.List.{range_with_len}
 use Rattle.hz_base_model.specs.Pairs.{Pair}
-use Rattle.hz_altern_model.specs.Sets.{Statement, exclusion, Holds, HoldsSome, HoldsPattern, AllowsIn}
+use Rattle.hz_description_model.specs.Reservations.Sets.{Statement, exclusion, Holds, HoldsSome, HoldsPattern, AllowsIn}
 use Rattle.hz_grid.specs.declared.rows.TheConstants.{UNITS}
 use Rattle.hz_grid.specs.Rows.{has_unit, HasUnit, IsWithin}
 use Rattle.hz_unitsets.specs.declared.row_rules.Rule.{Rule}

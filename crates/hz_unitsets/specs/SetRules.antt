@@ -1,8 +1,8 @@
 -- The statements of set rules.
 use Rattle.std.specs.Prelude.{ℕ, ◌<◌, ◌==◌, List, map, filter, All}
 use Rattle.std.specs.List.{list_any, range_with_len}
-use Rattle.hz_altern_model.specs.Sets as model
-use Rattle.hz_altern_model.specs.Sets.{Statement, exclusion, presence, final_presence, absence, final_absence}
+use Rattle.hz_description_model.specs.Reservations.Sets as model
+use Rattle.hz_description_model.specs.Reservations.Sets.{Statement, exclusion, presence, final_presence, absence, final_absence}
 use Rattle.hz_grid.specs.declared.rows.TheConstants.{UNITS}
 use Rattle.hz_unitsets.specs.declared.set_rules.SetKind.{SetKind}
 use Rattle.hz_unitsets.specs.declared.set_rules.SetKind.TheVariants.{Exclusion, Presence, FinalPresence, Absence, FinalAbsence}

@@ -1,7 +1,7 @@
 //! One set statement over rows.
 
 ghost use Rattle.std.specs.Prelude.{◌≡◌, ◌↔◌, ◌<◌, ℕ, map, All, IfOk, IsTrue};
-ghost use Rattle.hz_altern_model.specs.Sets.{AllowsIn, HoldsSome, HoldsPattern};
+ghost use Rattle.hz_description_model.specs.Reservations.Sets.{AllowsIn, HoldsSome, HoldsPattern};
 ghost use Rattle.hz_grid.specs.Rows.{HasUnit, IsWithin};
 ghost use Rattle.hz_unitsets.specs.SetRules.{statement_of, IsInRange, in_order, ordered};
 ghost use Rattle.hz_unitsets.specs.RowRules.{statement_in, IsRow, IsBounded, IsTrigger, Breaks, StandsIn, StandsAt};

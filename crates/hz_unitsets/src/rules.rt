@@ -2,8 +2,8 @@
 
 ghost use Rattle.std.specs.Prelude.{◌≡◌, ◌≢◌, ◌↔◌, ℕ, map, All, IfOk, OnOk, IsTrue};
 ghost use Rattle.std.specs.List.{AllPairs};
-ghost use Rattle.hz_altern_model.specs.Sets.{Fits};
-ghost use Rattle.hz_acceptance_model.specs.Fitting.{AskTheSame, IsUnbroken};
+ghost use Rattle.hz_description_model.specs.Reservations.Sets.{Fits};
+ghost use Rattle.hz_acceptance_model.specs.Accepting.Fitting.{AskTheSame, IsUnbroken};
 ghost use Rattle.hz_unitsets.specs.SetRules.{statements_of, IsInRange, ordered};
 ghost use Rattle.hz_unitsets.specs.RowRules.{statement_in, asked_statement, IsBounded, IsAsked, Allows, AllowsAt, Breaks, IsUnitsOf, IsKept, AreSame};
 
@@ -23,7 +23,7 @@ pub struct Rules {
 
 impl Model for Rules {
     ghost use Rattle.std.specs.Prelude.{List, ℕ, map};
-    ghost use Rattle.hz_altern_model.specs.Sets.{Statement};
+    ghost use Rattle.hz_description_model.specs.Reservations.Sets.{Statement};
     ghost use Rattle.hz_unitsets.specs.RowRules.{asked_statement, AreAsked};
 
     ghost Value = { List (Statement ℕ) };

@@ -5,11 +5,11 @@ ghost use Rattle.std.specs.Option.{option_map};
 ghost use Rattle.hz_altern.specs.Extents.{told};
 ghost use Rattle.hz_altern.specs.Joinings.{joined_parts};
 ghost use Rattle.hz_altern.specs.Tables.{extent_in, known_extent, is_held, AreRight, AreRightIn};
-ghost use Rattle.hz_altern_model.specs.Alternatives.{Alternative, alternatives_of, parts_of};
-ghost use Rattle.hz_altern_model.specs.AlternativeLists.{Extent as extent_told, extent_of};
-ghost use Rattle.hz_altern_model.specs.Automata.{UnitPlace};
-ghost use Rattle.hz_altern_model.specs.Expressions.{is_expression, are_expressions};
-ghost use Rattle.hz_altern_model.specs.NamesIn.{all_names, all_names_in};
+ghost use Rattle.hz_description_model.specs.Reservations.Alternatives.{Alternative, alternatives_of, parts_of};
+ghost use Rattle.hz_description_model.specs.Reservations.AlternativeLists.{Extent as extent_told, extent_of};
+ghost use Rattle.hz_description_model.specs.Reservations.Automata.{UnitPlace};
+ghost use Rattle.hz_description_model.specs.Reservations.Expressions.{is_expression, are_expressions};
+ghost use Rattle.hz_description_model.specs.Reservations.NamesIn.{all_names, all_names_in};
 ghost use Rattle.hz_regexp.specs.Shape.{expression, expressions};
 
 use crate::extents::Extents;

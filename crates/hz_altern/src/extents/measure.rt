@@ -2,7 +2,7 @@
 
 ghost use Rattle.std.specs.Prelude.{◌≤◌, ◌+◌};
 ghost use Rattle.hz_base_model.specs.Limits.{cycle_limit};
-ghost use Rattle.hz_altern_model.specs.Limits.{alternative_limit};
+ghost use Rattle.hz_description_model.specs.Reservations.Limits.{alternative_limit};
 
 use crate::mark::Mark;
 use hz_grid::CYCLES;
@@ -29,7 +29,7 @@ impl Extent {
     ghost use Rattle.std.specs.Prelude.{◌≡◌, ◌≤◌, List};
     ghost use Rattle.hz_altern.specs.Extents.{told, cut_extent, joined_extents, repeated_extent};
     ghost use Rattle.hz_altern.specs.Shapes.{alternatives};
-    ghost use Rattle.hz_altern_model.specs.AlternativeLists.{AreSound, extent_of};
+    ghost use Rattle.hz_description_model.specs.Reservations.AlternativeLists.{AreSound, extent_of};
 
     /// The extent of so many alternatives, of which the longest runs for so many cycles.
     pub(crate) fn cut(count: u32, longest: u32) -> Extent

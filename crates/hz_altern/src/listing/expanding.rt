@@ -1,19 +1,21 @@
 //! The alternatives of an expression. `most` is how many cycles and pairs a list of them may have together. That is asked
 //! before a list grows, so that none which passes it is held.
 
-ghost use Rattle.std.specs.Prelude.{◌≡◌, ◌<◌, ◌≤◌, ◌++◌, [], ◌∷◌, All, IsTrue, IfOk, IfErr, OnOk, length, map};
+ghost use Rattle.std.specs.Prelude.{◌≡◌, ◌<◌, ◌≤◌, ◌++◌, List, [], ◌∷◌, All, IsTrue, IfOk, IfErr, OnOk, length, map};
 ghost use Rattle.hz_altern.specs.Answers.{Expands, Refuses, weight, total_weight};
-ghost use Rattle.hz_altern.specs.Joinings.{IsListed, joined_by, joined_parts, left_behind, listed_lists};
+ghost use Rattle.hz_altern.specs.Joinings.{IsListed, joined_by, joined_parts, left_behind, listed_lists, listed_beside, only_listed};
+ghost use Rattle.hz_altern.specs.Leaves.{Takes, AreTaken, AllEndBy};
 ghost use Rattle.hz_altern.specs.Shapes.{alternative_of, alternatives};
 ghost use Rattle.hz_altern.specs.Singles.{TellsSingles, TellSingles};
 ghost use Rattle.hz_altern.specs.Tables.{alternatives_in, known_alternatives, is_held};
-ghost use Rattle.hz_altern_model.specs.Alternatives.{alternatives_of, together, each_choice, copies, idle, parts_of};
-ghost use Rattle.hz_altern_model.specs.AlternativeLists.{AreSound, greatest_length};
-ghost use Rattle.hz_altern_model.specs.Automata.{listed};
-ghost use Rattle.hz_altern_model.specs.Expressions.{is_expression, are_expressions};
+ghost use Rattle.hz_description_model.specs.Reservations.Alternatives.{alternatives_of, together, each_choice, copies, idle, parts_of};
+ghost use Rattle.hz_description_model.specs.Reservations.AlternativeLists.{AreSound, greatest_length};
+ghost use Rattle.hz_description_model.specs.Reservations.Automata.{UnitPlace, listed};
+ghost use Rattle.hz_description_model.specs.Reservations.Expressions.{is_expression, are_expressions};
 ghost use Rattle.hz_base_model.specs.Limits.{cycle_limit};
-ghost use Rattle.hz_altern_model.specs.Limits.{size_limit};
-ghost use Rattle.hz_altern_model.specs.NamesIn.{all_names, all_names_in};
+ghost use Rattle.hz_base_model.specs.Pairs.{Pair as model_pair};
+ghost use Rattle.hz_description_model.specs.Reservations.Limits.{size_limit};
+ghost use Rattle.hz_description_model.specs.Reservations.NamesIn.{all_names, all_names_in};
 ghost use Rattle.hz_regexp.specs.Shape.{expression, expressions};
 
 use crate::alternative::Alt;
@@ -44,6 +46,18 @@ fn copied(alloc: Global, alts: &[Alt], most: usize) -> Result<Listing, AlternFau
     Ok(listing)
 }
 
+/// Lists one alternative.
+fn list_one(alloc: Global, alt: Alt, most: usize) -> Result<Listing, AlternFault>
+    requires most { most ≤ size_limit }
+    ensures ok { IfOk result (λ listing. listing ≡ alternative_of alt ∷ []) }
+    ensures small { IfOk result (λ listing. total_weight listing ≤ most) }
+    ensures err { IfErr result (Refuses most (alternative_of alt ∷ [])) }
+{
+    let mut listing = Listing::new(alloc);
+    listing.push(alt, most)?;
+    Ok(listing)
+}
+
 /// One alternative of one cycle without a pair.
 fn idle(alloc: Global, most: usize) -> Result<Listing, AlternFault>
     requires most { most ≤ size_limit }
@@ -51,10 +65,28 @@ fn idle(alloc: Global, most: usize) -> Result<Listing, AlternFault>
     ensures small { IfOk result (λ listing. total_weight listing ≤ most) }
     ensures err { IfErr result (Refuses most (idle ∷ [])) }
 {
-    let mut listing = Listing::new(alloc);
     let pairs = Vec::new(alloc);
-    listing.push(Alt { pairs, length: 1 }, most)?;
-    Ok(listing)
+    list_one(alloc, Alt { pairs, length: 1 }, most)
+}
+
+/// The one alternative of what names reserve, each from the cycles on in which it begins.
+fn list_leaves(
+    alloc: Global,
+    leaves: &Leaves,
+    length: u32,
+    known: &Known,
+    most: usize,
+) -> Result<Listing, AlternFault>
+    requires ends { AllEndBy known.now cycle_limit leaves.now }
+    requires within { (p : model_pair UnitPlace) → Takes known.now leaves.now p → p.cycle < length }
+    requires short { length ≤ cycle_limit }
+    requires most { most ≤ size_limit }
+    ensures ok { IfOk result (λ listing. (taken : List (model_pair UnitPlace)) → AreTaken known.now leaves.now taken → listing ≡ only_listed taken length) }
+    ensures small { IfOk result (λ listing. total_weight listing ≤ most) }
+    ensures err { IfErr result (λ fault. (taken : List (model_pair UnitPlace)) → AreTaken known.now leaves.now taken → Refuses most (only_listed taken length) fault) }
+{
+    let pairs = pairs(alloc, leaves, length, known)?;
+    list_one(alloc, Alt { pairs, length }, most)
 }
 
 /// Adds an alternative joined with each of others.
@@ -312,14 +344,37 @@ fn listing_together(
         if told.is_single() {
             length = gather(alloc, part, 0, known, &mut leaves)?.max(length);
         } else {
-            let more = listing(alloc, part, told, known, most)?;
-            others = together(alloc, &others, &more, most)?;
+            others = listing_beside(alloc, &others, part, told, known, most)?;
         }
     }
-    let pairs = pairs(alloc, &leaves, length, known)?;
-    let mut single = Listing::new(alloc);
-    single.push(Alt { pairs, length }, most)?;
+    let single = list_leaves(alloc, &leaves, length, known, most)?;
     together(alloc, &single, &others, most)
+}
+
+/// The alternatives of others and of one more part from the same cycle on, of which none is too long.
+#[cycle(listing)]
+fn listing_beside(
+    alloc: Global,
+    others: &Listing,
+    part: &Expr,
+    singles: &Singles,
+    known: &Known,
+    most: usize,
+) -> Result<Listing, AlternFault>
+    requires some { 0 < length others.now }
+    requires each { All IsListed others.now }
+    requires formed { IsTrue (is_expression (expression part.now)) }
+    requires known { IsTrue (all_names (is_held (alternatives_in known.now)) (expression part.now)) }
+    requires told { TellsSingles (known_alternatives known.now) (expression part.now) singles.now }
+    requires short_part { greatest_length (alternatives_of (known_alternatives known.now) (expression part.now)) ≤ cycle_limit }
+    requires short { greatest_length (listed_beside others.now (alternatives_of (known_alternatives known.now) (expression part.now))) ≤ cycle_limit }
+    requires most { most ≤ size_limit }
+    ensures ok { IfOk result (λ listing. listing ≡ listed_beside others.now (alternatives_of (known_alternatives known.now) (expression part.now))) }
+    ensures small { IfOk result (λ listing. total_weight listing ≤ most) }
+    ensures err { IfErr result (Refuses most (listed_beside others.now (alternatives_of (known_alternatives known.now) (expression part.now)))) }
+{
+    let more = listing(alloc, part, singles, known, most)?;
+    together(alloc, others, &more, most)
 }
 
 /// The alternatives of a well-formed expression in their order, where each name in it is known. Choices are ordered with

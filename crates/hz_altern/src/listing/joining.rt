@@ -6,7 +6,7 @@ ghost use Rattle.hz_altern.specs.Joinings.{IsListed, joined_by};
 ghost use Rattle.hz_altern.specs.Shapes.{pair_of, pairs_of, alternative_of};
 ghost use Rattle.hz_base_model.specs.Pairs.{later, placed};
 ghost use Rattle.hz_base_model.specs.Limits.{cycle_limit};
-ghost use Rattle.hz_altern_model.specs.Limits.{size_limit};
+ghost use Rattle.hz_description_model.specs.Reservations.Limits.{size_limit};
 
 use crate::alternative::{Alt, Pair};
 use crate::fault::NoMemory;

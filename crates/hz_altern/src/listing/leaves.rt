@@ -2,19 +2,19 @@
 
 ghost use Rattle.std.specs.Prelude.{◌≡◌, ◌↔◌, ◌⊎◌, ◌+◌, ◌<◌, ◌≤◌, ℕ, IfOk, OnOk, IsTrue, length};
 ghost use Rattle.std.specs.Option.{option_copied};
-ghost use Rattle.hz_cycles.specs.Sets.{HasCycle};
+ghost use Rattle.hz_grid.specs.Sets.{HasCycle};
 ghost use Rattle.hz_altern.specs.Leaves.{HasIn, IsGathered, AddsCopies};
 ghost use Rattle.hz_altern.specs.Tables.{alternatives_in, known_alternatives, is_held};
-ghost use Rattle.hz_altern_model.specs.Alternatives.{alternatives_of, in_sequence, together, copies, parts_of};
-ghost use Rattle.hz_altern_model.specs.AlternativeLists.{greatest_length};
-ghost use Rattle.hz_altern_model.specs.Expressions.{is_expression, are_expressions};
-ghost use Rattle.hz_altern_model.specs.NamesIn.{all_names, all_names_in};
+ghost use Rattle.hz_description_model.specs.Reservations.Alternatives.{alternatives_of, in_sequence, together, copies, parts_of};
+ghost use Rattle.hz_description_model.specs.Reservations.AlternativeLists.{greatest_length};
+ghost use Rattle.hz_description_model.specs.Reservations.Expressions.{is_expression, are_expressions};
+ghost use Rattle.hz_description_model.specs.Reservations.NamesIn.{all_names, all_names_in};
 ghost use Rattle.hz_base_model.specs.Limits.{cycle_limit};
 ghost use Rattle.hz_regexp.specs.Shape.{expression, expressions};
 
 use crate::fault::NoMemory;
 use crate::known::Known;
-use hz_cycles::Cycles;
+use hz_grid::Cycles;
 use hz_regexp::{Expr, Name};
 use indexmap::IndexMap;
 use std::alloc::Global;

@@ -3,9 +3,9 @@
 ghost use Rattle.std.specs.Prelude.{◌≡◌, ◌+◌, ◌≤◌, ◌++◌, [], length, IfOk, IfSome, IfNone};
 ghost use Rattle.hz_altern.specs.Merging.{IsLeast};
 ghost use Rattle.hz_altern.specs.Shapes.{pair_of, pairs_of};
-ghost use Rattle.hz_altern_model.specs.Automata.{place_cmp, ascending};
+ghost use Rattle.hz_description_model.specs.Reservations.Automata.{place_cmp, ascending};
 ghost use Rattle.hz_base_model.specs.Pairs.{precedes_by};
-ghost use Rattle.hz_altern_model.specs.AlternativeLists.{IsAscending};
+ghost use Rattle.hz_description_model.specs.Reservations.AlternativeLists.{IsAscending};
 
 use crate::alternative::Pair;
 use crate::fault::NoMemory;

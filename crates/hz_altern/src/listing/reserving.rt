@@ -5,17 +5,17 @@ ghost use Rattle.std.specs.List.{Contains};
 ghost use Rattle.hz_altern.specs.Leaves.{Takes, TakesIn, EndsBy, AllEndBy};
 ghost use Rattle.hz_altern.specs.Reserved.{IsReserved, AreUnits, IsOfPairs, ReservesToo, IsOfUnit, IsOfUnits};
 ghost use Rattle.hz_altern.specs.Shapes.{pairs_of};
-ghost use Rattle.hz_altern_model.specs.AlternativeLists.{IsAscending};
-ghost use Rattle.hz_altern_model.specs.Automata.{UnitPlace};
+ghost use Rattle.hz_description_model.specs.Reservations.AlternativeLists.{IsAscending};
+ghost use Rattle.hz_description_model.specs.Reservations.Automata.{UnitPlace};
 ghost use Rattle.hz_base_model.specs.Limits.{automaton_limit, cycle_limit, unit_limit};
 ghost use Rattle.hz_base_model.specs.Pairs.{Pair as model_pair};
-ghost use Rattle.hz_cycles.specs.Sets.{HasCycle};
+ghost use Rattle.hz_grid.specs.Sets.{HasCycle};
 
 use crate::alternative::Pair;
 use crate::fault::NoMemory;
 use crate::known::Known;
 use crate::listing::leaves::Leaves;
-use hz_cycles::{Cycles, ReservationTable};
+use hz_grid::{Cycles, ReservationTable};
 use hz_regexp::Name;
 use std::alloc::Global;
 
@@ -31,10 +31,10 @@ impl Reserved {
     ghost use Rattle.hz_altern.specs.Leaves.{TakesIn, EndsBy};
     ghost use Rattle.hz_altern.specs.Reserved.{IsReserved, AreUnits, IsOfPairs, ReservesToo};
     ghost use Rattle.hz_altern.specs.Shapes.{pairs_of};
-    ghost use Rattle.hz_altern_model.specs.Automata.{UnitPlace};
+    ghost use Rattle.hz_description_model.specs.Reservations.Automata.{UnitPlace};
     ghost use Rattle.hz_base_model.specs.Limits.{automaton_limit, cycle_limit, unit_limit};
     ghost use Rattle.hz_base_model.specs.Pairs.{Pair as model_pair};
-    ghost use Rattle.hz_cycles.specs.Sets.{HasCycle};
+    ghost use Rattle.hz_grid.specs.Sets.{HasCycle};
 
     /// Nothing is reserved.
     fn new(alloc: Global) -> Result<Reserved, NoMemory>

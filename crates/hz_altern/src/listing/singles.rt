@@ -5,9 +5,9 @@ ghost use Rattle.std.specs.List.{list_all};
 ghost use Rattle.hz_altern.specs.declared.listing.singles.Singles.{out-Singles};
 ghost use Rattle.hz_altern.specs.Singles.{TellsSingles, TellSingles};
 ghost use Rattle.hz_altern.specs.Tables.{alternatives_in, known_alternatives, is_held};
-ghost use Rattle.hz_altern_model.specs.Alternatives.{parts_of};
-ghost use Rattle.hz_altern_model.specs.Expressions.{is_expression, are_expressions};
-ghost use Rattle.hz_altern_model.specs.NamesIn.{all_names, all_names_in};
+ghost use Rattle.hz_description_model.specs.Reservations.Alternatives.{parts_of};
+ghost use Rattle.hz_description_model.specs.Reservations.Expressions.{is_expression, are_expressions};
+ghost use Rattle.hz_description_model.specs.Reservations.NamesIn.{all_names, all_names_in};
 ghost use Rattle.hz_regexp.specs.Shape.{expression, expressions};
 
 use crate::fault::NoMemory;

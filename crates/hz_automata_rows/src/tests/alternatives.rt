@@ -3,10 +3,10 @@
 ghost use Rattle.std.specs.Prelude.{◌≡◌, ◌<◌, ◌^◌, IfOk, IsTrue, length};
 ghost use Rattle.hz_altern.specs.Shapes.{alternatives};
 ghost use Rattle.hz_altern.specs.Tables.{alternatives_in, extent_in, is_held};
-ghost use Rattle.hz_altern_model.specs.AlternativeLists.{AreSound};
-ghost use Rattle.hz_altern_model.specs.Expressions.{is_expression};
-ghost use Rattle.hz_altern_model.specs.Alternatives.{parts_of};
-ghost use Rattle.hz_altern_model.specs.NamesIn.{all_names, all_names_in};
+ghost use Rattle.hz_description_model.specs.Reservations.AlternativeLists.{AreSound};
+ghost use Rattle.hz_description_model.specs.Reservations.Expressions.{is_expression};
+ghost use Rattle.hz_description_model.specs.Reservations.Alternatives.{parts_of};
+ghost use Rattle.hz_description_model.specs.Reservations.NamesIn.{all_names, all_names_in};
 ghost use Rattle.hz_regexp.specs.Shape.{expression, expressions};
 
 use hz_altern::{

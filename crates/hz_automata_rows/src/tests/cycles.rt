@@ -1,6 +1,6 @@
 //! Cycles and the reservation tables of units by hand.
 
-use hz_cycles::{Cycles, ReservationTable};
+use hz_grid::{Cycles, ReservationTable};
 use std::process::Abort;
 use std::test::Fail;
 

@@ -2,12 +2,12 @@
 
 ghost use Rattle.std.specs.Prelude.{◌<◌, length};
 ghost use Rattle.std.specs.Bool.{OnTrue};
-ghost use Rattle.hz_tables_model.specs.Tables.{IsTable};
-ghost use Rattle.hz_plain.specs.Rows.{AreStates};
+ghost use Rattle.hz_automata_model.specs.Tables.Tables.{IsTable};
+ghost use Rattle.hz_tables.specs.Rows.{AreStates};
 ghost use Rattle.hz_automata_rows.specs.Leading.{IsRow};
 
 use hz_minim::{NoMemory, minimise};
-use hz_plain::Plain;
+use hz_tables::Plain;
 use std::alloc::Global;
 use std::process::Abort;
 use std::test::Fail;

@@ -1,11 +1,10 @@
 //! A table whose rows are packed into few cells.
 
 ghost use Rattle.std.specs.Prelude.{◌≡◌, ◌<◌, ◌^◌, ◌+◌, ℕ, Some, length, IfOk, IfSome, All, IsTrue};
-ghost use Rattle.hz_tables_model.specs.Tables.{entry};
-ghost use Rattle.hz_comb.specs.Widths.{is_width};
+ghost use Rattle.hz_automata_model.specs.Tables.Tables.{entry};
+ghost use Rattle.hz_tables.specs.Widths.{is_width};
 
-use hz_comb::Packed;
-use hz_plain::{NoMemory, Plain};
+use hz_tables::{NoMemory, Packed, Plain};
 use std::alloc::Global;
 use std::process::Abort;
 use std::test::Fail;

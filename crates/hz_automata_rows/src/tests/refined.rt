@@ -1,12 +1,12 @@
 //! The blocks of tables by hand.
 
 ghost use Rattle.std.specs.Prelude.{◌≡◌, ◌+◌, ◌<◌, ◌≤◌, IfOk, OnOk, All, length};
-ghost use Rattle.hz_tables_model.specs.StateLimits.{state_limit};
-ghost use Rattle.hz_tables_model.specs.Tables.{IsTable};
+ghost use Rattle.hz_automata_model.specs.Tables.StateLimits.{state_limit};
+ghost use Rattle.hz_automata_model.specs.Tables.Tables.{IsTable};
 ghost use Rattle.hz_automata_rows.specs.Rows.{IsRow};
 
-use hz_plain::Plain;
-use hz_refine::{NoMemory, refine};
+use hz_minim::{NoMemory, refine};
+use hz_tables::Plain;
 use std::alloc::Global;
 use std::process::Abort;
 use std::test::Fail;

@@ -1,8 +1,8 @@
 //! Traces by hand, and replays on a machine of one class.
 
 ghost use Rattle.std.specs.Prelude.{◌≡◌, ◌≤◌, ◌<◌, ◌^◌, length, All};
-ghost use Rattle.hz_trace_model.specs.Limits.{advance_limit};
-ghost use Rattle.hz_acceptance_model.specs.Events.{cycles_of, IsOfClass};
+ghost use Rattle.hz_acceptance_model.specs.Traces.TraceLimits.{advance_limit};
+ghost use Rattle.hz_acceptance_model.specs.Accepting.Events.{cycles_of, IsOfClass};
 ghost use Rattle.hz_replay.specs.Traces.{events_in};
 
 use super::machine;

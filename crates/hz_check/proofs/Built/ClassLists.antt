@@ -11,13 +11,13 @@ use Rattle.hz_mdread.specs.declared.items.ClassItem.{ClassItem as StoredClass}
 use Rattle.hz_mdread.specs.Shape.{class_item}
 use Rattle.hz_check.specs.Parts.Classes.{lists_in, class_with, classes_with}
 use Rattle.hz_check.proofs.Lists.Next.{map-map, taken_more}
-use Rattle.hz_altern_model.specs.Alternatives.{Alternative, alternatives_of}
-use Rattle.hz_altern_model.specs.Automata.{UnitPlace, ascending, listed, cut, inside, is_of, list_in, without_repeats}
-use Rattle.hz_check_model.specs.Places.{Known}
-use Rattle.hz_check_model.specs.CheckedParts.{ClassParts, automaton_count, class_parts}
-use Rattle.hz_mdread_model.specs.Descriptions.{Description, ClassItem}
+use Rattle.hz_description_model.specs.Reservations.Alternatives.{Alternative, alternatives_of}
+use Rattle.hz_description_model.specs.Reservations.Automata.{UnitPlace, ascending, listed, cut, inside, is_of, list_in, without_repeats}
+use Rattle.hz_description_model.specs.Check.Places.{Known}
+use Rattle.hz_description_model.specs.Check.CheckedParts.{ClassParts, automaton_count, class_parts}
+use Rattle.hz_description_model.specs.Reading.Descriptions.{Description, ClassItem}
 use Rattle.hz_base_model.specs.Pairs.{Pair, grid_eq}
-use Rattle.hz_altern_model.proofs.AscendingLaws.{IsAscending-ascending, ascending_itself}
+use Rattle.hz_description_model.proofs.Reservations.AscendingLaws.{IsAscending-ascending, ascending_itself}
 
 -- a listed alternative is cut down to the same pairs
 cut_listed : (automaton : ℕ) (a : Alternative UnitPlace) → cut automaton (ascending a.pairs) ≡ cut automaton a.pairs

@@ -1,9 +1,9 @@
 -- What is put together.
 use Rattle.std.proofs.Common.{◌≡◌, ℕ, suc, List, [], ◌∷◌, map, length, refl, ap}
-use Rattle.hz_check_model.specs.Places.{Known}
-use Rattle.hz_check_model.specs.CheckedParts.{AutomatonParts, ClassParts, BypassParts, automata_from, automata_of, automaton_names, automaton_count, class_parts, bypass_parts, attributes_of}
-use Rattle.hz_check_model.specs.CheckedShape.{IsKept}
-use Rattle.hz_mdread_model.specs.Descriptions.{Description}
+use Rattle.hz_description_model.specs.Check.Places.{Known}
+use Rattle.hz_description_model.specs.Check.CheckedParts.{AutomatonParts, ClassParts, BypassParts, automata_from, automata_of, automaton_names, automaton_count, class_parts, bypass_parts, attributes_of}
+use Rattle.hz_description_model.specs.Check.CheckedShape.{IsKept}
+use Rattle.hz_description_model.specs.Reading.Descriptions.{Description}
 
 length-from : (d : Description) (n : ℕ) (names : List (List ℕ)) → length (automata_from d n names) ≡ length names
 length-from d n [] = refl

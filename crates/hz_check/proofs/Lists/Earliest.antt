@@ -4,7 +4,7 @@ use Rattle.std.proofs.lemmas.Bool.Decides.{nat_tests}
 use Rattle.std.proofs.lemmas.List.{drop_all}
 use Rattle.std.specs.List.{flat_map, filter_map, cons_option}
 use Rattle.hz_check.proofs.Lists.Next.{drop_next, flat_map-map}
-use Rattle.hz_check_model.specs.Sites.{Site, earlier, earliest}
+use Rattle.hz_description_model.specs.Check.Sites.{Site, earlier, earliest}
 
 pub earlier-none : (s : Option Site) → earlier s None ≡ s
 earlier-none None = refl

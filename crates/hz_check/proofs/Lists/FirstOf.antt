@@ -7,8 +7,8 @@ use Rattle.std.specs.Option.{option_map, option_or, option_copied}
 use Rattle.std.specs.Bool.{then_some}
 use Rattle.hz_check.specs.Names.First.{first_of}
 use Rattle.hz_check.proofs.Lists.Next.{drop_next}
-use Rattle.hz_check_model.specs.CheckFaults.{sites_of}
-use Rattle.hz_check_model.specs.Sites.{earlier, earliest}
+use Rattle.hz_description_model.specs.Check.CheckFaults.{sites_of}
+use Rattle.hz_description_model.specs.Check.Sites.{earlier, earliest}
 
 pub first_of-append : {A : Type 0} (xs ys : List A) → first_of (xs ++ ys) ≡ option_or (first_of xs) (first_of ys)
 first_of-append [] ys = refl

@@ -8,7 +8,7 @@ use Rattle.std.specs.List.{AllPairs}
 use Rattle.std.specs.Option.{option_map}
 use Rattle.hz_check.specs.Names.First.{first_of}
 use Rattle.hz_base_model.proofs.Ascending.{AllPairs-head, AllPairs-tail}
-use Rattle.hz_check_model.specs.Sites.{Site, earlier, earliest}
+use Rattle.hz_description_model.specs.Check.Sites.{Site, earlier, earliest}
 
 pub AllPairs-drop : {A : Type 0} (R : A → A → Type 0) (n : ℕ) (xs : List A) → AllPairs R xs → AllPairs R (drop n xs)
 AllPairs-drop R zero xs h = h

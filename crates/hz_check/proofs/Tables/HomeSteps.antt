@@ -12,8 +12,8 @@ use Rattle.std.proofs.lemmas.Map.Lookups.{exact_unsigned}
 use Rattle.hz_base_model.proofs.Elements.{Contains-map}
 use Rattle.hz_mdread.specs.declared.items.UnitItem.{UnitItem as StoredUnit}
 use Rattle.hz_mdread.specs.Shape.{unit_item}
-use Rattle.hz_mdread_model.specs.Descriptions.{Description, UnitItem}
-use Rattle.hz_mdread_model.specs.DescriptionShape.{SharesAutomaton}
+use Rattle.hz_description_model.specs.Reading.Descriptions.{Description, UnitItem}
+use Rattle.hz_description_model.specs.Reading.DescriptionShape.{SharesAutomaton}
 use Rattle.hz_check.specs.Names.Homes.{automaton_place}
 
 -- any two units of one form have one automaton

@@ -5,11 +5,11 @@ use Rattle.std.specs.Option.{option_map}
 use Rattle.std.specs.Str.{bytes_eq}
 use Rattle.hz_check.specs.Names.First.{first_of}
 use Rattle.hz_check.proofs.Tables.NameLists.{position-cons}
-use Rattle.hz_altern_model.specs.Automata.{UnitPlace}
-use Rattle.hz_check_model.specs.CheckFaults.{home, same_home, strangers}
-use Rattle.hz_mdread_model.specs.Descriptions.{Description, UnitItem}
+use Rattle.hz_description_model.specs.Reservations.Automata.{UnitPlace}
+use Rattle.hz_description_model.specs.Check.CheckFaults.{home, same_home, strangers}
+use Rattle.hz_description_model.specs.Reading.Descriptions.{Description, UnitItem}
 use Rattle.hz_base_model.specs.Lines.{place_of}
-use Rattle.hz_check_model.specs.Places.{automaton_number, place_behind, places_behind, at_name}
+use Rattle.hz_description_model.specs.Check.Places.{automaton_number, place_behind, places_behind, at_name}
 
 module _ (d : Description) (name : List ℕ) where
   -- the automaton of the unit at a place

@@ -7,12 +7,12 @@ use Rattle.std.proofs.lemmas.Option.{same_Some}
 use Rattle.std.specs.List.{flat_map, cons_option}
 use Rattle.std.specs.Str.{bytes_eq}
 use Rattle.hz_check.specs.Names.First.{first_of}
-use Rattle.hz_check_model.specs.CheckFaults.{sites_of, unknown_names, is_class, names_of_bypass, is_unit, names_of_set, unknown_in_expression, unknown_in_condition}
-use Rattle.hz_check_model.specs.CheckedParts.{class_numbers}
-use Rattle.hz_mdread_model.specs.Descriptions.{Description, BypassItem}
+use Rattle.hz_description_model.specs.Check.CheckFaults.{sites_of, unknown_names, is_class, names_of_bypass, is_unit, names_of_set, unknown_in_expression, unknown_in_condition}
+use Rattle.hz_description_model.specs.Check.CheckedParts.{class_numbers}
+use Rattle.hz_description_model.specs.Reading.Descriptions.{Description, BypassItem}
 use Rattle.hz_base_model.specs.Lines.{place_of}
-use Rattle.hz_check_model.specs.Places.{class_names}
-use Rattle.hz_check_model.specs.Sites.{Site, is_among, earlier, earliest}
+use Rattle.hz_description_model.specs.Check.Places.{class_names}
+use Rattle.hz_description_model.specs.Check.Sites.{Site, is_among, earlier, earliest}
 
 one_of : (s t : Site) (b : Bool) → cond b (Some s) (Some t) ≡ None → ⊥
 one_of s t true e = absurd (cc)

@@ -7,7 +7,7 @@ use Rattle.std.specs.Bool.{Decides}
 use Rattle.std.specs.List.{list_any, position, position_or_len}
 use Rattle.std.specs.Option.{option_map}
 use Rattle.std.specs.Str.{bytes_eq}
-use Rattle.hz_check_model.specs.Sites.{is_among}
+use Rattle.hz_description_model.specs.Check.Sites.{is_among}
 
 pub bytes_eq_same : (a b : List ℕ) → bytes_eq a b ≡ true → a ≡ b
 bytes_eq_same a b e = (bytes_eq-Decides a b).0 e

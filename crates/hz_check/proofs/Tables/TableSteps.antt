@@ -17,9 +17,9 @@ use Rattle.hz_check.specs.Names.{IsJust, test_by, test_of}
 use Rattle.hz_check.specs.Names.First.{first_of}
 use Rattle.hz_check.proofs.Tables.NameLists.{bytes_eq_same, bytes_eq-sym, is_among-list_any}
 use Rattle.hz_check.proofs.Lists.Next.{drop_next, map-map}
-use Rattle.hz_check_model.specs.CheckFaults.{values_of, unknown_in_test}
+use Rattle.hz_description_model.specs.Check.CheckFaults.{values_of, unknown_in_test}
 use Rattle.hz_base_model.specs.Lines.{place_of}
-use Rattle.hz_check_model.specs.Sites.{is_among}
+use Rattle.hz_description_model.specs.Check.Sites.{is_among}
 
 or_shift : (b s r : Bool) → ((b || s) || r) ≡ (s || (b || r))
 or_shift true true r = refl

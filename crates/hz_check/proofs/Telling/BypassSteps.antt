@@ -17,12 +17,12 @@ use Rattle.hz_check.proofs.Lists.FirstOf.{earliest-sites_of}
 use Rattle.hz_check.proofs.Lists.InOrder.{earlier_one}
 use Rattle.hz_check.proofs.Tables.NameLists.{is_among-list_any}
 use Rattle.hz_check.proofs.Telling.NumberSteps.{any-first, none_passes, same_name, any-numbers, first-numbers, IsFirstBy}
-use Rattle.hz_check_model.specs.CheckFaults.{is_class, differs, renumbered, renumbered_behind}
-use Rattle.hz_check_model.specs.CheckedParts.{class_numbers}
-use Rattle.hz_mdread_model.specs.Descriptions.{Description, BypassItem}
+use Rattle.hz_description_model.specs.Check.CheckFaults.{is_class, differs, renumbered, renumbered_behind}
+use Rattle.hz_description_model.specs.Check.CheckedParts.{class_numbers}
+use Rattle.hz_description_model.specs.Reading.Descriptions.{Description, BypassItem}
 use Rattle.hz_base_model.specs.Lines.{place_of}
-use Rattle.hz_check_model.specs.Places.{class_names}
-use Rattle.hz_check_model.specs.Sites.{Site, is_among, earlier, earliest}
+use Rattle.hz_description_model.specs.Check.Places.{class_names}
+use Rattle.hz_description_model.specs.Check.Sites.{Site, is_among, earlier, earliest}
 
 -- bypasses of later forms are told later
 earlier_bypasses : (s : Site) (before bypasses : List BypassItem) → All (λ b. s.form ≤ b.form) bypasses → earlier (Some s) (earliest (renumbered_behind before bypasses)) ≡ Some s

@@ -11,29 +11,29 @@ use Rattle.hz_check.specs.Faults.{Tells, IsToldAt, IsToldHere, IsListsOrSite, Is
 use Rattle.hz_check.specs.declared.faults.told.Told.{Told as Stored}
 use Rattle.hz_check.specs.declared.faults.told.Wrong.{Wrong}
 use Rattle.hz_check.specs.declared.faults.told.Wrong.TheVariants as wrong
-use Rattle.hz_expand.specs.Answers.{Refuses, IsPastSize}
-use Rattle.hz_expand.specs.declared.fault.Unexpanded.{Unexpanded}
-use Rattle.hz_expand.specs.declared.fault.Unexpanded.TheVariants as unexpanded
-use Rattle.hz_expand.proofs.Unwinding.{unfolded}
-use Rattle.hz_check_model.specs.CheckFaults as model
-use Rattle.hz_check_model.specs.CheckFaults.{faults_of_meanings, faults_of_names, CheckFaultAt, of_meanings, of_names, of_circle, IsFirst, IsCircular, limit, alternatives, cycles, size, past_limit, second_numbers, automaton_sites, class_sites}
-use Rattle.hz_check_model.specs.CountingOrder.{Reserving, reservation_site}
-use Rattle.hz_check_model.specs.FirstTold.{Standing, Told, first_told, told_at}
+use Rattle.hz_check_reservations.specs.Answers.{Refuses, IsPastSize}
+use Rattle.hz_check_reservations.specs.declared.listing.unexpanded.Unexpanded.{Unexpanded}
+use Rattle.hz_check_reservations.specs.declared.listing.unexpanded.Unexpanded.TheVariants as unexpanded
+use Rattle.hz_check_reservations.proofs.Unwinding.{unfolded}
+use Rattle.hz_description_model.specs.Check.CheckFaults as model
+use Rattle.hz_description_model.specs.Check.CheckFaults.{faults_of_meanings, faults_of_names, CheckFaultAt, of_meanings, of_names, of_circle, IsFirst, IsCircular, limit, alternatives, cycles, size, past_limit, second_numbers, automaton_sites, class_sites}
+use Rattle.hz_description_model.specs.Check.CountingOrder.{Reserving, reservation_site}
+use Rattle.hz_description_model.specs.Check.FirstTold.{Standing, Told, first_told, told_at}
 use Rattle.hz_mdread.specs.declared.description.Description.{Description as StoredDescription}
 use Rattle.hz_mdread.specs.declared.items.ReservationItem.{ReservationItem as StoredReservation}
 use Rattle.hz_mdread.specs.Shape.{description, reservation_item}
-use Rattle.hz_check_model.proofs.EarliestLaws.{no_site}
-use Rattle.hz_mdread_model.specs.Descriptions.{Description}
+use Rattle.hz_description_model.proofs.Check.EarliestLaws.{no_site}
+use Rattle.hz_description_model.specs.Reading.Descriptions.{Description}
 use Rattle.hz_base_model.specs.Limits.{automaton_limit, class_limit}
-use Rattle.hz_check_model.specs.Places.{IsKnown, Known}
-use Rattle.hz_check_model.specs.Sites.{Site, earliest}
-use Rattle.hz_check_model.specs.SplitClasses.{mixed_classes, uneven_classes}
-use Rattle.hz_unfold.specs.Faults.{TellsCircle}
-use Rattle.hz_unfold.specs.Orders.{reservings}
-use Rattle.hz_unfold.specs.Places.{site_of}
-use Rattle.hz_unfold.specs.declared.fault.OrderFault.{OrderFault}
-use Rattle.hz_unfold.specs.declared.fault.OrderFault.TheVariants as order
-use Rattle.hz_unfold.specs.declared.site.Site.{Site as StoredSite}
+use Rattle.hz_description_model.specs.Check.Places.{IsKnown, Known}
+use Rattle.hz_description_model.specs.Check.Sites.{Site, earliest}
+use Rattle.hz_description_model.specs.Check.SplitClasses.{mixed_classes, uneven_classes}
+use Rattle.hz_check_reservations.specs.Faults.{TellsCircle}
+use Rattle.hz_check_reservations.specs.Orders.{reservings}
+use Rattle.hz_check_reservations.specs.Places.{site_of}
+use Rattle.hz_check_reservations.specs.declared.ordering.fault.OrderFault.{OrderFault}
+use Rattle.hz_check_reservations.specs.declared.ordering.fault.OrderFault.TheVariants as order
+use Rattle.hz_check_reservations.specs.declared.ordering.site.Site.{Site as StoredSite}
 
 tells_with : (P Q : model.CheckFault → ℕ → List ℕ → Type 0) → ((f : model.CheckFault) (line : ℕ) (name : List ℕ) → P f line name → Q f line name) → (fault : CheckFault) → Tells P fault → Tells Q fault
 tells_with P Q to (TwiceDefined line name) tells = to model.twice_defined line name tells

@@ -7,11 +7,11 @@ use Rattle.std.specs.List.{list_any, cons_option}
 use Rattle.std.specs.Option.{MatchOption}
 use Rattle.std.specs.Str.{bytes_eq}
 use Rattle.hz_check.specs.Names.First.{first_of}
-use Rattle.hz_check_model.specs.CheckFaults.{is_class}
-use Rattle.hz_check_model.specs.CheckedParts.{class_numbers}
-use Rattle.hz_mdread_model.specs.Descriptions.{Description}
+use Rattle.hz_description_model.specs.Check.CheckFaults.{is_class}
+use Rattle.hz_description_model.specs.Check.CheckedParts.{class_numbers}
+use Rattle.hz_description_model.specs.Reading.Descriptions.{Description}
 use Rattle.hz_base_model.specs.Lines.{place_of}
-use Rattle.hz_check_model.specs.Places.{class_names}
+use Rattle.hz_description_model.specs.Check.Places.{class_names}
 
 -- Lists of numbers.
 

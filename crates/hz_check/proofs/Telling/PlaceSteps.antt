@@ -12,17 +12,17 @@ use Rattle.std.specs.Prelude.{count_by}
 use Rattle.hz_base_model.specs.Limits.{unit_limit}
 use Rattle.hz_mdread.specs.declared.items.UnitItem.{UnitItem as StoredUnit}
 use Rattle.hz_mdread.specs.Shape.{unit_item}
-use Rattle.hz_expand.specs.declared.places.UnitPlace.{UnitPlace as Place}
-use Rattle.hz_expand.specs.Shape.{place_of}
+use Rattle.hz_check_reservations.specs.declared.listing.unit_place.UnitPlace.{UnitPlace as Place}
+use Rattle.hz_check_reservations.specs.Shape.{place_of}
 use Rattle.hz_check.proofs.Lists.Earliest.{earlier-earlier}
 use Rattle.hz_check.proofs.Lists.InOrder.{AllPairs-drop, earlier_one}
 use Rattle.hz_check.proofs.Lists.Next.{drop_next}
 use Rattle.hz_base_model.proofs.Ascending.{AllPairs-head}
-use Rattle.hz_altern_model.specs.Automata.{UnitPlace}
-use Rattle.hz_check_model.specs.CheckFaults.{past_units}
-use Rattle.hz_mdread_model.specs.Descriptions.{Description, UnitItem}
-use Rattle.hz_check_model.specs.Places.{automaton_number, automaton_numbers, place_behind, places_behind}
-use Rattle.hz_check_model.specs.Sites.{Site, earlier, earliest}
+use Rattle.hz_description_model.specs.Reservations.Automata.{UnitPlace}
+use Rattle.hz_description_model.specs.Check.CheckFaults.{past_units}
+use Rattle.hz_description_model.specs.Reading.Descriptions.{Description, UnitItem}
+use Rattle.hz_description_model.specs.Check.Places.{automaton_number, automaton_numbers, place_behind, places_behind}
+use Rattle.hz_description_model.specs.Check.Sites.{Site, earlier, earliest}
 use Rattle.hz_base_model.specs.Lines.{place_of as place_in}
 
 count_push : (p : ℕ → Bool) (xs : List ℕ) (y : ℕ) → count_by p (xs ++ y ∷ []) ≡ count_by p xs + cond (p y) 1 0

@@ -7,10 +7,10 @@ use Rattle.std.specs.Map.{update}
 use Rattle.std.specs.Option.{option_map_or}
 use Rattle.std.proofs.Math.Path.{fun_ext}
 use Rattle.std.specs.Str.{bytes_eq}
-use Rattle.hz_check_model.specs.Sites.{Site, is_among, is_preceded, repeated, earlier, earliest}
+use Rattle.hz_description_model.specs.Check.Sites.{Site, is_among, is_preceded, repeated, earlier, earliest}
 use Rattle.std.specs.Bool.{then_some}
-use Rattle.hz_unfold.specs.declared.site.Site as stored
-use Rattle.hz_unfold.specs.Places.{site_of, told}
+use Rattle.hz_check_reservations.specs.declared.ordering.site.Site as stored
+use Rattle.hz_check_reservations.specs.Places.{site_of, told}
 use Rattle.hz_check.specs.declared.names.by_name.ByName.{ByName}
 use Rattle.hz_check.specs.Names.Held.{held}
 use Rattle.hz_check.specs.Faults.Twice.{is_given, seen_with, repeated_by, unseen}

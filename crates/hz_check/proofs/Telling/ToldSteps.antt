@@ -3,9 +3,9 @@ use Rattle.std.proofs.Common.{◌≡◌, Option, Some, None, refl, ap, ◌∙◌
 use Rattle.std.specs.Option.{option_map, option_or}
 use Rattle.hz_check.specs.declared.faults.told.Told.{Told as StoredTold}
 use Rattle.hz_check.specs.Faults.{told_of}
-use Rattle.hz_check_model.specs.CheckFaults.{CheckFault}
-use Rattle.hz_check_model.specs.FirstTold.{Told, told_at}
-use Rattle.hz_check_model.specs.Sites.{Site}
+use Rattle.hz_description_model.specs.Check.CheckFaults.{CheckFault}
+use Rattle.hz_description_model.specs.Check.FirstTold.{Told, told_at}
+use Rattle.hz_description_model.specs.Check.Sites.{Site}
 
 -- what is told first of two
 pub map-or : (a b : Option StoredTold) → option_map told_of (option_or a b) ≡ option_or (option_map told_of a) (option_map told_of b)

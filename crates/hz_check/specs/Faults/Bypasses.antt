@@ -3,10 +3,10 @@ use Rattle.std.specs.Prelude.{◌≡◌, ℕ, ◌==◌, Bool, false, not, List, 
 use Rattle.std.specs.List.{list_any}
 use Rattle.std.specs.declared.alloc.Global.{Global}
 use Rattle.std.specs.declared.vec.Vec.{Vec}
-use Rattle.hz_check_model.specs.CheckFaults.{differs}
-use Rattle.hz_mdread_model.specs.Descriptions.{Description, BypassItem}
+use Rattle.hz_description_model.specs.Check.CheckFaults.{differs}
+use Rattle.hz_description_model.specs.Reading.Descriptions.{Description, BypassItem}
 use Rattle.hz_base_model.specs.Lines.{place_of}
-use Rattle.hz_check_model.specs.Places.{class_names}
+use Rattle.hz_description_model.specs.Check.Places.{class_names}
 
 -- the number that a row has for a consuming class
 abbrev pub given_in : List (Option ℕ) → ℕ → Option ℕ

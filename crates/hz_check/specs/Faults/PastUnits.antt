@@ -1,11 +1,11 @@
 -- The places of units.
 use Rattle.std.specs.Prelude.{◌≡◌, ◌<◌, List, [], map, All}
-use Rattle.hz_expand.specs.declared.places.UnitPlace.{UnitPlace as Place}
-use Rattle.hz_expand.specs.Shape.{place_of}
-use Rattle.hz_check_model.specs.CheckFaults.{past_units}
-use Rattle.hz_mdread_model.specs.Descriptions.{Description}
+use Rattle.hz_check_reservations.specs.declared.listing.unit_place.UnitPlace.{UnitPlace as Place}
+use Rattle.hz_check_reservations.specs.Shape.{place_of}
+use Rattle.hz_description_model.specs.Check.CheckFaults.{past_units}
+use Rattle.hz_description_model.specs.Reading.Descriptions.{Description}
 use Rattle.hz_base_model.specs.Limits.{automaton_limit, unit_limit}
-use Rattle.hz_check_model.specs.Places.{unit_places}
+use Rattle.hz_description_model.specs.Check.Places.{unit_places}
 
 -- the unit is one that an automaton may have
 pub record IsWithin (p : Place) : Type 0 where

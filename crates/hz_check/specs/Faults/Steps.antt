@@ -1,14 +1,19 @@
 -- What is known between the steps of the check.
 use Rattle.std.specs.Prelude.{◌≡◌, ℕ, List, None, drop}
-use Rattle.hz_check_model.specs.CheckFaults.{faults_of_names, self_exclusions, sets_across_automata, automaton_sites, class_sites, past_units}
-use Rattle.hz_check_model.specs.FirstTold.{first_told}
-use Rattle.hz_mdread_model.specs.DescriptionShape.{IsCheckable}
-use Rattle.hz_mdread_model.specs.Descriptions.{Description}
+use Rattle.hz_description_model.specs.Check.CheckFaults.{faults_of_names, self_exclusions, sets_across_automata, second_numbers, automaton_sites, class_sites, past_units}
+use Rattle.hz_description_model.specs.Check.FirstTold.{first_told}
+use Rattle.hz_description_model.specs.Reading.DescriptionShape.{IsCheckable}
+use Rattle.hz_description_model.specs.Reading.Descriptions.{Description}
 use Rattle.hz_base_model.specs.Limits.{automaton_limit, class_limit}
-use Rattle.hz_check_model.specs.Places.{Known, IsKnown, unit_places}
-use Rattle.hz_check_model.specs.SplitClasses.{mixed_classes, uneven_classes}
-use Rattle.hz_check_model.specs.Sites.{earliest}
-use Rattle.hz_unfold.specs.Orders.{IsOrder}
+use Rattle.hz_description_model.specs.Check.Places.{Known, IsKnown, unit_places}
+use Rattle.hz_description_model.specs.Check.SplitClasses.{mixed_classes, uneven_classes}
+use Rattle.hz_description_model.specs.Check.Sites.{earliest}
+use Rattle.hz_check_reservations.specs.Answers.{AreExpanded}
+use Rattle.hz_check_reservations.specs.Orders.{IsOrder, reservings}
+use Rattle.hz_check_reservations.specs.Past.{AreWithinExtents}
+use Rattle.hz_altern.specs.declared.alternative.Alt.{Alt}
+use Rattle.std.specs.declared.alloc.Global.{Global}
+use Rattle.std.specs.declared.vec.Vec.{Vec}
 
 -- the names are right, and reservations and classes have this counting order
 pub record IsOrdered (d : Description) (order : List ℕ) : Type 0 where
@@ -28,3 +33,10 @@ pub record AreWithin (d : Description) : Type 0 where
 pub record AreUnbroken (d : Description) : Type 0 where
   pub mixed : (known : Known) → IsKnown d known → earliest (mixed_classes d known) ≡ None
   pub uneven : (known : Known) → IsKnown d known → earliest (uneven_classes d known) ≡ None
+
+-- these are the alternatives of the classes, of which none is too large, and none of the last faults stands
+pub record AreLists (d : Description) (order : List ℕ) (lists : List (Vec Alt Global)) : Type 0 where
+  pub expanded : AreExpanded d (reservings d order) lists
+  pub extents : AreWithinExtents d (reservings d order)
+  pub rules : AreUnbroken d
+  pub once : earliest (second_numbers d) ≡ None

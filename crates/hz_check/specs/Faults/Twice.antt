@@ -2,7 +2,7 @@
 use Rattle.std.specs.Prelude.{ℕ, Bool, false, ◌||◌, nat_lt, List, [], ◌∷◌, if◌then◌else◌}
 use Rattle.std.specs.Option.{option_map_or}
 use Rattle.std.specs.Str.{bytes_eq}
-use Rattle.hz_check_model.specs.Sites.{Site}
+use Rattle.hz_description_model.specs.Check.Sites.{Site}
 use Rattle.hz_check.specs.declared.names.by_name.ByName.{ByName}
 use Rattle.hz_check.specs.Names.Held.{held}
 

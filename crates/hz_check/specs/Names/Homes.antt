@@ -3,7 +3,7 @@ use Rattle.std.specs.Prelude.{◌≡◌, ℕ, List, Option, Some, None, map, Con
 use Rattle.std.specs.Ordering.{nat_cmp}
 use Rattle.std.specs.BTreeMap.{BTreeMap, get}
 use Rattle.hz_base_model.specs.Lines.{place_of}
-use Rattle.hz_mdread_model.specs.Descriptions.{Description, UnitItem}
+use Rattle.hz_description_model.specs.Reading.Descriptions.{Description, UnitItem}
 
 -- the place of the automaton of this name, where there is a name and it is defined
 abbrev pub automaton_place : Description → Option (List ℕ) → Option ℕ

@@ -2,10 +2,10 @@
 use Rattle.std.specs.Prelude.{map, All}
 use Rattle.hz_check.specs.declared.parts.placed_sets.PlacedSet.{PlacedSet}
 use Rattle.hz_check.specs.Faults.PastUnits.{IsWithin}
-use Rattle.hz_expand.specs.Shape.{place_of}
+use Rattle.hz_check_reservations.specs.Shape.{place_of}
 use Rattle.hz_unitsets.specs.SetRules.{kind_of}
-use Rattle.hz_altern_model.specs.Automata.{UnitPlace}
-use Rattle.hz_altern_model.specs.Sets.{Statement}
+use Rattle.hz_description_model.specs.Reservations.Automata.{UnitPlace}
+use Rattle.hz_description_model.specs.Reservations.Sets.{Statement}
 
 -- a set statement on units by their places
 abbrev pub placed_statement : PlacedSet → Statement UnitPlace

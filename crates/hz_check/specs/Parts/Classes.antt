@@ -1,10 +1,10 @@
 -- Classes with their lists, where each has its alternatives beside it.
 use Rattle.std.specs.Prelude.{ℕ, List, [], ◌∷◌, map}
 use Rattle.std.specs.List.{range_with_len}
-use Rattle.hz_altern_model.specs.Alternatives.{Alternative}
-use Rattle.hz_altern_model.specs.Automata.{UnitPlace, list_in}
-use Rattle.hz_check_model.specs.CheckedParts.{ClassParts}
-use Rattle.hz_mdread_model.specs.Descriptions.{ClassItem}
+use Rattle.hz_description_model.specs.Reservations.Alternatives.{Alternative}
+use Rattle.hz_description_model.specs.Reservations.Automata.{UnitPlace, list_in}
+use Rattle.hz_description_model.specs.Check.CheckedParts.{ClassParts}
+use Rattle.hz_description_model.specs.Reading.Descriptions.{ClassItem}
 use Rattle.hz_base_model.specs.Pairs.{Pair}
 
 -- the list of each of so many automata

@@ -5,16 +5,15 @@ ghost use Rattle.hz_mdread.specs.Shape.{description};
 ghost use Rattle.hz_check.specs.Faults.Steps.{IsOrdered, AreWithin, AreUnbroken};
 ghost use Rattle.hz_check.specs.Faults.{Tells, IsToldAt};
 ghost use Rattle.hz_check.specs.Faults.PastUnits.{ArePlaces};
-ghost use Rattle.hz_expand.specs.Answers.{AreExpanded};
-ghost use Rattle.hz_expand.specs.Past.{AreWithinExtents};
-ghost use Rattle.hz_unfold.specs.Orders.{reservings};
+ghost use Rattle.hz_check_reservations.specs.Answers.{AreExpanded};
+ghost use Rattle.hz_check_reservations.specs.Past.{AreWithinExtents};
+ghost use Rattle.hz_check_reservations.specs.Orders.{reservings};
 
 use crate::fault::CheckFault;
 use crate::faults::told::{Wrong, refused};
 use hz_altern::Alt;
-use hz_expand::UnitPlace;
+use hz_check_reservations::{UnitPlace, broken_rules};
 use hz_mdread::Description;
-use hz_split::broken_rules;
 use std::alloc::Global;
 
 /// The alternatives of each class as they are, where no class breaks one of the two rules on units of several automata.

@@ -3,11 +3,11 @@
 ghost use Rattle.std.specs.Prelude.{◌≡◌, ◌<◌, ◌≤◌, ℕ, Bool, All, IfOk, None, filter, vec_len};
 ghost use Rattle.std.specs.List.{AllPairs};
 ghost use Rattle.hz_mdread.specs.Shape.{description};
-ghost use Rattle.hz_unfold.specs.Places.{told};
+ghost use Rattle.hz_check_reservations.specs.Places.{told};
 ghost use Rattle.hz_check.specs.Names.First.{first_of};
-ghost use Rattle.hz_check_model.specs.CheckFaults.{second_numbers, unknown_names};
-ghost use Rattle.hz_check_model.specs.CheckedParts.{class_numbers};
-ghost use Rattle.hz_check_model.specs.Sites.{earliest};
+ghost use Rattle.hz_description_model.specs.Check.CheckFaults.{second_numbers, unknown_names};
+ghost use Rattle.hz_description_model.specs.Check.CheckedParts.{class_numbers};
+ghost use Rattle.hz_description_model.specs.Check.Sites.{earliest};
 
 use crate::faults::bypass_rows::{distinct, first_other, give_all, no_rows};
 use crate::names::Names;

@@ -3,10 +3,10 @@
 ghost use Rattle.std.specs.Prelude.{◌≡◌, ◌≤◌, map, drop};
 ghost use Rattle.std.specs.List.{AllPairs};
 ghost use Rattle.hz_mdread.specs.Shape.{description};
-ghost use Rattle.hz_unfold.specs.Places.{told};
-ghost use Rattle.hz_check_model.specs.CheckFaults.{automaton_sites, class_sites};
+ghost use Rattle.hz_check_reservations.specs.Places.{told};
+ghost use Rattle.hz_description_model.specs.Check.CheckFaults.{automaton_sites, class_sites};
 ghost use Rattle.hz_base_model.specs.Limits as limits;
-ghost use Rattle.hz_check_model.specs.Sites.{earliest};
+ghost use Rattle.hz_description_model.specs.Check.Sites.{earliest};
 
 use crate::names::items::Defines;
 use crate::names::site::Site;

@@ -4,8 +4,8 @@ ghost use Rattle.std.specs.Prelude.{◌≡◌, IfOk};
 ghost use Rattle.std.specs.Option.{option_map};
 ghost use Rattle.hz_mdread.specs.Shape.{description};
 ghost use Rattle.hz_check.specs.Faults.{told_of};
-ghost use Rattle.hz_check_model.specs.CheckFaults.{faults_of_names};
-ghost use Rattle.hz_check_model.specs.FirstTold.{first_told};
+ghost use Rattle.hz_description_model.specs.Check.CheckFaults.{faults_of_names};
+ghost use Rattle.hz_description_model.specs.Check.FirstTold.{first_told};
 
 use crate::faults::reserved_name::reserved_name;
 use crate::faults::told::{Told, Wrong, at};

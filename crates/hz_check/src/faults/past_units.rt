@@ -3,19 +3,19 @@
 ghost use Rattle.std.specs.Prelude.{◌≡◌, ◌≤◌, IfOk, map, length, []};
 ghost use Rattle.std.specs.List.{AllPairs};
 ghost use Rattle.hz_mdread.specs.Shape.{description};
-ghost use Rattle.hz_unfold.specs.Places.{told};
+ghost use Rattle.hz_check_reservations.specs.Places.{told};
 ghost use Rattle.hz_check.specs.Faults.PastUnits.{ArePlaces};
-ghost use Rattle.hz_check_model.specs.CheckFaults.{past_units};
-ghost use Rattle.hz_check_model.specs.Places.{unit_places};
-ghost use Rattle.hz_check_model.specs.Sites.{earliest};
-ghost use Rattle.hz_expand.specs.Shape.{place_of};
+ghost use Rattle.hz_description_model.specs.Check.CheckFaults.{past_units};
+ghost use Rattle.hz_description_model.specs.Check.Places.{unit_places};
+ghost use Rattle.hz_description_model.specs.Check.Sites.{earliest};
+ghost use Rattle.hz_check_reservations.specs.Shape.{place_of};
 ghost use Rattle.hz_base_model.specs.Limits as limits;
 
 use crate::faults::limits::AUTOMATA;
 use crate::names::Names;
 use crate::names::items::Defines;
 use crate::names::site::Site;
-use hz_expand::UnitPlace;
+use hz_check_reservations::UnitPlace;
 use hz_grid::UNITS;
 use hz_regexp::NoMemory;
 use std::alloc::Global;

@@ -3,9 +3,9 @@
 ghost use Rattle.std.specs.Prelude.{◌≡◌, map, filter, codes};
 ghost use Rattle.std.specs.Str.{bytes_eq};
 ghost use Rattle.hz_mdread.specs.Shape.{description};
-ghost use Rattle.hz_unfold.specs.Places.{told};
-ghost use Rattle.hz_check_model.specs.CheckFaults.{reserved_names};
-ghost use Rattle.hz_check_model.specs.Sites.{earliest};
+ghost use Rattle.hz_check_reservations.specs.Places.{told};
+ghost use Rattle.hz_description_model.specs.Check.CheckFaults.{reserved_names};
+ghost use Rattle.hz_description_model.specs.Check.Sites.{earliest};
 
 use crate::names::items::Defines;
 use crate::names::site::{Site, earlier};

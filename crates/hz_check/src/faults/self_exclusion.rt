@@ -4,9 +4,9 @@ ghost use Rattle.std.specs.Prelude.{◌≡◌, IfOk, filter};
 ghost use Rattle.std.specs.List.{flat_map};
 ghost use Rattle.hz_mdread.specs.Shape.{description, set_item};
 ghost use Rattle.hz_check.specs.Names.{IsJust};
-ghost use Rattle.hz_unfold.specs.Places.{told};
-ghost use Rattle.hz_check_model.specs.CheckFaults.{sites_of, units_of_patterns, self_excluded, self_exclusions};
-ghost use Rattle.hz_check_model.specs.Sites.{earliest, is_among};
+ghost use Rattle.hz_check_reservations.specs.Places.{told};
+ghost use Rattle.hz_description_model.specs.Check.CheckFaults.{sites_of, units_of_patterns, self_excluded, self_exclusions};
+ghost use Rattle.hz_description_model.specs.Check.Sites.{earliest, is_among};
 
 use crate::names::by_name::ByName;
 use crate::names::site::{Site, earlier, site_in};

@@ -4,10 +4,10 @@ ghost use Rattle.std.specs.Prelude.{◌≡◌, filter, not};
 ghost use Rattle.std.specs.List.{flat_map};
 ghost use Rattle.std.specs.Option.{option_copied};
 ghost use Rattle.hz_mdread.specs.Shape.{description, set_item};
-ghost use Rattle.hz_unfold.specs.Places.{told};
+ghost use Rattle.hz_check_reservations.specs.Places.{told};
 ghost use Rattle.hz_check.specs.Names.First.{first_of};
-ghost use Rattle.hz_check_model.specs.CheckFaults.{sites_of, home, same_home, strangers, names_of_set, sets_across_automata};
-ghost use Rattle.hz_check_model.specs.Sites.{earliest};
+ghost use Rattle.hz_description_model.specs.Check.CheckFaults.{sites_of, home, same_home, strangers, names_of_set, sets_across_automata};
+ghost use Rattle.hz_description_model.specs.Check.Sites.{earliest};
 
 use crate::names::Names;
 use crate::names::site::{Site, earlier, site_in};

@@ -6,9 +6,9 @@ ghost use Rattle.hz_mdread.specs.Shape.{description};
 ghost use Rattle.hz_check.specs.Faults.Steps.{IsOrdered, AreWithin};
 ghost use Rattle.hz_check.specs.Faults.{Tells, IsToldAt, IsOrderOrCircle};
 ghost use Rattle.hz_check.specs.Faults.PastUnits.{ArePlaces};
-ghost use Rattle.hz_check_model.specs.CheckFaults.{faults_of_names};
-ghost use Rattle.hz_check_model.specs.FirstTold.{first_told};
-ghost use Rattle.hz_mdread_model.specs.DescriptionShape.{IsCheckable, SharesAutomaton};
+ghost use Rattle.hz_description_model.specs.Check.CheckFaults.{faults_of_names};
+ghost use Rattle.hz_description_model.specs.Check.FirstTold.{first_told};
+ghost use Rattle.hz_description_model.specs.Reading.DescriptionShape.{IsCheckable, SharesAutomaton};
 
 use crate::fault::{CheckFault, LimitName};
 use crate::faults::limits::{past_automaton, past_class};
@@ -19,10 +19,9 @@ use crate::faults::set_across_automata::set_across_automata;
 use crate::faults::told::{Wrong, fault, refused};
 use crate::names::Names;
 use crate::names::items::Defines;
-use hz_expand::UnitPlace;
+use hz_check_reservations::{Order, OrderFault, UnitPlace, counting_order};
 use hz_mdread::Description;
 use hz_regexp::NoMemory;
-use hz_unfold::{Order, OrderFault, counting_order};
 use std::alloc::Global;
 
 /// The names of a description, where no fault of names stands.

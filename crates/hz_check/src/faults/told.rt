@@ -3,8 +3,8 @@
 ghost use Rattle.std.specs.Prelude.{◌≡◌, None};
 ghost use Rattle.std.specs.Option.{option_map};
 ghost use Rattle.hz_check.specs.Faults.{Tells, IsToldHere, fault_if_copied, fault_named, told_of, wrong_of};
-ghost use Rattle.hz_unfold.specs.Places.{site_of, told};
-ghost use Rattle.hz_check_model.specs.FirstTold.{told_at};
+ghost use Rattle.hz_check_reservations.specs.Places.{site_of, told};
+ghost use Rattle.hz_description_model.specs.Check.FirstTold.{told_at};
 
 use crate::fault::{CheckFault, LimitName};
 use crate::names::site::Site;

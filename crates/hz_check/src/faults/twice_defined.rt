@@ -3,12 +3,12 @@
 ghost use Rattle.std.specs.Prelude.{◌≡◌, ◌||◌, IfOk, map};
 ghost use Rattle.std.specs.List.{flat_map};
 ghost use Rattle.hz_mdread.specs.Shape.{description, attribute_item};
-ghost use Rattle.hz_unfold.specs.Places.{site_of, told};
+ghost use Rattle.hz_check_reservations.specs.Places.{site_of, told};
 ghost use Rattle.hz_check.specs.Names.Held.{is_held};
 ghost use Rattle.hz_check.specs.Faults.Twice.{is_given, repeated_by, unseen};
-ghost use Rattle.hz_check_model.specs.CheckFaults.{second_definitions, repeated_values};
-ghost use Rattle.hz_check_model.specs.Sites as model;
-ghost use Rattle.hz_check_model.specs.Sites.{earliest, is_preceded};
+ghost use Rattle.hz_description_model.specs.Check.CheckFaults.{second_definitions, repeated_values};
+ghost use Rattle.hz_description_model.specs.Check.Sites as model;
+ghost use Rattle.hz_description_model.specs.Check.Sites.{earliest, is_preceded};
 
 use crate::names::by_name::ByName;
 use crate::names::items::Defines;

@@ -2,9 +2,9 @@
 
 ghost use Rattle.std.specs.Prelude.{◌≡◌};
 ghost use Rattle.hz_mdread.specs.Shape.{description, unit_item};
-ghost use Rattle.hz_unfold.specs.Places.{told};
-ghost use Rattle.hz_check_model.specs.CheckFaults.{units_without_automaton, homeless};
-ghost use Rattle.hz_check_model.specs.Sites.{earliest};
+ghost use Rattle.hz_check_reservations.specs.Places.{told};
+ghost use Rattle.hz_description_model.specs.Check.CheckFaults.{units_without_automaton, homeless};
+ghost use Rattle.hz_description_model.specs.Check.Sites.{earliest};
 
 use crate::names::items::Defines;
 use crate::names::site::{Site, earlier};

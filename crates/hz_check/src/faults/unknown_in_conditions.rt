@@ -4,7 +4,7 @@ ghost use Rattle.std.specs.Prelude.{◌≡◌};
 ghost use Rattle.std.specs.Option.{option_copied};
 ghost use Rattle.hz_mdread.specs.Shape.{description, condition, conditions};
 ghost use Rattle.hz_check.specs.Names.First.{first_of};
-ghost use Rattle.hz_check_model.specs.CheckFaults.{values_of, unknown_in_test, unknown_in_condition, unknown_in_conditions};
+ghost use Rattle.hz_description_model.specs.Check.CheckFaults.{values_of, unknown_in_test, unknown_in_condition, unknown_in_conditions};
 
 use crate::names::Names;
 use crate::names::tables::first_missing;

@@ -5,9 +5,9 @@ ghost use Rattle.std.specs.Option.{option_copied};
 ghost use Rattle.hz_mdread.specs.Shape.{description};
 ghost use Rattle.hz_regexp.specs.Shape.{expression, expressions};
 ghost use Rattle.hz_check.specs.Names.First.{first_of};
-ghost use Rattle.hz_check_model.specs.CheckFaults.{is_reservable, unknown_in_expression};
-ghost use Rattle.hz_altern_model.specs.NamesIn.{names_in_parts};
-ghost use Rattle.hz_altern_model.specs.Alternatives.{parts_of};
+ghost use Rattle.hz_description_model.specs.Check.CheckFaults.{is_reservable, unknown_in_expression};
+ghost use Rattle.hz_description_model.specs.Reservations.NamesIn.{names_in_parts};
+ghost use Rattle.hz_description_model.specs.Reservations.Alternatives.{parts_of};
 
 use crate::names::Names;
 use hz_regexp::{Expr, Name};

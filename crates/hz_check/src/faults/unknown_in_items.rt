@@ -6,11 +6,11 @@ ghost use Rattle.std.specs.Option.{option_copied};
 ghost use Rattle.hz_check.specs.Names.First.{first_of};
 ghost use Rattle.hz_mdread.specs.Shape.{description, condition, bypass_item, set_item};
 ghost use Rattle.hz_regexp.specs.Shape.{expression};
-ghost use Rattle.hz_unfold.specs.Places.{told};
-ghost use Rattle.hz_check_model.specs.CheckFaults.{sites_of, is_unit, is_class, unknown_in_expression, unknown_in_condition, names_of_bypass, names_of_set};
-ghost use Rattle.hz_mdread_model.specs.Descriptions.{Description};
-ghost use Rattle.hz_check_model.specs.Sites as sites;
-ghost use Rattle.hz_check_model.specs.Sites.{earliest, is_among};
+ghost use Rattle.hz_check_reservations.specs.Places.{told};
+ghost use Rattle.hz_description_model.specs.Check.CheckFaults.{sites_of, is_unit, is_class, unknown_in_expression, unknown_in_condition, names_of_bypass, names_of_set};
+ghost use Rattle.hz_description_model.specs.Reading.Descriptions.{Description};
+ghost use Rattle.hz_description_model.specs.Check.Sites as sites;
+ghost use Rattle.hz_description_model.specs.Check.Sites.{earliest, is_among};
 
 use crate::faults::unknown_in_conditions::unknown_in_condition;
 use crate::faults::unknown_in_expressions::unknown_in_expression;

@@ -3,12 +3,12 @@
 ghost use Rattle.std.specs.Prelude.{◌≡◌, List, ℕ};
 ghost use Rattle.std.specs.List.{flat_map};
 ghost use Rattle.hz_mdread.specs.Shape.{description};
-ghost use Rattle.hz_unfold.specs.Places.{told};
-ghost use Rattle.hz_check_model.specs.CheckFaults as model;
-ghost use Rattle.hz_check_model.specs.CheckFaults.{unknown_names};
-ghost use Rattle.hz_mdread_model.specs.Descriptions.{Description};
-ghost use Rattle.hz_check_model.specs.Sites as sites;
-ghost use Rattle.hz_check_model.specs.Sites.{earliest};
+ghost use Rattle.hz_check_reservations.specs.Places.{told};
+ghost use Rattle.hz_description_model.specs.Check.CheckFaults as model;
+ghost use Rattle.hz_description_model.specs.Check.CheckFaults.{unknown_names};
+ghost use Rattle.hz_description_model.specs.Reading.Descriptions.{Description};
+ghost use Rattle.hz_description_model.specs.Check.Sites as sites;
+ghost use Rattle.hz_description_model.specs.Check.Sites.{earliest};
 
 use crate::faults::unknown_in_items::Refers;
 use crate::names::Names;

@@ -2,7 +2,7 @@
 
 ghost use Rattle.std.specs.Prelude.{◌≡◌, IfOk};
 ghost use Rattle.hz_mdread.specs.Shape.{description};
-ghost use Rattle.hz_check_model.specs.CheckedParts.{class_numbers};
+ghost use Rattle.hz_description_model.specs.Check.CheckedParts.{class_numbers};
 
 use crate::names::Names;
 use hz_regexp::{Name, NoMemory};

@@ -4,8 +4,8 @@ ghost use Rattle.std.specs.Prelude.{◌≡◌, ℕ, List, IfOk, map};
 ghost use Rattle.std.specs.List.{AllPairs};
 ghost use Rattle.hz_base_model.specs.Lines.{place_of};
 ghost use Rattle.hz_mdread.specs.Shape.{description};
-ghost use Rattle.hz_mdread_model.specs.DescriptionShape.{SharesAutomaton};
-ghost use Rattle.hz_mdread_model.specs.Descriptions as model;
+ghost use Rattle.hz_description_model.specs.Reading.DescriptionShape.{SharesAutomaton};
+ghost use Rattle.hz_description_model.specs.Reading.Descriptions as model;
 ghost use Rattle.hz_check.specs.Names.{HoldsPlaces};
 ghost use Rattle.hz_check.specs.Names.Homes.{AreHomes, automaton_place};
 

@@ -1,8 +1,8 @@
 //! Items that define a name.
 
 ghost use Rattle.std.specs.Prelude.{◌≡◌};
-ghost use Rattle.hz_unfold.specs.Places.{site_of};
-ghost use Rattle.hz_check_model.specs.Sites as model;
+ghost use Rattle.hz_check_reservations.specs.Places.{site_of};
+ghost use Rattle.hz_description_model.specs.Check.Sites as model;
 
 use crate::names::site::Site;
 use hz_mdread::{AttrItem, AutomatonItem, ClassItem, ReservationItem, UnitItem};

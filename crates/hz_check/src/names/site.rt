@@ -3,12 +3,12 @@
 ghost use Rattle.std.specs.Prelude.{◌≡◌, List, ℕ};
 ghost use Rattle.std.specs.Option.{option_copied};
 ghost use Rattle.hz_check.specs.Names.First.{first_of};
-ghost use Rattle.hz_check_model.specs.CheckFaults.{sites_of};
-ghost use Rattle.hz_unfold.specs.Places.{told};
-ghost use Rattle.hz_check_model.specs.Sites as model;
+ghost use Rattle.hz_description_model.specs.Check.CheckFaults.{sites_of};
+ghost use Rattle.hz_check_reservations.specs.Places.{told};
+ghost use Rattle.hz_description_model.specs.Check.Sites as model;
 
+pub(crate) use hz_check_reservations::{Site, earlier};
 use hz_regexp::Name;
-pub(crate) use hz_unfold::{Site, earlier};
 
 /// The site of a name in a form, if there is one.
 pub(crate) fn site_in<'a>(line: u32, form: u32, name: Option<&'a Name>) -> Option<Site<'a>>

@@ -8,7 +8,7 @@ ghost use Rattle.hz_mdread.specs.Shape.{attribute_item};
 ghost use Rattle.hz_check.specs.Names.Held.{held, is_held};
 ghost use Rattle.hz_check.specs.Names.{HoldsPlaces, IsJust, test_by, test_of};
 ghost use Rattle.hz_check.specs.Names.First.{first_of};
-ghost use Rattle.hz_check_model.specs.CheckFaults as model;
+ghost use Rattle.hz_description_model.specs.Check.CheckFaults as model;
 
 use crate::names::by_name::ByName;
 use crate::names::items::Defines;

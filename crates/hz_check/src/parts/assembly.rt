@@ -4,9 +4,9 @@ ghost use Rattle.std.specs.Prelude.{◌≡◌, ◌<◌, ◌≤◌, All, IfOk, co
 ghost use Rattle.hz_mdread.specs.Shape.{description, bypass_item};
 ghost use Rattle.hz_check.specs.Parts.Assembly.{placed_statement, IsPlaced};
 ghost use Rattle.hz_check.specs.Shape.{automaton_of, bypass_of, attribute_of};
-ghost use Rattle.hz_check_model.specs.CheckedParts.{units_in, automaton_parts, automata_from, automata_of, bypass_parts, class_numbers};
+ghost use Rattle.hz_description_model.specs.Check.CheckedParts.{units_in, automaton_parts, automata_from, automata_of, bypass_parts, class_numbers};
 ghost use Rattle.hz_base_model.specs.Limits as limits;
-ghost use Rattle.hz_check_model.specs.Places.{statement_of};
+ghost use Rattle.hz_description_model.specs.Check.Places.{statement_of};
 
 use crate::checked::{CheckedAutomaton, CheckedBypass};
 use crate::names::Names;

@@ -5,12 +5,12 @@ ghost use Rattle.hz_altern.specs.Shapes.{alternatives};
 ghost use Rattle.hz_mdread.specs.Shape.{class_item};
 ghost use Rattle.hz_check.specs.Shape.{class_of};
 ghost use Rattle.hz_check.specs.Parts.Classes.{lists_in, class_with, classes_with};
-ghost use Rattle.hz_altern_model.specs.AlternativeLists.{IsCuttable};
-ghost use Rattle.hz_altern_model.specs.Alternatives.{alternatives_of};
-ghost use Rattle.hz_altern_model.specs.Automata.{listed};
-ghost use Rattle.hz_check_model.specs.Places.{Known};
-ghost use Rattle.hz_check_model.specs.CheckedParts.{automaton_count, class_parts};
-ghost use Rattle.hz_mdread_model.specs.Descriptions as model;
+ghost use Rattle.hz_description_model.specs.Reservations.AlternativeLists.{IsCuttable};
+ghost use Rattle.hz_description_model.specs.Reservations.Alternatives.{alternatives_of};
+ghost use Rattle.hz_description_model.specs.Reservations.Automata.{listed};
+ghost use Rattle.hz_description_model.specs.Check.Places.{Known};
+ghost use Rattle.hz_description_model.specs.Check.CheckedParts.{automaton_count, class_parts};
+ghost use Rattle.hz_description_model.specs.Reading.Descriptions as model;
 ghost use Rattle.hz_base_model.specs.Limits.{automaton_limit};
 
 use crate::checked::CheckedClass;

@@ -5,12 +5,12 @@ ghost use Rattle.std.specs.Option.{option_map};
 ghost use Rattle.hz_mdread.specs.Shape.{description, set_item, set_kind};
 ghost use Rattle.hz_check.specs.Parts.Assembly.{placed_statement, IsPlaced};
 ghost use Rattle.hz_check.specs.Faults.PastUnits.{IsWithin};
-ghost use Rattle.hz_expand.specs.Shape.{place_of};
-ghost use Rattle.hz_check_model.specs.Places.{places_of, statement_of, unit_place, unit_places};
+ghost use Rattle.hz_check_reservations.specs.Shape.{place_of};
+ghost use Rattle.hz_description_model.specs.Check.Places.{places_of, statement_of, unit_place, unit_places};
 ghost use Rattle.hz_unitsets.specs.SetRules.{kind_of};
 
 use crate::names::Names;
-use hz_expand::UnitPlace;
+use hz_check_reservations::UnitPlace;
 use hz_mdread::{SetForm, SetItem};
 use hz_regexp::{Name, NoMemory};
 use hz_unitsets::SetKind;

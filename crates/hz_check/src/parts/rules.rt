@@ -4,12 +4,12 @@ ghost use Rattle.std.specs.Prelude.{◌≡◌, ◌==◌, All, IfOk, map, filter}
 ghost use Rattle.std.specs.List.{list_all};
 ghost use Rattle.hz_check.specs.Parts.Assembly.{placed_statement, IsPlaced};
 ghost use Rattle.hz_check.specs.Faults.PastUnits.{IsWithin};
-ghost use Rattle.hz_expand.specs.Shape.{place_of};
-ghost use Rattle.hz_altern_model.specs.Inside.{inside_statement, is_inside, unit_numbers};
+ghost use Rattle.hz_check_reservations.specs.Shape.{place_of};
+ghost use Rattle.hz_description_model.specs.Reservations.Inside.{inside_statement, is_inside, unit_numbers};
 ghost use Rattle.hz_unitsets.specs.SetRules.{statement_of, statements_of};
 
 use crate::parts::placed_sets::PlacedSet;
-use hz_expand::UnitPlace;
+use hz_check_reservations::UnitPlace;
 use hz_regexp::NoMemory;
 use hz_unitsets::SetRule;
 use std::alloc::Global;

@@ -2,10 +2,10 @@
 
 ghost use Rattle.std.specs.Prelude.{◌≡◌, ◌≤◌, ◌<◌, ◌==◌, ◌+◌, ◌++◌, ℕ, if◌then◌else◌, length, map, slice_index, IfOk, OnOk};
 ghost use Rattle.hz_check.specs.Shape.{bypass_of};
-ghost use Rattle.hz_depend_model.specs.Accesses.{is_among};
+ghost use Rattle.hz_block_model.specs.Dependences.Accesses.{is_among};
 ghost use Rattle.hz_depend.specs.GraphShape.{edge_of};
 ghost use Rattle.hz_depend.specs.Held.{held, found_among, all_found};
-ghost use Rattle.hz_rtl_model.specs.Limits.{instruction_limit};
+ghost use Rattle.hz_block_model.specs.Running.Limits.{instruction_limit};
 
 use crate::finding::access::Touched;
 use crate::finding::pairs::{REGISTERS, cost};

@@ -2,10 +2,10 @@
 
 ghost use Rattle.std.specs.Prelude.{◌≡◌, ◌≤◌, ◌<◌, length, map, All, IfOk};
 ghost use Rattle.std.specs.List.{AllPairs};
-ghost use Rattle.hz_mdread_model.specs.Limits.{latency_limit};
+ghost use Rattle.hz_description_model.specs.Reading.Limits.{latency_limit};
 ghost use Rattle.hz_depend.specs.GraphShape.{edge_of};
 ghost use Rattle.hz_depend.specs.Relaxing.{height_at, relaxed};
-ghost use Rattle.hz_rtl_model.specs.Limits.{instruction_limit};
+ghost use Rattle.hz_block_model.specs.Running.Limits.{instruction_limit};
 
 use crate::nodes::Node;
 use crate::parts::Edge;

@@ -4,7 +4,7 @@ ghost use Rattle.std.specs.Prelude.{◌≡◌, [], ◌++◌, map, IfOk, OnOk};
 ghost use Rattle.std.specs.List.{flat_map};
 ghost use Rattle.std.specs.Option.{option_map};
 ghost use Rattle.hz_rtl.specs.Shape.{value, target, effect, instruction, binary_operator};
-ghost use Rattle.hz_depend_model.specs.Accesses as model;
+ghost use Rattle.hz_block_model.specs.Dependences.Accesses as model;
 ghost use Rattle.hz_depend.specs.Cells.{based, cells};
 ghost use Rattle.hz_depend.specs.AccessShape.{IsAccess};
 

@@ -3,7 +3,7 @@
 ghost use Rattle.std.specs.Prelude.{◌≡◌, ◌%◌, false, [], ◌∷◌, if◌then◌else◌, length, slice_index, IfOk, OnOk};
 ghost use Rattle.std.specs.List.{flat_map};
 ghost use Rattle.std.specs.Option.{option_map};
-ghost use Rattle.hz_rtl_model.specs.Operators.{word_count};
+ghost use Rattle.hz_block_model.specs.Running.Operators.{word_count};
 ghost use Rattle.hz_depend.specs.Cells.{based, cells};
 ghost use Rattle.hz_depend.specs.Noted as model;
 ghost use Rattle.hz_depend.specs.Noted.{Key, IsEmpty, HasMore, put_all, same_key, cell_candidates};

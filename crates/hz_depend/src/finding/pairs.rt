@@ -5,8 +5,8 @@ ghost use Rattle.std.specs.Prelude.{◌≡◌, ◌+◌, ◌<◌, ◌^◌, ◌==�
 ghost use Rattle.std.specs.List.{list_any, find};
 ghost use Rattle.std.specs.Option.{option_map, option_copied};
 ghost use Rattle.hz_check.specs.Shape.{bypass_of};
-ghost use Rattle.hz_depend_model.specs.Accesses.{is_among};
-ghost use Rattle.hz_depend_model.specs.Dependences.{apart_by};
+ghost use Rattle.hz_block_model.specs.Dependences.Accesses.{is_among};
+ghost use Rattle.hz_block_model.specs.Dependences.Dependences.{apart_by};
 ghost use Rattle.hz_depend.specs.Cells.{based, cells};
 ghost use Rattle.hz_depend.specs.Held as model;
 ghost use Rattle.hz_depend.specs.Held.{held};

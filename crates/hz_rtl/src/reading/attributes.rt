@@ -1,7 +1,7 @@
 //! The attributes of one instruction as they are read.
 
 ghost use Rattle.std.specs.Prelude.{ℕ, List, ◌≡◌};
-ghost use Rattle.hz_rtltext_model.specs.BlockForms as model;
+ghost use Rattle.hz_block_model.specs.Texts.BlockForms as model;
 ghost use Rattle.hz_rtl.specs.NameSets.{is_held};
 
 use hz_regexp::{Name, NoMemory};

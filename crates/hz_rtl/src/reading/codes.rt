@@ -2,14 +2,14 @@
 
 ghost use Rattle.std.specs.Prelude.{◌≡◌};
 ghost use Rattle.std.specs.Option.{option_map};
-ghost use Rattle.hz_rtltext_model.specs.Values as model;
+ghost use Rattle.hz_block_model.specs.Texts.Values as model;
 ghost use Rattle.hz_rtl.specs.Shape.{unary_operator, binary_operator};
 ghost use Rattle.hz_rtl.specs.Codes.{value_code, target_code, effect_code};
 
 use crate::block::{Op1, Op2};
 
 /// What a list is in the place of a value.
-#[derive(Clone, Copy, Debug)]
+#[derive(Clone, Copy)]
 pub enum ValueCode {
     Reg,
     Const,
@@ -20,14 +20,14 @@ pub enum ValueCode {
 }
 
 /// What a list is in the place of a place, and in a state.
-#[derive(Clone, Copy, Debug)]
+#[derive(Clone, Copy)]
 pub enum PlaceCode {
     Reg,
     Mem,
 }
 
 /// What a list is in the place of an effect.
-#[derive(Clone, Copy, Debug)]
+#[derive(Clone, Copy)]
 pub enum EffectCode {
     Set,
     Clobber,

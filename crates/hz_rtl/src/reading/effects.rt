@@ -1,8 +1,8 @@
 //! The places, effects and patterns that forms are.
 
 ghost use Rattle.std.specs.Prelude.{◌≡◌, map, IfOk, IfErr, Ok, Err};
-ghost use Rattle.hz_rtltext_model.specs.BlockForms as blocks;
-ghost use Rattle.hz_rtltext_model.specs.Values as model;
+ghost use Rattle.hz_block_model.specs.Texts.BlockForms as blocks;
+ghost use Rattle.hz_block_model.specs.Texts.Values as model;
 ghost use Rattle.hz_rtl.specs.Codes.{target_code, effect_code};
 ghost use Rattle.hz_rtl.specs.Faults.{Tells};
 ghost use Rattle.hz_rtl.specs.Shape.{target, effect};

@@ -3,8 +3,8 @@
 ghost use Rattle.std.specs.Prelude.{ℕ, ◌≡◌, map};
 ghost use Rattle.std.specs.Ordering.{nat_cmp};
 ghost use Rattle.std.specs.BTreeSet.{contains};
-ghost use Rattle.hz_rtl_model.specs.States.{reg, cell};
-ghost use Rattle.hz_rtltext_model.specs.StateForms as model;
+ghost use Rattle.hz_block_model.specs.Running.States.{reg, cell};
+ghost use Rattle.hz_block_model.specs.Texts.StateForms as model;
 ghost use Rattle.hz_rtl.specs.Stores.{store};
 
 use crate::running::store::{Spot, Store};

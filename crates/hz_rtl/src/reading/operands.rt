@@ -2,7 +2,7 @@
 
 ghost use Rattle.std.specs.Prelude.{◌≡◌, IfOk, IfErr, Ok, Err};
 ghost use Rattle.std.specs.Option.{option_map};
-ghost use Rattle.hz_rtltext_model.specs.Operands as model;
+ghost use Rattle.hz_block_model.specs.Texts.Operands as model;
 ghost use Rattle.hz_rtl.specs.Faults.{Tells};
 ghost use Rattle.hz_rtl.specs.Heads.{head_of, vector_in};
 ghost use Rattle.hz_sexp.specs.Shape.{tree, trees};

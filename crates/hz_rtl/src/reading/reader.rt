@@ -2,11 +2,11 @@
 
 ghost use Rattle.std.specs.Prelude.{◌≡◌, ◌≤◌, ◌==◌, [], length, map, IfOk, IfErr, Ok, Err};
 ghost use Rattle.std.specs.List.{list_any};
-ghost use Rattle.hz_rtltext_model.specs.BlockForms as model;
+ghost use Rattle.hz_block_model.specs.Texts.BlockForms as model;
 ghost use Rattle.hz_rtl.specs.Faults.{Tells};
 ghost use Rattle.hz_rtl.specs.Shape.{instruction, instructions};
 ghost use Rattle.hz_sexp.specs.Shape.{tree, trees};
-ghost use Rattle.hz_rtl_model.specs.Limits.{instruction_limit};
+ghost use Rattle.hz_block_model.specs.Running.Limits.{instruction_limit};
 
 use crate::block::{Block, Insn};
 use crate::fault::RtlFault;

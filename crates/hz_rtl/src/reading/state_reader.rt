@@ -1,7 +1,7 @@
 //! The reader of states.
 
 ghost use Rattle.std.specs.Prelude.{◌≡◌, [], IfOk, IfErr, Ok, Err, map};
-ghost use Rattle.hz_rtltext_model.specs.StateForms as model;
+ghost use Rattle.hz_block_model.specs.Texts.StateForms as model;
 ghost use Rattle.hz_rtl.specs.Codes.{target_code};
 ghost use Rattle.hz_rtl.specs.Faults.{Tells};
 ghost use Rattle.hz_rtl.specs.States.{words};

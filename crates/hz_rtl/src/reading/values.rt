@@ -1,7 +1,7 @@
 //! The values that forms are.
 
 ghost use Rattle.std.specs.Prelude.{◌≡◌, IfOk, IfErr, Ok, Err};
-ghost use Rattle.hz_rtltext_model.specs.Values as model;
+ghost use Rattle.hz_block_model.specs.Texts.Values as model;
 ghost use Rattle.hz_rtl.specs.Codes.{value_code};
 ghost use Rattle.hz_rtl.specs.Faults.{Tells};
 ghost use Rattle.hz_rtl.specs.Heads.{judged};

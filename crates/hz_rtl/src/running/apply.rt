@@ -1,7 +1,7 @@
 //! Operators on words.
 
 ghost use Rattle.std.specs.Prelude.{◌≡◌};
-ghost use Rattle.hz_rtl_model.specs.Operators as model;
+ghost use Rattle.hz_block_model.specs.Running.Operators as model;
 ghost use Rattle.hz_rtl.specs.Shape.{unary_operator, binary_operator};
 
 use crate::block::{Op1, Op2};

@@ -2,7 +2,7 @@
 
 ghost use Rattle.std.specs.Prelude.{◌≡◌, ◌<◌, length, map, All, IfOk};
 ghost use Rattle.std.specs.Option.{option_map, option_to_list};
-ghost use Rattle.hz_rtl_model.specs.States as model;
+ghost use Rattle.hz_block_model.specs.Running.States as model;
 ghost use Rattle.hz_rtl.specs.Shape.{value, target, effect, instruction, instructions};
 ghost use Rattle.hz_rtl.specs.States.{words};
 ghost use Rattle.hz_rtl.specs.Stores.{place, store};

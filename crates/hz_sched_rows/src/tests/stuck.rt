@@ -2,10 +2,10 @@
 
 ghost use Rattle.std.specs.Prelude.{◌≡◌, ◌∷◌, [], length, IfOk};
 ghost use Rattle.hz_depend.specs.GraphShape.{IsSchedulable};
-ghost use Rattle.hz_tables_model.specs.Machines.{IsPart};
+ghost use Rattle.hz_automata_model.specs.Tables.Machines.{IsPart};
 ghost use Rattle.hz_tables.specs.Machines.{machine_of};
 ghost use Rattle.hz_tables.specs.Parts.{part_of};
-ghost use Rattle.hz_sched_model.specs.Machines.{Settles};
+ghost use Rattle.hz_block_model.specs.Scheduling.Machines.{Settles};
 ghost use Rattle.hz_sched_rows.specs.Examples.{stuck, stuck_part, stuck_machine};
 
 use hz_depend::{Graph, GraphInsn};

@@ -4,7 +4,7 @@ ghost use Rattle.std.specs.Prelude.{◌≡◌, ◌-◌, ◌^◌, ◌<◌, ◌≤
 ghost use Rattle.std.specs.List.{flat_map, enumerate_from};
 ghost use Rattle.std.specs.Option.{option_map};
 ghost use Rattle.hz_base_model.specs.Limits.{class_limit};
-ghost use Rattle.hz_tables_model.specs.Tables.{IsTable, row_of};
+ghost use Rattle.hz_automata_model.specs.Tables.Tables.{IsTable, row_of};
 ghost use Rattle.hz_tables.specs.Parts.{rows_of, columns_of, part_of};
 ghost use Rattle.hz_tabtext_model.specs.Texts.{line_text, entry_field, entries_line, row_lines};
 ghost use Rattle.hz_tabtext_model.specs.Said.{row_said};

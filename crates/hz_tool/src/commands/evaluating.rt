@@ -5,8 +5,8 @@ ghost use Rattle.std.specs.List.{range_with_len};
 ghost use Rattle.hz_answer_model.specs.BlockAnswers.{IsBlock, IsState, Evaluates, EvaluatesFrom, JudgesBlock};
 ghost use Rattle.hz_rtl.specs.Shape.{instructions};
 ghost use Rattle.hz_rtl.specs.States.{words};
-ghost use Rattle.hz_rtl_model.specs.States.{run};
-ghost use Rattle.hz_rtl_model.specs.Limits.{instruction_limit};
+ghost use Rattle.hz_block_model.specs.Running.States.{run};
+ghost use Rattle.hz_block_model.specs.Running.Limits.{instruction_limit};
 ghost use Rattle.hz_sexp.specs.Shape.{trees};
 ghost use Rattle.hz_tool.specs.Decisions.{Agrees, IsJudged};
 
@@ -15,7 +15,7 @@ use hz_regexp::NoMemory;
 use hz_report::Report;
 use hz_rtl::{Block, State, eval};
 use hz_sexp::Form;
-use hz_words::EvalOrder;
+use hz_tool_words::EvalOrder;
 use std::alloc::Global;
 
 /// The state that a block leaves, in the order of its source.

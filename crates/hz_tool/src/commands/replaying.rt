@@ -1,12 +1,12 @@
 //! The phases of `replay`, in their order: the description, its machine, the trace and its replay.
 
 ghost use Rattle.std.specs.Prelude.{◌≡◌, ℕ, ◌<◌, ◌≤◌, ◌^◌, length, slice_get, All};
-ghost use Rattle.hz_trace_model.specs.Limits.{advance_limit};
-ghost use Rattle.hz_acceptance_model.specs.Events.{issue, cycles_of, IsOfClass};
+ghost use Rattle.hz_acceptance_model.specs.Traces.TraceLimits.{advance_limit};
+ghost use Rattle.hz_acceptance_model.specs.Accepting.Events.{issue, cycles_of, IsOfClass};
 ghost use Rattle.hz_answer_model.specs.Answers.{ReplaysDescription, Judges};
 ghost use Rattle.hz_answer_model.specs.TableAnswers.{Walks, WalksTrace};
 ghost use Rattle.hz_check.specs.Checked.{IsCheckedOf};
-ghost use Rattle.hz_mdread_model.specs.Descriptions.{Description};
+ghost use Rattle.hz_description_model.specs.Reading.Descriptions.{Description};
 ghost use Rattle.hz_replay.specs.Lines.{event_of};
 ghost use Rattle.hz_replay.specs.Replaying.{IsOutcome};
 ghost use Rattle.hz_replay.specs.Traces.{events_in, lines_in};
@@ -23,7 +23,7 @@ use hz_regexp::Name;
 use hz_replay::{Event, Outcome, What, replay};
 use hz_report::Report;
 use hz_tables::{Machine, Steps};
-use hz_words::ReplayOrder;
+use hz_tool_words::ReplayOrder;
 use std::alloc::Global;
 use std::marker::Brand;
 use std::sync::ledger::{Blank, Ledger};

@@ -5,21 +5,21 @@ ghost use Rattle.hz_answer_model.specs.Answers.{SchedulesByDescription, HasDescr
 ghost use Rattle.hz_answer_model.specs.BlockAnswers.{IsBlock};
 ghost use Rattle.hz_answer_model.specs.ScheduleAnswers.{HasClasses, Schedules, SchedulesBlock};
 ghost use Rattle.hz_check.specs.Checked.{IsCheckedOf};
-ghost use Rattle.hz_check_model.specs.Places.{Known};
+ghost use Rattle.hz_description_model.specs.Check.Places.{Known};
 ghost use Rattle.hz_depend.specs.Faults.{fault as fault_of};
 ghost use Rattle.hz_depend.specs.GraphShape.{IsSchedulable};
-ghost use Rattle.hz_mdread_model.specs.Descriptions.{Description};
+ghost use Rattle.hz_description_model.specs.Reading.Descriptions.{Description};
 ghost use Rattle.hz_rtl.specs.Shape.{instructions};
 ghost use Rattle.hz_sched.specs.Shape.{graph_of};
-ghost use Rattle.hz_sched_model.specs.Machines.{Settles};
-ghost use Rattle.hz_scheduled_model.specs.BlockGraphs.{IsGraphOf};
+ghost use Rattle.hz_block_model.specs.Scheduling.Machines.{Settles};
+ghost use Rattle.hz_block_model.specs.Scheduled.BlockGraphs.{IsGraphOf};
 ghost use Rattle.hz_sexp.specs.Shape.{trees};
 ghost use Rattle.hz_tables.specs.Machines.{machine_of};
 ghost use Rattle.hz_tool.specs.Decisions.{Agrees, IsJudged};
 ghost use Rattle.hz_tool.specs.Machines.{IsMachineFor};
 ghost use Rattle.hz_tool.specs.Blocks.{IsFaultIn, IsWrongIn, IsStuckIn};
 ghost use Rattle.hz_tool.specs.Turnings.{IsClassReport, IsDependReport, IsSchedReport};
-ghost use Rattle.hz_rtl_model.specs.Limits.{instruction_limit};
+ghost use Rattle.hz_block_model.specs.Running.Limits.{instruction_limit};
 
 use crate::phases::compiling::judge_states;
 use crate::phases::describing::judge_described;
@@ -33,7 +33,7 @@ use hz_rtl::{Block, Insn};
 use hz_sched::{SchedFault, schedule};
 use hz_sexp::Form;
 use hz_tables::Machine;
-use hz_words::ScheduleOrder;
+use hz_tool_words::ScheduleOrder;
 use std::alloc::Global;
 
 /// The names of two classes.

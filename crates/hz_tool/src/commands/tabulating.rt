@@ -3,7 +3,7 @@
 ghost use Rattle.std.specs.Prelude.{ℕ, List, ◌<◌, ◌^◌, length};
 ghost use Rattle.hz_answer_model.specs.Answers.{CompilesDescription, HasDescription};
 ghost use Rattle.hz_check.specs.Checked.{IsCheckedOf};
-ghost use Rattle.hz_mdread_model.specs.Descriptions.{Description};
+ghost use Rattle.hz_description_model.specs.Reading.Descriptions.{Description};
 ghost use Rattle.hz_tool.specs.Compiled.{IsCompiledBy};
 ghost use Rattle.hz_tool.specs.Decisions.{Agrees, IsJudged};
 
@@ -13,7 +13,7 @@ use hz_auto::Compiled;
 use hz_check::Checked;
 use hz_report::Report;
 use hz_tabfile::text_stands;
-use hz_words::CompileOrder;
+use hz_tool_words::CompileOrder;
 use std::alloc::Global;
 
 /// The report of the tables of what is compiled.

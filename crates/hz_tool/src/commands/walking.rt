@@ -11,7 +11,7 @@ use crate::phases::turning::tables_report;
 use hz_report::Report;
 use hz_tabfile::read_tables;
 use hz_tables::Machine;
-use hz_words::WalkOrder;
+use hz_tool_words::WalkOrder;
 use std::alloc::Global;
 
 /// The machine of a tables text, or the report of its first fault.

@@ -4,8 +4,8 @@ ghost use Rattle.std.specs.Prelude.{◌≡◌, ◌<◌, IfOk, IfErr, [], length,
 ghost use Rattle.hz_auto.specs.Machines.{IsFaultOf};
 ghost use Rattle.hz_tool.specs.Compiled.{IsCompiledBy};
 ghost use Rattle.hz_check.specs.Checked.{IsCheckedOf};
-ghost use Rattle.hz_mdread_model.specs.Descriptions.{Description};
-ghost use Rattle.hz_sched_model.specs.Machines.{Settles};
+ghost use Rattle.hz_description_model.specs.Reading.Descriptions.{Description};
+ghost use Rattle.hz_block_model.specs.Scheduling.Machines.{Settles};
 ghost use Rattle.hz_tables.specs.Machines.{machine_of};
 ghost use Rattle.hz_tool.specs.Decisions.{IsJudged};
 ghost use Rattle.hz_tool.specs.Fronts.{IsLimitReport};

@@ -2,8 +2,8 @@
 
 ghost use Rattle.std.specs.Prelude.{◌⊎◌, ◌<◌, ◌^◌, IfOk, IfErr, IsTrue, length};
 ghost use Rattle.hz_check.specs.Checked.{IsCheckedOf};
-ghost use Rattle.hz_mdread_model.specs.Descriptions.{Description};
-ghost use Rattle.hz_mdread_model.specs.DescriptionForms as description_forms;
+ghost use Rattle.hz_description_model.specs.Reading.Descriptions.{Description};
+ghost use Rattle.hz_description_model.specs.Reading.DescriptionForms as description_forms;
 ghost use Rattle.hz_sexp.specs.Shape.{trees};
 ghost use Rattle.hz_tool.specs.Decisions.{IsJudged};
 ghost use Rattle.hz_tool.specs.Fronts.{IsCheckedIn, IsSaidReport, IsDescribedReport};

@@ -2,21 +2,21 @@
 
 ghost use Rattle.std.specs.Prelude.{◌≡◌, ◌^◌, ◌<◌, ◌≤◌, IfOk, IfErr, IsTrue, length};
 ghost use Rattle.std.specs.List.{AllPairs};
-ghost use Rattle.hz_mdread_model.specs.DescriptionForms as description_forms;
-ghost use Rattle.hz_mdread_model.specs.DescriptionShape.{IsWellFormed, IsCheckable, SharesAutomaton};
-ghost use Rattle.hz_sexp_model.specs.Forms as forms;
+ghost use Rattle.hz_description_model.specs.Reading.DescriptionForms as description_forms;
+ghost use Rattle.hz_description_model.specs.Reading.DescriptionShape.{IsWellFormed, IsCheckable, SharesAutomaton};
+ghost use Rattle.hz_base_model.specs.Forms.Forms as forms;
 ghost use Rattle.hz_base_model.specs.Lines.{lines_of};
 ghost use Rattle.hz_rtl.specs.Shape.{instructions};
 ghost use Rattle.hz_rtl.specs.States.{words};
-ghost use Rattle.hz_rtltext_model.specs.BlockForms as blocks;
-ghost use Rattle.hz_rtltext_model.specs.StateForms as states;
-ghost use Rattle.hz_trace_model.specs.Traces.{Trace, event_lines};
+ghost use Rattle.hz_block_model.specs.Texts.BlockForms as blocks;
+ghost use Rattle.hz_block_model.specs.Texts.StateForms as states;
+ghost use Rattle.hz_acceptance_model.specs.Traces.Traces.{Trace, event_lines};
 ghost use Rattle.hz_check.specs.Checked.{IsCheckedOf};
 ghost use Rattle.hz_mdread.specs.Shape.{description};
 ghost use Rattle.hz_sexp.specs.Shape.{trees};
 ghost use Rattle.hz_tool.specs.Decisions.{IsFormsReport, IsDescriptionReport, IsCheckReport, IsRtlReport, IsTraceReport};
 ghost use Rattle.hz_replay.specs.Traces.{events_in, lines_in};
-ghost use Rattle.hz_rtl_model.specs.Limits.{instruction_limit};
+ghost use Rattle.hz_block_model.specs.Running.Limits.{instruction_limit};
 
 use crate::phases::turning::{
     check_report, description_report, form_report, line_report, rtl_report,

@@ -1,4 +1,4 @@
-use Rattle.hz_acceptance_model.proofs.PlayLaws.{plays_run, run_plays, accepts_decides, accepted_or_first_refused}
+use Rattle.hz_acceptance_model.proofs.Accepting.PlayLaws.{plays_run, run_plays, accepts_decides, accepted_or_first_refused}
 use Rattle.hz_acceptance_model.proofs.acceptance.acceptance_is_computed.Goals as goal
 
 pub returns-clause-states : goal.returns-clause-states

@@ -1,4 +1,4 @@
-use Rattle.hz_acceptance_model.proofs.ChoiceLaws.{by_first_choice}
+use Rattle.hz_acceptance_model.proofs.Accepting.ChoiceLaws.{by_first_choice}
 use Rattle.hz_acceptance_model.proofs.acceptance.accepted_by_the_first_choice.Goals as goal
 
 pub returns : goal.returns

@@ -1,4 +1,4 @@
-use Rattle.hz_acceptance_model.proofs.ReplayLaws.{runs_from_accepted, accepted_from_runs}
+use Rattle.hz_acceptance_model.proofs.Accepting.ReplayLaws.{runs_from_accepted, accepted_from_runs}
 use Rattle.hz_acceptance_model.proofs.acceptance.accepted_where_a_run_is.Goals as goal
 
 pub returns : goal.returns

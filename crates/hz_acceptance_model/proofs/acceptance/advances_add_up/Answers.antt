@@ -1,4 +1,4 @@
-use Rattle.hz_acceptance_model.proofs.AcceptanceLaws.{advances_accepted, advances_run}
+use Rattle.hz_acceptance_model.proofs.Accepting.AcceptanceLaws.{advances_accepted, advances_run}
 use Rattle.hz_acceptance_model.proofs.acceptance.advances_add_up.Goals as goal
 
 pub returns-clause-acceptance : goal.returns-clause-acceptance

@@ -1,4 +1,4 @@
-use Rattle.hz_acceptance_model.proofs.SameLaws.{accepted_same, refused_same}
+use Rattle.hz_acceptance_model.proofs.Accepting.SameLaws.{accepted_same, refused_same}
 use Rattle.hz_acceptance_model.proofs.acceptance.alternatives_are_sets.Goals as goal
 
 pub returns-clause-acceptance : goal.returns-clause-acceptance

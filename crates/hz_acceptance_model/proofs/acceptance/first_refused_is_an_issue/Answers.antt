@@ -1,4 +1,4 @@
-use Rattle.hz_acceptance_model.proofs.AcceptanceLaws.{refused_issue, one_refused, accepted_or_refused}
+use Rattle.hz_acceptance_model.proofs.Accepting.AcceptanceLaws.{refused_issue, one_refused, accepted_or_refused}
 use Rattle.hz_acceptance_model.proofs.acceptance.first_refused_is_an_issue.Goals as goal
 
 pub returns-clause-issue : goal.returns-clause-issue

@@ -1,4 +1,4 @@
-use Rattle.hz_acceptance_model.proofs.AcceptanceLaws.{moved_accepted, moved_refused}
+use Rattle.hz_acceptance_model.proofs.Accepting.AcceptanceLaws.{moved_accepted, moved_refused}
 use Rattle.hz_acceptance_model.proofs.acceptance.only_differences_of_cycles_count.Goals as goal
 
 pub returns-clause-acceptance : goal.returns-clause-acceptance

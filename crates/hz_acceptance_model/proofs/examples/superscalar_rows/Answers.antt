@@ -1,5 +1,5 @@
 use Rattle.std.proofs.Common.{refl}
-use Rattle.hz_acceptance_model.proofs.Rows.{accepted, first_refused}
+use Rattle.hz_acceptance_model.proofs.Accepting.Rows.{accepted, first_refused}
 use Rattle.hz_acceptance_model.proofs.examples.superscalar_rows.Goals as goal
 
 pub returns-clause-empty : goal.returns-clause-empty

@@ -1,4 +1,4 @@
-use Rattle.hz_acceptance_model.proofs.FittingLaws.{fits_listed}
+use Rattle.hz_acceptance_model.proofs.Accepting.FittingLaws.{fits_listed}
 use Rattle.hz_acceptance_model.proofs.fitting.fitting_is_of_sets.Goals as goal
 
 pub returns : goal.returns

@@ -1,4 +1,4 @@
-use Rattle.hz_acceptance_model.proofs.FittingLaws.{future_fits}
+use Rattle.hz_acceptance_model.proofs.Accepting.FittingLaws.{future_fits}
 use Rattle.hz_acceptance_model.proofs.fitting.fitting_needs_the_future_alone.Goals as goal
 
 pub returns : goal.returns

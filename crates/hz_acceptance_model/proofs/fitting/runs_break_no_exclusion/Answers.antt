@@ -1,4 +1,4 @@
-use Rattle.hz_acceptance_model.proofs.FittingLaws.{unbroken_added, unbroken_run}
+use Rattle.hz_acceptance_model.proofs.Accepting.FittingLaws.{unbroken_added, unbroken_run}
 use Rattle.hz_acceptance_model.proofs.fitting.runs_break_no_exclusion.Goals as goal
 
 pub returns-clause-added : goal.returns-clause-added

@@ -1,4 +1,4 @@
-use Rattle.hz_acceptance_model.proofs.RestrictLaws.{accepted_restricted, refused_restricted}
+use Rattle.hz_acceptance_model.proofs.Accepting.RestrictLaws.{accepted_restricted, refused_restricted}
 use Rattle.hz_acceptance_model.proofs.restriction.one_automaton_is_its_restriction.Goals as goal
 
 pub returns-clause-acceptance : goal.returns-clause-acceptance

@@ -1,7 +1,7 @@
 use Rattle.std.proofs.Common.{◌≡◌, ap, ◌∙◌, arith}
 use Rattle.std.proofs.lemmas.List.{take_all, length-map}
 use Rattle.hz_altern.specs.Shapes.{alternatives, alternative_of}
-use Rattle.hz_altern_model.specs.AlternativeLists.{greatest_length}
+use Rattle.hz_description_model.specs.Reservations.AlternativeLists.{greatest_length}
 use Rattle.hz_altern.proofs.Lengths.{greatest_more, greatest_runs, greatest_sound}
 use Rattle.hz_altern.proofs.known.extent_of.Goals as goal
 

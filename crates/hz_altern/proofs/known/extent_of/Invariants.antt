@@ -1,6 +1,6 @@
 use Rattle.std.proofs.Common.{◌≡◌, take}
 use Rattle.hz_altern.specs.Shapes.{alternatives}
-use Rattle.hz_altern_model.specs.AlternativeLists.{greatest_length}
+use Rattle.hz_description_model.specs.Reservations.AlternativeLists.{greatest_length}
 use Rattle.hz_altern.proofs.known.extent_of.Given as goal
 
 -- the longest so far

@@ -3,7 +3,7 @@ use Rattle.hz_base_model.specs.Limits.{cycle_limit, unit_limit}
 use Rattle.hz_altern.specs.Cuts.{within_pairs}
 use Rattle.hz_altern.specs.Shapes.{pairs_of}
 use Rattle.hz_altern.proofs.CutLemmas.{cut_is_grid, each_found, grid_is, pairs_are}
-use Rattle.hz_altern_model.specs.Automata.{inside, is_of}
+use Rattle.hz_description_model.specs.Reservations.Automata.{inside, is_of}
 use Rattle.hz_altern.proofs.projecting.cut.Goals as goal
 
 pub of-requires-clause-units : goal.of-requires-clause-units

@@ -2,7 +2,7 @@ use Rattle.std.proofs.Common.{◌≡◌, ◌++◌, ◌∷◌, [], cond, ap, ◌�
 use Rattle.hz_altern.specs.Shapes.{alternative_of}
 use Rattle.hz_altern.proofs.CutLemmas.{list_in_more, cut_joins}
 use Rattle.hz_altern.proofs.ListLemmas.{item_holds}
-use Rattle.hz_altern_model.specs.AlternativeLists.{IsCuttable}
+use Rattle.hz_description_model.specs.Reservations.AlternativeLists.{IsCuttable}
 use Rattle.hz_altern.proofs.projecting.project.Goals as goal
 use Rattle.hz_altern.proofs.projecting.project.Goals.{then-branch+in_ok-push, else-branch}
 

@@ -1,7 +1,7 @@
 use Rattle.std.proofs.Common.{◌≡◌, take}
 use Rattle.hz_altern.specs.Cuts.{cuts_of}
 use Rattle.hz_altern.specs.Shapes.{alternatives}
-use Rattle.hz_altern_model.specs.Automata.{list_in}
+use Rattle.hz_description_model.specs.Reservations.Automata.{list_in}
 use Rattle.hz_altern.proofs.projecting.project.Given as goal
 
 -- the grids so far, and their pairs

@@ -1,7 +1,7 @@
 use Rattle.std.proofs.Common.{◌≡◌, map, filter, take}
 use Rattle.hz_altern.specs.Cuts.{within_pairs}
 use Rattle.hz_altern.specs.Shapes.{pairs_of}
-use Rattle.hz_altern_model.specs.Automata.{inside, is_of}
+use Rattle.hz_description_model.specs.Reservations.Automata.{inside, is_of}
 use Rattle.hz_altern.proofs.projecting.within.Given as goal
 
 -- the automaton's pairs so far

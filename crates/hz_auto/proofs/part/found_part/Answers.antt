@@ -1,10 +1,10 @@
 use Rattle.std.proofs.Common.{◌≤◌, ◌<◌, length, All, sym, ap, ◌∙◌, subst}
 use Rattle.std.specs.Prelude.{if◌then◌else◌}
 use Rattle.hz_base_model.specs.Limits.{class_limit}
-use Rattle.hz_acceptance_model.specs.Replay.{first_fit, any_fit}
+use Rattle.hz_acceptance_model.specs.Accepting.Replay.{first_fit, any_fit}
 use Rattle.hz_unitsets.specs.SetRules.{IsInRange}
 use Rattle.hz_determ.specs.Explored.{IsBuilt, AreWithin, PassesCap}
-use Rattle.hz_explore.specs.Spaces.{pipeline_of, lists_of}
+use Rattle.hz_determ.specs.Spaces.{pipeline_of, lists_of}
 use Rattle.hz_auto.specs.Parts.{IsCapped, IsWhole}
 use Rattle.hz_auto.proofs.CheckedFacts.{have_lists, sets_in_range, automaton_there}
 use Rattle.hz_auto.proofs.ExploredLemmas.{columns_now, asks_now, columns_few, past, members_told, grids_told, numbers_there, kept, whole_compiled}

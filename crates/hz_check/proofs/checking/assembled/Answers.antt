@@ -5,10 +5,10 @@ use Rattle.hz_mdread.specs.Shape.{description, class_item, attribute_item}
 use Rattle.hz_check.specs.Shape.{automaton_of}
 use Rattle.hz_check.proofs.Lists.Next.{map-map}
 use Rattle.hz_check.proofs.Built.PartSteps.{length-automata, kept_of}
-use Rattle.hz_check_model.proofs.KeptLaws.{parts_kept}
-use Rattle.hz_altern_model.specs.Alternatives.{alternatives_of}
-use Rattle.hz_altern_model.specs.Automata.{listed}
-use Rattle.hz_check_model.specs.CheckedParts.{automaton_count}
+use Rattle.hz_description_model.proofs.Check.KeptLaws.{parts_kept}
+use Rattle.hz_description_model.specs.Reservations.Alternatives.{alternatives_of}
+use Rattle.hz_description_model.specs.Reservations.Automata.{listed}
+use Rattle.hz_description_model.specs.Check.CheckedParts.{automaton_count}
 use Rattle.hz_check.proofs.checking.assembled.Goals as goal
 
 pub checked_classes-requires-clause-few : goal.checked_classes-requires-clause-few

@@ -1,6 +1,6 @@
 use Rattle.std.proofs.Common.{◌≡◌, drop, map}
 use Rattle.hz_check.specs.Shape.{attribute_of}
-use Rattle.hz_depend_model.specs.Classes as model
+use Rattle.hz_block_model.specs.Dependences.Classes as model
 use Rattle.hz_depend.proofs.class.first_fault.Given as goal
 
 -- what is left decides

@@ -1,7 +1,7 @@
 use Rattle.std.proofs.Common.{◌≡◌, ◌<◌, ◌++◌, drop, length}
 use Rattle.std.specs.Option.{option_to_list, IfSome}
-use Rattle.hz_mdread_model.specs.Conditions.{value_of}
-use Rattle.hz_depend_model.specs.Classes as model
+use Rattle.hz_description_model.specs.Reading.Conditions.{value_of}
+use Rattle.hz_block_model.specs.Dependences.Classes as model
 use Rattle.hz_depend.specs.Shape.{conditions_of}
 use Rattle.hz_depend.proofs.class.one_class.Given as goal
 

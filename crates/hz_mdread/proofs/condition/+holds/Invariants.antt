@@ -1,5 +1,5 @@
 use Rattle.std.proofs.Common.{◌≡◌, drop}
-use Rattle.hz_mdread_model.specs.Conditions as model
+use Rattle.hz_description_model.specs.Reading.Conditions as model
 use Rattle.hz_mdread.specs.Shape.{conditions}
 use Rattle.hz_mdread.proofs.condition.+holds.Given as goal
 

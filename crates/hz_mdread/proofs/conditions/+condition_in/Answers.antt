@@ -2,7 +2,7 @@ use Rattle.std.proofs.Common.{◌≡◌, sym, ap, ◌∙◌, arith, rules}
 use Rattle.std.specs.Option.{option_and_then}
 use Rattle.std.specs.Str.{bytes_eq}
 use Rattle.hz_sexp.specs.Shape.{tree, trees}
-use Rattle.hz_mdread_model.specs.DescriptionForms.{condition_in, joined}
+use Rattle.hz_description_model.specs.Reading.DescriptionForms.{condition_in, joined}
 use Rattle.hz_mdread.specs.Shape.{conditions}
 use Rattle.hz_mdread.proofs.TestLemmas.{joined_condition, place_size, test_more, test_all}
 use Rattle.hz_mdread.proofs.conditions.+condition_in.Goals as goal

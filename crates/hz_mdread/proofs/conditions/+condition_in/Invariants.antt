@@ -1,7 +1,7 @@
 use Rattle.std.proofs.Common.{◌≡◌, drop, map}
 use Rattle.std.specs.Option.{option_map}
 use Rattle.hz_sexp.specs.Shape.{tree, trees}
-use Rattle.hz_mdread_model.specs.DescriptionForms as model
+use Rattle.hz_description_model.specs.Reading.DescriptionForms as model
 use Rattle.hz_mdread.specs.Shape.{condition}
 use Rattle.hz_mdread.proofs.TestLemmas.{size, sizes, after}
 use Rattle.hz_mdread.proofs.conditions.+condition_in.Given as goal

@@ -1,6 +1,6 @@
 use Rattle.std.proofs.Common.{◌≡◌, map}
 use Rattle.std.specs.Option.{option_copied}
-use Rattle.hz_mdread_model.specs.DescriptionForms as model
+use Rattle.hz_description_model.specs.Reading.DescriptionForms as model
 use Rattle.hz_mdread.specs.Shape.{unit_item}
 use Rattle.hz_mdread.proofs.forms.unit_items.Given as goal
 

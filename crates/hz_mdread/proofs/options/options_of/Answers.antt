@@ -1,6 +1,6 @@
 use Rattle.std.proofs.Common.{sym, ap, ◌∙◌, arith}
-use Rattle.hz_mdread_model.specs.Descriptions.{no_options}
-use Rattle.hz_mdread_model.specs.DescriptionForms as model
+use Rattle.hz_description_model.specs.Reading.Descriptions.{no_options}
+use Rattle.hz_description_model.specs.Reading.DescriptionForms as model
 use Rattle.hz_mdread.specs.Shape.{options}
 use Rattle.hz_mdread.proofs.ListLemmas.{separated_are, option_fails, options_end}
 use Rattle.hz_mdread.proofs.options.options_of.Goals as goal

@@ -1,6 +1,6 @@
 use Rattle.std.proofs.Common.{◌≡◌, drop, map}
-use Rattle.hz_mdread_model.specs.Descriptions.{no_options}
-use Rattle.hz_mdread_model.specs.DescriptionForms as model
+use Rattle.hz_description_model.specs.Reading.Descriptions.{no_options}
+use Rattle.hz_description_model.specs.Reading.DescriptionForms as model
 use Rattle.hz_base_model.specs.Lines.{trimmed}
 use Rattle.hz_mdread.specs.Shape.{options}
 use Rattle.hz_mdread.proofs.options.options_of.Given as goal

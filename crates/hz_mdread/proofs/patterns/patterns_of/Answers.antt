@@ -3,7 +3,7 @@ use Rattle.std.specs.Borrow.{Bor}
 use Rattle.std.proofs.lemmas.List.{map-append}
 use Rattle.hz_mdread.proofs.PatternLemmas.{now_all, patterns_fail, pattern_more, patterns_kept}
 use Rattle.hz_mdread.proofs.patterns.patterns_of.Goals as goal
-use Rattle.hz_mdread_model.specs.DescriptionForms.{words}
+use Rattle.hz_description_model.specs.Reading.DescriptionForms.{words}
 
 pub returns-in-None : goal.returns-in-None
 returns-in-None c =

@@ -1,6 +1,6 @@
 use Rattle.std.proofs.Common.{◌≡◌, ◌++◌, true, drop, map}
 use Rattle.std.specs.List.{list_all}
-use Rattle.hz_mdread_model.specs.DescriptionShape.{are_names}
+use Rattle.hz_description_model.specs.Reading.DescriptionShape.{are_names}
 use Rattle.hz_mdread.proofs.PatternLemmas.{words_all}
 use Rattle.hz_mdread.proofs.patterns.patterns_of.Given as goal
 

@@ -1,5 +1,5 @@
 use Rattle.std.proofs.Common.{◌≡◌, map}
-use Rattle.hz_mdread_model.specs.DescriptionForms as model
+use Rattle.hz_description_model.specs.Reading.DescriptionForms as model
 use Rattle.hz_mdread.proofs.patterns.single_patterns.Given as goal
 
 abbrev pub invariant-loop-name : goal.invariant-loop-name

@@ -1,7 +1,7 @@
 use Rattle.std.proofs.Common.{◌≡◌, drop}
 use Rattle.hz_sexp.specs.Shape.{trees}
-use Rattle.hz_mdread_model.specs.Descriptions.{no_items}
-use Rattle.hz_mdread_model.specs.DescriptionForms.{forms_say}
+use Rattle.hz_description_model.specs.Reading.Descriptions.{no_items}
+use Rattle.hz_description_model.specs.Reading.DescriptionForms.{forms_say}
 use Rattle.hz_mdread.specs.Reading.{reading}
 use Rattle.hz_mdread.specs.Shape.{description}
 use Rattle.hz_mdread.proofs.reader.read_description.Given as goal

@@ -1,9 +1,9 @@
 use Rattle.std.proofs.Common.{true, length, ◌≡◌, ◌∙◌, Some, None, sym}
 use Rattle.std.proofs.lemmas.Result.{err_from_is_err_and, IfOk-weaker, IfErr-weaker}
-use Rattle.hz_regexp_model.specs.ExpressionTexts.{Reads, FaultAt, unexpected}
-use Rattle.hz_altern_model.specs.Expressions.{is_expression}
-use Rattle.hz_regexp_model.specs.ExpressionSteps.{finish}
-use Rattle.hz_regexp_model.proofs.ExpressionTextsLaws.{well_formed}
+use Rattle.hz_description_model.specs.Grammar.ExpressionTexts.{Reads, FaultAt, unexpected}
+use Rattle.hz_description_model.specs.Reservations.Expressions.{is_expression}
+use Rattle.hz_description_model.specs.Grammar.ExpressionSteps.{finish}
+use Rattle.hz_description_model.proofs.Grammar.ExpressionTextsLaws.{well_formed}
 use Rattle.hz_regexp.specs.Faults.{Tells}
 use Rattle.hz_regexp.specs.Shape.{expression}
 use Rattle.hz_regexp.specs.State.{state_of}

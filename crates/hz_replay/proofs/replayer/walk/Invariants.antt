@@ -1,7 +1,7 @@
 use Rattle.std.proofs.Common.{◌≡◌, ℕ, ◌+◌, ◌*◌, ◌≤◌, ◌++◌, ◌∷◌, [], List, drop, length}
 use Rattle.std.specs.Option.{option_map}
 use Rattle.hz_tables.specs.Machines.{machine_of}
-use Rattle.hz_tables_model.specs.Machines.{parts_walk}
+use Rattle.hz_automata_model.specs.Tables.Machines.{parts_walk}
 use Rattle.hz_replay.specs.Replaying.{event_for}
 use Rattle.hz_replay.proofs.replayer.walk.Given as goal
 

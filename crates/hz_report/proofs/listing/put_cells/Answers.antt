@@ -1,7 +1,7 @@
 use Rattle.std.proofs.Common.{◌++◌, [], List, ℕ, ap, subst, arith}
 use Rattle.hz_io.specs.Sink.{Wrote, Cut}
 use Rattle.hz_io.proofs.Writing.{wrote_nothing, wrote_then, wrote_then_cut, cut_before}
-use Rattle.hz_rtltext_model.specs.StateTexts.{cell_line}
+use Rattle.hz_block_model.specs.Texts.StateTexts.{cell_line}
 use Rattle.hz_report.proofs.ListingLemmas.{cell_lines, cell_parts, cells_done}
 use Rattle.hz_report.proofs.listing.put_cells.Goals as goal
 

@@ -1,7 +1,7 @@
 use Rattle.std.proofs.Common.{◌<◌, ◌++◌, ◌+◌, [], List, ℕ, length, get_or, drop, refl, subst, arith}
 use Rattle.hz_io.specs.Sink.{Wrote, Cut}
 use Rattle.hz_io.proofs.Writing.{wrote_nothing, wrote_then, wrote_then_cut, cut_before}
-use Rattle.hz_rtltext_model.specs.StateTexts.{register_line}
+use Rattle.hz_block_model.specs.Texts.StateTexts.{register_line}
 use Rattle.hz_report.proofs.ListingLemmas.{register_lines, register_parts, registers_done}
 use Rattle.hz_report.proofs.listing.put_registers.Goals as goal
 

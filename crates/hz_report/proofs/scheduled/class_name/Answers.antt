@@ -2,7 +2,7 @@ use Rattle.std.proofs.Common.{◌<◌, [], ℕ, length, sym, ap, ◌∙◌, subs
 use Rattle.std.specs.Prelude.{slice_index_or}
 use Rattle.std.proofs.lemmas.List.{get_or_default}
 use Rattle.hz_sched.specs.Shape.{graph_of}
-use Rattle.hz_sched_model.specs.Schedules.{class_at}
+use Rattle.hz_block_model.specs.Scheduling.Schedules.{class_at}
 use Rattle.hz_report.proofs.ScheduleLemmas.{class_within}
 use Rattle.hz_report.proofs.scheduled.class_name.Goals as goal
 

@@ -1,6 +1,6 @@
 use Rattle.std.proofs.Common.{◌≡◌, drop}
 use Rattle.hz_sched.specs.Shape.{slots_of}
-use Rattle.hz_sched_model.specs.Schedules.{present}
+use Rattle.hz_block_model.specs.Scheduling.Schedules.{present}
 use Rattle.hz_report.proofs.scheduled.last_cycle.Given as goal
 
 -- the cycle so far, with the slots that are left, is that of the last

@@ -7,7 +7,7 @@ use Rattle.hz_answer_model.specs.Texts.{scheduled_line}
 use Rattle.hz_report.specs.Schedules.{line_by}
 use Rattle.hz_sched.specs.Shape.{graph_of, slot_of, slots_of}
 use Rattle.hz_sched.specs.declared.parts.Slot.{Slot as Declared}
-use Rattle.hz_sched_model.specs.Schedules.{Slot, present}
+use Rattle.hz_block_model.specs.Scheduling.Schedules.{Slot, present}
 use Rattle.hz_report.proofs.scheduled.put_schedule.Goals as goal
 
 pub put_slots-requires-clause-places : goal.put_slots-requires-clause-places

@@ -1,6 +1,6 @@
 use Rattle.std.proofs.Common.{◌<◌, ℕ, length, sym, subst, arith}
 use Rattle.std.proofs.lemmas.List.{length-map}
-use Rattle.hz_sched_model.proofs.SameSchedules.{class_below}
+use Rattle.hz_block_model.proofs.Scheduling.SameSchedules.{class_below}
 use Rattle.hz_sched.specs.Shape.{graph_of, node_of}
 use Rattle.hz_sched.proofs.BoardLemmas.{classes_of_nodes}
 use Rattle.hz_sched.proofs.queue.may_issue.Goals as goal

@@ -1,11 +1,11 @@
 use Rattle.std.proofs.Common.{◌≡◌, ◌+◌, ◌<◌, ℕ, List, [], ◌∷◌, Some, length, sym, ap, ◌∙◌, subst, arith}
 use Rattle.std.proofs.lemmas.List.{length-map}
-use Rattle.hz_acceptance_model.specs.Events.{advance}
-use Rattle.hz_tables_model.specs.Machines.{Machine, parts_walk}
+use Rattle.hz_acceptance_model.specs.Accepting.Events.{advance}
+use Rattle.hz_automata_model.specs.Tables.Machines.{Machine, parts_walk}
 use Rattle.hz_tables.specs.Machines.{machine_of}
 use Rattle.hz_replay.specs.Replaying.{AreStates}
-use Rattle.hz_sched_model.specs.Schedules.{Slot, class_at, present}
-use Rattle.hz_sched_model.proofs.SameSchedules.{class_below}
+use Rattle.hz_block_model.specs.Scheduling.Schedules.{Slot, class_at, present}
+use Rattle.hz_block_model.proofs.Scheduling.SameSchedules.{class_below}
 use Rattle.hz_sched.specs.Shape.{graph_of, slots_of, node_of}
 use Rattle.hz_sched.specs.Waits.{issued_at}
 use Rattle.hz_sched.specs.Standing.{left_below}

@@ -2,7 +2,7 @@ use Rattle.std.proofs.Common.{◌≡◌, List, None, not, refl, sym, ap, ◌∙�
 use Rattle.std.specs.Prelude.{position}
 use Rattle.hz_tables.specs.Machines.{machine_of}
 use Rattle.hz_depend.specs.declared.parts.GraphInsn.{GraphInsn}
-use Rattle.hz_sched_model.specs.Machines.{can_start}
+use Rattle.hz_block_model.specs.Scheduling.Machines.{can_start}
 use Rattle.hz_sched.specs.Shape.{graph_of, node_of}
 use Rattle.hz_sched.proofs.SchedLemmas.{position-map, all_start}
 use Rattle.hz_sched.proofs.scheduling.schedule.Goals as goal

@@ -1,6 +1,6 @@
 use Rattle.std.proofs.Common.{◌≡◌, ◌+◌, ◌*◌, ◌≤◌, length}
 use Rattle.hz_tables.specs.Machines.{machine_of}
-use Rattle.hz_sched_model.specs.Schedules.{present}
+use Rattle.hz_block_model.specs.Scheduling.Schedules.{present}
 use Rattle.hz_sched.specs.Shape.{graph_of, slots_of}
 use Rattle.hz_sched.specs.Waits.{issued_at}
 use Rattle.hz_sched.specs.Standing.{left_below}

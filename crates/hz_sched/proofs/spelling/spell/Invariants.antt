@@ -1,6 +1,6 @@
 use Rattle.std.proofs.Common.{◌≡◌, ◌++◌, ◌*◌, ◌≤◌, drop, length}
 use Rattle.hz_replay.specs.Traces.{events_in}
-use Rattle.hz_sched_model.specs.Schedules.{spelled, spell}
+use Rattle.hz_block_model.specs.Scheduling.Schedules.{spelled, spell}
 use Rattle.hz_sched.specs.Shape.{graph_of, slots_of, AreNumbered}
 use Rattle.hz_sched.proofs.spelling.spell.Given as goal
 

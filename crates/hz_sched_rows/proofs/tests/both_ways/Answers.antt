@@ -3,7 +3,7 @@ use Rattle.hz_mdread.specs.Shape.{options as options_of}
 use Rattle.hz_check.specs.Shape.{automaton_of, class_of, bypass_of, attribute_of}
 use Rattle.hz_tables.specs.Machines.{machine_of}
 use Rattle.hz_auto.specs.Machines.{reports_of}
-use Rattle.hz_settle_model.proofs.SettleLaws.{machine_settles}
+use Rattle.hz_answer_laws.proofs.Settling.SettleLaws.{machine_settles}
 use Rattle.hz_sched_rows.proofs.tests.both_ways.Goals as goal
 
 pub schedule-requires-clause-settles : goal.schedule-requires-clause-settles

@@ -1,15 +1,15 @@
 use Rattle.std.proofs.Common.{◌≡◌, ◌≤◌, ℕ, List, length, map, All, sym, ap, ◌∙◌, subst, arith}
 use Rattle.std.proofs.lemmas.List.{length-map}
-use Rattle.hz_trace_model.specs.Limits.{advance_limit}
-use Rattle.hz_acceptance_model.specs.Events.{Event, IsOfClass, cycles_of}
+use Rattle.hz_acceptance_model.specs.Traces.TraceLimits.{advance_limit}
+use Rattle.hz_acceptance_model.specs.Accepting.Events.{Event, IsOfClass, cycles_of}
 use Rattle.hz_mdread.specs.Shape.{options as options_of}
-use Rattle.hz_check_model.specs.CheckedParts.{ClassParts}
+use Rattle.hz_description_model.specs.Check.CheckedParts.{ClassParts}
 use Rattle.hz_depend.specs.GraphShape.{IsSchedulable}
 use Rattle.hz_check.specs.Shape.{automaton_of, class_of, bypass_of, attribute_of}
 use Rattle.hz_tables.specs.Machines.{machine_of}
 use Rattle.hz_auto.specs.Machines.{reports_of}
-use Rattle.hz_settle_model.proofs.SettleLaws.{machine_settles}
-use Rattle.hz_sched_model.proofs.TraceLaws.{few_spelled}
+use Rattle.hz_answer_laws.proofs.Settling.SettleLaws.{machine_settles}
+use Rattle.hz_block_model.proofs.Scheduling.TraceLaws.{few_spelled}
 use Rattle.hz_sched.specs.Shape.{graph_of, slots_of, slot_of}
 use Rattle.hz_sched.proofs.TraceLemmas.{spelled_classes, spelled_short}
 use Rattle.hz_replay.specs.declared.event.Event as trace

@@ -1,7 +1,7 @@
 use Rattle.std.proofs.Common.{refl}
 use Rattle.std.proofs.lemmas.Result.{err_from_is_err_and, IfErr-weaker}
-use Rattle.hz_sexp_model.specs.Forms.{Reading, FaultAt}
-use Rattle.hz_sexp_model.proofs.FormsFront.{front_skip, step_shorter}
+use Rattle.hz_base_model.specs.Forms.Forms.{Reading, FaultAt}
+use Rattle.hz_base_model.proofs.Forms.FormsFront.{front_skip, step_shorter}
 use Rattle.hz_sexp.specs.Faults.{Tells}
 use Rattle.hz_sexp.specs.State.{IsOpen}
 use Rattle.hz_sexp.proofs.ReaderLemmas.{open_at_end, front_takes, front_wrong, refused_wrong}

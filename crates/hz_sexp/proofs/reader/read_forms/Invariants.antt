@@ -1,5 +1,5 @@
 use Rattle.std.proofs.Common.{length}
-use Rattle.hz_sexp_model.proofs.FormsFront.{Front}
+use Rattle.hz_base_model.proofs.Forms.FormsFront.{Front}
 use Rattle.hz_sexp.specs.Shape.{trees}
 use Rattle.hz_sexp.specs.State.{frames_of}
 use Rattle.hz_sexp.proofs.reader.read_forms.Given as goal

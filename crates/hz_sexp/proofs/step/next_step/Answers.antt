@@ -1,6 +1,6 @@
 use Rattle.std.proofs.Common.{sym}
 use Rattle.std.proofs.lemmas.Result.{err_from_is_err_and}
-use Rattle.hz_sexp_model.specs.Forms.{Step, Faulty}
+use Rattle.hz_base_model.specs.Forms.Forms.{Step, Faulty}
 use Rattle.hz_sexp.proofs.Leaves.{tree-quoted}
 use Rattle.hz_sexp.proofs.StepLemmas.{string_wrong}
 use Rattle.hz_sexp.proofs.step.next_step.Goals as goal

@@ -1,5 +1,5 @@
 use Rattle.std.proofs.Common.{◌≡◌, rules, refl, Some, ◌∷◌, [], inl, inr}
-use Rattle.hz_sexp_model.specs.Forms.{Faulty, escaped}
+use Rattle.hz_base_model.specs.Forms.Forms.{Faulty, escaped}
 use Rattle.hz_sexp.proofs.Parts.{part_escape, no_escape}
 use Rattle.hz_sexp.proofs.string.escape.Goals as goal
 

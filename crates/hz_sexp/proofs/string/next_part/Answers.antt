@@ -1,5 +1,5 @@
 use Rattle.std.proofs.Common.{sym}
-use Rattle.hz_sexp_model.specs.Forms.{Faulty}
+use Rattle.hz_base_model.specs.Forms.Forms.{Faulty}
 use Rattle.hz_sexp.proofs.Parts.{part_plain}
 use Rattle.hz_sexp.proofs.string.next_part.Goals as goal
 

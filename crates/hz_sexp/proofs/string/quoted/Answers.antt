@@ -1,6 +1,6 @@
 use Rattle.std.proofs.lemmas.List.{append-nil}
 use Rattle.std.proofs.lemmas.Result.{err_from_is_err_and}
-use Rattle.hz_sexp_model.specs.Forms.{Inside}
+use Rattle.hz_base_model.specs.Forms.Forms.{Inside}
 use Rattle.hz_sexp.proofs.Parts.{inside_on, wrong_before}
 use Rattle.hz_sexp.proofs.string.quoted.Goals as goal
 

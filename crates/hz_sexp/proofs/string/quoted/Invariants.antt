@@ -1,5 +1,5 @@
 use Rattle.std.proofs.Common.{length}
-use Rattle.hz_sexp_model.specs.Forms.{Inside}
+use Rattle.hz_base_model.specs.Forms.Forms.{Inside}
 use Rattle.hz_sexp.proofs.string.quoted.Given as goal
 
 abbrev pub invariant-loop-bytes : goal.invariant-loop-bytes

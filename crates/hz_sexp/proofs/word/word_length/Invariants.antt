@@ -1,6 +1,6 @@
 use Rattle.std.proofs.Common.{ℕ, ◌≤◌, ◌<◌, ◌-◌, length, drop}
 use Rattle.std.specs.Prelude.{IsTrue}
-use Rattle.hz_sexp_model.specs.Forms.{goes_on}
+use Rattle.hz_base_model.specs.Forms.Forms.{goes_on}
 use Rattle.hz_sexp.proofs.word.word_length.Given as goal
 
 abbrev pub invariant-loop-count : goal.invariant-loop-count

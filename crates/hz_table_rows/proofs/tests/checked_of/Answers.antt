@@ -1,7 +1,7 @@
 use Rattle.hz_sexp.specs.Shape.{trees}
 use Rattle.hz_mdread.specs.Shape.{description}
-use Rattle.hz_mdread_model.proofs.FormSizes.{forms_few, strings_short}
-use Rattle.hz_mdread_model.proofs.CheckableLaws.{can_be_checked}
+use Rattle.hz_description_model.proofs.Reading.FormSizes.{forms_few, strings_short}
+use Rattle.hz_description_model.proofs.Reading.CheckableLaws.{can_be_checked}
 use Rattle.hz_table_rows.proofs.tests.checked_of.Goals as goal
 
 pub read_description-requires-clause-count : goal.read_description-requires-clause-count

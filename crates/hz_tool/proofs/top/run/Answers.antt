@@ -2,7 +2,7 @@ use Rattle.std.proofs.Common.{◌≡◌, ◌⊎◌, ℕ, inr, sym, subst, ◌∙
 use Rattle.hz_answer_model.specs.Answers.{Answer}
 use Rattle.hz_tool.proofs.RunLemmas.{says_file, may_write, status_exact, file_answer, completes, appends_schedule, appends_tables, appends_drill}
 use Rattle.hz_tool.specs.Endings.{Completes}
-use Rattle.hz_words.specs.Shape.{words_in}
+use Rattle.hz_tool_words.specs.Shape.{words_in}
 use Rattle.hz_tool.proofs.top.run.Goals as goal
 
 pub returns-in-Ok-clause-file_line : goal.returns-in-Ok-clause-file_line

@@ -1,5 +1,5 @@
 use Rattle.std.proofs.Common.{ℕ, ◌<◌}
-use Rattle.hz_altern_model.specs.Sets.{Holds}
+use Rattle.hz_description_model.specs.Reservations.Sets.{Holds}
 use Rattle.hz_grid.specs.Rows.{HasUnit}
 use Rattle.hz_unitsets.proofs.rules.units_of.Given as goal
 

@@ -1,10 +1,10 @@
 use Rattle.std.proofs.Common.{◌≡◌, ◌/◌, length, rules, arith, IsTrue, sym, ap, ◌∙◌, take, drop}
 use Rattle.hz_altern.specs.Extents.{told}
 use Rattle.hz_altern.specs.Joinings.{joined_parts}
-use Rattle.hz_altern_model.specs.AlternativeLists.{Extent, extent_of}
-use Rattle.hz_altern_model.specs.Expressions.{are_expressions}
-use Rattle.hz_altern_model.specs.Alternatives.{parts_of, Expression, named, nothing, sequence, one_of, all_of, repeat}
-use Rattle.hz_altern_model.specs.NamesIn.{all_names_in}
+use Rattle.hz_description_model.specs.Reservations.AlternativeLists.{Extent, extent_of}
+use Rattle.hz_description_model.specs.Reservations.Expressions.{are_expressions}
+use Rattle.hz_description_model.specs.Reservations.Alternatives.{parts_of, Expression, named, nothing, sequence, one_of, all_of, repeat}
+use Rattle.hz_description_model.specs.Reservations.NamesIn.{all_names_in}
 use Rattle.hz_regexp.specs.Shape.{expression, expressions}
 use Rattle.hz_altern.specs.Tables.{is_held}
 use Rattle.hz_altern.proofs.Nodes.{cut_in_two}

@@ -2,31 +2,30 @@ use Rattle.std.proofs.Common.{◌≡◌, ℕ, ◌+◌, ◌/◌, ◌<◌, ◌≤�
 use Rattle.std.specs.Prelude.{IsTrue, IfOk, IfErr}
 use Rattle.std.proofs.lemmas.Result.{err_from_is_err_and}
 use Rattle.hz_base_model.specs.Limits.{cycle_limit}
-use Rattle.hz_altern_model.specs.Limits.{size_limit}
-use Rattle.hz_base_model.specs.Pairs.{Pair}
+use Rattle.hz_description_model.specs.Reservations.Limits.{size_limit}
 use Rattle.hz_altern.specs.Answers.{Refuses}
 use Rattle.hz_regexp.specs.Shape.{expression, expressions}
 use Rattle.hz_altern.specs.Joinings.{IsListed}
-use Rattle.hz_altern.specs.Shapes.{alternatives, pairs_of}
+use Rattle.hz_altern.specs.Shapes.{alternatives}
 use Rattle.hz_altern.specs.Tables.{alternatives_in, known_alternatives, is_held}
 use Rattle.std.proofs.lemmas.List.{take_all, length-map}
-use Rattle.hz_altern.proofs.BesideLemmas.{IsBeside, joins, whole, listed_pairs, within_length, none_beside, single_more, listed_more, short_more, others_more, refused_more, refused_part, beside_at, listed_single, short_both, all_beside, refused_idle, refused_single}
+use Rattle.hz_altern.proofs.BesideLemmas.{IsBeside, joins, within_length, none_beside, single_more, short_more, others_more, refused_more, refused_part, beside_at, listed_single, short_both, all_beside, refused_idle, refused_single}
 use Rattle.hz_altern.proofs.GatherLemmas.{part_at}
 use Rattle.hz_altern.specs.declared.listing.leaves.Leaves.{Leaves}
 use Rattle.hz_regexp.specs.declared.expr.Expr.{Expr}
 use Rattle.hz_altern.proofs.HalfLemmas.{halved, single, repeated}
-use Rattle.hz_altern.proofs.KnownLemmas.{named_listed}
+use Rattle.hz_altern.proofs.KnownLemmas.{named_listed, placed_of, all_listed}
 use Rattle.hz_altern.proofs.Nodes.{nodes, nodes_of_repeat}
 use Rattle.hz_altern.proofs.Shapes.{named_is, repeat_is}
 use Rattle.hz_altern.proofs.SingleLemmas.{one_told, tell_at, tell_halves, tell_length}
 use Rattle.hz_altern.specs.Singles.{TellsSingles, TellSingles}
-use Rattle.hz_altern_model.specs.Alternatives.{Alternative, Expression, named, repeat, alternatives_of, parts_of}
-use Rattle.hz_altern_model.specs.AlternativeLists.{greatest_length}
-use Rattle.hz_altern_model.specs.Automata.{UnitPlace, ascending, listed}
-use Rattle.hz_altern_model.specs.Expressions.{is_expression}
-use Rattle.hz_altern_model.specs.NamesIn.{all_names}
+use Rattle.hz_description_model.specs.Reservations.Alternatives.{Alternative, Expression, named, repeat, alternatives_of, parts_of}
+use Rattle.hz_description_model.specs.Reservations.AlternativeLists.{greatest_length}
+use Rattle.hz_description_model.specs.Reservations.Automata.{UnitPlace, listed}
+use Rattle.hz_description_model.specs.Reservations.Expressions.{is_expression}
+use Rattle.hz_description_model.specs.Reservations.NamesIn.{all_names}
 use Rattle.hz_altern.proofs.listing.expanding.+listing.Goals as goal
-use Rattle.hz_altern.proofs.listing.expanding.+listing.Goals.{listing_together-then-is_single+in_ok-gather, listing_together-else-is_single+in_ok-more+in_ok-others-2}
+use Rattle.hz_altern.proofs.listing.expanding.+listing.Goals.{listing_together-then-is_single+in_ok-gather, listing_together-else-is_single+in_ok-others-2}
 
 pub listing_parts-listing-requires : goal.listing_parts-listing-requires
 listing_parts-listing-requires t c =
@@ -201,51 +200,6 @@ listing_together-gather-requires-clause-short t c =
     let short = at.short in
     omega arith
 
-pub listing_together-listing-requires : goal.listing_together-listing-requires
-listing_together-listing-requires t c =
-    let part = part_at (is_held (alternatives_in c.args.known.now)) c.args.parts.now c.loop-place.place c.index-parts-place.result c.loop-place-test.true c.index-parts-place.is c.requires.formed c.requires.known in
-    let at = beside_at c.args.known.now c.args.parts.now c.loop-place.place c.index-parts-place.result c.loop-place-test.true c.index-parts-place.is c.requires.formed c.requires.known c.requires.short in
-    let formed = part.formed in
-    let names_known = part.names_known in
-    let fewer = part.fewer in
-    let short = at.short in
-    let told = tell_at (known_alternatives c.args.known.now) c.args.parts.now c.args.singles.now c.loop-place.place c.index-parts-place.result c.index-singles-place.result c.loop-place-test.true c.index-parts-place.is c.index-singles-place.is c.requires.told in
-    search rules
-
-pub listing_together-returns-in_err-more-clause-err : goal.listing_together-returns-in_err-more-clause-err
-listing_together-returns-in_err-more-clause-err t c =
-    let part = part_at (is_held (alternatives_in c.args.known.now)) c.args.parts.now c.loop-place.place c.index-parts-place.result c.loop-place-test.true c.index-parts-place.is c.requires.formed c.requires.known in
-    let at = beside_at c.args.known.now c.args.parts.now c.loop-place.place c.index-parts-place.result c.loop-place-test.true c.index-parts-place.is c.requires.formed c.requires.known c.requires.short in
-    let before = expressions (take c.loop-place.place c.args.parts.now) in
-    let e = expression c.index-parts-place.result in
-    let p = err_from_is_err_and c.from_residual-in_err-more.result c.from_residual-in_err-more.ensures.1 in
-    rw (p.1, p.2) (at.refused c.args.most _ (refused_part c.args.known.now before e c.loop-place.leaves c.loop-place.length c.loop-place.others c.loop-place.invariant part.formed at.short part.names_known c.args.most _ c.in_err-more.ensures.err))
-
-pub listing_together-together-requires-clause-second : goal.listing_together-together-requires-clause-second
-listing_together-together-requires-clause-second t c =
-    let part = part_at (is_held (alternatives_in c.args.known.now)) c.args.parts.now c.loop-place.place c.index-parts-place.result c.loop-place-test.true c.index-parts-place.is c.requires.formed c.requires.known in
-    let at = beside_at c.args.known.now c.args.parts.now c.loop-place.place c.index-parts-place.result c.loop-place-test.true c.index-parts-place.is c.requires.formed c.requires.known c.requires.short in
-    let before = expressions (take c.loop-place.place c.args.parts.now) in
-    let e = expression c.index-parts-place.result in
-    rw c.in_ok-more.ensures.ok (listed_more c.args.known.now before e c.loop-place.leaves c.loop-place.length c.loop-place.others c.loop-place.invariant part.formed at.short part.names_known)
-
-pub listing_together-together-requires-clause-short : goal.listing_together-together-requires-clause-short
-listing_together-together-requires-clause-short t c =
-    let part = part_at (is_held (alternatives_in c.args.known.now)) c.args.parts.now c.loop-place.place c.index-parts-place.result c.loop-place-test.true c.index-parts-place.is c.requires.formed c.requires.known in
-    let at = beside_at c.args.known.now c.args.parts.now c.loop-place.place c.index-parts-place.result c.loop-place-test.true c.index-parts-place.is c.requires.formed c.requires.known c.requires.short in
-    let before = expressions (take c.loop-place.place c.args.parts.now) in
-    let e = expression c.index-parts-place.result in
-    rw c.in_ok-more.ensures.ok (short_more c.args.known.now before e c.loop-place.leaves c.loop-place.length c.loop-place.others c.loop-place.invariant part.formed at.short part.names_known)
-
-pub listing_together-returns-in_err-others-2-clause-err : goal.listing_together-returns-in_err-others-2-clause-err
-listing_together-returns-in_err-others-2-clause-err t c =
-    let part = part_at (is_held (alternatives_in c.args.known.now)) c.args.parts.now c.loop-place.place c.index-parts-place.result c.loop-place-test.true c.index-parts-place.is c.requires.formed c.requires.known in
-    let at = beside_at c.args.known.now c.args.parts.now c.loop-place.place c.index-parts-place.result c.loop-place-test.true c.index-parts-place.is c.requires.formed c.requires.known c.requires.short in
-    let before = expressions (take c.loop-place.place c.args.parts.now) in
-    let e = expression c.index-parts-place.result in
-    let p = err_from_is_err_and c.from_residual-in_err-others-2.result c.from_residual-in_err-others-2.ensures.1 in
-    rw (p.1, p.2) (at.refused c.args.most _ (refused_more c.args.known.now before e c.loop-place.leaves c.loop-place.length c.loop-place.others c.loop-place.invariant part.formed at.short part.names_known c.args.most _ (rw c.in_ok-more.ensures.ok at c.in_err-others-2.ensures.err)))
-
 pub listing_together-loop-place-preserved : goal.listing_together-loop-place-preserved
 listing_together-loop-place-preserved t c =
     let part = part_at (is_held (alternatives_in c.args.known.now)) c.args.parts.now c.loop-place.place c.index-parts-place.result c.loop-place-test.true c.index-parts-place.is c.requires.formed c.requires.known in
@@ -260,83 +214,10 @@ listing_together-loop-place-preserved t c =
           let one = one_told (known_alternatives known) e c.index-singles-place.result part.formed told c.is_single.result c.is_single.ensures w.if-is_single.true in
           let more = single_more known before e c.loop-place.leaves c.loop-place.length c.loop-place.others c.loop-place.invariant part.formed at.short w.gather.new.leaves w.max-length.result one w.in_ok-gather.ensures.gathered (w.max-length.ensures ∙ ap (λ (n : ℕ). max n c.loop-place.length) w.in_ok-gather.ensures.length) in
           rw (w.leaves-is, w.length-is, w.others-is) more
-      | listing_together-else-is_single+in_ok-more+in_ok-others-2 w ↦
-          let more = others_more known before e c.loop-place.leaves c.loop-place.length c.loop-place.others c.loop-place.invariant part.formed at.short part.names_known w.in_ok-others-2.others (w.in_ok-others-2.ensures.ok ∙ ap (joins c.loop-place.others) w.in_ok-more.ensures.ok) in
+      | listing_together-else-is_single+in_ok-others-2 w ↦
+          let more = others_more known before e c.loop-place.leaves c.loop-place.length c.loop-place.others c.loop-place.invariant part.formed at.short part.names_known w.in_ok-others-2.others w.in_ok-others-2.ensures.ok in
           rw (w.leaves-is, w.length-is, w.others-is) more
     ])
-
-abbrev alternative : List (Pair UnitPlace) → ℕ → Alternative UnitPlace
-alternative pairs cycles = record { pairs = pairs; cycles = cycles }
-
-pub listing_together-returns-in_err-push-clause-err : goal.listing_together-returns-in_err-push-clause-err
-listing_together-returns-in_err-push-clause-err t c =
-    let known = c.args.known.now in
-    let es = expressions c.args.parts.now in
-    let some : 0 < length es = simp length-map c.requires.some in
-    let are : IsBeside known es c.loop-place.leaves c.loop-place.length c.loop-place.others = subst (λ (ps : List Expr). IsBeside known (expressions ps) c.loop-place.leaves c.loop-place.length c.loop-place.others) (take_all c.loop-place.place c.args.parts.now c.loop-place-test.false) c.loop-place.invariant in
-    let made : pairs_of c.in_ok-pairs.pairs.items ≡ ascending are.pairs = listed_pairs known es c.loop-place.leaves c.loop-place.length c.loop-place.others are some c.requires.formed (pairs_of c.in_ok-pairs.pairs.items) c.in_ok-pairs.ensures.ascending c.in_ok-pairs.ensures.same in
-    let p = err_from_is_err_and c.from_residual-in_err-push.result c.from_residual-in_err-push.ensures.1 in
-    rw (p.1, p.2) (refused_single known es c.loop-place.leaves c.loop-place.length c.loop-place.others are some c.requires.formed c.args.most _ (subst (λ ps. Refuses c.args.most (alternative ps c.loop-place.length ∷ []) c.in_err-push.field-0.0) made (rw c.new-single.ensures at c.in_err-push.ensures.err)))
-
-pub listing_together-together-requires-2-clause-first : goal.listing_together-together-requires-2-clause-first
-listing_together-together-requires-2-clause-first t c =
-    let known = c.args.known.now in
-    let es = expressions c.args.parts.now in
-    let some : 0 < length es = simp length-map c.requires.some in
-    let are : IsBeside known es c.loop-place.leaves c.loop-place.length c.loop-place.others = subst (λ (ps : List Expr). IsBeside known (expressions ps) c.loop-place.leaves c.loop-place.length c.loop-place.others) (take_all c.loop-place.place c.args.parts.now c.loop-place-test.false) c.loop-place.invariant in
-    let made : pairs_of c.in_ok-pairs.pairs.items ≡ ascending are.pairs = listed_pairs known es c.loop-place.leaves c.loop-place.length c.loop-place.others are some c.requires.formed (pairs_of c.in_ok-pairs.pairs.items) c.in_ok-pairs.ensures.ascending c.in_ok-pairs.ensures.same in
-    let this : List (Alternative UnitPlace) = listed (whole are.pairs c.loop-place.length) ∷ [] in
-    let pushed : c.push.new.self ≡ this = (rw c.new-single.ensures at c.in_ok-push.ensures.ok) ∙ ap (λ ps. alternative ps c.loop-place.length ∷ []) made in
-    subst (All IsListed) (sym pushed) (listed_single known es c.loop-place.leaves c.loop-place.length c.loop-place.others are some c.requires.formed)
-
-pub listing_together-together-requires-2-clause-short : goal.listing_together-together-requires-2-clause-short
-listing_together-together-requires-2-clause-short t c =
-    let known = c.args.known.now in
-    let es = expressions c.args.parts.now in
-    let some : 0 < length es = simp length-map c.requires.some in
-    let are : IsBeside known es c.loop-place.leaves c.loop-place.length c.loop-place.others = subst (λ (ps : List Expr). IsBeside known (expressions ps) c.loop-place.leaves c.loop-place.length c.loop-place.others) (take_all c.loop-place.place c.args.parts.now c.loop-place-test.false) c.loop-place.invariant in
-    let made : pairs_of c.in_ok-pairs.pairs.items ≡ ascending are.pairs = listed_pairs known es c.loop-place.leaves c.loop-place.length c.loop-place.others are some c.requires.formed (pairs_of c.in_ok-pairs.pairs.items) c.in_ok-pairs.ensures.ascending c.in_ok-pairs.ensures.same in
-    let this : List (Alternative UnitPlace) = listed (whole are.pairs c.loop-place.length) ∷ [] in
-    let pushed : c.push.new.self ≡ this = (rw c.new-single.ensures at c.in_ok-push.ensures.ok) ∙ ap (λ ps. alternative ps c.loop-place.length ∷ []) made in
-    rw pushed (short_both known es c.loop-place.leaves c.loop-place.length c.loop-place.others are some c.requires.formed)
-
-pub listing_together-returns-clause-ok : goal.listing_together-returns-clause-ok
-listing_together-returns-clause-ok t c =
-    let known = c.args.known.now in
-    let es = expressions c.args.parts.now in
-    let some : 0 < length es = simp length-map c.requires.some in
-    let are : IsBeside known es c.loop-place.leaves c.loop-place.length c.loop-place.others = subst (λ (ps : List Expr). IsBeside known (expressions ps) c.loop-place.leaves c.loop-place.length c.loop-place.others) (take_all c.loop-place.place c.args.parts.now c.loop-place-test.false) c.loop-place.invariant in
-    let made : pairs_of c.in_ok-pairs.pairs.items ≡ ascending are.pairs = listed_pairs known es c.loop-place.leaves c.loop-place.length c.loop-place.others are some c.requires.formed (pairs_of c.in_ok-pairs.pairs.items) c.in_ok-pairs.ensures.ascending c.in_ok-pairs.ensures.same in
-    let this : List (Alternative UnitPlace) = listed (whole are.pairs c.loop-place.length) ∷ [] in
-    let pushed : c.push.new.self ≡ this = (rw c.new-single.ensures at c.in_ok-push.ensures.ok) ∙ ap (λ ps. alternative ps c.loop-place.length ∷ []) made in
-    let joined = ap (λ xs. joins xs c.loop-place.others) pushed ∙ all_beside known es c.loop-place.leaves c.loop-place.length c.loop-place.others are some c.requires.formed in
-    subst (λ (xs : List (Alternative UnitPlace)). IfOk c.together-2.result (λ listing. listing ≡ xs)) joined c.together-2.ensures.ok
-
-pub listing_together-returns-clause-err : goal.listing_together-returns-clause-err
-listing_together-returns-clause-err t c =
-    let known = c.args.known.now in
-    let es = expressions c.args.parts.now in
-    let some : 0 < length es = simp length-map c.requires.some in
-    let are : IsBeside known es c.loop-place.leaves c.loop-place.length c.loop-place.others = subst (λ (ps : List Expr). IsBeside known (expressions ps) c.loop-place.leaves c.loop-place.length c.loop-place.others) (take_all c.loop-place.place c.args.parts.now c.loop-place-test.false) c.loop-place.invariant in
-    let made : pairs_of c.in_ok-pairs.pairs.items ≡ ascending are.pairs = listed_pairs known es c.loop-place.leaves c.loop-place.length c.loop-place.others are some c.requires.formed (pairs_of c.in_ok-pairs.pairs.items) c.in_ok-pairs.ensures.ascending c.in_ok-pairs.ensures.same in
-    let this : List (Alternative UnitPlace) = listed (whole are.pairs c.loop-place.length) ∷ [] in
-    let pushed : c.push.new.self ≡ this = (rw c.new-single.ensures at c.in_ok-push.ensures.ok) ∙ ap (λ ps. alternative ps c.loop-place.length ∷ []) made in
-    let joined = ap (λ xs. joins xs c.loop-place.others) pushed ∙ all_beside known es c.loop-place.leaves c.loop-place.length c.loop-place.others are some c.requires.formed in
-    subst (λ (xs : List (Alternative UnitPlace)). IfErr c.together-2.result (Refuses c.args.most xs)) joined c.together-2.ensures.err
-
-pub listing_together-pairs-requires-clause-ends : goal.listing_together-pairs-requires-clause-ends
-listing_together-pairs-requires-clause-ends t c = c.loop-place.invariant.ends
-
-pub listing_together-pairs-requires-clause-within : goal.listing_together-pairs-requires-clause-within
-listing_together-pairs-requires-clause-within t c =
-    let known = c.args.known.now in
-    let es = expressions c.args.parts.now in
-    let some : 0 < length es = simp length-map c.requires.some in
-    let are : IsBeside known es c.loop-place.leaves c.loop-place.length c.loop-place.others = subst (λ (ps : List Expr). IsBeside known (expressions ps) c.loop-place.leaves c.loop-place.length c.loop-place.others) (take_all c.loop-place.place c.args.parts.now c.loop-place-test.false) c.loop-place.invariant in
-    within_length known es c.loop-place.leaves c.loop-place.length c.loop-place.others are some c.requires.formed
-
-pub listing_together-pairs-requires-clause-short : goal.listing_together-pairs-requires-clause-short
-listing_together-pairs-requires-clause-short t c = c.loop-place.invariant.short
 
 pub listing_together-bounds-singles-place : goal.listing_together-bounds-singles-place
 listing_together-bounds-singles-place t c = omega (arith, tell_length (known_alternatives c.args.known.now) c.args.parts.now c.args.singles.now c.requires.told, c.loop-place-test.true)
@@ -350,3 +231,105 @@ listing_together-returns-in_err-others-clause-err t c =
     let some : 0 < length es = simp length-map c.requires.some in
     let p = err_from_is_err_and c.from_residual.result c.from_residual.ensures.1 in
     rw (p.1, p.2) (refused_idle c.args.known.now es some c.requires.formed c.requires.known c.args.most _ c.in_err-others.ensures.err)
+
+pub listing_together-listing_beside-requires : goal.listing_together-listing_beside-requires
+listing_together-listing_beside-requires t c =
+    let part = part_at (is_held (alternatives_in c.args.known.now)) c.args.parts.now c.loop-place.place c.index-parts-place.result c.loop-place-test.true c.index-parts-place.is c.requires.formed c.requires.known in
+    let at = beside_at c.args.known.now c.args.parts.now c.loop-place.place c.index-parts-place.result c.loop-place-test.true c.index-parts-place.is c.requires.formed c.requires.known c.requires.short in
+    let before = expressions (take c.loop-place.place c.args.parts.now) in
+    let e = expression c.index-parts-place.result in
+    let formed = part.formed in
+    let names_known = part.names_known in
+    let fewer = part.fewer in
+    let short_part = at.short in
+    let some = c.loop-place.invariant.some in
+    let each = c.loop-place.invariant.are_listed in
+    let short = short_more c.args.known.now before e c.loop-place.leaves c.loop-place.length c.loop-place.others c.loop-place.invariant part.formed at.short part.names_known in
+    let told = tell_at (known_alternatives c.args.known.now) c.args.parts.now c.args.singles.now c.loop-place.place c.index-parts-place.result c.index-singles-place.result c.loop-place-test.true c.index-parts-place.is c.index-singles-place.is c.requires.told in
+    search rules
+
+pub listing_together-returns-in_err-others-2-clause-err : goal.listing_together-returns-in_err-others-2-clause-err
+listing_together-returns-in_err-others-2-clause-err t c =
+    let part = part_at (is_held (alternatives_in c.args.known.now)) c.args.parts.now c.loop-place.place c.index-parts-place.result c.loop-place-test.true c.index-parts-place.is c.requires.formed c.requires.known in
+    let at = beside_at c.args.known.now c.args.parts.now c.loop-place.place c.index-parts-place.result c.loop-place-test.true c.index-parts-place.is c.requires.formed c.requires.known c.requires.short in
+    let before = expressions (take c.loop-place.place c.args.parts.now) in
+    let e = expression c.index-parts-place.result in
+    let p = err_from_is_err_and c.from_residual-in_err-others-2.result c.from_residual-in_err-others-2.ensures.1 in
+    rw (p.1, p.2) (at.refused c.args.most _ (refused_more c.args.known.now before e c.loop-place.leaves c.loop-place.length c.loop-place.others c.loop-place.invariant part.formed at.short part.names_known c.args.most _ c.in_err-others-2.ensures.err))
+
+pub listing_together-list_leaves-requires : goal.listing_together-list_leaves-requires
+listing_together-list_leaves-requires t c =
+    let known = c.args.known.now in
+    let es = expressions c.args.parts.now in
+    let some : 0 < length es = simp length-map c.requires.some in
+    let are : IsBeside known es c.loop-place.leaves c.loop-place.length c.loop-place.others = subst (λ (ps : List Expr). IsBeside known (expressions ps) c.loop-place.leaves c.loop-place.length c.loop-place.others) (take_all c.loop-place.place c.args.parts.now c.loop-place-test.false) c.loop-place.invariant in
+    record {
+      ends = c.loop-place.invariant.ends;
+      within = within_length known es c.loop-place.leaves c.loop-place.length c.loop-place.others are some c.requires.formed;
+      short = c.loop-place.invariant.short;
+      most = c.requires.most;
+    }
+
+pub listing_together-returns-in_err-single-clause-err : goal.listing_together-returns-in_err-single-clause-err
+listing_together-returns-in_err-single-clause-err t c =
+    let known = c.args.known.now in
+    let es = expressions c.args.parts.now in
+    let some : 0 < length es = simp length-map c.requires.some in
+    let are : IsBeside known es c.loop-place.leaves c.loop-place.length c.loop-place.others = subst (λ (ps : List Expr). IsBeside known (expressions ps) c.loop-place.leaves c.loop-place.length c.loop-place.others) (take_all c.loop-place.place c.args.parts.now c.loop-place-test.false) c.loop-place.invariant in
+    let p = err_from_is_err_and c.from_residual-in_err-single.result c.from_residual-in_err-single.ensures.1 in
+    rw (p.1, p.2) (refused_single known es c.loop-place.leaves c.loop-place.length c.loop-place.others are some c.requires.formed c.args.most _ (c.in_err-single.ensures.err are.pairs are.taken))
+
+pub listing_together-together-requires-clause-first : goal.listing_together-together-requires-clause-first
+listing_together-together-requires-clause-first t c =
+    let known = c.args.known.now in
+    let es = expressions c.args.parts.now in
+    let some : 0 < length es = simp length-map c.requires.some in
+    let are : IsBeside known es c.loop-place.leaves c.loop-place.length c.loop-place.others = subst (λ (ps : List Expr). IsBeside known (expressions ps) c.loop-place.leaves c.loop-place.length c.loop-place.others) (take_all c.loop-place.place c.args.parts.now c.loop-place-test.false) c.loop-place.invariant in
+    subst (All IsListed) (sym (c.in_ok-single.ensures.ok are.pairs are.taken)) (listed_single known es c.loop-place.leaves c.loop-place.length c.loop-place.others are some c.requires.formed)
+
+pub listing_together-together-requires-clause-short : goal.listing_together-together-requires-clause-short
+listing_together-together-requires-clause-short t c =
+    let known = c.args.known.now in
+    let es = expressions c.args.parts.now in
+    let some : 0 < length es = simp length-map c.requires.some in
+    let are : IsBeside known es c.loop-place.leaves c.loop-place.length c.loop-place.others = subst (λ (ps : List Expr). IsBeside known (expressions ps) c.loop-place.leaves c.loop-place.length c.loop-place.others) (take_all c.loop-place.place c.args.parts.now c.loop-place-test.false) c.loop-place.invariant in
+    rw (c.in_ok-single.ensures.ok are.pairs are.taken) (short_both known es c.loop-place.leaves c.loop-place.length c.loop-place.others are some c.requires.formed)
+
+pub listing_together-returns-clause-ok : goal.listing_together-returns-clause-ok
+listing_together-returns-clause-ok t c =
+    let known = c.args.known.now in
+    let es = expressions c.args.parts.now in
+    let some : 0 < length es = simp length-map c.requires.some in
+    let are : IsBeside known es c.loop-place.leaves c.loop-place.length c.loop-place.others = subst (λ (ps : List Expr). IsBeside known (expressions ps) c.loop-place.leaves c.loop-place.length c.loop-place.others) (take_all c.loop-place.place c.args.parts.now c.loop-place-test.false) c.loop-place.invariant in
+    let joined = ap (λ xs. joins xs c.loop-place.others) (c.in_ok-single.ensures.ok are.pairs are.taken) ∙ all_beside known es c.loop-place.leaves c.loop-place.length c.loop-place.others are some c.requires.formed in
+    subst (λ (xs : List (Alternative UnitPlace)). IfOk c.together.result (λ listing. listing ≡ xs)) joined c.together.ensures.ok
+
+pub listing_together-returns-clause-err : goal.listing_together-returns-clause-err
+listing_together-returns-clause-err t c =
+    let known = c.args.known.now in
+    let es = expressions c.args.parts.now in
+    let some : 0 < length es = simp length-map c.requires.some in
+    let are : IsBeside known es c.loop-place.leaves c.loop-place.length c.loop-place.others = subst (λ (ps : List Expr). IsBeside known (expressions ps) c.loop-place.leaves c.loop-place.length c.loop-place.others) (take_all c.loop-place.place c.args.parts.now c.loop-place-test.false) c.loop-place.invariant in
+    let joined = ap (λ xs. joins xs c.loop-place.others) (c.in_ok-single.ensures.ok are.pairs are.taken) ∙ all_beside known es c.loop-place.leaves c.loop-place.length c.loop-place.others are some c.requires.formed in
+    subst (λ (xs : List (Alternative UnitPlace)). IfErr c.together.result (Refuses c.args.most xs)) joined c.together.ensures.err
+
+pub listing_beside-returns-in_err-more-clause-err : goal.listing_beside-returns-in_err-more-clause-err
+listing_beside-returns-in_err-more-clause-err t c =
+    let p = err_from_is_err_and c.from_residual.result c.from_residual.ensures.1 in
+    rw (p.1, p.2) (refused_part c.args.known.now (expression c.args.part.now) c.requires.formed c.args.others.now c.requires.some c.requires.each c.args.most _ c.in_err-more.ensures.err)
+
+pub listing_beside-together-requires-clause-second : goal.listing_beside-together-requires-clause-second
+listing_beside-together-requires-clause-second t c =
+    subst (All IsListed) (sym c.in_ok-more.ensures.ok) (all_listed _ (placed_of c.args.known.now (expression c.args.part.now) c.requires.formed))
+
+pub listing_beside-together-requires-clause-short : goal.listing_beside-together-requires-clause-short
+listing_beside-together-requires-clause-short t c =
+    rw c.in_ok-more.ensures.ok c.requires.short
+
+pub listing_beside-returns-clause-ok : goal.listing_beside-returns-clause-ok
+listing_beside-returns-clause-ok t c =
+    rw (← c.in_ok-more.ensures.ok) c.together.ensures.ok
+
+pub listing_beside-returns-clause-err : goal.listing_beside-returns-clause-err
+listing_beside-returns-clause-err t c =
+    rw (← c.in_ok-more.ensures.ok) c.together.ensures.err

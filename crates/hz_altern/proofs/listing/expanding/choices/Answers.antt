@@ -1,6 +1,6 @@
 use Rattle.std.proofs.lemmas.Result.{err_from_is_err_and}
 use Rattle.hz_base_model.specs.Limits.{cycle_limit}
-use Rattle.hz_altern_model.specs.Limits.{size_limit}
+use Rattle.hz_description_model.specs.Reservations.Limits.{size_limit}
 use Rattle.hz_altern.specs.Joinings.{joined_by}
 use Rattle.hz_altern.specs.Shapes.{alternatives}
 use Rattle.hz_altern.proofs.Weights.{item_listed, item_small, chosen_short, chosen_refused}

@@ -4,8 +4,8 @@ use Rattle.hz_altern.specs.Tables.{known_alternatives}
 use Rattle.hz_altern.proofs.KnownLemmas.{right_known, some_of, placed_of}
 use Rattle.hz_altern.proofs.ExpandLemmas.{many, few, short, long, within, refused, sound}
 use Rattle.hz_regexp.specs.Shape.{expression}
-use Rattle.hz_altern_model.specs.Alternatives.{alternatives_of}
-use Rattle.hz_altern_model.specs.AlternativeLists.{AreSound}
+use Rattle.hz_description_model.specs.Reservations.Alternatives.{alternatives_of}
+use Rattle.hz_description_model.specs.Reservations.AlternativeLists.{AreSound}
 use Rattle.hz_altern.proofs.listing.expanding.expand_within.Goals as goal
 
 pub returns-then-extent-gt-ALTERNATIVE_LIMIT-clause-answer : goal.returns-then-extent-gt-ALTERNATIVE_LIMIT-clause-answer

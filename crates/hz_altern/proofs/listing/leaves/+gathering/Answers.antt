@@ -9,11 +9,11 @@ use Rattle.hz_altern.proofs.LeafLemmas.{sequence_gathered, together_gathered}
 use Rattle.hz_altern.proofs.ListedLemmas.{copies_single}
 use Rattle.hz_altern.proofs.Nodes.{nodes, nodes_of_repeat}
 use Rattle.hz_altern.proofs.Shapes.{oneof_is, repeat_is}
-use Rattle.hz_altern_model.specs.Alternatives.{Alternative, Expression, one_of, repeat, alternatives_of, copies, parts_of}
-use Rattle.hz_altern_model.specs.AlternativeLists.{greatest_length}
-use Rattle.hz_altern_model.specs.Automata.{UnitPlace}
-use Rattle.hz_altern_model.specs.Expressions.{is_expression}
-use Rattle.hz_altern_model.specs.NamesIn.{all_names}
+use Rattle.hz_description_model.specs.Reservations.Alternatives.{Alternative, Expression, one_of, repeat, alternatives_of, copies, parts_of}
+use Rattle.hz_description_model.specs.Reservations.AlternativeLists.{greatest_length}
+use Rattle.hz_description_model.specs.Reservations.Automata.{UnitPlace}
+use Rattle.hz_description_model.specs.Reservations.Expressions.{is_expression}
+use Rattle.hz_description_model.specs.Reservations.NamesIn.{all_names}
 use Rattle.hz_base_model.specs.Limits.{cycle_limit}
 use Rattle.hz_altern.proofs.listing.leaves.+gathering.Goals as goal
 

@@ -3,8 +3,8 @@ use Rattle.hz_regexp.specs.Shape.{expressions}
 use Rattle.hz_altern.specs.Leaves.{IsGathered}
 use Rattle.hz_altern.specs.Tables.{known_alternatives}
 use Rattle.hz_altern.proofs.Nodes.{nodes, all_nodes}
-use Rattle.hz_altern_model.specs.Alternatives.{in_sequence, together, parts_of}
-use Rattle.hz_altern_model.specs.AlternativeLists.{greatest_length}
+use Rattle.hz_description_model.specs.Reservations.Alternatives.{in_sequence, together, parts_of}
+use Rattle.hz_description_model.specs.Reservations.AlternativeLists.{greatest_length}
 use Rattle.hz_altern.proofs.listing.leaves.+gathering.Given as goal
 
 abbrev pub decreases-gather : goal.decreases-gather

@@ -3,7 +3,7 @@ use Rattle.std.specs.Prelude.{unwrap_or}
 use Rattle.hz_altern.specs.Shapes.{alternatives}
 use Rattle.hz_altern.specs.Tables.{known_alternatives}
 use Rattle.hz_altern.proofs.Lengths.{greatest_sound}
-use Rattle.hz_altern_model.specs.AlternativeLists.{greatest_length}
+use Rattle.hz_description_model.specs.Reservations.AlternativeLists.{greatest_length}
 use Rattle.hz_altern.proofs.listing.leaves.length_of.Goals as goal
 
 pub returns : goal.returns

@@ -1,10 +1,10 @@
 use Rattle.std.proofs.Common.{◌≡◌, true, false, sym}
-use Rattle.hz_altern_model.proofs.AscendingLaws.{same_from_neither}
+use Rattle.hz_description_model.proofs.Reservations.AscendingLaws.{same_from_neither}
 use Rattle.hz_altern.specs.Merging.{IsLeast}
 use Rattle.hz_altern.specs.Shapes.{pair_of, pairs_of}
 use Rattle.hz_altern.proofs.MergeLemmas.{slice_of_first, slice_of_second, slices, least_one, least_other, least_both}
 use Rattle.hz_altern.proofs.listing.merging.least.Goals as goal
-use Rattle.hz_altern_model.specs.Automata.{place_cmp}
+use Rattle.hz_description_model.specs.Reservations.Automata.{place_cmp}
 use Rattle.hz_base_model.specs.Pairs.{precedes_by}
 
 pub returns-in-None-Some-clause-some : goal.returns-in-None-Some-clause-some

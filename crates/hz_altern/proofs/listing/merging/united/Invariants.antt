@@ -1,7 +1,7 @@
 use Rattle.std.proofs.Common.{◌≡◌, ◌+◌, ◌++◌, length}
 use Rattle.hz_altern.specs.Shapes.{pairs_of}
-use Rattle.hz_altern_model.specs.Automata.{ascending}
-use Rattle.hz_altern_model.specs.AlternativeLists.{IsAscending}
+use Rattle.hz_description_model.specs.Reservations.Automata.{ascending}
+use Rattle.hz_description_model.specs.Reservations.AlternativeLists.{IsAscending}
 use Rattle.hz_altern.proofs.listing.merging.united.Given as goal
 
 -- the pairs so far, with the union of what is left, are the union of all

@@ -5,7 +5,7 @@ use Rattle.hz_base_model.proofs.Elements.{Contains-nil}
 use Rattle.hz_altern.specs.Reserved.{IsOfUnits}
 use Rattle.hz_altern.specs.Shapes.{pairs_of}
 use Rattle.hz_altern.proofs.ReserveLemmas.{units_more, no_units}
-use Rattle.hz_altern_model.specs.Automata.{UnitPlace}
+use Rattle.hz_description_model.specs.Reservations.Automata.{UnitPlace}
 use Rattle.hz_altern.proofs.listing.reserving.listed.Goals as goal
 
 pub loop-automaton-preserved : goal.loop-automaton-preserved

@@ -1,7 +1,7 @@
 use Rattle.std.proofs.Common.{◌↔◌, Contains, take}
 use Rattle.hz_altern.specs.Reserved.{IsOfUnits}
 use Rattle.hz_altern.specs.Shapes.{pairs_of}
-use Rattle.hz_altern_model.specs.Automata.{UnitPlace}
+use Rattle.hz_description_model.specs.Reservations.Automata.{UnitPlace}
 use Rattle.hz_base_model.specs.Pairs.{Pair}
 use Rattle.hz_altern.proofs.listing.reserving.listed.Given as goal
 

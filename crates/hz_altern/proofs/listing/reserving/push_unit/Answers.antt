@@ -4,7 +4,7 @@ use Rattle.hz_altern.specs.Reserved.{IsOfUnit}
 use Rattle.hz_altern.specs.Shapes.{pairs_of}
 use Rattle.hz_altern.specs.declared.alternative.Pair.{Pair as StoredPair}
 use Rattle.hz_altern.proofs.ReserveLemmas.{unit_holds, unit_lacks, no_cycles}
-use Rattle.hz_altern_model.specs.Automata.{UnitPlace}
+use Rattle.hz_description_model.specs.Reservations.Automata.{UnitPlace}
 use Rattle.hz_altern.proofs.listing.reserving.push_unit.Goals as goal
 use Rattle.hz_altern.proofs.listing.reserving.push_unit.Goals.{then-holds+in_ok-push, else-holds}
 

@@ -4,9 +4,9 @@ use Rattle.hz_altern.specs.Leaves.{TakesIn}
 use Rattle.hz_altern.specs.Reserved.{IsReserved}
 use Rattle.hz_altern.proofs.LeafLemmas.{begins_at}
 use Rattle.hz_altern.proofs.ReserveLemmas.{all_more, no_names}
-use Rattle.hz_altern_model.specs.Automata.{UnitPlace}
+use Rattle.hz_description_model.specs.Reservations.Automata.{UnitPlace}
 use Rattle.hz_base_model.specs.Pairs.{Pair}
-use Rattle.hz_cycles.specs.declared.cycles.Cycles.{Cycles}
+use Rattle.hz_grid.specs.declared.cycles.Cycles.{Cycles}
 use Rattle.hz_altern.proofs.listing.reserving.reserve_all.Goals as goal
 
 pub take_name-requires : goal.take_name-requires

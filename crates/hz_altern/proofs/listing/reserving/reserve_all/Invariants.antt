@@ -1,7 +1,7 @@
 use Rattle.std.proofs.Common.{◌↔◌, take}
 use Rattle.hz_altern.specs.Leaves.{TakesIn}
 use Rattle.hz_altern.specs.Reserved.{IsReserved, AreUnits}
-use Rattle.hz_altern_model.specs.Automata.{UnitPlace}
+use Rattle.hz_description_model.specs.Reservations.Automata.{UnitPlace}
 use Rattle.hz_base_model.specs.Pairs.{Pair}
 use Rattle.hz_altern.proofs.listing.reserving.reserve_all.Given as goal
 

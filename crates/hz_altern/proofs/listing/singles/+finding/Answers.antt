@@ -6,9 +6,9 @@ use Rattle.hz_altern.specs.Tables.{alternatives_in, known_alternatives, is_held}
 use Rattle.hz_altern.proofs.GatherLemmas.{part_at}
 use Rattle.hz_altern.proofs.Shapes.{seq_is, oneof_is, allof_is}
 use Rattle.hz_altern.proofs.SingleLemmas.{all_one_sequence, all_one_together, choice_is_several, tell_more}
-use Rattle.hz_altern_model.specs.Alternatives.{Expression, sequence, one_of, all_of, parts_of}
-use Rattle.hz_altern_model.specs.Expressions.{is_expression}
-use Rattle.hz_altern_model.specs.NamesIn.{all_names}
+use Rattle.hz_description_model.specs.Reservations.Alternatives.{Expression, sequence, one_of, all_of, parts_of}
+use Rattle.hz_description_model.specs.Reservations.Expressions.{is_expression}
+use Rattle.hz_description_model.specs.Reservations.NamesIn.{all_names}
 use Rattle.hz_regexp.specs.Shape.{expression, expressions}
 use Rattle.hz_altern.proofs.listing.singles.+finding.Goals as goal
 

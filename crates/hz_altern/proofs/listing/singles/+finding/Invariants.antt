@@ -2,7 +2,7 @@ use Rattle.std.proofs.Common.{◌+◌, ◌*◌, take}
 use Rattle.hz_altern.proofs.Nodes.{nodes, all_nodes}
 use Rattle.hz_altern.specs.Singles.{TellSingles}
 use Rattle.hz_altern.specs.Tables.{known_alternatives}
-use Rattle.hz_altern_model.specs.Alternatives.{parts_of}
+use Rattle.hz_description_model.specs.Reservations.Alternatives.{parts_of}
 use Rattle.hz_regexp.specs.Shape.{expressions}
 use Rattle.hz_altern.proofs.listing.singles.+finding.Given as goal
 

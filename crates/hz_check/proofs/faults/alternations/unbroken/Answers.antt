@@ -1,7 +1,7 @@
 use Rattle.std.proofs.Common.{sym, ap, ◌∙◌}
 use Rattle.hz_mdread.specs.Shape.{description}
-use Rattle.hz_unfold.specs.Places.{site_of, told}
-use Rattle.hz_check_model.specs.CheckFaults.{alternation_of_two_automata, alternation_of_two_lengths}
+use Rattle.hz_check_reservations.specs.Places.{site_of, told}
+use Rattle.hz_description_model.specs.Check.CheckFaults.{alternation_of_two_automata, alternation_of_two_lengths}
 use Rattle.hz_check.proofs.Telling.CheckSteps.{behind_within, skip, stop}
 use Rattle.hz_check.proofs.faults.alternations.unbroken.Goals as goal
 

@@ -2,7 +2,7 @@ use Rattle.std.proofs.Common.{◌≡◌, ◌<◌, length, map, vec_len, All, sym
 use Rattle.std.proofs.lemmas.List.{length-map}
 use Rattle.hz_mdread.specs.Shape.{description, class_item}
 use Rattle.hz_check.proofs.Tables.KnownNames.{numbers_below}
-use Rattle.hz_check_model.specs.Places.{class_names}
+use Rattle.hz_description_model.specs.Check.Places.{class_names}
 use Rattle.hz_check.proofs.faults.bypass_twice.distinct_numbers.Goals as goal
 
 pub returns-clause-within : goal.returns-clause-within

@@ -12,11 +12,11 @@ use Rattle.hz_check.proofs.Lists.InOrder.{AllPairs-drop}
 use Rattle.hz_check.proofs.Tables.KnownNames.{known_bypass, first_holds, item_at}
 use Rattle.hz_check.proofs.Lists.Next.{drop_next, done_next}
 use Rattle.hz_base_model.proofs.Ascending.{AllPairs-head}
-use Rattle.hz_check_model.specs.CheckFaults.{unknown_names, is_class, renumbered_behind}
-use Rattle.hz_check_model.specs.Places.{class_names}
-use Rattle.hz_check_model.specs.Sites.{earliest}
-use Rattle.hz_check_model.specs.CheckedParts.{class_numbers}
-use Rattle.hz_mdread_model.specs.Descriptions.{BypassItem}
+use Rattle.hz_description_model.specs.Check.CheckFaults.{unknown_names, is_class, renumbered_behind}
+use Rattle.hz_description_model.specs.Check.Places.{class_names}
+use Rattle.hz_description_model.specs.Check.Sites.{earliest}
+use Rattle.hz_description_model.specs.Check.CheckedParts.{class_numbers}
+use Rattle.hz_description_model.specs.Reading.Descriptions.{BypassItem}
 use Rattle.hz_check.proofs.faults.bypass_twice.second_number.Goals as goal
 
 -- the bypasses that are left are of later forms

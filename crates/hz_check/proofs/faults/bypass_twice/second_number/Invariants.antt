@@ -1,8 +1,8 @@
 use Rattle.std.proofs.Common.{◌≡◌, map, take, drop, vec_len}
 use Rattle.hz_mdread.specs.Shape.{description, bypass_item}
 use Rattle.hz_check.specs.Faults.Bypasses.{rows_of, HoldsNumbers}
-use Rattle.hz_check_model.specs.CheckFaults.{renumbered_behind, second_numbers}
-use Rattle.hz_check_model.specs.Sites.{earliest}
+use Rattle.hz_description_model.specs.Check.CheckFaults.{renumbered_behind, second_numbers}
+use Rattle.hz_description_model.specs.Check.Sites.{earliest}
 use Rattle.hz_check.proofs.faults.bypass_twice.second_number.Given as goal
 
 abbrev pub invariant-loop-bypass : goal.invariant-loop-bypass

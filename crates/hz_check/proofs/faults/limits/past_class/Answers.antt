@@ -4,7 +4,7 @@ use Rattle.hz_mdread.specs.Shape.{class_item}
 use Rattle.hz_check.proofs.Lists.InOrder.{sites_in_order}
 use Rattle.hz_check.proofs.Lists.Next.{map-map}
 use Rattle.hz_base_model.specs.Limits.{class_limit}
-use Rattle.hz_check_model.specs.Sites.{earliest}
+use Rattle.hz_description_model.specs.Check.Sites.{earliest}
 use Rattle.hz_check.proofs.faults.limits.past_class.Goals as goal
 
 pub past-requires : goal.past-requires

@@ -1,7 +1,7 @@
 use Rattle.std.proofs.Common.{ap, ◌∙◌, None}
 use Rattle.hz_check.proofs.Telling.ToldSteps.{IsTold, told_first}
-use Rattle.hz_check_model.specs.CheckFaults.{twice_defined, reserved_name, unknown_name, unknown_automaton, unit_needs_automaton}
-use Rattle.hz_check_model.specs.FirstTold.{told_at}
+use Rattle.hz_description_model.specs.Check.CheckFaults.{twice_defined, reserved_name, unknown_name, unknown_automaton, unit_needs_automaton}
+use Rattle.hz_description_model.specs.Check.FirstTold.{told_at}
 use Rattle.hz_check.proofs.faults.of_names.fault_of_names.Goals as goal
 
 pub returns : goal.returns

@@ -1,9 +1,9 @@
 use Rattle.std.proofs.Common.{IfErr, Ok, sym, ap, ◌∙◌, subst}
 use Rattle.hz_mdread.specs.Shape.{description}
-use Rattle.hz_expand.specs.Answers.{IsPastSize}
-use Rattle.hz_unfold.specs.Places.{site_of, told}
-use Rattle.hz_unfold.specs.Orders.{reservings}
-use Rattle.hz_check_model.specs.CheckFaults.{limit, alternatives, cycles, size}
+use Rattle.hz_check_reservations.specs.Answers.{IsPastSize}
+use Rattle.hz_check_reservations.specs.Places.{site_of, told}
+use Rattle.hz_check_reservations.specs.Orders.{reservings}
+use Rattle.hz_description_model.specs.Check.CheckFaults.{limit, alternatives, cycles, size}
 use Rattle.hz_check.proofs.Telling.CheckSteps.{behind_within, site_past_size, skip, stop}
 use Rattle.hz_check.proofs.faults.past_expansions.expanded.Goals as goal
 

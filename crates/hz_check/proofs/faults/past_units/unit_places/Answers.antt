@@ -1,11 +1,10 @@
-use Rattle.std.proofs.Common.{◌<◌, ◌≤◌, ◌+◌, ◌++◌, ◌∷◌, [], All, map, take, drop, Some, arith, sym, ap, ◌∙◌, subst}
+use Rattle.std.proofs.Common.{◌<◌, ◌+◌, ◌++◌, ◌∷◌, [], All, map, take, drop, arith, sym, ap, ◌∙◌, subst}
 use Rattle.std.proofs.lemmas.List.Elements.{All-push}
-use Rattle.std.specs.List.{AllPairs}
 use Rattle.std.proofs.Math.ListN.{length-set}
 use Rattle.hz_mdread.specs.Shape.{description, unit_item}
 use Rattle.hz_check.specs.Faults.PastUnits.{IsWithin}
-use Rattle.hz_expand.specs.Shape.{place_of}
-use Rattle.hz_check_model.specs.Places.{places_behind}
+use Rattle.hz_check_reservations.specs.Shape.{place_of}
+use Rattle.hz_description_model.specs.Check.Places.{places_behind}
 use Rattle.hz_check.proofs.Telling.PlaceSteps.{automaton_below, counts_next, places_next, within_next, below_here}
 use Rattle.hz_check.proofs.faults.past_units.unit_places.Goals as goal
 

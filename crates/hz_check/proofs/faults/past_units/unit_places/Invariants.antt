@@ -2,9 +2,9 @@ use Rattle.std.proofs.Common.{◌≡◌, ℕ, ◌<◌, ◌==◌, [], ◌++◌, A
 use Rattle.std.specs.Prelude.{count_by}
 use Rattle.hz_mdread.specs.Shape.{description, unit_item}
 use Rattle.hz_check.specs.Faults.PastUnits.{IsWithin}
-use Rattle.hz_expand.specs.Shape.{place_of}
-use Rattle.hz_check_model.specs.CheckFaults.{past_units}
-use Rattle.hz_check_model.specs.Places.{automaton_numbers, places_behind, unit_places}
+use Rattle.hz_check_reservations.specs.Shape.{place_of}
+use Rattle.hz_description_model.specs.Check.CheckFaults.{past_units}
+use Rattle.hz_description_model.specs.Check.Places.{automaton_numbers, places_behind, unit_places}
 use Rattle.hz_check.proofs.faults.past_units.unit_places.Given as goal
 
 abbrev pub invariant-loop-unit : goal.invariant-loop-unit

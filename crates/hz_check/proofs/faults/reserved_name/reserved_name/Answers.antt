@@ -3,8 +3,8 @@ use Rattle.std.specs.Str.{bytes_eq}
 use Rattle.hz_mdread.specs.Shape.{unit_item, reservation_item}
 use Rattle.hz_check.proofs.Lists.Earliest.{IsOf, joined}
 use Rattle.hz_check.proofs.Lists.Next.{map-map}
-use Rattle.hz_check_model.specs.CountingOrder.{reservation_site}
-use Rattle.hz_check_model.specs.Sites.{earliest}
+use Rattle.hz_description_model.specs.Check.CountingOrder.{reservation_site}
+use Rattle.hz_description_model.specs.Check.Sites.{earliest}
 use Rattle.hz_check.proofs.faults.reserved_name.reserved_name.Goals as goal
 
 pub returns : goal.returns

@@ -1,7 +1,7 @@
 use Rattle.std.proofs.Common.{◌≡◌, map, filter, codes, drop}
 use Rattle.std.specs.Str.{bytes_eq}
-use Rattle.hz_unfold.specs.Places.{told}
-use Rattle.hz_check_model.specs.Sites.{earlier, earliest}
+use Rattle.hz_check_reservations.specs.Places.{told}
+use Rattle.hz_description_model.specs.Check.Sites.{earlier, earliest}
 use Rattle.hz_check.proofs.faults.reserved_name.reserved_site.Given as goal
 
 abbrev pub invariant-loop-item : goal.invariant-loop-item

@@ -1,7 +1,7 @@
 use Rattle.hz_mdread.specs.Shape.{set_item}
-use Rattle.hz_unfold.specs.Places.{told}
+use Rattle.hz_check_reservations.specs.Places.{told}
 use Rattle.hz_check.proofs.Lists.Earliest.{found_next, found_stored}
-use Rattle.hz_check_model.specs.CheckFaults.{self_excluded}
+use Rattle.hz_description_model.specs.Check.CheckFaults.{self_excluded}
 use Rattle.hz_check.proofs.faults.self_exclusion.self_exclusion.Goals as goal
 
 pub loop-set-preserved : goal.loop-set-preserved

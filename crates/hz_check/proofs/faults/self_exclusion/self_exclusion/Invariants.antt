@@ -1,9 +1,9 @@
 use Rattle.std.proofs.Common.{◌≡◌, drop}
 use Rattle.std.specs.List.{flat_map}
 use Rattle.hz_mdread.specs.Shape.{set_item}
-use Rattle.hz_unfold.specs.Places.{told}
-use Rattle.hz_check_model.specs.CheckFaults.{self_excluded}
-use Rattle.hz_check_model.specs.Sites.{earlier, earliest}
+use Rattle.hz_check_reservations.specs.Places.{told}
+use Rattle.hz_description_model.specs.Check.CheckFaults.{self_excluded}
+use Rattle.hz_description_model.specs.Check.Sites.{earlier, earliest}
 use Rattle.hz_check.proofs.faults.self_exclusion.self_exclusion.Given as goal
 
 abbrev pub invariant-loop-set : goal.invariant-loop-set

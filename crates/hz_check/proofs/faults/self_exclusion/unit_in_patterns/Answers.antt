@@ -4,7 +4,7 @@ use Rattle.std.specs.List.{flat_map}
 use Rattle.hz_check.specs.Names.Held.{is_held}
 use Rattle.hz_check.specs.Names.First.{first_of}
 use Rattle.hz_check.proofs.Lists.Next.{flat_map-map}
-use Rattle.hz_check_model.specs.Sites.{is_among}
+use Rattle.hz_description_model.specs.Check.Sites.{is_among}
 use Rattle.hz_check.proofs.faults.self_exclusion.unit_in_patterns.Goals as goal
 
 pub returns : goal.returns

@@ -4,7 +4,7 @@ use Rattle.hz_mdread.specs.Shape.{set_item}
 use Rattle.hz_check.specs.Names.First.{first_of}
 use Rattle.hz_check.proofs.Lists.FirstOf.{first_is, found_in_lists}
 use Rattle.hz_check.proofs.Lists.Next.{flat_map-map}
-use Rattle.hz_check_model.specs.CheckFaults.{units_of_patterns}
+use Rattle.hz_description_model.specs.Check.CheckFaults.{units_of_patterns}
 use Rattle.hz_check.proofs.faults.set_across_automata.first_unit.Goals as goal
 
 pub returns : goal.returns

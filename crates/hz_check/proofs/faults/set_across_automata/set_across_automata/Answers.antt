@@ -1,7 +1,7 @@
 use Rattle.hz_mdread.specs.Shape.{description, set_item}
-use Rattle.hz_unfold.specs.Places.{told}
+use Rattle.hz_check_reservations.specs.Places.{told}
 use Rattle.hz_check.proofs.Lists.Earliest.{found_next, found_stored}
-use Rattle.hz_check_model.specs.CheckFaults.{sites_of, strangers, names_of_set}
+use Rattle.hz_description_model.specs.Check.CheckFaults.{sites_of, strangers, names_of_set}
 use Rattle.hz_check.proofs.faults.set_across_automata.set_across_automata.Goals as goal
 
 pub loop-set-preserved : goal.loop-set-preserved

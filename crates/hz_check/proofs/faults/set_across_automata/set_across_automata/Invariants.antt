@@ -1,9 +1,9 @@
 use Rattle.std.proofs.Common.{◌≡◌, drop}
 use Rattle.std.specs.List.{flat_map}
 use Rattle.hz_mdread.specs.Shape.{description, set_item}
-use Rattle.hz_unfold.specs.Places.{told}
-use Rattle.hz_check_model.specs.CheckFaults.{sites_of, strangers, names_of_set}
-use Rattle.hz_check_model.specs.Sites.{earlier, earliest}
+use Rattle.hz_check_reservations.specs.Places.{told}
+use Rattle.hz_description_model.specs.Check.CheckFaults.{sites_of, strangers, names_of_set}
+use Rattle.hz_description_model.specs.Check.Sites.{earlier, earliest}
 use Rattle.hz_check.proofs.faults.set_across_automata.set_across_automata.Given as goal
 
 abbrev pub invariant-loop-set : goal.invariant-loop-set

@@ -3,7 +3,7 @@ use Rattle.std.specs.List.{flat_map}
 use Rattle.hz_mdread.specs.Shape.{description}
 use Rattle.hz_check.specs.Names.First.{first_of}
 use Rattle.hz_check.proofs.Lists.FirstOf.{first_here, none_here}
-use Rattle.hz_check_model.specs.CheckFaults.{home, same_home}
+use Rattle.hz_description_model.specs.Check.CheckFaults.{home, same_home}
 use Rattle.hz_check.proofs.faults.set_across_automata.stranger_in.Goals as goal
 
 pub returns-in-Some : goal.returns-in-Some

@@ -2,7 +2,7 @@ use Rattle.std.proofs.Common.{◌≡◌, drop, filter, not}
 use Rattle.std.specs.List.{flat_map}
 use Rattle.hz_mdread.specs.Shape.{description}
 use Rattle.hz_check.specs.Names.First.{first_of}
-use Rattle.hz_check_model.specs.CheckFaults.{home, same_home}
+use Rattle.hz_description_model.specs.Check.CheckFaults.{home, same_home}
 use Rattle.hz_check.proofs.faults.set_across_automata.stranger_in.Given as goal
 
 abbrev pub invariant-loop-pattern : goal.invariant-loop-pattern

@@ -6,7 +6,7 @@ use Rattle.hz_check.specs.Names.First.{first_of}
 use Rattle.hz_check.proofs.Lists.FirstOf.{found_in_both}
 use Rattle.hz_check.proofs.Tables.Homes.{strangers-of}
 use Rattle.hz_check.proofs.Lists.Next.{flat_map-map}
-use Rattle.hz_check_model.specs.CheckFaults.{home, same_home, units_of_patterns, names_of_set}
+use Rattle.hz_description_model.specs.Check.CheckFaults.{home, same_home, units_of_patterns, names_of_set}
 use Rattle.hz_check.proofs.faults.set_across_automata.stranger_of.Goals as goal
 
 pub returns : goal.returns

@@ -3,8 +3,8 @@ use Rattle.std.specs.Option.{option_map}
 use Rattle.hz_mdread.specs.Shape.{description}
 use Rattle.hz_check.specs.Faults.{told_of}
 use Rattle.hz_check.proofs.Telling.CheckSteps.{name_told}
-use Rattle.hz_check_model.specs.CheckFaults.{faults_of_names}
-use Rattle.hz_check_model.specs.FirstTold.{first_told}
+use Rattle.hz_description_model.specs.Check.CheckFaults.{faults_of_names}
+use Rattle.hz_description_model.specs.Check.FirstTold.{first_told}
 use Rattle.hz_check.proofs.faults.steps.named.Goals as goal
 
 pub returns-in-Some-clause-err : goal.returns-in-Some-clause-err

@@ -1,8 +1,8 @@
 use Rattle.std.proofs.Common.{IfErr, Ok, subst}
 use Rattle.hz_mdread.specs.Shape.{description}
-use Rattle.hz_unfold.specs.Faults.{TellsCircle}
-use Rattle.hz_unfold.specs.Places.{site_of}
-use Rattle.hz_unfold.specs.declared.fault.OrderFault.TheVariants.{Circular}
+use Rattle.hz_check_reservations.specs.Faults.{TellsCircle}
+use Rattle.hz_check_reservations.specs.Places.{site_of}
+use Rattle.hz_check_reservations.specs.declared.ordering.fault.OrderFault.TheVariants.{Circular}
 use Rattle.hz_check.proofs.Telling.CheckSteps.{circle_told, place_circles}
 use Rattle.hz_check.proofs.faults.steps.ordered.Goals as goal
 

@@ -1,9 +1,9 @@
 use Rattle.std.proofs.Common.{sym, ap, ◌∙◌}
 use Rattle.hz_mdread.specs.Shape.{description}
-use Rattle.hz_unfold.specs.Places.{site_of, told}
+use Rattle.hz_check_reservations.specs.Places.{site_of, told}
 use Rattle.hz_check.proofs.Telling.CheckSteps.{meaning_told, skip, stop, few_automata}
-use Rattle.hz_check_model.specs.CheckFaults.{self_exclusion, set_across_automata, limit, automata, units, classes}
-use Rattle.hz_check_model.proofs.EarliestLaws.{no_site}
+use Rattle.hz_description_model.specs.Check.CheckFaults.{self_exclusion, set_across_automata, limit, automata, units, classes}
+use Rattle.hz_description_model.proofs.Check.EarliestLaws.{no_site}
 use Rattle.hz_check.proofs.faults.steps.placed.Goals as goal
 
 pub returns-in-Some-clause-err : goal.returns-in-Some-clause-err

@@ -1,5 +1,5 @@
 use Rattle.std.proofs.Common.{sym}
-use Rattle.hz_unfold.specs.Places.{site_of}
+use Rattle.hz_check_reservations.specs.Places.{site_of}
 use Rattle.hz_check.proofs.Telling.Repeated.{given_put, given_kept}
 use Rattle.hz_check.proofs.faults.twice_defined.forms_of.Goals as goal
 use Rattle.hz_check.proofs.faults.twice_defined.forms_of.Goals.{then-not-is_given+in_ok-put, else-not-is_given}

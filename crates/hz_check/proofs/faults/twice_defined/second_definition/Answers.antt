@@ -1,11 +1,11 @@
 use Rattle.std.proofs.Common.{◌≡◌, List, [], map, sym, ap, ◌∙◌}
 use Rattle.std.specs.List.{flat_map}
 use Rattle.hz_mdread.specs.Shape.{description, automaton_item, unit_item, reservation_item, class_item, attribute_item}
-use Rattle.hz_unfold.specs.Places.{told}
+use Rattle.hz_check_reservations.specs.Places.{told}
 use Rattle.hz_check.specs.Faults.Twice.{is_given}
-use Rattle.hz_check_model.specs.CheckFaults.{unit_sites, reservation_sites, repeated_values}
-use Rattle.hz_check_model.specs.CountingOrder.{reservation_site}
-use Rattle.hz_check_model.specs.Sites.{Site, earliest, is_preceded}
+use Rattle.hz_description_model.specs.Check.CheckFaults.{unit_sites, reservation_sites, repeated_values}
+use Rattle.hz_description_model.specs.Check.CountingOrder.{reservation_site}
+use Rattle.hz_description_model.specs.Check.Sites.{Site, earliest, is_preceded}
 use Rattle.hz_check.proofs.Lists.Earliest.{IsOf, joined}
 use Rattle.hz_check.proofs.Lists.Next.{map-map, flat_map-map}
 use Rattle.hz_check.proofs.Telling.Repeated.{told_twice, none_given}

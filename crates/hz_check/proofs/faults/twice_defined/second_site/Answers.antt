@@ -1,6 +1,6 @@
 use Rattle.std.proofs.Common.{arith, ap, ◌∙◌, Some, None, cond}
 use Rattle.hz_check.specs.Names.Held.{is_held}
-use Rattle.hz_unfold.specs.Places.{site_of, told}
+use Rattle.hz_check_reservations.specs.Places.{site_of, told}
 use Rattle.hz_check.specs.Faults.Twice.{is_given}
 use Rattle.hz_check.proofs.Telling.Repeated.{repeated_next, told-then_some}
 use Rattle.hz_check.proofs.faults.twice_defined.second_site.Goals as goal

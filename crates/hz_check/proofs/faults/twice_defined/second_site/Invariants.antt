@@ -1,8 +1,8 @@
 use Rattle.std.proofs.Common.{◌≡◌, map, drop}
 use Rattle.hz_check.specs.Names.Held.{is_held}
-use Rattle.hz_unfold.specs.Places.{told}
+use Rattle.hz_check_reservations.specs.Places.{told}
 use Rattle.hz_check.specs.Faults.Twice.{is_given, repeated_by, unseen}
-use Rattle.hz_check_model.specs.Sites.{earlier, earliest}
+use Rattle.hz_description_model.specs.Check.Sites.{earlier, earliest}
 use Rattle.hz_check.proofs.faults.twice_defined.second_site.Given as goal
 
 abbrev pub invariant-loop-item : goal.invariant-loop-item

@@ -1,6 +1,6 @@
 use Rattle.hz_mdread.specs.Shape.{attribute_item}
-use Rattle.hz_unfold.specs.Places.{told}
-use Rattle.hz_check_model.specs.CheckFaults.{repeated_values}
+use Rattle.hz_check_reservations.specs.Places.{told}
+use Rattle.hz_description_model.specs.Check.CheckFaults.{repeated_values}
 use Rattle.hz_check.proofs.Lists.Earliest.{found_next}
 use Rattle.hz_check.proofs.faults.twice_defined.second_value.Goals as goal
 

@@ -2,10 +2,10 @@ use Rattle.std.proofs.Common.{ℕ, List, arith, sym, ap, ◌∙◌, Some, None, 
 use Rattle.std.proofs.Math.Bool.{or-false}
 use Rattle.std.proofs.lemmas.List.{drop_all}
 use Rattle.hz_check.specs.Names.Held.{is_held}
-use Rattle.hz_unfold.specs.Places.{told}
+use Rattle.hz_check_reservations.specs.Places.{told}
 use Rattle.hz_check.specs.Faults.Twice.{repeated_by}
-use Rattle.hz_check_model.specs.Sites.{Site, is_preceded, earlier, earliest}
-use Rattle.hz_check_model.specs.CheckFaults.{sites_of}
+use Rattle.hz_description_model.specs.Check.Sites.{Site, is_preceded, earlier, earliest}
+use Rattle.hz_description_model.specs.Check.CheckFaults.{sites_of}
 use Rattle.hz_check.proofs.Lists.Earliest.{earlier-none}
 use Rattle.hz_check.proofs.Telling.Repeated.{repeated_next, repeated-by, told-then_some}
 use Rattle.hz_check.proofs.faults.twice_defined.second_value_of.Goals as goal

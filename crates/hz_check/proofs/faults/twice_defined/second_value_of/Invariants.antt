@@ -1,9 +1,9 @@
 use Rattle.std.proofs.Common.{◌≡◌, drop, []}
 use Rattle.hz_check.specs.Names.Held.{is_held}
-use Rattle.hz_unfold.specs.Places.{told}
+use Rattle.hz_check_reservations.specs.Places.{told}
 use Rattle.hz_check.specs.Faults.Twice.{repeated_by, unseen}
-use Rattle.hz_check_model.specs.CheckFaults.{sites_of}
-use Rattle.hz_check_model.specs.Sites.{earlier, earliest, is_preceded}
+use Rattle.hz_description_model.specs.Check.CheckFaults.{sites_of}
+use Rattle.hz_description_model.specs.Check.Sites.{earlier, earliest, is_preceded}
 use Rattle.hz_check.proofs.faults.twice_defined.second_value_of.Given as goal
 
 abbrev pub invariant-loop-name : goal.invariant-loop-name

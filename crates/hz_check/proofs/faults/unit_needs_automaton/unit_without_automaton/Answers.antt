@@ -2,8 +2,8 @@ use Rattle.std.proofs.Common.{◌≡◌, ◌==◌, [], filter_map, length, sym, 
 use Rattle.std.proofs.lemmas.List.{length-map}
 use Rattle.hz_mdread.specs.Shape.{description, unit_item, automaton_item}
 use Rattle.hz_check.proofs.Lists.Earliest.{chosen_all}
-use Rattle.hz_check_model.specs.CheckFaults.{homeless}
-use Rattle.hz_check_model.specs.Sites.{earliest}
+use Rattle.hz_description_model.specs.Check.CheckFaults.{homeless}
+use Rattle.hz_description_model.specs.Check.Sites.{earliest}
 use Rattle.hz_check.proofs.faults.unit_needs_automaton.unit_without_automaton.Goals as goal
 
 pub returns : goal.returns

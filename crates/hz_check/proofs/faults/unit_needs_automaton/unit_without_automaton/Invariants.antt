@@ -1,9 +1,9 @@
 use Rattle.std.proofs.Common.{◌≡◌, drop}
 use Rattle.std.specs.List.{filter_map}
 use Rattle.hz_mdread.specs.Shape.{unit_item}
-use Rattle.hz_unfold.specs.Places.{told}
-use Rattle.hz_check_model.specs.CheckFaults.{homeless}
-use Rattle.hz_check_model.specs.Sites.{earlier, earliest}
+use Rattle.hz_check_reservations.specs.Places.{told}
+use Rattle.hz_description_model.specs.Check.CheckFaults.{homeless}
+use Rattle.hz_description_model.specs.Check.Sites.{earlier, earliest}
 use Rattle.hz_check.proofs.faults.unit_needs_automaton.unit_without_automaton.Given as goal
 
 abbrev pub invariant-loop-unit : goal.invariant-loop-unit

@@ -1,7 +1,7 @@
 use Rattle.std.proofs.Common.{map}
 use Rattle.hz_mdread.specs.Shape.{description, unit_item}
 use Rattle.hz_check.proofs.Lists.Earliest.{chosen_all}
-use Rattle.hz_check_model.specs.CheckFaults.{unknown_automaton_of}
+use Rattle.hz_description_model.specs.Check.CheckFaults.{unknown_automaton_of}
 use Rattle.hz_check.proofs.faults.unknown_automaton.unknown_automaton.Goals as goal
 
 pub returns : goal.returns

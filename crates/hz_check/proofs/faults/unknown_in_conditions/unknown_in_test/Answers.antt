@@ -3,7 +3,7 @@ use Rattle.hz_mdread.specs.Shape.{description}
 use Rattle.hz_check.specs.Names.Held.{is_held}
 use Rattle.hz_check.specs.Names.{test_by}
 use Rattle.hz_check.proofs.Tables.TableSteps.{unknown_by}
-use Rattle.hz_check_model.specs.CheckFaults.{values_of}
+use Rattle.hz_description_model.specs.Check.CheckFaults.{values_of}
 use Rattle.hz_check.proofs.faults.unknown_in_conditions.unknown_in_test.Goals as goal
 
 pub returns-in-Some : goal.returns-in-Some

@@ -2,9 +2,9 @@ use Rattle.std.proofs.Common.{not, refl}
 use Rattle.hz_mdread.specs.Shape.{description}
 use Rattle.hz_regexp.specs.Shape.{expression, expressions}
 use Rattle.hz_check.proofs.Lists.FirstOf.{first_here}
-use Rattle.hz_check_model.specs.CheckFaults.{is_reservable}
-use Rattle.hz_altern_model.specs.NamesIn.{names_in, names_in_parts}
-use Rattle.hz_altern_model.specs.Alternatives.{parts_of}
+use Rattle.hz_description_model.specs.Check.CheckFaults.{is_reservable}
+use Rattle.hz_description_model.specs.Reservations.NamesIn.{names_in, names_in_parts}
+use Rattle.hz_description_model.specs.Reservations.Alternatives.{parts_of}
 use Rattle.hz_check.proofs.faults.unknown_in_expressions.+expressions.Goals as goal
 
 pub unknown_in_parts-returns-in-Some : goal.unknown_in_parts-returns-in-Some

@@ -2,9 +2,9 @@ use Rattle.std.proofs.Common.{◌≡◌, drop, filter, not}
 use Rattle.hz_mdread.specs.Shape.{description}
 use Rattle.hz_regexp.specs.Shape.{expressions}
 use Rattle.hz_check.specs.Names.First.{first_of}
-use Rattle.hz_check_model.specs.CheckFaults.{is_reservable}
-use Rattle.hz_altern_model.specs.NamesIn.{names_in_parts}
-use Rattle.hz_altern_model.specs.Alternatives.{parts_of}
+use Rattle.hz_description_model.specs.Check.CheckFaults.{is_reservable}
+use Rattle.hz_description_model.specs.Reservations.NamesIn.{names_in_parts}
+use Rattle.hz_description_model.specs.Reservations.Alternatives.{parts_of}
 use Rattle.hz_check.proofs.faults.unknown_in_expressions.+expressions.Given as goal
 
 abbrev pub invariant-unknown_in_parts-loop-part : goal.invariant-unknown_in_parts-loop-part

@@ -3,7 +3,7 @@ use Rattle.std.specs.List.{flat_map}
 use Rattle.hz_mdread.specs.Shape.{description}
 use Rattle.hz_check.specs.Names.First.{first_of}
 use Rattle.hz_check.proofs.Lists.FirstOf.{first_here}
-use Rattle.hz_check_model.specs.CheckFaults.{is_unit}
+use Rattle.hz_description_model.specs.Check.CheckFaults.{is_unit}
 use Rattle.hz_check.proofs.faults.unknown_in_items.unknown_in_patterns.Goals as goal
 
 pub returns-in-Some : goal.returns-in-Some

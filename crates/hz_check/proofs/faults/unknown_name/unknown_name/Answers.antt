@@ -1,8 +1,8 @@
 use Rattle.std.proofs.Common.{◌++◌, ◌∷◌, [], filter, not}
 use Rattle.hz_mdread.specs.Shape.{description, reservation_item, class_item, bypass_item, set_item, attribute_item}
 use Rattle.hz_check.proofs.Lists.Earliest.{joined, told_of_items}
-use Rattle.hz_check_model.specs.CheckFaults.{sites_of, unknown_in_expression, unknown_in_condition, is_class, is_unit, names_of_bypass, names_of_set}
-use Rattle.hz_check_model.specs.Sites.{is_among}
+use Rattle.hz_description_model.specs.Check.CheckFaults.{sites_of, unknown_in_expression, unknown_in_condition, is_class, is_unit, names_of_bypass, names_of_set}
+use Rattle.hz_description_model.specs.Check.Sites.{is_among}
 use Rattle.hz_check.proofs.faults.unknown_name.unknown_name.Goals as goal
 
 pub returns : goal.returns

@@ -1,5 +1,5 @@
 use Rattle.hz_mdread.specs.Shape.{description}
-use Rattle.hz_unfold.specs.Places.{told}
+use Rattle.hz_check_reservations.specs.Places.{told}
 use Rattle.hz_check.proofs.Lists.Earliest.{found_next}
 use Rattle.hz_check.proofs.faults.unknown_name.unknown_site.Goals as goal
 

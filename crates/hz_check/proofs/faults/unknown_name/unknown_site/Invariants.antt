@@ -1,8 +1,8 @@
 use Rattle.std.proofs.Common.{◌≡◌, drop}
 use Rattle.std.specs.List.{flat_map}
 use Rattle.hz_mdread.specs.Shape.{description}
-use Rattle.hz_unfold.specs.Places.{told}
-use Rattle.hz_check_model.specs.Sites.{earlier, earliest}
+use Rattle.hz_check_reservations.specs.Places.{told}
+use Rattle.hz_description_model.specs.Check.Sites.{earlier, earliest}
 use Rattle.hz_check.proofs.faults.unknown_name.unknown_site.Given as goal
 
 abbrev pub invariant-loop-item : goal.invariant-loop-item

@@ -6,7 +6,7 @@ use Rattle.hz_mdread.specs.declared.items.UnitItem.{UnitItem}
 use Rattle.hz_mdread.specs.Shape.{description, unit_item}
 use Rattle.hz_check.proofs.Tables.Homes.{home-at}
 use Rattle.hz_check.proofs.Tables.HomeSteps.{unit_within}
-use Rattle.hz_check_model.specs.Places.{automaton_number}
+use Rattle.hz_description_model.specs.Check.Places.{automaton_number}
 use Rattle.hz_check.proofs.names.Names.home.Goals as goal
 
 pub returns-in_err-place : goal.returns-in_err-place

@@ -3,7 +3,7 @@ use Rattle.hz_mdread.specs.Shape.{automaton_item, unit_item, reservation_item, c
 use Rattle.hz_check.specs.Names.Held.{held}
 use Rattle.hz_check.specs.Names.{test_of}
 use Rattle.hz_check.proofs.Tables.TableSteps.{placed}
-use Rattle.hz_check_model.specs.CheckFaults.{values_of}
+use Rattle.hz_description_model.specs.Check.CheckFaults.{values_of}
 use Rattle.hz_check.proofs.names.Names.of.Goals as goal
 
 pub invariant_of-result-clause-automata_placed : goal.invariant_of-result-clause-automata_placed

@@ -1,5 +1,5 @@
 use Rattle.std.proofs.Common.{sym, ap, ◌∙◌}
-use Rattle.hz_check_model.specs.Sites.{is_among}
+use Rattle.hz_description_model.specs.Check.Sites.{is_among}
 use Rattle.hz_check.proofs.Tables.TableSteps.{values_put, values_kept}
 use Rattle.hz_check.proofs.names.tables.values_of.Goals as goal
 use Rattle.hz_check.proofs.names.tables.values_of.Goals.{then-not-holds+in_ok-values+in_ok-put, else-not-holds}

@@ -3,7 +3,7 @@ use Rattle.std.specs.Option.{option_or}
 use Rattle.hz_mdread.specs.Shape.{attribute_item}
 use Rattle.hz_check.specs.Names.Held.{held}
 use Rattle.hz_check.specs.Names.{test_by, test_of}
-use Rattle.hz_check_model.specs.CheckFaults.{values_of}
+use Rattle.hz_description_model.specs.Check.CheckFaults.{values_of}
 use Rattle.hz_check.proofs.names.tables.values_of.Given as goal
 
 abbrev pub invariant-loop-item : goal.invariant-loop-item

@@ -1,7 +1,7 @@
 use Rattle.std.proofs.Common.{◌≡◌, map, take}
 use Rattle.hz_mdread.specs.Shape.{description, bypass_item}
 use Rattle.hz_check.specs.Shape.{bypass_of}
-use Rattle.hz_check_model.specs.CheckedParts.{bypass_parts}
+use Rattle.hz_description_model.specs.Check.CheckedParts.{bypass_parts}
 use Rattle.hz_check.proofs.parts.assembly.bypasses.Given as goal
 
 abbrev pub invariant-loop-item : goal.invariant-loop-item

@@ -2,7 +2,7 @@ use Rattle.std.proofs.Common.{◌<◌, All, length, arith, sym, subst, ◌∙◌
 use Rattle.std.proofs.lemmas.List.{length-map}
 use Rattle.hz_mdread.specs.Shape.{description}
 use Rattle.hz_check.proofs.Tables.KnownNames.{numbers_below}
-use Rattle.hz_check_model.specs.Places.{class_names}
+use Rattle.hz_description_model.specs.Check.Places.{class_names}
 use Rattle.hz_check.proofs.parts.assembly.numbers.Goals as goal
 
 pub small-requires : goal.small-requires

@@ -1,7 +1,7 @@
 use Rattle.std.proofs.Common.{◌≡◌, ◌==◌, ◌++◌, map, filter, drop}
 use Rattle.hz_mdread.specs.Shape.{description, unit_item}
-use Rattle.hz_check_model.specs.CheckedParts.{units_in}
-use Rattle.hz_check_model.specs.Places.{automaton_number}
+use Rattle.hz_description_model.specs.Check.CheckedParts.{units_in}
+use Rattle.hz_description_model.specs.Check.Places.{automaton_number}
 use Rattle.hz_check.proofs.parts.assembly.units_in.Given as goal
 
 abbrev pub invariant-loop-unit : goal.invariant-loop-unit

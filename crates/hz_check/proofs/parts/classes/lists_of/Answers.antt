@@ -3,7 +3,7 @@ use Rattle.std.proofs.lemmas.List.{map-append}
 use Rattle.std.proofs.lemmas.List.FromFn.{map-range_with_len_more}
 use Rattle.hz_altern.specs.Shapes.{alternatives}
 use Rattle.hz_check.specs.Parts.Classes.{lists_in}
-use Rattle.hz_altern_model.specs.Automata.{list_in}
+use Rattle.hz_description_model.specs.Reservations.Automata.{list_in}
 use Rattle.hz_check.proofs.parts.classes.lists_of.Goals as goal
 
 pub loop-automaton-preserved : goal.loop-automaton-preserved

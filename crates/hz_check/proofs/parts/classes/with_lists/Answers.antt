@@ -8,7 +8,7 @@ use Rattle.hz_mdread.specs.Shape.{class_item}
 use Rattle.hz_check.specs.Shape.{class_of}
 use Rattle.hz_check.specs.Parts.Classes.{class_with, classes_with}
 use Rattle.hz_check.proofs.Built.ClassLists.{classes_next}
-use Rattle.hz_altern_model.specs.AlternativeLists.{IsCuttable}
+use Rattle.hz_description_model.specs.Reservations.AlternativeLists.{IsCuttable}
 use Rattle.hz_check.proofs.parts.classes.with_lists.Goals as goal
 
 pub checked_class-requires-clause-cuttable : goal.checked_class-requires-clause-cuttable

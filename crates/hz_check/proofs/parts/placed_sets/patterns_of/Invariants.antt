@@ -1,8 +1,8 @@
 use Rattle.std.proofs.Common.{◌≡◌, All, map, take}
 use Rattle.hz_mdread.specs.Shape.{description}
 use Rattle.hz_check.specs.Faults.PastUnits.{IsWithin}
-use Rattle.hz_expand.specs.Shape.{place_of}
-use Rattle.hz_check_model.specs.Places.{places_of}
+use Rattle.hz_check_reservations.specs.Shape.{place_of}
+use Rattle.hz_description_model.specs.Check.Places.{places_of}
 use Rattle.hz_check.proofs.parts.placed_sets.patterns_of.Given as goal
 
 abbrev pub invariant-loop-pattern : goal.invariant-loop-pattern

@@ -3,12 +3,12 @@ use Rattle.std.proofs.lemmas.Bool.{ltb-true, ltb-false}
 use Rattle.std.proofs.lemmas.Option.{slice_get_read, slice_get-map, slice_get_past}
 use Rattle.std.specs.Option.{option_map}
 use Rattle.hz_mdread.specs.Shape.{description}
-use Rattle.hz_expand.specs.Shape.{place_of}
+use Rattle.hz_check_reservations.specs.Shape.{place_of}
 use Rattle.hz_check.proofs.Tables.Homes.{at_name-at}
-use Rattle.hz_mdread_model.specs.Descriptions.{Description}
+use Rattle.hz_description_model.specs.Reading.Descriptions.{Description}
 use Rattle.hz_base_model.specs.Lines.{place_of as at_place}
-use Rattle.hz_check_model.specs.Places.{unit_places, unit_place}
-use Rattle.hz_expand.specs.declared.places.UnitPlace.{UnitPlace as Place}
+use Rattle.hz_description_model.specs.Check.Places.{unit_places, unit_place}
+use Rattle.hz_check_reservations.specs.declared.listing.unit_place.UnitPlace.{UnitPlace as Place}
 use Rattle.hz_check.proofs.parts.placed_sets.place.Goals as goal
 
 -- the place of a unit by its place in the file

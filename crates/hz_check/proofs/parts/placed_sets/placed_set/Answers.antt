@@ -1,9 +1,9 @@
 use Rattle.std.proofs.Common.{◌≡◌, List, map, sym, ap, ◌∙◌}
 use Rattle.hz_mdread.specs.Shape.{description, set_kind}
 use Rattle.hz_check.proofs.Lists.Next.{map-map}
-use Rattle.hz_check_model.specs.Places.{places_of}
-use Rattle.hz_altern_model.specs.Automata.{UnitPlace}
-use Rattle.hz_altern_model.specs.Sets.{SetKind, Statement}
+use Rattle.hz_description_model.specs.Check.Places.{places_of}
+use Rattle.hz_description_model.specs.Reservations.Automata.{UnitPlace}
+use Rattle.hz_description_model.specs.Reservations.Sets.{SetKind, Statement}
 use Rattle.hz_unitsets.specs.SetRules.{kind_of}
 use Rattle.hz_check.proofs.parts.placed_sets.placed_set.Goals as goal
 

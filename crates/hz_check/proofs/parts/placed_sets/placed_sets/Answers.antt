@@ -3,7 +3,7 @@ use Rattle.std.proofs.lemmas.List.Elements.{All-push}
 use Rattle.hz_mdread.specs.Shape.{description, set_item}
 use Rattle.hz_check.specs.Parts.Assembly.{placed_statement, IsPlaced}
 use Rattle.hz_check.proofs.Lists.Next.{push_next, push_all}
-use Rattle.hz_check_model.specs.Places.{statement_of}
+use Rattle.hz_description_model.specs.Check.Places.{statement_of}
 use Rattle.hz_check.proofs.parts.placed_sets.placed_sets.Goals as goal
 
 pub loop-set-preserved : goal.loop-set-preserved

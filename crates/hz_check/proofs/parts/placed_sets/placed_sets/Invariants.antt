@@ -1,7 +1,7 @@
 use Rattle.std.proofs.Common.{◌≡◌, All, map, take}
 use Rattle.hz_mdread.specs.Shape.{description, set_item}
 use Rattle.hz_check.specs.Parts.Assembly.{placed_statement, IsPlaced}
-use Rattle.hz_check_model.specs.Places.{statement_of}
+use Rattle.hz_description_model.specs.Check.Places.{statement_of}
 use Rattle.hz_check.proofs.parts.placed_sets.placed_sets.Given as goal
 
 abbrev pub invariant-loop-set : goal.invariant-loop-set

@@ -1,9 +1,9 @@
 use Rattle.std.proofs.Common.{◌≡◌, ◌==◌, ◌&&◌, true, false, map, sym, ap, ◌∙◌}
 use Rattle.std.proofs.Math.Path.{fun_ext}
 use Rattle.std.specs.List.{list_all}
-use Rattle.hz_expand.specs.Shape.{place_of}
+use Rattle.hz_check_reservations.specs.Shape.{place_of}
 use Rattle.hz_check.proofs.Lists.Next.{list_all-map}
-use Rattle.hz_altern_model.specs.Inside.{are_inside}
+use Rattle.hz_description_model.specs.Reservations.Inside.{are_inside}
 use Rattle.hz_check.proofs.parts.rules.is_inside.Goals as goal
 
 pub returns-then-all_of : goal.returns-then-all_of

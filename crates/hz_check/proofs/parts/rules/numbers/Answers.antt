@@ -1,6 +1,6 @@
 use Rattle.std.proofs.Common.{map, sym, ap, ◌∙◌}
 use Rattle.std.proofs.lemmas.List.{take_all}
-use Rattle.hz_expand.specs.Shape.{place_of}
+use Rattle.hz_check_reservations.specs.Shape.{place_of}
 use Rattle.hz_check.proofs.Lists.Next.{map-map}
 use Rattle.hz_check.proofs.parts.rules.numbers.Goals as goal
 

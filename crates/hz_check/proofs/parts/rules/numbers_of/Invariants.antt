@@ -1,6 +1,6 @@
 use Rattle.std.proofs.Common.{◌≡◌, map, take}
-use Rattle.hz_expand.specs.Shape.{place_of}
-use Rattle.hz_altern_model.specs.Inside.{unit_numbers}
+use Rattle.hz_check_reservations.specs.Shape.{place_of}
+use Rattle.hz_description_model.specs.Reservations.Inside.{unit_numbers}
 use Rattle.hz_check.proofs.parts.rules.numbers_of.Given as goal
 
 abbrev pub invariant-loop-pattern : goal.invariant-loop-pattern

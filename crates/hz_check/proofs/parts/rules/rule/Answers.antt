@@ -1,8 +1,8 @@
 use Rattle.std.proofs.Common.{◌≡◌, ℕ, List, map, sym, ap, ◌∙◌}
-use Rattle.hz_expand.specs.Shape.{place_of}
+use Rattle.hz_check_reservations.specs.Shape.{place_of}
 use Rattle.hz_check.proofs.Lists.Next.{map-map}
-use Rattle.hz_altern_model.specs.Inside.{unit_numbers}
-use Rattle.hz_altern_model.specs.Sets.{SetKind, Statement}
+use Rattle.hz_description_model.specs.Reservations.Inside.{unit_numbers}
+use Rattle.hz_description_model.specs.Reservations.Sets.{SetKind, Statement}
 use Rattle.hz_unitsets.specs.SetRules.{kind_of}
 use Rattle.hz_check.proofs.parts.rules.rule.Goals as goal
 

@@ -1,7 +1,7 @@
 use Rattle.std.proofs.Common.{sym, subst}
 use Rattle.hz_check.specs.Parts.Assembly.{placed_statement, IsPlaced}
 use Rattle.hz_check.proofs.Lists.Next.{pass_next, fail_next}
-use Rattle.hz_altern_model.specs.Inside.{inside_statement, is_inside}
+use Rattle.hz_description_model.specs.Reservations.Inside.{inside_statement, is_inside}
 use Rattle.hz_unitsets.specs.SetRules.{statement_of}
 use Rattle.hz_check.proofs.parts.rules.rules.Goals as goal
 use Rattle.hz_check.proofs.parts.rules.rules.Goals.{then-is_inside+in_ok-rule+in_ok-push, else-is_inside}

@@ -1,6 +1,6 @@
 use Rattle.std.proofs.Common.{◌≡◌, ◌++◌, map, filter, drop}
 use Rattle.hz_check.specs.Parts.Assembly.{placed_statement}
-use Rattle.hz_altern_model.specs.Inside.{inside_statement, is_inside}
+use Rattle.hz_description_model.specs.Reservations.Inside.{inside_statement, is_inside}
 use Rattle.hz_unitsets.specs.SetRules.{statements_of}
 use Rattle.hz_check.proofs.parts.rules.rules.Given as goal
 

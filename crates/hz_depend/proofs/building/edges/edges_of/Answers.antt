@@ -1,7 +1,7 @@
 use Rattle.std.proofs.Common.{List, ◌++◌, length, map, refl, ap, ◌∙◌, arith, rules}
 use Rattle.std.proofs.lemmas.Option.{slice_get_read}
 use Rattle.hz_check.specs.Shape.{bypass_of}
-use Rattle.hz_depend_model.specs.Graphs.{Edge}
+use Rattle.hz_block_model.specs.Dependences.Graphs.{Edge}
 use Rattle.hz_depend.specs.GraphShape.{edge_of}
 use Rattle.hz_depend.specs.Held.{held}
 use Rattle.hz_depend.specs.Tables.{tables_of}

@@ -1,5 +1,5 @@
 use Rattle.std.proofs.Common.{◌≡◌, ℕ, cond, drop, get_or}
-use Rattle.hz_depend_model.specs.Accesses.{is_among}
+use Rattle.hz_block_model.specs.Dependences.Accesses.{is_among}
 use Rattle.hz_depend.proofs.building.edges.note_written.Given as goal
 
 -- with the registers that are left, the table is what it is to be

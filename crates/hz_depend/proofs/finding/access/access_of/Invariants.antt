@@ -1,7 +1,7 @@
 use Rattle.std.proofs.Common.{◌≡◌, ◌++◌, drop, map}
 use Rattle.std.specs.List.{flat_map}
 use Rattle.hz_rtl.specs.Shape.{effect}
-use Rattle.hz_depend_model.specs.Accesses as model
+use Rattle.hz_block_model.specs.Dependences.Accesses as model
 use Rattle.hz_depend.specs.Cells.{cells}
 use Rattle.hz_depend.proofs.finding.access.access_of.Given as goal
 

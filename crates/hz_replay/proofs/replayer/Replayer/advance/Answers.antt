@@ -1,7 +1,7 @@
 use Rattle.std.proofs.Common.{◌≡◌, ℕ, List, Some, None, [], ◌∷◌, subst}
 use Rattle.std.proofs.lemmas.Bool.{OnTrue_at, OnFalse_at}
-use Rattle.hz_acceptance_model.specs.Events.{advance}
-use Rattle.hz_tables_model.specs.Machines.{parts_walk}
+use Rattle.hz_acceptance_model.specs.Accepting.Events.{advance}
+use Rattle.hz_automata_model.specs.Tables.Machines.{parts_walk}
 use Rattle.hz_tables.specs.Machines.{machine_of}
 use Rattle.hz_replay.proofs.ReplayerLemmas.{states_stay, always_advances}
 use Rattle.hz_replay.proofs.replayer.Replayer.advance.Goals as goal

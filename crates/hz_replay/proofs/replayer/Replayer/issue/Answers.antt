@@ -1,7 +1,7 @@
 use Rattle.std.proofs.Common.{◌≡◌, ℕ, List, Some, [], ◌∷◌, subst}
 use Rattle.std.proofs.lemmas.Bool.{OnTrue_at}
-use Rattle.hz_acceptance_model.specs.Events.{issue}
-use Rattle.hz_tables_model.specs.Machines.{parts_walk}
+use Rattle.hz_acceptance_model.specs.Accepting.Events.{issue}
+use Rattle.hz_automata_model.specs.Tables.Machines.{parts_walk}
 use Rattle.hz_tables.specs.Machines.{machine_of}
 use Rattle.hz_replay.proofs.ReplayerLemmas.{states_stay}
 use Rattle.hz_replay.proofs.replayer.Replayer.issue.Goals as goal

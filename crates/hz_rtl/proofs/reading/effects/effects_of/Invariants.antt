@@ -1,6 +1,6 @@
 use Rattle.std.proofs.Common.{◌≡◌, drop, map}
 use Rattle.hz_sexp.specs.Shape.{trees}
-use Rattle.hz_rtltext_model.specs.BlockForms as blocks
+use Rattle.hz_block_model.specs.Texts.BlockForms as blocks
 use Rattle.hz_rtl.specs.Shape.{effect}
 use Rattle.hz_rtl.proofs.EffectLemmas.{behind}
 use Rattle.hz_rtl.proofs.reading.effects.effects_of.Given as goal

@@ -1,6 +1,6 @@
 use Rattle.std.proofs.Common.{◌≡◌, [], drop}
 use Rattle.hz_sexp.specs.Shape.{trees}
-use Rattle.hz_rtltext_model.specs.BlockForms as model
+use Rattle.hz_block_model.specs.Texts.BlockForms as model
 use Rattle.hz_rtl.proofs.reading.reader.attributes_of.Given as goal
 
 -- the attributes so far, with those of what is left, are all of them

@@ -1,6 +1,6 @@
 use Rattle.std.proofs.Common.{◌≡◌, [], drop, map}
 use Rattle.hz_sexp.specs.Shape.{trees}
-use Rattle.hz_rtltext_model.specs.BlockForms as model
+use Rattle.hz_block_model.specs.Texts.BlockForms as model
 use Rattle.hz_rtl.specs.Shape.{instruction}
 use Rattle.hz_rtl.proofs.reading.reader.read_block.Given as goal
 

@@ -1,5 +1,5 @@
 use Rattle.std.proofs.Common.{map, ap, ◌∙◌}
-use Rattle.hz_rtl_model.specs.States.{State, all_stored}
+use Rattle.hz_block_model.specs.Running.States.{State, all_stored}
 use Rattle.hz_rtl.specs.Stores.{store}
 use Rattle.hz_rtl.proofs.reading.state_reader.read_state.Goals as goal
 

@@ -1,6 +1,6 @@
 use Rattle.std.proofs.Common.{◌≡◌, [], drop, map}
 use Rattle.hz_sexp.specs.Shape.{trees}
-use Rattle.hz_rtltext_model.specs.StateForms as model
+use Rattle.hz_block_model.specs.Texts.StateForms as model
 use Rattle.hz_rtl.specs.Stores.{store}
 use Rattle.hz_rtl.proofs.reading.state_reader.stores_of.Given as goal
 

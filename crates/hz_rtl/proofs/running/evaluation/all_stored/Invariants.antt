@@ -1,5 +1,5 @@
 use Rattle.std.proofs.Common.{◌≡◌, drop, map}
-use Rattle.hz_rtl_model.specs.States as model
+use Rattle.hz_block_model.specs.Running.States as model
 use Rattle.hz_rtl.specs.States.{words}
 use Rattle.hz_rtl.specs.Stores.{store}
 use Rattle.hz_rtl.proofs.running.evaluation.all_stored.Given as goal

@@ -1,5 +1,5 @@
 use Rattle.std.proofs.Common.{◌<◌, length, map, get_or, sym, ap, ◌∙◌, arith}
-use Rattle.hz_rtl_model.specs.States.{all_stored, run}
+use Rattle.hz_block_model.specs.Running.States.{all_stored, run}
 use Rattle.hz_rtl.specs.States.{words}
 use Rattle.hz_rtl.specs.Stores.{store}
 use Rattle.hz_rtl.specs.Shape.{instruction, instructions}

@@ -1,5 +1,5 @@
 use Rattle.std.proofs.Common.{◌≡◌, drop}
-use Rattle.hz_rtl_model.specs.States.{run}
+use Rattle.hz_block_model.specs.Running.States.{run}
 use Rattle.hz_rtl.specs.Shape.{instructions}
 use Rattle.hz_rtl.specs.States.{words}
 use Rattle.hz_rtl.proofs.running.evaluation.eval.Given as goal

@@ -1,6 +1,6 @@
 use Rattle.std.proofs.Common.{◌≡◌, ◌++◌, drop, map}
 use Rattle.std.specs.List.{flat_map}
-use Rattle.hz_rtl_model.specs.States as model
+use Rattle.hz_block_model.specs.Running.States as model
 use Rattle.hz_rtl.specs.Shape.{effect}
 use Rattle.hz_rtl.specs.States.{words}
 use Rattle.hz_rtl.specs.Stores.{store}

@@ -1,7 +1,7 @@
 use Rattle.std.proofs.Common.{◌≡◌, ◌<◌, ◌≤◌, ◌+◌, max, ℕ, List, length, map, sym, ap, subst, arith}
 use Rattle.std.specs.Prelude.{slice_index}
 use Rattle.std.proofs.lemmas.List.{length-map}
-use Rattle.hz_mdread_model.specs.Limits.{latency_limit}
+use Rattle.hz_description_model.specs.Reading.Limits.{latency_limit}
 use Rattle.hz_depend.specs.GraphShape.{edge_of}
 use Rattle.hz_sched.specs.Shape.{graph_of, slots_of, node_of}
 use Rattle.hz_sched.specs.Waits.{issued_at, and_issued, leading, ripe_from}

@@ -1,10 +1,10 @@
 use Rattle.std.proofs.Common.{◌<◌, ◌≤◌, ℕ, List, length, map, Contains, sym, ap, ◌∙◌, subst, arith}
 use Rattle.std.proofs.lemmas.List.{length-map}
 use Rattle.std.proofs.lemmas.List.Elements.{All-map, All-contains}
-use Rattle.hz_mdread_model.specs.Limits.{latency_limit}
-use Rattle.hz_depend_model.specs.Graphs.{Edge}
+use Rattle.hz_description_model.specs.Reading.Limits.{latency_limit}
+use Rattle.hz_block_model.specs.Dependences.Graphs.{Edge}
 use Rattle.hz_depend.specs.GraphShape.{edge_of}
-use Rattle.hz_sched_model.specs.Schedules.{class_at}
+use Rattle.hz_block_model.specs.Scheduling.Schedules.{class_at}
 use Rattle.hz_sched.specs.Shape.{graph_of, slots_of, node_of}
 use Rattle.hz_sched.specs.Waits.{issued_at, and_issued, leading}
 use Rattle.std.specs.BTreeSet.{BTreeSet}

@@ -5,7 +5,7 @@ use Rattle.hz_depend.specs.GraphShape.{edge_of}
 use Rattle.hz_sched.specs.Shape.{graph_of, node_of}
 use Rattle.hz_sched.specs.Waits.{leading}
 use Rattle.hz_sched.proofs.BoardLemmas.{none_waited, classes_of_nodes, board_queue}
-use Rattle.hz_sched_model.proofs.SameSchedules.{class_below}
+use Rattle.hz_block_model.proofs.Scheduling.SameSchedules.{class_below}
 use Rattle.hz_sched.proofs.board.Board.new.Goals as goal
 
 pub returns-clause-waits : goal.returns-clause-waits

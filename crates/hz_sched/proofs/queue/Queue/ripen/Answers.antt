@@ -1,6 +1,6 @@
 use Rattle.std.proofs.Common.{◌≡◌, ◌<◌, ℕ, List, length, sym, ap, ◌∙◌, subst, arith}
 use Rattle.std.proofs.lemmas.List.{length-map}
-use Rattle.hz_sched_model.specs.Schedules.{class_at}
+use Rattle.hz_block_model.specs.Scheduling.Schedules.{class_at}
 use Rattle.hz_sched.specs.Shape.{graph_of, node_of}
 use Rattle.hz_sched.specs.Pending.{Key, key_of, Wait, AreInRange, AreQueued}
 use Rattle.hz_sched.proofs.QueueLemmas.{popped, front_within, range_next, ripened, later_when}

@@ -1,6 +1,6 @@
 use Rattle.std.proofs.Common.{ap, sym, subst, length}
 use Rattle.hz_depend.specs.GraphShape.{IsSchedulable}
-use Rattle.hz_sched_model.specs.Machines.{Settles}
+use Rattle.hz_block_model.specs.Scheduling.Machines.{Settles}
 use Rattle.hz_sched_rows.proofs.StuckLemmas.{stuck_settles}
 use Rattle.hz_sched_rows.proofs.tests.stuck.fault_of.Goals as goal
 

@@ -1,5 +1,5 @@
 use Rattle.std.proofs.Common.{length}
-use Rattle.hz_sexp_model.specs.Forms.{Comment}
+use Rattle.hz_base_model.specs.Forms.Forms.{Comment}
 use Rattle.hz_sexp.proofs.place.Place.end_of_comment.Given as goal
 
 abbrev pub invariant-loop-next : goal.invariant-loop-next

@@ -1,5 +1,5 @@
 use Rattle.std.proofs.Common.{length, ◌≡◌}
-use Rattle.hz_sexp_model.specs.Forms.{line_end}
+use Rattle.hz_base_model.specs.Forms.Forms.{line_end}
 use Rattle.hz_sexp.proofs.place.Place.end_of_line.Given as goal
 
 abbrev pub invariant-loop-b : goal.invariant-loop-b

@@ -1,6 +1,6 @@
 use Rattle.std.proofs.Common.{refl}
-use Rattle.hz_sexp_model.specs.Forms.{OpenBracket}
-use Rattle.hz_sexp_model.specs.FormFronts.{brackets}
+use Rattle.hz_base_model.specs.Forms.Forms.{OpenBracket}
+use Rattle.hz_base_model.specs.Forms.FormFronts.{brackets}
 use Rattle.hz_sexp.specs.State.{frame_of, frames_in}
 use Rattle.hz_sexp.proofs.ReaderLemmas.{frames_in-push}
 use Rattle.hz_sexp.proofs.reader.Reader.finish.Goals as goal

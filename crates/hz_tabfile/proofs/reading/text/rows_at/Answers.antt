@@ -1,7 +1,7 @@
 use Rattle.std.proofs.Common.{ℕ, ◌+◌, ◌-◌, ◌++◌, ◌∷◌, [], length, sym, ap, ◌∙◌, subst, Option, List}
 use Rattle.std.proofs.lemmas.List.{length-append}
 use Rattle.std.proofs.lemmas.Result.{err_from_is_err_and}
-use Rattle.hz_plain.specs.Rows.{AreStates}
+use Rattle.hz_tables.specs.Rows.{AreStates}
 use Rattle.hz_tabtext_model.specs.Reading.{so_many, row_at}
 use Rattle.hz_tabtext_model.proofs.FieldLaws.{some_lines}
 use Rattle.hz_tabtext_model.proofs.MachineLaws.{row_shape}

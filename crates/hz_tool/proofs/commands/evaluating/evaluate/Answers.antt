@@ -1,8 +1,8 @@
 use Rattle.std.proofs.Common.{refl, subst}
 use Rattle.hz_rtl.proofs.ListingLemmas.{is_listed}
 use Rattle.hz_rtl.specs.Listings.{listing}
-use Rattle.hz_rtl_model.specs.States.{State}
-use Rattle.hz_rtltext_model.specs.StateTexts.{IsListing}
+use Rattle.hz_block_model.specs.Running.States.{State}
+use Rattle.hz_block_model.specs.Texts.StateTexts.{IsListing}
 use Rattle.hz_tool.proofs.commands.evaluating.evaluate.Goals as goal
 
 pub returns-in-Ok-clause-answer : goal.returns-in-Ok-clause-answer

@@ -4,7 +4,7 @@ use Rattle.hz_answer_model.specs.Phases.{Next}
 use Rattle.hz_rtl.specs.Shape.{instructions}
 use Rattle.hz_sexp.specs.Shape.{trees}
 use Rattle.hz_sexp.specs.declared.form.Form.{Form}
-use Rattle.hz_sexp_model.specs.Trees.{Trees}
+use Rattle.hz_base_model.specs.Forms.Trees.{Trees}
 use Rattle.hz_tool.specs.Decisions.{Agrees}
 use Rattle.hz_tool.proofs.JudgeLemmas.{forms_on, forms_refused}
 use Rattle.hz_tool.proofs.commands.evaluating.judge_state_text.Goals as goal

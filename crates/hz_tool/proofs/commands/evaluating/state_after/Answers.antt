@@ -4,7 +4,7 @@ use Rattle.std.specs.List.{range_with_len}
 use Rattle.std.specs.Prelude.{IfOk}
 use Rattle.hz_rtl.specs.Shape.{instruction, instructions}
 use Rattle.hz_rtl.specs.States.{words}
-use Rattle.hz_rtl_model.specs.States.{run}
+use Rattle.hz_block_model.specs.Running.States.{run}
 use Rattle.hz_tool.proofs.commands.evaluating.state_after.Goals as goal
 
 pub returns : goal.returns

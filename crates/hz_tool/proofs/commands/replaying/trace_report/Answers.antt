@@ -1,12 +1,12 @@
 use Rattle.std.proofs.Common.{ℕ, List, length, All, sym, ap, subst, arith}
-use Rattle.hz_acceptance_model.specs.Events.{IsOfClass}
+use Rattle.hz_acceptance_model.specs.Accepting.Events.{IsOfClass}
 use Rattle.hz_answer_model.specs.TableAnswers.{Walks}
 use Rattle.hz_tables.specs.Machines.{machine_of}
 use Rattle.hz_answer_model.proofs.EventLaws.{events_known}
 use Rattle.hz_base_model.specs.Lines.{lines_of}
 use Rattle.hz_replay.specs.declared.event.Event.{Event}
 use Rattle.hz_replay.specs.Traces.{events_in, lines_in}
-use Rattle.hz_trace_model.specs.Traces.{event_lines}
+use Rattle.hz_acceptance_model.specs.Traces.Traces.{event_lines}
 use Rattle.hz_tool.specs.Decisions.{Agrees}
 use Rattle.hz_tool.proofs.TraceLemmas.{trace_refused, trace_replayed, trace_few}
 use Rattle.hz_tool.proofs.commands.replaying.trace_report.Goals as goal

@@ -3,8 +3,8 @@ use Rattle.hz_answer_model.specs.ScheduleAnswers.{Schedules}
 use Rattle.hz_depend.specs.GraphShape.{IsSchedulable}
 use Rattle.hz_rtl.specs.Shape.{instructions}
 use Rattle.hz_sched.specs.Shape.{graph_of}
-use Rattle.hz_scheduled_model.specs.BlockGraphs.{classes_of}
-use Rattle.hz_scheduled_model.proofs.GraphLaws.{all_have_classes}
+use Rattle.hz_block_model.specs.Scheduled.BlockGraphs.{classes_of}
+use Rattle.hz_block_model.proofs.Scheduled.GraphLaws.{all_have_classes}
 use Rattle.hz_tool.proofs.BlockLemmas.{graph_size, is_graph, first_wrong, wrong_within, wrong_below}
 use Rattle.hz_tool.proofs.BlockTurnings.{wrong_in, wrong_judged, wrong_turned}
 use Rattle.hz_tool.proofs.JudgeLemmas.{classes_on}

@@ -2,7 +2,7 @@ use Rattle.std.proofs.Common.{inl, refl, sym, ◌∙◌, length, arith}
 use Rattle.std.proofs.lemmas.List.{length-map}
 use Rattle.hz_rtl.specs.Shape.{instructions}
 use Rattle.hz_sched.specs.Shape.{graph_of, node_of, slots_of}
-use Rattle.hz_sched_model.proofs.StuckLaws.{first_stuck as stuck_first}
+use Rattle.hz_block_model.proofs.Scheduling.StuckLaws.{first_stuck as stuck_first}
 use Rattle.hz_tables.specs.Machines.{machine_of}
 use Rattle.hz_tool.proofs.BlockTurnings.{stuck_within, stuck_judged, stuck_turned}
 use Rattle.hz_tool.proofs.MachineLemmas.{classes_count}

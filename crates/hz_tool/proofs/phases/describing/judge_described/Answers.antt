@@ -1,9 +1,9 @@
 use Rattle.std.proofs.Common.{◌<◌, List, IsTrue, inl, inr, sym, subst}
 use Rattle.std.specs.Prelude.{IfOk, IfErr}
 use Rattle.hz_check.specs.Checked.{IsCheckedOf}
-use Rattle.hz_mdread_model.proofs.FormSizes.{forms_few, strings_short}
-use Rattle.hz_mdread_model.specs.DescriptionForms.{form_count, strings_below, Reads}
-use Rattle.hz_mdread_model.specs.Descriptions.{Description}
+use Rattle.hz_description_model.proofs.Reading.FormSizes.{forms_few, strings_short}
+use Rattle.hz_description_model.specs.Reading.DescriptionForms.{form_count, strings_below, Reads}
+use Rattle.hz_description_model.specs.Reading.Descriptions.{Description}
 use Rattle.hz_sexp.specs.Shape.{trees}
 use Rattle.hz_sexp.specs.declared.form.Form.{Form}
 use Rattle.hz_tool.specs.Fronts.{IsSaidReport}

@@ -1,6 +1,6 @@
 use Rattle.std.proofs.Common.{inl, inr}
 use Rattle.hz_mdread.specs.Shape.{description}
-use Rattle.hz_mdread_model.proofs.CheckableLaws.{can_be_checked}
+use Rattle.hz_description_model.proofs.Reading.CheckableLaws.{can_be_checked}
 use Rattle.hz_tool.proofs.AnswerLemmas.{if_ok, if_err}
 use Rattle.hz_tool.proofs.phases.describing.judge_said.Goals as goal
 

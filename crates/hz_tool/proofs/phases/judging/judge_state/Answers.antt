@@ -1,5 +1,5 @@
 use Rattle.std.proofs.Common.{sym, subst}
-use Rattle.hz_rtltext_model.specs.StateForms as states
+use Rattle.hz_block_model.specs.Texts.StateForms as states
 use Rattle.hz_sexp.specs.Shape.{trees}
 use Rattle.hz_tool.proofs.TurningLemmas.{rtl_turned}
 use Rattle.hz_tool.specs.Decisions.{IsRtlReport}

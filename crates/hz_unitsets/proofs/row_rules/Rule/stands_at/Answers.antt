@@ -1,4 +1,4 @@
-use Rattle.hz_altern_model.proofs.FitLaws.{some_with, pattern_with}
+use Rattle.hz_description_model.proofs.Reservations.FitLaws.{some_with, pattern_with}
 use Rattle.hz_unitsets.proofs.row_rules.Rule.stands_at.Goals as goal
 
 pub returns-then-holds_some : goal.returns-then-holds_some

@@ -1,6 +1,6 @@
 use Rattle.std.proofs.Common.{ℕ, List, map, sym, ap, ◌∙◌, subst, All}
 use Rattle.std.proofs.lemmas.List.Elements.{All-head, All-tail}
-use Rattle.hz_altern_model.specs.Sets.{Statement}
+use Rattle.hz_description_model.specs.Reservations.Sets.{Statement}
 use Rattle.hz_unitsets.specs.declared.row_rules.Rule.{Rule}
 use Rattle.hz_unitsets.specs.SetRules.{statements_of, ordered}
 use Rattle.hz_unitsets.specs.RowRules.{statement_in, IsBounded, AreSame}

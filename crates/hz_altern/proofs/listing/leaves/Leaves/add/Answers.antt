@@ -2,7 +2,7 @@ use Rattle.std.proofs.Common.{subst, Option}
 use Rattle.std.specs.Str.{bytes_eq}
 use Rattle.std.proofs.lemmas.Slice.Eq.{bytes_eq-Decides}
 use Rattle.hz_altern.proofs.LeafLemmas.{Joined, inserted}
-use Rattle.hz_cycles.specs.declared.cycles.Cycles.{Cycles}
+use Rattle.hz_grid.specs.declared.cycles.Cycles.{Cycles}
 use Rattle.hz_altern.proofs.listing.leaves.Leaves.add.Goals as goal
 
 pub returns : goal.returns

@@ -1,6 +1,6 @@
 use Rattle.std.proofs.Common.{◌≡◌, ◌↔◌, ◌⊎◌, ℕ, ap, ◌∙◌, subst, sym, true≢false}
-use Rattle.hz_cycles.specs.Sets.{HasCycle}
-use Rattle.hz_cycles.specs.Tables.{IsTaken}
+use Rattle.hz_grid.specs.Sets.{HasCycle}
+use Rattle.hz_grid.specs.Tables.{IsTaken}
 use Rattle.hz_altern.specs.declared.listing.reserving.Reserved.{Reserved}
 use Rattle.hz_altern.proofs.ReserveLemmas.{unit_pushed, unit_kept}
 use Rattle.hz_altern.proofs.listing.reserving.Reserved.take.Goals as goal

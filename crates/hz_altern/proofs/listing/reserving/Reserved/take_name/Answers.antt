@@ -7,7 +7,7 @@ use Rattle.hz_altern.specs.Shapes.{pair_of, alternatives}
 use Rattle.hz_altern.specs.Tables.{known_alternatives}
 use Rattle.hz_altern.proofs.ListLemmas.{All-from_map}
 use Rattle.hz_altern.proofs.ReserveLemmas.{reserved_same, name_taken, first_sound, unknown_begins, nothing_reserved}
-use Rattle.hz_altern_model.specs.Automata.{UnitPlace}
+use Rattle.hz_description_model.specs.Reservations.Automata.{UnitPlace}
 use Rattle.hz_altern.proofs.listing.reserving.Reserved.take_name.Goals as goal
 
 pub returns-in_ok-take_pairs-in-Some : goal.returns-in_ok-take_pairs-in-Some

@@ -3,7 +3,7 @@ use Rattle.std.specs.List.{list_any}
 use Rattle.std.specs.Str.{bytes_eq}
 use Rattle.hz_check.proofs.Lists.FirstOf.{found_alone}
 use Rattle.hz_check.proofs.Tables.NameLists.{contains_is_among}
-use Rattle.hz_check_model.specs.Sites.{is_among}
+use Rattle.hz_description_model.specs.Check.Sites.{is_among}
 use Rattle.hz_check.proofs.faults.unknown_in_items.AttrItemRefers.unknown.Goals as goal
 
 pub returns : goal.returns

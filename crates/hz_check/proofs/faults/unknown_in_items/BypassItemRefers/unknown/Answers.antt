@@ -1,7 +1,7 @@
 use Rattle.std.proofs.Common.{not}
 use Rattle.hz_mdread.specs.Shape.{description}
 use Rattle.hz_check.proofs.Lists.FirstOf.{found_in_both}
-use Rattle.hz_check_model.specs.CheckFaults.{is_class}
+use Rattle.hz_description_model.specs.Check.CheckFaults.{is_class}
 use Rattle.hz_check.proofs.faults.unknown_in_items.BypassItemRefers.unknown.Goals as goal
 
 pub returns : goal.returns

@@ -3,7 +3,7 @@ use Rattle.std.specs.List.{flat_map}
 use Rattle.hz_mdread.specs.Shape.{description, set_item}
 use Rattle.hz_check.proofs.Lists.FirstOf.{found_in_both}
 use Rattle.hz_check.proofs.Lists.Next.{flat_map-map}
-use Rattle.hz_check_model.specs.CheckFaults.{is_unit, units_of_patterns}
+use Rattle.hz_description_model.specs.Check.CheckFaults.{is_unit, units_of_patterns}
 use Rattle.hz_check.proofs.faults.unknown_in_items.SetItemRefers.unknown.Goals as goal
 
 pub returns : goal.returns

@@ -1,0 +1,3 @@
+-- The texts of traces, and the traces that a drill draws.
+pub mod TraceLaws
+pub mod DrillLaws

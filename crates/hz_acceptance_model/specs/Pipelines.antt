@@ -1,0 +1,3 @@
+-- The pipeline that a description means, and that its automata choose by themselves.
+pub mod Pipelines
+pub mod Factored

@@ -1,0 +1,4 @@
+-- The texts of traces, and the traces that a drill draws.
+pub mod Traces
+pub mod TraceLimits
+pub mod Drills

@@ -1,0 +1,41 @@
+//! Laws of the texts of traces, whatever names classes have.
+
+ghost use Rattle.std.specs.Prelude.{◌≡◌, ℕ, ◌⊎◌, List, [], ◌∷◌, length, codes};
+ghost use Rattle.hz_base_model.specs.Lines.{lines_of};
+ghost use Rattle.hz_acceptance_model.specs.Accepting.Events.{Event, issue, advance};
+ghost use Rattle.hz_acceptance_model.specs.Traces.Traces.{line_says, skipped, says, wrong, bad_line, unknown_class, Trace, TraceFault, TraceFaultAt, event_lines};
+
+/// A trace text has at most one list of events, and each event has one line.
+pub fn one_list_of_events()
+    ensures events { (classes : List (List ℕ)) (text : List ℕ) (a b : List Event) → Trace classes text a → Trace classes text b → a ≡ b }
+    ensures lines { (classes : List (List ℕ)) (text : List ℕ) (events : List Event) → Trace classes text events → length (event_lines classes 1 (lines_of text)) ≡ length events }
+{}
+
+/// A trace text has at most one fault, at one line.
+pub fn one_fault_of_traces()
+    ensures { (classes : List (List ℕ)) (text : List ℕ) (f g : TraceFault) (m n : ℕ) → TraceFaultAt classes text f m → TraceFaultAt classes text g n → (f ≡ g) × (m ≡ n) }
+{}
+
+/// No text has both events and a fault.
+pub fn events_or_fault()
+    ensures { (classes : List (List ℕ)) (text : List ℕ) (events : List Event) (fault : TraceFault) (number : ℕ) → Trace classes text events → TraceFaultAt classes text fault number → ⊥ }
+{}
+
+/// Every text has events or a fault.
+pub fn events_of_every_text()
+    ensures { (classes : List (List ℕ)) (text : List ℕ) → ((events : List Event) × Trace classes text events) ⊎ ((fault : TraceFault) × (number : ℕ) × TraceFaultAt classes text fault number) }
+{}
+
+/// Blanks and carriage returns at both ends of a line are dropped, and blanks alone stand between its words; an empty
+/// line and one that begins with `;` say nothing.
+pub fn trace_line_rows()
+    ensures issue_line { line_says (codes "x" ∷ []) (codes " issue\t x\r") ≡ says (issue 0) }
+    ensures advance_line { line_says (codes "x" ∷ []) (codes "advance 007") ≡ says (advance 7) }
+    ensures blank { line_says (codes "x" ∷ []) (codes "\t \r") ≡ skipped }
+    ensures comment { line_says (codes "x" ∷ []) (codes " \r;issue x") ≡ skipped }
+    ensures other_class { line_says (codes "x" ∷ []) (codes "issue y") ≡ wrong unknown_class }
+    ensures return_between { line_says (codes "x" ∷ []) (codes "issue\r x") ≡ wrong bad_line }
+    ensures three_words { line_says (codes "x" ∷ []) (codes "issue x x") ≡ wrong bad_line }
+    ensures one_word { line_says (codes "x" ∷ []) (codes "advance") ≡ wrong bad_line }
+    ensures other_word { line_says (codes "x" ∷ []) (codes "stall 1") ≡ wrong bad_line }
+{}

@@ -1,5 +1,0 @@
-use Rattle.hz_altern_model.proofs.PlacedLaws.{placed_alternatives}
-use Rattle.hz_altern_model.proofs.automata.expressions_keep_within_cycles.Goals as goal
-
-pub returns : goal.returns
-returns c = placed_alternatives

@@ -1,5 +1,0 @@
-use Rattle.hz_altern_model.proofs.MeaningLaws.{units_right}
-use Rattle.hz_altern_model.proofs.expressions.names_of_units_are_right.Goals as goal
-
-pub returns : goal.returns
-returns c = units_right

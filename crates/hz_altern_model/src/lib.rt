@@ -1,6 +1,0 @@
-//! Reservation expressions, their alternatives and set statements, and their laws.
-#![tactic(auto)]
-
-pub mod automata;
-pub mod expressions;
-pub mod mentions;

@@ -1,0 +1,2 @@
+-- What can be decided.
+pub mod ToldLaws

@@ -1,0 +1,135 @@
+-- A compiled part has no more rows than its automaton has states: different rows stand for different states.
+use Rattle.std.proofs.Common.{◌≡◌, ◌≢◌, ⊎_elim, ℕ, zero, suc, ◌+◌, ◌<◌, ◌≤◌, Bool, true, false, List, [], ◌∷◌, ◌++◌, length, Option, Some, None, refl, sym, ap, ◌∙◌, subst, arith}
+use Rattle.std.specs.Prelude.{is_some, IsSome, All, MatchBool}
+use Rattle.std.proofs.lemmas.Bool.{cases_eq, cases_lt}
+use Rattle.std.proofs.lemmas.List.Elements.{All-cons, All-nil, All-append, All-contains}
+use Rattle.std.proofs.lemmas.List.Kept.{AllPairs-cons}
+use Rattle.hz_base_model.specs.Pairs.{Pair, SamePairs}
+use Rattle.hz_acceptance_model.specs.Accepting.Events.{Event, IsOfClass}
+use Rattle.hz_acceptance_model.specs.Accepting.Replay.{Pipeline, start, Accepted}
+use Rattle.hz_acceptance_model.proofs.Accepting.ReplayLaws.{run_split, run_join, runs_from_accepted, accepted_from_runs}
+use Rattle.hz_acceptance_model.proofs.Accepting.FittingLaws.{unbroken_run}
+use Rattle.hz_automata_model.specs.Tables.Tables.{walk, IsTable, IsReached}
+use Rattle.hz_automata_model.specs.Tables.Apart.{AllApart}
+use Rattle.hz_automata_model.specs.Tables.Machines.{Part, word_of, part_walk}
+use Rattle.hz_automata_model.proofs.Tables.TableLaws.{walk-append}
+use Rattle.hz_automata_model.proofs.Tables.MachineLaws.{word_of-append}
+use Rattle.hz_automata_model.specs.Reaching.Reach.{AreDifferent, IsLeft, IsReachedGrid, IsReachedState, HasGrids, SameGrids}
+use Rattle.hz_automata_model.specs.Reaching.Counts.{IsAtMost, states, CountIsAtMost}
+use Rattle.hz_automata_model.proofs.Reaching.LeavingLaws.{plays_from_leaves, leaves_from_plays}
+use Rattle.hz_automata_model.proofs.Reaching.StepLaws.{planned, planned_future, future_with}
+use Rattle.hz_automata_model.proofs.Reaching.CountLaws.{same_pairs_back, same_pairs_then, sum_by_ones, no_count_both}
+use Rattle.hz_automata_model.specs.Compiling.CompiledParts.{WalksAccepted, TellsWhatIsLeft}
+use Rattle.hz_answer_laws.proofs.Settling.RunLaws.{run_there}
+use Rattle.hz_automata_model.proofs.Single.WordLaws.{IsFilled, Spells, spells_walked}
+use Rattle.hz_automata_model.proofs.Single.LeftLaws.{left_not_none}
+
+-- tests of which each holds with the other are equal
+both_ways : (a b : Bool) → (a ≡ true → b ≡ true) → (b ≡ true → a ≡ true) → a ≡ b
+both_ways true b f g = sym (f refl)
+both_ways false true f g = g refl
+both_ways false false f g = refl
+
+some_state : (o : Option ℕ) → IsSome o → (state : ℕ) × (o ≡ Some state)
+some_state None h = absurd (cc)
+some_state (Some state) h = (state, refl)
+
+-- what can be run behind some events can be run behind others that leave the same
+module _ {U : Type 0} (m : Pipeline U) where
+  accepted_also : (t u v : List Event) (xs ys : List (List (Pair U))) → IsLeft m t xs → IsLeft m u ys → HasGrids xs ys → Accepted m (t ++ v) → Accepted m (u ++ v)
+  accepted_also t u v xs ys left left' has accepted =
+      let (q, run) = runs_from_accepted m (t ++ v) accepted in
+      let (r, before, behind) = run_split m start q t v run in
+      let grid = planned r in
+      let (one, there, same) = left.all grid (leaves_from_plays m t grid (r, before, planned_future r)) in
+      let (other, there', same') = has one there in
+      let (s, run', future) = plays_from_leaves m u other (left'.only other there') in
+      let own = future_with other grid r (same_pairs_then other one grid (same_pairs_back one other same') same) (planned_future r) in
+      let (o, also) = run_there m v other r s q own future (unbroken_run m t r before) (unbroken_run m u s run') behind in
+      accepted_from_runs m (u ++ v) (o, run_join m start s o u v run' also)
+
+module _ {U : Type 0} (classes : ℕ) (m : Pipeline U) (part : Part) (is : IsTable part.rows part.columns) (filled : IsFilled classes part) (walks : WalksAccepted classes m part) where
+  -- events that lead to a state, and what they leave
+  record LeadsTo (state : ℕ) (xs : List (List (Pair U))) : Type 0 where
+    events : List Event
+    inside : All (IsOfClass classes) events
+    ends : part_walk part 0 events ≡ Some state
+    left : IsLeft m events xs
+
+  accepted : (state : ℕ) (xs : List (List (Pair U))) (t : LeadsTo state xs) → Accepted m t.events
+  accepted state xs t = (walks.walks t.events t.inside).0 (ap is_some t.ends)
+
+  -- behind a state the same is walked as behind the events that lead to it
+  walked_on : (state : ℕ) (xs : List (List (Pair U))) (t : LeadsTo state xs) (v : List Event) → part_walk part 0 (t.events ++ v) ≡ walk part.rows (Some state) (word_of part v)
+  walked_on state xs t v = ap (walk part.rows (Some 0)) (word_of-append part t.events v) ∙ (walk-append part.rows (Some 0) (word_of part t.events) (word_of part v) ∙ ap (λ (o : Option ℕ). walk part.rows o (word_of part v)) t.ends)
+
+  -- from states with the same grids the same is walked
+  also_walked : (i j : ℕ) (xs ys : List (List (Pair U))) → LeadsTo i xs → LeadsTo j ys → HasGrids xs ys → (w : List ℕ) → IsSome (walk part.rows (Some i) w) → IsSome (walk part.rows (Some j) w)
+  also_walked i j xs ys t u has w some =
+      let (end, e) = some_state (walk part.rows (Some i) w) some in
+      let s : Spells classes part w = spells_walked classes part is filled w (Some i) end e in
+      let one = walked_on i xs t s.events ∙ ap (walk part.rows (Some i)) s.word in
+      let other = walked_on j ys u s.events ∙ ap (walk part.rows (Some j)) s.word in
+      let may = (walks.walks (t.events ++ s.events) (All-append (IsOfClass classes) t.events s.events t.inside s.inside)).0 (subst IsSome (sym one) some) in
+      let also = accepted_also m t.events u.events s.events xs ys t.left u.left has may in
+      subst IsSome other ((walks.walks (u.events ++ s.events) (All-append (IsOfClass classes) u.events s.events u.inside s.inside)).1 also)
+
+  -- states with the same grids are one
+  same_state : (stay : Bool) → MatchBool stay (TellsWhatIsLeft classes m part) (AllApart part.rows) → (i j : ℕ) → i < length part.rows → j < length part.rows → (xs ys : List (List (Pair U))) → LeadsTo i xs → LeadsTo j ys → SameGrids xs ys → i ≡ j
+  same_state true tells i j low low' xs ys t u same =
+      let meet = (tells.one t.events u.events xs ys t.inside u.inside t.left u.left (accepted i xs t) (accepted j ys u)).1 same in
+      let all : Some i ≡ Some j = sym t.ends ∙ (meet ∙ u.ends) in
+      cc
+  same_state false apart i j low low' xs ys t u same = ⊎_elim
+      (λ (e : i ≡ j). e)
+      (λ (differ : i ≢ j).
+      let tell = apart.apart i j low low' differ in
+      absurd (tell.once (both_ways (is_some (walk part.rows (Some i) tell.word)) (is_some (walk part.rows (Some j) tell.word))
+      (also_walked i j xs ys t u same.there tell.word)
+      (also_walked j i ys xs u t same.back tell.word))))
+      (cases_eq i j)
+
+  -- lists of grids to which events lead at the states from this one on
+  abbrev LeadFrom : ℕ → List (List (List (Pair U))) → Type 0
+  LeadFrom state [] = Unit {0}
+  LeadFrom state (xs ∷ others) = LeadsTo state xs × LeadFrom (suc state) others
+
+  -- there can't be none for so many states
+  leads_not_none : {weight : List (Pair U) → ℕ} {n : ℕ} → IsAtMost (IsReachedGrid m) SamePairs weight n → ((state : ℕ) → state < length part.rows → IsReached part.rows state) → (count state : ℕ) → state + count ≤ length part.rows → ((items : List (List (List (Pair U)))) → length items ≡ count → LeadFrom state items → ⊥) → ⊥
+  leads_not_none most reached zero state low none = none [] refl tt
+  leads_not_none {weight} {n} most reached (suc count) state low none =
+      let (w, e) = reached state (omega (arith, low)) in
+      let s : Spells classes part w = spells_walked classes part is filled w (Some 0) state e in
+      left_not_none m weight n most s.events (λ xs left.
+      leads_not_none most reached count (suc state) (omega (arith, low)) (λ items long lead.
+      none (xs ∷ items) (ap suc long) (record { events = s.events; inside = s.inside; ends = ap (walk part.rows (Some 0)) s.word ∙ e; left = left }, lead)))
+
+  reached_all : (state : ℕ) (items : List (List (List (Pair U)))) → LeadFrom state items → All (IsReachedState m) items
+  reached_all state [] lead = All-nil (IsReachedState m)
+  reached_all state (xs ∷ items) lead = All-cons (IsReachedState m) xs items (lead.0.events, accepted state xs lead.0, lead.0.left) (reached_all (suc state) items lead.1)
+
+  module _ (stay : Bool) (tells : MatchBool stay (TellsWhatIsLeft classes m part) (AllApart part.rows)) where
+    apart_behind : (i : ℕ) (xs : List (List (Pair U))) → i < length part.rows → LeadsTo i xs → (state : ℕ) → i < state → (items : List (List (List (Pair U)))) → state + length items ≤ length part.rows → LeadFrom state items → All (λ ys. SameGrids xs ys → ⊥) items
+    apart_behind i xs low t state before [] within lead = All-nil (λ ys. SameGrids xs ys → ⊥)
+    apart_behind i xs low t state before (ys ∷ items) within lead = All-cons (λ zs. SameGrids xs zs → ⊥) ys items
+        (λ same. let one = same_state stay tells i state low (omega (arith, within)) xs ys t lead.0 same in omega (arith, one, before))
+        (apart_behind i xs low t (suc state) (omega (arith, before)) items (omega (arith, within)) lead.1)
+
+    all_apart : (state : ℕ) (items : List (List (List (Pair U)))) → state + length items ≤ length part.rows → LeadFrom state items → AreDifferent SameGrids items
+    all_apart state [] within lead = λ i j d less low. absurd (omega (arith, low))
+    all_apart state (xs ∷ items) within lead = AllPairs-cons (λ x y. SameGrids x y → ⊥) xs items
+        (apart_behind state xs (omega (arith, within)) lead.0 (suc state) (omega arith) items (omega (arith, within)) lead.1)
+        (all_apart (suc state) items (omega (arith, within)) lead.1)
+
+    -- as many rows as states, at most
+    pub rows_few : {weight : List (Pair U) → ℕ} {n : ℕ} → IsAtMost (IsReachedGrid m) SamePairs weight n → ((state : ℕ) → state < length part.rows → IsReached part.rows state) → (most : ℕ) → CountIsAtMost m part.columns states most → length part.rows ≤ most
+    rows_few grids reached most few = ⊎_elim
+        (λ (more : most < length part.rows). absurd (leads_not_none grids reached (length part.rows) 0 (omega arith) (λ items long lead.
+        no_count_both m part.columns most states (record {
+          items = items;
+          reached = λ xs there. All-contains (IsReachedState m) items xs (reached_all 0 items lead) there;
+          different = all_apart 0 items (omega (arith, long)) lead;
+          above = omega (arith, long, more, sum_by_ones items);
+        }) few)))
+        (λ (less : length part.rows ≤ most). less)
+        (cases_lt most (length part.rows))

@@ -1,0 +1,9 @@
+-- That descriptions within their limits have machines.
+pub mod NumberingLaws
+pub mod NumberedTables
+pub mod ApartTold
+pub mod LeastTables
+pub mod AscendingLists
+pub mod AutomatonTotal
+pub mod PartTotal
+pub mod MachineTotal

@@ -1,0 +1,3 @@
+-- At which sites the faults of names stand.
+pub mod NameFaults
+pub mod UnknownNames

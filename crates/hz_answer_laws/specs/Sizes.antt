@@ -1,0 +1,2 @@
+-- How long the texts of tables are.
+pub mod Extents

@@ -1,0 +1,29 @@
+-- How many bytes strings and names have. This profile, docs/FORMATS.md, 'Tables'.
+use Rattle.std.specs.Prelude.{ℕ, ◌+◌, ◌*◌, length}
+use Rattle.std.specs.List.{sum_by}
+use Rattle.hz_base_model.specs.Limits.{automaton_limit, class_limit}
+use Rattle.hz_base_model.specs.Forms.Trees.{Tree, Trees, list, vector, quoted, none, more}
+use Rattle.hz_automata_model.specs.Tables.Machines.{Machine}
+use Rattle.hz_automata_model.specs.Tables.StateLimits.{state_limit, cell_limit}
+
+-- the bytes of all quoted strings together, at every depth
+abbrev mutual
+  pub bytes_of_strings : Trees → ℕ
+  bytes_of_strings none = 0
+  bytes_of_strings (more first others) = bytes_of_string first + bytes_of_strings others
+
+  -- the same in one form
+  pub bytes_of_string : Tree → ℕ
+  bytes_of_string (list _ forms) = bytes_of_strings forms
+  bytes_of_string (vector _ forms) = bytes_of_strings forms
+  bytes_of_string (quoted _ bytes) = length bytes
+  bytes_of_string _ = 0
+
+-- the bytes of the names of a machine together: each class has one, and each automaton
+abbrev pub bytes_of_names : Machine → ℕ
+bytes_of_names m = sum_by length m.classes + sum_by (λ part. length part.name) m.parts
+
+-- The bytes of a tables text without names, at most, where nothing is told of states: for each automaton six for each entry, four
+-- more for each row, five for each class in its map, and its other lines; seven for each class, and the other lines of the text.
+abbrev pub unnamed_limit : ℕ
+unnamed_limit = automaton_limit * (cell_limit * 6 + state_limit * 4 + class_limit * 5 + 65) + class_limit * 7 + 63

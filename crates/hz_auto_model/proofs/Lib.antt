@@ -1,9 +1,0 @@
-pub mod MovedLaws
-pub mod ColumnLaws
-pub mod PartLaws
-pub mod PipelineLaws
-pub mod CompiledLaws
-pub mod LimitLaws
-pub mod ReportLaws
-pub mod FactoredLaws
-pub mod DescriptionLaws

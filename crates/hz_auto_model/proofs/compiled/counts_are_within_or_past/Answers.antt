@@ -1,5 +1,0 @@
-use Rattle.hz_auto_model.proofs.LimitLaws.{within_or_past}
-use Rattle.hz_auto_model.proofs.compiled.counts_are_within_or_past.Goals as goal
-
-pub returns : goal.returns
-returns c = λ lists shown m kind within past. within_or_past lists shown m kind within past

@@ -1,0 +1,2 @@
+-- Combs: tables whose rows are laid into one another.
+pub mod Combs

@@ -1,0 +1,27 @@
+-- The pipeline of one automaton, by what a description without a fault gives. This profile, docs/RULES.md.
+use Rattle.std.specs.Prelude.{ℕ, List, [], map, slice_index_or}
+use Rattle.hz_base_model.specs.Pairs.{Pair}
+use Rattle.hz_acceptance_model.specs.Accepting.Replay.{Pipeline}
+use Rattle.hz_description_model.specs.Reservations.Alternatives.{alternatives_of}
+use Rattle.hz_description_model.specs.Reservations.Automata.{list_in}
+use Rattle.hz_description_model.specs.Check.Places.{Known}
+use Rattle.hz_description_model.specs.Reading.Descriptions.{Description, Options}
+use Rattle.hz_description_model.specs.Check.CheckedParts.{AutomatonParts, ClassParts}
+use Rattle.hz_acceptance_model.specs.Pipelines.Pipelines.{treatment_of}
+use Rattle.hz_automata_model.specs.Reaching.Columns.{pipeline_on}
+
+-- the automaton of this number, one without units where there is none
+abbrev pub automaton_at : List AutomatonParts → ℕ → AutomatonParts
+automaton_at automata a = slice_index_or automata a (record { name = []; units = []; statements = [] })
+
+-- the lists of the classes in the automaton of this number
+abbrev pub lists_at : List ClassParts → ℕ → List (List (List (Pair ℕ)))
+lists_at classes a = map (λ c. slice_index_or c.lists a []) classes
+
+-- the pipeline of that automaton: its statements, and the lists of the classes in it
+abbrev pub automaton_pipeline : Options → List AutomatonParts → List ClassParts → ℕ → Pipeline ℕ
+automaton_pipeline options automata classes a = pipeline_on (treatment_of options) (automaton_at automata a).statements (lists_at classes a)
+
+-- the lists of the classes of a description in an automaton, where its names have these alternatives
+abbrev pub class_lists : Description → Known → ℕ → List (List (List (Pair ℕ)))
+class_lists d known a = map (λ c. list_in a (alternatives_of known c.expression)) d.classes

@@ -1,0 +1,3 @@
+-- Least tables, and partitions of the states of a table.
+pub mod Blocks
+pub mod Normal

@@ -1,0 +1,6 @@
+-- Tables, what is walked in them, and machines of tables.
+pub mod StateLimits
+pub mod Tables
+pub mod Apart
+pub mod Orders
+pub mod Machines

@@ -1,0 +1,4 @@
+pub mod Texts
+pub mod Dependences
+pub mod Scheduling
+pub mod Scheduled

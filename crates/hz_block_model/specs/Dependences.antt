@@ -1,0 +1,7 @@
+-- Which instructions of a block depend, and at what cost.
+pub mod Accesses
+pub mod Dependences
+pub mod Graphs
+pub mod Orders
+pub mod Classes
+pub mod Examples

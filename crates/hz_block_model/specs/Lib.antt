@@ -1,0 +1,5 @@
+pub mod Running
+pub mod Texts
+pub mod Dependences
+pub mod Scheduling
+pub mod Scheduled

@@ -1,0 +1,5 @@
+-- Blocks, states, and what a block leaves.
+pub mod Operators
+pub mod Blocks
+pub mod States
+pub mod Limits

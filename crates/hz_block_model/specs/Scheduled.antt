@@ -1,0 +1,3 @@
+-- What schedules keep of their block.
+pub mod BlockGraphs
+pub mod BlockSchedules

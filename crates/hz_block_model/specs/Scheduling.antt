@@ -1,0 +1,3 @@
+-- Legal and greedy schedules.
+pub mod Schedules
+pub mod Machines

@@ -1,0 +1,8 @@
+//! Blocks: what they leave, their texts, dependences and schedules, and their laws.
+#![tactic(auto)]
+
+pub mod dependence_laws;
+pub mod examples;
+pub mod kept_laws;
+pub mod schedule_laws;
+pub mod text_laws;

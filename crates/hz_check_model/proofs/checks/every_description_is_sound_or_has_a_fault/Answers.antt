@@ -1,5 +1,0 @@
-use Rattle.hz_check_model.proofs.CheckTotal.{sound_or_fault}
-use Rattle.hz_check_model.proofs.checks.every_description_is_sound_or_has_a_fault.Goals as goal
-
-pub returns : goal.returns
-returns c = sound_or_fault

@@ -1,5 +1,0 @@
-use Rattle.hz_check_model.proofs.CheckLaws.{fault_or_sound}
-use Rattle.hz_check_model.proofs.checks.fault_or_sound.Goals as goal
-
-pub returns : goal.returns
-returns c = fault_or_sound

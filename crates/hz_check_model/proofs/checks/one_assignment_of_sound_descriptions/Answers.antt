@@ -1,5 +1,0 @@
-use Rattle.hz_check_model.proofs.CheckLaws.{sound_one}
-use Rattle.hz_check_model.proofs.checks.one_assignment_of_sound_descriptions.Goals as goal
-
-pub returns : goal.returns
-returns c = sound_one

@@ -1,5 +1,0 @@
-use Rattle.hz_check_model.proofs.CheckLaws.{fault_one}
-use Rattle.hz_check_model.proofs.checks.one_fault_of_checks.Goals as goal
-
-pub returns : goal.returns
-returns c = fault_one

@@ -1,5 +1,0 @@
-use Rattle.hz_check_model.proofs.KeptLaws.{parts_kept}
-use Rattle.hz_check_model.proofs.checks.parts_are_kept.Goals as goal
-
-pub returns : goal.returns
-returns c = parts_kept

@@ -1,5 +1,0 @@
-use Rattle.hz_check_model.proofs.ToldLaws.{places_count}
-use Rattle.hz_check_model.proofs.checks.places_count_units_before.Goals as goal
-
-pub returns : goal.returns
-returns c = places_count

@@ -1,5 +1,0 @@
-use Rattle.hz_check_model.proofs.RankLaws.{unfolds_in_reservations}
-use Rattle.hz_check_model.proofs.depth.reservations_are_depth_enough.Goals as goal
-
-pub returns : goal.returns
-returns c = unfolds_in_reservations

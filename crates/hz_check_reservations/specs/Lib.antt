@@ -1,0 +1,16 @@
+pub mod Places
+pub mod Graphs
+pub mod Walks
+pub mod Circles
+pub mod Orders
+pub mod Numbers
+pub mod Faults
+pub mod Shape
+pub mod Tables
+pub mod Past
+pub mod Answers
+pub mod Spreads
+pub mod Lengths
+pub mod Habits
+pub mod HabitTables
+pub mod Broken

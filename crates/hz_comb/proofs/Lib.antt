@@ -1,2 +1,0 @@
-pub mod LayLaws
-pub mod PackedLaws

@@ -1,4 +1,0 @@
-pub mod Widths
-pub mod Laying
-pub mod Shape
-pub mod Packing

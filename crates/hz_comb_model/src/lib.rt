@@ -1,4 +1,0 @@
-//! Combs: tables whose rows are laid into one another.
-#![tactic(auto)]
-
-pub mod combs;

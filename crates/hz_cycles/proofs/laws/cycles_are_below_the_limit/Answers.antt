@@ -1,5 +1,0 @@
-use Rattle.hz_cycles.proofs.SetLemmas.{HasCycle-below}
-use Rattle.hz_cycles.proofs.laws.cycles_are_below_the_limit.Goals as goal
-
-pub returns : goal.returns
-returns c cycles cycle = HasCycle-below cycles cycle

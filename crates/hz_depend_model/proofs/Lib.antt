@@ -1,8 +1,0 @@
-pub mod StoreLaws
-pub mod ValueLaws
-pub mod WrittenLaws
-pub mod SourceLaws
-pub mod DoneLaws
-pub mod OrderLaws
-pub mod UpwardLaws
-pub mod HeightLaws

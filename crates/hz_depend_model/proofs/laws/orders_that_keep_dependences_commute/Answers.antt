@@ -1,5 +1,0 @@
-use Rattle.hz_depend_model.proofs.OrderLaws.{commutes}
-use Rattle.hz_depend_model.proofs.laws.orders_that_keep_dependences_commute.Goals as goal
-
-pub returns : goal.returns
-returns c = λ block order state whole kept. commutes block state order whole kept

@@ -1,6 +1,0 @@
-use Rattle.hz_depend_model.proofs.OrderLaws.{commutes}
-use Rattle.hz_depend_model.proofs.UpwardLaws.{keeps_from_edges}
-use Rattle.hz_depend_model.proofs.laws.orders_that_keep_edges_commute.Goals as goal
-
-pub returns : goal.returns
-returns c = λ block t edges order state graph whole kept. commutes block state order whole (keeps_from_edges block t edges order graph kept)

@@ -1,6 +1,0 @@
-pub mod Accesses
-pub mod Dependences
-pub mod Graphs
-pub mod Orders
-pub mod Classes
-pub mod Examples

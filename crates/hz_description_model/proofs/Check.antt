@@ -1,0 +1,12 @@
+-- What can be wrong with a description, and what one gives that is right.
+pub mod CheckLaws
+pub mod EarliestLaws
+pub mod CircleLaws
+pub mod CountingLaws
+pub mod KeptLaws
+pub mod PlaceLaws
+pub mod CheckTotal
+pub mod ToldLaws
+pub mod OnceLaws
+pub mod SplitLaws
+pub mod RankLaws

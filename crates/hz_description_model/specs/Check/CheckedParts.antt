@@ -1,0 +1,82 @@
+-- What a description without a fault gives, automaton by automaton and class by class. This profile, docs/RULES.md.
+use Rattle.std.specs.Prelude.{ℕ, suc, ◌==◌, List, [], ◌∷◌, map, filter, length, codes, if◌then◌else◌}
+use Rattle.std.specs.List.{range_with_len, filter_map}
+use Rattle.hz_base_model.specs.Lines.{place_of}
+use Rattle.hz_base_model.specs.Pairs.{Pair}
+use Rattle.hz_description_model.specs.Reservations.Alternatives.{alternatives_of}
+use Rattle.hz_description_model.specs.Reservations.Automata.{list_in}
+use Rattle.hz_description_model.specs.Reservations.Sets.{Statement}
+use Rattle.hz_description_model.specs.Reading.Descriptions.{Description, Condition, ClassItem, BypassItem}
+use Rattle.hz_description_model.specs.Check.Places.{class_names, automaton_number, statement_of, Known}
+use Rattle.hz_description_model.specs.Reservations.Inside.{inside_statement, is_inside}
+
+-- an automaton: its name, its units by their numbers, and its set statements on them
+pub record AutomatonParts : Type 0 where
+  pub name : List ℕ
+  pub units : List (List ℕ)
+  pub statements : List (Statement ℕ)
+
+-- a class, with its list for each automaton
+pub record ClassParts : Type 0 where
+  pub name : List ℕ
+  pub line : ℕ
+  pub latency : ℕ
+  pub condition : Condition
+  pub lists : List (List (List (Pair ℕ)))
+
+-- a bypass, on classes by their numbers
+pub record BypassParts : Type 0 where
+  pub number : ℕ
+  pub outs : List ℕ
+  pub ins : List ℕ
+
+-- the names of the automata; where none is defined there is one, which is written `-`
+abbrev pub automaton_names : Description → List (List ℕ)
+automaton_names d = if length d.automata == 0 then codes "-" ∷ [] else map (λ a. a.name) d.automata
+
+-- how many automata there are
+abbrev pub automaton_count : Description → ℕ
+automaton_count d = length (automaton_names d)
+
+-- the names of an automaton's units, in the order of the file
+abbrev pub units_in : Description → ℕ → List (List ℕ)
+units_in d automaton = map (λ u. u.name) (filter (λ u. automaton_number d u.automaton == automaton) d.units)
+
+-- the statements on an automaton's units, in the order of the file
+abbrev pub statements_in : Description → ℕ → List (Statement ℕ)
+statements_in d automaton = map inside_statement (filter (is_inside automaton) (map (statement_of d) d.sets))
+
+-- the automaton of a number and its name
+abbrev pub automaton_parts : Description → ℕ → List ℕ → AutomatonParts
+automaton_parts d automaton name = record { name = name; units = units_in d automaton; statements = statements_in d automaton }
+
+-- automata of these names, of which the first has this number
+abbrev pub automata_from : Description → ℕ → List (List ℕ) → List AutomatonParts
+automata_from d automaton [] = []
+automata_from d automaton (name ∷ names) = automaton_parts d automaton name ∷ automata_from d (suc automaton) names
+
+-- the automata, in the order of the file
+abbrev pub automata_of : Description → List AutomatonParts
+automata_of d = automata_from d 0 (automaton_names d)
+
+-- the list of a class for each automaton
+abbrev pub lists_of : Description → Known → ClassItem → List (List (List (Pair ℕ)))
+lists_of d known c = map (λ automaton. list_in automaton (alternatives_of known c.expression)) (range_with_len 0 (automaton_count d))
+
+abbrev pub class_parts : Description → Known → ClassItem → ClassParts
+class_parts d known c = record { name = c.name; line = c.line; latency = c.latency; condition = c.condition; lists = lists_of d known c }
+
+-- the numbers of classes by their names
+abbrev pub class_numbers : Description → List (List ℕ) → List ℕ
+class_numbers d names = filter_map (λ name. place_of name (class_names d)) names
+
+abbrev pub bypass_parts : Description → BypassItem → BypassParts
+bypass_parts d b = record { number = b.number; outs = class_numbers d b.outs; ins = class_numbers d b.ins }
+
+-- the attributes with their values, in the order of the file
+abbrev pub attributes_of : Description → List (List ℕ × List (List ℕ))
+attributes_of d = map (λ a. (a.name, a.values)) d.attributes
+
+-- their defaults
+abbrev pub defaults_of : Description → List (List ℕ × List ℕ)
+defaults_of d = map (λ a. (a.name, a.fallback)) d.attributes

@@ -1,0 +1,3 @@
+-- The texts of reservation expressions.
+pub mod ExpressionTexts
+pub mod ExpressionSteps

@@ -1,0 +1,3 @@
+-- The two rules on a class with units of several automata.
+pub mod Rules
+pub mod Examples

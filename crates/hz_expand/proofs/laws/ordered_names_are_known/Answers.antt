@@ -1,5 +1,0 @@
-use Rattle.hz_expand.proofs.Unwinding.{unfolded}
-use Rattle.hz_expand.proofs.laws.ordered_names_are_known.Goals as goal
-
-pub returns : goal.returns
-returns c = λ d order formed told ordered. unfolded d told formed order ordered

@@ -1,4 +1,0 @@
-pub mod Shape
-pub mod Tables
-pub mod Past
-pub mod Answers

@@ -1,9 +1,0 @@
-use Rattle.std.proofs.Common.{arith}
-use Rattle.hz_extent_model.proofs.TablesSizes.{tables_most}
-use Rattle.hz_extent_model.proofs.tables_texts_are_short.Goals as goal
-
-pub returns-clause-size : goal.returns-clause-size
-returns-clause-size c = λ bytes read d known m reports forms says is machine hidden. tables_most d known m reports is bytes read forms says machine hidden
-
-pub returns-clause-limit : goal.returns-clause-limit
-returns-clause-limit c = λ bytes read d known m reports few forms says is machine hidden. omega (arith, few, tables_most d known m reports is bytes read forms says machine hidden)

@@ -1,5 +1,0 @@
-use Rattle.hz_mdread_model.proofs.DescriptionLaws.{every_list}
-use Rattle.hz_mdread_model.proofs.descriptions.description_of_every_list_of_forms.Goals as goal
-
-pub returns : goal.returns
-returns c = every_list

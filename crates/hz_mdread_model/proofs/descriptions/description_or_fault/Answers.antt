@@ -1,5 +1,0 @@
-use Rattle.hz_mdread_model.proofs.DescriptionLaws.{description_or_fault}
-use Rattle.hz_mdread_model.proofs.descriptions.description_or_fault.Goals as goal
-
-pub returns : goal.returns
-returns c = description_or_fault

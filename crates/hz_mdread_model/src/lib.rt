@@ -1,4 +1,0 @@
-//! The grammar of descriptions, and its laws.
-#![tactic(auto)]
-
-pub mod descriptions;

@@ -1,5 +1,0 @@
-pub mod Listing
-pub mod NamesAt
-pub mod NameLaws
-pub mod UnknownLaws
-pub mod SoundLaws

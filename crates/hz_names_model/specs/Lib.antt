@@ -1,2 +1,0 @@
-pub mod NameFaults
-pub mod UnknownNames

@@ -1,4 +1,0 @@
-//! The pipeline that a description means.
-#![tactic(auto)]
-
-pub mod pipelines;

@@ -1,8 +1,0 @@
-pub mod LeavingLaws
-pub mod StepLaws
-pub mod PathLaws
-pub mod WordLaws
-pub mod CountLaws
-pub mod SubsetLaws
-pub mod AutomatonLaws
-pub mod LimitLaws

@@ -1,6 +1,0 @@
-pub mod Reach
-pub mod Counts
-pub mod Columns
-pub mod Built
-pub mod Graphs
-pub mod Subsets

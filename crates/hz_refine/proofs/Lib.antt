@@ -1,6 +1,0 @@
-pub mod ListLaws
-pub mod TableLaws
-pub mod ArrowLaws
-pub mod ApartLaws
-pub mod MoveLaws
-pub mod BucketLaws

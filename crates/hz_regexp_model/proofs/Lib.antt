@@ -1,5 +1,0 @@
-pub mod ExpressionTextsEnd
-pub mod ExpressionTextsFormed
-pub mod ExpressionTextsFront
-pub mod ExpressionTextsLaws
-pub mod ExpressionTextsRest

@@ -1,5 +1,0 @@
-use Rattle.hz_regexp_model.proofs.ExpressionTextsLaws.{every_text}
-use Rattle.hz_regexp_model.proofs.expression_texts.expression_of_every_text.Goals as goal
-
-pub returns : goal.returns
-returns c = every_text

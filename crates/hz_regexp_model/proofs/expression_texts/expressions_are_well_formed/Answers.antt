@@ -1,5 +1,0 @@
-use Rattle.hz_regexp_model.proofs.ExpressionTextsLaws.{well_formed}
-use Rattle.hz_regexp_model.proofs.expression_texts.expressions_are_well_formed.Goals as goal
-
-pub returns : goal.returns
-returns c = well_formed

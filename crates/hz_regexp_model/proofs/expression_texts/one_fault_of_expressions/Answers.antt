@@ -1,5 +1,0 @@
-use Rattle.hz_regexp_model.proofs.ExpressionTextsLaws.{one_fault}
-use Rattle.hz_regexp_model.proofs.expression_texts.one_fault_of_expressions.Goals as goal
-
-pub returns : goal.returns
-returns c = one_fault

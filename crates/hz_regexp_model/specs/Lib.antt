@@ -1,2 +1,0 @@
-pub mod ExpressionTexts
-pub mod ExpressionSteps

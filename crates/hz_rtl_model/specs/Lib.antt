@@ -1,4 +1,0 @@
-pub mod Operators
-pub mod Blocks
-pub mod States
-pub mod Limits

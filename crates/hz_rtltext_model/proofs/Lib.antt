@@ -1,3 +1,0 @@
-pub mod FirstWrongs
-pub mod Numbers
-pub mod Listings

@@ -1,8 +1,0 @@
-use Rattle.hz_rtltext_model.proofs.Listings.{same_listing, same_text}
-use Rattle.hz_rtltext_model.proofs.laws.one_listing.Goals as goal
-
-pub returns-clause-listing : goal.returns-clause-listing
-returns-clause-listing c = same_listing
-
-pub returns-clause-text : goal.returns-clause-text
-returns-clause-text c = same_text

@@ -1,5 +1,0 @@
-pub mod Operands
-pub mod Values
-pub mod BlockForms
-pub mod StateForms
-pub mod StateTexts

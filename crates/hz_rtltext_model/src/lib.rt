@@ -1,4 +1,0 @@
-//! The texts of blocks and states, as judgements over forms, and their laws.
-#![tactic(auto)]
-
-pub mod laws;

@@ -1,6 +1,0 @@
-pub mod OneSchedule
-pub mod SameSchedules
-pub mod TraceLaws
-pub mod StuckLaws
-pub mod SlotLaws
-pub mod GrowLaws

@@ -1,5 +1,0 @@
-use Rattle.hz_sched_model.proofs.OneSchedule.{one_schedule}
-use Rattle.hz_sched_model.proofs.laws.one_schedule_is_legal_and_greedy.Goals as goal
-
-pub returns : goal.returns
-returns g c = λ graph s t legal greedy lawful eager. one_schedule g.A.Acceptance.accepts graph s t legal greedy lawful eager

@@ -1,7 +1,0 @@
-pub mod ToldLaws
-pub mod LeftLaws
-pub mod GreedyLaws
-pub mod BehindLaws
-pub mod CostLaws
-pub mod GraphTotal
-pub mod ScheduleTotal

@@ -1,4 +1,0 @@
-pub mod FirstLaws
-pub mod GraphLaws
-pub mod BlockLaws
-pub mod FaultLaws

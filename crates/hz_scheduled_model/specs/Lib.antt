@@ -1,2 +1,0 @@
-pub mod BlockGraphs
-pub mod BlockSchedules

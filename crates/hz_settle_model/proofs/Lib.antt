@@ -1,4 +1,0 @@
-pub mod RunLaws
-pub mod PartLaws
-pub mod SettleLaws
-pub mod DescribedLaws

@@ -1,5 +1,0 @@
-use Rattle.hz_settle_model.proofs.SettleLaws.{machine_settles}
-use Rattle.hz_settle_model.proofs.compiled_machines_settle.Goals as goal
-
-pub returns : goal.returns
-returns c = λ options automata classes bypasses attributes m reports kept machine compiled. machine_settles options automata classes bypasses attributes kept m reports machine compiled

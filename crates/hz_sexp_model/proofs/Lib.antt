@@ -1,3 +1,0 @@
-pub mod FormsNext
-pub mod FormsLaws
-pub mod FormsFront

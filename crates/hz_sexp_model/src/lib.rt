@@ -1,4 +1,0 @@
-//! The grammar of forms, and its laws.
-#![tactic(auto)]
-
-pub mod forms;

@@ -1,8 +1,0 @@
-pub mod ColumnLaws
-pub mod WordLaws
-pub mod LeftLaws
-pub mod PartLaws
-pub mod MachineLaws
-pub mod OrderLaws
-pub mod ShownLaws
-pub mod ReportLaws

@@ -1,8 +1,0 @@
-use Rattle.std.proofs.Common.{drop}
-use Rattle.hz_check_model.specs.CountingOrder.{classes_of}
-use Rattle.hz_mdread.specs.Shape.{description}
-use Rattle.hz_split.proofs.BrokenClasses.{AreBrokenAmong}
-use Rattle.hz_split.proofs.breaking.broken_rules.Given as goal
-
-abbrev pub invariant-loop-i : goal.invariant-loop-i
-invariant-loop-i l = AreBrokenAmong (description l.desc) (drop l.i (classes_of (description l.desc))) l.broken

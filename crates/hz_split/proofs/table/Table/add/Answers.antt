@@ -1,5 +1,0 @@
-use Rattle.hz_split.proofs.TableLemmas.{adds_from_updates}
-use Rattle.hz_split.proofs.table.Table.add.Goals as goal
-
-pub returns : goal.returns
-returns c = adds_from_updates c.args.self.now.names c.insert.new.self _ c.args.name.now c.args.habits c.in_ok-name.ensures c.in_ok-insert.ensures.updates

@@ -1,0 +1,3 @@
+pub mod LayLaws
+pub mod PackedLaws
+pub mod RowLaws

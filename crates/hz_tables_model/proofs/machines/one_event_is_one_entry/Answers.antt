@@ -1,8 +1,0 @@
-use Rattle.hz_tables_model.proofs.MachineLaws.{issue_alone, advance_alone}
-use Rattle.hz_tables_model.proofs.machines.one_event_is_one_entry.Goals as goal
-
-pub returns-clause-issue : goal.returns-clause-issue
-returns-clause-issue c = issue_alone
-
-pub returns-clause-advance : goal.returns-clause-advance
-returns-clause-advance c = advance_alone

@@ -1,5 +1,0 @@
-pub mod StateLimits
-pub mod Tables
-pub mod Apart
-pub mod Orders
-pub mod Machines

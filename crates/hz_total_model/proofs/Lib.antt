@@ -1,8 +1,0 @@
-pub mod NumberingLaws
-pub mod NumberedTables
-pub mod ApartTold
-pub mod LeastTables
-pub mod AscendingLists
-pub mod AutomatonTotal
-pub mod PartTotal
-pub mod MachineTotal

@@ -1,4 +1,0 @@
-//! The grammar of traces, and its laws.
-#![tactic(auto)]
-
-pub mod traces;

@@ -1,6 +1,0 @@
-use Rattle.hz_unfold.specs.Walks.{lists_of}
-use Rattle.hz_unfold.proofs.Turning.{IsTurnedBelow}
-use Rattle.hz_unfold.proofs.circle.turned.Given as goal
-
-abbrev pub invariant-loop-node : goal.invariant-loop-node
-invariant-loop-node l = IsTurnedBelow (lists_of l.edges) (lists_of l.starts.items) l.node
