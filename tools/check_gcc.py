@@ -75,7 +75,7 @@ def drawn_from(own, shared):
 
 
 def pipelines(reader, main):
-    """The files of each pipeline of a target: those with classes, joined where one takes units from another."""
+    """The files of each pipeline of a target: those with classes, joined if one takes units from another."""
     files = collections.defaultdict(list)
     for item in reader.items(main, True):
         files[item.place.file].append(item)
@@ -161,10 +161,10 @@ def summary(title, found):
 
 def words():
     parser = argparse.ArgumentParser(prog="check_gcc.py", description=__doc__)
-    parser.add_argument("--source", default=SOURCES, help="a GCC source, a tar file or a folder; else " + SOURCES)
+    parser.add_argument("--source", default=SOURCES, help="a GCC source, a tar file or a folder; if it is not given, " + SOURCES)
     parser.add_argument("--seconds", type=int, default=300, help="how long hz may take for one description")
     parser.add_argument("hz")
-    parser.add_argument("targets", nargs="*", help="back ends; all where none is named")
+    parser.add_argument("targets", nargs="*", help="back ends; all if none is named")
     return parser.parse_args()
 
 

@@ -1,7 +1,7 @@
 #!/usr/bin/env python3
-"""Refuses memory to hz, one request at a time, from the first to the last, on each command. Each run has to end with status 5
-and the line `memory`, with status 5 and nothing while the words are still got, or with the command's own status and text; the first and the
-second have to come."""
+"""Refuses memory to hz, one request at a time, from the first to the last, on each command. Each run must end in one of three ways:
+with status 5 and the line `memory`, with status 5 and nothing while the words are still got, or with the command's own status and text.
+The first two must occur."""
 import argparse
 import os
 import subprocess
@@ -58,7 +58,7 @@ EXCHANGE = """\
 (insn 10 (set (mem (const_int 8)) (reg 1)) (set_attr "type" "store"))
 """
 
-# what is shown, the command, the texts of its files, the status and the text, and the words behind the files
+# what is shown, the command, the texts of its files, the status and the text, and the words after the files
 ROWS = (
     (
         "a refused port",
@@ -127,7 +127,7 @@ class Refuser:
         self.folder = folder
 
     def run(self, words, number):
-        """How hz ends where the request of this number is refused, how many it made, and whether one was refused."""
+        """How hz ends if the request of this number is refused, how many it made, and whether one was refused."""
         if os.path.exists(self.report):
             os.remove(self.report)
         given = {"LD_PRELOAD": self.library, "REFUSE_REQUEST": str(number), "REFUSE_REPORT": self.report}
@@ -170,7 +170,7 @@ def check(refuser, row, most):
     good = True
     for number in range(1, requests + 1):
         ended, _, refused = refuser.run(words, number)
-        # once the words are got, want of memory is told
+        # once the words are got, want of memory is reported
         late = ended == NO_WORDS and number > counts[NO_WORDS] + 1
         if not refused or late or ended not in counts:
             print(f"{shown}: request {number} of {requests} refused: {refused}, {ended}")
@@ -195,7 +195,7 @@ def main():
         library = os.path.join(folder, "refuse_memory.so")
         subprocess.run(["cc", "-O2", "-shared", "-fPIC", "-o", library, source], check=True)
         refuser = Refuser(os.path.abspath(given.hz), library, folder)
-        # all rows are shown, also behind one that is wrong
+        # all rows are shown, also after one that is wrong
         good = [check(refuser, row, given.most) for row in ROWS]
     return 0 if all(good) else 1
 

@@ -1,6 +1,6 @@
 #!/usr/bin/env python3
 """Compares `hz compile` and then `hz walk` with `hz replay`: status and text are the same, on every trace of the examples
-and on traces of descriptions that a seed makes. Where a description is not compiled, `compile` and `replay` say the same."""
+and on traces of descriptions that a seed makes. If a description is not compiled, `compile` and `replay` answer the same."""
 import argparse
 import collections
 import glob
@@ -42,7 +42,7 @@ class Maker:
         return "(" + "|".join(self.random.sample(own, self.random.randint(2, len(own)))) + ")"
 
     def expression(self, units):
-        """Parts beside one another and behind one another; in one automaton also alternatives of several lengths."""
+        """Parts beside one another and after one another; in one automaton also alternatives of several lengths."""
         cycles = []
         for _ in range(self.random.randint(1, 4)):
             beside = "+".join(self.part(units) for _ in range(self.random.randint(1, 2)))
@@ -144,8 +144,8 @@ def main():
             if check.wrong:
                 print(text)
                 break
-    told = ", ".join(f"{count} of status {status}" for status, count in sorted(check.seen.items()))
-    print(f"check-walk: {sum(check.seen.values())} answers, {told}; {check.wrong} differ")
+    counts = ", ".join(f"{count} of status {status}" for status, count in sorted(check.seen.items()))
+    print(f"check-walk: {sum(check.seen.values())} answers, {counts}; {check.wrong} differ")
     return 1 if check.wrong or not {0, 1, 2} <= set(check.seen) else 0
 
 

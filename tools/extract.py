@@ -1,7 +1,7 @@
 #!/usr/bin/env python3
 """Takes the pipeline out of a port's machine descriptions and writes it in the language that hz reads.
 
-What hz's profile cannot say is changed, and each change is told on standard error with its file, line and kind.
+What hz's profile cannot say is changed. Each change is reported on standard error with its file, line and kind.
 Nothing here is proved: the proofs begin at the text that hz reads.
 """
 import argparse
@@ -13,8 +13,8 @@ from extraction import changes, items, merging
 from extraction.forms import Fault, read_file
 from extraction.shared import needed
 
-EPILOG = """FILE.md, --defs and --target may stand together; of --defs only what the others need is taken. The status is 0,
-or 2 where an input cannot be read; then nothing is written."""
+EPILOG = """FILE.md, --defs and --target may be given together. Of --defs only what the others need is taken. The status is 0,
+or 2 if an input cannot be read; then nothing is written."""
 
 
 class Reader:
@@ -61,7 +61,7 @@ def extract(reader, files, defs=(), targets=(), merge=False):
 
 
 def written(taken, sources):
-    """The text of items, each behind the file and line that it comes from."""
+    """The text of items, each after a comment with the file and line that it comes from."""
     lines = [f"; Taken out of {', '.join(sources)} by tools/extract.py.", ""]
     for item in taken:
         comment = "; ".join([str(item.place)] + item.notes)

@@ -1,6 +1,6 @@
 #!/bin/sh
-# Tries tools/extract.py on the machine descriptions of tools/test: what it tells and writes, what hz answers to that,
-# and that an input which cannot be read ends with a message at its line and writes nothing.
+# Tries tools/extract.py on the machine descriptions of tools/test: what it reports and writes, and what hz answers to that.
+# An input that cannot be read ends with a message at its line, and nothing is written.
 hz=$(cd "$(dirname "$1")" && pwd)/$(basename "$1")
 tools=$(cd "$(dirname "$0")" && pwd)
 work=$(mktemp -d) || exit 2
@@ -16,14 +16,14 @@ wrong() {
     bad=1
 }
 
-# extracts OUT WORDS..: OUT.md is written, with the changes of OUT.changes told and the text of OUT.written, if it is there
+# extracts OUT WORDS..: OUT.md is written, with the changes of OUT.changes reported and the text of OUT.written, if it is there
 extracts() {
     out=$1
     shift
-    python3 "$tools/extract.py" -o "$out.md" "$@" 2> told || wrong "extract.py $*: status $?"
-    diff "$out.changes" told || wrong "extract.py $*: other changes"
+    python3 "$tools/extract.py" -o "$out.md" "$@" 2> reported || wrong "extract.py $*: status $?"
+    diff "$out.changes" reported || wrong "extract.py $*: other changes"
     [ ! -e "$out.written" ] || diff "$out.written" "$out.md" || wrong "extract.py $*: another text"
-    echo "extract.py $*: $(tail -n 1 told)"
+    echo "extract.py $*: $(tail -n 1 reported)"
 }
 
 # replays OUT ANSWER EVENT..: hz answers so to the events on OUT.md
@@ -42,10 +42,10 @@ refuses() {
     want=$1
     printf '%b' "$2" > bad.md
     shift 2
-    told=$(python3 "$tools/extract.py" -o none.md "$@" 2>&1)
+    reported=$(python3 "$tools/extract.py" -o none.md "$@" 2>&1)
     status=$?
-    [ "$status" = 2 ] && [ "$told" = "$want" ] && [ ! -e none.md ] || wrong "extract.py $*: $status, '$told', wanted '$want'"
-    echo "extract.py $*: $told"
+    [ "$status" = 2 ] && [ "$reported" = "$want" ] && [ ! -e none.md ] || wrong "extract.py $*: $status, '$reported', wanted '$want'"
+    echo "extract.py $*: $reported"
 }
 
 extracts core --defs quill.md quill-core.md
@@ -54,7 +54,7 @@ replays core 'refused line 2 q1_load' 'issue q1_alu' 'issue q1_load'
 replays core 'refused line 3 q1_alu' 'issue q1_div' 'advance 9' 'issue q1_alu'
 replays core 'accepted 2 issues 10 cycles' 'issue q1_div' 'advance 10' 'issue q1_alu'
 
-python3 "$tools/extract.py" -o apart.md quill-vector.md 2> told || wrong "apart: status $?"
+python3 "$tools/extract.py" -o apart.md quill-vector.md 2> reported || wrong "apart: status $?"
 answer=$("$hz" replay apart.md /dev/null)
 case $answer in
     fault*' AlternationOfTwoAutomata qv_simple') echo "hz on apart.md: $answer" ;;
@@ -65,9 +65,9 @@ replays vector 'refused line 3 qv_simple' 'issue qv_simple' 'issue qv_simple' 'i
 replays vector 'refused line 2 qv_pair' 'issue qv_simple' 'issue qv_pair'
 replays vector 'accepted 3 issues 1 cycles' 'issue qv_pair' 'advance 1' 'issue qv_simple' 'issue qv_simple'
 
-python3 "$tools/extract.py" -o port.md --merge --target quill.md 2> told || wrong "port: status $?"
-[ "$(tail -n 1 told)" = 'port.md: 8 classes, 15 changes: 4 attribute, 4 condition, 1 guard, 1 merge, 1 option, 1 query, 3 wildcard' ] ||
-    wrong "port: $(tail -n 1 told)"
+python3 "$tools/extract.py" -o port.md --merge --target quill.md 2> reported || wrong "port: status $?"
+[ "$(tail -n 1 reported)" = 'port.md: 8 classes, 15 changes: 4 attribute, 4 condition, 1 guard, 1 merge, 1 option, 1 query, 3 wildcard' ] ||
+    wrong "port: $(tail -n 1 reported)"
 replays port 'accepted 4 issues 0 cycles' 'issue q1_load' 'issue q1_alu' 'issue qv_simple' 'issue qv_simple'
 
 refuses 'bad.md:2: a string that is not closed' '\n(define_automaton "a)\n\n' bad.md
@@ -76,14 +76,14 @@ refuses 'bad.md:3: `]` closes nothing' '(define_insn "x"\n [(use (reg 1))]\n ])'
 refuses 'bad.md:2: a comment that is not closed' '; one\n /* two /* *\\/\n' bad.md
 refuses 'bad.md:3: a brace that is not closed' '(define_insn "x"\n ""\n { if (1) \\} {} )\n' bad.md
 refuses 'bad.md:1: a brace that closes nothing' '(define_insn })' bad.md
-refuses 'bad.md:2: this stands outside all forms' '(include "x")\nx' bad.md
+refuses 'bad.md:2: this is outside all forms' '(include "x")\nx' bad.md
 refuses 'bad.md:2: operand 2 of define_insn_reservation is no number' '\n(define_insn_reservation "x" many\n (const_int 1) "u")' bad.md
 refuses 'bad.md:1: operand 2 of define_reservation is no string' '(define_reservation "x")' bad.md
 refuses 'bad.md:2: missing.md: No such file or directory' '\n(include "missing.md")' --target bad.md
 refuses 'bad.md:1: bad.md includes itself' '(include "bad.md")' --target bad.md
 refuses 'missing.md: No such file or directory' '' bad.md missing.md
 refuses 'bad.md:2: `|` continues no expression' '\n(define_reservation "r" "u||u")' --merge bad.md
-told=$(python3 "$tools/extract.py" -o core.md core.md 2>&1)
-[ $? = 2 ] && [ "$told" = 'core.md: an input is not written over' ] || wrong "own input: $told"
+reported=$(python3 "$tools/extract.py" -o core.md core.md 2>&1)
+[ $? = 2 ] && [ "$reported" = 'core.md: an input is not written over' ] || wrong "own input: $reported"
 
 exit $bad

@@ -1,4 +1,4 @@
-"""Changes of what hz's profile cannot say, one pass for each kind, each change told."""
+"""Changes of what hz's profile cannot say, one pass for each kind, each change reported."""
 import dataclasses
 import fnmatch
 import re
@@ -131,7 +131,7 @@ def named_attributes(items):
 
 
 def add_attributes(items, sources, told):
-    """Each attribute that a condition names is defined, with the values that stand in the files, before all else."""
+    """Each attribute that a condition names is defined, with the values in the files, before all else."""
     defined = {item.name: item for item in of_kind(reversed(sources), Attribute)}
     enumerations = {item.name: item.names for item in of_kind(sources, Values)}
     values, first = named_attributes(items)

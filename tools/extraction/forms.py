@@ -15,7 +15,7 @@ class Place:
 
 
 class Fault(Exception):
-    """An input that cannot be read: where, and what is wrong there."""
+    """An input that cannot be read: its place, and what is wrong there."""
 
     def __init__(self, place, what):
         super().__init__(f"{place}: {what}")
@@ -26,11 +26,11 @@ class Text(str):
 
 
 class Block(str):
-    """Embedded C between braces, as it stands."""
+    """Embedded C between braces, as it is written."""
 
 
 class Form(list):
-    """A list or a vector: its operands, its first bracket and the place where it begins."""
+    """A list or a vector: its operands, its first bracket and the place at which it begins."""
 
     def __init__(self, place, bracket):
         super().__init__()
@@ -59,7 +59,7 @@ ESCAPES = {"\\\n": "", '\\"': '"', "\\\\": "\\"}
 
 
 class Scanner:
-    """The tokens of a text. A comment ends as in C at the first `*/`, whatever stands in it."""
+    """The tokens of a text. A comment ends as in C at the first `*/`, whatever it holds."""
 
     def __init__(self, file, text):
         self.file, self.text = file, text
@@ -83,7 +83,7 @@ class Scanner:
             yield kind, start, at
 
     def block_end(self, start):
-        """Behind the brace that closes the one at `start`; a brace behind a backslash is none."""
+        """The end of the brace that closes the one at `start`; a brace after a backslash is none."""
         depth = 0
         for found in BRACE.finditer(self.text, start):
             depth += {"{": 1, "}": -1}.get(found[0], 0)
@@ -117,14 +117,14 @@ def read_forms(file, text):
         elif open_forms:
             open_forms[-1].append(scanner.leaf(kind, start, end))
         else:
-            raise Fault(scanner.place(start), "this stands outside all forms")
+            raise Fault(scanner.place(start), "this is outside all forms")
     if open_forms:
         raise Fault(open_forms[-1].place, f"`{open_forms[-1].bracket}` is not closed")
     return top
 
 
 def read_file(path, place=None):
-    """The top forms of a file; where it cannot be opened the fault is at the form that includes it."""
+    """The top forms of a file; if it cannot be opened the fault is at the form that includes it."""
     try:
         with open(path, encoding="latin-1", newline="\n") as file:
             return read_forms(path, file.read())

@@ -11,7 +11,7 @@ REPEAT = re.compile(r"\*\s*\d+")
 
 
 def string(form, at):
-    """The string at a place of a form; parentheses may stand round it."""
+    """The string at a place of a form; parentheses may be round it."""
     value = form[at] if at < len(form) else None
     if isinstance(value, Form) and len(value) == 1:
         value = value[0]
@@ -44,19 +44,19 @@ def names_in(expression):
 
 
 def listed(given):
-    """A string of names, over lines where it is long."""
+    """A string of names, over several lines if it is long."""
     return quoted(", ".join(given))
 
 
 def quoted(text):
-    """A string in which white space says nothing, over lines where it is long."""
+    """A string in which white space says nothing, over several lines if it is long."""
     lines = textwrap.wrap(" ".join(text.split()), 100, break_long_words=False, break_on_hyphens=False)
     return '"' + "\n    ".join(lines).replace("\\", "\\\\").replace('"', '\\"') + '"'
 
 
 @dataclasses.dataclass
 class Item:
-    """A form of a pipeline: where it stands, and notes on what was changed in it."""
+    """A form of a pipeline: its place, and notes on what was changed in it."""
     place: Place
     notes: typing.List[str] = dataclasses.field(default_factory=list, init=False)
 
@@ -183,7 +183,7 @@ class Values(Item):
 
 @dataclasses.dataclass
 class Attribute(Item):
-    """An attribute; its values are those of an enumeration where that is named. No default is one that hz can't say."""
+    """An attribute; its values are those of an enumeration if that is named. No default is one that hz can't say."""
     name: str
     values: typing.List[str]
     enumeration: typing.Optional[str]
@@ -202,7 +202,7 @@ def condition_text(condition):
 
 
 def enumeration_values(form):
-    """The values of a `define_enum`, which stand in a vector."""
+    """The values of a `define_enum`, which are in a vector."""
     values = form[2] if len(form) > 2 else None
     if not isinstance(values, Form):
         raise Fault(form.place, "operand 2 of define_enum is no vector")
@@ -210,7 +210,7 @@ def enumeration_values(form):
 
 
 def default_in(form):
-    """The default of an attribute where it is a `const_string`, else None."""
+    """The default of an attribute if it is a `const_string`, else None."""
     default = form[3] if len(form) > 3 else None
     plain = isinstance(default, Form) and default.head() == "const_string"
     return string(default, 1) if plain else None

@@ -20,7 +20,7 @@ def is_needed(item, wanted, own):
 def needed(own_items, shared):
     """Of `shared` items, in their order, those that a pipeline needs, and what these need in turn.
 
-    A set statement is needed where one of its units is. Options are always: in a target they hold for all files.
+    A set statement is needed if one of its units is. Options are always: in a target they apply to all files.
     """
     own, wanted, chosen = defined(own_items), needs_of(own_items), {}
     grown = True

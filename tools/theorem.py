@@ -1,0 +1,332 @@
+#!/usr/bin/env python3
+"""Writes docs/THEOREM.md: the clauses of `run` in plain words, and under each the definitions that a reader must believe.
+
+It reads the sources alone, and proves nothing. A name that it cannot follow ends it with status 2, and so does a clause
+of `run` without a sentence here, or a sentence without its clause."""
+import argparse
+import collections
+import os
+import re
+import sys
+
+from contracts.naming import citations, function_clauses, laws_of, reach
+from contracts.sources import Definition, Library, TOP, Unreadable
+
+PAGE = "docs/THEOREM.md"
+RUN = ("crates/hz_tool/src/top.rt", "run")
+ANSWERS = "Rattle.hz_answer_model.specs.Answers"
+COMMANDS = ("compile", "replay", "walk", "schedule", "eval", "drill")
+
+# What `run` asks of its caller, in plain words.
+REQUIRED = {
+    "files": "The count of failed reads has room to rise by one.",
+    "out": "So has the count of failed writes.",
+}
+
+# The clauses of `run` in plain words, in the order of the page.
+ENSURED = {
+    "exact": "This is the main clause. By the rules, the words and what the files hold have an answer: a status and a text. `run` gives this"
+             " status, or 5 for want of memory. The clause applies if the files are known, no write failed, and no read failed but the"
+             " opening of a name that is not there. Laws say that there is exactly one answer (`some_answer`, `one_answer`).",
+    "complete": "Under the same premises, the status and what is written are that answer, or the status is 5.",
+    "range": "The status is a number from 0 to 7.",
+    "sink": "The status is 7 exactly if a write failed.",
+    "file": "The status is 6 exactly if a read failed and no write did.",
+    "lacks": "If only the opening of a name that is not there can fail, and a read failed, then the answer by the rules is status 6."
+             " So a file that is there is never reported as missing.",
+    "rises": "The count of failed reads never falls.",
+    "fails": "The count of failed writes never falls.",
+    "words": "The status is 4 only if the words are no command.",
+    "usage_or_memory": "If the words are no command and no write failed, the status is 4, or 5 for want of memory.",
+    "usage": "With status 4 the usage line is written, and nothing else.",
+    "memory": "With status 5 the line `memory` is written, and nothing else.",
+    "file_line": "With status 6 one line is written. It names a file of the command.",
+    "cut": "With status 7 only the front of a text is written, and the whole text is longer than the room for it. The text is an answer by"
+           " the rules, the line `memory`, or after a failed read the line of a file.",
+    "tables": "With status 0 `compile` writes tables of the machine that the description means. `walk` on these tables answers every trace"
+              " as `replay` does on the description, with the same status and text. This applies to tables within their limit of bytes.",
+    "schedules": "With status 0 `schedule` writes a schedule that keeps its block: each instruction once, no sooner than latencies and"
+                 " bypasses allow. `replay` accepts it. From every state it leaves what the order of the source leaves.",
+    "drills": "With status 0 `drill` reports a trace that is drawn by what the description accepts. The description accepts it, and so does"
+              " `replay`. The states that it reports are those that the trace leaves in the tables that `compile` writes.",
+}
+
+INTRODUCTION = """# What one must read to believe `run`
+
+`python3 tools/theorem.py` makes this page from the sources, and the gate compares it. Do not edit it.
+
+The program `hz` calls one function, `run`. Its contract is all that is promised of the program. The toolchain checks that the code keeps
+the contract, so nobody needs to read code or proofs. A reader judges whether the contract says the right thing. For that one reads:
+
+1. the clauses of `run`: each is below under its name, in plain words and then as the source has it;
+2. the definitions that a clause names, those that these name, and so on. Each is listed once, under the first clause that needs it.
+
+Read the lists from top to bottom: what is used comes before what uses it. Hold each definition against [RULES.md](RULES.md) and
+[FORMATS.md](FORMATS.md); [GLOSSARY.md](GLOSSARY.md) has the words. `name 10-12` means lines 10 to 12 of the file. Comments and empty lines
+are not counted."""
+
+SIGNS = """## The words of a clause
+
+| in a clause | means |
+|---|---|
+| `→`, `×`, `⊎`, `↔`, `≡` | if .. then, and, or, exactly if, equals |
+| `(x : A) → P`, `(x : A) × P` | P for every x, P for some x |
+| `.old`, `.new`, `result` | before the call, after it, and the status that it gives |
+| `F.held` | what the files hold: for each name its bytes, or none |
+| `F.steady` | only the opening of a name that is not held can fail |
+| `F.faults`, `S.faults` | how many reads and how many writes failed so far; an opening counts as a read |
+| `S.written`, `S.room` | what was written so far, and how many bytes still fit |
+| `ForSome v (λ x. P)` | P of x, if v is known to be x; nothing otherwise |
+| `Answer words held status text` | by the rules, these words over these files have this status and this text |
+
+Files in memory are known: contracts have what they hold. A clause that begins with `ForSome (F.held ..)` is about known files, and what is
+written is said of known sinks. The host's files and standard output are not known: no contract can have their bytes. `run` is the same code
+for every kind of files and sinks; [GUARANTEES.md](GUARANTEES.md) says what is proved of it over the host's."""
+
+
+class Theorem:
+    """The clauses of `run`, and what each needs."""
+
+    def __init__(self):
+        self.library = Library()
+        clauses = function_clauses(self.library, *RUN)
+        self.asked = self.named(clauses, "requires", REQUIRED)
+        self.promised = self.named(clauses, "ensures", ENSURED)
+        self.needs = {name: reach(self.library, self.promised[name].cited) for name in ENSURED}
+        self.all = set().union(*(items for items, _ in self.needs.values()))
+        self.models = [crate for crate in self.library.crates if crate.endswith(("_model", "_laws"))]
+        self.laws = laws_of(self.library, self.models)
+        self.order = self.order_of_files()
+
+    @staticmethod
+    def named(clauses, word, sentences):
+        """The clauses of a kind by their names, which are those that have sentences."""
+        found = {clause.name: clause for clause in clauses if clause.word == word}
+        for name in found:
+            if name not in sentences:
+                raise Unreadable(f"the clause `{name}` of run has no sentence in tools/theorem.py")
+        for name in sentences:
+            if name not in found:
+                raise Unreadable(f"the sentence of `{name}` in tools/theorem.py is of no clause of run")
+        return found
+
+    def order_of_files(self):
+        """The files that are reached: crate by crate, and before each file those that it uses."""
+        uses = collections.defaultdict(set)
+        for item in self.all:
+            uses[item.source.path].update(cited.source.path for cited in citations(self.library, item) if isinstance(cited, Definition))
+        paths = [path for crate in self.library.crates for folder, ending in (("specs", ".antt"), ("src", ".rt"))
+                 for path in self.library.files(crate, folder, ending)]
+        rank = {path: place for place, path in enumerate(paths)}
+        order, seen = [], set()
+
+        def visit(path):
+            if path not in seen:
+                seen.add(path)
+                for used in sorted(uses[path], key=rank.get):
+                    visit(used)
+                order.append(path)
+
+        for path in sorted(uses, key=rank.get):
+            visit(path)
+        return order
+
+    def model_files(self):
+        """The files of definitions of the crates of definitions and laws."""
+        paths = [path for crate in self.models for path in self.library.files(crate, "specs", ".antt")]
+        return [source for source in map(self.library.source, paths) if source.definitions]
+
+
+def size(items):
+    """How many definitions, lines and files."""
+    lines = set().union(*(item.to_read() for item in items)) if items else set()
+    return len(items), len(lines), len({item.source.path for item in items})
+
+
+def in_words(counts):
+    """Definitions, lines and files in words."""
+    parts = [f"{number:,} {word}{'' if number == 1 else 's'}" for number, word in zip(counts, ("definition", "line", "file"))]
+    return f"{parts[0]} with {parts[1]} in {parts[2]}"
+
+
+def crate_of(path):
+    """The crate of a file."""
+    return path.split("/")[1]
+
+
+def link(path):
+    """A link to a file, by its folder and name inside its crate."""
+    return f"[{'/'.join(path.split('/')[3:]).rsplit('.', 1)[0]}](../{path})"
+
+
+def table(head, rows):
+    """A table of Markdown."""
+    return ["| " + " | ".join(head) + " |", "|" + "---|" * len(head)] + ["| " + " | ".join(map(str, row)) + " |" for row in rows]
+
+
+def places_of(items):
+    """Definitions of one file by name and lines."""
+    return ", ".join(f"`{item.name}` {item.place()}" for item in sorted(items, key=lambda item: min(item.numbers())))
+
+
+def by_file(items):
+    """Definitions by their files."""
+    files = collections.defaultdict(list)
+    for item in items:
+        files[item.source.path].append(item)
+    return files
+
+
+def listed(theorem, items):
+    """Definitions by crate and file, in the order of reading."""
+    files, rows = by_file(items), collections.OrderedDict()
+    for path in theorem.order:
+        if path in files:
+            rows.setdefault(crate_of(path), []).append((link(path), size(files[path])[1], places_of(files[path])))
+    lines = []
+    for crate, found in rows.items():
+        subject = theorem.library.subjects[crate]
+        lines += ["", f"`{crate}`: {subject}" if subject else f"`{crate}`", ""] + table(("file", "lines", "definitions"), found)
+    return lines
+
+
+def counts_section(theorem):
+    """How much there is to read, in all, by clause and by command."""
+    rows, before = [], set()
+    for name in ENSURED:
+        items = theorem.needs[name][0]
+        rows.append((f"[{name}](#{name})",) + size(items) + (len(items - before),))
+        before |= items
+    rows.append(("all clauses",) + size(theorem.all) + (len(theorem.all),))
+    commands = []
+    for name in COMMANDS:
+        roots = theorem.library.find(ANSWERS, "Answers" + name.capitalize())
+        commands.append((f"`{name}`",) + size(reach(theorem.library, roots)[0]))
+    lines = ["## How much there is", ""] + table(("clause", "definitions", "lines", "files", "listed there"), rows)
+    lines += ["", "Who uses one command alone needs less. This is what its case of `Answer` needs:", ""]
+    return lines + table(("command", "definitions", "lines", "files"), commands)
+
+
+def clause_section(theorem, name, before):
+    """A clause, and what it needs beyond what is listed before it."""
+    clause, items = theorem.promised[name], theorem.needs[name][0]
+    lines = ["", f"### {name}", "", ENSURED[name], "", f"Line {clause.line}:", "", "```", clause.text, "```", ""]
+    counts, new = size(items), size(items - before)
+    if not items:
+        return lines + ["It needs no definition."]
+    if new == counts:
+        return lines + [f"It needs {in_words(counts)}."] + listed(theorem, items)
+    if not new[0]:
+        return lines + [f"It needs {in_words(counts)}, all of them listed above."]
+    return lines + [f"It needs {in_words(counts)}. {new[0]} with {new[1]} lines are not listed above:"] + listed(theorem, items - before)
+
+
+def clauses_section(theorem):
+    """All clauses of `run`."""
+    lines = ["## What `run` asks", ""]
+    for name, sentence in REQUIRED.items():
+        lines.append(f"- `{name}`, line {theorem.asked[name].line}: {sentence} `{theorem.asked[name].text}`")
+    lines += ["", "## What `run` promises", "", f"The clauses are in {link(RUN[0])} of `{crate_of(RUN[0])}`."]
+    before = set()
+    for name in ENSURED:
+        lines += clause_section(theorem, name, before)
+        before |= theorem.needs[name][0]
+    return lines
+
+
+def words_section(theorem):
+    """The words of libraries that definitions use."""
+    modules = collections.defaultdict(set)
+    for word in set().union(*(words for _, words in theorem.needs.values())):
+        modules[word.module.replace("Rattle.", "", 1).replace(".specs", "", 1)].add(word.name)
+    count = sum(len(names) for names in modules.values())
+    lines = ["## Words of the toolchain", ""]
+    lines += [f"The definitions use {count} words of the toolchain's library. They are trusted, and not followed here.", ""]
+    return lines + [f"- `{module}`: " + " ".join(f"`{name}`" for name in sorted(modules[module])) for module in sorted(modules)]
+
+
+def first_sentence(path):
+    """The first sentence of the comment that a file begins with."""
+    words = []
+    with open(os.path.join(TOP, path), encoding="utf-8") as file:
+        for line in file:
+            if not line.startswith("--"):
+                break
+            words.append(line[2:].strip())
+    return re.split(r"(?<=[.:]) ", " ".join(words))[0].rstrip(".:")
+
+
+def unreached_section(theorem):
+    """The definitions that no clause reaches: whole files, and single ones."""
+    needed = [reach(theorem.library, [item for clause in law.clauses for item in clause.cited])[0] for law in theorem.laws]
+    files, others = [], []
+    for source in theorem.model_files():
+        free = [item for item in source.definitions.values() if item not in theorem.all]
+        if len(free) == len(source.definitions):
+            laws = sum(1 for items in needed if not items.isdisjoint(free))
+            files.append((f"`{crate_of(source.path)}` {link(source.path)}", len(free), laws or "none", first_sentence(source.path)))
+        elif free:
+            others.append((f"`{crate_of(source.path)}` {link(source.path)}", places_of(free)))
+    lines = ["## Definitions that no clause reaches", "", "Nobody must believe these. They are words of laws, and words to prove with.", ""]
+    lines += table(("file", "definitions", "laws that need it", "what it says"), files)
+    return lines + ["", "Single ones, in files of which a clause reaches others:", ""] + table(("file", "definitions"), others)
+
+
+def laws_section(theorem):
+    """The laws by name."""
+    lines = ["## Laws that say it again in other words", ""]
+    lines.append(f"A law is a proved statement about definitions. There are {len(theorem.laws)}. Who doubts a definition looks here for what"
+                 " follows from it. Each name has its line.")
+    crate = ""
+    for path in collections.OrderedDict.fromkeys(law.path for law in theorem.laws):
+        if crate_of(path) != crate:
+            crate = crate_of(path)
+            lines += ["", f"`{crate}`", ""]
+        lines.append(f"- {link(path)}: " + ", ".join(f"`{law.name}` {law.line}" for law in theorem.laws if law.path == path))
+    return lines
+
+
+def page():
+    """The whole page."""
+    theorem = Theorem()
+    sections = [[INTRODUCTION], counts_section(theorem), [SIGNS], clauses_section(theorem), words_section(theorem),
+                unreached_section(theorem), laws_section(theorem)]
+    return "\n\n".join("\n".join(section) for section in sections) + "\n"
+
+
+def check(made):
+    """0 if the page that is there is the one that is made; else the first line that differs is printed, and 1."""
+    path = os.path.join(TOP, PAGE)
+    there = ""
+    if os.path.exists(path):
+        with open(path, encoding="utf-8") as file:
+            there = file.read()
+    if there == made:
+        print(f"{PAGE}: as the sources say")
+        return 0
+    old, new = there.split("\n"), made.split("\n")
+    place = next((at for at, (one, other) in enumerate(zip(old, new)) if one != other), min(len(old), len(new)))
+    print(f"{PAGE}:{place + 1}: not as the sources say; make it again with `python3 tools/theorem.py > {PAGE}`")
+    print("  is:     " + (old[place] if place < len(old) else "(the end)"))
+    print("  wanted: " + (new[place] if place < len(new) else "(the end)"))
+    return 1
+
+
+def main():
+    parser = argparse.ArgumentParser(description=__doc__.split("\n", maxsplit=1)[0])
+    parser.add_argument("--check", action="store_true", help=f"compare with {PAGE}, and end with 1 if it differs")
+    words = parser.parse_args()
+    sys.stdout.reconfigure(encoding="utf-8")
+    try:
+        made = page()
+    except Unreadable as fault:
+        print(f"theorem.py: {fault}", file=sys.stderr)
+        return 2
+    if words.check:
+        return check(made)
+    sys.stdout.write(made)
+    return 0
+
+
+if __name__ == "__main__":
+    sys.exit(main())

@@ -1,0 +1,77 @@
+#!/bin/sh
+# try_deb.sh PACKAGE PROGRAM: tries a Debian package in a folder of its own, and leaves the system as it is. The package unpacks; dpkg
+# installs it; the installed program is PROGRAM and answers all installed examples; dpkg removes it, and no file is left.
+package=$(cd "$(dirname "$1")" && pwd)/$(basename "$1")
+program=$(cd "$(dirname "$2")" && pwd)/$(basename "$2")
+page=$(cd "$(dirname "$0")/.." && pwd)/man/hz.1
+work=$(mktemp -d) || exit 2
+trap 'rm -rf "$work"' EXIT
+PATH=$PATH:/usr/sbin:/sbin
+PYTHONDONTWRITEBYTECODE=1
+export PATH PYTHONDONTWRITEBYTECODE
+system=$work/system
+state=$system/var/lib/dpkg
+
+# tried WHAT COMMAND..: ends the trial with what the command writes, if it fails
+tried() {
+    what=$1
+    shift
+    "$@" > "$work/log" 2>&1 || { cat "$work/log"; echo "try_deb.sh: $what: wrong"; exit 1; }
+    echo "try_deb.sh: $what"
+}
+
+# who is not root takes fakeroot: the files of the folder get an owner there alone
+as_root=
+[ "$(id -u)" = 0 ] || as_root=fakeroot
+
+# in_folder WORDS..: dpkg, on the folder alone; a machine may leave out pages and manual pages of what it installs, the folder has all
+in_folder() {
+    $as_root dpkg --force-not-root --root="$system" --log="$work/dpkg.log" --path-include='/usr/share/*' "$@"
+}
+
+# what the package depends on counts as installed there, as on this machine
+prepare() {
+    mkdir -p "$state/info" "$state/updates" "$state/triggers" || return 1
+    : > "$state/status"
+    for needed in $(dpkg-deb -f "$package" Depends | sed 's/([^)]*)//g; s/,/ /g'); do
+        dpkg-query -s "$needed" >> "$state/status" || return 1
+        echo >> "$state/status"
+        : > "$state/info/$needed.list"
+        : > "$state/info/$needed:$(dpkg --print-architecture).list"
+    done
+}
+
+# owned: every file is root's, and nothing is outside usr
+owned() {
+    dpkg-deb -c "$package" > "$work/list" && ! grep -v ' root/root .* [.]/\(usr/.*\)\{0,1\}$' "$work/list"
+}
+
+# whole FOLDER: program and manual page are there as they are here
+whole() {
+    cmp "$program" "$1/usr/bin/hz" && gzip -dc "$1/usr/share/man/man1/hz.1.gz" | cmp - "$page" &&
+        (cd "$1" && dpkg-deb --ctrl-tarfile "$package" | tar -xOf - ./md5sums | md5sum --quiet -c)
+}
+
+# audited: dpkg has no fault to report of the package
+audited() {
+    faults=$(in_folder --audit hz) && [ -z "$faults" ] || { echo "$faults"; return 1; }
+}
+
+# gone: dpkg has the package no more, and the folder has no file of it
+gone() {
+    ! in_folder -s hz && [ -z "$(find "$system/usr" ! -type d)" ] && [ ! -e "$system/usr/share/doc/hz" ]
+}
+
+tried 'owners and places' owned
+tried 'unpack' dpkg-deb -x "$package" "$work/unpacked"
+tried 'what was unpacked' whole "$work/unpacked"
+tried 'a folder to install in' prepare
+tried 'install' in_folder --install "$package"
+tried 'what was installed' whole "$system"
+tried 'no fault, by dpkg' audited
+tried 'all examples, by the installed program' sh "$system/usr/share/doc/hz/examples/check.sh" "$system/usr/bin/hz"
+if command -v python3 > /dev/null; then
+    tried 'extract.py' python3 "$system/usr/share/hz/tools/extract.py" -o "$work/out.md" "$system/usr/share/doc/hz/examples/divider/machine.md"
+fi
+tried 'remove' in_folder --purge hz
+tried 'nothing is left' gone
