@@ -35,7 +35,8 @@ use Rattle.hz_acceptance_model.proofs.Traces.TraceLaws.{trace_of_every_text, cou
 use Rattle.hz_answer_model.specs.Texts.{file_line, limit_line, fault_line, usage_line, refused_line, accepted_line, states_line}
 use Rattle.hz_base_model.specs.Forms.Trees.{Trees}
 use Rattle.hz_words_model.specs.Words.{Order, compile, replay, walk, schedule, eval, drill, order_of}
-use Rattle.hz_answer_model.specs.Phases.{Held, Says, Next, Opens, HasForms}
+use Rattle.hz_base_model.specs.Names.{Held}
+use Rattle.hz_answer_model.specs.Phases.{Says, Next, Opens, HasForms}
 use Rattle.hz_answer_model.specs.TableAnswers.{tables_limit, IsTablesOf, WritesTablesOf, HasTables, IsFirstUnwalked, Walks, WalksTrace}
 use Rattle.hz_answer_model.proofs.TableLaws.{walked_or_first, unwalked_issue}
 use Rattle.hz_answer_model.proofs.DrillLaws.{some_drill}

@@ -13,7 +13,8 @@ use Rattle.hz_tabtext_model.specs.Texts.{TableText}
 use Rattle.hz_answer_model.specs.Answers.{HasDescription, Judges, DrillsDescription, AnswersCompile, AnswersDrill}
 use Rattle.hz_answer_model.specs.DrillAnswers.{Drills, IsDrillOf}
 use Rattle.hz_answer_model.specs.Headline.{IsDescribed, WritesDrill, ReplayAcceptsEvents}
-use Rattle.hz_answer_model.specs.Phases.{Held, Opens}
+use Rattle.hz_base_model.specs.Names.{Held}
+use Rattle.hz_answer_model.specs.Phases.{Opens}
 use Rattle.hz_answer_model.specs.TableAnswers.{IsTablesOf}
 use Rattle.hz_answer_model.specs.Texts.{accepted_line}
 use Rattle.hz_answer_model.proofs.DoneLaws.{IsOpened, opened, IsGiven, given_of, compiled_of}

@@ -33,7 +33,8 @@ use Rattle.hz_tabtext_model.proofs.Steps.{ok_is}
 use Rattle.hz_acceptance_model.specs.Traces.Traces.{Trace, event_lines}
 use Rattle.hz_answer_model.specs.Answers.{HasDescription, Compiles, Replays, ReplaysTrace, ReplaysDescription, Judges, CompilesDescription, AnswersCompile}
 use Rattle.hz_answer_model.specs.Headline.{IsDescribed, WritesTables, WalkIsReplay}
-use Rattle.hz_answer_model.specs.Phases.{Held, Says, Next, Opens, Traces}
+use Rattle.hz_base_model.specs.Names.{Held}
+use Rattle.hz_answer_model.specs.Phases.{Says, Next, Opens, Traces}
 use Rattle.hz_answer_model.specs.TableAnswers.{tables_limit, IsTablesOf, WritesTablesOf, HasTables, IsFirstUnwalked, Walks, WalksTrace}
 use Rattle.hz_answer_model.specs.Texts.{file_line, limit_line}
 use Rattle.hz_answer_model.proofs.AnswerLaws.{kept_or_past}

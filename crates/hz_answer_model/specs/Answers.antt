@@ -19,7 +19,8 @@ use Rattle.hz_acceptance_model.specs.Traces.Traces.{event_lines}
 use Rattle.hz_answer_model.specs.Texts.{usage_line, fault_line, states_line, accepted_line, refused_line}
 use Rattle.hz_base_model.specs.Forms.Trees.{Trees}
 use Rattle.hz_words_model.specs.Words.{Order, compile, replay, walk, schedule, eval, drill, order_of}
-use Rattle.hz_answer_model.specs.Phases.{Held, Says, Next, Opens, HasForms, Traces}
+use Rattle.hz_base_model.specs.Names.{Held}
+use Rattle.hz_answer_model.specs.Phases.{Says, Next, Opens, HasForms, Traces}
 use Rattle.hz_answer_model.specs.BlockAnswers.{block_limit, state_text_limit, JudgesBlock}
 use Rattle.hz_answer_model.specs.ScheduleAnswers.{SchedulesBlock}
 use Rattle.hz_answer_model.specs.DrillAnswers.{Drills}

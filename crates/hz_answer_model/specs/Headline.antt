@@ -20,7 +20,7 @@ use Rattle.hz_acceptance_model.specs.Traces.Traces.{Trace}
 use Rattle.hz_tabtext_model.specs.Texts.{TableText}
 use Rattle.hz_answer_model.specs.Answers.{AnswersCompile, AnswersReplay, AnswersWalk}
 use Rattle.hz_answer_model.specs.DrillAnswers.{IsDrillOf}
-use Rattle.hz_answer_model.specs.Phases.{Held}
+use Rattle.hz_base_model.specs.Names.{Held}
 use Rattle.hz_answer_model.specs.Texts.{accepted_line}
 use Rattle.hz_answer_model.specs.ScheduleAnswers.{schedule_text}
 use Rattle.hz_answer_model.specs.TableAnswers.{tables_limit, IsTablesOf}

@@ -3,6 +3,7 @@ use Rattle.std.specs.Prelude.{◌≡◌, ℕ, List, [], ◌∷◌, Option, Match
 use Rattle.hz_base_model.specs.Forms.Forms.{FormFault}
 use Rattle.hz_base_model.specs.Forms.Forms as forms
 use Rattle.hz_base_model.specs.Forms.Trees.{Trees}
+use Rattle.hz_base_model.specs.Names.{Held}
 use Rattle.hz_acceptance_model.specs.Accepting.Events.{Event}
 use Rattle.hz_acceptance_model.specs.Traces.Traces.{Trace, TraceFault, TraceFaultAt}
 use Rattle.hz_answer_model.specs.FaultTexts.{form_word, trace_word}
@@ -11,10 +12,6 @@ use Rattle.hz_answer_model.specs.Texts.{file_line, limit_line, fault_line}
 -- the status and the text
 abbrev pub Says : ℕ → List ℕ → ℕ → List ℕ → Type 0
 Says s t status text = (status ≡ s) × (text ≡ t)
-
--- what names hold
-abbrev pub Held : Type 0
-Held = List ℕ → Option (List ℕ)
 
 -- what a later phase answers, by its value
 abbrev pub Next : Type 0 → Type 1

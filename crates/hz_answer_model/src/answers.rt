@@ -3,7 +3,7 @@
 ghost use Rattle.std.specs.Prelude.{◌≡◌, ℕ, List};
 ghost use Rattle.hz_answer_model.specs.Answers.{Answer, AnswersCompile, AnswersDrill, AnswersSchedule};
 ghost use Rattle.hz_answer_model.specs.Headline.{WritesSchedule, ReplayAccepts, ReplayAcceptsEvents, WritesDrill, WritesTables, WalkIsReplay};
-ghost use Rattle.hz_answer_model.specs.Phases.{Held};
+ghost use Rattle.hz_base_model.specs.Names.{Held};
 
 /// The words and what is held have one answer at most: one status and one text.
 pub fn one_answer()

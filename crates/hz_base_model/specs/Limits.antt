@@ -4,11 +4,11 @@ use Rattle.std.specs.Prelude.{ℕ}
 
 -- units of one automaton
 abbrev pub unit_limit : ℕ
-unit_limit = 128
+unit_limit = 256
 
 -- cycles of an alternative
 abbrev pub cycle_limit : ℕ
-cycle_limit = 256
+cycle_limit = 512
 
 abbrev pub class_limit : ℕ
 class_limit = 1024

@@ -1,5 +1,5 @@
--- Names of units, reservations and classes: this profile, docs/RULES.md.
-use Rattle.std.specs.Prelude.{ℕ, Bool, List, [], ◌∷◌, ◌&&◌, ◌||◌, ◌==◌, not, nat_le, false}
+-- Names of units, reservations, classes and files, and what names hold: this profile, docs/RULES.md.
+use Rattle.std.specs.Prelude.{ℕ, Bool, List, [], ◌∷◌, ◌&&◌, ◌||◌, ◌==◌, not, nat_le, false, Option, Some, None, if◌then◌else◌}
 use Rattle.std.specs.List.{list_all}
 
 -- `,` `|` `+` `*` `(` `)` `"`: the marks of expressions, lists and strings, which no name holds
@@ -14,3 +14,11 @@ is_name_byte b = nat_le 33 b && nat_le b 126 && not (is_separator b)
 abbrev pub is_name : List ℕ → Bool
 is_name [] = false
 is_name (b ∷ bs) = list_all is_name_byte (b ∷ bs)
+
+-- the bytes as a name, where they are one
+abbrev pub name_of : List ℕ → Option (List ℕ)
+name_of bytes = if is_name bytes then Some bytes else None
+
+-- what names hold: the bytes of the file of each, or `None` where there is no such file
+abbrev pub Held : Type 0
+Held = List ℕ → Option (List ℕ)

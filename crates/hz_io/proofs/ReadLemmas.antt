@@ -1,7 +1,8 @@
 use Rattle.std.proofs.Common.{◌≡◌, ℕ, ◌+◌, ◌≤◌, ◌++◌, List, [], length, take, drop, Option, Some, Ok, Err, IsNone, sym, ap, ◌∙◌, refl, arith}
 use Rattle.std.specs.Option.{ForSome}
 use Rattle.std.proofs.lemmas.List.{append_assoc, append-nil, take-append-drop, take-append-le, length-take, length-append, drop-drop, drop_at}
-use Rattle.hz_io.specs.Files.{Held, HasOpened, HasRead, Takes}
+use Rattle.hz_base_model.specs.Names.{Held}
+use Rattle.hz_io.specs.Files.{HasOpened, HasRead, Takes}
 use Rattle.hz_io.specs.Slurp.{Slurped, HasEnded, HasExceeded, TellsUnread, Tells, UntoldOnFailed, LacksOnFailed}
 use Rattle.hz_io.specs.declared.faults.SlurpFault.TheVariants.{Failed, Long, NoMemory}
 

@@ -2,7 +2,7 @@ use Rattle.std.specs.Prelude.{ℕ, ◌≡◌, ◌+◌, ◌-◌, ◌^◌, ◌<◌
 use Rattle.std.specs.List.{list_any}
 use Rattle.std.specs.Map.{lookup}
 use Rattle.std.specs.declared.alloc.Global.{Global}
-use Rattle.hz_io.specs.Files.{Held}
+use Rattle.hz_base_model.specs.Names.{Held}
 
 -- the names of files with their bytes
 abbrev pub Entries : Type 0

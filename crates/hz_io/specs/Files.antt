@@ -1,9 +1,6 @@
 use Rattle.std.specs.Prelude.{ℕ, ◌≡◌, ◌+◌, ◌≤◌, ◌↔◌, List, [], length, take, drop, Option, Some, None, Result, MatchResult, OnOk, OnErr}
 use Rattle.std.specs.Option.{ForSome}
-
--- what all files hold: the bytes of the file of a name, or `None` where there is no such file
-abbrev pub Held : Type 0
-Held = List ℕ → Option (List ℕ)
+use Rattle.hz_base_model.specs.Names.{Held}
 
 -- a count of faults rises by one where the call failed, and stays otherwise
 abbrev pub Counts : {T E : Type 0} → ℕ → ℕ → Result T E → Type 0

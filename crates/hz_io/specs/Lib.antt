@@ -1,6 +1,5 @@
 pub mod Cursors
 pub mod Drive
-pub mod FileNames
 pub mod Files
 pub mod Sink
 pub mod Slurp

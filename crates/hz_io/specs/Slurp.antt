@@ -3,7 +3,7 @@ use Rattle.std.specs.Option.{ForSome}
 use Rattle.std.specs.declared.alloc.Global.{Global}
 use Rattle.hz_io.specs.declared.faults.SlurpFault.{SlurpFault}
 use Rattle.hz_io.specs.declared.faults.SlurpFault.TheVariants.{Failed, Long, NoMemory}
-use Rattle.hz_io.specs.Files.{Held}
+use Rattle.hz_base_model.specs.Names.{Held}
 
 -- what reading a whole file answers
 abbrev pub Slurped : Type 0

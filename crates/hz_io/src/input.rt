@@ -1,6 +1,7 @@
 //! Files that are opened by name and read front to back.
 ghost use Rattle.std.specs.Prelude.{◌≡◌, ℕ, ◌+◌, ◌-◌, ◌^◌, ◌<◌, List, Option, length, IsNone, OnErr};
-ghost use Rattle.hz_io.specs.Files.{Held, Counts, IsOpened, LacksOnErr, Reads};
+ghost use Rattle.hz_base_model.specs.Names.{Held};
+ghost use Rattle.hz_io.specs.Files.{Counts, IsOpened, LacksOnErr, Reads};
 
 use super::faults::Failed;
 

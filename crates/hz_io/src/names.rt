@@ -1,7 +1,7 @@
 //! Names of files.
 ghost use Rattle.std.specs.Prelude.{◌≡◌, List, ℕ, IsTrue, IfOk, OnErr};
 ghost use Rattle.hz_base_model.specs.Names.{is_name, is_name_byte};
-ghost use Rattle.hz_io.specs.FileNames.{name_of};
+ghost use Rattle.hz_base_model.specs.Names.{name_of};
 
 use super::faults::NoMemory;
 use std::alloc::Global;

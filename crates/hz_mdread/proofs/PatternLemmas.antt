@@ -8,7 +8,7 @@ use Rattle.std.proofs.lemmas.List.{drop_more, drop_all, append-nil}
 use Rattle.hz_description_model.specs.Reading.DescriptionForms.{is_empty, words, kept, patterns_of}
 use Rattle.hz_description_model.specs.Reading.DescriptionShape.{are_names, are_patterns}
 use Rattle.hz_base_model.specs.Names.{is_name}
-use Rattle.hz_regexp.specs.Named.{name_of}
+use Rattle.hz_base_model.specs.Names.{name_of}
 use Rattle.hz_mdread.proofs.ListLemmas.{some_part}
 
 -- the parts that are borrowed

@@ -5,7 +5,7 @@ use Rattle.std.specs.List.{list_all, slice_split}
 use Rattle.std.proofs.lemmas.List.{take_all}
 use Rattle.hz_base_model.specs.Lines.{separated, trimmed}
 use Rattle.hz_base_model.specs.Names.{is_name}
-use Rattle.hz_regexp.specs.Named.{name_of}
+use Rattle.hz_base_model.specs.Names.{name_of}
 
 trimmed_now : (pieces : List (Bor (List ℕ))) → map (λ p. trimmed p.now) pieces ≡ map trimmed (map (λ p. p.now) pieces)
 trimmed_now [] = refl

@@ -1,4 +1,3 @@
-pub mod Named
 pub mod Shape
 pub mod Tokens
 pub mod Levels

@@ -2,7 +2,7 @@
 
 ghost use Rattle.std.specs.Prelude.{◌≡◌, ◌↔◌, List, ℕ, IsTrue, IfOk, OnErr};
 ghost use Rattle.hz_base_model.specs.Names.{is_name, is_name_byte};
-ghost use Rattle.hz_regexp.specs.Named.{name_of};
+ghost use Rattle.hz_base_model.specs.Names.{name_of};
 ghost use Rattle.std.specs.Rc.{rc_slice_items};
 
 pub use std::alloc::AllocError as NoMemory;

@@ -2,7 +2,7 @@
 use Rattle.std.proofs.Common.{◌≡◌, ℕ, ◌⊎◌, List, inl, inr, Option, Some, Err, refl, sym, subst, arith}
 use Rattle.std.specs.Option.{ForSome}
 use Rattle.std.specs.Borrow.{Bor}
-use Rattle.hz_answer_model.specs.Phases.{Held}
+use Rattle.hz_base_model.specs.Names.{Held}
 use Rattle.hz_io.specs.Slurp.{SlurpCounts, Tells, LacksOnFailed}
 use Rattle.hz_io.specs.declared.faults.SlurpFault.{SlurpFault}
 use Rattle.hz_io.specs.declared.faults.SlurpFault.TheVariants.{Failed, Long, NoMemory}

@@ -2,7 +2,8 @@ use Rattle.std.proofs.Common.{◌≡◌, ℕ, ◌<◌, ◌≤◌, ◌⊎◌, inl
 use Rattle.std.proofs.lemmas.Bool.{le-ltb}
 use Rattle.hz_answer_model.specs.Answers.{Answer, AnswersOrder, Judges, HasDescription, SchedulesByDescription, CompilesDescription, DrillsDescription, AnswersCompile, AnswersReplay, AnswersWalk, AnswersSchedule, AnswersEval, AnswersDrill}
 use Rattle.hz_answer_model.specs.BlockAnswers.{block_limit, state_text_limit, JudgesBlock}
-use Rattle.hz_answer_model.specs.Phases.{Held, Next, Opens, Says}
+use Rattle.hz_base_model.specs.Names.{Held}
+use Rattle.hz_answer_model.specs.Phases.{Next, Opens, Says}
 use Rattle.hz_description_model.specs.Reading.Limits.{description_limit}
 use Rattle.hz_acceptance_model.specs.Traces.TraceLimits.{trace_limit}
 use Rattle.hz_answer_model.specs.Texts.{file_line, limit_line, usage_line}

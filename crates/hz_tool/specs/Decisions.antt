@@ -3,7 +3,7 @@ use Rattle.std.specs.Prelude.{◌≡◌, ◌⊎◌, ℕ, ◌+◌, ◌<◌, ⊤, 
 use Rattle.std.specs.declared.alloc.Global.{Global}
 use Rattle.std.specs.declared.vec.Vec.{Vec}
 use Rattle.hz_check.specs.Faults.{limit_of, IsToldAt}
-use Rattle.hz_answer_model.specs.Phases.{Held}
+use Rattle.hz_base_model.specs.Names.{Held}
 use Rattle.hz_description_model.specs.Check.CheckFaults.{limit}
 use Rattle.hz_description_model.specs.Reading.DescriptionForms as description_forms
 use Rattle.hz_description_model.specs.Reading.Descriptions.{Description}

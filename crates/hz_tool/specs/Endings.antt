@@ -3,7 +3,7 @@ use Rattle.std.specs.Prelude.{◌≡◌, ◌⊎◌, ℕ, ◌<◌, List, ◌++◌
 use Rattle.std.specs.Option.{ForSome}
 use Rattle.hz_answer_model.specs.Answers.{Answer}
 use Rattle.hz_answer_model.specs.Headline.{WritesSchedule, ReplayAccepts, ReplayAcceptsEvents, WritesDrill, WritesTables, WalkIsReplay}
-use Rattle.hz_answer_model.specs.Phases.{Held}
+use Rattle.hz_base_model.specs.Names.{Held}
 use Rattle.hz_answer_model.specs.Texts.{memory_line, file_line}
 use Rattle.hz_tool.specs.Decisions.{IsFileWord}
 

@@ -1,6 +1,6 @@
 -- The forms of a machine description's text: lists, vectors, strings, atoms, numbers and comments. GCC Internals,
 -- 'Machine Descriptions'; the bytes and the faults are this profile's, docs/FORMATS.md.
-use Rattle.std.specs.Prelude.{◌≡◌, ℕ, ◌+◌, ◌^◌, Bool, true, false, ◌&&◌, ◌||◌, ◌==◌, not, nat_lt, nat_le, if◌then◌else◌, List, [], ◌∷◌, ◌++◌, length, ℤ, pos, negsuc, neg_ℤ, IsTrue, IsFalse}
+use Rattle.std.specs.Prelude.{◌≡◌, ℕ, ◌+◌, ◌^◌, Bool, true, false, ◌&&◌, ◌||◌, ◌==◌, not, nat_lt, nat_le, if◌then◌else◌, List, [], ◌∷◌, ◌++◌, length, codes, ℤ, pos, negsuc, neg_ℤ, IsTrue, IsFalse}
 use Rattle.std.specs.Prelude.{Option, Some, None}
 use Rattle.std.specs.List.{list_all}
 use Rattle.std.specs.Option.{option_and_then}
@@ -198,6 +198,15 @@ pub record Reads (text : List ℕ) (forms : Trees) : Type 0 where
 -- What can be wrong with a text.
 pub data FormFault : Type 0 where
   unclosed stray bad_escape too_deep bad_byte number_too_large : FormFault
+
+-- the word by which a fault is told: docs/FORMATS.md, 'Answers'
+abbrev pub form_word : FormFault → List ℕ
+form_word unclosed = codes "Unclosed"
+form_word stray = codes "Stray"
+form_word bad_escape = codes "BadEscape"
+form_word too_deep = codes "TooDeep"
+form_word bad_byte = codes "BadByte"
+form_word number_too_large = codes "NumberTooLarge"
 
 -- What a text begins with where it is wrong, at a line and with brackets open: the fault and its line.
 pub data Faulty (opened : List OpenBracket) (line : ℕ) : (text : List ℕ) (fault : FormFault) (place : ℕ) → Type 0 where

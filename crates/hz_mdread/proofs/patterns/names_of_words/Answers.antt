@@ -1,6 +1,6 @@
 use Rattle.std.proofs.Common.{◌≡◌, ℕ, List, [], Some, None, get_or, sym, ◌∙◌, arith}
 use Rattle.std.specs.Borrow.{Bor}
-use Rattle.hz_regexp.specs.Named.{name_of}
+use Rattle.hz_base_model.specs.Names.{name_of}
 use Rattle.hz_mdread.proofs.PatternLemmas.{names_fail, name_more, names_kept}
 use Rattle.hz_mdread.proofs.patterns.names_of_words.Goals as goal
 

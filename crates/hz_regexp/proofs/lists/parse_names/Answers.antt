@@ -1,5 +1,5 @@
 use Rattle.std.proofs.Common.{◌≡◌, sym, ◌∙◌, arith, None}
-use Rattle.hz_regexp.specs.Named.{name_of}
+use Rattle.hz_base_model.specs.Names.{name_of}
 use Rattle.hz_regexp.proofs.Pieces.{separated_are, all_separated, no_names}
 use Rattle.hz_regexp.proofs.lists.parse_names.Goals as goal
 
