@@ -31,7 +31,7 @@ use Rattle.hz_tabtext_model.specs.Texts.{TableText}
 use Rattle.hz_tabtext_model.proofs.TextAgain.{tables_again}
 use Rattle.hz_tabtext_model.proofs.Steps.{ok_is}
 use Rattle.hz_acceptance_model.specs.Traces.Traces.{Trace, event_lines}
-use Rattle.hz_answer_model.specs.Answers.{HasDescription, Compiles, Replays, ReplaysTrace, ReplaysDescription, Judges, CompilesDescription, AnswersCompile}
+use Rattle.hz_answer_model.specs.Answers.{HasDescription, Compiles, Replays, ReplaysTrace, ReplaysDescription, Judges, CompilesDescription, AnswersOrder}
 use Rattle.hz_answer_model.specs.Headline.{IsDescribed, WritesTables, WalkIsReplay}
 use Rattle.hz_base_model.specs.Names.{Held}
 use Rattle.hz_answer_model.specs.Phases.{Says, Next, Opens, Traces}
@@ -166,7 +166,7 @@ behind_limits name d known next s t kept = (to, λ h. inl (kept, h))
 
 -- ---- the laws
 
-module _ (held : Held) (description text : List ℕ) (h : AnswersCompile held description 0 text) where
+module _ (held : Held) (description text : List ℕ) (h : AnswersOrder held (compile description) 0 text) where
   first : IsOpened (held description) description_limit (λ described. HasDescription description described (CompilesDescription description)) text
   first = opened (held description) description description_limit (λ described. HasDescription description described (CompilesDescription description)) text h
 
