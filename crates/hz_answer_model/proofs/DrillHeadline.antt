@@ -10,10 +10,11 @@ use Rattle.hz_description_model.specs.Check.Places.{Known}
 use Rattle.hz_description_model.specs.Reading.Descriptions.{Description}
 use Rattle.hz_automata_model.specs.Tables.Machines.{Machine}
 use Rattle.hz_tabtext_model.specs.Texts.{TableText}
-use Rattle.hz_answer_model.specs.Answers.{HasDescription, Judges, DrillsDescription, AnswersOrder, AnswersOrder}
+use Rattle.hz_answer_model.specs.Answers.{HasDescription, Judges, DrillsDescription, AnswersOrder}
 use Rattle.hz_answer_model.specs.DrillAnswers.{Drills, IsDrillOf}
 use Rattle.hz_answer_model.specs.Headline.{IsDescribed, WritesDrill, ReplayAcceptsEvents}
 use Rattle.hz_base_model.specs.Names.{Held}
+use Rattle.hz_words_model.specs.Words.{compile, drill}
 use Rattle.hz_answer_model.specs.Phases.{Opens}
 use Rattle.hz_answer_model.specs.TableAnswers.{IsTablesOf}
 use Rattle.hz_answer_model.specs.Texts.{accepted_line}

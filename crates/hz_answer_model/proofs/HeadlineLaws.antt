@@ -24,6 +24,7 @@ use Rattle.hz_block_model.proofs.Scheduled.BlockLaws.{legal_keeps}
 use Rattle.hz_answer_laws.proofs.Schedulable.ScheduleTotal.{short_trace}
 use Rattle.hz_answer_model.specs.Texts.{file_line, limit_line, accepted_line}
 use Rattle.hz_base_model.specs.Names.{Held}
+use Rattle.hz_words_model.specs.Words.{schedule}
 use Rattle.hz_answer_model.specs.Phases.{Says, Opens}
 use Rattle.hz_answer_model.specs.BlockAnswers.{block_limit, IsBlock}
 use Rattle.hz_answer_model.specs.Answers.{HasDescription, Judges, AnswersOrder, SchedulesByDescription}

@@ -1,5 +1,5 @@
 -- What the program answers: this profile, docs/FORMATS.md, 'Answers'.
-use Rattle.std.specs.Prelude.{◌≡◌, ℕ, ⊥, List, [], ◌∷◌, Option, Some, MatchOption, ◌⊎◌, slice_get, slice_index_or}
+use Rattle.std.specs.Prelude.{◌≡◌, ℕ, List, [], ◌∷◌, Option, Some, MatchOption, ◌⊎◌, slice_get, slice_index_or}
 use Rattle.hz_description_model.specs.Check.CheckFaults.{CheckFault, CheckFaultAt, IsSound}
 use Rattle.hz_description_model.specs.Check.Places.{Known, class_names}
 use Rattle.hz_description_model.specs.Reading.DescriptionForms.{DescriptionFault}
@@ -83,22 +83,18 @@ SchedulesByDescription description block blocked d known = Compiles description 
 abbrev pub DrillsDescription : List ℕ → (number turns : ℕ) → Description → Known → ℕ → List ℕ → Type 0
 DrillsDescription description number turns d known = Compiles description d known (Drills d known number turns)
 
--- files of each kind
-abbrev described_by traced_by tabled_by blocked_by stated_by : List ℕ → FileWord
-described_by name = record { name = name; most = description_limit }
-traced_by name = record { name = name; most = trace_limit }
-tabled_by name = record { name = name; most = tables_limit }
-blocked_by name = record { name = name; most = block_limit }
-stated_by name = record { name = name; most = state_text_limit }
+-- a file of this name, of at most so many bytes
+abbrev file_word : List ℕ → ℕ → FileWord
+file_word name most = record { name = name; most = most }
 
 -- the file words of an order with their limits, in the order in which they are read
 abbrev pub files_of : Order → List FileWord
-files_of (compile description) = described_by description ∷ []
-files_of (replay description trace) = described_by description ∷ traced_by trace ∷ []
-files_of (walk tables trace) = tabled_by tables ∷ traced_by trace ∷ []
-files_of (schedule description block) = described_by description ∷ blocked_by block ∷ []
-files_of (eval block state) = blocked_by block ∷ stated_by state ∷ []
-files_of (drill description number turns) = described_by description ∷ []
+files_of (compile description) = file_word description description_limit ∷ []
+files_of (replay description trace) = file_word description description_limit ∷ file_word trace trace_limit ∷ []
+files_of (walk tables trace) = file_word tables tables_limit ∷ file_word trace trace_limit ∷ []
+files_of (schedule description block) = file_word description description_limit ∷ file_word block block_limit ∷ []
+files_of (eval block state) = file_word block block_limit ∷ file_word state state_text_limit ∷ []
+files_of (drill description number turns) = file_word description description_limit ∷ []
 
 -- what an order answers to the bytes of its files: one case for each command, which judges its texts in their order
 abbrev pub JudgesOrder : Order → Next (List (List ℕ))

@@ -66,3 +66,6 @@ order_of (command ∷ first ∷ second ∷ []) = if begins_with_dash first || be
 order_of (command ∷ first ∷ second ∷ third ∷ []) =
     if begins_with_dash first || (begins_with_dash second || begins_with_dash third) then None else order_on_three command first second third
 order_of _ = None
+
+abbrev pub usage_line : List ℕ
+usage_line = codes "usage: hz compile DESC | replay DESC TRACE | walk TABLES TRACE | schedule DESC BLOCK | eval BLOCK STATE | drill DESC NUMBER COUNT\n"

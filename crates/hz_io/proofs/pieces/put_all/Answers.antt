@@ -1,8 +1,8 @@
 use Rattle.std.proofs.Common.{ℕ, ◌+◌, ◌<◌, List, length, drop, sym, subst, arith}
 use Rattle.hz_io.specs.Sink.{Wrote, Cut}
 use Rattle.hz_io.proofs.Writing.{wrote_then, wrote_then_cut, cut_before}
-use Rattle.hz_report.proofs.WritingLemmas.{text, text_more, text_parts}
-use Rattle.hz_report.proofs.pieces.put_all.Goals as goal
+use Rattle.hz_io.proofs.PieceTexts.{text, text_more, text_parts}
+use Rattle.hz_io.proofs.pieces.put_all.Goals as goal
 
 pub loop-piece-preserved : goal.loop-piece-preserved
 loop-piece-preserved g c =

@@ -1,7 +1,7 @@
 use Rattle.std.proofs.Common.{map, take}
 use Rattle.std.specs.List.{concat}
 use Rattle.hz_io.specs.Sink.{Wrote}
-use Rattle.hz_report.proofs.pieces.put_all.Given as goal
+use Rattle.hz_io.proofs.pieces.put_all.Given as goal
 
 abbrev pub invariant-loop-piece : goal.invariant-loop-piece
 invariant-loop-piece g l =
