@@ -5,3 +5,4 @@ pub mod TraceLaws
 pub mod StuckLaws
 pub mod SlotLaws
 pub mod GrowLaws
+pub mod AlikeGraphs

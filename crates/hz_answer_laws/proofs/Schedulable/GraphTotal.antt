@@ -115,10 +115,10 @@ module _ (block : List Instruction) (t : Timing) where
 
 module _ (edges : List Edge) (latency : List ℕ) where
   -- What is asked of a height, of heights by their places.
-  record IsHeightOf (h : ℕ → ℕ) (i : ℕ) : Type 0 where
-    none : ((e : Edge) → Contains edges e → e.from ≡ i → ⊥) → h i ≡ slice_index latency i
-    least : (e : Edge) → Contains edges e → e.from ≡ i → e.cost + h e.to ≤ h i
-    reached : (e : Edge) → Contains edges e → e.from ≡ i → (f : Edge) × Contains edges f × (f.from ≡ i) × (h i ≡ f.cost + h f.to)
+  pub record IsHeightOf (h : ℕ → ℕ) (i : ℕ) : Type 0 where
+    pub none : ((e : Edge) → Contains edges e → e.from ≡ i → ⊥) → h i ≡ slice_index latency i
+    pub least : (e : Edge) → Contains edges e → e.from ≡ i → e.cost + h e.to ≤ h i
+    pub reached : (e : Edge) → Contains edges e → e.from ≡ i → (f : Edge) × Contains edges f × (f.from ≡ i) × (h i ≡ f.cost + h f.to)
 
   -- the same of heights that agree on a place and on those that its edges lead to
   height_again : (h o : ℕ → ℕ) (i : ℕ) → h i ≡ o i → ((e : Edge) → Contains edges e → e.from ≡ i → h e.to ≡ o e.to) → IsHeightOf h i → IsHeightOf o i
@@ -246,7 +246,7 @@ module _ (edges : List Edge) (latency : List ℕ) where
               (cases_lt k i),
         )
 
-    some_heights : (h : ℕ → ℕ) × ((i : ℕ) → i < n → IsHeightOf h i)
+    pub some_heights : (h : ℕ → ℕ) × ((i : ℕ) → i < n → IsHeightOf h i)
     some_heights = let (h, each) = heights_from n 0 (omega arith) in (h, λ i within. each i (omega arith) within)
 
 -- ---- nodes

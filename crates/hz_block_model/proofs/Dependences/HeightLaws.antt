@@ -6,12 +6,12 @@ use Rattle.hz_base_model.proofs.Elements.{Contains-nil, Contains-head, Contains-
 use Rattle.hz_block_model.specs.Dependences.Graphs.{Edge, IsHeight}
 
 -- An edge that leads from a place.
-record From (edges : List Edge) (i : ℕ) : Type 0 where
+pub record From (edges : List Edge) (i : ℕ) : Type 0 where
   pub edge : Edge
   pub there : Contains edges edge
   pub is_from : edge.from ≡ i
 
-some_from : (edges : List Edge) (i : ℕ) → From edges i ⊎ ((e : Edge) → Contains edges e → e.from ≡ i → ⊥)
+pub some_from : (edges : List Edge) (i : ℕ) → From edges i ⊎ ((e : Edge) → Contains edges e → e.from ≡ i → ⊥)
 some_from [] i = inr (λ e c is. Contains-nil e c)
 some_from (first ∷ edges) i = go (first.from == i) refl (some_from edges i)
   where

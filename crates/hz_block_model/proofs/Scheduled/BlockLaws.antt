@@ -17,7 +17,8 @@ use Rattle.hz_block_model.proofs.Scheduling.OneSchedule.{one_schedule}
 use Rattle.hz_block_model.proofs.Scheduling.SlotLaws.{at_place}
 use Rattle.hz_block_model.specs.Scheduled.BlockGraphs.{timing_in, classes_of, IsGraphOf}
 use Rattle.hz_block_model.specs.Scheduled.BlockSchedules.{IsScheduleOf, KeepsBlock}
-use Rattle.hz_block_model.proofs.Scheduled.GraphLaws.{as_many, same_classes, legal_there, greedy_there}
+use Rattle.hz_block_model.proofs.Scheduling.AlikeGraphs.{legal_there, greedy_there}
+use Rattle.hz_block_model.proofs.Scheduled.GraphLaws.{as_many, same_classes, graphs_alike}
 
 module _ (d : Description) (known : Known) (block : List Instruction) (g : Graph) (slots : List Slot) (graph : IsGraphOf d block g) (legal : Legal (Accepted (pipeline_with d known)) g slots) where
   whole : IsOrder (length block) (places slots)
@@ -44,9 +45,10 @@ module _ (d : Description) (known : Known) (block : List Instruction) (g : Graph
   }
 
 pub one_of_a_block : (d : Description) (known : Known) (block : List Instruction) (g h : Graph) (s t : List Slot) → IsScheduleOf d known block g s → IsScheduleOf d known block h t → (classes_of g ≡ classes_of h) × (s ≡ t)
-one_of_a_block d known block g h s t one other = (
-  same_classes d block g h one.graph other.graph,
-  one_schedule (Accepted (pipeline_with d known)) g s t one.legal one.greedy
-      (legal_there (Accepted (pipeline_with d known)) d block h g other.graph one.graph t other.legal)
-      (greedy_there (Accepted (pipeline_with d known)) d block h g other.graph one.graph t other.greedy),
-)
+one_of_a_block d known block g h s t one other =
+    let back = graphs_alike d block h g other.graph one.graph in (
+      same_classes d block g h one.graph other.graph,
+      one_schedule (Accepted (pipeline_with d known)) g s t one.legal one.greedy
+          (legal_there (Accepted (pipeline_with d known)) h g back t other.legal)
+          (greedy_there (Accepted (pipeline_with d known)) h g back t other.greedy),
+    )

@@ -1,16 +1,16 @@
 -- A block has one dependence graph, but for the order of its edges.
-use Rattle.std.proofs.Common.{◌≡◌, ℕ, ◌<◌, inl, inr, List, [], ◌∷◌, ◌++◌, length, map, All, Contains, refl, sym, ap, ◌∙◌, subst, arith}
+use Rattle.std.proofs.Common.{◌≡◌, ℕ, ◌<◌, List, [], ◌∷◌, length, map, All, Contains, refl, sym, ap, ◌∙◌, subst, arith}
 use Rattle.std.specs.Prelude.{Result, Ok, slice_index}
-use Rattle.std.proofs.lemmas.List.{length-map}
+use Rattle.std.proofs.lemmas.List.{length-map, same_lists, get_or_default}
 use Rattle.std.proofs.lemmas.List.Elements.{All-nil, All-cons}
-use Rattle.hz_acceptance_model.specs.Accepting.Events.{Event, issue}
 use Rattle.hz_block_model.specs.Running.Blocks.{Instruction}
 use Rattle.hz_description_model.specs.Reading.Descriptions.{Description}
 use Rattle.hz_block_model.specs.Dependences.Classes.{ClassFault}
 use Rattle.hz_block_model.specs.Dependences.Dependences.{Timing}
 use Rattle.hz_block_model.specs.Dependences.Graphs.{Edge, edge, IsGraph, IsHeight}
 use Rattle.hz_block_model.proofs.Dependences.HeightLaws.{one_height}
-use Rattle.hz_block_model.specs.Scheduling.Schedules.{Node, Graph, Slot, class_at, height_at, present, advance_to, spelled, spell, IsReady, GoesBefore, Legal, Greedy, IsCandidate}
+use Rattle.hz_block_model.specs.Scheduling.Schedules.{Node, Graph, height_at}
+use Rattle.hz_block_model.proofs.Scheduling.AlikeGraphs.{AreAlike}
 use Rattle.hz_block_model.specs.Scheduled.BlockGraphs.{class_in, latencies_in, timing_in, classes_of, IsGraphOf}
 
 -- ---- classes
@@ -95,57 +95,19 @@ module _ (d : Description) (block : List Instruction) (g h : Graph) (one : IsGra
       (λ e c. let (up, inside, is, weight) = (one.edges).only e c in (up, omega arith))
       (map (λ n. n.height) g.nodes) (map (λ n. n.height) h.nodes) one.heights height_again (length g.nodes) i lt (omega arith)
 
-  pub same_class : (i : ℕ) → class_at h i ≡ class_at g i
-  same_class i = ap (λ (cs : List ℕ). slice_index cs i) (sym same_classes)
-
-  pub same_spelled : (cycle : ℕ) (slots : List Slot) → spelled h cycle slots ≡ spelled g cycle slots
-  same_spelled cycle [] = refl
-  same_spelled cycle (x ∷ slots) =
-      ap (λ (c : ℕ). advance_to cycle x.cycle ++ issue c ∷ spelled h x.cycle slots) (same_class x.place)
-      ∙ ap (λ (t : List Event). advance_to cycle x.cycle ++ issue (class_at g x.place) ∷ t) (same_spelled x.cycle slots)
-
-  ready_there : (slots : List Slot) (cycle j : ℕ) → IsReady g slots cycle j → IsReady h slots cycle j
-  ready_there slots cycle j ready e c to = ready e (edge_back e c) to
-
--- what is a schedule by one graph is one by the other
-module _ (accepts : List Event → Type 0) (d : Description) (block : List Instruction) (g h : Graph) (one : IsGraphOf d block g) (other : IsGraphOf d block h) where
-  candidate_there : (slots : List Slot) (cycle j : ℕ) → IsCandidate accepts g slots cycle j → IsCandidate accepts h slots cycle j
-  candidate_there slots cycle j c =
-      let many = same_nodes d block g h one other in
-      let within = c.within in
-      record {
-        within = omega arith;
-        left = c.left;
-        ready = ready_there d block g h one other slots cycle j c.ready;
-        fits = subst (λ (t : List Event). accepts (t ++ (advance_to (present 0 slots) cycle ++ issue (class_at h j) ∷ []))) (same_spelled d block h g other one 0 slots)
-            (subst (λ (class : ℕ). accepts (spell g slots ++ (advance_to (present 0 slots) cycle ++ issue class ∷ []))) (same_class d block h g other one j) c.fits);
-      }
-
-  before_there : (i j : ℕ) → i < length g.nodes → j < length g.nodes → GoesBefore g i j → GoesBefore h i j
-  before_there i j within inside (inl more) =
-      let first = same_height d block g h one other i within in
-      let second = same_height d block g h one other j inside in
-      inl (omega (arith, more))
-  before_there i j within inside (inr (same, le)) =
-      let first = same_height d block g h one other i within in
-      let second = same_height d block g h one other j inside in
-      inr (omega (arith, same), le)
-
-module _ (accepts : List Event → Type 0) (d : Description) (block : List Instruction) (g h : Graph) (one : IsGraphOf d block g) (other : IsGraphOf d block h) (slots : List Slot) where
-  pub legal_there : Legal accepts g slots → Legal accepts h slots
-  legal_there legal = record {
-    order = rw (sym (same_nodes d block g h one other)) legal.order;
-    rising = legal.rising;
-    kept = λ before after x is. ready_there d block g h one other before x.cycle x.place (legal.kept before after x is);
-    accepted = subst accepts (same_spelled d block h g other one 0 slots) legal.accepted;
+  -- nothing but the order of their edges is different
+  pub graphs_alike : AreAlike g h
+  graphs_alike = record {
+    classes = same_classes;
+    heights = same_lists (heights_of g) (heights_of h) (omega (arith, long g, long h, same_nodes)) (λ k e lt.
+        let inside : k < length g.nodes = omega (arith, lt, long g) in
+        get_or_default (heights_of g) k e 0 lt ∙ (same_height k inside ∙ sym (get_or_default (heights_of h) k e 0 (omega (arith, inside, long h, same_nodes)))));
+    there = edge_there;
+    back = edge_back;
   }
+    where
+      heights_of : Graph → List ℕ
+      heights_of o = map (λ n. n.height) o.nodes
 
-  pub greedy_there : Greedy accepts g slots → Greedy accepts h slots
-  greedy_there greedy before after x is =
-      let f = greedy before after x is in
-      record {
-        may = candidate_there accepts d block g h one other before x.cycle x.place f.may;
-        first = λ j c. let back = candidate_there accepts d block h g other one before x.cycle j c in
-            before_there accepts d block g h one other x.place j (f.may).within back.within (f.first j back);
-        soonest = λ cycle j low high c. f.soonest cycle j low high (candidate_there accepts d block h g other one before cycle j c);
-      }
+      long : (o : Graph) → length (heights_of o) ≡ length o.nodes
+      long o = length-map o.nodes (λ (n : Node). n.height)
