@@ -26,27 +26,33 @@ use Rattle.hz_answer_model.specs.ScheduleAnswers.{SchedulesBlock}
 use Rattle.hz_answer_model.specs.DrillAnswers.{Drills}
 use Rattle.hz_answer_model.specs.TableAnswers.{tables_limit, WritesTablesOf, HasTables, WalksTrace}
 
+-- the first fault of a form of a description is told
+abbrev pub TellsDescription : List ℕ → Trees → ℕ → List ℕ → Type 0
+TellsDescription name read status text = (fault : DescriptionFault) × (line : ℕ) × description_forms.FaultAt read fault line × Says 2 (description_line name fault line) status text
+
 -- the description that forms say, or the first fault of a form
 abbrev pub Describes : List ℕ → Trees → Next Description → ℕ → List ℕ → Type 0
-Describes name read next status text =
-    ((d : Description) × description_forms.Reads read d × next d status text)
-    ⊎ ((fault : DescriptionFault) × (line : ℕ) × description_forms.FaultAt read fault line × Says 2 (description_line name fault line) status text)
+Describes name read next status text = ((d : Description) × description_forms.Reads read d × next d status text) ⊎ TellsDescription name read status text
+
+-- the fault or the limit of a description is told
+abbrev pub TellsCheck : List ℕ → Description → ℕ → List ℕ → Type 0
+TellsCheck name d status text = (fault : CheckFault) × (site : Site) × CheckFaultAt d fault site × Says (check_status fault) (check_line name fault site) status text
 
 -- the description is checked: the alternatives of its names, or the fault that is told
 abbrev pub Checks : List ℕ → Description → Next Known → ℕ → List ℕ → Type 0
-Checks name d next status text =
-    ((known : Known) × IsSound d known × next known status text)
-    ⊎ ((fault : CheckFault) × (site : Site) × CheckFaultAt d fault site × Says (check_status fault) (check_line name fault site) status text)
+Checks name d next status text = ((known : Known) × IsSound d known × next known status text) ⊎ TellsCheck name d status text
 
 -- the front of every command on a description: its text is read, and it is checked
 abbrev pub HasDescription : List ℕ → List ℕ → ((d : Description) → Next Known) → ℕ → List ℕ → Type 0
 HasDescription name bytes next = HasForms name bytes (λ read. Describes name read (λ d. Checks name d (next d)))
 
+-- the first automaton that has too many states is told
+abbrev pub TellsLimit : List ℕ → Description → Known → ℕ → List ℕ → Type 0
+TellsLimit name d known status text = (a : ℕ) × IsFirstPastLimit d known a × Says 3 (states_line name (slice_index_or (automaton_names d) a [])) status text
+
 -- The automata of a description are within their limits of states, or the first that is not is told.
 abbrev pub Compiles : List ℕ → Description → Known → (ℕ → List ℕ → Type 0) → ℕ → List ℕ → Type 0
-Compiles name d known next status text =
-    (AllKeepLimits d known × next status text)
-    ⊎ ((a : ℕ) × IsFirstPastLimit d known a × Says 3 (states_line name (slice_index_or (automaton_names d) a [])) status text)
+Compiles name d known next status text = (AllKeepLimits d known × next status text) ⊎ TellsLimit name d known status text
 
 -- the class that an event issues
 abbrev pub IsIssueOf : {U : Type 0} → Pipeline U → Option Event → List ℕ → Type 0

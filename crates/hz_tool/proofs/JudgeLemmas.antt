@@ -40,8 +40,8 @@ use Rattle.hz_report.specs.declared.kind.ExpressionKind.{ExpressionKind}
 use Rattle.hz_report.specs.declared.kind.ExpressionKind.TheVariants as expression
 use Rattle.hz_report.specs.declared.kind.NamedKind.{NamedKind}
 use Rattle.hz_report.specs.declared.kind.NamedKind.TheVariants as named
-use Rattle.hz_report.specs.declared.report.Report.{Report}
-use Rattle.hz_report.specs.declared.report.Report.TheVariants.{Fault, Expression, Named, Passed, Memory}
+use Rattle.hz_tool.specs.declared.decision.Decision.{Decision}
+use Rattle.hz_tool.specs.declared.decision.Decision.TheVariants.{Fault, Expression, Named, Passed, Memory}
 
 -- what is said of the fault that a kind tells holds of one with the kind's word
 form_said : (k : Kind) (P : FormFault → Type 0) → MatchOption (form_fault k) ⊥ P → (fault : FormFault) × P fault × (kind_word k ≡ form_word fault)
@@ -96,7 +96,7 @@ named_status named.AlternationOfTwoLengths = refl
 named_status named.BypassTwice = refl
 
 -- a text's first fault is told
-pub forms_refused : (name text : List ℕ) (next : Next Trees) (report : Report) → IsFormsReport name text report → Agrees (HasForms name text next) report
+pub forms_refused : (name text : List ℕ) (next : Next Trees) (report : Decision) → IsFormsReport name text report → Agrees (HasForms name text next) report
 forms_refused name text next (Fault file line k) (same, wrong) =
     let said = form_said k (λ fault. forms.FaultAt text fault line) wrong in
     inr (said.0, line, said.1, (refl, ap (λ (f : List ℕ). fault_line f line (kind_word k ∷ [])) same ∙ ap (λ (w : List ℕ). fault_line name line (w ∷ [])) said.2))
@@ -104,7 +104,7 @@ forms_refused name text next Memory h = tt
 forms_refused name text next _ h = absurd h
 
 -- the first fault of a form is told
-pub description_refused : (name : List ℕ) (read : Trees) (next : Next Description) (report : Report) → IsDescriptionReport name read report → Agrees (Describes name read next) report
+pub description_refused : (name : List ℕ) (read : Trees) (next : Next Description) (report : Decision) → IsDescriptionReport name read report → Agrees (Describes name read next) report
 description_refused name read next (Fault file line k) (same, wrong) =
     let said = description_said k (λ fault. description_forms.FaultAt read fault line) wrong in
     inr (said.0, line, said.1, (refl, ap (λ (f : List ℕ). fault_line f line (kind_word k ∷ [])) same ∙ ap (fault_line name line) said.2))
@@ -123,7 +123,7 @@ description_refused name read next Memory h = tt
 description_refused name read next _ h = absurd h
 
 -- the fault of a description is told
-pub check_refused : (name : List ℕ) (d : Description) (next : Next Known) (report : Report) → IsCheckReport name d report → Agrees (Checks name d next) report
+pub check_refused : (name : List ℕ) (d : Description) (next : Next Known) (report : Decision) → IsCheckReport name d report → Agrees (Checks name d next) report
 check_refused name d next (Named file line k at) (same, (form, wrong)) =
     let site : Site = record { line = line; form = form; name = at } in
     inr (named_fault k, site, wrong, (sym (named_status k), ap (λ (f : List ℕ). texts.named_line f (named_word k) site) same ∙ sym (named_said k name site)))
@@ -134,17 +134,17 @@ check_refused name d next Memory h = tt
 check_refused name d next _ h = absurd h
 
 -- a phase that does not refuse leads on
-pub forms_on : (name text : List ℕ) (read : Trees) (next : Next Trees) (report : Report) → forms.Reads text read → Agrees (next read) report → Agrees (HasForms name text next) report
+pub forms_on : (name text : List ℕ) (read : Trees) (next : Next Trees) (report : Decision) → forms.Reads text read → Agrees (next read) report → Agrees (HasForms name text next) report
 forms_on name text read next report is = agrees_weaker (next read) (HasForms name text next) (λ s t a. inl (read, is, a)) report
 
-pub description_on : (name : List ℕ) (read : Trees) (d : Description) (next : Next Description) (report : Report) → description_forms.Reads read d → Agrees (next d) report → Agrees (Describes name read next) report
+pub description_on : (name : List ℕ) (read : Trees) (d : Description) (next : Next Description) (report : Decision) → description_forms.Reads read d → Agrees (next d) report → Agrees (Describes name read next) report
 description_on name read d next report is = agrees_weaker (next d) (Describes name read next) (λ s t a. inl (d, is, a)) report
 
-pub check_on : (name : List ℕ) (d : Description) (known : Known) (next : Next Known) (report : Report) → IsSound d known → Agrees (next known) report → Agrees (Checks name d next) report
+pub check_on : (name : List ℕ) (d : Description) (known : Known) (next : Next Known) (report : Decision) → IsSound d known → Agrees (next known) report → Agrees (Checks name d next) report
 check_on name d known next report is = agrees_weaker (next known) (Checks name d next) (λ s t a. inl (known, is, a)) report
 
 -- what is wrong with the text of a description is told
-pub described_refused : (name bytes : List ℕ) (next : (d : Description) → Next Known) (report : Report) → IsDescribedReport name bytes report → Agrees (HasDescription name bytes next) report
+pub described_refused : (name bytes : List ℕ) (next : (d : Description) → Next Known) (report : Decision) → IsDescribedReport name bytes report → Agrees (HasDescription name bytes next) report
 described_refused name bytes next report =
     ⊎_elim (forms_refused name bytes says report)
     (λ h. forms_on name bytes h.0 says report h.1
@@ -155,7 +155,7 @@ described_refused name bytes next report =
     says read = Describes name read (λ d. Checks name d (next d))
 
 -- a description without a fault leads on
-pub described_on : (name bytes : List ℕ) (checked : Checked) (next : (d : Description) → Next Known) (report : Report) (is : IsCheckedIn bytes checked) → Agrees (next is.d is.is.known) report → Agrees (HasDescription name bytes next) report
+pub described_on : (name bytes : List ℕ) (checked : Checked) (next : (d : Description) → Next Known) (report : Decision) (is : IsCheckedIn bytes checked) → Agrees (next is.d is.is.known) report → Agrees (HasDescription name bytes next) report
 described_on name bytes checked next report is h =
     forms_on name bytes is.read (λ read. Describes name read (λ d. Checks name d (next d))) report is.forms
     (description_on name is.read is.d (λ d. Checks name d (next d)) report is.says (check_on name is.d is.is.known (next is.d) report is.is.sound h))
@@ -171,7 +171,7 @@ rtl_said kind.InsnLimit P h = (rtl.insn_limit, h, refl)
 rtl_said _ P h = absurd h
 
 -- the first wrong form of a block is told
-pub block_refused : (name : List ℕ) (read : Trees) (next : Next (List Instruction)) (report : Report) → IsRtlReport name (blocks.FaultAt read) report → Agrees (IsBlock name read next) report
+pub block_refused : (name : List ℕ) (read : Trees) (next : Next (List Instruction)) (report : Decision) → IsRtlReport name (blocks.FaultAt read) report → Agrees (IsBlock name read next) report
 block_refused name read next (Fault file line k) (same, wrong) =
     let said = rtl_said k (λ fault. blocks.FaultAt read fault line) wrong in
     inr (said.0, line, said.1, (refl, ap (λ (f : List ℕ). fault_line f line (kind_word k ∷ [])) same ∙ ap (λ (w : List ℕ). fault_line name line (w ∷ [])) said.2))
@@ -179,30 +179,30 @@ block_refused name read next Memory h = tt
 block_refused name read next _ h = absurd h
 
 -- the first wrong form of a state is told
-pub state_refused : (name : List ℕ) (read : Trees) (next : Next State) (report : Report) → IsRtlReport name (states.FaultAt read) report → Agrees (IsState name read next) report
+pub state_refused : (name : List ℕ) (read : Trees) (next : Next State) (report : Decision) → IsRtlReport name (states.FaultAt read) report → Agrees (IsState name read next) report
 state_refused name read next (Fault file line k) (same, wrong) =
     let said = rtl_said k (λ fault. states.FaultAt read fault line) wrong in
     inr (said.0, line, said.1, (refl, ap (λ (f : List ℕ). fault_line f line (kind_word k ∷ [])) same ∙ ap (λ (w : List ℕ). fault_line name line (w ∷ [])) said.2))
 state_refused name read next Memory h = tt
 state_refused name read next _ h = absurd h
 
-pub block_on : (name : List ℕ) (read : Trees) (block : List Instruction) (next : Next (List Instruction)) (report : Report) → blocks.Reads read block → Agrees (next block) report → Agrees (IsBlock name read next) report
+pub block_on : (name : List ℕ) (read : Trees) (block : List Instruction) (next : Next (List Instruction)) (report : Decision) → blocks.Reads read block → Agrees (next block) report → Agrees (IsBlock name read next) report
 block_on name read block next report is = agrees_weaker (next block) (IsBlock name read next) (λ s t a. inl (block, is, a)) report
 
-pub state_on : (name : List ℕ) (read : Trees) (state : State) (next : Next State) (report : Report) → states.Reads read state → Agrees (next state) report → Agrees (IsState name read next) report
+pub state_on : (name : List ℕ) (read : Trees) (state : State) (next : Next State) (report : Decision) → states.Reads read state → Agrees (next state) report → Agrees (IsState name read next) report
 state_on name read state next report is = agrees_weaker (next state) (IsState name read next) (λ s t a. inl (state, is, a)) report
 
 -- the instructions of a block have classes
-pub classes_on : (name : List ℕ) (d : Description) (block : List Instruction) (next : ℕ → List ℕ → Type 0) (report : Report) → All (λ i. (class : ℕ) × (class_in d i ≡ Ok class)) block → Agrees next report → Agrees (HasClasses name d block next) report
+pub classes_on : (name : List ℕ) (d : Description) (block : List Instruction) (next : ℕ → List ℕ → Type 0) (report : Decision) → All (λ i. (class : ℕ) × (class_in d i ≡ Ok class)) block → Agrees next report → Agrees (HasClasses name d block next) report
 classes_on name d block next report all = agrees_weaker next (HasClasses name d block next) (λ s t a. inl (all, a)) report
 
 -- the first whose class is wrong is told
-pub class_refused : (name : List ℕ) (d : Description) (names : List (List ℕ)) (block : List Instruction) (next : ℕ → List ℕ → Type 0) (report : Report) (i : Instruction) (fault : ClassFault) → names ≡ class_names d → IsFirstClassFault d block i fault
+pub class_refused : (name : List ℕ) (d : Description) (names : List (List ℕ)) (block : List Instruction) (next : ℕ → List ℕ → Type 0) (report : Decision) (i : Instruction) (fault : ClassFault) → names ≡ class_names d → IsFirstClassFault d block i fault
     → Agrees (Says 2 (class_line name names i fault)) report → Agrees (HasClasses name d block next) report
 class_refused name d names block next report i fault same first =
     agrees_weaker (Says 2 (class_line name names i fault)) (HasClasses name d block next)
     (λ s t a. inr (i, fault, first, (a.0, a.1 ∙ ap (λ (ns : List (List ℕ)). class_line name ns i fault) same))) report
 
 -- the first that can't be issued from the start is told
-pub stuck_refused : (name : List ℕ) (d : Description) (known : Known) (block : List Instruction) (report : Report) (i : Instruction) → IsFirstStuck d known block i → Agrees (Says 2 (stuck_line name i)) report → Agrees (Schedules name d known block) report
+pub stuck_refused : (name : List ℕ) (d : Description) (known : Known) (block : List Instruction) (report : Decision) (i : Instruction) → IsFirstStuck d known block i → Agrees (Says 2 (stuck_line name i)) report → Agrees (Schedules name d known block) report
 stuck_refused name d known block report i first = agrees_weaker (Says 2 (stuck_line name i)) (Schedules name d known block) (λ s t a. inr (i, first, a)) report

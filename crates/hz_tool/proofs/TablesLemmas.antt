@@ -26,8 +26,8 @@ use Rattle.hz_tabtext_model.specs.Texts.{TableText, spelled}
 use Rattle.hz_report.specs.Kinds.{kind_word, tables_fault}
 use Rattle.hz_report.specs.declared.kind.Kind.{Kind}
 use Rattle.hz_report.specs.declared.kind.Kind.TheVariants as kind
-use Rattle.hz_report.specs.declared.report.Report.{Report}
-use Rattle.hz_report.specs.declared.report.Report.TheVariants.{Tables, Fault, Memory}
+use Rattle.hz_tool.specs.declared.decision.Decision.{Decision}
+use Rattle.hz_tool.specs.declared.decision.Decision.TheVariants.{Tables, Fault, Memory}
 use Rattle.hz_tool.proofs.AnswerLemmas.{agrees_weaker}
 use Rattle.hz_tool.proofs.MachineLemmas.{compiled_of}
 use Rattle.hz_tool.specs.Compiled.{IsCompiledBy}
@@ -66,7 +66,7 @@ tables_said_by kind.Trailing P h = (tables.trailing, h, refl)
 tables_said_by _ P h = absurd h
 
 -- the first fault of a tables text is told
-pub tables_refused : (name text : List ℕ) (next : Next Machine) (report : Report) → IsTablesReport name text report → Agrees (HasTables name text next) report
+pub tables_refused : (name text : List ℕ) (next : Next Machine) (report : Decision) → IsTablesReport name text report → Agrees (HasTables name text next) report
 tables_refused name text next (Fault file line k) (same, wrong) =
     let said = tables_said_by k (λ wrong. tables_in text ≡ Err (record { kind = wrong; line = line })) wrong in
     inr (record { kind = said.0; line = line }, said.1, (refl, ap (λ (f : List ℕ). fault_line f line (kind_word k ∷ [])) same ∙ ap (λ (w : List ℕ). fault_line name line (w ∷ [])) said.2))
@@ -74,5 +74,5 @@ tables_refused name text next Memory h = tt
 tables_refused name text next _ h = absurd h
 
 -- the machine of a tables text leads on
-pub tables_on : (name text : List ℕ) (m : Machine) (next : Next Machine) (report : Report) → TableText text m → Agrees (next m) report → Agrees (HasTables name text next) report
+pub tables_on : (name text : List ℕ) (m : Machine) (next : Next Machine) (report : Decision) → TableText text m → Agrees (next m) report → Agrees (HasTables name text next) report
 tables_on name text m next report stands h = agrees_weaker (next m) (HasTables name text next) (λ s t x. inl (m, stands, x)) report h

@@ -21,8 +21,8 @@ use Rattle.hz_tool.specs.Decisions.{Agrees, IsTraceReport}
 use Rattle.hz_report.specs.Kinds.{kind_word, trace_fault}
 use Rattle.hz_report.specs.declared.kind.Kind.{Kind}
 use Rattle.hz_report.specs.declared.kind.Kind.TheVariants as kind
-use Rattle.hz_report.specs.declared.report.Report.{Report}
-use Rattle.hz_report.specs.declared.report.Report.TheVariants as report
+use Rattle.hz_tool.specs.declared.decision.Decision.{Decision}
+use Rattle.hz_tool.specs.declared.decision.Decision.TheVariants as report
 
 -- what is said of the fault that a kind tells holds of one with the kind's word
 trace_said : (k : Kind) (P : TraceFault → Type 0) → MatchOption (trace_fault k) ⊥ P → (fault : TraceFault) × P fault × (kind_word k ≡ trace_word fault)
@@ -32,7 +32,7 @@ trace_said kind.AdvanceLimit P h = (trace.too_many_advances, h, refl)
 trace_said _ P h = absurd h
 
 -- the first wrong line of a trace is told
-pub trace_refused : (classes : List (List ℕ)) (name text : List ℕ) (next : List Event → ℕ → List ℕ → Type 0) (report : Report) → IsTraceReport name classes text report → Agrees (Traces classes name text next) report
+pub trace_refused : (classes : List (List ℕ)) (name text : List ℕ) (next : List Event → ℕ → List ℕ → Type 0) (report : Decision) → IsTraceReport name classes text report → Agrees (Traces classes name text next) report
 trace_refused classes name text next (report.Fault file line k) (same, wrong) =
     let said = trace_said k (λ fault. TraceFaultAt classes text fault line) wrong in
     inr (said.0, line, said.1, (refl, ap (λ (f : List ℕ). fault_line f line (kind_word k ∷ [])) same ∙ ap (λ (w : List ℕ). fault_line name line (w ∷ [])) said.2))
@@ -40,7 +40,7 @@ trace_refused classes name text next report.Memory h = tt
 trace_refused classes name text next _ h = absurd h
 
 -- the events of a trace, replayed
-pub trace_replayed : (classes : List (List ℕ)) (name text : List ℕ) (events : List Event) (next : List Event → ℕ → List ℕ → Type 0) (report : Report) → Trace classes text events → Agrees (next events) report → Agrees (Traces classes name text next) report
+pub trace_replayed : (classes : List (List ℕ)) (name text : List ℕ) (events : List Event) (next : List Event → ℕ → List ℕ → Type 0) (report : Decision) → Trace classes text events → Agrees (next events) report → Agrees (Traces classes name text next) report
 trace_replayed classes name text events next report is h = agrees_weaker (next events) (Traces classes name text next) (λ s t a. inl (events, is, a)) report h
 
 -- the line of an event
