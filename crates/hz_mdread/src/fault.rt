@@ -4,7 +4,7 @@ ghost use Rattle.std.specs.Prelude.{◌≡◌};
 ghost use Rattle.std.specs.Option.{option_and_then};
 ghost use Rattle.hz_description_model.specs.Reading.DescriptionForms.{description_at, description_word};
 ghost use Rattle.hz_mdread.specs.Faults.{fault_at, fault_of, bad_expression_of};
-ghost use Rattle.hz_regexp.specs.Faults.{told_by, told_in};
+ghost use Rattle.hz_base_model.specs.Told.{told_by, told_in};
 ghost use Rattle.hz_mdread.specs.declared.fault.Wrong.TheVariants.{NoMemory as no_memory};
 
 use hz_regexp::ExprFault;

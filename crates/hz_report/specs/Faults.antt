@@ -4,10 +4,6 @@ use Rattle.std.specs.List.{concat}
 use Rattle.std.specs.Borrow.{Bor}
 use Rattle.hz_answer_model.specs.Texts.{insn_words, name_words, at_words}
 
--- the bytes of a word, and a place
-abbrev pub place_in : Option (Bor (List ℕ) × ℕ) → Option (List ℕ × ℕ)
-place_in None = None
-place_in (Some at) = Some (at.0.now, at.1)
 
 -- what a fault begins with
 abbrev pub head_of : (file : List ℕ) → (line : ℕ) → (kind : List ℕ) → List ℕ

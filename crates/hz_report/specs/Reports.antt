@@ -4,7 +4,7 @@ use Rattle.std.specs.Option.{option_map}
 use Rattle.hz_answer_model.specs.Texts as model
 use Rattle.hz_check.specs.Faults.{limit_of}
 use Rattle.hz_description_model.specs.Check.CheckFaults.{limit_word}
-use Rattle.hz_report.specs.Faults.{place_in}
+use Rattle.hz_base_model.specs.Told.{told_in}
 use Rattle.hz_report.specs.Schedules.{IsInRange, schedule_by}
 use Rattle.hz_rtl.specs.Listings.{listing}
 use Rattle.hz_sched.specs.Shape.{graph_of, slots_of}
@@ -20,7 +20,7 @@ text_of (Refused line class) = model.refused_line line class.now
 text_of (Scheduled machine graph schedule) = schedule_by machine.now.classes.items (map (λ i. i.number) graph.now.insns.items) (graph_of graph.now) (slots_of schedule.now.slots.items)
 text_of (After state) = listing_text (listing state.now)
 text_of (Drill turns issues cycles states) = model.drill_text turns issues cycles states.now
-text_of (Fault file line kind insn first second at) = model.fault_text file.now line kind.now insn (option_map (λ n. n.now) first) (option_map (λ n. n.now) second) (place_in at)
+text_of (Fault file line kind insn first second at) = model.fault_text file.now line kind.now insn (option_map (λ n. n.now) first) (option_map (λ n. n.now) second) (told_in at)
 text_of (Bytes file) = model.limit_line file.now
 text_of (Checked file line what name) = model.passed_line file.now line (limit_word (limit_of what)) name.now
 text_of (Automaton file name) = model.states_line file.now name.now

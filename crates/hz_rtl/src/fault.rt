@@ -2,7 +2,7 @@
 
 ghost use Rattle.std.specs.Prelude.{◌≡◌};
 ghost use Rattle.hz_block_model.specs.Texts.Operands.{rtl_word};
-ghost use Rattle.hz_regexp.specs.Faults.{told_by, told_in};
+ghost use Rattle.hz_base_model.specs.Told.{told_by, told_in};
 ghost use Rattle.hz_rtl.specs.Faults.{fault_of};
 ghost use Rattle.hz_rtl.specs.declared.fault.RtlFault.TheVariants.{NoMemory as no_memory};
 

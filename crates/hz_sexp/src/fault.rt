@@ -2,7 +2,8 @@
 
 ghost use Rattle.std.specs.Prelude.{◌≡◌};
 ghost use Rattle.hz_base_model.specs.Forms.Forms.{form_word};
-ghost use Rattle.hz_sexp.specs.Faults.{fault_of, told_by, told_in};
+ghost use Rattle.hz_base_model.specs.Told.{told_by, told_in};
+ghost use Rattle.hz_sexp.specs.Faults.{fault_of};
 ghost use Rattle.hz_sexp.specs.declared.fault.SexpFault.TheVariants.{NoMemory as no_memory};
 
 use std::alloc::{AllocError, AllocFailed};

@@ -4,7 +4,7 @@ use Rattle.hz_answer_model.specs.Texts as model
 use Rattle.hz_block_model.specs.Texts.StateTexts.{listing_text}
 use Rattle.hz_check.specs.Faults.{limit_of}
 use Rattle.hz_description_model.specs.Check.CheckFaults.{limit_word}
-use Rattle.hz_report.specs.Faults.{place_in}
+use Rattle.hz_base_model.specs.Told.{told_in}
 use Rattle.hz_report.specs.Schedules.{IsInRange, schedule_by}
 use Rattle.hz_rtl.specs.Listings.{listing}
 use Rattle.hz_sched.specs.Shape.{graph_of, slots_of}
@@ -22,7 +22,7 @@ text_of (Tables compiled checked) = spelled (says compiled checked)
 text_of (Scheduled machine graph schedule) = schedule_by machine.classes.items (map (λ i. i.number) graph.insns.items) (graph_of graph) (slots_of schedule.slots.items)
 text_of (Drilled turns issues cycles states) = model.drill_text turns issues cycles states.items
 text_of (After state) = listing_text (listing state)
-text_of (Fault file line kind insn first second at) = model.fault_text file.now line kind.now insn first second (place_in at)
+text_of (Fault file line kind insn first second at) = model.fault_text file.now line kind.now insn first second (told_in at)
 text_of (Limit file line what name) = model.passed_line file.now line (limit_word (limit_of what)) name
 text_of (Automaton file name) = model.states_line file.now name
 text_of (Bytes file) = model.limit_line file.now
