@@ -1,6 +1,10 @@
 //! What is decided of each fault of the crates below: one function a text.
 
 ghost use Rattle.std.specs.Prelude.{◌≡◌};
+ghost use Rattle.hz_answer_model.specs.Answers.{TellsCheck};
+ghost use Rattle.hz_check.specs.Faults.{IsToldAt, Tells};
+ghost use Rattle.hz_description_model.specs.Reading.Descriptions.{Description};
+ghost use Rattle.hz_tool.specs.Decisions.{Agrees};
 ghost use Rattle.hz_tool.specs.Telling as telling;
 
 use crate::decision::Decision;
@@ -78,7 +82,9 @@ fn decide_named<'a>(
 }
 
 /// What is decided of a fault or a limit that the check tells.
-pub fn decide_check<'a>(file: &'a str, fault: CheckFault) -> Decision<'a> {
+pub fn decide_check<'a>(file: &'a str, fault: CheckFault) -> Decision<'a>
+    ensures { (d : Description) → Tells (IsToldAt d) fault → Agrees (TellsCheck file.entry.now d) result }
+{
     let told = fault.told();
     let limit = fault.limit();
     decide_named(file, told, limit, fault.into_name())

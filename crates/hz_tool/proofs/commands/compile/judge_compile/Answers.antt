@@ -11,4 +11,4 @@ returns-in-Ok-clause-answer c =
 pub returns-in-Err-clause-answer : goal.returns-in-Err-clause-answer
 returns-in-Err-clause-answer c =
     let order = c.args.order.now in
-    described_refused order.description.now c.args.described.now (CompilesDescription order.description.now) c.in-Err.report c.in-Err.ensures.err
+    described_refused order.description.now c.args.described.now (CompilesDescription order.description.now) c.in-Err.decision c.in-Err.ensures.err

@@ -14,4 +14,4 @@ returns-in-Ok-clause-answer c = λ d is.
 pub returns-in-Err-clause-answer : goal.returns-in-Err-clause-answer
 returns-in-Err-clause-answer c = λ d is.
     let order = c.args.order.now in
-    limit_refused order.description.now d is.known (Drills d is.known order.number order.turns) c.in-Err.report (c.in-Err.ensures.err d is)
+    limit_refused order.description.now d is.known (Drills d is.known order.number order.turns) c.in-Err.decision (c.in-Err.ensures.err d is)

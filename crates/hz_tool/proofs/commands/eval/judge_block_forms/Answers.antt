@@ -10,4 +10,4 @@ returns-in-Ok-clause-answer c =
 
 pub returns-in-Err-clause-answer : goal.returns-in-Err-clause-answer
 returns-in-Err-clause-answer c =
-    block_refused c.args.order.now.block.now (trees c.args.read.now) (EvaluatesFrom c.args.order.now.state.now c.args.stated.now) c.in-Err.report c.in-Err.ensures.err
+    block_refused c.args.order.now.block.now (trees c.args.read.now) (EvaluatesFrom c.args.order.now.state.now c.args.stated.now) c.in-Err.decision c.in-Err.ensures.err

@@ -16,4 +16,4 @@ returns-in-Ok-clause-answer c =
 
 pub returns-in-Err-clause-answer : goal.returns-in-Err-clause-answer
 returns-in-Err-clause-answer c =
-    forms_refused c.args.order.now.block.now c.args.blocked.now (λ read. IsBlock c.args.order.now.block.now read (EvaluatesFrom c.args.order.now.state.now c.args.stated.now)) c.in-Err.report c.in-Err.ensures.err
+    forms_refused c.args.order.now.block.now c.args.blocked.now (λ read. IsBlock c.args.order.now.block.now read (EvaluatesFrom c.args.order.now.state.now c.args.stated.now)) c.in-Err.decision c.in-Err.ensures.err

@@ -11,4 +11,4 @@ returns-in-Ok-clause-answer c =
 
 pub returns-in-Err-clause-answer : goal.returns-in-Err-clause-answer
 returns-in-Err-clause-answer c =
-    state_refused c.args.order.now.state.now (trees c.args.read.now) (Evaluates (instructions c.args.block.now)) c.in-Err.report c.in-Err.ensures.err
+    state_refused c.args.order.now.state.now (trees c.args.read.now) (Evaluates (instructions c.args.block.now)) c.in-Err.decision c.in-Err.ensures.err

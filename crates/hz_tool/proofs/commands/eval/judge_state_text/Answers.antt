@@ -17,4 +17,4 @@ returns-in-Ok-clause-answer c =
 
 pub returns-in-Err-clause-answer : goal.returns-in-Err-clause-answer
 returns-in-Err-clause-answer c =
-    forms_refused c.args.order.now.state.now c.args.stated.now (λ read. IsState c.args.order.now.state.now read (Evaluates (instructions c.args.block.now))) c.in-Err.report c.in-Err.ensures.err
+    forms_refused c.args.order.now.state.now c.args.stated.now (λ read. IsState c.args.order.now.state.now read (Evaluates (instructions c.args.block.now))) c.in-Err.decision c.in-Err.ensures.err

@@ -30,7 +30,7 @@ decide_outcome-requires-clause-classes c =
 pub returns-in-Err-clause-answer : goal.returns-in-Err-clause-answer
 returns-in-Err-clause-answer c =
     let m = machine_of c.args.machine.now in
-    trace_refused m.classes c.args.file.now c.args.trace.now (Walks m (event_lines m.classes 1 (lines_of c.args.trace.now))) c.in-Err.report c.in-Err.ensures.err
+    trace_refused m.classes c.args.file.now c.args.trace.now (Walks m (event_lines m.classes 1 (lines_of c.args.trace.now))) c.in-Err.decision c.in-Err.ensures.err
 
 pub returns-clause-answer : goal.returns-clause-answer
 returns-clause-answer c =

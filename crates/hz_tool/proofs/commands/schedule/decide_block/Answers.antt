@@ -6,7 +6,7 @@ use Rattle.hz_sched.specs.Shape.{graph_of}
 use Rattle.hz_block_model.specs.Scheduled.BlockGraphs.{classes_of}
 use Rattle.hz_block_model.proofs.Scheduled.GraphLaws.{all_have_classes}
 use Rattle.hz_tool.proofs.BlockLemmas.{graph_size, is_graph, first_wrong, wrong_within, wrong_below}
-use Rattle.hz_tool.proofs.BlockTelling.{wrong_in, wrong_judged, wrong_turned}
+use Rattle.hz_tool.proofs.BlockTelling.{wrong_in, wrong_told}
 use Rattle.hz_tool.proofs.JudgeLemmas.{classes_on}
 use Rattle.hz_tool.specs.Blocks.{IsFaultIn}
 use Rattle.hz_tool.proofs.commands.schedule.decide_block.Goals as goal
@@ -37,14 +37,10 @@ decide_depend-requires c =
     let low = wrong_within checked 0 insns place e here in
     (omega (arith, low), subst (λ (n : ℕ). IsFaultIn n e) (sym c.requires.classes) (wrong_below checked 0 insns place e here)))
 
-pub returns-clause-kind : goal.returns-clause-kind
-returns-clause-kind c =
-    wrong_judged c.args.file c.args.machine.classes.items c.args.block.now.insns.items c.in-Err.fault c.decide_depend.result c.decide_depend.ensures
-
 pub returns-clause-answer : goal.returns-clause-answer
 returns-clause-answer c = λ d is machine.
     let checked = c.args.checked.now in
     let block = c.args.block.now in
-    wrong_turned c.args.file d c.args.machine.classes.items block.insns.items (Schedules c.args.file.now d is.known (instructions block)) c.in-Err.fault c.decide_depend.result machine.names
+    wrong_told c.args.file d c.args.machine.classes.items block.insns.items (Schedules c.args.file.now d is.known (instructions block)) c.in-Err.fault c.decide_depend.result machine.names
     (λ place e insn told there. first_wrong d checked is block.insns.items place e insn (sym c.in-Err.ensures.fault ∙ told) there)
-    c.decide_depend.ensures
+    c.decide_depend.ensures.answer

@@ -12,4 +12,4 @@ returns-in-Ok-clause-answer c = λ d is machine.
 pub returns-in-Err-clause-answer : goal.returns-in-Err-clause-answer
 returns-in-Err-clause-answer c = λ d is machine.
     let file = c.args.file.now in
-    block_refused file (trees c.args.read.now) (λ insns. HasClasses file d insns (Schedules file d is.known insns)) c.in-Err.report c.in-Err.ensures.err
+    block_refused file (trees c.args.read.now) (λ insns. HasClasses file d insns (Schedules file d is.known insns)) c.in-Err.decision c.in-Err.ensures.err

@@ -4,7 +4,7 @@ use Rattle.hz_rtl.specs.Shape.{instructions}
 use Rattle.hz_sched.specs.Shape.{graph_of, node_of, slots_of}
 use Rattle.hz_block_model.proofs.Scheduling.StuckLaws.{first_stuck as stuck_first}
 use Rattle.hz_tables.specs.Machines.{machine_of}
-use Rattle.hz_tool.proofs.BlockTelling.{stuck_within, stuck_judged, stuck_turned}
+use Rattle.hz_tool.proofs.BlockTelling.{stuck_within, stuck_told}
 use Rattle.hz_tool.proofs.MachineLemmas.{classes_count}
 use Rattle.hz_tool.proofs.SlotLemmas.{nodes_below, schedule_is, text_told}
 use Rattle.hz_tool.proofs.StartLemmas.{each_starts, first_stuck}
@@ -39,15 +39,12 @@ decide_sched-requires c =
     stuck_within (length c.args.block.now.insns.items) c.in-Err.fault
     (λ place told. let low = (stuck_first m g place (sym c.in-Err.ensures.fault ∙ told)).0 in omega (arith, low, size, length-map c.args.graph.insns.items node_of))
 
-pub returns-clause-kind : goal.returns-clause-kind
-returns-clause-kind c = stuck_judged c.args.file c.args.block.now.insns.items c.in-Err.fault c.decide_sched.result c.decide_sched.ensures
-
 pub returns-clause-answer : goal.returns-clause-answer
 returns-clause-answer c = λ d known machine graph numbers.
     let m = machine_of c.args.machine in
     let g = graph_of c.args.graph in
     let block = instructions c.args.block.now in
     let ranges = nodes_below (length m.classes) (length d.classes) c.args.graph c.requires.schedulable.classes (classes_count d known m machine) in
-    stuck_turned c.args.file d known c.args.block.now.insns.items c.in-Err.fault c.decide_sched.result
+    stuck_told c.args.file d known c.args.block.now.insns.items c.in-Err.fault c.decide_sched.result
     (λ place i told there. first_stuck d known m machine g block graph ranges place i (sym c.in-Err.ensures.fault ∙ told) there)
-    c.decide_sched.ensures
+    c.decide_sched.ensures.answer

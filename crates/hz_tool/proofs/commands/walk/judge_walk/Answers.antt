@@ -11,4 +11,4 @@ returns-in-Ok-clause-answer c =
 pub returns-in-Err-clause-answer : goal.returns-in-Err-clause-answer
 returns-in-Err-clause-answer c =
     let order = c.args.order.now in
-    tables_refused order.tables.now c.args.tabled.now (WalksTrace order.trace.now c.args.trace.now) c.in-Err.report c.in-Err.ensures.err
+    tables_refused order.tables.now c.args.tabled.now (WalksTrace order.trace.now c.args.trace.now) c.in-Err.decision c.in-Err.ensures.err

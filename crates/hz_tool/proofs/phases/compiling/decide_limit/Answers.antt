@@ -1,11 +1,11 @@
-use Rattle.std.proofs.Common.{map, sym, subst, ◌∙◌, arith}
+use Rattle.std.proofs.Common.{map, sym, subst, ◌∙◌, [], arith}
+use Rattle.std.specs.Prelude.{slice_index_or}
 use Rattle.std.proofs.lemmas.List.{length-map}
-use Rattle.std.specs.Prelude.{[], slice_index_or}
 use Rattle.hz_check.specs.Shape.{automaton_of}
 use Rattle.hz_tool.proofs.MachineLemmas.{limit_told}
-use Rattle.hz_tool.proofs.TellingLemmas.{limited_past, states_judged, states_turned}
-use Rattle.hz_tool.specs.Fronts.{IsStatesReport}
-use Rattle.hz_tool.proofs.phases.compiling.decide_fault.Goals as goal
+use Rattle.hz_tool.proofs.TellingLemmas.{limited_past, states_told, states_judged}
+use Rattle.hz_tool.specs.Fronts.{IsStatesTold}
+use Rattle.hz_tool.proofs.phases.compiling.decide_limit.Goals as goal
 
 pub name_of-requires : goal.name_of-requires
 name_of-requires c =
@@ -20,7 +20,7 @@ returns-in-Some-clause-told c = λ d is.
     let past = limited_past checked c.args.fault a c.requires (sym c.limited.ensures ∙ c.in-Some.is) in
     let name = slice_index_or (map (λ x. x.name) checked.automata.items) a [] in
     limit_told d checked is c.args.file.now a past.0 past.1 c.decide_states.result
-    (subst (IsStatesReport c.args.file.now name) (sym c.decide_states.ensures) (states_turned c.args.file name c.name_of.result c.name_of.ensures))
+    (subst (IsStatesTold c.args.file.now name) (sym c.decide_states.ensures) (states_told c.args.file name c.name_of.result c.name_of.ensures))
 
 pub returns-in-Some-clause-kind : goal.returns-in-Some-clause-kind
 returns-in-Some-clause-kind c = states_judged c.args.file c.name_of.result c.decide_states.result c.decide_states.ensures
