@@ -4,7 +4,7 @@ ghost use Rattle.std.specs.Prelude.{◌≡◌};
 ghost use Rattle.std.specs.Option.{option_and_then, option_map};
 ghost use Rattle.hz_check.specs.Faults.{fault_of, limit_of};
 ghost use Rattle.hz_description_model.specs.Check.CheckFaults.{check_word, limit_passed, limit_word};
-ghost use Rattle.hz_regexp.specs.Faults.{told_by, told_in};
+ghost use Rattle.hz_base_model.specs.Told.{told_by, told_in};
 ghost use Rattle.hz_check.specs.declared.fault.CheckFault.TheVariants.{NoMemory as no_memory};
 
 use hz_regexp::Name;

@@ -1,7 +1,7 @@
 //! Why a text stands for no machine.
 
 ghost use Rattle.std.specs.Prelude.{◌≡◌};
-ghost use Rattle.hz_regexp.specs.Faults.{told_by, told_in};
+ghost use Rattle.hz_base_model.specs.Told.{told_by, told_in};
 ghost use Rattle.hz_tabfile.specs.Given.{fault_of};
 ghost use Rattle.hz_tabtext_model.specs.Judging.{tables_word};
 ghost use Rattle.hz_tabfile.specs.declared.reading.fault.TabFault.TheVariants.{NoMemory as no_memory};
