@@ -5,12 +5,10 @@ use Rattle.std.specs.declared.vec.Vec.{Vec}
 use Rattle.hz_answer_model.specs.Answers.{files_of}
 use Rattle.hz_answer_model.specs.Phases.{FileWord}
 use Rattle.hz_base_model.specs.Names.{Held}
-use Rattle.hz_report.specs.Schedules.{IsInRange}
-use Rattle.hz_tabfile.specs.Saying.{IsSayable}
 use Rattle.hz_words_model.specs.Words.{Order, order_of}
-use Rattle.hz_tool.specs.Decided.{status_of, text_of}
+use Rattle.hz_tool.specs.Decided.{IsTellable, status_of, text_of}
 use Rattle.hz_tool.specs.declared.decision.Decision.{Decision}
-use Rattle.hz_tool.specs.declared.decision.Decision.TheVariants.{Tables, Scheduled, Bytes, Usage, Memory, File}
+use Rattle.hz_tool.specs.declared.decision.Decision.TheVariants.{Bytes, Usage, Memory, File}
 
 -- it is decided that memory ran out
 abbrev pub is_memory : Decision → Bool
@@ -77,14 +75,12 @@ AreRead held [] [] = ⊤
 AreRead held (file ∷ files) (text ∷ texts) = (held file.name ≡ Some text) × (nat_lt file.most (length text) ≡ false) × AreRead held files texts
 AreRead held _ _ = ⊥
 
--- what is decided of texts that were judged: what tables tell can be said, and what a schedule names is in range
+-- what is decided of texts that were judged: it can be written, and is nothing of files or words
 abbrev pub IsJudged : Decision → Type 0
-IsJudged (Tables compiled checked) = IsSayable compiled checked
-IsJudged (Scheduled machine graph made) = IsInRange machine graph made
 IsJudged (Bytes file) = ⊥
 IsJudged Usage = ⊥
 IsJudged (File name) = ⊥
-IsJudged _ = ⊤
+IsJudged decision = IsTellable decision
 
 -- the usage line is decided exactly where the words are no order; memory may run out in its place
 abbrev pub DecidesWords : Option Order → Decision → Type 0

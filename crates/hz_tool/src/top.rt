@@ -1,6 +1,6 @@
 //! The top call: the words, the files, the texts, and then the answer.
 
-ghost use Rattle.std.specs.Prelude.{◌≡◌, ◌⊎◌, ◌↔◌, ℕ, List, ◌-◌, ◌^◌, ◌<◌, ◌≤◌, None, Some, All, length};
+ghost use Rattle.std.specs.Prelude.{◌≡◌, ◌⊎◌, ◌↔◌, ℕ, List, ◌-◌, ◌^◌, ◌<◌, ◌≤◌, IfOk, None, Some, All, length};
 ghost use Rattle.std.specs.Option.{ForSome};
 ghost use Rattle.hz_answer_model.specs.Answers.{Answer, AnswersOrder, JudgesOrder, files_of};
 ghost use Rattle.hz_answer_model.specs.Texts.{memory_line};
@@ -9,7 +9,7 @@ ghost use Rattle.hz_words_model.specs.Words.{usage_line};
 ghost use Rattle.hz_tool.specs.Decided.{IsTellable};
 ghost use Rattle.hz_tool.specs.Decisions.{Agrees, CountsDecision, DecidesWords, IsFileOf, IsFileWord, IsJudged, IsOfOrder, NamesFile};
 ghost use Rattle.hz_tool.specs.Endings.{AppendsFile, AppendsPromised, Completes, HasAll, HasRoom, IsAppended, IsCutShort};
-ghost use Rattle.hz_tool.specs.Reading.{texts_in};
+ghost use Rattle.hz_tool.specs.Reading.{texts_in, wanted_in};
 ghost use Rattle.hz_tool_words.specs.Shape.{words_in, order_in};
 
 use crate::commands::compile::judge_compile;
@@ -19,10 +19,31 @@ use crate::commands::replay::judge_replay;
 use crate::commands::schedule::judge_schedule;
 use crate::commands::walk::judge_walk;
 use crate::decision::Decision;
-use crate::phases::read::{files_of, read_all};
+use crate::phases::read::{
+    FileWord, block_file, description_file, read_all, state_file, tables_file, trace_file,
+};
 use hz_io::{Files, Sink};
 use hz_tool_words::{Order, order_of};
-use std::alloc::Global;
+use std::alloc::{AllocError, Global};
+
+/// The file words of an order with their limits, in the order in which they are read.
+fn files_of<'a>(alloc: Global, order: &Order<'a>) -> Result<Vec<FileWord<'a>>, AllocError>
+    ensures words { IfOk result (λ files. wanted_in files.items ≡ files_of (order_in order.now)) }
+    ensures low { IfOk result (λ files. All (λ file. file.most < 2 ^ 32) files.items) }
+{
+    match order {
+        Order::Compile(order) => vec![in alloc; description_file(order.description)],
+        Order::Replay(order) => {
+            vec![in alloc; description_file(order.description), trace_file(order.trace)]
+        }
+        Order::Walk(order) => vec![in alloc; tables_file(order.tables), trace_file(order.trace)],
+        Order::Schedule(order) => {
+            vec![in alloc; description_file(order.description), block_file(order.block)]
+        }
+        Order::Eval(order) => vec![in alloc; block_file(order.block), state_file(order.state)],
+        Order::Drill(order) => vec![in alloc; description_file(order.description)],
+    }
+}
 
 /// What is decided of an order over the bytes of its files.
 fn judge_order<'a>(alloc: Global, order: &Order<'a>, texts: &[Vec<u8>]) -> Decision<'a>

@@ -5,13 +5,11 @@ ghost use Rattle.std.specs.Option.{ForSome};
 ghost use Rattle.hz_answer_model.specs.Answers.{files_of};
 ghost use Rattle.hz_tool.specs.Decisions.{Agrees, AreRead, CountsRead, IsReadDecision, NamesFile, TellsFile};
 ghost use Rattle.hz_tool.specs.Reading.{Refuses, texts_in, wanted_in, word_of};
-ghost use Rattle.hz_tool_words.specs.Shape.{order_in};
 
 use crate::decision::Decision;
 use crate::phases::telling::decide_slurp;
 use hz_io::{Files, slurp};
-use hz_tool_words::Order;
-use std::alloc::{AllocError, Global};
+use std::alloc::Global;
 
 /// Bytes of a description, at most.
 const DESCRIPTION_LIMIT: u64 = 4_194_304;
@@ -35,37 +33,53 @@ pub struct FileWord<'a> {
     pub most: u64,
 }
 
-/// A file of this name, of at most so many bytes.
-fn file_word<'a>(name: &'a str, most: u64) -> FileWord<'a>
-    ensures { result ≡ word_of name.entry most }
+/// The file of a description.
+pub fn description_file<'a>(name: &'a str) -> FileWord<'a>
+    ensures { result ≡ word_of name.entry description_limit }
 {
-    FileWord { name, most }
+    FileWord {
+        name,
+        most: DESCRIPTION_LIMIT,
+    }
 }
 
-/// The file words of an order with their limits, in the order in which they are read.
-pub fn files_of<'a>(alloc: Global, order: &Order<'a>) -> Result<Vec<FileWord<'a>>, AllocError>
-    ensures words { IfOk result (λ files. wanted_in files.items ≡ files_of (order_in order.now)) }
-    ensures low { IfOk result (λ files. All (λ file. file.most < 2 ^ 32) files.items) }
+/// The file of a trace.
+pub fn trace_file<'a>(name: &'a str) -> FileWord<'a>
+    ensures { result ≡ word_of name.entry trace_limit }
 {
-    match order {
-        Order::Compile(order) => {
-            vec![in alloc; file_word(order.description, DESCRIPTION_LIMIT)]
-        }
-        Order::Replay(order) => {
-            vec![in alloc; file_word(order.description, DESCRIPTION_LIMIT), file_word(order.trace, TRACE_LIMIT)]
-        }
-        Order::Walk(order) => {
-            vec![in alloc; file_word(order.tables, TABLES_LIMIT), file_word(order.trace, TRACE_LIMIT)]
-        }
-        Order::Schedule(order) => {
-            vec![in alloc; file_word(order.description, DESCRIPTION_LIMIT), file_word(order.block, BLOCK_LIMIT)]
-        }
-        Order::Eval(order) => {
-            vec![in alloc; file_word(order.block, BLOCK_LIMIT), file_word(order.state, STATE_LIMIT)]
-        }
-        Order::Drill(order) => {
-            vec![in alloc; file_word(order.description, DESCRIPTION_LIMIT)]
-        }
+    FileWord {
+        name,
+        most: TRACE_LIMIT,
+    }
+}
+
+/// The file of a tables text.
+pub fn tables_file<'a>(name: &'a str) -> FileWord<'a>
+    ensures { result ≡ word_of name.entry tables_limit }
+{
+    FileWord {
+        name,
+        most: TABLES_LIMIT,
+    }
+}
+
+/// The file of a block.
+pub fn block_file<'a>(name: &'a str) -> FileWord<'a>
+    ensures { result ≡ word_of name.entry block_limit }
+{
+    FileWord {
+        name,
+        most: BLOCK_LIMIT,
+    }
+}
+
+/// The file of a state.
+pub fn state_file<'a>(name: &'a str) -> FileWord<'a>
+    ensures { result ≡ word_of name.entry state_text_limit }
+{
+    FileWord {
+        name,
+        most: STATE_LIMIT,
     }
 }
 
