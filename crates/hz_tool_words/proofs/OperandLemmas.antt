@@ -74,48 +74,75 @@ record Reads (name : Word) (n : ℕ) : Type 0 where
 module _ (name : Word) where
   took_one : Takes name 1
   unfolding clap_on_literals
-  took_one c ([]) h p = absurd (true≢false (sym h))
-  took_one c (a ∷ []) h p = (simp (p.0.long, p.0.short, p.0.dashes) refl, (simp (p.0.long, p.0.short, p.0.dashes) refl, tt))
-  took_one c (a ∷ b ∷ rest) h p = absurd (true≢false (sym h))
+  took_one c [] h plain = absurd (true≢false (sym h))
+  took_one c (a ∷ []) h (p, end) = (
+    simp (p.long, p.short, p.dashes) refl,
+    (
+      simp (p.long, p.short, p.dashes) refl,
+      tt,
+    ),
+  )
+  took_one c (a ∷ b ∷ rest) h plain = absurd (true≢false (sym h))
 
   fault_one : Faults name 1
   unfolding clap_on_literals
-  fault_one [] p = refl
-  fault_one (c ∷ []) p = refl
-  fault_one (c ∷ a ∷ []) p = simp (p.0.long, p.0.short, p.0.dashes) refl
-  fault_one (c ∷ a ∷ b ∷ rest) p = simp (p.0.long, p.0.short, p.0.dashes, p.1.0.long, p.1.0.short, p.1.0.dashes) refl
+  fault_one [] plain = refl
+  fault_one (c ∷ []) plain = refl
+  fault_one (c ∷ a ∷ []) (p, end) = simp (p.long, p.short, p.dashes) refl
+  fault_one (c ∷ a ∷ b ∷ rest) (p, (q, end)) = simp (p.long, p.short, p.dashes, q.long, q.short, q.dashes) refl
 
   took_two : Takes name 2
   unfolding clap_on_literals
-  took_two c ([]) h p = absurd (true≢false (sym h))
-  took_two c (a ∷ []) h p = absurd (true≢false (sym h))
-  took_two c (a ∷ b ∷ []) h p = (simp (p.0.long, p.0.short, p.0.dashes, p.1.0.long, p.1.0.short, p.1.0.dashes) refl, (simp (p.0.long, p.0.short, p.0.dashes, p.1.0.long, p.1.0.short, p.1.0.dashes) refl, (simp (p.0.long, p.0.short, p.0.dashes, p.1.0.long, p.1.0.short, p.1.0.dashes) refl, tt)))
-  took_two c (a ∷ b ∷ d ∷ rest) h p = absurd (true≢false (sym h))
+  took_two c [] h plain = absurd (true≢false (sym h))
+  took_two c (a ∷ []) h plain = absurd (true≢false (sym h))
+  took_two c (a ∷ b ∷ []) h (p, (q, end)) = (
+    simp (p.long, p.short, p.dashes, q.long, q.short, q.dashes) refl,
+    (
+      simp (p.long, p.short, p.dashes, q.long, q.short, q.dashes) refl,
+      (
+        simp (p.long, p.short, p.dashes, q.long, q.short, q.dashes) refl,
+        tt,
+      ),
+    ),
+  )
+  took_two c (a ∷ b ∷ d ∷ rest) h plain = absurd (true≢false (sym h))
 
   fault_two : Faults name 2
   unfolding clap_on_literals
-  fault_two [] p = refl
-  fault_two (c ∷ []) p = refl
-  fault_two (c ∷ a ∷ []) p = simp (p.0.long, p.0.short, p.0.dashes) refl
-  fault_two (c ∷ a ∷ b ∷ []) p = simp (p.0.long, p.0.short, p.0.dashes, p.1.0.long, p.1.0.short, p.1.0.dashes) refl
-  fault_two (c ∷ a ∷ b ∷ d ∷ rest) p = simp (p.0.long, p.0.short, p.0.dashes, p.1.0.long, p.1.0.short, p.1.0.dashes, p.1.1.0.long, p.1.1.0.short, p.1.1.0.dashes) refl
+  fault_two [] plain = refl
+  fault_two (c ∷ []) plain = refl
+  fault_two (c ∷ a ∷ []) (p, end) = simp (p.long, p.short, p.dashes) refl
+  fault_two (c ∷ a ∷ b ∷ []) (p, (q, end)) = simp (p.long, p.short, p.dashes, q.long, q.short, q.dashes) refl
+  fault_two (c ∷ a ∷ b ∷ d ∷ rest) (p, (q, (r, end))) = simp (p.long, p.short, p.dashes, q.long, q.short, q.dashes, r.long, r.short, r.dashes) refl
 
   took_three : Takes name 3
   unfolding clap_on_literals
-  took_three c ([]) h p = absurd (true≢false (sym h))
-  took_three c (a ∷ []) h p = absurd (true≢false (sym h))
-  took_three c (a ∷ b ∷ []) h p = absurd (true≢false (sym h))
-  took_three c (a ∷ b ∷ d ∷ []) h p = (simp (p.0.long, p.0.short, p.0.dashes, p.1.0.long, p.1.0.short, p.1.0.dashes, p.1.1.0.long, p.1.1.0.short, p.1.1.0.dashes) refl, (simp (p.0.long, p.0.short, p.0.dashes, p.1.0.long, p.1.0.short, p.1.0.dashes, p.1.1.0.long, p.1.1.0.short, p.1.1.0.dashes) refl, (simp (p.0.long, p.0.short, p.0.dashes, p.1.0.long, p.1.0.short, p.1.0.dashes, p.1.1.0.long, p.1.1.0.short, p.1.1.0.dashes) refl, (simp (p.0.long, p.0.short, p.0.dashes, p.1.0.long, p.1.0.short, p.1.0.dashes, p.1.1.0.long, p.1.1.0.short, p.1.1.0.dashes) refl, tt))))
-  took_three c (a ∷ b ∷ d ∷ e ∷ rest) h p = absurd (true≢false (sym h))
+  took_three c [] h plain = absurd (true≢false (sym h))
+  took_three c (a ∷ []) h plain = absurd (true≢false (sym h))
+  took_three c (a ∷ b ∷ []) h plain = absurd (true≢false (sym h))
+  took_three c (a ∷ b ∷ d ∷ []) h (p, (q, (r, end))) = (
+    simp (p.long, p.short, p.dashes, q.long, q.short, q.dashes, r.long, r.short, r.dashes) refl,
+    (
+      simp (p.long, p.short, p.dashes, q.long, q.short, q.dashes, r.long, r.short, r.dashes) refl,
+      (
+        simp (p.long, p.short, p.dashes, q.long, q.short, q.dashes, r.long, r.short, r.dashes) refl,
+        (
+          simp (p.long, p.short, p.dashes, q.long, q.short, q.dashes, r.long, r.short, r.dashes) refl,
+          tt,
+        ),
+      ),
+    ),
+  )
+  took_three c (a ∷ b ∷ d ∷ e ∷ rest) h plain = absurd (true≢false (sym h))
 
   fault_three : Faults name 3
   unfolding clap_on_literals
-  fault_three [] p = refl
-  fault_three (c ∷ []) p = refl
-  fault_three (c ∷ a ∷ []) p = simp (p.0.long, p.0.short, p.0.dashes) refl
-  fault_three (c ∷ a ∷ b ∷ []) p = simp (p.0.long, p.0.short, p.0.dashes, p.1.0.long, p.1.0.short, p.1.0.dashes) refl
-  fault_three (c ∷ a ∷ b ∷ d ∷ []) p = simp (p.0.long, p.0.short, p.0.dashes, p.1.0.long, p.1.0.short, p.1.0.dashes, p.1.1.0.long, p.1.1.0.short, p.1.1.0.dashes) refl
-  fault_three (c ∷ a ∷ b ∷ d ∷ e ∷ rest) p = simp (p.0.long, p.0.short, p.0.dashes, p.1.0.long, p.1.0.short, p.1.0.dashes, p.1.1.0.long, p.1.1.0.short, p.1.1.0.dashes, p.1.1.1.0.long, p.1.1.1.0.short, p.1.1.1.0.dashes) refl
+  fault_three [] plain = refl
+  fault_three (c ∷ []) plain = refl
+  fault_three (c ∷ a ∷ []) (p, end) = simp (p.long, p.short, p.dashes) refl
+  fault_three (c ∷ a ∷ b ∷ []) (p, (q, end)) = simp (p.long, p.short, p.dashes, q.long, q.short, q.dashes) refl
+  fault_three (c ∷ a ∷ b ∷ d ∷ []) (p, (q, (r, end))) = simp (p.long, p.short, p.dashes, q.long, q.short, q.dashes, r.long, r.short, r.dashes) refl
+  fault_three (c ∷ a ∷ b ∷ d ∷ e ∷ rest) (p, (q, (r, (s, end)))) = simp (p.long, p.short, p.dashes, q.long, q.short, q.dashes, r.long, r.short, r.dashes, s.long, s.short, s.dashes) refl
 
   reads : (n : ℕ) → 1 ≤ n → n ≤ 3 → Reads name n
   reads zero some few = absurd (omega arith)

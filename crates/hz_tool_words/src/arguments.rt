@@ -10,7 +10,7 @@ use super::numbers::number_in;
 use super::order::{
     CompileOrder, DrillOrder, EvalOrder, Order, ReplayOrder, ScheduleOrder, WalkOrder,
 };
-use super::table::{Kind, Operand};
+use super::table::{Operand, Verb};
 
 /// The greatest number that a drill draws from.
 const NUMBER_LIMIT: u32 = 2_147_483_647;
@@ -26,7 +26,7 @@ pub enum Argument<'a> {
 }
 
 /// The argument that a word is for an operand: None where it should be a number and is none in its range.
-pub fn argument_of<'a>(operand: Operand, word: &'a str) -> Option<Argument<'a>>
+pub fn read_argument<'a>(operand: Operand, word: &'a str) -> Option<Argument<'a>>
     ensures { option_map argument_in result ≡ model.argument_of (operand_in operand) word.entry.now }
 {
     match operand {
@@ -72,31 +72,31 @@ fn file_and_numbers<'a>(arguments: &[Argument<'a>]) -> Option<(&'a str, u32, u32
 }
 
 /// What a command asks for with its arguments: None where they are not those of its operands.
-pub fn made<'a>(kind: Kind, arguments: &[Argument<'a>]) -> Option<Order<'a>>
-    ensures { option_map order_in result ≡ make_of kind (map argument_in arguments.now) }
+pub fn make_order<'a>(verb: Verb, arguments: &[Argument<'a>]) -> Option<Order<'a>>
+    ensures { option_map order_in result ≡ make_of verb (map argument_in arguments.now) }
 {
-    match kind {
-        Kind::Compile => {
+    match verb {
+        Verb::Compile => {
             let description = one_file(arguments)?;
             Some(Order::Compile(CompileOrder { description }))
         }
-        Kind::Replay => {
+        Verb::Replay => {
             let (description, trace) = two_files(arguments)?;
             Some(Order::Replay(ReplayOrder { description, trace }))
         }
-        Kind::Walk => {
+        Verb::Walk => {
             let (tables, trace) = two_files(arguments)?;
             Some(Order::Walk(WalkOrder { tables, trace }))
         }
-        Kind::Schedule => {
+        Verb::Schedule => {
             let (description, block) = two_files(arguments)?;
             Some(Order::Schedule(ScheduleOrder { description, block }))
         }
-        Kind::Eval => {
+        Verb::Eval => {
             let (block, state) = two_files(arguments)?;
             Some(Order::Eval(EvalOrder { block, state }))
         }
-        Kind::Drill => {
+        Verb::Drill => {
             let (description, number, turns) = file_and_numbers(arguments)?;
             Some(Order::Drill(DrillOrder {
                 description,

@@ -8,7 +8,7 @@ ghost use Rattle.hz_tool_words.specs.Table.{operand_in};
 ghost use Rattle.hz_tool_words.specs.Operands.{Finds, IsRefusal, app_with, arguments_at, id_at, operand, value_of};
 ghost use Rattle.hz_words_model.specs.Words as model;
 
-use super::arguments::{Argument, argument_of};
+use super::arguments::{Argument, read_argument};
 use super::table::Operand;
 use clap::error::ErrorKind;
 use clap::{Arg, ArgMatches, Command};
@@ -26,7 +26,7 @@ fn id_at(place: usize) -> &'static str
 }
 
 /// The command with an operand more, the one at this place.
-fn with_operand<'a>(
+fn add_operand<'a>(
     alloc: Global,
     command: Command<'a>,
     place: usize,
@@ -38,7 +38,7 @@ fn with_operand<'a>(
 }
 
 /// A command with so many operands, each of which is required.
-pub fn command_of<'a>(
+pub fn make_command<'a>(
     alloc: Global,
     name: &'a str,
     operands: usize,
@@ -47,7 +47,7 @@ pub fn command_of<'a>(
 {
     let mut command = Command::new(alloc, name);
     for place in 0..operands {
-        command = with_operand(alloc, command, place)?;
+        command = add_operand(alloc, command, place)?;
     }
     Ok(command)
 }
@@ -91,14 +91,18 @@ pub fn found<'a>(
 }
 
 /// The argument for the operand at a place, None where nothing was found there, or no number where one is wanted.
-fn argument_at<'a>(matches: &ArgMatches<'a>, place: usize, operand: Operand) -> Option<Argument<'a>>
+fn read_argument_at<'a>(
+    matches: &ArgMatches<'a>,
+    place: usize,
+    operand: Operand,
+) -> Option<Argument<'a>>
     ensures { option_map argument_in result ≡ option_and_then (model.argument_of (operand_in operand)) (value_of matches.now place) }
 {
-    argument_of(operand, matches.get_str(id_at(place))?)
+    read_argument(operand, matches.get_str(id_at(place))?)
 }
 
 /// The arguments for the operands, None where one is missing or is no number where one is wanted.
-pub fn arguments_of<'a>(
+pub fn read_arguments<'a>(
     alloc: Global,
     matches: &ArgMatches<'a>,
     operands: &[Operand],
@@ -107,7 +111,7 @@ pub fn arguments_of<'a>(
 {
     let mut arguments = Vec::new(alloc);
     for (place, operand) in operands.iter().enumerate() {
-        let Some(argument) = argument_at(matches, place, *operand) else {
+        let Some(argument) = read_argument_at(matches, place, *operand) else {
             return Ok(None);
         };
         arguments.push(argument)?;

@@ -6,10 +6,10 @@ ghost use Rattle.hz_tool_words.specs.Shape.{words_in, order_in};
 ghost use Rattle.hz_tool_words.specs.Table.{IsFew, command_in};
 ghost use Rattle.hz_words_model.specs.Words as model;
 
-use super::arguments::made;
-use super::operands::{arguments_of, command_of, found};
+use super::arguments::make_order;
+use super::operands::{found, make_command, read_arguments};
 use super::order::Order;
-use super::table::{Row, row_named};
+use super::table::{Row, find_row};
 use std::alloc::{AllocError, Global};
 
 /// Whether the word begins with `-`, as an option would.
@@ -30,7 +30,7 @@ fn has_option(words: &[String]) -> bool
 }
 
 /// What a command asks for with the words after the first, None where they are not its operands.
-fn asked_by<'a>(
+fn read_order<'a>(
     alloc: Global,
     row: Row,
     words: &'a [String],
@@ -39,12 +39,12 @@ fn asked_by<'a>(
     requires plain { model.has_option (drop 1 (words_in words.now)) ≡ false }
     ensures { IfOk result (λ order. option_map order_in order ≡ model.asked_by (drop 1 (words_in words.now)) (command_in row)) }
 {
-    let command = command_of(alloc, row.name, row.operands.len())?;
+    let command = make_command(alloc, row.name, row.operands.len())?;
     let Some(matches) = found(command, words)? else {
         return Ok(None);
     };
-    match arguments_of(alloc, &matches, row.operands)? {
-        Some(arguments) => Ok(made(row.kind, arguments.as_slice())),
+    match read_arguments(alloc, &matches, row.operands)? {
+        Some(arguments) => Ok(make_order(row.verb, arguments.as_slice())),
         None => Ok(None),
     }
 }
@@ -60,8 +60,8 @@ pub fn order_of<'a>(alloc: Global, words: &'a [String]) -> Result<Option<Order<'
     if has_option(given) {
         return Ok(None);
     }
-    let Some(row) = row_named(command.as_str()) else {
+    let Some(row) = find_row(command.as_str()) else {
         return Ok(None);
     };
-    asked_by(alloc, *row, words)
+    read_order(alloc, *row, words)
 }

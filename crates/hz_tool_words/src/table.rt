@@ -19,7 +19,7 @@ pub enum Operand {
 
 /// The commands.
 #[derive(Clone, Copy)]
-pub enum Kind {
+pub enum Verb {
     Compile,
     Replay,
     Walk,
@@ -33,7 +33,7 @@ pub enum Kind {
 pub struct Row {
     pub name: &'static str,
     pub operands: &'static [Operand],
-    pub kind: Kind,
+    pub verb: Verb,
 }
 
 /// The commands, in the order of the usage line. A command has one to three operands.
@@ -41,37 +41,37 @@ const COMMANDS: [Row; 6] = [
     Row {
         name: "compile",
         operands: &[Operand::Description],
-        kind: Kind::Compile,
+        verb: Verb::Compile,
     },
     Row {
         name: "replay",
         operands: &[Operand::Description, Operand::Trace],
-        kind: Kind::Replay,
+        verb: Verb::Replay,
     },
     Row {
         name: "walk",
         operands: &[Operand::Tables, Operand::Trace],
-        kind: Kind::Walk,
+        verb: Verb::Walk,
     },
     Row {
         name: "schedule",
         operands: &[Operand::Description, Operand::Block],
-        kind: Kind::Schedule,
+        verb: Verb::Schedule,
     },
     Row {
         name: "eval",
         operands: &[Operand::Block, Operand::State],
-        kind: Kind::Eval,
+        verb: Verb::Eval,
     },
     Row {
         name: "drill",
         operands: &[Operand::Description, Operand::Number, Operand::Turns],
-        kind: Kind::Drill,
+        verb: Verb::Drill,
     },
 ];
 
 /// The row of the command of this name.
-pub fn row_named(name: &str) -> Option<&'static Row>
+pub fn find_row(name: &str) -> Option<&'static Row>
     ensures named { option_map (λ row. command_in row.now) result ≡ model.command_named name.now }
     ensures few { IfSome result (λ row. IsFew row.now.operands.now) }
 {

@@ -2,7 +2,7 @@ use Rattle.std.proofs.Common.{◌≡◌, ◌++◌, drop, map}
 use Rattle.std.specs.Option.{option_map}
 use Rattle.hz_tool_words.specs.Operands.{arguments_at, value_of}
 use Rattle.hz_tool_words.specs.Shape.{argument_in}
-use Rattle.hz_tool_words.proofs.operands.arguments_of.Given as goal
+use Rattle.hz_tool_words.proofs.operands.read_arguments.Given as goal
 
 -- the arguments so far, with those of the operands that are left, are the arguments
 abbrev pub invariant-loop-place : goal.invariant-loop-place

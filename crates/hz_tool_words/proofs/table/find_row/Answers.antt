@@ -4,7 +4,7 @@ use Rattle.std.proofs.lemmas.Iterator.Search.{find_from_yields_List}
 use Rattle.std.specs.Str.{bytes_eq}
 use Rattle.hz_tool_words.specs.Table.{command_in}
 use Rattle.hz_tool_words.proofs.TableLemmas.{row_is_command}
-use Rattle.hz_tool_words.proofs.table.row_named.Goals as goal
+use Rattle.hz_tool_words.proofs.table.find_row.Goals as goal
 
 pub returns-clause-named : goal.returns-clause-named
 returns-clause-named c =

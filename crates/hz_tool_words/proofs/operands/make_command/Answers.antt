@@ -1,7 +1,7 @@
 use Rattle.std.proofs.Common.{◌∙◌, ap, sym, add-one}
 use Rattle.clap.specs.Words.{with_rule}
 use Rattle.hz_tool_words.specs.Operands.{app_with, id_at, operand}
-use Rattle.hz_tool_words.proofs.operands.command_of.Goals as goal
+use Rattle.hz_tool_words.proofs.operands.make_command.Goals as goal
 
 pub loop-place-preserved : goal.loop-place-preserved
 loop-place-preserved c =
