@@ -12,9 +12,13 @@ use Rattle.hz_bound_model.specs.Bounds.{unit_names, UnitLoad, Bound}
 abbrev pub number_field : ℕ → List ℕ
 number_field n = concat (codes " " ∷ decimal n ∷ [])
 
--- the greatest tail, and the numbers of the instructions of its chain
+-- the greatest tail
+abbrev pub path_word : ℕ → List ℕ
+path_word path = concat (codes "path " ∷ decimal path ∷ [])
+
+-- the same, and the numbers of the instructions of its chain
 abbrev pub path_line : ℕ → List ℕ → List ℕ
-path_line path numbers = concat (codes "path " ∷ decimal path ∷ []) ++ (flat_map number_field numbers ++ codes "\n")
+path_line path numbers = path_word path ++ (flat_map number_field numbers ++ codes "\n")
 
 -- a unit and its load
 abbrev pub load_line : List ℕ → Load → List ℕ
