@@ -1,6 +1,7 @@
 -- Behind `cycle_limit` cycles what is accepted is what is accepted from the start.
 use Rattle.std.proofs.Common.{◌≡◌, ℕ, ◌+◌, ◌-◌, ◌<◌, ◌≤◌, ⊎_elim, List, [], ◌∷◌, ◌++◌, map, refl, sym, ap, ◌∙◌, subst, append_assoc, arith, inl, inr}
 use Rattle.std.specs.Prelude.{◌↔◌}
+use Rattle.hz_base_model.specs.Limits.{cycle_limit}
 use Rattle.hz_acceptance_model.specs.Accepting.Events.{Event, advance}
 use Rattle.hz_acceptance_model.specs.Accepting.Replay.{Pipeline, Accepted, FirstRefused, start}
 use Rattle.hz_acceptance_model.proofs.Accepting.AcceptanceLaws.{advance_accepted, advances_accepted, accepted_or_refused}
@@ -21,7 +22,6 @@ use Rattle.hz_automata_model.proofs.Compiling.FactoredLaws.{accepted_in_automata
 use Rattle.hz_answer_laws.proofs.Settling.RunLaws.{settled, accepted_behind}
 use Rattle.hz_answer_laws.proofs.Settling.SettleLaws.{short_pipeline}
 use Rattle.hz_answer_laws.proofs.Decidable.ToldLaws.{IsTold}
-use Rattle.hz_base_model.specs.Limits.{cycle_limit}
 
 module _ (d : Description) (known : Known) where
   abbrev machine : Pipeline UnitPlace

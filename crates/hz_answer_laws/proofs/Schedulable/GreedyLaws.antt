@@ -4,17 +4,17 @@ use Rattle.std.specs.List.{AllPairs, range_with_len}
 use Rattle.std.proofs.lemmas.Bool.{cases_lt}
 use Rattle.std.proofs.lemmas.List.FromFn.{length-range_with_len}
 use Rattle.std.proofs.lemmas.List.Elements.{Contains-append_left, Contains-append_right}
+use Rattle.hz_base_model.specs.Limits.{cycle_limit}
 use Rattle.hz_base_model.proofs.Elements.{Contains-head, Contains-map, Contains-from_map, Contains-range}
 use Rattle.hz_acceptance_model.specs.Accepting.Events.{Event, issue, advance}
 use Rattle.hz_block_model.specs.Dependences.Graphs.{Edge}
+use Rattle.hz_block_model.specs.Scheduling.Machines.{most_wait}
 use Rattle.hz_block_model.specs.Scheduling.Schedules.{Graph, Slot, class_at, height_at, places, present, advance_to, spell, IsReady, GoesBefore, Legal, Greedy, IsCandidate, FollowsGreedily}
 use Rattle.hz_block_model.proofs.Scheduling.OneSchedule.{Rises}
 use Rattle.hz_block_model.proofs.Scheduling.GrowLaws.{greedy-push, legal_when_all}
 use Rattle.hz_answer_laws.proofs.Schedulable.LeftLaws.{without}
 use Rattle.hz_answer_laws.proofs.Decidable.ToldLaws.{IsTold, same_told, less_told, low_told, each_told, some_told, contained_told}
 use Rattle.hz_block_model.proofs.Scheduling.SlotLaws.{spelled-push, advances_later, below_present, rising-push, no_front}
-use Rattle.hz_base_model.specs.Limits.{cycle_limit}
-use Rattle.hz_block_model.specs.Scheduling.Machines.{most_wait}
 
 -- numbers up to one
 last_or_less : (n j : ℕ) → j < suc n → (j < n) ⊎ (n ≡ j)

@@ -4,6 +4,7 @@ use Rattle.std.specs.Prelude.{is_some, IsSome, MatchBool, slice_index_or, ◌↔
 use Rattle.std.proofs.lemmas.Bool.{cases_lt}
 use Rattle.std.proofs.lemmas.List.{get_or_default, get_or_past}
 use Rattle.std.proofs.lemmas.List.Elements.{All-append, All-cons, All-head, All-tail, All-nil}
+use Rattle.hz_base_model.specs.Limits.{cycle_limit}
 use Rattle.hz_base_model.specs.Pairs.{Pair}
 use Rattle.hz_acceptance_model.specs.Accepting.Events.{Event, issue, advance, IsOfClass}
 use Rattle.hz_acceptance_model.specs.Accepting.Replay.{Pipeline, Accepted}
@@ -17,7 +18,6 @@ use Rattle.hz_automata_model.proofs.Reaching.CountLaws.{same_pairs_itself}
 use Rattle.hz_automata_model.specs.Compiling.ClassColumns.{IsColumns}
 use Rattle.hz_automata_model.specs.Compiling.CompiledParts.{WalksAccepted, TellsWhatIsLeft}
 use Rattle.hz_answer_laws.proofs.Settling.RunLaws.{IsShort, settled, accepted_behind, left_settled, left_at_start}
-use Rattle.hz_base_model.specs.Limits.{cycle_limit}
 
 -- ---- columns of a table
 
