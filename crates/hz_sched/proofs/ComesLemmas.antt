@@ -12,6 +12,7 @@ use Rattle.hz_sched.specs.Standing.{IsAt, IsUpward, left_below}
 use Rattle.hz_sched.proofs.SlotLemmas.{none_issued, slot_of_issue, Least, least_left}
 use Rattle.hz_block_model.proofs.Scheduling.SlotLaws.{below_present}
 use Rattle.hz_sched.proofs.WalkLemmas.{front_walked, walk_behind, walk_to, walk_split}
+use Rattle.hz_base_model.specs.Limits.{cycle_limit}
 
 some_of : {A : Type 0} (o : Option A) → is_some o ≡ true → (x : A) × (o ≡ Some x)
 some_of None h = absurd (cc)
@@ -20,7 +21,7 @@ some_of (Some x) h = (x, refl)
 module _ (m : Machine) (g : Graph) (settles : Settles m) (upward : IsUpward g) (ranges : All (λ n. n.class < length m.classes) g.nodes) (alone : (j : ℕ) → j < length g.nodes → can_start m (class_at g j) ≡ true)
     (slots : List Slot) (cycle : ℕ) (states : List ℕ) (at : IsAt m g slots cycle states) where
   -- the machine settles behind the trace and a thousand cycles
-  settled : (a b c d : ℕ) → b ≡ 256 → d ≡ a + b → cycle - present 0 slots ≡ a + c → machine_walk m (spell g slots ++ advance d ∷ []) ≡ Some (starts_of m)
+  settled : (a b c d : ℕ) → b ≡ cycle_limit → d ≡ a + b → cycle - present 0 slots ≡ a + c → machine_walk m (spell g slots ++ advance d ∷ []) ≡ Some (starts_of m)
   settled a b c d quiet both late =
       let all : machine_walk m (spell g slots ++ advance (a + c) ∷ []) ≡ Some states = subst (λ (n : ℕ). machine_walk m (spell g slots ++ advance n ∷ []) ≡ Some states) late at.walked in
       let parted : machine_walk m ((spell g slots ++ advance a ∷ []) ++ advance c ∷ []) ≡ Some states = ap (machine_walk m) (append_assoc (spell g slots) (advance a ∷ []) (advance c ∷ [])) ∙ (walk_split m (spell g slots) [] a c ∙ all) in
@@ -43,7 +44,7 @@ module _ (m : Machine) (g : Graph) (settles : Settles m) (upward : IsUpward g) (
       (x, held, place, omega arith)
 
   -- where enough cycles have gone by, a candidate came in time
-  pub some_comes : 0 < left_below (issued_at slots) (length g.nodes) → (a b c then : ℕ) → a ≡ 1000 → b ≡ 256 → cycle ≡ present 0 slots + (a + c) → then ≡ present 0 slots + (a + b) → (j : ℕ) × IsCandidate (IsWalked m) g slots then j
+  pub some_comes : 0 < left_below (issued_at slots) (length g.nodes) → (a b c then : ℕ) → a ≡ 1000 → b ≡ cycle_limit → cycle ≡ present 0 slots + (a + c) → then ≡ present 0 slots + (a + b) → (j : ℕ) × IsCandidate (IsWalked m) g slots then j
   some_comes some a b c then thousand quiet late soon =
       let l = least_left (issued_at slots) (length g.nodes) some in
       let low : present 0 slots ≤ then = omega arith in

@@ -19,7 +19,7 @@ use Rattle.hz_depend.specs.declared.parts.Graph as depend_graph
 use Rattle.hz_depend.specs.declared.parts.GraphInsn.{GraphInsn}
 use Rattle.hz_depend.specs.GraphShape.{edge_of, IsSchedulable}
 use Rattle.hz_block_model.specs.Scheduling.Schedules.{Node, Graph, Slot, class_at, present, GoesBefore, Greedy, IsCandidate}
-use Rattle.hz_block_model.specs.Scheduling.Machines.{Settles, can_start}
+use Rattle.hz_block_model.specs.Scheduling.Machines.{Settles, can_start, most_wait}
 use Rattle.hz_block_model.proofs.Scheduling.SameSchedules.{greedy_within}
 use Rattle.hz_sched.specs.Shape.{graph_of, node_of, slot_of, slots_of}
 use Rattle.hz_sched.specs.declared.parts.Slot as made
@@ -33,6 +33,7 @@ use Rattle.hz_sched.proofs.SlotLemmas.{left_less}
 use Rattle.hz_sched.proofs.StandLemmas.{at_start, next_cycle, next_issue, now_issued, was_left, candidate_fits}
 use Rattle.hz_sched.proofs.ComesLemmas.{some_comes}
 use Rattle.hz_sched.proofs.BoardLemmas.{none_may, first_may, candidate_ready, classes_of_nodes}
+use Rattle.hz_base_model.specs.Limits.{cycle_limit}
 
 -- ---- states
 
@@ -115,11 +116,11 @@ module _ (m : Machine) (g : Graph) (board : Board) (states : List ℕ) (b : IsBo
   cycle_next none next step = next_cycle m g (slots_of board.slots.items) board.cycle states b.at none next step
 
   -- an issue has come before
-  pub never : Settles m → IsUpward g → All (λ n. n.class < length m.classes) g.nodes → AllStart m g → (count : ℕ) → count ≡ length g.nodes → 0 < left_below (issued_at (slots_of board.slots.items)) count → board.cycle ≡ present 0 (slots_of board.slots.items) + 1257 → ⊥
+  pub never : Settles m → IsUpward g → All (λ n. n.class < length m.classes) g.nodes → AllStart m g → (count : ℕ) → count ≡ length g.nodes → 0 < left_below (issued_at (slots_of board.slots.items)) count → board.cycle ≡ present 0 (slots_of board.slots.items) + (most_wait + 1) → ⊥
   never settles upward ranges start count all some late =
       let left : 0 < left_below (issued_at (slots_of board.slots.items)) (length g.nodes) = subst (λ (n : ℕ). 0 < left_below (issued_at (slots_of board.slots.items)) n) all some in
-      let (j, c) = some_comes m g settles upward ranges start.alone (slots_of board.slots.items) board.cycle states b.at left 1000 256 257 (present 0 (slots_of board.slots.items) + 1256) refl refl (omega (arith, late)) (omega arith) in
-      (b.at).barren (present 0 (slots_of board.slots.items) + 1256) j (omega arith) (omega (arith, late)) c
+      let (j, c) = some_comes m g settles upward ranges start.alone (slots_of board.slots.items) board.cycle states b.at left 1000 cycle_limit (cycle_limit + 1) (present 0 (slots_of board.slots.items) + most_wait) refl refl (omega (arith, late)) (omega arith) in
+      (b.at).barren (present 0 (slots_of board.slots.items) + most_wait) j (omega arith) (omega (arith, late)) c
 
 -- the queue is another, which holds the same
 pub queue_next : (m : Machine) (g : Graph) (board : Board) (states : List ℕ) (queue : Queue) → IsBoard m g board states → ((at : ℕ → Option ℕ) → IsQueue g at board.cycle board.queue → IsQueue g at board.cycle queue) → IsBoard m g (record board { queue = queue }) states

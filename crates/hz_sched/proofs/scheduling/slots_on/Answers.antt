@@ -12,6 +12,7 @@ use Rattle.hz_sched.proofs.StandLemmas.{is_legal}
 use Rattle.hz_sched.proofs.SchedLemmas.{board_start, all_within, all_soon}
 use Rattle.hz_sched.proofs.scheduling.slots_on.Goals as goal
 use Rattle.hz_automata_model.specs.Tables.Machines.{IsWalked}
+use Rattle.hz_block_model.specs.Scheduling.Machines.{most_wait}
 
 pub loop-turn-init : goal.loop-turn-init
 loop-turn-init g c =
@@ -51,5 +52,5 @@ pub returns-clause-soon : goal.returns-clause-soon
 returns-clause-soon g c =
     let count = length c.args.graph.now.insns.items in
     let at = c.loop-turn.invariant.board.at in
-    let last : present 0 (slots_of c.loop-turn.board.slots.items) ≤ 1256 * count = omega (arith, c.loop-turn.invariant.present, c.loop-turn.invariant.soon, c.loop-turn.invariant.left) in
-    subst (λ (xs : List Slot). All (λ x. x.cycle ≤ 1256 * count) xs) (sym c.into_slots.ensures) (all_soon c.loop-turn.board.slots.items (1256 * count) at.rising last)
+    let last : present 0 (slots_of c.loop-turn.board.slots.items) ≤ most_wait * count = omega (arith, c.loop-turn.invariant.present, c.loop-turn.invariant.soon, c.loop-turn.invariant.left) in
+    subst (λ (xs : List Slot). All (λ x. x.cycle ≤ most_wait * count) xs) (sym c.into_slots.ensures) (all_soon c.loop-turn.board.slots.items (most_wait * count) at.rising last)

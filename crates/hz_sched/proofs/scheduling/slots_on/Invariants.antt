@@ -6,6 +6,7 @@ use Rattle.hz_sched.specs.Waits.{issued_at}
 use Rattle.hz_sched.specs.Standing.{left_below}
 use Rattle.hz_sched.specs.Pending.{IsBoard}
 use Rattle.hz_sched.proofs.scheduling.slots_on.Given as goal
+use Rattle.hz_block_model.specs.Scheduling.Machines.{most_wait}
 
 -- each turn issues one instruction
 abbrev pub invariant-loop-turn : goal.invariant-loop-turn
@@ -15,5 +16,5 @@ invariant-loop-turn g l = record {
   present : l.board.cycle ≡ present 0 (slots_of l.board.slots.items);
   left : left_below (issued_at (slots_of l.board.slots.items)) (length l.graph.insns.items) + l._turn ≡ length l.graph.insns.items;
   count : length l.board.slots.items ≡ l._turn;
-  soon : l.board.cycle ≤ 1256 * l._turn;
+  soon : l.board.cycle ≤ most_wait * l._turn;
 }

@@ -1,0 +1,4 @@
+pub mod JoinLemmas
+pub mod PairLemmas
+pub mod ScheduleLemmas
+pub mod WritingLemmas
