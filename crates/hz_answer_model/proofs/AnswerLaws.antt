@@ -6,12 +6,16 @@ use Rattle.hz_base_model.proofs.Forms.FormsLaws.{one_reading, one_fault, forms_o
 use Rattle.hz_description_model.proofs.Reading.DescriptionLaws.{one_description, one_fault_of_descriptions, description_or_fault}
 use Rattle.hz_description_model.proofs.Check.CheckLaws.{fault_one, fault_or_sound, sound_one}
 use Rattle.hz_acceptance_model.proofs.Accepting.AcceptanceLaws.{one_refused, accepted_or_refused}
-use Rattle.hz_answer_model.specs.Answers.{Describes, Checks, HasDescription, Compiles, CompilesDescription, DrillsDescription, Replays, ReplaysTrace, ReplaysDescription, Judges, SchedulesByDescription, IsIssueOf, AnswersOrder, Answer}
+use Rattle.hz_answer_model.specs.Answers.{Describes, Checks, HasDescription, Compiles, CompilesDescription, DrillsDescription, Replays, ReplaysTrace, ReplaysDescription, Judges, SchedulesByDescription, IsIssueOf, files_of, JudgesOrder, AnswersOrder, Answer}
 use Rattle.hz_description_model.specs.Check.CheckFaults.{CheckFault}
 use Rattle.hz_description_model.specs.Check.Places.{Known, class_names}
 use Rattle.hz_description_model.specs.Reading.DescriptionForms.{DescriptionFault}
 use Rattle.hz_description_model.specs.Reading.Descriptions.{Description}
-use Rattle.hz_answer_model.specs.FaultTexts.{form_word, description_words, check_line, check_status, trace_word, tables_word, class_line, stuck_line}
+use Rattle.hz_base_model.specs.Forms.Forms.{form_word}
+use Rattle.hz_acceptance_model.specs.Traces.Traces.{trace_word}
+use Rattle.hz_block_model.specs.Texts.Operands.{rtl_word}
+use Rattle.hz_tabtext_model.specs.Judging.{tables_word}
+use Rattle.hz_answer_model.specs.FaultTexts.{description_line, check_line, check_status, class_line, stuck_line}
 use Rattle.hz_base_model.specs.Forms.Forms.{FormFault}
 use Rattle.hz_description_model.specs.Reading.Limits.{description_limit}
 use Rattle.hz_acceptance_model.specs.Traces.TraceLimits.{trace_limit}
@@ -28,18 +32,17 @@ use Rattle.hz_automata_model.specs.Compiling.DescriptionLimits.{KeepsLimits, Pas
 use Rattle.hz_automata_model.proofs.Compiling.LimitLaws.{within_or_past}
 use Rattle.hz_acceptance_model.specs.Accepting.Replay.{Pipeline, Class}
 use Rattle.hz_acceptance_model.specs.Accepting.Events.{Event, issue}
-use Rattle.hz_answer_model.specs.Texts.{file_line, limit_line, fault_line, states_line, usage_line, refused_line, slot_line, scheduled_line}
+use Rattle.hz_answer_model.specs.Texts.{file_line, limit_line, fault_line, states_line, refused_line, slot_line, scheduled_line}
 use Rattle.hz_base_model.specs.Forms.Trees.{Trees}
-use Rattle.hz_words_model.specs.Words.{Order, compile, replay, walk, schedule, eval, drill, order_of}
+use Rattle.hz_words_model.specs.Words.{Order, compile, replay, walk, schedule, eval, drill, order_of, usage_line}
 use Rattle.hz_base_model.specs.Names.{Held}
-use Rattle.hz_answer_model.specs.Phases.{Says, Next, Opens, HasForms, Traces}
+use Rattle.hz_answer_model.specs.Phases.{Says, Next, FileWord, OpensAll, TellsFault, HasForms, Traces}
 use Rattle.hz_answer_model.specs.TableAnswers.{tables_limit, WritesTablesOf, HasTables, IsIssueIn, Walks, WalksTrace}
 use Rattle.hz_answer_model.proofs.TableLaws.{one_unwalked, walked_or_not, one_issue_in}
 use Rattle.hz_answer_model.proofs.OneText.{one_tables_text}
 use Rattle.hz_answer_model.proofs.DrillLaws.{one_drill_text}
 use Rattle.hz_answer_model.specs.DrillAnswers.{Drills}
 use Rattle.hz_answer_model.specs.BlockAnswers.{block_limit, state_text_limit, IsBlock, IsState, Evaluates, JudgesBlock}
-use Rattle.hz_answer_model.specs.FaultTexts.{rtl_word}
 use Rattle.hz_answer_model.specs.ScheduleAnswers.{schedule_text, HasClasses, Schedules, SchedulesBlock}
 use Rattle.hz_block_model.specs.Scheduling.Schedules.{Graph, Slot, present}
 use Rattle.hz_block_model.specs.Scheduled.BlockGraphs.{classes_of}
@@ -148,7 +151,7 @@ describes_single name read next single s s' t t' (inl (d, is, a)) (inr (fault, l
 describes_single name read next single s s' t t' (inr (fault, line, wrong, a)) (inl (d, is, b)) = absurd (description_or_fault read d fault line is wrong)
 describes_single name read next single s s' t t' (inr (fault, line, wrong, a)) (inr (other, place, also, b)) =
     let same = one_fault_of_descriptions read fault other line place wrong also in
-    says_same _ _ _ _ (ap (λ (n : ℕ). 2) same.1) (ap (λ (f : DescriptionFault). fault_line name line (description_words f)) same.0 ∙ ap (λ (n : ℕ). fault_line name n (description_words other)) same.1) s s' t t' a b
+    says_same _ _ _ _ (ap (λ (n : ℕ). 2) same.1) (ap (λ (f : DescriptionFault). description_line name f line) same.0 ∙ ap (λ (n : ℕ). description_line name other n) same.1) s s' t t' a b
 
 forms_single : (name bytes : List ℕ) (next : Next Trees) → ((read : Trees) → IsSingle (next read)) → IsSingle (HasForms name bytes next)
 forms_single name bytes next single s s' t t' (inl (read, is, a)) (inl (other, also, b)) =
@@ -266,11 +269,13 @@ tables_single : (name bytes : List ℕ) (next : Next Machine) → ((m : Machine)
 tables_single name bytes next single s s' t t' (inl (m, is, a)) (inl (other, also, b)) =
     let same : m ≡ other = ok_is {E = Fault} m other (sym (tables_again bytes m is) ∙ tables_again bytes other also) in
     single m s s' t t' a (subst (λ (x : Machine). next x s' t') (sym same) b)
-tables_single name bytes next single s s' t t' (inl (m, is, a)) (inr (fault, wrong, b)) = let read = tables_again bytes m is in absurd (cc)
-tables_single name bytes next single s s' t t' (inr (fault, wrong, a)) (inl (m, is, b)) = let read = tables_again bytes m is in absurd (cc)
-tables_single name bytes next single s s' t t' (inr (fault, wrong, a)) (inr (other, also, b)) =
-    let same : fault ≡ other = cc in
-    says_same 2 2 _ _ refl (ap (λ (f : Fault). fault_line name f.line (tables_word f.kind ∷ [])) same) s s' t t' a b
+tables_single name bytes next single s s' t t' (inl (m, is, a)) (inr (kind, line, wrong, b)) = let read = tables_again bytes m is in absurd (cc)
+tables_single name bytes next single s s' t t' (inr (kind, line, wrong, a)) (inl (m, is, b)) = let read = tables_again bytes m is in absurd (cc)
+tables_single name bytes next single s s' t t' (inr (kind, line, wrong, a)) (inr (other, place, also, b)) =
+    let fault : Fault = record { kind = kind; line = line } in
+    let second : Fault = record { kind = other; line = place } in
+    let same : fault ≡ second = cc in
+    says_same 2 2 (fault_line name line (tables_word kind ∷ [])) (fault_line name place (tables_word other ∷ [])) refl (ap (λ (f : Fault). fault_line name f.line (tables_word f.kind ∷ [])) same) s s' t t' a b
 
 walked_single : (tables tabled trace traced : List ℕ) → IsSingle (HasTables tables tabled (WalksTrace trace traced))
 walked_single tables tabled trace traced =
@@ -283,31 +288,31 @@ compiled_single d known s s' t t' (zero, is) (zero', also) = (zero ∙ sym zero'
 drilled_single : (d : Description) (known : Known) (number turns : ℕ) → IsSingle (Drills d known number turns)
 drilled_single d known number turns s s' t t' (zero, is) (zero', also) = (zero ∙ sym zero', one_drill_text d known number turns t t' is also)
 
+-- what holds of all lists of bytes of files
+abbrev pub ForTexts : List FileWord → (List (List ℕ) → Type 0) → Type 0
+ForTexts [] P = P []
+ForTexts (file ∷ files) P = (bytes : List ℕ) → ForTexts files (λ others. P (bytes ∷ others))
+
+files_single : (held : Held) (files : List FileWord) (next : Next (List (List ℕ))) → ForTexts files (λ texts. IsSingle (next texts)) → IsSingle (OpensAll held files next)
+files_single held [] next single = single
+files_single held (file ∷ files) next single =
+    opens_single (held file.name) file.name file.most (λ bytes. OpensAll held files (λ others. next (bytes ∷ others)))
+    (λ bytes. files_single held files (λ others. next (bytes ∷ others)) (single bytes))
+
+judges_single : (order : Order) → ForTexts (files_of order) (λ texts. IsSingle (JudgesOrder order texts))
+judges_single (replay description trace) = λ described traced. texts_single description described trace traced
+judges_single (compile description) =
+    λ described. description_single description described (CompilesDescription description) (λ d known.
+    compiles_single description d known (WritesTablesOf d known) (compiled_single d known))
+judges_single (walk tables trace) = λ tabled traced. walked_single tables tabled trace traced
+judges_single (schedule description block) = λ described blocked. scheduled_single description described block blocked
+judges_single (eval block state) = λ blocked stated. blocks_single block blocked state stated
+judges_single (drill description number turns) =
+    λ described. description_single description described (DrillsDescription description number turns) (λ d known.
+    compiles_single description d known (Drills d known number turns) (drilled_single d known number turns))
+
 order_single : (held : Held) (order : Order) → IsSingle (AnswersOrder held order)
-order_single held (replay description trace) =
-    opens_single (held description) description description_limit (λ described. Opens held trace trace_limit (λ traced. Judges description described trace traced))
-    (λ described. opens_single (held trace) trace trace_limit (λ traced. Judges description described trace traced)
-    (λ traced. texts_single description described trace traced))
-order_single held (compile description) =
-    opens_single (held description) description description_limit (λ described. HasDescription description described (CompilesDescription description))
-    (λ described. description_single description described (CompilesDescription description) (λ d known.
-    compiles_single description d known (WritesTablesOf d known) (compiled_single d known)))
-order_single held (walk tables trace) =
-    opens_single (held tables) tables tables_limit (λ tabled. Opens held trace trace_limit (λ traced. HasTables tables tabled (WalksTrace trace traced)))
-    (λ tabled. opens_single (held trace) trace trace_limit (λ traced. HasTables tables tabled (WalksTrace trace traced))
-    (λ traced. walked_single tables tabled trace traced))
-order_single held (schedule description block) =
-    opens_single (held description) description description_limit (λ described. Opens held block block_limit (λ blocked. HasDescription description described (SchedulesByDescription description block blocked)))
-    (λ described. opens_single (held block) block block_limit (λ blocked. HasDescription description described (SchedulesByDescription description block blocked))
-    (λ blocked. scheduled_single description described block blocked))
-order_single held (eval block state) =
-    opens_single (held block) block block_limit (λ blocked. Opens held state state_text_limit (λ stated. JudgesBlock block blocked state stated))
-    (λ blocked. opens_single (held state) state state_text_limit (λ stated. JudgesBlock block blocked state stated)
-    (λ stated. blocks_single block blocked state stated))
-order_single held (drill description number turns) =
-    opens_single (held description) description description_limit (λ described. HasDescription description described (DrillsDescription description number turns))
-    (λ described. description_single description described (DrillsDescription description number turns) (λ d known.
-    compiles_single description d known (Drills d known number turns) (drilled_single d known number turns)))
+order_single held order = files_single held (files_of order) (JudgesOrder order) (judges_single order)
 
 -- the words and what is held have one answer at most
 pub answer_single : (words : List (List ℕ)) (held : Held) → IsSingle (Answer words held)

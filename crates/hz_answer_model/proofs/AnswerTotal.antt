@@ -3,6 +3,7 @@ use Rattle.std.proofs.Common.{◌≡◌, ℕ, zero, suc, ◌<◌, ◌≤◌, ⊎
 use Rattle.std.proofs.lemmas.Bool.{cases_lt}
 use Rattle.std.proofs.lemmas.List.Elements.{All-get_or}
 use Rattle.std.proofs.lemmas.Option.{slice_get-get_or, slice_get_within, get_or_from_slice_get}
+use Rattle.hz_answer_model.proofs.AnswerLaws.{ForTexts}
 use Rattle.hz_answer_model.proofs.EventLaws.{issue_named, events_known}
 use Rattle.hz_base_model.proofs.Forms.FormsFront.{every_text}
 use Rattle.hz_description_model.proofs.Reading.DescriptionLaws.{every_list}
@@ -12,13 +13,17 @@ use Rattle.hz_description_model.proofs.Check.CheckTotal.{sound_or_fault}
 use Rattle.hz_acceptance_model.proofs.Accepting.AcceptanceLaws.{refused_issue}
 use Rattle.hz_acceptance_model.proofs.Accepting.PlayLaws.{accepted_or_first_refused}
 use Rattle.hz_acceptance_model.proofs.Accepting.Rows.{same_unit, places_tell}
-use Rattle.hz_answer_model.specs.Answers.{Describes, Checks, HasDescription, Compiles, CompilesDescription, DrillsDescription, Replays, ReplaysTrace, ReplaysDescription, Judges, SchedulesByDescription, IsIssueOf, AnswersOrder, Answer}
+use Rattle.hz_answer_model.specs.Answers.{Describes, Checks, HasDescription, Compiles, CompilesDescription, DrillsDescription, Replays, ReplaysTrace, ReplaysDescription, Judges, SchedulesByDescription, IsIssueOf, files_of, JudgesOrder, AnswersOrder, Answer}
 use Rattle.hz_description_model.specs.Check.CheckFaults.{CheckFault, CheckFaultAt, IsSound}
 use Rattle.hz_description_model.specs.Check.Places.{Known, class_names}
 use Rattle.hz_description_model.specs.Reading.DescriptionForms as description_forms
 use Rattle.hz_description_model.specs.Reading.DescriptionShape.{IsWellFormed, IsCheckable}
 use Rattle.hz_description_model.specs.Reading.Descriptions.{Description}
-use Rattle.hz_answer_model.specs.FaultTexts.{form_word, description_words, check_line, check_status, trace_word, tables_word, class_line, stuck_line}
+use Rattle.hz_base_model.specs.Forms.Forms.{form_word}
+use Rattle.hz_acceptance_model.specs.Traces.Traces.{trace_word}
+use Rattle.hz_block_model.specs.Texts.Operands.{rtl_word}
+use Rattle.hz_tabtext_model.specs.Judging.{tables_word}
+use Rattle.hz_answer_model.specs.FaultTexts.{description_line, check_line, check_status, class_line, stuck_line}
 use Rattle.hz_description_model.specs.Reading.Limits.{description_limit}
 use Rattle.hz_acceptance_model.specs.Traces.TraceLimits.{trace_limit}
 use Rattle.hz_base_model.specs.Lines.{lines_of}
@@ -32,17 +37,16 @@ use Rattle.hz_acceptance_model.specs.Accepting.Replay.{FirstRefused}
 use Rattle.hz_acceptance_model.specs.Accepting.Events.{Event, issue, cycles_of, issues_of, IsOfClass}
 use Rattle.hz_acceptance_model.specs.Traces.Traces.{Trace, TraceFault, TraceFaultAt, event_lines}
 use Rattle.hz_acceptance_model.proofs.Traces.TraceLaws.{trace_of_every_text, counted_lines}
-use Rattle.hz_answer_model.specs.Texts.{file_line, limit_line, fault_line, usage_line, refused_line, accepted_line, states_line}
+use Rattle.hz_answer_model.specs.Texts.{file_line, limit_line, fault_line, refused_line, accepted_line, states_line}
 use Rattle.hz_base_model.specs.Forms.Trees.{Trees}
-use Rattle.hz_words_model.specs.Words.{Order, compile, replay, walk, schedule, eval, drill, order_of}
+use Rattle.hz_words_model.specs.Words.{Order, compile, replay, walk, schedule, eval, drill, order_of, usage_line}
 use Rattle.hz_base_model.specs.Names.{Held}
-use Rattle.hz_answer_model.specs.Phases.{Says, Next, Opens, HasForms}
+use Rattle.hz_answer_model.specs.Phases.{Says, Next, FileWord, OpensAll, HasForms}
 use Rattle.hz_answer_model.specs.TableAnswers.{tables_limit, IsTablesOf, WritesTablesOf, HasTables, IsFirstUnwalked, Walks, WalksTrace}
 use Rattle.hz_answer_model.proofs.TableLaws.{walked_or_first, unwalked_issue}
 use Rattle.hz_answer_model.proofs.DrillLaws.{some_drill}
 use Rattle.hz_answer_model.specs.DrillAnswers.{Drills}
 use Rattle.hz_answer_model.specs.BlockAnswers.{block_limit, state_text_limit, IsBlock, IsState, Evaluates, JudgesBlock}
-use Rattle.hz_answer_model.specs.FaultTexts.{rtl_word}
 use Rattle.hz_answer_model.specs.ScheduleAnswers.{schedule_text, HasClasses, Schedules, SchedulesBlock}
 use Rattle.hz_block_model.specs.Dependences.Classes.{ClassFault}
 use Rattle.hz_block_model.specs.Scheduled.BlockGraphs.{IsFirstClassFault}
@@ -144,7 +148,7 @@ describes_one : (name : List ℕ) (read : Trees) (next : Next Description) → (
 describes_one name read next one = ⊎_elim
     (λ (said : (d : Description) × description_forms.Reads read d). wider (next said.0) _ (λ s t h. inl (said.0, said.1, h)) (one said.0 said.1 (well_formed read said.0 said.1).0))
     (λ (wrong : (fault : description_forms.DescriptionFault) × (line : ℕ) × description_forms.FaultAt read fault line).
-    wider (Says 2 (fault_line name wrong.1 (description_words wrong.0))) _ (λ s t h. inr (wrong.0, wrong.1, wrong.2, h)) (says_one 2 (fault_line name wrong.1 (description_words wrong.0))))
+    wider (Says 2 (description_line name wrong.0 wrong.1)) _ (λ s t h. inr (wrong.0, wrong.1, wrong.2, h)) (says_one 2 (description_line name wrong.0 wrong.1)))
     (every_list read)
 
 forms_one : (name bytes : List ℕ) (next : Next Trees) → ((read : Trees) → forms.Reads bytes read → HasOne (next read)) → HasOne (HasForms name bytes next)
@@ -259,7 +263,7 @@ walked_one tables tabled trace traced = by_read (tables_in tabled) refl
     by_read (Ok m) is =
         let stands = tables_take tabled m is in
         wider (WalksTrace trace traced m) _ (λ s t h. inl (m, stands, h)) (machine_traces_one m (text_machine tabled m stands) trace traced)
-    by_read (Err fault) is = wider (Says 2 (fault_line tables fault.line (tables_word fault.kind ∷ []))) _ (λ s t h. inr (fault, is, h)) (says_one 2 (fault_line tables fault.line (tables_word fault.kind ∷ [])))
+    by_read (Err fault) is = wider (Says 2 (fault_line tables fault.line (tables_word fault.kind ∷ []))) _ (λ s t h. inr (fault.kind, fault.line, is, h)) (says_one 2 (fault_line tables fault.line (tables_word fault.kind ∷ [])))
 
 -- a description without a fault whose automata keep their limits has tables
 some_tables : (d : Description) (known : Known) → IsWellFormed d → IsSound d known → AllKeepLimits d known → (text : List ℕ) × IsTablesOf d known text
@@ -297,29 +301,22 @@ drilled_one description described number turns =
     tabled_one description described (λ d known. Drills d known number turns) (λ d known text sound is.
     let found = some_drill d known number turns text sound is in (0, found.0, (refl, found.1)))
 
+files_one : (held : Held) (files : List FileWord) (next : Next (List (List ℕ))) → ForTexts files (λ texts. HasOne (next texts)) → HasOne (OpensAll held files next)
+files_one held [] next one = one
+files_one held (file ∷ files) next one =
+    opens_one (held file.name) file.name file.most (λ bytes. OpensAll held files (λ others. next (bytes ∷ others)))
+    (λ bytes is. files_one held files (λ others. next (bytes ∷ others)) (one bytes))
+
+judges_one : (order : Order) → ForTexts (files_of order) (λ texts. HasOne (JudgesOrder order texts))
+judges_one (replay description trace) = λ described traced. texts_one description described trace traced
+judges_one (compile description) = λ described. compiled_one description described
+judges_one (walk tables trace) = λ tabled traced. walked_one tables tabled trace traced
+judges_one (schedule description block) = λ described blocked. scheduled_one description described block blocked
+judges_one (eval block state) = λ blocked stated. blocks_one block blocked state stated
+judges_one (drill description number turns) = λ described. drilled_one description described number turns
+
 order_one : (held : Held) (order : Order) → HasOne (AnswersOrder held order)
-order_one held (replay description trace) =
-    opens_one (held description) description description_limit (λ described. Opens held trace trace_limit (λ traced. Judges description described trace traced))
-    (λ described is. opens_one (held trace) trace trace_limit (λ traced. Judges description described trace traced)
-    (λ traced also. texts_one description described trace traced))
-order_one held (compile description) =
-    opens_one (held description) description description_limit (λ described. HasDescription description described (CompilesDescription description))
-    (λ described is. compiled_one description described)
-order_one held (walk tables trace) =
-    opens_one (held tables) tables tables_limit (λ tabled. Opens held trace trace_limit (λ traced. HasTables tables tabled (WalksTrace trace traced)))
-    (λ tabled is. opens_one (held trace) trace trace_limit (λ traced. HasTables tables tabled (WalksTrace trace traced))
-    (λ traced also. walked_one tables tabled trace traced))
-order_one held (schedule description block) =
-    opens_one (held description) description description_limit (λ described. Opens held block block_limit (λ blocked. HasDescription description described (SchedulesByDescription description block blocked)))
-    (λ described is. opens_one (held block) block block_limit (λ blocked. HasDescription description described (SchedulesByDescription description block blocked))
-    (λ blocked also. scheduled_one description described block blocked))
-order_one held (eval block state) =
-    opens_one (held block) block block_limit (λ blocked. Opens held state state_text_limit (λ stated. JudgesBlock block blocked state stated))
-    (λ blocked is. opens_one (held state) state state_text_limit (λ stated. JudgesBlock block blocked state stated)
-    (λ stated also. blocks_one block blocked state stated))
-order_one held (drill description number turns) =
-    opens_one (held description) description description_limit (λ described. HasDescription description described (DrillsDescription description number turns))
-    (λ described is. drilled_one description described number turns)
+order_one held order = files_one held (files_of order) (JudgesOrder order) (judges_one order)
 
 -- all words have an answer, whatever is held
 pub answer_one : (words : List (List ℕ)) (held : Held) → HasOne (Answer words held)

@@ -5,15 +5,14 @@ use Rattle.hz_base_model.specs.Forms.Trees.{Trees}
 use Rattle.hz_base_model.specs.Forms.Forms as forms
 use Rattle.hz_description_model.specs.Reading.Descriptions.{Description}
 use Rattle.hz_description_model.specs.Reading.DescriptionForms as description_forms
-use Rattle.hz_description_model.specs.Check.CheckFaults as check
-use Rattle.hz_description_model.specs.Check.CheckFaults.{CheckFault, IsSound}
+use Rattle.hz_description_model.specs.Check.CheckFaults.{CheckFault, LimitName, limit_passed, IsSound}
 use Rattle.hz_description_model.specs.Check.Places.{Known}
 use Rattle.hz_block_model.specs.Running.Blocks.{Instruction}
 use Rattle.hz_block_model.specs.Texts.BlockForms as blocks
 use Rattle.hz_block_model.specs.Scheduling.Schedules.{Graph, Slot}
 use Rattle.hz_block_model.specs.Scheduled.BlockSchedules.{IsScheduleOf}
 use Rattle.hz_answer_model.specs.Texts.{file_line, limit_line}
-use Rattle.hz_answer_model.specs.FaultTexts.{check_status}
+use Rattle.hz_answer_model.specs.FaultTexts.{status_by, check_status}
 use Rattle.hz_answer_model.specs.Phases.{Says, Next, HasForms}
 use Rattle.hz_answer_model.specs.BlockAnswers.{IsBlock}
 use Rattle.hz_answer_model.specs.Answers.{Describes, Checks, HasDescription, Compiles}
@@ -45,18 +44,11 @@ described_of name read next text (inr (fault, line, wrong, h)) = absurd (omega (
 
 -- no fault of a check has status 0
 pub some_status : (fault : CheckFault) → 0 ≡ check_status fault → ⊥
-some_status check.twice_defined e = omega (arith, e)
-some_status check.reserved_name e = omega (arith, e)
-some_status check.unknown_name e = omega (arith, e)
-some_status check.unknown_automaton e = omega (arith, e)
-some_status check.unit_needs_automaton e = omega (arith, e)
-some_status check.circular_reservation e = omega (arith, e)
-some_status check.self_exclusion e = omega (arith, e)
-some_status check.set_across_automata e = omega (arith, e)
-some_status (check.limit what) e = omega (arith, e)
-some_status check.alternation_of_two_automata e = omega (arith, e)
-some_status check.alternation_of_two_lengths e = omega (arith, e)
-some_status check.bypass_twice e = omega (arith, e)
+some_status fault = by_limit (limit_passed fault)
+  where
+    by_limit : (limit : Option LimitName) → 0 ≡ status_by limit → ⊥
+    by_limit (Some limit) e = omega (arith, e)
+    by_limit None e = omega (arith, e)
 
 pub checked_of : (name : List ℕ) (d : Description) (next : Next Known) (text : List ℕ) → Checks name d next 0 text → (known : Known) × IsSound d known × next known 0 text
 checked_of name d next text (inl good) = good

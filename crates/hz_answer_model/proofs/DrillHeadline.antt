@@ -10,10 +10,11 @@ use Rattle.hz_description_model.specs.Check.Places.{Known}
 use Rattle.hz_description_model.specs.Reading.Descriptions.{Description}
 use Rattle.hz_automata_model.specs.Tables.Machines.{Machine}
 use Rattle.hz_tabtext_model.specs.Texts.{TableText}
-use Rattle.hz_answer_model.specs.Answers.{HasDescription, Judges, DrillsDescription, AnswersCompile, AnswersDrill}
+use Rattle.hz_answer_model.specs.Answers.{HasDescription, Judges, DrillsDescription, AnswersOrder}
 use Rattle.hz_answer_model.specs.DrillAnswers.{Drills, IsDrillOf}
 use Rattle.hz_answer_model.specs.Headline.{IsDescribed, WritesDrill, ReplayAcceptsEvents}
 use Rattle.hz_base_model.specs.Names.{Held}
+use Rattle.hz_words_model.specs.Words.{compile, drill}
 use Rattle.hz_answer_model.specs.Phases.{Opens}
 use Rattle.hz_answer_model.specs.TableAnswers.{IsTablesOf}
 use Rattle.hz_answer_model.specs.Texts.{accepted_line}
@@ -22,7 +23,7 @@ use Rattle.hz_answer_model.proofs.DrillLaws.{same_machine, machine_of_tables, dr
 use Rattle.hz_answer_model.proofs.HeadlineLaws.{one_described, opens}
 use Rattle.hz_answer_model.proofs.WalkLaws.{writes_tables}
 
-module _ (held : Held) (description : List ℕ) (number turns : ℕ) (text : List ℕ) (h : AnswersDrill held description number turns 0 text) where
+module _ (held : Held) (description : List ℕ) (number turns : ℕ) (text : List ℕ) (h : AnswersOrder held (drill description number turns) 0 text) where
   first : IsOpened (held description) description_limit (λ described. HasDescription description described (DrillsDescription description number turns)) text
   first = opened (held description) description description_limit (λ described. HasDescription description described (DrillsDescription description number turns)) text h
 
@@ -33,7 +34,7 @@ module _ (held : Held) (description : List ℕ) (number turns : ℕ) (text : Lis
   told = compiled_of description given.d given.known (Drills given.d given.known number turns) text given.answers
 
   -- the tables of the same description
-  tables_there : (m : Machine) (other : Held) (written : List ℕ) → ((t : List ℕ) (is : IsTablesOf given.d given.known t) → is.machine ≡ m) → other description ≡ Some first.bytes → AnswersCompile other description 0 written → TableText written m
+  tables_there : (m : Machine) (other : Held) (written : List ℕ) → ((t : List ℕ) (is : IsTablesOf given.d given.known t) → is.machine ≡ m) → other description ≡ Some first.bytes → AnswersOrder other (compile description) 0 written → TableText written m
   tables_there m other written same there answer =
       let w = writes_tables other description written answer in
       let bytes : w.described ≡ first.bytes = same_Some w.described first.bytes (sym w.file ∙ there) in
@@ -55,7 +56,7 @@ module _ (held : Held) (description : List ℕ) (number turns : ℕ) (text : Lis
         tables = λ other written there answer. tables_there drill.machine other written (λ t is. same_machine given.d given.known is.machine drill.machine (machine_of_tables given.d given.known t is) drill.compiled) there answer;
       }
 
-module _ (held : Held) (description : List ℕ) (number turns : ℕ) (text : List ℕ) (w : WritesDrill held description number turns text) (h : AnswersDrill held description number turns 0 text) where
+module _ (held : Held) (description : List ℕ) (number turns : ℕ) (text : List ℕ) (w : WritesDrill held description number turns text) (h : AnswersOrder held (drill description number turns) 0 text) where
   -- the description keeps its limits, and its text does
   limits : AllKeepLimits w.d w.known × (nat_lt description_limit (length w.described) ≡ false)
   limits =

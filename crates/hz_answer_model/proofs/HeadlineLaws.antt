@@ -24,16 +24,17 @@ use Rattle.hz_block_model.proofs.Scheduled.BlockLaws.{legal_keeps}
 use Rattle.hz_answer_laws.proofs.Schedulable.ScheduleTotal.{short_trace}
 use Rattle.hz_answer_model.specs.Texts.{file_line, limit_line, accepted_line}
 use Rattle.hz_base_model.specs.Names.{Held}
+use Rattle.hz_words_model.specs.Words.{schedule}
 use Rattle.hz_answer_model.specs.Phases.{Says, Opens}
 use Rattle.hz_answer_model.specs.BlockAnswers.{block_limit, IsBlock}
-use Rattle.hz_answer_model.specs.Answers.{HasDescription, Judges, AnswersSchedule, SchedulesByDescription}
+use Rattle.hz_answer_model.specs.Answers.{HasDescription, Judges, AnswersOrder, SchedulesByDescription}
 use Rattle.hz_answer_model.specs.ScheduleAnswers.{HasClasses, Schedules, SchedulesBlock}
 use Rattle.hz_answer_model.specs.Headline.{IsDescribed, WritesSchedule, ReplayAccepts}
 use Rattle.hz_answer_model.proofs.DoneLaws.{opened, formed_of, given_of, compiled_of, block_of, classes_of_block, schedule_of}
 
 -- ---- the promise
 
-pub writes_schedule : (held : Held) (description block text : List ℕ) → AnswersSchedule held description block 0 text → WritesSchedule held description block text
+pub writes_schedule : (held : Held) (description block text : List ℕ) → AnswersOrder held (schedule description block) 0 text → WritesSchedule held description block text
 writes_schedule held description block text h =
     let first = opened (held description) description description_limit (λ described. Opens held block block_limit (λ blocked. HasDescription description described (SchedulesByDescription description block blocked))) text h in
     let second = opened (held block) block block_limit (λ blocked. HasDescription description first.bytes (SchedulesByDescription description block blocked)) text first.answers in
@@ -85,7 +86,7 @@ accepted_slots : (g : Graph) (slots : List Slot) → AllPairs (λ x y. x.cycle �
 accepted_slots g slots rising =
     ap (λ (n : ℕ). accepted_line n (present 0 slots)) (sym (issues_spelled g slots)) ∙ ap (accepted_line (issues_of (spell g slots))) (sym (cycles_spelled g slots rising))
 
-module _ (held : Held) (description block text : List ℕ) (w : WritesSchedule held description block text) (h : AnswersSchedule held description block 0 text) where
+module _ (held : Held) (description block text : List ℕ) (w : WritesSchedule held description block text) (h : AnswersOrder held (schedule description block) 0 text) where
   -- the description keeps its limits, and its text does
   limits : AllKeepLimits w.d w.known × (nat_lt description_limit (length w.described) ≡ false)
   limits =

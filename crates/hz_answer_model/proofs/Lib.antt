@@ -10,3 +10,4 @@ pub mod ShortLaws
 pub mod WalkLaws
 pub mod DrillLaws
 pub mod DrillHeadline
+pub mod PromiseLaws

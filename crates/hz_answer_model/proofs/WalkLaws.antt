@@ -31,9 +31,10 @@ use Rattle.hz_tabtext_model.specs.Texts.{TableText}
 use Rattle.hz_tabtext_model.proofs.TextAgain.{tables_again}
 use Rattle.hz_tabtext_model.proofs.Steps.{ok_is}
 use Rattle.hz_acceptance_model.specs.Traces.Traces.{Trace, event_lines}
-use Rattle.hz_answer_model.specs.Answers.{HasDescription, Compiles, Replays, ReplaysTrace, ReplaysDescription, Judges, CompilesDescription, AnswersCompile}
+use Rattle.hz_answer_model.specs.Answers.{HasDescription, Compiles, Replays, ReplaysTrace, ReplaysDescription, Judges, CompilesDescription, AnswersOrder}
 use Rattle.hz_answer_model.specs.Headline.{IsDescribed, WritesTables, WalkIsReplay}
 use Rattle.hz_base_model.specs.Names.{Held}
+use Rattle.hz_words_model.specs.Words.{compile}
 use Rattle.hz_answer_model.specs.Phases.{Says, Next, Opens, Traces}
 use Rattle.hz_answer_model.specs.TableAnswers.{tables_limit, IsTablesOf, WritesTablesOf, HasTables, IsFirstUnwalked, Walks, WalksTrace}
 use Rattle.hz_answer_model.specs.Texts.{file_line, limit_line}
@@ -137,7 +138,7 @@ behind_tables name bytes m next s t stands = (to, λ h. inl (m, stands, h))
     to (inl (other, also, h)) =
         let same : other ≡ m = ok_is {E = Fault} other m (sym (tables_again bytes other also) ∙ read) in
         subst (λ (x : Machine). next x s t) same h
-    to (inr (fault, wrong, says)) = let again = tables_again bytes m stands in absurd (cc)
+    to (inr (kind, line, wrong, says)) = let again = tables_again bytes m stands in absurd (cc)
 
 -- what follows a description that a text says
 behind_description : (name bytes : List ℕ) (d : Description) (known : Known) (next : (d : Description) → Next Known) (s : ℕ) (t : List ℕ) → IsDescribed bytes d known → HasDescription name bytes next s t ↔ next d known s t
@@ -166,7 +167,7 @@ behind_limits name d known next s t kept = (to, λ h. inl (kept, h))
 
 -- ---- the laws
 
-module _ (held : Held) (description text : List ℕ) (h : AnswersCompile held description 0 text) where
+module _ (held : Held) (description text : List ℕ) (h : AnswersOrder held (compile description) 0 text) where
   first : IsOpened (held description) description_limit (λ described. HasDescription description described (CompilesDescription description)) text
   first = opened (held description) description description_limit (λ described. HasDescription description described (CompilesDescription description)) text h
 

@@ -1,11 +1,11 @@
 -- What the program answers: this profile, docs/FORMATS.md, 'Answers'.
-use Rattle.std.specs.Prelude.{◌≡◌, ℕ, List, [], Option, Some, MatchOption, ◌⊎◌, slice_get, slice_index_or}
+use Rattle.std.specs.Prelude.{◌≡◌, ℕ, List, [], ◌∷◌, Option, Some, MatchOption, ◌⊎◌, slice_get, slice_index_or}
 use Rattle.hz_description_model.specs.Check.CheckFaults.{CheckFault, CheckFaultAt, IsSound}
 use Rattle.hz_description_model.specs.Check.Places.{Known, class_names}
 use Rattle.hz_description_model.specs.Reading.DescriptionForms.{DescriptionFault}
 use Rattle.hz_description_model.specs.Reading.DescriptionForms as description_forms
 use Rattle.hz_description_model.specs.Reading.Descriptions.{Description}
-use Rattle.hz_answer_model.specs.FaultTexts.{description_words, check_line, check_status}
+use Rattle.hz_answer_model.specs.FaultTexts.{description_line, check_line, check_status}
 use Rattle.hz_description_model.specs.Reading.Limits.{description_limit}
 use Rattle.hz_acceptance_model.specs.Traces.TraceLimits.{trace_limit}
 use Rattle.hz_description_model.specs.Check.CheckedParts.{automaton_names}
@@ -16,37 +16,43 @@ use Rattle.hz_acceptance_model.specs.Accepting.Replay.{Pipeline, Class, Accepted
 use Rattle.hz_description_model.specs.Check.Sites.{Site}
 use Rattle.hz_base_model.specs.Lines.{lines_of}
 use Rattle.hz_acceptance_model.specs.Traces.Traces.{event_lines}
-use Rattle.hz_answer_model.specs.Texts.{usage_line, fault_line, states_line, accepted_line, refused_line}
+use Rattle.hz_answer_model.specs.Texts.{states_line, accepted_line, refused_line}
 use Rattle.hz_base_model.specs.Forms.Trees.{Trees}
-use Rattle.hz_words_model.specs.Words.{Order, compile, replay, walk, schedule, eval, drill, order_of}
+use Rattle.hz_words_model.specs.Words.{Order, compile, replay, walk, schedule, eval, drill, order_of, usage_line}
 use Rattle.hz_base_model.specs.Names.{Held}
-use Rattle.hz_answer_model.specs.Phases.{Says, Next, Opens, HasForms, Traces}
+use Rattle.hz_answer_model.specs.Phases.{Says, Next, FileWord, OpensAll, HasForms, Traces}
 use Rattle.hz_answer_model.specs.BlockAnswers.{block_limit, state_text_limit, JudgesBlock}
 use Rattle.hz_answer_model.specs.ScheduleAnswers.{SchedulesBlock}
 use Rattle.hz_answer_model.specs.DrillAnswers.{Drills}
 use Rattle.hz_answer_model.specs.TableAnswers.{tables_limit, WritesTablesOf, HasTables, WalksTrace}
 
+-- the first fault of a form of a description is told
+abbrev pub TellsDescription : List ℕ → Trees → ℕ → List ℕ → Type 0
+TellsDescription name read status text = (fault : DescriptionFault) × (line : ℕ) × description_forms.FaultAt read fault line × Says 2 (description_line name fault line) status text
+
 -- the description that forms say, or the first fault of a form
 abbrev pub Describes : List ℕ → Trees → Next Description → ℕ → List ℕ → Type 0
-Describes name read next status text =
-    ((d : Description) × description_forms.Reads read d × next d status text)
-    ⊎ ((fault : DescriptionFault) × (line : ℕ) × description_forms.FaultAt read fault line × Says 2 (fault_line name line (description_words fault)) status text)
+Describes name read next status text = ((d : Description) × description_forms.Reads read d × next d status text) ⊎ TellsDescription name read status text
+
+-- the fault or the limit of a description is told
+abbrev pub TellsCheck : List ℕ → Description → ℕ → List ℕ → Type 0
+TellsCheck name d status text = (fault : CheckFault) × (site : Site) × CheckFaultAt d fault site × Says (check_status fault) (check_line name fault site) status text
 
 -- the description is checked: the alternatives of its names, or the fault that is told
 abbrev pub Checks : List ℕ → Description → Next Known → ℕ → List ℕ → Type 0
-Checks name d next status text =
-    ((known : Known) × IsSound d known × next known status text)
-    ⊎ ((fault : CheckFault) × (site : Site) × CheckFaultAt d fault site × Says (check_status fault) (check_line name fault site) status text)
+Checks name d next status text = ((known : Known) × IsSound d known × next known status text) ⊎ TellsCheck name d status text
 
 -- the front of every command on a description: its text is read, and it is checked
 abbrev pub HasDescription : List ℕ → List ℕ → ((d : Description) → Next Known) → ℕ → List ℕ → Type 0
 HasDescription name bytes next = HasForms name bytes (λ read. Describes name read (λ d. Checks name d (next d)))
 
+-- the first automaton that has too many states is told
+abbrev pub TellsLimit : List ℕ → Description → Known → ℕ → List ℕ → Type 0
+TellsLimit name d known status text = (a : ℕ) × IsFirstPastLimit d known a × Says 3 (states_line name (slice_index_or (automaton_names d) a [])) status text
+
 -- The automata of a description are within their limits of states, or the first that is not is told.
 abbrev pub Compiles : List ℕ → Description → Known → (ℕ → List ℕ → Type 0) → ℕ → List ℕ → Type 0
-Compiles name d known next status text =
-    (AllKeepLimits d known × next status text)
-    ⊎ ((a : ℕ) × IsFirstPastLimit d known a × Says 3 (states_line name (slice_index_or (automaton_names d) a [])) status text)
+Compiles name d known next status text = (AllKeepLimits d known × next status text) ⊎ TellsLimit name d known status text
 
 -- the class that an event issues
 abbrev pub IsIssueOf : {U : Type 0} → Pipeline U → Option Event → List ℕ → Type 0
@@ -75,62 +81,40 @@ Judges description described trace traced = HasDescription description described
 abbrev pub CompilesDescription : List ℕ → Description → Known → ℕ → List ℕ → Type 0
 CompilesDescription description d known = Compiles description d known (WritesTablesOf d known)
 
--- the file is read, and then judged
-abbrev pub AnswersCompile : Held → List ℕ → ℕ → List ℕ → Type 0
-AnswersCompile held description =
-    Opens held description description_limit (λ described.
-    HasDescription description described (CompilesDescription description))
-
--- all files are read, and then judged in their order
-abbrev pub AnswersReplay : Held → List ℕ → List ℕ → ℕ → List ℕ → Type 0
-AnswersReplay held description trace =
-    Opens held description description_limit (λ described.
-    Opens held trace trace_limit (λ traced.
-    Judges description described trace traced))
-
--- both files are read, the tables first, and then judged in their order
-abbrev pub AnswersWalk : Held → List ℕ → List ℕ → ℕ → List ℕ → Type 0
-AnswersWalk held tables trace =
-    Opens held tables tables_limit (λ tabled.
-    Opens held trace trace_limit (λ traced.
-    HasTables tables tabled (WalksTrace trace traced)))
-
 -- a description without a fault is compiled, and then the block is judged and scheduled
 abbrev pub SchedulesByDescription : List ℕ → List ℕ → List ℕ → Description → Known → ℕ → List ℕ → Type 0
 SchedulesByDescription description block blocked d known = Compiles description d known (SchedulesBlock block blocked d known)
-
--- both files are read, the description first, and then judged in their order
-abbrev pub AnswersSchedule : Held → List ℕ → List ℕ → ℕ → List ℕ → Type 0
-AnswersSchedule held description block =
-    Opens held description description_limit (λ described.
-    Opens held block block_limit (λ blocked.
-    HasDescription description described (SchedulesByDescription description block blocked)))
-
--- both files are read, the block first, and then judged in their order
-abbrev pub AnswersEval : Held → List ℕ → List ℕ → ℕ → List ℕ → Type 0
-AnswersEval held block state =
-    Opens held block block_limit (λ blocked.
-    Opens held state state_text_limit (λ stated.
-    JudgesBlock block blocked state stated))
 
 -- a description without a fault is compiled, and its drill is told
 abbrev pub DrillsDescription : List ℕ → (number turns : ℕ) → Description → Known → ℕ → List ℕ → Type 0
 DrillsDescription description number turns d known = Compiles description d known (Drills d known number turns)
 
--- the file is read, and then judged
-abbrev pub AnswersDrill : Held → List ℕ → (number turns : ℕ) → ℕ → List ℕ → Type 0
-AnswersDrill held description number turns =
-    Opens held description description_limit (λ described.
-    HasDescription description described (DrillsDescription description number turns))
+-- a file of this name, of at most so many bytes
+abbrev file_word : List ℕ → ℕ → FileWord
+file_word name most = record { name = name; most = most }
 
--- what an order answers: one case for each command
+-- the file words of an order with their limits, in the order in which they are read
+abbrev pub files_of : Order → List FileWord
+files_of (compile description) = file_word description description_limit ∷ []
+files_of (replay description trace) = file_word description description_limit ∷ file_word trace trace_limit ∷ []
+files_of (walk tables trace) = file_word tables tables_limit ∷ file_word trace trace_limit ∷ []
+files_of (schedule description block) = file_word description description_limit ∷ file_word block block_limit ∷ []
+files_of (eval block state) = file_word block block_limit ∷ file_word state state_text_limit ∷ []
+files_of (drill description number turns) = file_word description description_limit ∷ []
+
+-- what an order answers to the bytes of its files: one case for each command, which judges its texts in their order
+abbrev pub JudgesOrder : Order → Next (List (List ℕ))
+JudgesOrder (compile description) (described ∷ []) status text = HasDescription description described (CompilesDescription description) status text
+JudgesOrder (replay description trace) (described ∷ traced ∷ []) status text = Judges description described trace traced status text
+JudgesOrder (walk tables trace) (tabled ∷ traced ∷ []) status text = HasTables tables tabled (WalksTrace trace traced) status text
+JudgesOrder (schedule description block) (described ∷ blocked ∷ []) status text = HasDescription description described (SchedulesByDescription description block blocked) status text
+JudgesOrder (eval block state) (blocked ∷ stated ∷ []) status text = JudgesBlock block blocked state stated status text
+JudgesOrder (drill description number turns) (described ∷ []) status text = HasDescription description described (DrillsDescription description number turns) status text
+JudgesOrder _ _ status text = ⊥
+
+-- what an order answers: all its files are read, and then their texts are judged
 abbrev pub AnswersOrder : Held → Order → ℕ → List ℕ → Type 0
-AnswersOrder held (compile description) = AnswersCompile held description
-AnswersOrder held (replay description trace) = AnswersReplay held description trace
-AnswersOrder held (walk tables trace) = AnswersWalk held tables trace
-AnswersOrder held (schedule description block) = AnswersSchedule held description block
-AnswersOrder held (eval block state) = AnswersEval held block state
-AnswersOrder held (drill description number turns) = AnswersDrill held description number turns
+AnswersOrder held order = OpensAll held (files_of order) (JudgesOrder order)
 
 -- What the program answers to its words over files that hold this, where memory is found and nothing fails but the
 -- opening of a name that is not held. The first phase that refuses decides.

@@ -4,13 +4,11 @@ use Rattle.std.specs.List.{range_with_len}
 use Rattle.hz_base_model.specs.Forms.Trees.{Trees}
 use Rattle.hz_block_model.specs.Running.Blocks.{Instruction}
 use Rattle.hz_block_model.specs.Running.States.{State, run}
-use Rattle.hz_block_model.specs.Texts.Operands.{RtlFault}
+use Rattle.hz_block_model.specs.Texts.Operands.{rtl_word}
 use Rattle.hz_block_model.specs.Texts.BlockForms as blocks
 use Rattle.hz_block_model.specs.Texts.StateForms as states
 use Rattle.hz_block_model.specs.Texts.StateTexts.{IsText}
-use Rattle.hz_answer_model.specs.FaultTexts.{rtl_word}
-use Rattle.hz_answer_model.specs.Phases.{Says, Next, HasForms}
-use Rattle.hz_answer_model.specs.Texts.{fault_line}
+use Rattle.hz_answer_model.specs.Phases.{Next, TellsFault, HasForms}
 
 -- bytes of a block, at most
 abbrev pub block_limit : ℕ
@@ -24,13 +22,13 @@ state_text_limit = 4194304
 abbrev pub IsBlock : List ℕ → Trees → Next (List Instruction) → ℕ → List ℕ → Type 0
 IsBlock name read next status text =
     ((block : List Instruction) × blocks.Reads read block × next block status text)
-    ⊎ ((fault : RtlFault) × (line : ℕ) × blocks.FaultAt read fault line × Says 2 (fault_line name line (rtl_word fault ∷ [])) status text)
+    ⊎ TellsFault rtl_word (blocks.FaultAt read) name status text
 
 -- the state that forms give, or the first wrong one
 abbrev pub IsState : List ℕ → Trees → Next State → ℕ → List ℕ → Type 0
 IsState name read next status text =
     ((state : State) × states.Reads read state × next state status text)
-    ⊎ ((fault : RtlFault) × (line : ℕ) × states.FaultAt read fault line × Says 2 (fault_line name line (rtl_word fault ∷ [])) status text)
+    ⊎ TellsFault rtl_word (states.FaultAt read) name status text
 
 -- the state that the instructions leave in the order of the source is written
 abbrev pub Evaluates : List Instruction → Next State

@@ -1,5 +1,5 @@
 -- What is written of a schedule, of tables and of a drill, and what `replay` and `walk` answer of them, in the words of the promise: README.md.
-use Rattle.std.specs.Prelude.{◌≡◌, ◌↔◌, ℕ, ◌≤◌, ◌<◌, false, List, length, Some}
+use Rattle.std.specs.Prelude.{⊤, ◌≡◌, ◌↔◌, ℕ, ◌≤◌, ◌<◌, false, List, length, Some}
 use Rattle.hz_base_model.specs.Forms.Trees.{Trees}
 use Rattle.hz_base_model.specs.Forms.Forms as forms
 use Rattle.hz_description_model.specs.Reading.Descriptions.{Description}
@@ -18,9 +18,10 @@ use Rattle.hz_block_model.specs.Scheduled.BlockGraphs.{IsGraphOf}
 use Rattle.hz_block_model.specs.Scheduled.BlockSchedules.{KeepsBlock}
 use Rattle.hz_acceptance_model.specs.Traces.Traces.{Trace}
 use Rattle.hz_tabtext_model.specs.Texts.{TableText}
-use Rattle.hz_answer_model.specs.Answers.{AnswersCompile, AnswersReplay, AnswersWalk}
+use Rattle.hz_answer_model.specs.Answers.{AnswersOrder}
 use Rattle.hz_answer_model.specs.DrillAnswers.{IsDrillOf}
 use Rattle.hz_base_model.specs.Names.{Held}
+use Rattle.hz_words_model.specs.Words.{Order, compile, replay, walk, schedule, drill}
 use Rattle.hz_answer_model.specs.Texts.{accepted_line}
 use Rattle.hz_answer_model.specs.ScheduleAnswers.{schedule_text}
 use Rattle.hz_answer_model.specs.TableAnswers.{tables_limit, IsTablesOf}
@@ -62,7 +63,7 @@ pub record WritesSchedule (held : Held) (description block : List ℕ) (text : L
 -- long, whose events the slots spell, it answers with status 0 how many issues there are, and the last cycle.
 pub record ReplayAccepts (held : Held) (description : List ℕ) (d : Description) (g : Graph) (slots : List Slot) : Type 0 where
   pub answers : (other : Held) (trace traced : List ℕ) → other description ≡ held description → other trace ≡ Some traced → length traced ≤ trace_limit → Trace (class_names d) traced (spell g slots)
-      → AnswersReplay other description trace 0 (accepted_line (length slots) (present 0 slots))
+      → AnswersOrder other (replay description trace) 0 (accepted_line (length slots) (present 0 slots))
 
 -- The text says what is compiled of the description that is held, and is within its limit of bytes, unless what each state is is told.
 pub record WritesTables (held : Held) (description text : List ℕ) : Type 0 where
@@ -78,7 +79,7 @@ pub record WritesTables (held : Held) (description text : List ℕ) : Type 0 whe
 -- text is held and not too long.
 pub record WalkIsReplay (held : Held) (description text : List ℕ) : Type 0 where
   pub answers : (other : Held) (tables trace : List ℕ) → other description ≡ held description → other tables ≡ Some text → length text ≤ tables_limit
-      → (status : ℕ) (said : List ℕ) → AnswersWalk other tables trace status said ↔ AnswersReplay other description trace status said
+      → (status : ℕ) (said : List ℕ) → AnswersOrder other (walk tables trace) status said ↔ AnswersOrder other (replay description trace) status said
 
 -- The text tells of the drill of the description that is held, which accepts its trace. Its states are those of the tables that
 -- `compile` writes.
@@ -90,10 +91,32 @@ pub record WritesDrill (held : Held) (description : List ℕ) (number turns : �
   pub is_described : IsDescribed described d known
   pub drill : IsDrillOf d known number turns text
   pub accepted : Accepted (pipeline_with d known) drill.events
-  pub tables : (other : Held) (written : List ℕ) → other description ≡ Some described → AnswersCompile other description 0 written → TableText written drill.machine
+  pub tables : (other : Held) (written : List ℕ) → other description ≡ Some described → AnswersOrder other (compile description) 0 written → TableText written drill.machine
 
 -- `replay` accepts events, by whatever text it is given: where the same description is held, and a text that is not too long, whose
 -- events these are, it answers with status 0 how many issues and how many cycles there are.
 pub record ReplayAcceptsEvents (held : Held) (description : List ℕ) (d : Description) (events : List Event) : Type 0 where
   pub answers : (other : Held) (trace traced : List ℕ) → other description ≡ held description → other trace ≡ Some traced → length traced ≤ trace_limit → Trace (class_names d) traced events
-      → AnswersReplay other description trace 0 (accepted_line (issues_of events) (cycles_of events))
+      → AnswersOrder other (replay description trace) 0 (accepted_line (issues_of events) (cycles_of events))
+
+-- what is written is a schedule that keeps its block, and `replay` accepts it
+pub record KeepsSchedule (held : Held) (description block text : List ℕ) : Type 0 where
+  pub writes : WritesSchedule held description block text
+  pub replays : ReplayAccepts held description writes.d writes.g writes.slots
+
+-- what is written are the tables of a description, and `walk` on them is `replay` on it
+pub record KeepsTables (held : Held) (description text : List ℕ) : Type 0 where
+  pub writes : WritesTables held description text
+  pub walks : WalkIsReplay held description text
+
+-- what is written tells of a drill of a description, and `replay` accepts its trace
+pub record KeepsDrill (held : Held) (description : List ℕ) (number turns : ℕ) (text : List ℕ) : Type 0 where
+  pub writes : WritesDrill held description number turns text
+  pub replays : ReplayAcceptsEvents held description writes.d writes.drill.events
+
+-- What status 0 promises of the text that is written, beside that it is the answer: one case for each command that promises more.
+abbrev pub Promised : Held → Order → List ℕ → Type 0
+Promised held (compile description) text = KeepsTables held description text
+Promised held (schedule description block) text = KeepsSchedule held description block text
+Promised held (drill description number turns) text = KeepsDrill held description number turns text
+Promised held _ text = ⊤

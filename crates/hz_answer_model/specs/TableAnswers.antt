@@ -8,14 +8,13 @@ use Rattle.hz_description_model.specs.Check.Places.{Known}
 use Rattle.hz_description_model.specs.Reading.Descriptions.{Description}
 use Rattle.hz_automata_model.specs.Single.Told.{ListsAscending}
 use Rattle.hz_automata_model.specs.Tables.Machines.{Machine, machine_walk}
-use Rattle.hz_tabtext_model.specs.Judging.{Fault}
+use Rattle.hz_tabtext_model.specs.Judging.{Kind, tables_word}
 use Rattle.hz_tabtext_model.specs.Reading.{tables_in}
 use Rattle.hz_tabtext_model.specs.Said.{tables_said}
 use Rattle.hz_tabtext_model.specs.Texts.{TableText, spelled}
 use Rattle.hz_acceptance_model.specs.Traces.Traces.{event_lines}
-use Rattle.hz_answer_model.specs.FaultTexts.{tables_word}
-use Rattle.hz_answer_model.specs.Phases.{Says, Next, Traces}
-use Rattle.hz_answer_model.specs.Texts.{fault_line, accepted_line, refused_line}
+use Rattle.hz_answer_model.specs.Phases.{Says, Next, TellsFault, Traces}
+use Rattle.hz_answer_model.specs.Texts.{accepted_line, refused_line}
 
 -- bytes of a tables text, at most
 abbrev pub tables_limit : ℕ
@@ -35,11 +34,15 @@ pub record IsTablesOf (d : Description) (known : Known) (text : List ℕ) : Type
 abbrev pub WritesTablesOf : Description → Known → ℕ → List ℕ → Type 0
 WritesTablesOf d known status text = (status ≡ 0) × IsTablesOf d known text
 
+-- the first fault of a tables text, and its line
+abbrev pub TablesFaultAt : List ℕ → Kind → ℕ → Type 0
+TablesFaultAt bytes kind line = tables_in bytes ≡ Err (record { kind = kind; line = line })
+
 -- the machine of a tables text, or its first fault
 abbrev pub HasTables : List ℕ → List ℕ → Next Machine → ℕ → List ℕ → Type 0
 HasTables name bytes next status text =
     ((m : Machine) × TableText bytes m × next m status text)
-    ⊎ ((fault : Fault) × (tables_in bytes ≡ Err fault) × Says 2 (fault_line name fault.line (tables_word fault.kind ∷ [])) status text)
+    ⊎ TellsFault tables_word (TablesFaultAt bytes) name status text
 
 -- the machine walks all events before the one of this place, and not that one
 abbrev pub IsFirstUnwalked : Machine → List Event → ℕ → Type 0

@@ -1,5 +1,5 @@
 -- The texts of answers: this profile, docs/FORMATS.md, 'Answers'.
-use Rattle.std.specs.Prelude.{ℕ, List, [], ◌∷◌, ◌++◌, codes, decimal}
+use Rattle.std.specs.Prelude.{ℕ, List, [], ◌∷◌, ◌++◌, codes, decimal, Option, Some, None}
 use Rattle.std.specs.List.{concat, flat_map}
 
 -- The texts that the program writes, each one line. A file goes by the word that names it.
@@ -37,6 +37,25 @@ drill_text turns issues cycles states = turns_line turns ++ (accepted_line issue
 abbrev pub fault_line : List ℕ → ℕ → List (List ℕ) → List ℕ
 fault_line file line what = concat (codes "fault " ∷ file ∷ codes " line " ∷ decimal line ∷ codes " " ∷ (what ++ codes "\n" ∷ []))
 
+-- after the word of a fault: the instruction that is wrong
+abbrev pub insn_words : Option ℕ → List (List ℕ)
+insn_words None = []
+insn_words (Some number) = codes " insn " ∷ decimal number ∷ []
+
+-- a name that is wrong
+abbrev pub name_words : Option (List ℕ) → List (List ℕ)
+name_words None = []
+name_words (Some name) = codes " " ∷ name ∷ []
+
+-- the fault of an expression, by its word and its byte
+abbrev pub at_words : Option (List ℕ × ℕ) → List (List ℕ)
+at_words None = []
+at_words (Some at) = codes " " ∷ at.0 ∷ codes " " ∷ decimal at.1 ∷ []
+
+-- a fault of a text with what is told after its word: an instruction, one name or two, the fault of an expression
+abbrev pub fault_text : (file : List ℕ) → (line : ℕ) → (word : List ℕ) → (insn : Option ℕ) → (first second : Option (List ℕ)) → (at : Option (List ℕ × ℕ)) → List ℕ
+fault_text file line word insn first second at = fault_line file line (word ∷ (insn_words insn ++ (name_words first ++ (name_words second ++ at_words at))))
+
 -- a limit of a description: the line of what passes it, which limit, and its name
 abbrev pub passed_line : List ℕ → ℕ → List ℕ → List ℕ → List ℕ
 passed_line file line what name = concat (codes "limit " ∷ file ∷ codes " line " ∷ decimal line ∷ codes " " ∷ what ∷ codes " " ∷ name ∷ codes "\n" ∷ [])
@@ -53,6 +72,3 @@ file_line file = concat (codes "file " ∷ file ∷ codes " could not be read\n"
 
 abbrev pub memory_line : List ℕ
 memory_line = concat (codes "memory\n" ∷ [])
-
-abbrev pub usage_line : List ℕ
-usage_line = concat (codes "usage: hz compile DESC | replay DESC TRACE | walk TABLES TRACE | schedule DESC BLOCK | eval BLOCK STATE | drill DESC NUMBER COUNT\n" ∷ [])

@@ -1,3 +1,4 @@
 pub mod DriveLemmas
 pub mod ReadLemmas
 pub mod Writing
+pub mod PieceTexts

@@ -7,6 +7,7 @@ mod mem_files;
 mod mem_sink;
 mod names;
 mod output;
+mod pieces;
 mod reading;
 
 pub use faults::{Failed, NoMemory, SlurpFault};
@@ -15,4 +16,5 @@ pub use mem_files::MemFiles;
 pub use mem_sink::MemSink;
 pub use names::FileName;
 pub use output::Sink;
+pub use pieces::put_all;
 pub use reading::slurp;

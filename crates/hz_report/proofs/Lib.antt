@@ -1,3 +1,3 @@
 pub mod ListingLemmas
 pub mod ScheduleLemmas
-pub mod WritingLemmas
+pub mod FaultLines

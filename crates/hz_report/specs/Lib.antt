@@ -1,3 +1,3 @@
-pub mod Kinds
+pub mod Faults
 pub mod Reports
 pub mod Schedules

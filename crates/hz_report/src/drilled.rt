@@ -6,8 +6,7 @@ ghost use Rattle.hz_io.specs.Sink.{Writes};
 ghost use Rattle.hz_answer_model.specs.Texts as model;
 
 use super::outcomes::put_accepted;
-use super::pieces::put_all;
-use hz_io::{Failed, Sink};
+use hz_io::{Failed, Sink, put_all};
 use itoa::Buffer;
 
 /// Writes the line that a drill begins with: how many turns.

@@ -1,201 +1,153 @@
-//! Writing the lines of faults and limits.
+//! Writing the lines of faults.
 
-ghost use Rattle.std.specs.Prelude.{◌-◌, ◌^◌, ◌<◌, [], ◌∷◌, codes, decimal};
+ghost use Rattle.std.specs.Prelude.{◌-◌, ◌^◌, ◌<◌};
+ghost use Rattle.std.specs.Option.{option_map};
 ghost use Rattle.hz_io.specs.Sink.{Writes};
-ghost use Rattle.hz_answer_model.specs.FaultTexts.{limit_word};
-ghost use Rattle.hz_answer_model.specs.Texts as model;
-ghost use Rattle.hz_check.specs.Faults.{limit_of};
-ghost use Rattle.hz_report.specs.Kinds.{kind_word, expression_word, named_word, insn_word};
+ghost use Rattle.hz_answer_model.specs.Texts.{fault_text};
+ghost use Rattle.hz_base_model.specs.Told.{told_in};
+ghost use Rattle.hz_report.specs.Faults.{from_first, from_insn, from_second, insn_part, name_part, at_part, ending, head_of};
 
-use super::kind::{ExpressionKind, InsnKind, Kind, NamedKind, limit_word};
-use super::pieces::put_all;
-use hz_check::LimitName;
-use hz_io::{Failed, Sink};
+use hz_io::{Failed, Sink, put_all};
 use hz_regexp::Name;
 use itoa::Buffer;
 
+/// Writes what a fault begins with: the file, the line and the word of its kind.
+fn put_head<S: Sink>(out: &mut S, file: &str, line: u32, kind: &str) -> Result<(), Failed>
+    requires { S.faults out.old < 2 ^ 64 - 1 }
+    ensures { Writes S.written S.room S.faults out.old out.new (head_of file.now line kind.now) result }
+{
+    let mut digits = Buffer::new();
+    put_all(
+        out,
+        &[
+            b"fault ",
+            file.as_bytes(),
+            b" line ",
+            digits.format(line).as_bytes(),
+            b" ",
+            kind.as_bytes(),
+        ],
+    )
+}
+
+/// Writes the number of an instruction, if there is one.
+fn put_insn<S: Sink>(out: &mut S, insn: Option<u32>) -> Result<(), Failed>
+    requires { S.faults out.old < 2 ^ 64 - 1 }
+    ensures { Writes S.written S.room S.faults out.old out.new (insn_part insn) result }
+{
+    let Some(number) = insn else {
+        return Ok(());
+    };
+    let mut digits = Buffer::new();
+    put_all(out, &[b" insn ", digits.format(number).as_bytes()])
+}
+
+/// Writes a name, if there is one.
+fn put_name<S: Sink>(out: &mut S, name: Option<&Name>) -> Result<(), Failed>
+    requires { S.faults out.old < 2 ^ 64 - 1 }
+    ensures { Writes S.written S.room S.faults out.old out.new (name_part (option_map (λ n. n.now) name)) result }
+{
+    let Some(name) = name else {
+        return Ok(());
+    };
+    put_all(out, &[b" ", name.bytes()])
+}
+
+/// Writes the fault of an expression, if there is one: its word and its byte.
+fn put_at<S: Sink>(out: &mut S, at: Option<(&str, u32)>) -> Result<(), Failed>
+    requires { S.faults out.old < 2 ^ 64 - 1 }
+    ensures { Writes S.written S.room S.faults out.old out.new (at_part (told_in at)) result }
+{
+    let Some((word, byte)) = at else {
+        return Ok(());
+    };
+    let mut digits = Buffer::new();
+    put_all(
+        out,
+        &[
+            b" ",
+            word.as_bytes(),
+            b" ",
+            digits.format(byte).as_bytes(),
+        ],
+    )
+}
+
+/// Writes what stands after names, and the end of the line.
+fn put_ending<S: Sink>(out: &mut S, at: Option<(&str, u32)>) -> Result<(), Failed>
+    requires { S.faults out.old < 2 ^ 64 - 1 }
+    ensures { Writes S.written S.room S.faults out.old out.new (ending (told_in at)) result }
+{
+    match put_at(out, at) {
+        Ok(()) => out.put(b"\n"),
+        Err(failed) => Err(failed),
+    }
+}
+
+/// Writes the second name, and what stands after it.
+fn put_from_second<S: Sink>(
+    out: &mut S,
+    second: Option<&Name>,
+    at: Option<(&str, u32)>,
+) -> Result<(), Failed>
+    requires { S.faults out.old < 2 ^ 64 - 1 }
+    ensures { Writes S.written S.room S.faults out.old out.new (from_second (option_map (λ n. n.now) second) (told_in at)) result }
+{
+    match put_name(out, second) {
+        Ok(()) => put_ending(out, at),
+        Err(failed) => Err(failed),
+    }
+}
+
+/// Writes the names, and what stands after them.
+fn put_from_first<S: Sink>(
+    out: &mut S,
+    first: Option<&Name>,
+    second: Option<&Name>,
+    at: Option<(&str, u32)>,
+) -> Result<(), Failed>
+    requires { S.faults out.old < 2 ^ 64 - 1 }
+    ensures { Writes S.written S.room S.faults out.old out.new (from_first (option_map (λ n. n.now) first) (option_map (λ n. n.now) second) (told_in at)) result }
+{
+    match put_name(out, first) {
+        Ok(()) => put_from_second(out, second, at),
+        Err(failed) => Err(failed),
+    }
+}
+
+/// Writes what stands after the word of a fault.
+fn put_from_insn<S: Sink>(
+    out: &mut S,
+    insn: Option<u32>,
+    first: Option<&Name>,
+    second: Option<&Name>,
+    at: Option<(&str, u32)>,
+) -> Result<(), Failed>
+    requires { S.faults out.old < 2 ^ 64 - 1 }
+    ensures { Writes S.written S.room S.faults out.old out.new (from_insn insn (option_map (λ n. n.now) first) (option_map (λ n. n.now) second) (told_in at)) result }
+{
+    match put_insn(out, insn) {
+        Ok(()) => put_from_first(out, first, second, at),
+        Err(failed) => Err(failed),
+    }
+}
+
 /// Writes the line of a fault.
-pub fn put_fault<S: Sink>(out: &mut S, file: &str, line: u32, kind: Kind) -> Result<(), Failed>
-    requires { S.faults out.old < 2 ^ 64 - 1 }
-    ensures { Writes S.written S.room S.faults out.old out.new (model.fault_line file.now line (kind_word kind ∷ [])) result }
-{
-    let mut digits = Buffer::new();
-    put_all(
-        out,
-        &[
-            b"fault ",
-            file.as_bytes(),
-            b" line ",
-            digits.format(line).as_bytes(),
-            b" ",
-            kind.word(),
-            b"\n",
-        ],
-    )
-}
-
-/// Writes the line of a fault of an expression.
-pub fn put_expression<S: Sink>(
+pub fn put_fault<S: Sink>(
     out: &mut S,
     file: &str,
     line: u32,
-    kind: ExpressionKind,
-    at: u32,
+    kind: &str,
+    insn: Option<u32>,
+    first: Option<&Name>,
+    second: Option<&Name>,
+    at: Option<(&str, u32)>,
 ) -> Result<(), Failed>
     requires { S.faults out.old < 2 ^ 64 - 1 }
-    ensures { Writes S.written S.room S.faults out.old out.new (model.fault_line file.now line (codes "BadExpression " ∷ expression_word kind ∷ codes " " ∷ decimal at ∷ [])) result }
+    ensures { Writes S.written S.room S.faults out.old out.new (fault_text file.now line kind.now insn (option_map (λ n. n.now) first) (option_map (λ n. n.now) second) (told_in at)) result }
 {
-    let mut line_digits = Buffer::new();
-    let mut at_digits = Buffer::new();
-    put_all(
-        out,
-        &[
-            b"fault ",
-            file.as_bytes(),
-            b" line ",
-            line_digits.format(line).as_bytes(),
-            b" ",
-            b"BadExpression ",
-            kind.word(),
-            b" ",
-            at_digits.format(at).as_bytes(),
-            b"\n",
-        ],
-    )
-}
-
-/// Writes the line of a fault of a name.
-pub fn put_named<S: Sink>(
-    out: &mut S,
-    file: &str,
-    line: u32,
-    kind: NamedKind,
-    name: &Name,
-) -> Result<(), Failed>
-    requires { S.faults out.old < 2 ^ 64 - 1 }
-    ensures { Writes S.written S.room S.faults out.old out.new (model.fault_line file.now line (named_word kind ∷ codes " " ∷ name.now ∷ [])) result }
-{
-    let mut digits = Buffer::new();
-    put_all(
-        out,
-        &[
-            b"fault ",
-            file.as_bytes(),
-            b" line ",
-            digits.format(line).as_bytes(),
-            b" ",
-            kind.word(),
-            b" ",
-            name.bytes(),
-            b"\n",
-        ],
-    )
-}
-
-/// Writes the line of a fault of an instruction.
-pub fn put_insn<S: Sink>(
-    out: &mut S,
-    file: &str,
-    line: u32,
-    kind: InsnKind,
-    number: u32,
-) -> Result<(), Failed>
-    requires { S.faults out.old < 2 ^ 64 - 1 }
-    ensures { Writes S.written S.room S.faults out.old out.new (model.fault_line file.now line (insn_word kind ∷ codes " insn " ∷ decimal number ∷ [])) result }
-{
-    let mut line_digits = Buffer::new();
-    let mut number_digits = Buffer::new();
-    put_all(
-        out,
-        &[
-            b"fault ",
-            file.as_bytes(),
-            b" line ",
-            line_digits.format(line).as_bytes(),
-            b" ",
-            kind.word(),
-            b" insn ",
-            number_digits.format(number).as_bytes(),
-            b"\n",
-        ],
-    )
-}
-
-/// Writes the line of an instruction of two classes.
-pub fn put_ambiguous<'a, S: Sink>(
-    out: &mut S,
-    file: &'a str,
-    line: u32,
-    number: u32,
-    first: &'a Name,
-    second: &'a Name,
-) -> Result<(), Failed>
-    requires { S.faults out.old < 2 ^ 64 - 1 }
-    ensures { Writes S.written S.room S.faults out.old out.new (model.fault_line file.now line (codes "Ambiguous" ∷ codes " insn " ∷ decimal number ∷ codes " " ∷ first.now ∷ codes " " ∷ second.now ∷ [])) result }
-{
-    let mut line_digits = Buffer::new();
-    let mut number_digits = Buffer::new();
-    put_all(
-        out,
-        &[
-            b"fault ",
-            file.as_bytes(),
-            b" line ",
-            line_digits.format(line).as_bytes(),
-            b" ",
-            b"Ambiguous",
-            b" insn ",
-            number_digits.format(number).as_bytes(),
-            b" ",
-            first.bytes(),
-            b" ",
-            second.bytes(),
-            b"\n",
-        ],
-    )
-}
-
-/// Writes the line of a limit that is passed.
-pub fn put_passed<S: Sink>(
-    out: &mut S,
-    file: &str,
-    line: u32,
-    limit: LimitName,
-    name: &Name,
-) -> Result<(), Failed>
-    requires { S.faults out.old < 2 ^ 64 - 1 }
-    ensures { Writes S.written S.room S.faults out.old out.new (model.passed_line file.now line (limit_word (limit_of limit)) name.now) result }
-{
-    let mut digits = Buffer::new();
-    put_all(
-        out,
-        &[
-            b"limit ",
-            file.as_bytes(),
-            b" line ",
-            digits.format(line).as_bytes(),
-            b" ",
-            limit_word(&limit),
-            b" ",
-            name.bytes(),
-            b"\n",
-        ],
-    )
-}
-
-/// Writes the line of an automaton that has too many states.
-pub fn put_states<S: Sink>(out: &mut S, file: &str, automaton: &Name) -> Result<(), Failed>
-    requires { S.faults out.old < 2 ^ 64 - 1 }
-    ensures { Writes S.written S.room S.faults out.old out.new (model.states_line file.now automaton.now) result }
-{
-    put_all(
-        out,
-        &[
-            b"limit ",
-            file.as_bytes(),
-            b" automaton ",
-            automaton.bytes(),
-            b"\n",
-        ],
-    )
+    match put_head(out, file, line, kind) {
+        Ok(()) => put_from_insn(out, insn, first, second, at),
+        Err(failed) => Err(failed),
+    }
 }

@@ -6,8 +6,7 @@ ghost use Rattle.hz_io.specs.Sink.{Writes};
 ghost use Rattle.hz_rtl.specs.Listings.{listing};
 ghost use Rattle.hz_block_model.specs.Texts.StateTexts.{register_line, cell_line, listing_text};
 
-use super::pieces::put_all;
-use hz_io::{Failed, Sink};
+use hz_io::{Failed, Sink, put_all};
 use hz_rtl::State;
 use itoa::Buffer;
 use std::collections::BTreeMap;

@@ -3,10 +3,11 @@
 ghost use Rattle.std.specs.Prelude.{◌-◌, ◌^◌, ◌<◌};
 ghost use Rattle.hz_io.specs.Sink.{Writes};
 ghost use Rattle.hz_answer_model.specs.Texts as model;
+ghost use Rattle.hz_words_model.specs.Words.{usage_line};
 
-use super::pieces::put_all;
-use hz_io::{Failed, Sink};
+use hz_io::{Failed, Sink, put_all};
 use hz_regexp::Name;
+use hz_tool_words::usage;
 use itoa::Buffer;
 
 /// Writes the line of an accepted trace.
@@ -29,7 +30,7 @@ pub fn put_accepted<S: Sink>(out: &mut S, issues: u64, cycles: u64) -> Result<()
 }
 
 /// Writes the line of a refused trace.
-pub fn put_refused<S: Sink>(out: &mut S, line: u64, class: &Name) -> Result<(), Failed>
+pub fn put_refused<S: Sink>(out: &mut S, line: u32, class: &Name) -> Result<(), Failed>
     requires { S.faults out.old < 2 ^ 64 - 1 }
     ensures { Writes S.written S.room S.faults out.old out.new (model.refused_line line class.now) result }
 {
@@ -46,25 +47,12 @@ pub fn put_refused<S: Sink>(out: &mut S, line: u64, class: &Name) -> Result<(), 
     )
 }
 
-/// Writes the line of a file that is too long.
-pub fn put_long<S: Sink>(out: &mut S, file: &str) -> Result<(), Failed>
-    requires { S.faults out.old < 2 ^ 64 - 1 }
-    ensures { Writes S.written S.room S.faults out.old out.new (model.limit_line file.now) result }
-{
-    put_all(out, &[b"limit ", file.as_bytes(), b" bytes\n"])
-}
-
 /// Writes the line of words that are no command.
 pub fn put_usage<S: Sink>(out: &mut S) -> Result<(), Failed>
     requires { S.faults out.old < 2 ^ 64 - 1 }
-    ensures { Writes S.written S.room S.faults out.old out.new model.usage_line result }
+    ensures { Writes S.written S.room S.faults out.old out.new usage_line result }
 {
-    put_all(
-        out,
-        &[
-            b"usage: hz compile DESC | replay DESC TRACE | walk TABLES TRACE | schedule DESC BLOCK | eval BLOCK STATE | drill DESC NUMBER COUNT\n",
-        ],
-    )
+    out.put(usage().as_bytes())
 }
 
 /// Writes the line of memory that ran out.

@@ -8,9 +8,8 @@ ghost use Rattle.hz_sched.specs.Shape.{graph_of, slot_of, slots_of};
 ghost use Rattle.hz_block_model.specs.Scheduling.Schedules.{class_at, present};
 ghost use Rattle.hz_report.specs.Schedules.{IsInRange, line_by, schedule_by};
 
-use super::pieces::put_all;
 use hz_depend::Graph;
-use hz_io::{Failed, Sink};
+use hz_io::{Failed, Sink, put_all};
 use hz_regexp::Name;
 use hz_sched::{Schedule, Slot};
 use hz_tables::Machine;

@@ -5,76 +5,55 @@ ghost use Rattle.hz_io.specs.Sink.{Writes};
 ghost use Rattle.hz_report.specs.Reports.{text_of, IsTellable};
 
 use super::drilled::put_drill;
-use super::faults::{
-    put_ambiguous, put_expression, put_fault, put_insn, put_named, put_passed, put_states,
-};
+use super::faults::put_fault;
+use super::limits::{put_automaton, put_bytes, put_checked};
 use super::listing::put_state;
-use super::outcomes::{put_accepted, put_file, put_long, put_memory, put_refused, put_usage};
+use super::outcomes::{put_accepted, put_file, put_memory, put_refused, put_usage};
 use super::report::Report;
 use super::scheduled::put_schedule;
 use hz_io::{Failed, Sink};
-use hz_tabfile::write_tables;
 
-/// Writes the text of a report: all of it, or a front of it where the sink failed, with one more fault. It takes no memory.
-/// The slots of a schedule are of instructions of its graph, and these of classes of its machine; what tables tell of each automaton
-/// fits its part and its units, with states shown exactly beside both `v` and `no-minimization` (`CanBeSaid`).
+/// Writes the text of a report: all of it, or a front of it if the sink failed, with one more fault. It takes no memory.
+/// The slots of a schedule are of instructions of its graph, and these of classes of its machine.
 pub fn write_report<S: Sink>(report: &Report<'_>, out: &mut S) -> Result<(), Failed>
     requires sink { S.faults out.old < 2 ^ 64 - 1 }
     requires range { IsTellable report.now }
     ensures { Writes S.written S.room S.faults out.old out.new (text_of report.now) result }
 {
-    match report {
-        Report::Accepted { issues, cycles } => put_accepted(out, *issues, *cycles),
-        Report::Refused { line, class } => put_refused(out, *line, class),
-        Report::Tables { compiled, checked } => write_tables(compiled, checked, out),
+    match *report {
+        Report::Accepted { issues, cycles } => put_accepted(out, issues, cycles),
+        Report::Refused { line, class } => put_refused(out, line, class),
         Report::Scheduled {
             machine,
             graph,
             schedule,
         } => put_schedule(out, machine, graph, schedule),
+        Report::After { state } => put_state(out, state),
         Report::Drill {
             turns,
             issues,
             cycles,
             states,
-        } => put_drill(out, *turns, *issues, *cycles, states),
-        Report::After { state } => put_state(out, state),
-        Report::Fault { file, line, kind } => put_fault(out, file, *line, *kind),
-        Report::Expression {
+        } => put_drill(out, turns, issues, cycles, states),
+        Report::Fault {
             file,
             line,
             kind,
-            at,
-        } => put_expression(out, file, *line, *kind, *at),
-        Report::Named {
-            file,
-            line,
-            kind,
-            name,
-        } => put_named(out, file, *line, *kind, name),
-        Report::Insn {
-            file,
-            line,
-            kind,
-            number,
-        } => put_insn(out, file, *line, *kind, *number),
-        Report::Ambiguous {
-            file,
-            line,
-            number,
+            insn,
             first,
             second,
-        } => put_ambiguous(out, file, *line, *number, first, second),
-        Report::Passed {
+            at,
+        } => put_fault(out, file, line, kind, insn, first, second, at),
+        Report::Bytes { file } => put_bytes(out, file),
+        Report::Checked {
             file,
             line,
-            limit,
+            what,
             name,
-        } => put_passed(out, file, *line, *limit, name),
-        Report::States { file, automaton } => put_states(out, file, automaton),
-        Report::Long { file } => put_long(out, file),
+        } => put_checked(out, file, line, what, name),
+        Report::Automaton { file, name } => put_automaton(out, file, name),
         Report::Usage => put_usage(out),
         Report::Memory => put_memory(out),
-        Report::File { file } => put_file(out, file),
+        Report::File { name } => put_file(out, name),
     }
 }

@@ -1,6 +1,6 @@
 pub mod AnswerLemmas
 pub mod BlockLemmas
-pub mod BlockTurnings
+pub mod BlockTelling
 pub mod JudgeLemmas
 pub mod MachineLemmas
 pub mod ReadLemmas
@@ -10,4 +10,4 @@ pub mod StartLemmas
 pub mod TraceLemmas
 pub mod TablesLemmas
 pub mod DrillLemmas
-pub mod TurningLemmas
+pub mod TellingLemmas

@@ -3,7 +3,7 @@ use Rattle.std.proofs.Common.{◌≡◌, ℕ, suc, List, [], ◌∷◌, length, 
 use Rattle.std.specs.Prelude.{slice_index_or}
 use Rattle.std.proofs.lemmas.List.{length-map}
 use Rattle.hz_acceptance_model.specs.Accepting.Events.{Event}
-use Rattle.hz_answer_model.specs.Answers.{ReplaysTrace, Compiles}
+use Rattle.hz_answer_model.specs.Answers.{ReplaysTrace, TellsLimit, Compiles}
 use Rattle.hz_answer_model.specs.TableAnswers.{Walks, WalksTrace}
 use Rattle.hz_answer_model.proofs.WalkLaws.{map_twice, traced_both}
 use Rattle.hz_answer_model.specs.Texts.{states_line}
@@ -21,24 +21,24 @@ use Rattle.hz_replay.specs.Replaying.{FirstUnwalked}
 use Rattle.hz_automata_model.specs.Tables.Machines.{Machine, machine_walk}
 use Rattle.hz_tool.proofs.AnswerLemmas.{agrees_weaker}
 use Rattle.hz_tool.specs.Decisions.{Agrees}
-use Rattle.hz_tool.specs.Fronts.{IsStatesReport, IsLimitReport}
+use Rattle.hz_tool.specs.Fronts.{IsStatesTold}
 use Rattle.hz_tool.specs.Machines.{IsMachineFor, Refuses}
-use Rattle.hz_report.specs.declared.report.Report.{Report}
-use Rattle.hz_report.specs.declared.report.Report.TheVariants.{States, Memory}
+use Rattle.hz_tool.specs.declared.decision.Decision.{Decision}
+use Rattle.hz_tool.specs.declared.decision.Decision.TheVariants.{Automaton, Memory}
 
 -- as many classes
 pub classes_count : (d : Description) (known : Known) (m : Machine) → IsMachineFor d known m → length m.classes ≡ length d.classes
 classes_count d known m is = ap length is.names ∙ length-map d.classes (λ c. c.name)
 
 -- what a machine refuses of its walk is told
-pub refusal : (m : Machine) (lines : List ℕ) (events : List Event) (i line : ℕ) (e : Event) (report : Report) → FirstUnwalked m events i → slice_get events i ≡ Some e → slice_get lines i ≡ Some line → Agrees (Refuses m line e) report → Agrees (Walks m lines events) report
+pub refusal : (m : Machine) (lines : List ℕ) (events : List Event) (i line : ℕ) (e : Event) (report : Decision) → FirstUnwalked m events i → slice_get events i ≡ Some e → slice_get lines i ≡ Some line → Agrees (Refuses m line e) report → Agrees (Walks m lines events) report
 refusal m lines events i line e report first there here h =
     agrees_weaker (Refuses m line e) (Walks m lines events)
     (λ s t (class, name, issues, named, says). inr (i, line, name, (first.before, subst (λ (n : ℕ). machine_walk m (take n events) ≡ None) (sym (add-one i)) first.stops), here, (class, there ∙ ap Some issues, named), says))
     report h
 
 -- a walk of the machine of a description is a replay by it
-pub walked_on : (d : Description) (known : Known) (m : Machine) → IsMachineFor d known m → (trace traced : List ℕ) (report : Report) → Agrees (WalksTrace trace traced m) report → Agrees (ReplaysTrace trace traced d known) report
+pub walked_on : (d : Description) (known : Known) (m : Machine) → IsMachineFor d known m → (trace traced : List ℕ) (report : Decision) → Agrees (WalksTrace trace traced m) report → Agrees (ReplaysTrace trace traced d known) report
 walked_on d known m is trace traced report h = agrees_weaker (WalksTrace trace traced m) (ReplaysTrace trace traced d known) (λ s t. (traced_both d known m is.names is.walks trace traced s t).0) report h
 
 module _ (d : Description) (checked : Checked) (is : IsCheckedOf d checked) where
@@ -79,18 +79,16 @@ module _ (d : Description) (checked : Checked) (is : IsCheckedOf d checked) wher
 
   -- a limit of its states is told
   pub limit_told : (name : List ℕ) (a : ℕ) (kind : Count) → IsFirstPast (options_of checked.options) (map automaton_of checked.automata.items) (map class_of checked.classes.items) a kind
-      → (report : Report) → IsStatesReport name (slice_index_or (map (λ x. x.name) checked.automata.items) a []) report → IsLimitReport name d is.known report
-  limit_told name a kind first (States file at) (same, named) = (same, (a, first_past d is.known a kind (first_of a kind first), named ∙ ap (λ ns. slice_index_or ns a []) names_held))
+      → (told : Decision) → IsStatesTold name (slice_index_or (map (λ x. x.name) checked.automata.items) a []) told → Agrees (TellsLimit name d is.known) told
+  limit_told name a kind first (Automaton file at) (same, named) =
+      (a, first_past d is.known a kind (first_of a kind first), (refl, ap (λ (f : List ℕ). states_line f at) same ∙ ap (states_line name) (named ∙ ap (λ ns. slice_index_or ns a []) names_held)))
   limit_told name a kind first Memory h = tt
   limit_told name a kind first _ h = absurd h
 
 -- a description that is compiled leads on
-pub compiled_on : (name : List ℕ) (d : Description) (known : Known) (m : Machine) → IsMachineFor d known m → (next : ℕ → List ℕ → Type 0) (report : Report) → Agrees next report → Agrees (Compiles name d known next) report
+pub compiled_on : (name : List ℕ) (d : Description) (known : Known) (m : Machine) → IsMachineFor d known m → (next : ℕ → List ℕ → Type 0) (report : Decision) → Agrees next report → Agrees (Compiles name d known next) report
 compiled_on name d known m is next report h = agrees_weaker next (Compiles name d known next) (λ s t x. inl (is.keeps, x)) report h
 
 -- a limit of its states is an answer
-pub limit_refused : (name : List ℕ) (d : Description) (known : Known) (next : ℕ → List ℕ → Type 0) (report : Report) → IsLimitReport name d known report → Agrees (Compiles name d known next) report
-limit_refused name d known next (States file at) (same, (a, first, named)) =
-    inr (a, first, (refl, ap (λ (f : List ℕ). states_line f at) same ∙ ap (states_line name) named))
-limit_refused name d known next Memory h = tt
-limit_refused name d known next _ h = absurd h
+pub limit_refused : (name : List ℕ) (d : Description) (known : Known) (next : ℕ → List ℕ → Type 0) (told : Decision) → Agrees (TellsLimit name d known) told → Agrees (Compiles name d known next) told
+limit_refused name d known next told = agrees_weaker (TellsLimit name d known) (Compiles name d known next) (λ s t h. inr h) told

@@ -1,46 +1,29 @@
 -- Traces that are judged, and how many events they have.
-use Rattle.std.proofs.Common.{◌≡◌, ℕ, ◌+◌, ◌<◌, ◌≤◌, Bool, true, false, cond, List, [], ◌∷◌, length, get_or, Some, slice_get, inl, inr, refl, ap, ◌∙◌, arith, MatchOption}
+use Rattle.std.proofs.Common.{◌≡◌, ℕ, ◌+◌, ◌<◌, ◌≤◌, Bool, true, false, cond, List, [], ◌∷◌, length, get_or, Some, slice_get, inl, inr, refl, ap, ◌∙◌, arith}
 use Rattle.std.specs.Prelude.{◌==◌}
 use Rattle.std.specs.Option.{option_map}
 use Rattle.std.proofs.lemmas.List.{length-map}
 use Rattle.std.proofs.lemmas.Option.{slice_get-map, slice_get-get_or}
 use Rattle.hz_acceptance_model.specs.Accepting.Events.{Event}
-use Rattle.hz_answer_model.specs.Phases.{Traces}
-use Rattle.hz_answer_model.specs.FaultTexts.{trace_word}
-use Rattle.hz_answer_model.specs.Texts.{fault_line}
+use Rattle.hz_answer_model.specs.Phases.{TellsFault, Traces}
 use Rattle.std.specs.List.{onto_first}
 use Rattle.hz_base_model.specs.Lines.{lines_of}
 use Rattle.hz_replay.specs.declared.event.Event.{Event as Placed}
 use Rattle.hz_replay.specs.declared.event.What.TheVariants.{Issue}
 use Rattle.hz_replay.specs.Lines.{event_of}
 use Rattle.hz_replay.specs.Traces.{events_in, lines_in}
-use Rattle.hz_acceptance_model.specs.Traces.Traces.{Trace, TraceFault, TraceFaultAt, Line, line_says, event_lines, numbered}
+use Rattle.hz_acceptance_model.specs.Traces.Traces.{Trace, TraceFaultAt, trace_word, Line, line_says, event_lines, numbered}
 use Rattle.hz_acceptance_model.specs.Traces.Traces as trace
 use Rattle.hz_tool.proofs.AnswerLemmas.{agrees_weaker}
-use Rattle.hz_tool.specs.Decisions.{Agrees, IsTraceReport}
-use Rattle.hz_report.specs.Kinds.{kind_word, trace_fault}
-use Rattle.hz_report.specs.declared.kind.Kind.{Kind}
-use Rattle.hz_report.specs.declared.kind.Kind.TheVariants as kind
-use Rattle.hz_report.specs.declared.report.Report.{Report}
-use Rattle.hz_report.specs.declared.report.Report.TheVariants as report
-
--- what is said of the fault that a kind tells holds of one with the kind's word
-trace_said : (k : Kind) (P : TraceFault → Type 0) → MatchOption (trace_fault k) ⊥ P → (fault : TraceFault) × P fault × (kind_word k ≡ trace_word fault)
-trace_said kind.BadLine P h = (trace.bad_line, h, refl)
-trace_said kind.UnknownClass P h = (trace.unknown_class, h, refl)
-trace_said kind.AdvanceLimit P h = (trace.too_many_advances, h, refl)
-trace_said _ P h = absurd h
+use Rattle.hz_tool.specs.Decisions.{Agrees}
+use Rattle.hz_tool.specs.declared.decision.Decision.{Decision}
 
 -- the first wrong line of a trace is told
-pub trace_refused : (classes : List (List ℕ)) (name text : List ℕ) (next : List Event → ℕ → List ℕ → Type 0) (report : Report) → IsTraceReport name classes text report → Agrees (Traces classes name text next) report
-trace_refused classes name text next (report.Fault file line k) (same, wrong) =
-    let said = trace_said k (λ fault. TraceFaultAt classes text fault line) wrong in
-    inr (said.0, line, said.1, (refl, ap (λ (f : List ℕ). fault_line f line (kind_word k ∷ [])) same ∙ ap (λ (w : List ℕ). fault_line name line (w ∷ [])) said.2))
-trace_refused classes name text next report.Memory h = tt
-trace_refused classes name text next _ h = absurd h
+pub trace_refused : (classes : List (List ℕ)) (name text : List ℕ) (next : List Event → ℕ → List ℕ → Type 0) (told : Decision) → Agrees (TellsFault trace_word (TraceFaultAt classes text) name) told → Agrees (Traces classes name text next) told
+trace_refused classes name text next told = agrees_weaker (TellsFault trace_word (TraceFaultAt classes text) name) (Traces classes name text next) (λ s t h. inr h) told
 
 -- the events of a trace, replayed
-pub trace_replayed : (classes : List (List ℕ)) (name text : List ℕ) (events : List Event) (next : List Event → ℕ → List ℕ → Type 0) (report : Report) → Trace classes text events → Agrees (next events) report → Agrees (Traces classes name text next) report
+pub trace_replayed : (classes : List (List ℕ)) (name text : List ℕ) (events : List Event) (next : List Event → ℕ → List ℕ → Type 0) (report : Decision) → Trace classes text events → Agrees (next events) report → Agrees (Traces classes name text next) report
 trace_replayed classes name text events next report is h = agrees_weaker (next events) (Traces classes name text next) (λ s t a. inl (events, is, a)) report h
 
 -- the line of an event

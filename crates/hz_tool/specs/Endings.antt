@@ -1,8 +1,9 @@
 -- What is written, by how it ends: docs/FORMATS.md, 'Answers'.
-use Rattle.std.specs.Prelude.{◌≡◌, ◌⊎◌, ℕ, ◌<◌, List, ◌++◌, length, Option, Some}
+use Rattle.std.specs.Prelude.{◌≡◌, ◌⊎◌, ℕ, ◌<◌, ◌≤◌, List, ◌++◌, length, Option, Some, None}
 use Rattle.std.specs.Option.{ForSome}
 use Rattle.hz_answer_model.specs.Answers.{Answer}
-use Rattle.hz_answer_model.specs.Headline.{WritesSchedule, ReplayAccepts, ReplayAcceptsEvents, WritesDrill, WritesTables, WalkIsReplay}
+use Rattle.hz_answer_model.specs.Headline.{Promised}
+use Rattle.hz_words_model.specs.Words.{Order}
 use Rattle.hz_base_model.specs.Names.{Held}
 use Rattle.hz_answer_model.specs.Texts.{memory_line, file_line}
 use Rattle.hz_tool.specs.Decisions.{IsFileWord}
@@ -41,24 +42,17 @@ pub record IsCutShort (words : List (List ℕ)) (held : Held) (failed : Type 0) 
   pub appended : IsAppended old new front
   pub longer : ForSome room (λ most. most < length text)
 
--- The text that was appended is that of a schedule of the block by the description, which keeps the block and which `replay` accepts.
-pub record AppendsSchedule (held : Held) (description block : List ℕ) (old new : Option (List ℕ)) : Type 0 where
+-- the text that was appended keeps what is promised of the order
+pub record AppendsPromised (held : Held) (order : Order) (old new : Option (List ℕ)) : Type 0 where
   pub text : List ℕ
-  pub writes : WritesSchedule held description block text
-  pub replays : ReplayAccepts held description writes.d writes.g writes.slots
+  pub promised : Promised held order text
   pub appended : IsAppended old new text
 
--- The text that was appended says what is compiled of the description, and `walk` on it, within its limit of bytes, answers as
--- `replay` does on the description.
-pub record AppendsTables (held : Held) (description : List ℕ) (old new : Option (List ℕ)) : Type 0 where
-  pub text : List ℕ
-  pub writes : WritesTables held description text
-  pub walks : WalkIsReplay held description text
-  pub appended : IsAppended old new text
+-- all files that the words name are held
+abbrev pub HasAll : List (List ℕ) → Held → Type 0
+HasAll words held = (name : List ℕ) → IsFileWord words name → held name ≡ None → ⊥
 
--- The text that was appended tells of the drill of the description, whose trace `replay` accepts.
-pub record AppendsDrill (held : Held) (description : List ℕ) (number turns : ℕ) (old new : Option (List ℕ)) : Type 0 where
-  pub text : List ℕ
-  pub writes : WritesDrill held description number turns text
-  pub replays : ReplayAcceptsEvents held description writes.d writes.drill.events
-  pub appended : IsAppended old new text
+-- there is room for the answer, and for the line of memory
+pub record HasRoom (words : List (List ℕ)) (held : Held) (room : ℕ) : Type 0 where
+  pub answer : (status : ℕ) (text : List ℕ) → Answer words held status text → length text ≤ room
+  pub memory : length memory_line ≤ room

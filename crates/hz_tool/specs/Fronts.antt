@@ -1,17 +1,17 @@
--- What the phases on a description give to those behind them.
-use Rattle.std.specs.Prelude.{◌≡◌, ◌⊎◌, ⊤, ℕ, List, [], slice_index_or}
-use Rattle.hz_automata_model.specs.Compiling.DescriptionLimits.{IsFirstPastLimit}
+-- What the phases on a description give to those after them.
+use Rattle.std.specs.Prelude.{◌≡◌, ◌⊎◌, ⊤, ℕ, List}
+use Rattle.hz_answer_model.specs.Answers.{TellsDescription, TellsCheck}
+use Rattle.hz_answer_model.specs.Phases.{TellsFault}
 use Rattle.hz_check.specs.Checked.{IsCheckedOf}
 use Rattle.hz_check.specs.declared.checked.Checked.{Checked}
-use Rattle.hz_description_model.specs.Check.CheckedParts.{automaton_names}
-use Rattle.hz_description_model.specs.Check.Places.{Known}
 use Rattle.hz_description_model.specs.Reading.DescriptionForms as description_forms
 use Rattle.hz_description_model.specs.Reading.Descriptions.{Description}
+use Rattle.hz_base_model.specs.Forms.Forms.{form_word}
 use Rattle.hz_base_model.specs.Forms.Forms as forms
 use Rattle.hz_base_model.specs.Forms.Trees.{Trees}
-use Rattle.hz_report.specs.declared.report.Report.{Report}
-use Rattle.hz_report.specs.declared.report.Report.TheVariants.{States, Memory}
-use Rattle.hz_tool.specs.Decisions.{IsFormsReport, IsDescriptionReport, IsCheckReport}
+use Rattle.hz_tool.specs.Decisions.{Agrees}
+use Rattle.hz_tool.specs.declared.decision.Decision.{Decision}
+use Rattle.hz_tool.specs.declared.decision.Decision.TheVariants.{Automaton, Memory}
 
 -- What is held is what the description gives that bytes say.
 pub record IsCheckedIn (bytes : List ℕ) (checked : Checked) : Type 0 where
@@ -21,22 +21,16 @@ pub record IsCheckedIn (bytes : List ℕ) (checked : Checked) : Type 0 where
   pub says : description_forms.Reads read d
   pub is : IsCheckedOf d checked
 
--- a report of the description that forms say: the first wrong form, or what is wrong with what they say
-abbrev pub IsSaidReport : List ℕ → Trees → Report → Type 0
-IsSaidReport name read report = IsDescriptionReport name read report ⊎ ((d : Description) × description_forms.Reads read d × IsCheckReport name d report)
+-- what is wrong with the description that forms say: the first wrong form, or what is wrong with what they say
+abbrev pub TellsSaid : List ℕ → Trees → Decision → Type 0
+TellsSaid name read told = Agrees (TellsDescription name read) told ⊎ ((d : Description) × description_forms.Reads read d × Agrees (TellsCheck name d) told)
 
--- a report of the description that bytes say
-abbrev pub IsDescribedReport : List ℕ → List ℕ → Report → Type 0
-IsDescribedReport name bytes report = IsFormsReport name bytes report ⊎ ((read : Trees) × forms.Reads bytes read × IsSaidReport name read report)
+-- what is wrong with the description that bytes say
+abbrev pub TellsDescribed : List ℕ → List ℕ → Decision → Type 0
+TellsDescribed name bytes told = Agrees (TellsFault form_word (forms.FaultAt bytes) name) told ⊎ ((read : Trees) × forms.Reads bytes read × TellsSaid name read told)
 
--- a report of an automaton that has too many states, by its name, or memory ran out
-abbrev pub IsStatesReport : List ℕ → List ℕ → Report → Type 0
-IsStatesReport name automaton (States file at) = (file.now ≡ name) × (at ≡ automaton)
-IsStatesReport name automaton Memory = ⊤
-IsStatesReport name automaton _ = ⊥
-
--- a report of a description that is compiled: its first automaton that has too many states, or memory ran out
-abbrev pub IsLimitReport : List ℕ → Description → Known → Report → Type 0
-IsLimitReport name d known (States file at) = (file.now ≡ name) × ((a : ℕ) × IsFirstPastLimit d known a × (at ≡ slice_index_or (automaton_names d) a []))
-IsLimitReport name d known Memory = ⊤
-IsLimitReport name d known _ = ⊥
+-- an automaton that has too many states is told by its name, or memory ran out
+abbrev pub IsStatesTold : List ℕ → List ℕ → Decision → Type 0
+IsStatesTold name automaton (Automaton file at) = (file.now ≡ name) × (at ≡ automaton)
+IsStatesTold name automaton Memory = ⊤
+IsStatesTold name automaton _ = ⊥

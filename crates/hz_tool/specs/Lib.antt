@@ -1,7 +1,9 @@
 pub mod Blocks
 pub mod Compiled
+pub mod Decided
 pub mod Decisions
 pub mod Endings
 pub mod Fronts
 pub mod Machines
-pub mod Turnings
+pub mod Reading
+pub mod Telling

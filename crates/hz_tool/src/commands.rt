@@ -1,8 +1,8 @@
-//! The commands: each goes through its phases in their order, and the first that refuses gives the report.
+//! The commands, each by the word that is typed: its phases in their order, over texts that are read.
 
-pub(crate) mod drilling;
-pub(crate) mod evaluating;
-pub(crate) mod replaying;
-pub(crate) mod scheduling;
-pub(crate) mod tabulating;
-pub(crate) mod walking;
+pub(crate) mod compile;
+pub(crate) mod drill;
+pub(crate) mod eval;
+pub(crate) mod replay;
+pub(crate) mod schedule;
+pub(crate) mod walk;

@@ -2,6 +2,7 @@
 #![tactic(auto)]
 
 mod commands;
+mod decision;
 mod phases;
 mod top;
 

@@ -1,192 +1,105 @@
 //! The top call: the words, the files, the texts, and then the answer.
 
-ghost use Rattle.std.specs.Prelude.{◌≡◌, ◌⊎◌, ◌↔◌, ℕ, List, ◌-◌, ◌^◌, ◌<◌, ◌≤◌, None};
+ghost use Rattle.std.specs.Prelude.{◌≡◌, ◌⊎◌, ◌↔◌, ℕ, List, ◌-◌, ◌^◌, ◌<◌, ◌≤◌, IfOk, None, Some, All, length};
 ghost use Rattle.std.specs.Option.{ForSome};
-ghost use Rattle.hz_answer_model.specs.Answers.{Answer, AnswersCompile, AnswersReplay, AnswersWalk, AnswersSchedule, AnswersEval, AnswersDrill, AnswersOrder};
-ghost use Rattle.hz_answer_model.specs.Texts.{usage_line, memory_line};
+ghost use Rattle.hz_answer_model.specs.Answers.{Answer, AnswersOrder, JudgesOrder, files_of};
+ghost use Rattle.hz_answer_model.specs.Texts.{memory_line};
 ghost use Rattle.hz_words_model.specs.Words as model;
-ghost use Rattle.hz_report.specs.Reports.{IsTellable};
-ghost use Rattle.hz_tool.specs.Decisions.{Agrees, CountsReport, NamesFile, IsOfOrder, IsFileOf, IsFileWord, ReportsWords};
-ghost use Rattle.hz_tool.specs.Endings.{IsAppended, AppendsFile, AppendsDrill, AppendsSchedule, AppendsTables, Completes, IsCutShort};
+ghost use Rattle.hz_words_model.specs.Words.{usage_line};
+ghost use Rattle.hz_tool.specs.Decided.{IsTellable};
+ghost use Rattle.hz_tool.specs.Decisions.{Agrees, CountsDecision, DecidesWords, IsFileOf, IsFileWord, IsJudged, IsOfOrder, NamesFile};
+ghost use Rattle.hz_tool.specs.Endings.{AppendsFile, AppendsPromised, Completes, HasAll, HasRoom, IsAppended, IsCutShort};
+ghost use Rattle.hz_tool.specs.Reading.{texts_in, wanted_in};
 ghost use Rattle.hz_tool_words.specs.Shape.{words_in, order_in};
 
-use crate::commands::drilling::judge_drill;
-use crate::commands::evaluating::judge_eval;
-use crate::commands::replaying::judge_replay;
-use crate::commands::scheduling::judge_schedule;
-use crate::commands::tabulating::judge_compile;
-use crate::commands::walking::judge_walk;
-use crate::phases::read::read_file;
-use hz_io::{Files, Sink};
-use hz_report::{Report, write_report};
-use hz_tool_words::{
-    CompileOrder, DrillOrder, EvalOrder, Order, ReplayOrder, ScheduleOrder, WalkOrder, order_of,
+use crate::commands::compile::judge_compile;
+use crate::commands::drill::judge_drill;
+use crate::commands::eval::judge_eval;
+use crate::commands::replay::judge_replay;
+use crate::commands::schedule::judge_schedule;
+use crate::commands::walk::judge_walk;
+use crate::decision::Decision;
+use crate::phases::read::{
+    FileWord, block_file, description_file, read_all, state_file, tables_file, trace_file,
 };
-use std::alloc::Global;
+use hz_io::{Files, Sink};
+use hz_tool_words::{Order, order_of};
+use std::alloc::{AllocError, Global};
 
-/// Bytes of a description, at most.
-const DESCRIPTION_LIMIT: u64 = 4_194_304;
-
-/// Bytes of a trace, at most.
-const TRACE_LIMIT: u64 = 67_108_864;
-
-/// Bytes of a tables text, at most.
-const TABLES_LIMIT: u64 = 536_870_912;
-
-/// Bytes of a block, at most.
-const BLOCK_LIMIT: u64 = 4_194_304;
-
-/// Bytes of the text of a state, at most.
-const STATE_LIMIT: u64 = 4_194_304;
-
-/// The report of the tables of a description.
-fn decide_compile<'a, F: Files>(alloc: Global, order: CompileOrder<'a>, files: &mut F) -> Report<'a>
-    requires { F.faults files.old < 2 ^ 64 - 1 }
-    ensures counts { CountsReport (F.faults files.old) (F.faults files.new) result }
-    ensures order { IsOfOrder result }
-    ensures tells { IsTellable result }
-    ensures file { NamesFile (IsFileOf (model.compile order.entry.description.now)) result }
-    ensures answer { ForSome (F.held files.old) (λ held. (F.faults files.new ≡ F.faults files.old) ⊎ F.steady files.old → Agrees (AnswersCompile held order.entry.description.now) result) }
-{
-    let description = match read_file(alloc, files, order.description, DESCRIPTION_LIMIT) {
-        Ok(description) => description,
-        Err(report) => return report,
-    };
-    judge_compile(alloc, &order, description.as_slice())
-}
-
-/// The report of a walk: both files are read before either is judged.
-fn decide_walk<'a, F: Files>(alloc: Global, order: WalkOrder<'a>, files: &mut F) -> Report<'a>
-    requires { F.faults files.old < 2 ^ 64 - 1 }
-    ensures counts { CountsReport (F.faults files.old) (F.faults files.new) result }
-    ensures order { IsOfOrder result }
-    ensures tells { IsTellable result }
-    ensures file { NamesFile (IsFileOf (model.walk order.entry.tables.now order.entry.trace.now)) result }
-    ensures answer { ForSome (F.held files.old) (λ held. (F.faults files.new ≡ F.faults files.old) ⊎ F.steady files.old → Agrees (AnswersWalk held order.entry.tables.now order.entry.trace.now) result) }
-{
-    let tabled = match read_file(alloc, files, order.tables, TABLES_LIMIT) {
-        Ok(tabled) => tabled,
-        Err(report) => return report,
-    };
-    let traced = match read_file(alloc, files, order.trace, TRACE_LIMIT) {
-        Ok(traced) => traced,
-        Err(report) => return report,
-    };
-    judge_walk(alloc, &order, tabled.as_slice(), traced.as_slice())
-}
-
-/// The report of a replay: both files are read before either is judged.
-fn decide_replay<'a, F: Files>(alloc: Global, order: ReplayOrder<'a>, files: &mut F) -> Report<'a>
-    requires { F.faults files.old < 2 ^ 64 - 1 }
-    ensures counts { CountsReport (F.faults files.old) (F.faults files.new) result }
-    ensures order { IsOfOrder result }
-    ensures tells { IsTellable result }
-    ensures file { NamesFile (IsFileOf (model.replay order.entry.description.now order.entry.trace.now)) result }
-    ensures answer { ForSome (F.held files.old) (λ held. (F.faults files.new ≡ F.faults files.old) ⊎ F.steady files.old → Agrees (AnswersReplay held order.entry.description.now order.entry.trace.now) result) }
-{
-    let description = match read_file(alloc, files, order.description, DESCRIPTION_LIMIT) {
-        Ok(description) => description,
-        Err(report) => return report,
-    };
-    let trace = match read_file(alloc, files, order.trace, TRACE_LIMIT) {
-        Ok(trace) => trace,
-        Err(report) => return report,
-    };
-    judge_replay(alloc, &order, description.as_slice(), trace.as_slice())
-}
-
-/// The report of a schedule: both files are read before either is judged.
-fn decide_schedule<'a, F: Files>(
-    alloc: Global,
-    order: ScheduleOrder<'a>,
-    files: &mut F,
-) -> Report<'a>
-    requires { F.faults files.old < 2 ^ 64 - 1 }
-    ensures counts { CountsReport (F.faults files.old) (F.faults files.new) result }
-    ensures order { IsOfOrder result }
-    ensures tells { IsTellable result }
-    ensures file { NamesFile (IsFileOf (model.schedule order.entry.description.now order.entry.block.now)) result }
-    ensures answer { ForSome (F.held files.old) (λ held. (F.faults files.new ≡ F.faults files.old) ⊎ F.steady files.old → Agrees (AnswersSchedule held order.entry.description.now order.entry.block.now) result) }
-{
-    let description = match read_file(alloc, files, order.description, DESCRIPTION_LIMIT) {
-        Ok(description) => description,
-        Err(report) => return report,
-    };
-    let block = match read_file(alloc, files, order.block, BLOCK_LIMIT) {
-        Ok(block) => block,
-        Err(report) => return report,
-    };
-    judge_schedule(alloc, &order, description.as_slice(), block.as_slice())
-}
-
-/// The report of an evaluation: both files are read before either is judged.
-fn decide_eval<'a, F: Files>(alloc: Global, order: EvalOrder<'a>, files: &mut F) -> Report<'a>
-    requires { F.faults files.old < 2 ^ 64 - 1 }
-    ensures counts { CountsReport (F.faults files.old) (F.faults files.new) result }
-    ensures order { IsOfOrder result }
-    ensures tells { IsTellable result }
-    ensures file { NamesFile (IsFileOf (model.eval order.entry.block.now order.entry.state.now)) result }
-    ensures answer { ForSome (F.held files.old) (λ held. (F.faults files.new ≡ F.faults files.old) ⊎ F.steady files.old → Agrees (AnswersEval held order.entry.block.now order.entry.state.now) result) }
-{
-    let block = match read_file(alloc, files, order.block, BLOCK_LIMIT) {
-        Ok(block) => block,
-        Err(report) => return report,
-    };
-    let state = match read_file(alloc, files, order.state, STATE_LIMIT) {
-        Ok(state) => state,
-        Err(report) => return report,
-    };
-    judge_eval(alloc, &order, block.as_slice(), state.as_slice())
-}
-
-/// The report of a drill of a description.
-fn decide_drill<'a, F: Files>(alloc: Global, order: DrillOrder<'a>, files: &mut F) -> Report<'a>
-    requires { F.faults files.old < 2 ^ 64 - 1 }
-    ensures counts { CountsReport (F.faults files.old) (F.faults files.new) result }
-    ensures order { IsOfOrder result }
-    ensures tells { IsTellable result }
-    ensures file { NamesFile (IsFileOf (model.drill order.entry.description.now order.entry.number order.entry.turns)) result }
-    ensures answer { ForSome (F.held files.old) (λ held. (F.faults files.new ≡ F.faults files.old) ⊎ F.steady files.old → Agrees (AnswersDrill held order.entry.description.now order.entry.number order.entry.turns) result) }
-{
-    let description = match read_file(alloc, files, order.description, DESCRIPTION_LIMIT) {
-        Ok(description) => description,
-        Err(report) => return report,
-    };
-    judge_drill(alloc, &order, description.as_slice())
-}
-
-/// The report of an order.
-fn decide_order<'a, F: Files>(alloc: Global, order: Order<'a>, files: &mut F) -> Report<'a>
-    requires { F.faults files.old < 2 ^ 64 - 1 }
-    ensures counts { CountsReport (F.faults files.old) (F.faults files.new) result }
-    ensures order { IsOfOrder result }
-    ensures tells { IsTellable result }
-    ensures file { NamesFile (IsFileOf (order_in order.entry)) result }
-    ensures answer { ForSome (F.held files.old) (λ held. (F.faults files.new ≡ F.faults files.old) ⊎ F.steady files.old → Agrees (AnswersOrder held (order_in order.entry)) result) }
+/// The file words of an order with their limits, in the order in which they are read.
+fn files_of<'a>(alloc: Global, order: &Order<'a>) -> Result<Vec<FileWord<'a>>, AllocError>
+    ensures words { IfOk result (λ files. wanted_in files.items ≡ files_of (order_in order.now)) }
+    ensures low { IfOk result (λ files. All (λ file. file.most < 2 ^ 32) files.items) }
 {
     match order {
-        Order::Compile(order) => decide_compile(alloc, order, files),
-        Order::Replay(order) => decide_replay(alloc, order, files),
-        Order::Walk(order) => decide_walk(alloc, order, files),
-        Order::Schedule(order) => decide_schedule(alloc, order, files),
-        Order::Eval(order) => decide_eval(alloc, order, files),
-        Order::Drill(order) => decide_drill(alloc, order, files),
+        Order::Compile(order) => vec![in alloc; description_file(order.description)],
+        Order::Replay(order) => {
+            vec![in alloc; description_file(order.description), trace_file(order.trace)]
+        }
+        Order::Walk(order) => vec![in alloc; tables_file(order.tables), trace_file(order.trace)],
+        Order::Schedule(order) => {
+            vec![in alloc; description_file(order.description), block_file(order.block)]
+        }
+        Order::Eval(order) => vec![in alloc; block_file(order.block), state_file(order.state)],
+        Order::Drill(order) => vec![in alloc; description_file(order.description)],
     }
 }
 
-/// The report of the words.
-fn decide<'a, F: Files>(alloc: Global, words: &'a [String], files: &mut F) -> Report<'a>
+/// What is decided of an order over the bytes of its files.
+fn judge_order<'a>(alloc: Global, order: &Order<'a>, texts: &[Vec<u8>]) -> Decision<'a>
+    requires count { length texts.now ≡ length (files_of (order_in order.now)) }
+    requires short { All (λ text. length text.items < 2 ^ 32) texts.now }
+    ensures kind { IsJudged result }
+    ensures answer { Agrees (JudgesOrder (order_in order.now) (texts_in texts.now)) result }
+{
+    match order {
+        Order::Compile(order) => judge_compile(alloc, order, texts[0].as_slice()),
+        Order::Replay(order) => {
+            judge_replay(alloc, order, texts[0].as_slice(), texts[1].as_slice())
+        }
+        Order::Walk(order) => judge_walk(alloc, order, texts[0].as_slice(), texts[1].as_slice()),
+        Order::Schedule(order) => {
+            judge_schedule(alloc, order, texts[0].as_slice(), texts[1].as_slice())
+        }
+        Order::Eval(order) => judge_eval(alloc, order, texts[0].as_slice(), texts[1].as_slice()),
+        Order::Drill(order) => judge_drill(alloc, order, texts[0].as_slice()),
+    }
+}
+
+/// What is decided of an order: all its files are read before any is judged.
+fn decide_order<'a, F: Files>(alloc: Global, order: &Order<'a>, files: &mut F) -> Decision<'a>
     requires { F.faults files.old < 2 ^ 64 - 1 }
-    ensures counts { CountsReport (F.faults files.old) (F.faults files.new) result }
-    ensures words { ReportsWords (model.order_of (words_in words.entry.now)) result }
+    ensures counts { CountsDecision (F.faults files.old) (F.faults files.new) result }
+    ensures order { IsOfOrder result }
+    ensures tells { IsTellable result }
+    ensures file { NamesFile (IsFileOf (order_in order.now)) result }
+    ensures lacks { ForSome (F.held files.old) (λ held. F.steady files.old → NamesFile (λ name. held name ≡ None) result) }
+    ensures answer { ForSome (F.held files.old) (λ held. (F.faults files.new ≡ F.faults files.old) ⊎ F.steady files.old → Agrees (AnswersOrder held (order_in order.now)) result) }
+{
+    let wanted = match files_of(alloc, order) {
+        Ok(wanted) => wanted,
+        Err(_) => return Decision::Memory,
+    };
+    match read_all(alloc, files, wanted.as_slice()) {
+        Ok(texts) => judge_order(alloc, order, texts.as_slice()),
+        Err(decision) => decision,
+    }
+}
+
+/// What is decided of the words.
+fn decide<'a, F: Files>(alloc: Global, words: &'a [String], files: &mut F) -> Decision<'a>
+    requires { F.faults files.old < 2 ^ 64 - 1 }
+    ensures counts { CountsDecision (F.faults files.old) (F.faults files.new) result }
+    ensures words { DecidesWords (model.order_of (words_in words.entry.now)) result }
     ensures tells { IsTellable result }
     ensures file { NamesFile (IsFileWord (words_in words.entry.now)) result }
+    ensures lacks { ForSome (F.held files.old) (λ held. F.steady files.old → NamesFile (λ name. held name ≡ None) result) }
     ensures answer { ForSome (F.held files.old) (λ held. (F.faults files.new ≡ F.faults files.old) ⊎ F.steady files.old → Agrees (Answer (words_in words.entry.now) held) result) }
 {
     match order_of(alloc, words) {
-        Ok(Some(order)) => decide_order(alloc, order, files),
-        Ok(None) => Report::Usage,
-        Err(_) => Report::Memory,
+        Ok(Some(order)) => decide_order(alloc, &order, files),
+        Ok(None) => Decision::Usage,
+        Err(_) => Decision::Memory,
     }
 }
 
@@ -216,21 +129,16 @@ pub fn run<F: Files, S: Sink>(alloc: Global, words: &[String], files: &mut F, ou
     ensures exact { ForSome (F.held files.old) (λ held. S.faults out.new ≡ S.faults out.old → (F.faults files.new ≡ F.faults files.old) ⊎ F.steady files.old → (status : ℕ) (text : List ℕ) → Answer (words_in words.now) held status text → (result ≡ status) ⊎ (result ≡ 5)) }
     ensures cut { ForSome (F.held files.old) (λ held. result ≡ 7 → IsCutShort (words_in words.now) held (F.faults files.old < F.faults files.new) (S.written out.old) (S.written out.new) (S.room out.old)) }
 
-    // The tables that are written are of what is compiled of the description, and `walk` on them, within their limit of bytes, answers
-    // to every trace what `replay` answers on it.
-    ensures tables { ForSome (F.held files.old) (λ held. result ≡ 0 → (description : List ℕ) → model.order_of (words_in words.now) ≡ Some (model.compile description) → AppendsTables held description (S.written out.old) (S.written out.new)) }
+    // Over steady files that hold all that the words name, and a sink with room for the answer and for the line of memory, neither a
+    // file nor the sink fails.
+    ensures neither { ForSome (F.held files.old) (λ held. F.steady files.old → HasAll (words_in words.now) held → ForSome (S.room out.old) (λ room. HasRoom (words_in words.now) held room → result ≤ 5)) }
 
-    // A schedule keeps its block: each instruction once, every latency and bypass, in an order that `replay` accepts and that from
-    // every state leaves what source order leaves.
-    ensures schedules { ForSome (F.held files.old) (λ held. result ≡ 0 → (description block : List ℕ) → model.order_of (words_in words.now) ≡ Some (model.schedule description block) → AppendsSchedule held description block (S.written out.old) (S.written out.new)) }
-
-    // A drill tells of a trace that is drawn by what the description accepts, which accepts it, as `replay` does, and of the states
-    // that it leaves in the tables that `compile` writes.
-    ensures drills { ForSome (F.held files.old) (λ held. result ≡ 0 → (description : List ℕ) (number turns : ℕ) → model.order_of (words_in words.now) ≡ Some (model.drill description number turns) → AppendsDrill held description number turns (S.written out.old) (S.written out.new)) }
+    // Status 0 keeps what is promised of the command (`Promised`): what tables, schedules and drills are.
+    ensures promised { ForSome (F.held files.old) (λ held. result ≡ 0 → (order : model.Order) → model.order_of (words_in words.now) ≡ Some order → AppendsPromised held order (S.written out.old) (S.written out.new)) }
 {
-    let report = decide(alloc, words, files);
-    match write_report(&report, out) {
-        Ok(()) => report.status(),
+    let decision = decide(alloc, words, files);
+    match decision.write(out) {
+        Ok(()) => decision.status(),
         Err(_) => 7,
     }
 }

@@ -1,2 +1,3 @@
-pub mod OperandLemmas
-pub mod OrderLemmas
+mod TableLemmas
+mod OperandLemmas
+mod ArgumentLemmas

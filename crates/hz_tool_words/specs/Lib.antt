@@ -1,3 +1,4 @@
 pub mod Operands
 pub mod Shape
 pub mod Numbers
+pub mod Table

@@ -1,43 +1,38 @@
--- The operands behind a command.
-use Rattle.std.specs.Prelude.{◌≡◌, ◌≢◌, ℕ, Bool, true, List, [], ◌∷◌, Option, Some, None, Result, Ok, Err, codes}
-use Rattle.std.specs.List.{list_any}
-use Rattle.std.specs.Option.{option_map, option_and_then}
-use Rattle.clap.specs.Words.{App, HasMatchesOf, Rule, fault_of, is_simple_and_free, new_app, new_rule, takes, with_rule}
+-- The operands after a command, as `clap` reads them.
+use Rattle.std.specs.Prelude.{◌≡◌, ◌≢◌, ℕ, zero, suc, true, List, [], ◌∷◌, Option, Some, None, Result, Ok, Err, codes}
+use Rattle.std.specs.Option.{option_map, option_and_then, option_zip}
+use Rattle.clap.specs.Words.{App, HasMatchesOf, Rule, fault_of, first_value, found_of, is_simple_and_free, new_app, new_rule, takes, with_rule}
 use Rattle.clap.specs.declared.error.kind.ErrorKind.{ErrorKind}
 use Rattle.clap.specs.declared.error.kind.ErrorKind.TheVariants.{OutOfMemory}
 use Rattle.clap.specs.declared.parser.matches.ArgMatches.{ArgMatches}
+use Rattle.hz_tool_words.specs.Table.{operand_in}
+use Rattle.hz_tool_words.specs.declared.table.Operand.{Operand}
 use Rattle.hz_words_model.specs.Words as model
 
--- one of the words begins with `-`
-abbrev pub has_option : List (List ℕ) → Bool
-has_option words = list_any model.begins_with_dash words
+-- what `clap` calls the operand at a place
+abbrev pub id_at : ℕ → List ℕ
+id_at zero = codes "first"
+id_at (suc zero) = codes "second"
+id_at _ = codes "third"
 
--- the one operand
-abbrev pub operand_of : List (List ℕ) → Option (List ℕ)
-operand_of (command ∷ file ∷ []) = Some file
-operand_of _ = None
+-- an operand, which is required
+abbrev pub operand : List ℕ → Rule
+operand id = record (new_rule id) { required = true }
 
--- the two operands
-abbrev pub operands_of : List (List ℕ) → Option (List ℕ × List ℕ)
-operands_of (command ∷ first ∷ second ∷ []) = Some (first, second)
-operands_of _ = None
+-- a command with so many operands
+abbrev pub app_with : (name : List ℕ) → (operands : ℕ) → App
+app_with name zero = new_app name
+app_with name (suc n) = with_rule (app_with name n) (operand (id_at n))
 
--- the three operands, the first apart
-abbrev pub triple_of : List (List ℕ) → Option (List ℕ × (List ℕ × List ℕ))
-triple_of (command ∷ first ∷ second ∷ third ∷ []) = Some (first, (second, third))
-triple_of _ = None
+-- what `clap` found for the operand at a place
+abbrev pub value_of : ArgMatches → ℕ → Option (List ℕ)
+value_of matches place = first_value (found_of matches) (id_at place)
 
--- what is made of one operand
-abbrev pub with_one : (List ℕ → model.Order) → List (List ℕ) → Option model.Order
-with_one make words = option_map make (operand_of words)
-
--- what is made of two
-abbrev pub with_two : (List ℕ → List ℕ → model.Order) → List (List ℕ) → Option model.Order
-with_two make words = option_map (λ files. make files.0 files.1) (operands_of words)
-
--- what is made of three, if anything
-abbrev pub with_three : (List ℕ → List ℕ → List ℕ → Option model.Order) → List (List ℕ) → Option model.Order
-with_three make words = option_and_then (λ operands. make operands.0 operands.1.0 operands.1.1) (triple_of words)
+-- the arguments for operands from a place on, of which the values are found
+abbrev pub arguments_at : (value : ℕ → Option (List ℕ)) → (place : ℕ) → List Operand → Option (List model.Argument)
+arguments_at value place [] = Some []
+arguments_at value place (o ∷ os) =
+    option_map (λ given. given.0 ∷ given.1) (option_zip (option_and_then (model.argument_of (operand_in o)) (value place)) (arguments_at value (suc place) os))
 
 -- what `clap` finds in the words: nothing where it doesn't take them, and its matches where nothing is wrong with them
 abbrev pub Finds : App → List (List ℕ) → Option ArgMatches → Type 0
@@ -48,16 +43,3 @@ Finds app words (Some matches) = (is_simple_and_free app ≡ true → fault_of a
 abbrev pub IsRefusal : {Found E : Type 0} → ErrorKind → Result (Option Found) E → Type 0
 IsRefusal reason (Ok found) = (found ≡ None) × (reason ≢ OutOfMemory)
 IsRefusal reason (Err refused) = reason ≡ OutOfMemory
-
--- an operand, and the commands that have one, two and three
-abbrev pub operand : List ℕ → Rule
-operand id = record (new_rule id) { required = true }
-
-abbrev pub of_one : List ℕ → App
-of_one name = with_rule (new_app name) (operand (codes "first"))
-
-abbrev pub of_two : List ℕ → App
-of_two name = with_rule (of_one name) (operand (codes "second"))
-
-abbrev pub of_three : List ℕ → App
-of_three name = with_rule (of_two name) (operand (codes "third"))

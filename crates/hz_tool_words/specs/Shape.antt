@@ -3,6 +3,8 @@ use Rattle.std.specs.Borrow.{Bor}
 use Rattle.std.specs.String.{string_bytes}
 use Rattle.std.specs.declared.alloc.Global.{Global}
 use Rattle.hz_words_model.specs.Words as model
+use Rattle.hz_tool_words.specs.declared.arguments.Argument.{Argument}
+use Rattle.hz_tool_words.specs.declared.arguments.Argument.TheVariants.{File, Value}
 use Rattle.hz_tool_words.specs.declared.order.Order.{Order}
 use Rattle.hz_tool_words.specs.declared.order.Order.TheVariants.{Compile, Replay, Walk, Schedule, Eval, Drill}
 
@@ -14,9 +16,14 @@ words_in words = map string_bytes words
 abbrev pub pair_in : Bor (List ℕ) × Bor (List ℕ) → List ℕ × List ℕ
 pair_in pair = (pair.0.now, pair.1.now)
 
--- the bytes of three words
-abbrev pub triple_in : Bor (List ℕ) × (Bor (List ℕ) × Bor (List ℕ)) → List ℕ × (List ℕ × List ℕ)
-triple_in triple = (triple.0.now, pair_in triple.1)
+-- the bytes of a word, and two numbers
+abbrev pub triple_in : Bor (List ℕ) × ℕ × ℕ → List ℕ × ℕ × ℕ
+triple_in triple = (triple.0.now, triple.1, triple.2)
+
+-- what is given for an operand as it is in the definitions
+abbrev pub argument_in : Argument → model.Argument
+argument_in (File name) = model.file name.now
+argument_in (Value n) = model.value n
 
 -- an order of the program as one of the definitions
 abbrev pub order_in : Order → model.Order

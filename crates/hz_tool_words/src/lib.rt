@@ -1,13 +1,15 @@
 //! The words of the command line, read with `clap`.
 #![tactic(auto)]
 
-mod commands;
+mod arguments;
 mod numbers;
 mod operands;
 mod order;
 mod reading;
+mod table;
 
 pub use order::{
     CompileOrder, DrillOrder, EvalOrder, Order, ReplayOrder, ScheduleOrder, WalkOrder,
 };
 pub use reading::order_of;
+pub use table::usage;

@@ -1,34 +1,55 @@
-//! The operands behind a command, read with `clap`.
+//! The operands after a command, read with `clap`.
 
-ghost use Rattle.std.specs.Prelude.{◌≡◌, IfOk, false};
-ghost use Rattle.std.specs.Option.{option_map};
-ghost use Rattle.clap.specs.Words.{app_of};
-ghost use Rattle.hz_tool_words.specs.Shape.{pair_in, triple_in, words_in};
-ghost use Rattle.hz_tool_words.specs.Operands.{Finds, IsRefusal, has_option, of_one, of_two, of_three, operand_of, operands_of, triple_of};
+ghost use Rattle.std.specs.Prelude.{◌≡◌, IfOk, map};
+ghost use Rattle.std.specs.Option.{option_and_then, option_map};
+ghost use Rattle.clap.specs.Words.{app_of, with_rule};
+ghost use Rattle.hz_tool_words.specs.Shape.{argument_in, words_in};
+ghost use Rattle.hz_tool_words.specs.Table.{operand_in};
+ghost use Rattle.hz_tool_words.specs.Operands.{Finds, IsRefusal, app_with, arguments_at, id_at, operand, value_of};
+ghost use Rattle.hz_words_model.specs.Words as model;
 
+use super::arguments::{Argument, read_argument};
+use super::table::Operand;
 use clap::error::ErrorKind;
 use clap::{Arg, ArgMatches, Command};
 use std::alloc::{AllocError, Global};
 
-/// A command with one operand.
-fn of_one<'a>(alloc: Global, name: &'a str) -> Result<Command<'a>, AllocError>
-    ensures { IfOk result (λ command. app_of command ≡ of_one name.entry.now) }
+/// What `clap` calls the operand at a place.
+fn id_at(place: usize) -> &'static str
+    ensures { result.now ≡ id_at place }
 {
-    Command::new(alloc, name).arg(Arg::new(alloc, "first").required(true))
+    match place {
+        0 => "first",
+        1 => "second",
+        _ => "third",
+    }
 }
 
-/// A command with two operands.
-fn of_two<'a>(alloc: Global, name: &'a str) -> Result<Command<'a>, AllocError>
-    ensures { IfOk result (λ command. app_of command ≡ of_two name.entry.now) }
+/// The command with an operand more, the one at this place.
+fn add_operand<'a>(
+    alloc: Global,
+    command: Command<'a>,
+    place: usize,
+) -> Result<Command<'a>, AllocError>
+    ensures { IfOk result (λ more. app_of more ≡ with_rule (app_of command.entry) (operand (id_at place))) }
 {
-    of_one(alloc, name)?.arg(Arg::new(alloc, "second").required(true))
+    let id: &'a str = id_at(place);
+    command.arg(Arg::new(alloc, id).required(true))
 }
 
-/// A command with three operands.
-fn of_three<'a>(alloc: Global, name: &'a str) -> Result<Command<'a>, AllocError>
-    ensures { IfOk result (λ command. app_of command ≡ of_three name.entry.now) }
+/// A command with so many operands, each of which is required.
+pub fn make_command<'a>(
+    alloc: Global,
+    name: &'a str,
+    operands: usize,
+) -> Result<Command<'a>, AllocError>
+    ensures { IfOk result (λ command. app_of command ≡ app_with name.entry.now operands) }
 {
-    of_two(alloc, name)?.arg(Arg::new(alloc, "third").required(true))
+    let mut command = Command::new(alloc, name);
+    for place in 0..operands {
+        command = add_operand(alloc, command, place)?;
+    }
+    Ok(command)
 }
 
 /// What is told of words that `clap` refuses: nothing is found in them, or memory ran out.
@@ -57,7 +78,7 @@ fn refused<'a>(kind: ErrorKind) -> Result<Option<ArgMatches<'a>>, AllocError>
 }
 
 /// What `clap` finds in the words, None where it refuses them.
-fn found<'a>(
+pub fn found<'a>(
     mut command: Command<'a>,
     words: &'a [String],
 ) -> Result<Option<ArgMatches<'a>>, AllocError>
@@ -69,51 +90,31 @@ fn found<'a>(
     }
 }
 
-/// The operand of a command that has one, None where the words have more or none.
-pub fn one_operand<'a>(
-    alloc: Global,
-    name: &'a str,
-    words: &'a [String],
-) -> Result<Option<&'a str>, AllocError>
-    requires { has_option (words_in words.now) ≡ false }
-    ensures { IfOk result (λ operand. option_map (λ word. word.now) operand ≡ operand_of (words_in words.now)) }
+/// The argument for the operand at a place, None where nothing was found there, or no number where one is wanted.
+fn read_argument_at<'a>(
+    matches: &ArgMatches<'a>,
+    place: usize,
+    operand: Operand,
+) -> Option<Argument<'a>>
+    ensures { option_map argument_in result ≡ option_and_then (model.argument_of (operand_in operand)) (value_of matches.now place) }
 {
-    let Some(matches) = found(of_one(alloc, name)?, words)? else {
-        return Ok(None);
-    };
-    Ok(matches.get_str("first"))
+    read_argument(operand, matches.get_str(id_at(place))?)
 }
 
-/// The operands of a command that has two, None where the words have more or fewer.
-pub fn two_operands<'a>(
+/// The arguments for the operands, None where one is missing or is no number where one is wanted.
+pub fn read_arguments<'a>(
     alloc: Global,
-    name: &'a str,
-    words: &'a [String],
-) -> Result<Option<(&'a str, &'a str)>, AllocError>
-    requires { has_option (words_in words.now) ≡ false }
-    ensures { IfOk result (λ pair. option_map pair_in pair ≡ operands_of (words_in words.now)) }
+    matches: &ArgMatches<'a>,
+    operands: &[Operand],
+) -> Result<Option<Vec<Argument<'a>>>, AllocError>
+    ensures { IfOk result (λ arguments. option_map (λ all. map argument_in all.items) arguments ≡ arguments_at (value_of matches.now) 0 operands.now) }
 {
-    let Some(matches) = found(of_two(alloc, name)?, words)? else {
-        return Ok(None);
-    };
-    Ok(matches.get_str("first").zip(matches.get_str("second")))
-}
-
-/// Three operands: the first, and then the other two.
-pub type Triple<'a> = (&'a str, (&'a str, &'a str));
-
-/// The operands of a command that has three, None where the words have more or fewer.
-pub fn three_operands<'a>(
-    alloc: Global,
-    name: &'a str,
-    words: &'a [String],
-) -> Result<Option<Triple<'a>>, AllocError>
-    requires { has_option (words_in words.now) ≡ false }
-    ensures { IfOk result (λ triple. option_map triple_in triple ≡ triple_of (words_in words.now)) }
-{
-    let Some(matches) = found(of_three(alloc, name)?, words)? else {
-        return Ok(None);
-    };
-    let others = matches.get_str("second").zip(matches.get_str("third"));
-    Ok(matches.get_str("first").zip(others))
+    let mut arguments = Vec::new(alloc);
+    for (place, operand) in operands.iter().enumerate() {
+        let Some(argument) = read_argument_at(matches, place, *operand) else {
+            return Ok(None);
+        };
+        arguments.push(argument)?;
+    }
+    Ok(Some(arguments))
 }

@@ -1,5 +1,6 @@
 -- The words of the command line: this profile, docs/FORMATS.md, 'Words'.
-use Rattle.std.specs.Prelude.{ℕ, ◌==◌, Bool, false, List, [], ◌∷◌, length, Option, Some, None, ◌||◌, nat_le, nat_lt, codes, if◌then◌else◌}
+use Rattle.std.specs.Prelude.{ℕ, ◌==◌, Bool, false, List, [], ◌∷◌, ◌++◌, length, map, Option, Some, None, nat_le, nat_lt, codes, if◌then◌else◌}
+use Rattle.std.specs.List.{concat, find, flat_map, list_any}
 use Rattle.std.specs.Option.{option_map, option_and_then, option_zip}
 use Rattle.std.specs.Str.{bytes_eq}
 use Rattle.hz_base_model.specs.Lines.{number_of}
@@ -13,22 +14,19 @@ pub data Order : Type 0 where
   eval : (block state : List ℕ) → Order
   drill : (description : List ℕ) → (number turns : ℕ) → Order
 
--- the word begins with `-`
-abbrev pub begins_with_dash : List ℕ → Bool
-begins_with_dash [] = false
-begins_with_dash (b ∷ bs) = b == 45
+-- The kinds of operands. The first five are files.
+pub data Operand : Type 0 where
+  description trace tables block state number turns : Operand
 
--- a command on one file
-abbrev pub order_on_one : (command file : List ℕ) → Option Order
-order_on_one command file = if bytes_eq command (codes "compile") then Some (compile file) else None
-
--- a command on two files
-abbrev pub order_on_two : (command first second : List ℕ) → Option Order
-order_on_two command first second =
-    if bytes_eq command (codes "replay") then Some (replay first second)
-    else (if bytes_eq command (codes "walk") then Some (walk first second)
-    else (if bytes_eq command (codes "schedule") then Some (schedule first second)
-    else (if bytes_eq command (codes "eval") then Some (eval first second) else None)))
+-- the word of an operand in the usage line
+abbrev pub operand_word : Operand → List ℕ
+operand_word description = codes "DESC"
+operand_word trace = codes "TRACE"
+operand_word tables = codes "TABLES"
+operand_word block = codes "BLOCK"
+operand_word state = codes "STATE"
+operand_word number = codes "NUMBER"
+operand_word turns = codes "COUNT"
 
 -- the greatest number that a drill draws from
 abbrev pub number_limit : ℕ
@@ -43,26 +41,106 @@ abbrev pub digit_limit : ℕ
 digit_limit = 10
 
 -- the number, where it is at most so much
-abbrev pub at_most : (most number : ℕ) → Option ℕ
-at_most most number = if nat_le number most then Some number else None
+abbrev pub at_most : (most n : ℕ) → Option ℕ
+at_most most n = if nat_le n most then Some n else None
 
 -- the number of a word of 1 to 10 decimal digits, leading zeros among them, where it is at most so much
 abbrev pub number_in : (most : ℕ) → (word : List ℕ) → Option ℕ
 number_in most word = if nat_lt digit_limit (length word) then None else option_and_then (at_most most) (number_of word)
 
--- a drill on a file, of the numbers of two words
-abbrev pub drill_of : (file number turns : List ℕ) → Option Order
-drill_of file number turns = option_map (λ numbers. drill file numbers.0 numbers.1) (option_zip (number_in number_limit number) (number_in turn_limit turns))
+-- what is given for an operand: the name of a file, or a number
+pub data Argument : Type 0 where
+  file : (name : List ℕ) → Argument
+  value : (n : ℕ) → Argument
 
--- a command on a file and two numbers
-abbrev pub order_on_three : (command file number turns : List ℕ) → Option Order
-order_on_three command file number turns = if bytes_eq command (codes "drill") then drill_of file number turns else None
+-- the argument that a word is for an operand: any word names a file
+abbrev pub argument_of : Operand → (word : List ℕ) → Option Argument
+argument_of number word = option_map value (number_in number_limit word)
+argument_of turns word = option_map value (number_in turn_limit word)
+argument_of _ word = Some (file word)
 
--- `compile DESC`, `replay DESC TRACE`, `walk TABLES TRACE`, `schedule DESC BLOCK`, `eval BLOCK STATE` or
--- `drill DESC NUMBER COUNT`, where no word begins with `-`
+-- the arguments that words are for as many operands
+abbrev pub arguments_of : List Operand → (words : List (List ℕ)) → Option (List Argument)
+arguments_of [] [] = Some []
+arguments_of (o ∷ os) (w ∷ ws) = option_map (λ given. given.0 ∷ given.1) (option_zip (argument_of o w) (arguments_of os ws))
+arguments_of _ _ = None
+
+-- the name of one file
+abbrev pub one_file : List Argument → Option (List ℕ)
+one_file (file a ∷ []) = Some a
+one_file _ = None
+
+-- the names of two files
+abbrev pub two_files : List Argument → Option (List ℕ × List ℕ)
+two_files (file a ∷ file b ∷ []) = Some (a, b)
+two_files _ = None
+
+-- the name of a file, and two numbers
+abbrev pub file_and_numbers : List Argument → Option (List ℕ × ℕ × ℕ)
+file_and_numbers (file a ∷ value m ∷ value n ∷ []) = Some (a, m, n)
+file_and_numbers _ = None
+
+-- what is asked on one file
+abbrev pub on_one : (List ℕ → Order) → List Argument → Option Order
+on_one make given = option_map make (one_file given)
+
+-- on two files
+abbrev pub on_two : (List ℕ → List ℕ → Order) → List Argument → Option Order
+on_two make given = option_map (λ files. make files.0 files.1) (two_files given)
+
+-- on a file, with two numbers
+abbrev pub with_numbers : (List ℕ → ℕ → ℕ → Order) → List Argument → Option Order
+with_numbers make given = option_map (λ g. make g.0 g.1 g.2) (file_and_numbers given)
+
+-- a command: its name, its operands in their order, and what it asks for with its arguments
+pub record Command : Type 0 where
+  pub name : List ℕ
+  pub operands : List Operand
+  pub make : List Argument → Option Order
+
+-- the commands, in the order of the usage line
+abbrev pub commands : List Command
+commands =
+    record { name = codes "compile"; operands = description ∷ []; make = on_one compile }
+    ∷ record { name = codes "replay"; operands = description ∷ trace ∷ []; make = on_two replay }
+    ∷ record { name = codes "walk"; operands = tables ∷ trace ∷ []; make = on_two walk }
+    ∷ record { name = codes "schedule"; operands = description ∷ block ∷ []; make = on_two schedule }
+    ∷ record { name = codes "eval"; operands = block ∷ state ∷ []; make = on_two eval }
+    ∷ record { name = codes "drill"; operands = description ∷ number ∷ turns ∷ []; make = with_numbers drill }
+    ∷ []
+
+-- the command of this name
+abbrev pub command_named : List ℕ → Option Command
+command_named name = find (λ command. bytes_eq command.name name) commands
+
+-- the word begins with `-`
+abbrev pub begins_with_dash : List ℕ → Bool
+begins_with_dash [] = false
+begins_with_dash (b ∷ bs) = b == 45
+
+-- one of the words begins with `-`
+abbrev pub has_option : List (List ℕ) → Bool
+has_option words = list_any begins_with_dash words
+
+-- what a command asks for with these words
+abbrev pub asked_by : (given : List (List ℕ)) → Command → Option Order
+asked_by given command = option_and_then command.make (arguments_of command.operands given)
+
+-- what words ask for: a command and the words of its operands, of which none begins with `-`
 abbrev pub order_of : List (List ℕ) → Option Order
-order_of (command ∷ file ∷ []) = if begins_with_dash file then None else order_on_one command file
-order_of (command ∷ first ∷ second ∷ []) = if begins_with_dash first || begins_with_dash second then None else order_on_two command first second
-order_of (command ∷ first ∷ second ∷ third ∷ []) =
-    if begins_with_dash first || (begins_with_dash second || begins_with_dash third) then None else order_on_three command first second third
-order_of _ = None
+order_of [] = None
+order_of (command ∷ given) = if has_option given then None else option_and_then (asked_by given) (command_named command)
+
+-- a command in the usage line: its name and the words of its operands
+abbrev pub usage_of : Command → List ℕ
+usage_of command = command.name ++ flat_map (λ operand. codes " " ++ operand_word operand) command.operands
+
+-- texts one after another, with one between each two
+abbrev pub joined : (between : List ℕ) → List (List ℕ) → List ℕ
+joined between [] = []
+joined between (t ∷ []) = t
+joined between (t ∷ ts) = t ++ (between ++ joined between ts)
+
+-- the line that answers words which are no command
+unfoldable pub usage_line : List ℕ
+usage_line = concat (codes "usage: hz " ∷ joined (codes " | ") (map usage_of commands) ∷ codes "\n" ∷ [])

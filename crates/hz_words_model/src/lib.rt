@@ -1,2 +1,4 @@
-//! The words of the command line. There is no code.
+//! The words of the command line, and laws of them.
 #![tactic(auto)]
+
+pub mod word_laws;

@@ -12,6 +12,12 @@ use Rattle.hz_acceptance_model.specs.Accepting.Events.{Event, issue, advance, cy
 pub data TraceFault : Type 0 where
   bad_line unknown_class too_many_advances : TraceFault
 
+-- the word by which a fault is told: docs/FORMATS.md, 'Answers'
+abbrev pub trace_word : TraceFault → List ℕ
+trace_word bad_line = codes "BadLine"
+trace_word unknown_class = codes "UnknownClass"
+trace_word too_many_advances = codes "AdvanceLimit"
+
 -- What a line says: nothing, an event, or what is wrong with it.
 pub data Line : Type 0 where
   skipped : Line

@@ -1,6 +1,6 @@
 -- The class of an instruction, and what latencies and bypasses say of classes. GCC Internals, 'Defining Insns' Attributes' and
 -- 'Specifying processor pipeline description'; the faults are this profile's, docs/RULES.md, 'Dependences'.
-use Rattle.std.specs.Prelude.{ℕ, ◌==◌, ◌&&◌, if◌then◌else◌, List, [], ◌∷◌, Option, Some, None, Result, Ok, Err, slice_index, unwrap_or}
+use Rattle.std.specs.Prelude.{ℕ, ◌==◌, ◌&&◌, if◌then◌else◌, List, [], ◌∷◌, codes, Option, Some, None, Result, Ok, Err, slice_index, unwrap_or}
 use Rattle.std.specs.List.{list_any, find, filter_map, enumerate_from}
 use Rattle.std.specs.Option.{option_map, option_map_or}
 use Rattle.std.specs.Str.{bytes_eq}
@@ -13,6 +13,18 @@ use Rattle.hz_block_model.specs.Dependences.Dependences.{Timing}
 pub data ClassFault : Type 0 where
   unknown_attribute unknown_value no_class : ClassFault
   ambiguous : (a b : ℕ) → ClassFault
+
+-- the word by which a fault is told: docs/FORMATS.md, 'Answers'
+abbrev pub class_word : ClassFault → List ℕ
+class_word unknown_attribute = codes "UnknownAttribute"
+class_word unknown_value = codes "UnknownValue"
+class_word no_class = codes "NoClass"
+class_word (ambiguous a b) = codes "Ambiguous"
+
+-- the classes that a fault names, by their numbers
+abbrev pub classes_named : ClassFault → List ℕ
+classes_named (ambiguous a b) = a ∷ b ∷ []
+classes_named _ = []
 
 -- what is wrong with an attribute that is given, among those that are defined with their values
 abbrev pub fault_of_attribute : List (List ℕ × List (List ℕ)) → List ℕ × List ℕ → Option ClassFault

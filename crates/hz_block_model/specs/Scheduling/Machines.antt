@@ -1,5 +1,5 @@
 -- What a list scheduler asks of a machine of tables, and what it refuses. This profile, docs/RULES.md, 'List schedules'.
-use Rattle.std.specs.Prelude.{◌≡◌, ℕ, ◌+◌, Bool, not, List, [], ◌∷◌, ◌++◌, length, position, All, Option, Some, is_some}
+use Rattle.std.specs.Prelude.{◌≡◌, ℕ, ◌+◌, Bool, not, List, [], ◌∷◌, ◌++◌, length, codes, position, All, Option, Some, is_some}
 use Rattle.hz_base_model.specs.Limits.{cycle_limit}
 use Rattle.hz_description_model.specs.Reading.Limits.{latency_limit}
 use Rattle.hz_acceptance_model.specs.Accepting.Events.{Event, issue, advance, IsOfClass}
@@ -21,3 +21,7 @@ can_start m class = is_some (machine_walk m (issue class ∷ []))
 -- `CannotStartAlone`: the place of the first instruction whose class can't be issued from the start
 abbrev pub cannot_start_alone : Machine → Graph → Option ℕ
 cannot_start_alone m g = position (λ n. not (can_start m n.class)) g.nodes
+
+-- the word by which it is told: docs/FORMATS.md, 'Answers'
+abbrev pub stuck_word : List ℕ
+stuck_word = codes "CannotStartAlone"

@@ -1,11 +1,19 @@
 -- The operands of forms: what they are, or what is wrong and at which line. docs/FORMATS.md, 'Blocks and states'.
-use Rattle.std.specs.Prelude.{ℕ, ◌-◌, ◌%◌, ◌^◌, ℤ, pos, negsuc, Bool, nat_lt, if◌then◌else◌, List, Option, Some, None, Result, Ok, Err}
+use Rattle.std.specs.Prelude.{ℕ, ◌-◌, ◌%◌, ◌^◌, ℤ, pos, negsuc, Bool, nat_lt, if◌then◌else◌, List, codes, Option, Some, None, Result, Ok, Err}
 use Rattle.hz_base_model.specs.Names.{is_name}
 use Rattle.hz_base_model.specs.Forms.Trees.{Tree, Trees, list, quoted, number, atom, more, line_of}
 
 -- What can be wrong with a block or a state.
 pub data RtlFault : Type 0 where
   bad_shape unknown_code register_range twice insn_limit : RtlFault
+
+-- the word by which a fault is told: docs/FORMATS.md, 'Answers'
+abbrev pub rtl_word : RtlFault → List ℕ
+rtl_word bad_shape = codes "BadShape"
+rtl_word unknown_code = codes "UnknownCode"
+rtl_word register_range = codes "RegisterRange"
+rtl_word twice = codes "Twice"
+rtl_word insn_limit = codes "InsnLimit"
 
 -- what a form says, or its first fault with the line
 abbrev pub Judged : Type 0 → Type 0

@@ -22,11 +22,40 @@ use Rattle.hz_description_model.specs.Check.SplitClasses.{mixed_classes, uneven_
 pub data LimitName : Type 0 where
   automata units classes alternatives cycles size : LimitName
 
+-- the word by which a limit is told: docs/FORMATS.md, 'Answers'
+abbrev pub limit_word : LimitName → List ℕ
+limit_word automata = codes "Automata"
+limit_word units = codes "Units"
+limit_word classes = codes "Classes"
+limit_word alternatives = codes "Alternatives"
+limit_word cycles = codes "Cycles"
+limit_word size = codes "Size"
+
 -- the faults, in the order in which they are asked
 pub data CheckFault : Type 0 where
   twice_defined reserved_name unknown_name unknown_automaton unit_needs_automaton circular_reservation self_exclusion set_across_automata : CheckFault
   limit : (what : LimitName) → CheckFault
   alternation_of_two_automata alternation_of_two_lengths bypass_twice : CheckFault
+
+-- the word by which a fault is told: docs/FORMATS.md, 'Answers'
+abbrev pub check_word : CheckFault → List ℕ
+check_word twice_defined = codes "TwiceDefined"
+check_word reserved_name = codes "ReservedName"
+check_word unknown_name = codes "UnknownName"
+check_word unknown_automaton = codes "UnknownAutomaton"
+check_word unit_needs_automaton = codes "UnitNeedsAutomaton"
+check_word circular_reservation = codes "CircularReservation"
+check_word self_exclusion = codes "SelfExclusion"
+check_word set_across_automata = codes "SetAcrossAutomata"
+check_word (limit what) = limit_word what
+check_word alternation_of_two_automata = codes "AlternationOfTwoAutomata"
+check_word alternation_of_two_lengths = codes "AlternationOfTwoLengths"
+check_word bypass_twice = codes "BypassTwice"
+
+-- the limit that is passed; of any other fault none
+abbrev pub limit_passed : CheckFault → Option LimitName
+limit_passed (limit what) = Some what
+limit_passed _ = None
 
 -- Where names are defined.
 

@@ -113,6 +113,14 @@ Begins front = (rest : List Token) × (value : Expression) × IsWhole (front ++ 
 pub data ExpressionFault : Type 0 where
   unexpected no_token repeat_zero too_deep number_too_large : ExpressionFault
 
+-- the word by which a fault is told: docs/FORMATS.md, 'Answers'
+abbrev pub expression_word : ExpressionFault → List ℕ
+expression_word unexpected = codes "Unexpected"
+expression_word no_token = codes "Empty"
+expression_word repeat_zero = codes "RepeatZero"
+expression_word too_deep = codes "TooDeep"
+expression_word number_too_large = codes "NumberTooLarge"
+
 -- how deep parentheses may nest
 abbrev pub parentheses_limit : ℕ
 parentheses_limit = 64

@@ -7,7 +7,7 @@ use Rattle.std.specs.List.{slice_split, prefix_len}
 use Rattle.std.specs.Option.{option_map, option_map_or, option_and_then, ok_or}
 use Rattle.std.specs.Str.{bytes_eq}
 use Rattle.hz_description_model.specs.Reservations.Alternatives.{Expression}
-use Rattle.hz_description_model.specs.Grammar.ExpressionTexts.{ExpressionFault}
+use Rattle.hz_description_model.specs.Grammar.ExpressionTexts.{ExpressionFault, expression_word}
 use Rattle.hz_description_model.specs.Grammar.ExpressionTexts as expression
 use Rattle.hz_description_model.specs.Reading.Limits as limits
 use Rattle.hz_base_model.specs.Lines.{separated}
@@ -22,6 +22,21 @@ use Rattle.hz_description_model.specs.Reading.DescriptionShape.{FormKind, define
 pub data DescriptionFault : Type 0 where
   unknown_form bad_shape bad_condition unknown_option latency_limit unknown_guard : DescriptionFault
   bad_expression : (fault : ExpressionFault) (at : ℕ) → DescriptionFault
+
+-- the word by which a fault is told: docs/FORMATS.md, 'Answers'
+abbrev pub description_word : DescriptionFault → List ℕ
+description_word unknown_form = codes "UnknownForm"
+description_word bad_shape = codes "BadShape"
+description_word bad_condition = codes "BadCondition"
+description_word unknown_option = codes "UnknownOption"
+description_word latency_limit = codes "LatencyLimit"
+description_word unknown_guard = codes "UnknownGuard"
+description_word (bad_expression fault at) = codes "BadExpression"
+
+-- of an expression's fault its own word, and the byte of its string
+abbrev pub description_at : DescriptionFault → Option (List ℕ × ℕ)
+description_at (bad_expression fault at) = Some (expression_word fault, at)
+description_at _ = None
 
 -- a good value leads on, and what is wrong stays: of several the first
 abbrev pub and_then : {A B E : Type 0} → Result A E → (A → Result B E) → Result B E

@@ -6,37 +6,37 @@ ghost use Rattle.hz_description_model.specs.Reading.Descriptions.{Description};
 ghost use Rattle.hz_description_model.specs.Reading.DescriptionForms as description_forms;
 ghost use Rattle.hz_sexp.specs.Shape.{trees};
 ghost use Rattle.hz_tool.specs.Decisions.{IsJudged};
-ghost use Rattle.hz_tool.specs.Fronts.{IsCheckedIn, IsSaidReport, IsDescribedReport};
+ghost use Rattle.hz_tool.specs.Fronts.{IsCheckedIn, TellsSaid, TellsDescribed};
 
 use crate::phases::judging::{judge_check, judge_description, judge_forms};
 use hz_check::Checked;
-use hz_report::Report;
+use crate::decision::Decision;
 use hz_sexp::Form;
 use std::alloc::Global;
 
-/// The description that forms say, checked, or the report of the first fault of a form or of the fault that is told.
-fn judge_said<'a>(alloc: Global, file: &'a str, read: &[Form]) -> Result<Checked, Report<'a>>
+/// The description that forms say, checked, or what is decided of the first fault of a form or of the fault that is told.
+fn judge_said<'a>(alloc: Global, file: &'a str, read: &[Form]) -> Result<Checked, Decision<'a>>
     requires count { description_forms.form_count (trees read.now) < 2 ^ 32 }
     requires strings { IsTrue (description_forms.strings_below (2 ^ 32) (trees read.now)) }
     ensures ok { IfOk result (λ checked. (d : Description) × description_forms.Reads (trees read.now) d × IsCheckedOf d checked) }
     ensures kind { IfErr result IsJudged }
-    ensures err { IfErr result (IsSaidReport file.entry.now (trees read.now)) }
+    ensures err { IfErr result (TellsSaid file.entry.now (trees read.now)) }
 {
     match judge_description(alloc, file, read) {
         Ok(described) => judge_check(alloc, file, described),
-        Err(report) => Err(report),
+        Err(decision) => Err(decision),
     }
 }
 
-/// The description that a text says, checked, or the report of what is wrong first: a form, what forms say, or the check.
-pub fn judge_described<'a>(alloc: Global, file: &'a str, text: &[u8]) -> Result<Checked, Report<'a>>
+/// The description that a text says, checked, or what is decided of what is wrong first: a form, what forms say, or the check.
+pub fn judge_described<'a>(alloc: Global, file: &'a str, text: &[u8]) -> Result<Checked, Decision<'a>>
     requires { length text.now < 2 ^ 32 }
     ensures ok { IfOk result (IsCheckedIn text.now) }
     ensures kind { IfErr result IsJudged }
-    ensures err { IfErr result (IsDescribedReport file.entry.now text.now) }
+    ensures err { IfErr result (TellsDescribed file.entry.now text.now) }
 {
     match judge_forms(alloc, file, text) {
         Ok(read) => judge_said(alloc, file, &read),
-        Err(report) => Err(report),
+        Err(decision) => Err(decision),
     }
 }

@@ -14,106 +14,109 @@ ghost use Rattle.hz_acceptance_model.specs.Traces.Traces.{Trace, event_lines};
 ghost use Rattle.hz_check.specs.Checked.{IsCheckedOf};
 ghost use Rattle.hz_mdread.specs.Shape.{description};
 ghost use Rattle.hz_sexp.specs.Shape.{trees};
-ghost use Rattle.hz_tool.specs.Decisions.{IsFormsReport, IsDescriptionReport, IsCheckReport, IsRtlReport, IsTraceReport};
+ghost use Rattle.hz_answer_model.specs.Answers.{TellsDescription, TellsCheck};
+ghost use Rattle.hz_answer_model.specs.Phases.{TellsFault};
+ghost use Rattle.hz_base_model.specs.Forms.Forms.{form_word};
+ghost use Rattle.hz_block_model.specs.Texts.Operands.{rtl_word};
+ghost use Rattle.hz_acceptance_model.specs.Traces.Traces.{TraceFaultAt, trace_word};
+ghost use Rattle.hz_tool.specs.Decisions.{Agrees};
 ghost use Rattle.hz_replay.specs.Traces.{events_in, lines_in};
 ghost use Rattle.hz_block_model.specs.Running.Limits.{instruction_limit};
 
-use crate::phases::turning::{
-    check_report, description_report, form_report, line_report, rtl_report,
-};
+use crate::phases::telling::{decide_check, decide_fault};
 use hz_check::{Checked, check};
 use hz_mdread::{Description, read_description};
 use hz_replay::{Event, read_trace};
-use hz_report::Report;
+use crate::decision::Decision;
 use hz_rtl::{Block, State, read_block, read_state};
 use hz_sexp::{Form, read_forms};
 use hz_tables::Machine;
 use std::alloc::Global;
 
-/// The forms of a text, or the report of its first fault.
-pub fn judge_forms<'a>(alloc: Global, file: &'a str, text: &[u8]) -> Result<Vec<Form>, Report<'a>>
+/// The forms of a text, or what is decided of its first fault.
+pub fn judge_forms<'a>(alloc: Global, file: &'a str, text: &[u8]) -> Result<Vec<Form>, Decision<'a>>
     requires { length text.now < 2 ^ 32 }
     ensures ok { IfOk result (λ read. forms.Reads text.now (trees read.items)) }
-    ensures err { IfErr result (IsFormsReport file.entry.now text.now) }
+    ensures err { IfErr result (Agrees (TellsFault form_word (forms.FaultAt text.now) file.entry.now)) }
 {
     match read_forms(alloc, text) {
         Ok(read) => Ok(read),
-        Err(fault) => Err(form_report(file, fault)),
+        Err(fault) => Err(decide_fault(file, fault.told(), None)),
     }
 }
 
-/// The description that forms say, or the report of the first fault of a form.
+/// The description that forms say, or what is decided of the first fault of a form.
 pub fn judge_description<'a>(
     alloc: Global,
     file: &'a str,
     read: &[Form],
-) -> Result<Description, Report<'a>>
+) -> Result<Description, Decision<'a>>
     requires count { description_forms.form_count (trees read.now) < 2 ^ 32 }
     requires strings { IsTrue (description_forms.strings_below (2 ^ 32) (trees read.now)) }
     ensures ok { IfOk result (λ d. description_forms.Reads (trees read.now) (description d)) }
     ensures formed { IfOk result (λ d. IsWellFormed (description d)) }
-    ensures err { IfErr result (IsDescriptionReport file.entry.now (trees read.now)) }
+    ensures err { IfErr result (Agrees (TellsDescription file.entry.now (trees read.now))) }
 {
     match read_description(alloc, read) {
         Ok(description) => Ok(description),
-        Err(fault) => Err(description_report(file, fault)),
+        Err(fault) => Err(decide_fault(file, fault.told(), fault.at())),
     }
 }
 
-/// The description without a fault, or the report of the fault that is told.
+/// The description without a fault, or what is decided of the fault that is told.
 pub fn judge_check<'a>(
     alloc: Global,
     file: &'a str,
     described: Description,
-) -> Result<Checked, Report<'a>>
+) -> Result<Checked, Decision<'a>>
     requires formed { IsCheckable (description described) }
     requires shared { AllPairs SharesAutomaton (description described).units }
     ensures ok { IfOk result (IsCheckedOf (description described)) }
-    ensures err { IfErr result (IsCheckReport file.entry.now (description described)) }
+    ensures err { IfErr result (Agrees (TellsCheck file.entry.now (description described))) }
 {
     match check(alloc, described) {
         Ok(checked) => Ok(checked),
-        Err(fault) => Err(check_report(file, fault)),
+        Err(fault) => Err(decide_check(file, fault)),
     }
 }
 
-/// The block that forms are, or the report of the first that is wrong.
-pub fn judge_block<'a>(alloc: Global, file: &'a str, read: &[Form]) -> Result<Block, Report<'a>>
+/// The block that forms are, or what is decided of the first that is wrong.
+pub fn judge_block<'a>(alloc: Global, file: &'a str, read: &[Form]) -> Result<Block, Decision<'a>>
     ensures ok { IfOk result (λ block. blocks.Reads (trees read.now) (instructions block)) }
     ensures few { IfOk result (λ block. length block.insns.items ≤ instruction_limit) }
-    ensures err { IfErr result (IsRtlReport file.entry.now (blocks.FaultAt (trees read.now))) }
+    ensures err { IfErr result (Agrees (TellsFault rtl_word (blocks.FaultAt (trees read.now)) file.entry.now)) }
 {
     match read_block(alloc, read) {
         Ok(block) => Ok(block),
-        Err(fault) => Err(rtl_report(file, fault)),
+        Err(fault) => Err(decide_fault(file, fault.told(), None)),
     }
 }
 
-/// The state that forms give, or the report of the first that is wrong.
-pub fn judge_state<'a>(alloc: Global, file: &'a str, read: &[Form]) -> Result<State, Report<'a>>
+/// The state that forms give, or what is decided of the first that is wrong.
+pub fn judge_state<'a>(alloc: Global, file: &'a str, read: &[Form]) -> Result<State, Decision<'a>>
     ensures ok { IfOk result (λ state. states.Reads (trees read.now) (words state)) }
-    ensures err { IfErr result (IsRtlReport file.entry.now (states.FaultAt (trees read.now))) }
+    ensures err { IfErr result (Agrees (TellsFault rtl_word (states.FaultAt (trees read.now)) file.entry.now)) }
 {
     match read_state(alloc, read) {
         Ok(state) => Ok(state),
-        Err(fault) => Err(rtl_report(file, fault)),
+        Err(fault) => Err(decide_fault(file, fault.told(), None)),
     }
 }
 
-/// The events of a trace over the classes of a machine, or the report of its first wrong line.
+/// The events of a trace over the classes of a machine, or what is decided of its first wrong line.
 pub fn judge_trace<'a>(
     alloc: Global,
     file: &'a str,
     machine: &Machine,
     text: &[u8],
-) -> Result<Vec<Event>, Report<'a>>
+) -> Result<Vec<Event>, Decision<'a>>
     requires { length text.now < 2 ^ 32 }
     ensures ok { IfOk result (λ events. Trace machine.now.classes.items text.now (events_in events.items)) }
     ensures lines { IfOk result (λ events. lines_in events.items ≡ event_lines machine.now.classes.items 1 (lines_of text.now)) }
-    ensures err { IfErr result (IsTraceReport file.entry.now machine.now.classes.items text.now) }
+    ensures err { IfErr result (Agrees (TellsFault trace_word (TraceFaultAt machine.now.classes.items text.now) file.entry.now)) }
 {
     match read_trace(alloc, text, machine) {
         Ok(events) => Ok(events),
-        Err(fault) => Err(line_report(file, fault)),
+        Err(fault) => Err(decide_fault(file, fault.told(), None)),
     }
 }

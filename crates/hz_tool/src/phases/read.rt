@@ -1,32 +1,136 @@
-//! Files read whole, within their limits.
+//! Files read whole, within their limits: all files of an order, before anything is judged.
 
-ghost use Rattle.std.specs.Prelude.{◌≡◌, ◌⊎◌, ◌-◌, ◌^◌, ◌<◌, ◌≤◌, IfErr, IfOk, vec_len};
+ghost use Rattle.std.specs.Prelude.{◌≡◌, ◌⊎◌, ◌-◌, ◌^◌, ◌<◌, ◌≤◌, IfErr, IfOk, Contains, None, All, length, map, vec_len};
 ghost use Rattle.std.specs.Option.{ForSome};
-ghost use Rattle.hz_tool.specs.Decisions.{CountsFile, TellsFile, IsReadReport};
+ghost use Rattle.hz_answer_model.specs.Answers.{files_of};
+ghost use Rattle.hz_tool.specs.Decisions.{Agrees, AreRead, CountsRead, IsReadDecision, NamesFile, TellsFile};
+ghost use Rattle.hz_tool.specs.Reading.{Refuses, texts_in, wanted_in, word_of};
 
-use crate::phases::turning::slurp_report;
+use crate::decision::Decision;
+use crate::phases::telling::decide_slurp;
 use hz_io::{Files, slurp};
-use hz_report::Report;
 use std::alloc::Global;
 
-/// The bytes of the file of this name, at most `most`, or the report that it was not read.
-pub fn read_file<'a, F: Files>(
+/// Bytes of a description, at most.
+const DESCRIPTION_LIMIT: u64 = 4_194_304;
+
+/// Bytes of a trace, at most.
+const TRACE_LIMIT: u64 = 67_108_864;
+
+/// Bytes of a tables text, at most.
+const TABLES_LIMIT: u64 = 536_870_912;
+
+/// Bytes of a block, at most.
+const BLOCK_LIMIT: u64 = 4_194_304;
+
+/// Bytes of the text of a state, at most.
+const STATE_LIMIT: u64 = 4_194_304;
+
+/// A file that is read: the word that names it, and how many bytes it has at most.
+#[derive(Clone, Copy)]
+pub struct FileWord<'a> {
+    pub name: &'a str,
+    pub most: u64,
+}
+
+/// The file of a description.
+pub fn description_file<'a>(name: &'a str) -> FileWord<'a>
+    ensures { result ≡ word_of name.entry description_limit }
+{
+    FileWord {
+        name,
+        most: DESCRIPTION_LIMIT,
+    }
+}
+
+/// The file of a trace.
+pub fn trace_file<'a>(name: &'a str) -> FileWord<'a>
+    ensures { result ≡ word_of name.entry trace_limit }
+{
+    FileWord {
+        name,
+        most: TRACE_LIMIT,
+    }
+}
+
+/// The file of a tables text.
+pub fn tables_file<'a>(name: &'a str) -> FileWord<'a>
+    ensures { result ≡ word_of name.entry tables_limit }
+{
+    FileWord {
+        name,
+        most: TABLES_LIMIT,
+    }
+}
+
+/// The file of a block.
+pub fn block_file<'a>(name: &'a str) -> FileWord<'a>
+    ensures { result ≡ word_of name.entry block_limit }
+{
+    FileWord {
+        name,
+        most: BLOCK_LIMIT,
+    }
+}
+
+/// The file of a state.
+pub fn state_file<'a>(name: &'a str) -> FileWord<'a>
+    ensures { result ≡ word_of name.entry state_text_limit }
+{
+    FileWord {
+        name,
+        most: STATE_LIMIT,
+    }
+}
+
+/// The bytes of the file of this name, at most `most`, or what is decided if it was not read.
+fn read_file<'a, F: Files>(
     alloc: Global,
     files: &mut F,
     name: &'a str,
     most: u64,
-) -> Result<Vec<u8>, Report<'a>>
+) -> Result<Vec<u8>, Decision<'a>>
     requires most { most < 2 ^ 32 }
     requires below { F.faults files.old < 2 ^ 64 - 1 }
-    ensures counts { CountsFile (F.faults files.old) (F.faults files.new) result }
+    ensures counts { CountsRead (F.faults files.old) (F.faults files.new) result }
     ensures held { F.held files.new ≡ F.held files.old }
     ensures steady { F.steady files.old → F.steady files.new }
     ensures length { IfOk result (λ bytes. vec_len bytes ≤ most) }
-    ensures report { IfErr result (IsReadReport name.entry.now) }
+    ensures kind { IfErr result (IsReadDecision (λ other. other ≡ name.entry.now)) }
     ensures tells { ForSome (F.held files.old) (λ held. (F.faults files.new ≡ F.faults files.old) ⊎ F.steady files.old → TellsFile held name.entry.now most result) }
 {
     match slurp(alloc, files, name, most) {
         Ok(bytes) => Ok(bytes),
-        Err(fault) => Err(slurp_report(name, fault)),
+        Err(fault) => Err(decide_slurp(name, fault)),
     }
+}
+
+/// The bytes of all files, each within its limit, or what is decided if one was not read, after which no other is opened.
+pub fn read_all<'a, F: Files>(
+    alloc: Global,
+    files: &mut F,
+    wanted: &[FileWord<'a>],
+) -> Result<Vec<Vec<u8>>, Decision<'a>>
+    requires low { All (λ file. file.most < 2 ^ 32) wanted.now }
+    requires below { F.faults files.old < 2 ^ 64 - 1 }
+    ensures counts { CountsRead (F.faults files.old) (F.faults files.new) result }
+    ensures long { IfOk result (λ texts. length texts.items ≡ length wanted.now) }
+    ensures short { IfOk result (λ texts. All (λ text. length text.items < 2 ^ 32) texts.items) }
+    ensures kind { IfErr result (IsReadDecision (Contains (map (λ file. file.name) (wanted_in wanted.now)))) }
+    ensures lacks { ForSome (F.held files.old) (λ held. F.steady files.old → IfErr result (NamesFile (λ name. held name ≡ None))) }
+    ensures read { ForSome (F.held files.old) (λ held. IfOk result (λ texts. AreRead held (wanted_in wanted.now) (texts_in texts.items))) }
+    ensures refused { ForSome (F.held files.old) (λ held. (F.faults files.new ≡ F.faults files.old) ⊎ F.steady files.old → IfErr result (Agrees (Refuses held (wanted_in wanted.now)))) }
+{
+    let mut texts = Vec::new(alloc);
+    for file in wanted {
+        let text = match read_file(alloc, files, file.name, file.most) {
+            Ok(text) => text,
+            Err(decision) => return Err(decision),
+        };
+        match texts.push(text) {
+            Ok(()) => {}
+            Err(_) => return Err(Decision::Memory),
+        }
+    }
+    Ok(texts)
 }

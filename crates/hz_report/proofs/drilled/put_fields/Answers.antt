@@ -3,7 +3,7 @@ use Rattle.std.specs.List.{flat_map}
 use Rattle.hz_io.specs.Sink.{Wrote, Cut}
 use Rattle.hz_io.proofs.Writing.{wrote_then, wrote_then_cut, cut_before}
 use Rattle.hz_answer_model.specs.Texts.{state_field}
-use Rattle.hz_report.proofs.WritingLemmas.{lines_more, lines_parts}
+use Rattle.hz_io.proofs.PieceTexts.{lines_more, lines_parts}
 use Rattle.hz_report.proofs.drilled.put_fields.Goals as goal
 
 pub loop-state-preserved : goal.loop-state-preserved

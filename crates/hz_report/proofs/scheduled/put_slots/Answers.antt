@@ -6,7 +6,7 @@ use Rattle.hz_report.specs.Schedules.{line_by}
 use Rattle.hz_sched.specs.declared.parts.Slot.{Slot}
 use Rattle.hz_sched.specs.Shape.{graph_of, slot_of}
 use Rattle.hz_report.proofs.ScheduleLemmas.{some_slot}
-use Rattle.hz_report.proofs.WritingLemmas.{lines_more, lines_parts}
+use Rattle.hz_io.proofs.PieceTexts.{lines_more, lines_parts}
 use Rattle.hz_report.proofs.scheduled.put_slots.Goals as goal
 
 pub loop-slot-preserved : goal.loop-slot-preserved

@@ -6,7 +6,7 @@ use Rattle.hz_description_model.specs.Reading.DescriptionForms.{form_count, stri
 use Rattle.hz_description_model.specs.Reading.Descriptions.{Description}
 use Rattle.hz_sexp.specs.Shape.{trees}
 use Rattle.hz_sexp.specs.declared.form.Form.{Form}
-use Rattle.hz_tool.specs.Fronts.{IsSaidReport}
+use Rattle.hz_tool.specs.Fronts.{TellsSaid}
 use Rattle.hz_tool.proofs.AnswerLemmas.{if_ok, if_err}
 use Rattle.hz_tool.proofs.phases.describing.judge_described.Goals as goal
 
@@ -25,8 +25,8 @@ returns-in-Ok-clause-ok c =
 
 pub returns-in-Ok-clause-err : goal.returns-in-Ok-clause-err
 returns-in-Ok-clause-err c =
-    let told = subst (λ (fs : List Form). IfErr c.judge_said.result (IsSaidReport c.args.file.now (trees fs))) c.deref.ensures.value c.judge_said.ensures.err in
-    if_err (λ report h. inr (trees c.in-Ok.read.items, c.in-Ok.ensures.ok, h)) c.judge_said.result told
+    let told = subst (λ (fs : List Form). IfErr c.judge_said.result (TellsSaid c.args.file.now (trees fs))) c.deref.ensures.value c.judge_said.ensures.err in
+    if_err (λ told h. inr (trees c.in-Ok.read.items, c.in-Ok.ensures.ok, h)) c.judge_said.result told
 
 pub returns-in-Err-clause-err : goal.returns-in-Err-clause-err
 returns-in-Err-clause-err c = inl c.in-Err.ensures.err

@@ -1,8 +1,8 @@
-use Rattle.std.proofs.Common.{sym, subst}
+use Rattle.hz_mdread.specs.Faults.{fault_of}
 use Rattle.hz_sexp.specs.Shape.{trees}
-use Rattle.hz_tool.proofs.TurningLemmas.{description_turned}
-use Rattle.hz_tool.specs.Decisions.{IsDescriptionReport}
+use Rattle.hz_tool.proofs.TellingLemmas.{tells_description}
 use Rattle.hz_tool.proofs.phases.judging.judge_description.Goals as goal
 
 pub returns-in-Err-clause-err : goal.returns-in-Err-clause-err
-returns-in-Err-clause-err c = subst (IsDescriptionReport c.args.file.now (trees c.args.read.now)) (sym c.description_report.ensures) (description_turned c.args.file (trees c.args.read.now) c.in-Err.fault c.in-Err.ensures.faults)
+returns-in-Err-clause-err c =
+    tells_description c.args.file (trees c.args.read.now) c.told.result c.at.result (fault_of c.in-Err.fault) _ c.decide_fault.result c.told.ensures c.at.ensures c.in-Err.ensures.faults c.decide_fault.ensures

@@ -1,7 +1,7 @@
-use Rattle.std.proofs.Common.{sym, subst}
-use Rattle.hz_tool.proofs.TurningLemmas.{line_turned}
-use Rattle.hz_tool.specs.Decisions.{IsTraceReport}
+use Rattle.hz_acceptance_model.specs.Traces.Traces.{TraceFaultAt, trace_word}
+use Rattle.hz_replay.specs.Traces as faults
+use Rattle.hz_tool.proofs.TellingLemmas.{tells_fault}
 use Rattle.hz_tool.proofs.phases.judging.judge_trace.Goals as goal
 
 pub returns-in-Err-clause-err : goal.returns-in-Err-clause-err
-returns-in-Err-clause-err c = subst (IsTraceReport c.args.file.now c.args.machine.now.classes.items c.args.text.now) (sym c.line_report.ensures) (line_turned c.args.file c.args.machine.now.classes.items c.args.text.now c.in-Err.fault c.in-Err.ensures.err)
+returns-in-Err-clause-err c = tells_fault trace_word (TraceFaultAt c.args.machine.now.classes.items c.args.text.now) c.args.file c.told.result (faults.fault_told c.in-Err.fault) c.decide_fault.result c.told.ensures c.in-Err.ensures.err c.decide_fault.ensures

@@ -1,0 +1,110 @@
+-- What is decided of a fault is what a phase may tell.
+use Rattle.std.proofs.Common.{◌≡◌, ℕ, List, map, Option, Some, None, Result, Ok, Err, MatchOption, slice_get, refl, sym, ap, ap₂, ◌∙◌, subst}
+use Rattle.std.proofs.lemmas.Option.{same_Some, none-some}
+use Rattle.std.specs.Prelude.{⊤, IfOk, option_and_then}
+use Rattle.std.specs.Borrow.{Bor}
+use Rattle.std.specs.Option.{option_map}
+use Rattle.hz_acceptance_model.specs.Accepting.Events.{Event, issue}
+use Rattle.hz_answer_model.specs.Answers.{TellsDescription, TellsCheck}
+use Rattle.hz_answer_model.specs.FaultTexts.{told_line, status_by}
+use Rattle.hz_answer_model.specs.Phases.{TellsFault}
+use Rattle.hz_answer_model.specs.Texts.{fault_line, fault_text, passed_line}
+use Rattle.hz_auto.specs.Faults.{count_of}
+use Rattle.hz_auto.specs.Machines.{IsFaultOf}
+use Rattle.hz_auto.specs.declared.fault.AutoFault.{AutoFault}
+use Rattle.hz_auto.specs.declared.fault.AutoFault.TheVariants as auto_fault
+use Rattle.hz_automata_model.specs.Compiling.Compiled.{IsFirstPast}
+use Rattle.hz_automata_model.specs.Reaching.Counts.{Count}
+use Rattle.hz_automata_model.specs.Tables.Machines.{Machine}
+use Rattle.hz_base_model.specs.Forms.Trees.{Trees}
+use Rattle.hz_base_model.specs.Told.{told_by, told_in}
+use Rattle.hz_check.specs.Faults.{IsToldAt, limit_of}
+use Rattle.hz_check.specs.Shape.{automaton_of, class_of}
+use Rattle.hz_check.specs.declared.checked.Checked.{Checked}
+use Rattle.hz_check.specs.declared.fault.LimitName.{LimitName}
+use Rattle.hz_description_model.specs.Check.CheckFaults.{CheckFault, check_word, limit_passed, limit_word}
+use Rattle.hz_description_model.specs.Check.CheckFaults as model
+use Rattle.hz_description_model.specs.Check.Sites.{Site}
+use Rattle.hz_description_model.specs.Reading.DescriptionForms.{DescriptionFault, description_word, description_at}
+use Rattle.hz_description_model.specs.Reading.DescriptionForms as description_forms
+use Rattle.hz_description_model.specs.Reading.Descriptions.{Description}
+use Rattle.hz_mdread.specs.Shape.{options as options_of}
+use Rattle.hz_tool.specs.Decisions.{Agrees, IsJudged}
+use Rattle.hz_tool.specs.Fronts.{IsStatesTold}
+use Rattle.hz_tool.specs.Machines.{Refuses}
+use Rattle.hz_tool.specs.Telling.{decide_fault, decide_check, decide_states, refused_at, limited}
+use Rattle.hz_tool.specs.declared.decision.Decision.{Decision}
+
+-- a fault that is told by its word and its line, or memory ran out
+pub tells_fault : {F : Type 0} (word : F → List ℕ) (wrong : F → ℕ → Type 0) (file : Bor (List ℕ)) (told : Option (Bor (List ℕ) × ℕ)) (found : Option (F × ℕ)) (decision : Decision)
+    → told_in told ≡ told_by word found → MatchOption found ⊤ (λ p. wrong p.0 p.1) → decision ≡ decide_fault file told None → Agrees (TellsFault word wrong file.now) decision
+tells_fault word wrong file None found decision same h is = subst (Agrees (TellsFault word wrong file.now)) (sym is) tt
+tells_fault word wrong file (Some told) None decision same h is = absurd (cc)
+tells_fault word wrong file (Some told) (Some found) decision same h is =
+    let pair = same_Some (told.0.now, told.1) (word found.0, found.1) same in
+    subst (Agrees (TellsFault word wrong file.now)) (sym is) (found.0, found.1, h, (refl, ap (λ (p : List ℕ × ℕ). fault_text file.now p.1 p.0 None None None None) pair))
+
+-- the fault of a form of a description
+pub tells_description : (file : Bor (List ℕ)) (read : Trees) (told at : Option (Bor (List ℕ) × ℕ)) (found : Option (DescriptionFault × ℕ)) (none : Type 0) (decision : Decision)
+    → told_in told ≡ told_by description_word found → told_in at ≡ option_and_then (λ f. description_at f.0) found → MatchOption found none (λ p. description_forms.FaultAt read p.0 p.1) → decision ≡ decide_fault file told at
+    → Agrees (TellsDescription file.now read) decision
+tells_description file read None at found none decision same there h is = subst (Agrees (TellsDescription file.now read)) (sym is) tt
+tells_description file read (Some told) at None none decision same there h is = absurd (cc)
+tells_description file read (Some told) at (Some found) none decision same there h is =
+    let pair = same_Some (told.0.now, told.1) (description_word found.0, found.1) same in
+    subst (Agrees (TellsDescription file.now read)) (sym is)
+    (found.0, found.1, h, (refl, ap₂ (λ (p : List ℕ × ℕ) (x : Option (List ℕ × ℕ)). fault_text file.now p.1 p.0 None None None x) pair there))
+
+-- the fault or the limit of a description
+pub tells_check : (file : Bor (List ℕ)) (d : Description) (told : Option (Bor (List ℕ) × ℕ)) (limit : Option LimitName) (name : Option (List ℕ)) (found : Option ((CheckFault × ℕ) × List ℕ)) (decision : Decision)
+    → told_in told ≡ told_by check_word (option_map (λ t. t.0) found) → option_map limit_of limit ≡ option_and_then (λ t. limit_passed t.0.0) found → name ≡ option_map (λ t. t.1) found
+    → MatchOption found ⊤ (λ t. IsToldAt d t.0.0 t.0.1 t.1) → decision ≡ decide_check file told limit name → Agrees (TellsCheck file.now d) decision
+tells_check file d None limit name found decision same passed named h is = subst (Agrees (TellsCheck file.now d)) (sym is) tt
+tells_check file d (Some told) limit name None decision same passed named h is = absurd (cc)
+tells_check file d (Some told) limit name (Some found) decision same passed named h is = by_limit limit passed (is ∙ ap (decide_check file (Some told) limit) named)
+  where
+    fault : CheckFault
+    fault = found.0.0
+
+    site : Site
+    site = record { line = found.0.1; form = h.0; name = found.1 }
+
+    pair : (told.0.now, told.1) ≡ (check_word fault, found.0.1)
+    pair = same_Some (told.0.now, told.1) (check_word fault, found.0.1) same
+
+    by_limit : (o : Option LimitName) → option_map limit_of o ≡ limit_passed fault → decision ≡ decide_check file (Some told) o (Some found.1) → Agrees (TellsCheck file.now d) decision
+    by_limit (Some what) passed is =
+        subst (Agrees (TellsCheck file.now d)) (sym is)
+        (fault, site, h.1, (ap status_by passed, ap (λ (p : List ℕ × ℕ). passed_line file.now p.1 (limit_word (limit_of what)) found.1) pair ∙ ap (told_line file.now (check_word fault) site) passed))
+    by_limit None passed is =
+        subst (Agrees (TellsCheck file.now d)) (sym is)
+        (fault, site, h.1, (ap status_by passed, ap (λ (p : List ℕ × ℕ). fault_text file.now p.1 p.0 None (Some found.1) None None) pair ∙ ap (told_line file.now (check_word fault) site) passed))
+
+-- an automaton past its limit is told by its name, or memory ran out
+pub states_told : {E : Type 0} (file : Bor (List ℕ)) (automaton : List ℕ) (copied : Result (List ℕ) E) → IfOk copied (λ name. name ≡ automaton) → IsStatesTold file.now automaton (decide_states file copied)
+states_told file automaton (Ok name) same = (refl, same)
+states_told file automaton (Err refused) h = tt
+
+-- an automaton past its limit is one of texts that were judged
+pub states_judged : {E : Type 0} (file : Bor (List ℕ)) (copied : Result (List ℕ) E) (told : Decision) → told ≡ decide_states file copied → IsJudged told
+states_judged file (Ok name) told is = subst IsJudged (sym is) tt
+states_judged file (Err refused) told is = subst IsJudged (sym is) tt
+
+-- a refused issue is told by the name of its class, or memory ran out
+pub refused_told : {E : Type 0} (m : Machine) (line class : ℕ) (e : Event) (name : List ℕ) (copied : Result (List ℕ) E) (told : Decision) → e ≡ issue class → slice_get m.classes class ≡ Some name → IfOk copied (λ n. n ≡ name)
+    → told ≡ refused_at line copied → Agrees (Refuses m line e) told
+refused_told m line class e name (Ok n) told same there named is = subst (Agrees (Refuses m line e)) (sym is) (class, n, same, there ∙ ap Some (sym named), (refl, refl))
+refused_told m line class e name (Err refused) told same there named is = subst (Agrees (Refuses m line e)) (sym is) tt
+
+pub refused_judged : {E : Type 0} (line : ℕ) (copied : Result (List ℕ) E) (told : Decision) → told ≡ refused_at line copied → IsJudged told
+refused_judged line (Ok name) told is = subst IsJudged (sym is) tt
+refused_judged line (Err refused) told is = subst IsJudged (sym is) tt
+
+same_number : (a b : ℕ) → Some a ≡ Some b → a ≡ b
+same_number a b e = cc
+
+-- the automaton that a fault names is the first that has a count above its limit
+pub limited_past : (checked : Checked) (fault : AutoFault) (a : ℕ) → IsFaultOf checked fault → limited fault ≡ Some a → (what : Count) × IsFirstPast (options_of checked.options) (map automaton_of checked.automata.items) (map class_of checked.classes.items) a what
+limited_past checked (auto_fault.Limit automaton what) a h e =
+    (count_of what, subst (λ (n : ℕ). IsFirstPast (options_of checked.options) (map automaton_of checked.automata.items) (map class_of checked.classes.items) n (count_of what)) (same_number automaton a e) h)
+limited_past checked auto_fault.NoMemory a h e = absurd (cc)

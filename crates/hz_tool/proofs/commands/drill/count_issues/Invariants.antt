@@ -1,0 +1,11 @@
+use Rattle.std.proofs.Common.{◌≡◌, ◌≤◌, take}
+use Rattle.hz_acceptance_model.specs.Accepting.Events.{issues_of}
+use Rattle.hz_replay.specs.Traces.{events_in}
+use Rattle.hz_tool.proofs.commands.drill.count_issues.Given as goal
+
+-- the issues so far
+abbrev pub invariant-loop-event : goal.invariant-loop-event
+invariant-loop-event l = record {
+  counted : l.issues ≡ issues_of (events_in (take l.event-index l.events));
+  few : l.issues ≤ l.event-index;
+}

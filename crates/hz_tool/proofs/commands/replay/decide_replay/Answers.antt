@@ -1,0 +1,16 @@
+use Rattle.hz_tables.specs.Machines.{machine_of}
+use Rattle.hz_answer_model.specs.Answers.{ReplaysTrace}
+use Rattle.hz_tool.proofs.MachineLemmas.{compiled_on, walked_on, limit_refused}
+use Rattle.hz_tool.proofs.commands.replay.decide_replay.Goals as goal
+
+pub returns-in-Ok-clause-answer : goal.returns-in-Ok-clause-answer
+returns-in-Ok-clause-answer c = λ d is.
+    let order = c.args.order.now in
+    let machine = c.in-Ok.ensures.ok d is in
+    compiled_on order.description.now d is.known (machine_of c.in-Ok.machine) machine (ReplaysTrace order.trace.now c.args.trace.now d is.known) c.decide_trace.result
+    (walked_on d is.known (machine_of c.in-Ok.machine) machine order.trace.now c.args.trace.now c.decide_trace.result c.decide_trace.ensures.answer)
+
+pub returns-in-Err-clause-answer : goal.returns-in-Err-clause-answer
+returns-in-Err-clause-answer c = λ d is.
+    let order = c.args.order.now in
+    limit_refused order.description.now d is.known (ReplaysTrace order.trace.now c.args.trace.now d is.known) c.in-Err.decision (c.in-Err.ensures.err d is)

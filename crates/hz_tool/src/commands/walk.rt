@@ -1,0 +1,47 @@
+//! The phases of `walk`, in their order: the tables, the trace and its walk.
+
+ghost use Rattle.std.specs.Prelude.{◌<◌, ◌^◌, IfOk, IfErr, length};
+ghost use Rattle.hz_answer_model.specs.TableAnswers.{TablesFaultAt, HasTables, WalksTrace};
+ghost use Rattle.hz_tables.specs.Machines.{machine_of};
+ghost use Rattle.hz_answer_model.specs.Phases.{TellsFault};
+ghost use Rattle.hz_tabtext_model.specs.Judging.{tables_word};
+ghost use Rattle.hz_tabtext_model.specs.Texts.{TableText};
+ghost use Rattle.hz_tool.specs.Decisions.{Agrees, IsJudged};
+
+use crate::commands::replay::decide_trace;
+use crate::phases::telling::decide_fault;
+use crate::decision::Decision;
+use hz_tabfile::read_tables;
+use hz_tables::Machine;
+use hz_tool_words::WalkOrder;
+use std::alloc::Global;
+
+/// The machine of a tables text, or what is decided of its first fault.
+fn judge_tables<'a>(alloc: Global, file: &'a str, text: &[u8]) -> Result<Machine, Decision<'a>>
+    requires { length text.now < 2 ^ 32 }
+    ensures ok { IfOk result (λ machine. TableText text.now (machine_of machine)) }
+    ensures err { IfErr result (Agrees (TellsFault tables_word (TablesFaultAt text.now) file.entry.now)) }
+{
+    match read_tables(alloc, text) {
+        Ok(machine) => Ok(machine),
+        Err(fault) => Err(decide_fault(file, fault.told(), None)),
+    }
+}
+
+/// What is decided of both texts, the tables judged first.
+pub fn judge_walk<'a>(
+    alloc: Global,
+    order: &WalkOrder<'a>,
+    tabled: &[u8],
+    trace: &[u8],
+) -> Decision<'a>
+    requires tabled { length tabled.now < 2 ^ 32 }
+    requires trace { length trace.now < 2 ^ 32 }
+    ensures kind { IsJudged result }
+    ensures answer { Agrees (HasTables order.now.tables.now tabled.now (WalksTrace order.now.trace.now trace.now)) result }
+{
+    match judge_tables(alloc, order.tables, tabled) {
+        Ok(machine) => decide_trace(alloc, order.trace, &machine, trace),
+        Err(decision) => decision,
+    }
+}

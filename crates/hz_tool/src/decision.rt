@@ -1,0 +1,181 @@
+//! What is decided before anything is written.
+
+ghost use Rattle.std.specs.Prelude.{◌≡◌, ◌≤◌, ◌<◌, ◌^◌, ◌-◌};
+ghost use Rattle.hz_io.specs.Sink.{Writes};
+ghost use Rattle.hz_tool.specs.Decided.{status_of, text_of, IsTellable};
+
+use hz_auto::Compiled;
+use hz_check::{Checked, LimitName};
+use hz_depend::Graph;
+use hz_io::{Failed, Sink};
+use hz_regexp::Name;
+use hz_report::{Report, write_report};
+use hz_rtl::State;
+use hz_sched::Schedule;
+use hz_tabfile::write_tables;
+use hz_tables::Machine;
+
+/// An answer before it is written, which owns what is done. A file goes by the word that names it, lines are counted from 1.
+#[derive(Drop)]
+pub enum Decision<'a> {
+    /// Every issue of the trace fits.
+    Accepted { issues: u64, cycles: u64 },
+    /// The first issue that does not fit: its line and its class.
+    Refused { line: u32, class: Name },
+    /// The tables of a description: what is compiled of it, and the description as it was checked.
+    Tables { compiled: Compiled, checked: Checked },
+    /// The schedule of a block: the machine has the names of its classes, the graph its instructions.
+    Scheduled {
+        machine: Machine,
+        graph: Graph,
+        schedule: Schedule,
+    },
+    /// A drill: its turns, the issues and cycles of its trace, and the state in which the trace leaves each automaton.
+    Drilled {
+        turns: u32,
+        issues: u64,
+        cycles: u64,
+        states: Vec<u32>,
+    },
+    /// The state that a block leaves.
+    After { state: State },
+    /// A fault of a text, as `Report::Fault` has it.
+    Fault {
+        file: &'a str,
+        line: u32,
+        kind: &'static str,
+        insn: Option<u32>,
+        first: Option<Name>,
+        second: Option<Name>,
+        at: Option<(&'static str, u32)>,
+    },
+    /// A limit of a description is passed at this line, by what has this name.
+    Limit {
+        file: &'a str,
+        line: u32,
+        what: LimitName,
+        name: Name,
+    },
+    /// The automaton of this name has too many states.
+    Automaton { file: &'a str, name: Name },
+    /// The file has more bytes than it may have.
+    Bytes { file: &'a str },
+    /// The words are no command.
+    Usage,
+    /// Memory ran out.
+    Memory,
+    /// The file could not be opened or read.
+    File { name: &'a str },
+}
+
+impl Decision<'_> {
+    /// The status of the answer, if its text is written whole.
+    pub fn status(&self) -> u8
+        ensures value { result ≡ status_of self.now }
+        ensures range { result ≤ 6 }
+    {
+        match self {
+            Decision::Accepted { .. }
+            | Decision::Tables { .. }
+            | Decision::Scheduled { .. }
+            | Decision::Drilled { .. }
+            | Decision::After { .. } => 0,
+            Decision::Refused { .. } => 1,
+            Decision::Fault { .. } => 2,
+            Decision::Limit { .. } | Decision::Automaton { .. } | Decision::Bytes { .. } => 3,
+            Decision::Usage => 4,
+            Decision::Memory => 5,
+            Decision::File { .. } => 6,
+        }
+    }
+
+    /// Writes the text of the answer, which is lent to what writes it: all of it, or a front of it if the sink failed, with one
+    /// more fault. It takes no memory.
+    pub fn write<S: Sink>(&self, out: &mut S) -> Result<(), Failed>
+        requires sink { S.faults out.old < 2 ^ 64 - 1 }
+        requires range { IsTellable self.now }
+        ensures { Writes S.written S.room S.faults out.old out.new (text_of self.now) result }
+    {
+        match self {
+            Decision::Accepted { issues, cycles } => write_report(
+                &Report::Accepted {
+                    issues: *issues,
+                    cycles: *cycles,
+                },
+                out,
+            ),
+            Decision::Refused { line, class } => {
+                write_report(&Report::Refused { line: *line, class }, out)
+            }
+            Decision::Tables { compiled, checked } => write_tables(compiled, checked, out),
+            Decision::Scheduled {
+                machine,
+                graph,
+                schedule,
+            } => write_report(
+                &Report::Scheduled {
+                    machine,
+                    graph,
+                    schedule,
+                },
+                out,
+            ),
+            Decision::Drilled {
+                turns,
+                issues,
+                cycles,
+                states,
+            } => write_report(
+                &Report::Drill {
+                    turns: *turns,
+                    issues: *issues,
+                    cycles: *cycles,
+                    states,
+                },
+                out,
+            ),
+            Decision::After { state } => write_report(&Report::After { state }, out),
+            Decision::Fault {
+                file,
+                line,
+                kind,
+                insn,
+                first,
+                second,
+                at,
+            } => write_report(
+                &Report::Fault {
+                    file,
+                    line: *line,
+                    kind,
+                    insn: *insn,
+                    first: first.as_ref(),
+                    second: second.as_ref(),
+                    at: *at,
+                },
+                out,
+            ),
+            Decision::Limit {
+                file,
+                line,
+                what,
+                name,
+            } => write_report(
+                &Report::Checked {
+                    file,
+                    line: *line,
+                    what: *what,
+                    name,
+                },
+                out,
+            ),
+            Decision::Automaton { file, name } => {
+                write_report(&Report::Automaton { file, name }, out)
+            }
+            Decision::Bytes { file } => write_report(&Report::Bytes { file }, out),
+            Decision::Usage => write_report(&Report::Usage, out),
+            Decision::Memory => write_report(&Report::Memory, out),
+            Decision::File { name } => write_report(&Report::File { name }, out),
+        }
+    }
+}
