@@ -4,4 +4,3 @@ pub mod SumLemmas
 pub mod HeaviestLemmas
 pub mod PathLemmas
 pub mod BoundLemmas
-pub mod WritingLemmas

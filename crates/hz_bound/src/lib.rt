@@ -7,7 +7,6 @@ mod cycles;
 mod heaviest;
 mod loads;
 mod parts;
-mod pieces;
 mod tails;
 mod writing;
 

@@ -10,10 +10,9 @@ ghost use Rattle.hz_bound_model.specs.Texts as model;
 ghost use Rattle.hz_bound.specs.Shape.{names_of, load_of, bound_of, IsAmong, IsInRange};
 
 use crate::parts::{Bound, Load};
-use crate::pieces::put_all;
 use hz_check::Checked;
 use hz_depend::Graph;
-use hz_io::{Failed, Sink};
+use hz_io::{Failed, Sink, put_all};
 use hz_regexp::Name;
 use hz_sched::Schedule;
 use itoa::Buffer;

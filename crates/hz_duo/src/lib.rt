@@ -5,7 +5,6 @@ mod fault;
 mod joining;
 mod pairing;
 mod parts;
-mod pieces;
 mod writing;
 
 pub use fault::DuoFault;

@@ -9,9 +9,8 @@ ghost use Rattle.hz_duo_model.specs.Texts as model;
 ghost use Rattle.hz_duo.specs.Shape.{context_slot, IsOfEither, AreInRange, IsInRange};
 
 use crate::parts::DuoSlot;
-use crate::pieces::put_all;
 use hz_depend::Graph;
-use hz_io::{Failed, Sink};
+use hz_io::{Failed, Sink, put_all};
 use hz_regexp::Name;
 use hz_tables::Machine;
 use itoa::Buffer;

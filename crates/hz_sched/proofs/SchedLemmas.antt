@@ -205,24 +205,3 @@ module _ {X Y : Type 0} (f : X → Y) (p : Y → Bool) where
   position-map xs =
       ap (λ (k : ℕ). cond (nat_lt k (length (map f xs))) (Some k) None) (front-map xs)
       ∙ ap (λ (n : ℕ). cond (nat_lt (position_or_len (λ x. p (f x)) xs) n) (Some (position_or_len (λ x. p (f x)) xs)) None) (length-map xs f)
-
-pub none_at : {X : Type 0} (p : X → Bool) (xs : List X) → position p xs ≡ None → (i : ℕ) (d : X) → i < length xs → p (get_or xs i d) ≡ false
-none_at p xs e i d lt = go (nat_lt (position_or_len p xs) (length xs)) refl e
-  where
-    go : (b : Bool) → nat_lt (position_or_len p xs) (length xs) ≡ b → cond b (Some (position_or_len p xs)) None ≡ None → p (get_or xs i d) ≡ false
-    go true h e = absurd (cc)
-    go false h e = let all = ltb-false (position_or_len p xs) (length xs) h in fails_before_first p xs i d (omega arith)
-
-not_false : (b : Bool) → not b ≡ false → b ≡ true
-not_false true h = refl
-not_false false h = absurd (cc)
-
-pub all_start : (m : Machine) (insns : List GraphInsn) (g : Graph) → g.nodes ≡ map node_of insns → position (λ i. not (can_start m i.class)) insns ≡ None → AllStart m g
-all_start m insns g nodes e = record { alone = alone }
-  where
-    alone : (j : ℕ) → j < length g.nodes → can_start m (class_at g j) ≡ true
-    alone j lt =
-        let none : Node = record { class = 0; height = 0 } in
-        let told : position (λ n. not (can_start m n.class)) g.nodes ≡ None = ap (position (λ n. not (can_start m n.class))) nodes ∙ (position-map node_of (λ n. not (can_start m n.class)) insns ∙ e) in
-        let here = not_false (can_start m (get_or g.nodes j none).class) (none_at (λ n. not (can_start m n.class)) g.nodes told j none lt) in
-        ap (can_start m) (get_or-map (λ (n : Node). n.class) g.nodes j none 0 lt) ∙ here

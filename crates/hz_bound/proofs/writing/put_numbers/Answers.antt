@@ -3,7 +3,7 @@ use Rattle.std.specs.List.{flat_map}
 use Rattle.hz_io.specs.Sink.{Wrote, Cut}
 use Rattle.hz_io.proofs.Writing.{wrote_then, wrote_then_cut, cut_before}
 use Rattle.hz_bound_model.specs.Texts.{number_field}
-use Rattle.hz_bound.proofs.WritingLemmas.{lines_more, lines_parts}
+use Rattle.hz_io.proofs.PieceTexts.{lines_more, lines_parts}
 use Rattle.hz_bound.proofs.writing.put_numbers.Goals as goal
 
 pub put_number-requires : goal.put_number-requires
