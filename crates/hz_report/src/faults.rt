@@ -45,7 +45,7 @@ fn put_insn<S: Sink>(out: &mut S, insn: Option<u32>) -> Result<(), Failed>
 /// Writes a name, if there is one.
 fn put_name<S: Sink>(out: &mut S, name: Option<&Name>) -> Result<(), Failed>
     requires { S.faults out.old < 2 ^ 64 - 1 }
-    ensures { Writes S.written S.room S.faults out.old out.new (name_part (option_map (λ n. n.now) name)) result }
+    ensures { Writes S.written S.room S.faults out.old out.new (name_part (option_map (λ n. n.now) name.entry)) result }
 {
     let Some(name) = name else {
         return Ok(());
@@ -56,7 +56,7 @@ fn put_name<S: Sink>(out: &mut S, name: Option<&Name>) -> Result<(), Failed>
 /// Writes the fault of an expression, if there is one: its word and its byte.
 fn put_at<S: Sink>(out: &mut S, at: Option<(&str, u32)>) -> Result<(), Failed>
     requires { S.faults out.old < 2 ^ 64 - 1 }
-    ensures { Writes S.written S.room S.faults out.old out.new (at_part (told_in at)) result }
+    ensures { Writes S.written S.room S.faults out.old out.new (at_part (told_in at.entry)) result }
 {
     let Some((word, byte)) = at else {
         return Ok(());
@@ -76,7 +76,7 @@ fn put_at<S: Sink>(out: &mut S, at: Option<(&str, u32)>) -> Result<(), Failed>
 /// Writes what stands after names, and the end of the line.
 fn put_ending<S: Sink>(out: &mut S, at: Option<(&str, u32)>) -> Result<(), Failed>
     requires { S.faults out.old < 2 ^ 64 - 1 }
-    ensures { Writes S.written S.room S.faults out.old out.new (ending (told_in at)) result }
+    ensures { Writes S.written S.room S.faults out.old out.new (ending (told_in at.entry)) result }
 {
     match put_at(out, at) {
         Ok(()) => out.put(b"\n"),
@@ -91,7 +91,7 @@ fn put_from_second<S: Sink>(
     at: Option<(&str, u32)>,
 ) -> Result<(), Failed>
     requires { S.faults out.old < 2 ^ 64 - 1 }
-    ensures { Writes S.written S.room S.faults out.old out.new (from_second (option_map (λ n. n.now) second) (told_in at)) result }
+    ensures { Writes S.written S.room S.faults out.old out.new (from_second (option_map (λ n. n.now) second.entry) (told_in at.entry)) result }
 {
     match put_name(out, second) {
         Ok(()) => put_ending(out, at),
@@ -107,7 +107,7 @@ fn put_from_first<S: Sink>(
     at: Option<(&str, u32)>,
 ) -> Result<(), Failed>
     requires { S.faults out.old < 2 ^ 64 - 1 }
-    ensures { Writes S.written S.room S.faults out.old out.new (from_first (option_map (λ n. n.now) first) (option_map (λ n. n.now) second) (told_in at)) result }
+    ensures { Writes S.written S.room S.faults out.old out.new (from_first (option_map (λ n. n.now) first.entry) (option_map (λ n. n.now) second.entry) (told_in at.entry)) result }
 {
     match put_name(out, first) {
         Ok(()) => put_from_second(out, second, at),
@@ -124,7 +124,7 @@ fn put_from_insn<S: Sink>(
     at: Option<(&str, u32)>,
 ) -> Result<(), Failed>
     requires { S.faults out.old < 2 ^ 64 - 1 }
-    ensures { Writes S.written S.room S.faults out.old out.new (from_insn insn (option_map (λ n. n.now) first) (option_map (λ n. n.now) second) (told_in at)) result }
+    ensures { Writes S.written S.room S.faults out.old out.new (from_insn insn (option_map (λ n. n.now) first.entry) (option_map (λ n. n.now) second.entry) (told_in at.entry)) result }
 {
     match put_insn(out, insn) {
         Ok(()) => put_from_first(out, first, second, at),
@@ -144,7 +144,7 @@ pub fn put_fault<S: Sink>(
     at: Option<(&str, u32)>,
 ) -> Result<(), Failed>
     requires { S.faults out.old < 2 ^ 64 - 1 }
-    ensures { Writes S.written S.room S.faults out.old out.new (fault_text file.now line kind.now insn (option_map (λ n. n.now) first) (option_map (λ n. n.now) second) (told_in at)) result }
+    ensures { Writes S.written S.room S.faults out.old out.new (fault_text file.now line kind.now insn (option_map (λ n. n.now) first.entry) (option_map (λ n. n.now) second.entry) (told_in at.entry)) result }
 {
     match put_head(out, file, line, kind) {
         Ok(()) => put_from_insn(out, insn, first, second, at),

@@ -20,16 +20,17 @@ pub fn put_bytes<S: Sink>(out: &mut S, file: &str) -> Result<(), Failed>
 }
 
 /// Writes the line of a limit of a description that is passed.
-pub fn put_checked<S: Sink>(
+pub fn put_checked<'a, S: Sink>(
     out: &mut S,
-    file: &str,
+    file: &'a str,
     line: u32,
     what: LimitName,
-    name: &Name,
+    name: &'a Name,
 ) -> Result<(), Failed>
     requires { S.faults out.old < 2 ^ 64 - 1 }
     ensures { Writes S.written S.room S.faults out.old out.new (model.passed_line file.now line (limit_word (limit_of what)) name.now) result }
 {
+    let word: &'a str = what.word();
     let mut digits = Buffer::new();
     put_all(
         out,
@@ -39,7 +40,7 @@ pub fn put_checked<S: Sink>(
             b" line ",
             digits.format(line).as_bytes(),
             b" ",
-            what.word().as_bytes(),
+            word.as_bytes(),
             b" ",
             name.bytes(),
             b"\n",
