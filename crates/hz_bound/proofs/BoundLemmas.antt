@@ -21,7 +21,6 @@ use Rattle.hz_sched.specs.Shape.{node_of, graph_of}
 use Rattle.hz_bound_model.specs.Paths.{greatest, GoesOn, IsChain}
 use Rattle.hz_bound_model.specs.Loads.{Load as ModelLoad, ways_by, load_of as load_by}
 use Rattle.hz_bound_model.specs.Bounds.{units_of, units_from, UnitLoad, loads_of, heavier, heaviest, IsBoundBy}
-use Rattle.hz_bound_model.specs.Bounds as bounds
 use Rattle.hz_bound.specs.declared.parts.Load.{Load}
 use Rattle.hz_bound.specs.declared.parts.Bound.{Bound}
 use Rattle.hz_bound.specs.Rows.{IsPathOf}

@@ -1,11 +1,11 @@
 -- The load of the greatest value, found one by one.
-use Rattle.std.proofs.Common.{◌≡◌, ℕ, suc, ◌+◌, ◌-◌, ◌<◌, ◌≤◌, Bool, true, false, cond, List, [], ◌∷◌, ◌++◌, map, drop, length, get_or, All, Option, Some, None, refl, sym, ap, ◌∙◌, arith, add-one}
+use Rattle.std.proofs.Common.{◌≡◌, ℕ, suc, ◌+◌, ◌-◌, ◌<◌, ◌≤◌, Bool, true, false, cond, List, [], ◌∷◌, ◌++◌, map, drop, length, get_or, All, Option, Some, None, refl, sym, ap, ◌∙◌, arith}
 use Rattle.std.specs.Prelude.{nat_lt, max, slice_index_or}
-use Rattle.std.specs.List.{filter_map, cons_option, range_with_len}
+use Rattle.std.specs.List.{cons_option, range_with_len}
 use Rattle.std.specs.Option.{option_map, option_map_or}
 use Rattle.std.proofs.lemmas.Bool.{ltb-true, ltb-false, lt-ltb, le-ltb}
 use Rattle.std.proofs.lemmas.List.{length-map, get_or-map, drop_more}
-use Rattle.std.proofs.lemmas.List.Elements.{filter_map-append, All-contains, Contains-get_or}
+use Rattle.std.proofs.lemmas.List.Elements.{filter_map-append}
 use Rattle.hz_base_model.specs.Limits.{unit_limit}
 use Rattle.hz_description_model.specs.Reservations.Automata.{UnitPlace}
 use Rattle.hz_description_model.specs.Check.CheckedParts.{AutomatonParts}
@@ -13,7 +13,7 @@ use Rattle.hz_check.specs.declared.checked.Checked.{Checked}
 use Rattle.hz_check.specs.declared.checked.CheckedAutomaton.{CheckedAutomaton}
 use Rattle.hz_check.specs.Shape.{automaton_of}
 use Rattle.hz_bound_model.specs.Paths.{greatest}
-use Rattle.hz_bound_model.specs.Loads.{Load, load_of}
+use Rattle.hz_bound_model.specs.Loads.{load_of}
 use Rattle.hz_bound_model.specs.Bounds.{units_of, units_from, UnitLoad, loads_of, heavier, heaviest}
 use Rattle.hz_bound.specs.Shape.{names_of}
 

@@ -106,8 +106,7 @@ some_taken = record { force = 0; range = None }
 is_right : (ways : ℕ → List (List ℕ)) (marks : List Bool) (n : ℕ) (taken : List Taken) → TakesMarked ways marks n taken → (k : ℕ) → k < n → slice_index_or marks k false ≡ true → Right ways taken k
 is_right ways marks n taken all k lt marked =
     let tells = all.each k some_taken lt marked in
-    let inside : k < length taken = omega (arith, lt, all.long) in
-    (
+    let inside : k < length taken = omega (arith, lt, all.long) in (
       get_or-map (λ (t : Taken). t.force) taken k some_taken 0 inside ∙ tells.force,
       get_or-map (λ (t : Taken). t.range) taken k some_taken None inside ∙ tells.range,
     )

@@ -46,10 +46,10 @@ module _ (rows : ℕ → List Edge) (n : ℕ) (leads : LeadUp rows n) where
       bounded : tail + latency_limit * p ≤ latency_limit * n
       bounded =
           let most = greatest_within (map (sum_of tails) (rows p)) (latency_limit * n - latency_limit * p) (λ k there.
-              let (e, held, q) = Contains-from_map (sum_of tails) (rows p) k there in
-              let (up, low, cost) = leads.up p e held in
-              let high = from.small e.to low in
-              omega (arith, q, up, cost, high)) in
+          let (e, held, q) = Contains-from_map (sum_of tails) (rows p) k there in
+          let (up, low, cost) = leads.up p e held in
+          let high = from.small e.to low in
+          omega (arith, q, up, cost, high)) in
           omega (arith, is, most, lt)
 
       small : (i : ℕ) → i < n → slice_index (set tails p tail) i + latency_limit * i ≤ latency_limit * n
@@ -123,12 +123,12 @@ answers (e ∷ row) tails tail next =
           there;
       some = λ k is. let (there, least) = rest.some k is in (
         ⊎_elim
-        (λ (c : Carries row tails tail k). inl (carries_later e row tails tail k c))
-        (λ (new : lesser tails tail next e ≡ Some k). ⊎_elim
-        (λ (h : next ≡ Some k). inr h)
-        (λ (h : (e.to ≡ k) × (tail ≡ e.cost + slice_index tails e.to)). inl (record { by = e; there = Contains-head e row; leads = h.0; whole = h.1 ∙ ap (λ (j : ℕ). e.cost + slice_index tails j) h.0 }))
-        (step.kept k new))
-        there,
+            (λ (c : Carries row tails tail k). inl (carries_later e row tails tail k c))
+            (λ (new : lesser tails tail next e ≡ Some k). ⊎_elim
+            (λ (h : next ≡ Some k). inr h)
+            (λ (h : (e.to ≡ k) × (tail ≡ e.cost + slice_index tails e.to)). inl (record { by = e; there = Contains-head e row; leads = h.0; whole = h.1 ∙ ap (λ (j : ℕ). e.cost + slice_index tails j) h.0 }))
+            (step.kept k new))
+            there,
         λ j at. ⊎_elim
             (λ (c : Carries (e ∷ row) tails tail j). ⊎_elim
             (λ (h : (e.to ≡ j) × (tail ≡ e.cost + slice_index tails e.to)). let (l, new, low) = step.below j (inr h) in let le = least l (inr new) in omega (arith, low, le))
@@ -162,9 +162,9 @@ module _ (rows : ℕ → List Edge) (n : ℕ) (leads : LeadUp rows n) (tails : L
   pub no_next : (j : ℕ) → j < n → least_in tails (slice_index tails j) (rows j) None ≡ None → slice_index tails j ≡ 0
   no_next j lt e = ⊎_elim
       (λ (more : 0 < slice_index tails j). absurd (
-        let is = from.each j (omega arith) lt in
-        let (edge, there, q) = Contains-from_map (sum_of tails) (rows j) (greatest (map (sum_of tails) (rows j))) (greatest_held (map (sum_of tails) (rows j)) (some_sum (map (sum_of tails) (rows j)) (omega (arith, is, more)))) in
-        (answers (rows j) tails (slice_index tails j) None).none e edge.to (inl (record { by = edge; there = there; leads = refl; whole = is ∙ sym q }))))
+      let is = from.each j (omega arith) lt in
+      let (edge, there, q) = Contains-from_map (sum_of tails) (rows j) (greatest (map (sum_of tails) (rows j))) (greatest_held (map (sum_of tails) (rows j)) (some_sum (map (sum_of tails) (rows j)) (omega (arith, is, more)))) in
+      (answers (rows j) tails (slice_index tails j) None).none e edge.to (inl (record { by = edge; there = there; leads = refl; whole = is ∙ sym q }))))
       (λ (le : slice_index tails j ≤ 0). omega (arith, le))
       (cases_lt 0 (slice_index tails j))
     where
@@ -208,11 +208,11 @@ chain_begins rows tails most first is e =
 pub no_chain : (tails : List ℕ) (most : ℕ) → most ≡ greatest tails → position (λ t. t == most) tails ≡ None → length tails ≡ 0
 no_chain [] most is e = refl
 no_chain (t ∷ tails) most is e = absurd (
-  let held = greatest_held (t ∷ tails) (omega arith) in
-  let k = held.0 in
-  let no_match = not_there (λ (u : ℕ). u == most) (t ∷ tails) e k 0 held.1 in
-  let yes = eq-eqb (get_or (t ∷ tails) k 0) most (get_or_default (t ∷ tails) k 0 (greatest (t ∷ tails)) held.1 ∙ (held.2 ∙ sym is)) in
-  cc)
+    let held = greatest_held (t ∷ tails) (omega arith) in
+    let k = held.0 in
+    let no_match = not_there (λ (u : ℕ). u == most) (t ∷ tails) e k 0 held.1 in
+    let yes = eq-eqb (get_or (t ∷ tails) k 0) most (get_or_default (t ∷ tails) k 0 (greatest (t ∷ tails)) held.1 ∙ (held.2 ∙ sym is)) in
+    cc)
   where
     not_there : (p : ℕ → Bool) (xs : List ℕ) → position p xs ≡ None → (i d : ℕ) → i < length xs → p (get_or xs i d) ≡ false
     not_there p xs e i d lt = go (nat_lt (position_or_len p xs) (length xs)) refl e
@@ -245,8 +245,7 @@ module _ (rows : ℕ → List Edge) (n : ℕ) (leads : LeadUp rows n) (tails : L
 
 pub starts_chain : (rows : ℕ → List Edge) (tails : List ℕ) (most first : ℕ) (chain : List ℕ) (answer : Option ℕ) → most ≡ greatest tails → answer ≡ position (λ t. t == most) tails → answer ≡ Some first → chain ≡ first ∷ [] → (first < length tails) × IsBegun rows tails first chain
 starts_chain rows tails most first chain answer is found e begins =
-    let at = sym found ∙ e in
-    (
+    let at = sym found ∙ e in (
       (position-Some (λ (t : ℕ). t == most) tails first 0 at).0,
       subst (IsBegun rows tails first) (sym begins) (chain_begins rows tails most first is at),
     )

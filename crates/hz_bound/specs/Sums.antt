@@ -1,7 +1,6 @@
 -- What is kept of a unit, class by class. These words are only to prove with.
 use Rattle.std.specs.Prelude.{◌≡◌, ℕ, ◌+◌, ◌-◌, ◌<◌, Bool, true, false, nat_lt, if◌then◌else◌, List, [], ◌∷◌, map, length, Option, None, slice_index_or, Contains}
 use Rattle.std.specs.Option.{option_map}
-use Rattle.hz_base_model.specs.Pairs.{Pair}
 use Rattle.hz_bound_model.specs.Loads as model
 use Rattle.hz_bound_model.specs.Loads.{ways_in, least}
 use Rattle.hz_bound.specs.declared.cycles.Range.{Range}

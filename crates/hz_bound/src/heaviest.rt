@@ -24,13 +24,7 @@ fn heavier(first: Option<Load>, second: Option<Load>) -> Option<Load>
         None => second,
         Some(a) => match second {
             None => Some(a),
-            Some(b) => {
-                if a.value < b.value {
-                    Some(b)
-                } else {
-                    Some(a)
-                }
-            }
+            Some(b) => { if a.value < b.value { Some(b) } else { Some(a) } }
         },
     }
 }
@@ -62,14 +56,7 @@ fn load_at(
     requires unit { unit < 256 }
     ensures { IfOk result (λ load. option_map load_of load ≡ option_map (λ l. record { unit = record { automaton = automaton; unit = unit }; load = l }) (loads.load_of (ways_by (lists_in checked.now.classes.items) (record { automaton = automaton; unit = unit })) (map (λ i. i.class) insns.now))) }
 {
-    let load = load_in(
-        alloc,
-        &checked.classes,
-        marks,
-        insns,
-        automaton,
-        unit as u8,
-    )?;
+    let load = load_in(alloc, &checked.classes, marks, insns, automaton, unit as u8)?;
     match load {
         None => Ok(None),
         Some(load) => Ok(Some(Load {

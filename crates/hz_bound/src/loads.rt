@@ -85,11 +85,7 @@ fn taken_of(
 }
 
 /// Marks the classes of instructions, of so many.
-pub fn marks_of(
-    alloc: Global,
-    insns: &[GraphInsn],
-    classes: usize,
-) -> Result<Vec<bool>, NoMemory>
+pub fn marks_of(alloc: Global, insns: &[GraphInsn], classes: usize) -> Result<Vec<bool>, NoMemory>
     requires { All (λ i. i.class < classes) insns.now }
     ensures size { IfOk result (λ marks. length marks.items ≡ classes) }
     ensures marks { IfOk result (λ marks. AreMarked (map (λ i. i.class) insns.now) marks.items) }

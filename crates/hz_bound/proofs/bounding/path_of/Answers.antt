@@ -1,4 +1,4 @@
-use Rattle.std.proofs.Common.{rules, arith}
+use Rattle.std.proofs.Common.{arith}
 use Rattle.hz_bound.proofs.PathLemmas.{view_leads, path_made}
 use Rattle.hz_bound.proofs.bounding.path_of.Goals as goal
 

@@ -1,4 +1,4 @@
-use Rattle.std.proofs.Common.{ℕ, map, ap, sym, ◌∙◌}
+use Rattle.std.proofs.Common.{ℕ, map, ap, ◌∙◌}
 use Rattle.std.specs.Option.{option_map}
 use Rattle.hz_bound_model.specs.Loads.{ways_by}
 use Rattle.hz_bound_model.specs.Bounds.{units_of, loads_of, heaviest}

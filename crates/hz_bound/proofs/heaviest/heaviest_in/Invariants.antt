@@ -1,8 +1,8 @@
-use Rattle.std.proofs.Common.{◌≡◌, length, map}
+use Rattle.std.proofs.Common.{◌≡◌, map}
 use Rattle.std.specs.Option.{option_map}
 use Rattle.hz_bound_model.specs.Bounds.{units_of, loads_of, heavier, heaviest}
 use Rattle.hz_bound_model.specs.Loads.{ways_by}
-use Rattle.hz_bound.specs.Shape.{names_of, lists_in, load_of}
+use Rattle.hz_bound.specs.Shape.{lists_in, load_of}
 use Rattle.hz_bound.proofs.HeaviestLemmas.{from_unit}
 use Rattle.hz_bound.proofs.heaviest.heaviest_in.Given as goal
 

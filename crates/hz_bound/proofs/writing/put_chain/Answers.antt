@@ -1,5 +1,4 @@
 use Rattle.std.proofs.Common.{ℕ, List, map, slice_index, codes, sym, subst}
-use Rattle.std.specs.List.{flat_map}
 use Rattle.std.proofs.lemmas.List.Folds.{flat_map-map}
 use Rattle.hz_io.specs.Sink.{Wrote, Cut}
 use Rattle.hz_io.proofs.Writing.{cut_before, writes_then}
