@@ -1,5 +1,5 @@
 -- The instructions and slots of two contexts.
-use Rattle.std.proofs.Common.{◌≡◌, ◌≢◌, ◌<◌, ◌⊎◌, ⊎_elim, ℕ, Bool, cond, List, length, get_or, All, sym, ap, ◌∙◌, subst, arith}
+use Rattle.std.proofs.Common.{◌≡◌, ◌≢◌, ◌<◌, ⊎_elim, ℕ, Bool, cond, List, length, get_or, All, sym, ap, ◌∙◌, arith}
 use Rattle.std.proofs.lemmas.Bool.{eq-eqb, ne_eqb}
 use Rattle.std.proofs.lemmas.List.{length-map, get_or-map}
 use Rattle.std.proofs.lemmas.List.Elements.{All-map}
@@ -12,11 +12,11 @@ use Rattle.hz_block_model.proofs.Scheduling.SameSchedules.{class_below}
 use Rattle.hz_duo_model.specs.Joining.{ContextSlot}
 use Rattle.hz_duo_model.specs.Texts.{line_of_own, line_of_either}
 use Rattle.hz_duo.specs.declared.parts.DuoSlot.{DuoSlot}
-use Rattle.hz_duo.specs.Shape.{context_slot, IsOfEither}
+use Rattle.hz_duo.specs.Shape.{IsOfEither}
 
 -- a slot, read where there is none
 abbrev pub some_slot : DuoSlot
-some_slot = record { context = 1; place = 0; cycle = 0 }
+some_slot = record { context = 0; place = 0; cycle = 0 }
 
 -- the class of the instruction at a place
 pub class_there : (graph : Graph) (place : ℕ) (d : GraphInsn) → place < length graph.insns.items → (get_or graph.insns.items place d).class ≡ class_at (graph_of graph) place

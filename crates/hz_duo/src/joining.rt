@@ -43,12 +43,7 @@ fn insns_of(
 }
 
 /// The edges of both, those of the second so many places higher.
-fn edges_of(
-    alloc: Global,
-    first: &[Edge],
-    second: &[Edge],
-    by: u32,
-) -> Result<Vec<Edge>, NoMemory>
+fn edges_of(alloc: Global, first: &[Edge], second: &[Edge], by: u32) -> Result<Vec<Edge>, NoMemory>
     requires by { by ≤ instruction_limit }
     requires places { All (λ e. (e.from < instruction_limit) × (e.to < instruction_limit)) second.now }
     ensures { IfOk result (λ edges. map edge_of edges.items ≡ map edge_of first.now ++ map (model.raised by) (map edge_of second.now)) }

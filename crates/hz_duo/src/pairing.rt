@@ -50,11 +50,7 @@ fn in_contexts(alloc: Global, slots: &[Slot], count: u32) -> Result<Vec<DuoSlot>
 }
 
 /// The slots of a schedule of the joined graph, by their contexts.
-fn paired(
-    alloc: Global,
-    schedule: &Schedule,
-    first: &Graph,
-) -> Result<Vec<DuoSlot>, NoMemory>
+fn paired(alloc: Global, schedule: &Schedule, first: &Graph) -> Result<Vec<DuoSlot>, NoMemory>
     requires { length first.now.insns.items ≤ instruction_limit }
     ensures { IfOk result (λ slots. IsPaired (length first.now.insns.items) (slots_of schedule.now.slots.items) slots.items) }
 {
