@@ -18,10 +18,8 @@ use Rattle.hz_replay.specs.Replaying.{Standing, AreStates}
 use Rattle.hz_depend.specs.declared.parts.Graph as depend_graph
 use Rattle.hz_depend.specs.declared.parts.GraphInsn.{GraphInsn}
 use Rattle.hz_depend.specs.GraphShape.{edge_of, IsSchedulable}
-use Rattle.hz_base_model.specs.Limits.{cycle_limit}
-use Rattle.hz_description_model.specs.Reading.Limits.{latency_limit}
 use Rattle.hz_block_model.specs.Scheduling.Schedules.{Node, Graph, Slot, class_at, present, GoesBefore, Greedy, IsCandidate}
-use Rattle.hz_block_model.specs.Scheduling.Machines.{Settles, most_wait, can_start}
+use Rattle.hz_block_model.specs.Scheduling.Machines.{Settles, can_start, most_wait}
 use Rattle.hz_block_model.proofs.Scheduling.SameSchedules.{greedy_within}
 use Rattle.hz_sched.specs.Shape.{graph_of, node_of, slot_of, slots_of}
 use Rattle.hz_sched.specs.declared.parts.Slot as made
@@ -35,6 +33,7 @@ use Rattle.hz_sched.proofs.SlotLemmas.{left_less}
 use Rattle.hz_sched.proofs.StandLemmas.{at_start, next_cycle, next_issue, now_issued, was_left, candidate_fits}
 use Rattle.hz_sched.proofs.ComesLemmas.{some_comes}
 use Rattle.hz_sched.proofs.BoardLemmas.{none_may, first_may, candidate_ready, classes_of_nodes}
+use Rattle.hz_base_model.specs.Limits.{cycle_limit}
 
 -- ---- states
 
@@ -120,7 +119,7 @@ module _ (m : Machine) (g : Graph) (board : Board) (states : List ℕ) (b : IsBo
   pub never : Settles m → IsUpward g → All (λ n. n.class < length m.classes) g.nodes → AllStart m g → (count : ℕ) → count ≡ length g.nodes → 0 < left_below (issued_at (slots_of board.slots.items)) count → board.cycle ≡ present 0 (slots_of board.slots.items) + (most_wait + 1) → ⊥
   never settles upward ranges start count all some late =
       let left : 0 < left_below (issued_at (slots_of board.slots.items)) (length g.nodes) = subst (λ (n : ℕ). 0 < left_below (issued_at (slots_of board.slots.items)) n) all some in
-      let (j, c) = some_comes m g settles upward ranges start.alone (slots_of board.slots.items) board.cycle states b.at left latency_limit cycle_limit (cycle_limit + 1) (present 0 (slots_of board.slots.items) + most_wait) refl refl (omega (arith, late)) (omega arith) in
+      let (j, c) = some_comes m g settles upward ranges start.alone (slots_of board.slots.items) board.cycle states b.at left 1000 cycle_limit (cycle_limit + 1) (present 0 (slots_of board.slots.items) + most_wait) refl refl (omega (arith, late)) (omega arith) in
       (b.at).barren (present 0 (slots_of board.slots.items) + most_wait) j (omega arith) (omega (arith, late)) c
 
 -- the queue is another, which holds the same
@@ -183,7 +182,7 @@ all_soon slots limit rising last k d lt =
 
 pub upward_of : (classes : ℕ) (g : depend_graph.Graph) → IsSchedulable classes g → IsUpward (graph_of g)
 upward_of classes g is = record {
-  upward = λ e there. let u = All-contains (λ e. (e.from < e.to) × (e.to < length g.insns.items) × (e.cost ≤ latency_limit)) (map edge_of g.edges.items) e (All-map (λ e. (e.from < e.to) × (e.to < length g.insns.items) × (e.cost ≤ latency_limit)) edge_of g.edges.items is.edges) there in
+  upward = λ e there. let u = All-contains (λ e. (e.from < e.to) × (e.to < length g.insns.items) × (e.cost ≤ 1000)) (map edge_of g.edges.items) e (All-map (λ e. (e.from < e.to) × (e.to < length g.insns.items) × (e.cost ≤ 1000)) edge_of g.edges.items is.edges) there in
       let long = length-map g.insns.items node_of in
       (u.0, omega (arith, u.1, long), u.2);
 }
@@ -206,24 +205,3 @@ module _ {X Y : Type 0} (f : X → Y) (p : Y → Bool) where
   position-map xs =
       ap (λ (k : ℕ). cond (nat_lt k (length (map f xs))) (Some k) None) (front-map xs)
       ∙ ap (λ (n : ℕ). cond (nat_lt (position_or_len (λ x. p (f x)) xs) n) (Some (position_or_len (λ x. p (f x)) xs)) None) (length-map xs f)
-
-pub none_at : {X : Type 0} (p : X → Bool) (xs : List X) → position p xs ≡ None → (i : ℕ) (d : X) → i < length xs → p (get_or xs i d) ≡ false
-none_at p xs e i d lt = go (nat_lt (position_or_len p xs) (length xs)) refl e
-  where
-    go : (b : Bool) → nat_lt (position_or_len p xs) (length xs) ≡ b → cond b (Some (position_or_len p xs)) None ≡ None → p (get_or xs i d) ≡ false
-    go true h e = absurd (cc)
-    go false h e = let all = ltb-false (position_or_len p xs) (length xs) h in fails_before_first p xs i d (omega arith)
-
-not_false : (b : Bool) → not b ≡ false → b ≡ true
-not_false true h = refl
-not_false false h = absurd (cc)
-
-pub all_start : (m : Machine) (insns : List GraphInsn) (g : Graph) → g.nodes ≡ map node_of insns → position (λ i. not (can_start m i.class)) insns ≡ None → AllStart m g
-all_start m insns g nodes e = record { alone = alone }
-  where
-    alone : (j : ℕ) → j < length g.nodes → can_start m (class_at g j) ≡ true
-    alone j lt =
-        let none : Node = record { class = 0; height = 0 } in
-        let told : position (λ n. not (can_start m n.class)) g.nodes ≡ None = ap (position (λ n. not (can_start m n.class))) nodes ∙ (position-map node_of (λ n. not (can_start m n.class)) insns ∙ e) in
-        let here = not_false (can_start m (get_or g.nodes j none).class) (none_at (λ n. not (can_start m n.class)) g.nodes told j none lt) in
-        ap (can_start m) (get_or-map (λ (n : Node). n.class) g.nodes j none 0 lt) ∙ here

@@ -55,7 +55,7 @@ fn first_unfit(machine: &Machine, states: &[u32], insns: &[GraphInsn]) -> Option
 }
 
 /// The place of the first instruction whose class can't be issued from the start.
-pub fn first_stuck(alloc: Global, machine: &Machine, insns: &[GraphInsn]) -> Option<u32>
+pub fn first_unstartable(alloc: Global, machine: &Machine, insns: &[GraphInsn]) -> Option<u32>
     requires few { length insns.now ≤ instruction_limit }
     requires classes { All (λ i. i.class < length machine.now.classes.items) insns.now }
     ensures { result ≡ position (λ i. not (can_start (machine_of machine.now) i.class)) insns.now }

@@ -4,14 +4,15 @@
 mod board;
 mod fault;
 mod fitting;
-mod outgoing;
 mod parts;
 mod queue;
+mod rows;
 mod scheduling;
 mod spelling;
 mod waiting;
 
 pub use fault::SchedFault;
 pub use parts::{Schedule, Slot};
-pub use scheduling::schedule;
+pub use rows::outgoing;
+pub use scheduling::{first_stuck, schedule};
 pub use spelling::spell;

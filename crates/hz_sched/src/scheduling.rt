@@ -14,8 +14,8 @@ ghost use Rattle.hz_automata_model.specs.Tables.Machines.{IsWalked};
 
 use crate::board::Board;
 use crate::fault::SchedFault;
-use crate::fitting::first_stuck;
-use crate::outgoing::outgoing;
+use crate::fitting::first_unstartable;
+use crate::rows::outgoing;
 use crate::parts::{Schedule, Slot};
 use crate::spelling::class_at;
 use hz_depend::{Edge, Graph};
@@ -104,6 +104,14 @@ fn slots_on<L: Ledger>(
     Ok(board.into_slots())
 }
 
+/// The place of the first instruction in the source whose class can't be issued even where nothing else is. It takes no memory.
+pub fn first_stuck(alloc: Global, machine: &Machine, graph: &Graph) -> Option<u32>
+    requires { IsSchedulable (length machine.now.classes.items) graph.now }
+    ensures { result ≡ cannot_start_alone (machine_of machine.now) (graph_of graph.now) }
+{
+    first_unstartable(alloc, machine, &graph.insns)
+}
+
 /// The schedule of a block: at each cycle the instructions that have waited for those on which they depend and that fit are
 /// issued, the one of the greatest height first, of equal ones the first in the source; the cycle is advanced only where none
 /// fits. `CannotStartAlone` tells the first instruction in the source whose class can't be issued even where nothing else is.
@@ -118,7 +126,7 @@ pub fn schedule(alloc: Global, machine: &Machine, graph: &Graph) -> Result<Sched
     ensures soon { IfOk result (λ made. All (λ x. x.cycle ≤ most_wait * length graph.now.insns.items) made.slots.items) }
     ensures fault { alone_in result ≡ cannot_start_alone (machine_of machine.now) (graph_of graph.now) }
 {
-    if let Some(place) = first_stuck(alloc, machine, &graph.insns) {
+    if let Some(place) = first_stuck(alloc, machine, graph) {
         return Err(SchedFault::CannotStartAlone { place });
     }
     match slots_on::<Brand>(alloc, machine, graph, Blank::new(1)) {

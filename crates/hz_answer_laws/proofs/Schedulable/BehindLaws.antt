@@ -22,7 +22,6 @@ use Rattle.hz_automata_model.proofs.Compiling.FactoredLaws.{accepted_in_automata
 use Rattle.hz_answer_laws.proofs.Settling.RunLaws.{settled, accepted_behind}
 use Rattle.hz_answer_laws.proofs.Settling.SettleLaws.{short_pipeline}
 use Rattle.hz_answer_laws.proofs.Decidable.ToldLaws.{IsTold}
-use Rattle.hz_base_model.specs.Limits.{cycle_limit}
 
 module _ (d : Description) (known : Known) where
   abbrev machine : Pipeline UnitPlace

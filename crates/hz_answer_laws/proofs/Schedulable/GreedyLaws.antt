@@ -15,8 +15,6 @@ use Rattle.hz_block_model.proofs.Scheduling.GrowLaws.{greedy-push, legal_when_al
 use Rattle.hz_answer_laws.proofs.Schedulable.LeftLaws.{without}
 use Rattle.hz_answer_laws.proofs.Decidable.ToldLaws.{IsTold, same_told, less_told, low_told, each_told, some_told, contained_told}
 use Rattle.hz_block_model.proofs.Scheduling.SlotLaws.{spelled-push, advances_later, below_present, rising-push, no_front}
-use Rattle.hz_base_model.specs.Limits.{cycle_limit}
-use Rattle.hz_block_model.specs.Scheduling.Machines.{most_wait}
 
 -- numbers up to one
 last_or_less : (n j : ℕ) → j < suc n → (j < n) ⊎ (n ≡ j)

@@ -29,7 +29,6 @@ use Rattle.hz_answer_laws.proofs.Schedulable.GraphTotal.{some_graph}
 use Rattle.hz_answer_laws.proofs.Schedulable.GreedyLaws.{some_schedule}
 use Rattle.hz_block_model.proofs.Scheduling.SlotLaws.{present-push, advances_later, below_present}
 use Rattle.hz_answer_laws.proofs.Schedulable.LeftLaws.{order_length}
-use Rattle.hz_block_model.specs.Scheduling.Machines.{most_wait}
 
 -- the edges of a block's graph lead upwards, and cost little
 pub upward_edges : (d : Description) (block : List Instruction) (g : Graph) → IsCheckable d → IsGraphOf d block g → (e : Edge) → Contains g.edges e → (e.from < e.to) × (e.to < length g.nodes) × (e.cost ≤ 1000)

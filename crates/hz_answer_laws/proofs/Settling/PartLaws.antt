@@ -18,7 +18,6 @@ use Rattle.hz_automata_model.proofs.Reaching.CountLaws.{same_pairs_itself}
 use Rattle.hz_automata_model.specs.Compiling.ClassColumns.{IsColumns}
 use Rattle.hz_automata_model.specs.Compiling.CompiledParts.{WalksAccepted, TellsWhatIsLeft}
 use Rattle.hz_answer_laws.proofs.Settling.RunLaws.{IsShort, settled, accepted_behind, left_settled, left_at_start}
-use Rattle.hz_base_model.specs.Limits.{cycle_limit}
 
 -- ---- columns of a table
 

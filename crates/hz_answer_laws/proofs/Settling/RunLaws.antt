@@ -14,7 +14,6 @@ use Rattle.hz_automata_model.specs.Reaching.Reach.{Leaves, IsLeft}
 use Rattle.hz_acceptance_model.proofs.Accepting.ReplayLaws.{run_of_choices}
 use Rattle.hz_automata_model.proofs.Reaching.PathLaws.{empty_future}
 use Rattle.hz_automata_model.proofs.Reaching.StepLaws.{step_from_leads, leads_from_step, unbroken_step, one_future}
-use Rattle.hz_base_model.specs.Limits.{cycle_limit}
 
 -- the pairs of every alternative stand in cycles below `cycle_limit`
 abbrev pub IsShort : {U : Type 0} → Pipeline U → Type 0

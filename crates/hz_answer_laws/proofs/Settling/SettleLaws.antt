@@ -25,7 +25,6 @@ use Rattle.hz_automata_model.specs.Compiling.CompiledParts.{WalksAccepted, Tells
 use Rattle.hz_block_model.specs.Scheduling.Machines.{Settles}
 use Rattle.hz_answer_laws.proofs.Settling.RunLaws.{IsShort, settled, accepted_settled}
 use Rattle.hz_answer_laws.proofs.Settling.PartLaws.{settles_at_start}
-use Rattle.hz_base_model.specs.Limits.{cycle_limit}
 
 -- ---- alternatives are short
 

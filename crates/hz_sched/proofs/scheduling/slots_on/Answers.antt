@@ -2,7 +2,6 @@ use Rattle.std.proofs.Common.{◌≡◌, ◌*◌, ◌<◌, ◌≤◌, ℕ, List,
 use Rattle.std.proofs.lemmas.List.{length-map}
 use Rattle.hz_tables.specs.Machines.{machine_of}
 use Rattle.hz_replay.specs.Replaying.{Standing}
-use Rattle.hz_block_model.specs.Scheduling.Machines.{most_wait}
 use Rattle.hz_block_model.specs.Scheduling.Schedules.{present, Legal}
 use Rattle.hz_sched.specs.declared.parts.Slot.{Slot}
 use Rattle.hz_sched.specs.Shape.{graph_of, slots_of, node_of}
@@ -13,6 +12,7 @@ use Rattle.hz_sched.proofs.StandLemmas.{is_legal}
 use Rattle.hz_sched.proofs.SchedLemmas.{board_start, all_within, all_soon}
 use Rattle.hz_sched.proofs.scheduling.slots_on.Goals as goal
 use Rattle.hz_automata_model.specs.Tables.Machines.{IsWalked}
+use Rattle.hz_block_model.specs.Scheduling.Machines.{most_wait}
 
 pub loop-turn-init : goal.loop-turn-init
 loop-turn-init g c =

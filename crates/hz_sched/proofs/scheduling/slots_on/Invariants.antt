@@ -1,12 +1,12 @@
 use Rattle.std.proofs.Common.{◌≡◌, ◌+◌, ◌*◌, ◌≤◌, length}
 use Rattle.hz_tables.specs.Machines.{machine_of}
-use Rattle.hz_block_model.specs.Scheduling.Machines.{most_wait}
 use Rattle.hz_block_model.specs.Scheduling.Schedules.{present}
 use Rattle.hz_sched.specs.Shape.{graph_of, slots_of}
 use Rattle.hz_sched.specs.Waits.{issued_at}
 use Rattle.hz_sched.specs.Standing.{left_below}
 use Rattle.hz_sched.specs.Pending.{IsBoard}
 use Rattle.hz_sched.proofs.scheduling.slots_on.Given as goal
+use Rattle.hz_block_model.specs.Scheduling.Machines.{most_wait}
 
 -- each turn issues one instruction
 abbrev pub invariant-loop-turn : goal.invariant-loop-turn

@@ -1,0 +1,10 @@
+pub mod Numbers
+pub mod Held
+pub mod LoadLaws
+pub mod PathLaws
+pub mod ChainLaws
+pub mod WayLaws
+pub mod BoundLaws
+pub mod TotalLaws
+pub mod BlockBounds
+pub mod ListLaws

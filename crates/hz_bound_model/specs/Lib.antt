@@ -1,0 +1,4 @@
+pub mod Paths
+pub mod Loads
+pub mod Bounds
+pub mod Texts

@@ -1,0 +1,10 @@
+use Rattle.std.proofs.Common.{◌≡◌, ◌++◌, take, map}
+use Rattle.hz_duo_model.specs.Joining as model
+use Rattle.hz_depend.specs.GraphShape.{edge_of}
+use Rattle.hz_duo.proofs.joining.edges_of.Given as goal
+
+abbrev pub invariant-loop-edge : goal.invariant-loop-edge
+invariant-loop-edge l = map edge_of l.edges.items ≡ map edge_of (take l.edge-index l.first)
+
+abbrev pub invariant-loop-more : goal.invariant-loop-more
+invariant-loop-more l = map edge_of l.edges.items ≡ map edge_of l.first ++ map (model.raised l.by) (map edge_of (take l.more-index l.second))

@@ -1,0 +1,25 @@
+use Rattle.std.proofs.Common.{ℕ, ◌+◌, ◌<◌, List, length, map, drop, sym, subst, arith}
+use Rattle.std.specs.List.{flat_map}
+use Rattle.hz_io.specs.Sink.{Wrote, Cut}
+use Rattle.hz_io.proofs.Writing.{wrote_then, wrote_then_cut, cut_before}
+use Rattle.hz_io.proofs.PieceTexts.{lines_more, lines_parts}
+use Rattle.hz_duo_model.specs.Texts.{line_of_either}
+use Rattle.hz_sched.specs.Shape.{graph_of}
+use Rattle.hz_duo.specs.declared.parts.DuoSlot.{DuoSlot}
+use Rattle.hz_duo.specs.Shape.{context_slot}
+use Rattle.hz_duo.proofs.ScheduleLemmas.{some_slot}
+use Rattle.hz_duo.proofs.writing.put_slots.Goals as goal
+
+pub loop-slot-preserved : goal.loop-slot-preserved
+loop-slot-preserved g c =
+    let line : DuoSlot → List ℕ = λ x. line_of_either c.args.machine.now.classes.items (map (λ i. i.number) c.args.first.now.insns.items) (map (λ i. i.number) c.args.second.now.insns.items) (graph_of c.args.first.now) (graph_of c.args.second.now) (context_slot x) in
+    let inside : c.loop-slot.slot-index < length c.args.slots.now = omega arith in
+    subst (λ (bytes : List ℕ). Wrote g.S.Sink.written g.S.Sink.room g.S.Sink.faults c.args.out.now c.put_slot.new.out bytes) (sym (lines_more line c.args.slots.now c.loop-slot.slot-index some_slot inside))
+    (wrote_then c.loop-slot.invariant c.in-Ok.ensures)
+
+pub returns-in-Err : goal.returns-in-Err
+returns-in-Err g c =
+    let line : DuoSlot → List ℕ = λ x. line_of_either c.args.machine.now.classes.items (map (λ i. i.number) c.args.first.now.insns.items) (map (λ i. i.number) c.args.second.now.insns.items) (graph_of c.args.first.now) (graph_of c.args.second.now) (context_slot x) in
+    let inside : c.loop-slot.slot-index < length c.args.slots.now = omega arith in
+    subst (λ (bytes : List ℕ). Cut g.S.Sink.written g.S.Sink.room g.S.Sink.faults c.args.out.now c.put_slot.new.out bytes) (sym (lines_parts line c.args.slots.now c.loop-slot.slot-index some_slot inside))
+    (cut_before (flat_map line (drop (c.loop-slot.slot-index + 1) c.args.slots.now)) (wrote_then_cut c.loop-slot.invariant c.in-Err.ensures))

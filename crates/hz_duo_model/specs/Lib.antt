@@ -1,0 +1,4 @@
+pub mod Joining
+pub mod TwoContexts
+pub mod Stuck
+pub mod Texts
