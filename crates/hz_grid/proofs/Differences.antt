@@ -1,13 +1,13 @@
 -- The first unit in which two rows differ, and units above one.
 use Rattle.std.proofs.Common.{◌≡◌, ◌≢◌, ℕ, ◌+◌, ◌-◌, ◌/◌, ◌%◌, ◌^◌, ◌<◌, ◌≤◌, suc, ◌↔◌, IsTrue, nat_lt, nat_eq, sym, ap, ◌∙◌, subst, arith, ⊎_elim}
-use Rattle.std.specs.Int.{bit_at, w128, trailing_zeros}
+use Rattle.std.specs.Int.{bit_at, w64, trailing_zeros}
 use Rattle.std.specs.Int.Bits.{bit_xor}
 use Rattle.std.proofs.lemmas.Bool.{cases_lt, cases_eq}
 use Rattle.std.proofs.lemmas.Bool.Decides.{nat_tests}
 use Rattle.std.proofs.lemmas.Nat.{pow-add, xor_lt}
 use Rattle.std.proofs.Math.Nat.{div-div-eq-div-mul}
 use Rattle.std.proofs.lemmas.Nat.Bits.{bit_at_xor, bit_at-zero, bit_at-lt, bit_at-suc, bit_at_above, bit_at-trailing_zeros, same_from_bits}
-use Rattle.hz_grid.specs.Rows.{has_unit, DifferAt, HasAbove}
+use Rattle.hz_grid.specs.Rows.{has_unit, HasAbove}
 use Rattle.hz_grid.proofs.Units.{HasUnit-from_bit, bit_from_HasUnit, some_unit}
 
 same_unit : (a b unit : ℕ) → bit_at a unit ≡ bit_at b unit → has_unit a unit ≡ has_unit b unit
@@ -39,25 +39,25 @@ xor_some a b differ =
     (λ (n : bit_xor a b ≢ 0). omega arith)
     (cases_eq (bit_xor a b) 0)
 
-pub DifferAt-xor : (a b : ℕ) → a < 2 ^ 128 → b < 2 ^ 128 → a ≢ b → DifferAt a b (trailing_zeros w128 (bit_xor a b))
-DifferAt-xor a b small other_small differ =
-    let found = bit_at-trailing_zeros w128 (bit_xor a b) (xor_some a b differ) (xor_lt 128 a b small other_small) in
-    let place = trailing_zeros w128 (bit_xor a b) in
-    record {
-      below = found.0;
-      here = λ same.
+-- the first bit in which two words differ
+pub first_bit-xor : (a b : ℕ) → a < 2 ^ 64 → b < 2 ^ 64 → a ≢ b → (trailing_zeros w64 (bit_xor a b) < 64) × (has_unit a (trailing_zeros w64 (bit_xor a b)) ≢ has_unit b (trailing_zeros w64 (bit_xor a b))) × ((lower : ℕ) → lower < trailing_zeros w64 (bit_xor a b) → has_unit a lower ≡ has_unit b lower)
+first_bit-xor a b small other_small differ =
+    let found = bit_at-trailing_zeros w64 (bit_xor a b) (xor_some a b differ) (xor_lt 64 a b small other_small) in
+    let place = trailing_zeros w64 (bit_xor a b) in (
+      found.0,
+      (λ same.
           let e = same_bit a b place same in
           let x = bit_at_xor a b place in
           let one = found.1 in
           let bound = bit_at-lt a place in
-          omega arith;
-      lower = λ lower lt. same_unit a b lower (
+          omega arith),
+      λ lower lt. same_unit a b lower (
           let x = bit_at_xor a b lower in
           let none = found.2 lower lt in
           let bound = bit_at-lt a lower in
           let other_bound = bit_at-lt b lower in
-          omega arith);
-    }
+          omega arith),
+    )
 
 bit_at_shifted : (n unit i : ℕ) → bit_at (n / 2 ^ unit) i ≡ bit_at n (unit + i)
 bit_at_shifted n unit i = ap (λ m. m % 2) (div-div-eq-div-mul n (2 ^ unit) (2 ^ i) ∙ ap (λ p. n / p) (sym (pow-add 2 unit i)))
@@ -77,3 +77,9 @@ HasAbove-shifted row unit = (
       (λ (le : row / 2 ^ unit ≤ 1). absurd (omega (arith, bit, bit_at_above (row / 2 ^ unit) 1 (h.0 - unit) (omega arith) (omega (arith, h.1)))))
       (cases_lt 1 (row / 2 ^ unit)),
 )
+
+pub above_from_shift : (row unit : ℕ) → 1 < row / 2 ^ unit → HasAbove row unit
+above_from_shift row unit lt = (HasAbove-shifted row unit).0 (grind (arith, nat_tests))
+
+pub shift_from_above : (row unit : ℕ) → row / 2 ^ unit ≤ 1 → HasAbove row unit → ⊥
+shift_from_above row unit le h = let above : 1 < row / 2 ^ unit = grind (arith, nat_tests, (HasAbove-shifted row unit).1 h) in omega arith

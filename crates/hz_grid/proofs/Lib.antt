@@ -1,9 +1,10 @@
-pub mod Bits
+pub mod Units
+pub mod Differences
+pub mod WordLemmas
+pub mod ShiftLemmas
 pub mod SetLemmas
 pub mod Pairs
 pub mod Steps
-pub mod Units
-pub mod RowsAgain
-pub mod Differences
 pub mod Ordered
+pub mod RowsAgain
 pub mod OrderSteps

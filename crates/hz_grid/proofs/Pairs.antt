@@ -1,13 +1,11 @@
 -- The pairs of rows.
-use Rattle.std.proofs.Common.{◌≡◌, ℕ, ◌+◌, ◌-◌, ◌<◌, ◌≤◌, zero, suc, inl, ⊎_elim, ◌↔◌, IsTrue, Bool, nat_eq, List, [], ◌∷◌, length, get_or, Contains, refl, sym, ap, arith}
+use Rattle.std.proofs.Common.{◌≡◌, ℕ, ◌+◌, ◌-◌, ◌<◌, ◌≤◌, zero, suc, inl, ⊎_elim, ◌↔◌, IsTrue, Bool, List, [], ◌∷◌, length, get_or, Contains, refl, sym, ap, arith}
 use Rattle.std.specs.List.{range_with_len, AllPairs}
-use Rattle.std.specs.Cmp.Lexicographic.{pointwise}
 use Rattle.std.proofs.lemmas.Bool.{cases_lt}
-use Rattle.std.proofs.lemmas.Bool.Decides.{same_from_decides, Decides-eqb}
+use Rattle.std.proofs.lemmas.Bool.Decides.{same_from_decides}
 use Rattle.std.proofs.lemmas.List.{get_or_past, ext_get_or}
 use Rattle.std.proofs.lemmas.List.Elements.{Contains-append_left, Contains-append_right, Contains-append_cases, Contains-get_or}
 use Rattle.std.proofs.lemmas.List.Kept.{AllPairs-filter}
-use Rattle.std.proofs.lemmas.Slice.Eq.{slice_eq-Decides}
 use Rattle.hz_base_model.specs.Pairs.{Pair, precedes_by, IsAscendingBy, grid_eq, SamePairs}
 use Rattle.hz_grid.specs.Rows.{has_unit, HasUnit}
 use Rattle.hz_grid.specs.Grids.{Holds, IsGrid}
@@ -21,26 +19,26 @@ use Rattle.std.specs.Ordering.{nat_cmp}
 
 -- ---- the units of one row
 
-Contains-units_of : (row unit : ℕ) → unit < 128 → HasUnit row unit → Contains (units_of row) unit
+Contains-units_of : (row unit : ℕ) → unit < 256 → HasUnit row unit → Contains (units_of row) unit
 unfolding units_of
-Contains-units_of row unit small h = Contains-filter (has_unit row) unit h (range_with_len 0 128) (Contains-range 128 unit small)
+Contains-units_of row unit small h = Contains-filter (has_unit row) unit h (range_with_len 0 256) (Contains-range 256 unit small)
 
-unit_from_units_of : (row unit : ℕ) → Contains (units_of row) unit → (unit < 128) × HasUnit row unit
+unit_from_units_of : (row unit : ℕ) → Contains (units_of row) unit → (unit < 256) × HasUnit row unit
 unfolding units_of
 unit_from_units_of row unit h =
-    let both = Contains-from_filter (has_unit row) unit (range_with_len 0 128) h in
-    (Contains-from_range 128 unit both.0, both.1)
+    let both = Contains-from_filter (has_unit row) unit (range_with_len 0 256) h in
+    (Contains-from_range 256 unit both.0, both.1)
 
 AllPairs-units_of : (row : ℕ) → AllPairs (λ a b. a < b) (units_of row)
 unfolding units_of
-AllPairs-units_of row = AllPairs-filter (λ a b. a < b) (has_unit row) (range_with_len 0 128) (AllPairs-range 128)
+AllPairs-units_of row = AllPairs-filter (λ a b. a < b) (has_unit row) (range_with_len 0 256) (AllPairs-range 256)
 
 -- ---- the pairs of one row
 
 abbrev in_cycle : ℕ → ℕ → Pair ℕ
 in_cycle cycle unit = record { unit = unit; cycle = cycle }
 
-pair_from_row : (cycle row : ℕ) (p : Pair ℕ) → Contains (row_pairs cycle row) p → (p.cycle ≡ cycle) × (p.unit < 128) × HasUnit row p.unit
+pair_from_row : (cycle row : ℕ) (p : Pair ℕ) → Contains (row_pairs cycle row) p → (p.cycle ≡ cycle) × (p.unit < 256) × HasUnit row p.unit
 pair_from_row cycle row p h =
     let found = Contains-from_map (in_cycle cycle) (units_of row) p h in
     let unit = unit_from_units_of row found.0 found.1 in
@@ -49,7 +47,7 @@ pair_from_row cycle row p h =
 
 -- ---- the pairs of rows
 
-pub Holds-pairs_from : (start : ℕ) (rows : List ℕ) (unit cycle : ℕ) → unit < 128 → IsSet rows unit cycle → Holds (pairs_from start rows) unit (start + cycle)
+pub Holds-pairs_from : (start : ℕ) (rows : List ℕ) (unit cycle : ℕ) → unit < 256 → IsSet rows unit cycle → Holds (pairs_from start rows) unit (start + cycle)
 Holds-pairs_from start [] unit cycle small h = absurd (HasUnit-zero unit h)
 Holds-pairs_from start (row ∷ rows) unit zero small h =
     let e : start + 0 ≡ start = omega arith in
@@ -58,7 +56,7 @@ Holds-pairs_from start (row ∷ rows) unit (suc cycle) small h =
     let e : start + suc cycle ≡ (start + 1) + cycle = omega arith in
     rw e (Contains-append_right (row_pairs start row) (pairs_from (start + 1) rows) _ (Holds-pairs_from (start + 1) rows unit cycle small h))
 
-pub set_from_pairs : (start : ℕ) (rows : List ℕ) (p : Pair ℕ) → Contains (pairs_from start rows) p → (cycle : ℕ) × (p.cycle ≡ start + cycle) × (p.unit < 128) × IsSet rows p.unit cycle
+pub set_from_pairs : (start : ℕ) (rows : List ℕ) (p : Pair ℕ) → Contains (pairs_from start rows) p → (cycle : ℕ) × (p.cycle ≡ start + cycle) × (p.unit < 256) × IsSet rows p.unit cycle
 set_from_pairs start [] p h = absurd (Contains-nil p h)
 set_from_pairs start (row ∷ rows) p h =
     ⊎_elim
@@ -146,16 +144,15 @@ rows_from_pairs a b is_a is_b e =
     ))
 
 -- grids are equal where their rows are
-pub same_from_rows : (a b : List ℕ) → IsRows a → IsRows b → (r : Bool) → r ≡ pointwise nat_eq a b → IsTrue r ↔ (pairs_from 0 a ≡ pairs_from 0 b)
-same_from_rows a b is_a is_b r e =
-    let rows = slice_eq-Decides Decides-eqb a b r e in
+pub same_from_rows : (a b : List ℕ) → IsRows a → IsRows b → (r : Bool) → IsTrue r ↔ (a ≡ b) → IsTrue r ↔ (pairs_from 0 a ≡ pairs_from 0 b)
+same_from_rows a b is_a is_b r rows =
     (λ t. ap (pairs_from 0) (rows.0 t), λ same. rows.1 (rows_from_pairs a b is_a is_b same))
 
-pub grid_eq-rows : (a b : List ℕ) → IsRows a → IsRows b → (r : Bool) → r ≡ pointwise nat_eq a b → r ≡ grid_eq (pairs_from 0 a) (pairs_from 0 b)
+pub grid_eq-rows : (a b : List ℕ) → IsRows a → IsRows b → (r : Bool) → IsTrue r ↔ (a ≡ b) → r ≡ grid_eq (pairs_from 0 a) (pairs_from 0 b)
 grid_eq-rows a b is_a is_b r e =
     same_from_decides r _ (same_from_rows a b is_a is_b r e) (grid_eq-Decides (pairs_from 0 a) (pairs_from 0 b))
 
-pub sets_from_rows : (a b : List ℕ) → IsRows a → IsRows b → (r : Bool) → r ≡ pointwise nat_eq a b → IsTrue r ↔ SamePairs (pairs_from 0 a) (pairs_from 0 b)
+pub sets_from_rows : (a b : List ℕ) → IsRows a → IsRows b → (r : Bool) → IsTrue r ↔ (a ≡ b) → IsTrue r ↔ SamePairs (pairs_from 0 a) (pairs_from 0 b)
 sets_from_rows a b is_a is_b r e =
     let equal = same_from_rows a b is_a is_b r e in (
       λ t p. let same = equal.0 t in (λ h. rw same at h, λ h. rw same h),

@@ -76,7 +76,7 @@ has_pair-Holds pairs cycle unit = (
 row_in-pairs_from : (rows : List ℕ) → IsRows rows → (cycle : ℕ) → row_in (pairs_from 0 rows) cycle ≡ get_or rows cycle 0
 unfolding row_in
 row_in-pairs_from rows is cycle = same_from_units _ _ (λ unit.
-    let bits = HasUnit-number_of (has_pair (pairs_from 0 rows) cycle) 128 unit in
+    let bits = HasUnit-number_of (has_pair (pairs_from 0 rows) cycle) 256 unit in
     let held = has_pair-Holds (pairs_from 0 rows) cycle unit in
     let set = Holds-rows rows is unit cycle in
     (λ h. set.0 (held.0 (bits.0 h).1), λ h. bits.1 (is.units unit cycle h, held.1 (set.1 h))))

@@ -35,7 +35,7 @@ IsRows-drop rows is =
           is.trimmed (omega arith) (λ unit h. none unit ((IsSet-drop rows unit (length (drop 1 rows) - 1)).1 (rw last h)));
     }
 
-pub IsRows-gains : (unit cycle : ℕ) (old rows : List ℕ) → IsRows old → unit < 128 → cycle < 256 → length rows ≡ max (length old) (cycle + 1) → GainsUnit unit cycle old rows → IsRows rows
+pub IsRows-gains : (unit cycle : ℕ) (old rows : List ℕ) → IsRows old → unit < 256 → cycle < 512 → length rows ≡ max (length old) (cycle + 1) → GainsUnit unit cycle old rows → IsRows rows
 IsRows-gains unit cycle old rows is small early long gains = record {
   units = λ other place h. ⊎_elim
       (is.units other place)
@@ -189,3 +189,27 @@ HasUnit-row rows is cycle none row unit empty e =
       λ h. absurd (HasUnit-zero unit (rw (get_or_past rows cycle 0 past) at (holds.0 h))),
     ))
     (cases_lt cycle (length rows))
+
+-- the rows of both are those of a grid
+pub IsRows-joined : (first second rows : List ℕ) → IsRows first → IsRows second → length rows ≡ max (length first) (length second) → IsJoined first second rows → IsRows rows
+IsRows-joined first second rows is other long joined = record {
+  units = λ unit cycle h. ⊎_elim (is.units unit cycle) (other.units unit cycle) ((joined unit cycle).0 h);
+  cycles = omega (arith, is.cycles, other.cycles);
+  trimmed = λ some none. ⊎_elim
+      (λ (lt : length first < length second).
+      let last : length rows - 1 ≡ length second - 1 = omega arith in
+      other.trimmed (omega arith) (λ unit h. none unit (rw last ((joined unit (length second - 1)).1 (inr h)))))
+      (λ (le : length second ≤ length first).
+      let last : length rows - 1 ≡ length first - 1 = omega arith in
+      is.trimmed (omega arith) (λ unit h. none unit (rw last ((joined unit (length first - 1)).1 (inl h)))))
+      (cases_lt (length first) (length second));
+}
+
+-- the same units, and those of others
+pub IsJoined-after : (first second middle rows : List ℕ) → HasSameUnits first middle → IsJoined middle second rows → IsJoined first second rows
+IsJoined-after first second middle rows same joined unit cycle = (
+  λ h. ⊎_elim (λ (k : IsSet middle unit cycle). inl ((same unit cycle).0 k)) inr ((joined unit cycle).0 h),
+  ⊎_elim
+      (λ (k : IsSet first unit cycle). (joined unit cycle).1 (inl ((same unit cycle).1 k)))
+      (λ (k : IsSet second unit cycle). (joined unit cycle).1 (inr k)),
+)

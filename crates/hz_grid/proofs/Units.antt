@@ -1,6 +1,6 @@
 -- What the bits of a row say of its units.
 use Rattle.std.proofs.Common.{◌≡◌, ◌≢◌, ℕ, ◌<◌, ◌≤◌, ◌*◌, ◌/◌, ◌%◌, ◌^◌, zero, suc, ◌↔◌, ◌⊎◌, inl, inr, ⊎_elim, IsTrue, nat_eq, not, bit_and, bit_or, sym, ap, ◌∙◌, arith, eq-eqb}
-use Rattle.std.specs.Int.{bit_at, w128}
+use Rattle.std.specs.Int.{bit_at, w64}
 use Rattle.std.proofs.lemmas.Bool.{eqb-true, cases_eq, cases_lt}
 use Rattle.std.proofs.lemmas.Nat.Bits.{bit_at-zero, bit_at-lt, bit_at_or, bit_at_and, bit_at_above, bit_at-suc, bit_at_lowest, bit_at_set_same, bit_at_set_other, same_from_bits, shr_and_one}
 use Rattle.std.proofs.lemmas.Nat.{or_lt}
@@ -49,9 +49,9 @@ HasUnit-and a b unit =
     )
 
 -- a row has units below its width alone
-pub HasUnit-below : (row unit : ℕ) → row < 2 ^ 128 → HasUnit row unit → unit < 128
+pub HasUnit-below : (row unit : ℕ) → row < 2 ^ 64 → HasUnit row unit → unit < 64
 HasUnit-below row unit small h =
-    ⊎_elim (λ (l : unit < 128). l) (λ (g : 128 ≤ unit). absurd (omega (arith, bit_at_above row 128 unit small g, bit_from_HasUnit row unit h))) (cases_lt unit 128)
+    ⊎_elim (λ (l : unit < 64). l) (λ (g : 64 ≤ unit). absurd (omega (arith, bit_at_above row 64 unit small g, bit_from_HasUnit row unit h))) (cases_lt unit 64)
 
 -- rows with the same units are equal
 pub same_from_units : (a b : ℕ) → ((unit : ℕ) → HasUnit a unit ↔ HasUnit b unit) → a ≡ b
@@ -82,15 +82,15 @@ some_unit row some =
 
 -- ---- the calls
 
-pub HasUnit-set : (row k unit : ℕ) → k < 128 → HasUnit (bit_or row (1 * 2 ^ k % 2 ^ 128)) unit ↔ (HasUnit row unit ⊎ (unit ≡ k))
+pub HasUnit-set : (row k unit : ℕ) → k < 64 → HasUnit (bit_or row (1 * 2 ^ k % 2 ^ 64)) unit ↔ (HasUnit row unit ⊎ (unit ≡ k))
 HasUnit-set row k unit small = (
   λ h. ⊎_elim
       (λ (e : unit ≡ k). inr e)
-      (λ (n : unit ≢ k). inl (HasUnit-from_bit row unit (sym (bit_at_set_other w128 row k small unit n) ∙ bit_from_HasUnit _ unit h)))
+      (λ (n : unit ≢ k). inl (HasUnit-from_bit row unit (sym (bit_at_set_other w64 row k small unit n) ∙ bit_from_HasUnit _ unit h)))
       (cases_eq unit k),
   ⊎_elim
       (λ (h : HasUnit row unit). (HasUnit-or row _ unit).1 (inl h))
-      (λ (e : unit ≡ k). HasUnit-from_bit _ unit (ap (λ u. bit_at (bit_or row (1 * 2 ^ k % 2 ^ 128)) u) e ∙ bit_at_set_same w128 row k small)),
+      (λ (e : unit ≡ k). HasUnit-from_bit _ unit (ap (λ u. bit_at (bit_or row (1 * 2 ^ k % 2 ^ 64)) u) e ∙ bit_at_set_same w64 row k small)),
 )
 
 pub HasUnit-shr : (row unit : ℕ) → IsTrue (nat_eq (bit_and (row / 2 ^ unit) 1) 1) ↔ HasUnit row unit
@@ -120,8 +120,26 @@ within_is a b = (
   ))),
 )
 
+pub meet_from_and : (a b : ℕ) → (bit_and a b ≡ 0 → ⊥) → RowsMeet a b
+meet_from_and a b some =
+    let found = some_unit (bit_and a b) (omega (arith, some)) in
+    let both = (HasUnit-and a b found.0).0 found.1 in
+    (found.0, both.0, both.1)
+
+pub apart_from_and : (a b : ℕ) → bit_and a b ≡ 0 → RowsMeet a b → ⊥
+apart_from_and a b none m = HasUnit-zero m.0 (rw none at ((HasUnit-and a b m.0).1 (m.1, m.2)))
+
+pub within_from_or : (a b : ℕ) → bit_or a b ≡ b → IsWithin a b
+within_from_or a b e unit h = rw e at ((HasUnit-or a b unit).1 (inl h))
+
+pub or_from_within : (a b : ℕ) → IsWithin a b → bit_or a b ≡ b
+or_from_within a b w = same_from_units _ b (λ unit. (
+  λ h. ⊎_elim (w unit) (λ (k : HasUnit b unit). k) ((HasUnit-or a b unit).0 h),
+  λ h. (HasUnit-or a b unit).1 (inr h),
+))
+
 -- the union of two rows is a row
-pub or_of_rows : (a b : ℕ) → a < 2 ^ 128 → b < 2 ^ 128 → bit_or a b < 2 ^ 128
-or_of_rows a b = or_lt 128 a b
+pub or_of_rows : (a b : ℕ) → a < 2 ^ 64 → b < 2 ^ 64 → bit_or a b < 2 ^ 64
+or_of_rows a b = or_lt 64 a b
 
 pub ruleset units = (or_of_rows, HasUnit-zero, HasUnit-or, HasUnit-set, HasUnit-shr, HasUnit-below, meets_is, within_is)

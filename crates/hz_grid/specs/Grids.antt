@@ -4,7 +4,7 @@ use Rattle.std.specs.Cmp.{IsEquivalence, nat_eq_equiv, on_equiv, and_equiv}
 use Rattle.std.specs.Ordering.{nat_cmp}
 use Rattle.hz_base_model.specs.Pairs.{Pair, later, IsAscendingBy, grid_eq}
 use Rattle.hz_grid.specs.declared.rows.TheConstants.{UNITS}
-use Rattle.hz_grid.specs.declared.grids.TheConstants.{CYCLES}
+use Rattle.hz_grid.specs.declared.grid_of.TheConstants.{CYCLES}
 
 -- the grid has the pair of that unit and cycle
 abbrev pub Holds : List (Pair ℕ) → ℕ → ℕ → Type 0
@@ -35,3 +35,10 @@ IsAdvanced old new = (p : Pair ℕ) → Contains new p ↔ Contains old (later 1
 -- `==` on grids is an equivalence
 pub grid_eq-laws : IsEquivalence grid_eq
 grid_eq-laws = lists_equiv (and_equiv (on_equiv (λ (p : Pair ℕ). p.unit) nat_eq_equiv) (on_equiv (λ (p : Pair ℕ). p.cycle) nat_eq_equiv))
+
+-- The same two, told as one fact of grids of two widths.
+pub record Unites (first second union : List (Pair ℕ)) : Type 0 where
+  pub pairs : IsUnion first second union
+
+pub record Advances (old new : List (Pair ℕ)) : Type 0 where
+  pub pairs : IsAdvanced old new

@@ -5,6 +5,7 @@ use Rattle.std.specs.Hash as fed
 use Rattle.hz_base_model.specs.Pairs.{Pair, same_pair, grid_eq}
 pub use Rattle.hz_base_model.proofs.PairOrder.{grid_eq-Decides}
 use Rattle.hz_grid.specs.declared.rows.TheConstants.{UNITS}
+use Rattle.hz_grid.specs.Words.{fed_row}
 
 -- a bit
 abbrev pub bit_of : Bool → ℕ
@@ -35,7 +36,7 @@ rows_in pairs = map (row_in pairs) (range_with_len 0 (cycles_in pairs))
 
 -- what is fed for a grid: how many rows, and each of them
 abbrev pub fed_for : List (Pair ℕ) → fed.HashWrites
-fed_for pairs = fed.slice fed.u128 (rows_in pairs)
+fed_for pairs = fed.slice fed_row (rows_in pairs)
 
 -- equal grids are fed alike
 pub same_grids_are_fed_alike : fed.Alike grid_eq fed_for

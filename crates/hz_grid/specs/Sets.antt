@@ -1,13 +1,13 @@
 -- Sets of cycles.
-use Rattle.std.specs.Prelude.{◌≡◌, ℕ, ◌+◌, ◌-◌, ◌*◌, ◌<◌, Bool, ◌==◌, ◌&&◌, nat_lt, if◌then◌else◌, IsTrue}
-use Rattle.std.specs.Int.{bit_at}
+use Rattle.std.specs.Prelude.{◌≡◌, ℕ, ◌+◌, ◌*◌, ◌<◌, Bool, ◌&&◌, nat_lt, IsTrue}
 use Rattle.hz_base_model.specs.Limits.{cycle_limit}
 use Rattle.hz_grid.specs.declared.cycles.Cycles.{Cycles}
+use Rattle.hz_grid.specs.Rows.{has_unit}
+use Rattle.hz_grid.specs.Words.{row_of}
 
--- A cycle up to 127 is in the set where its bit of the early word is 1; one from 128 to 255, where its bit of the late
--- word is, of which the lowest is that of cycle 128.
+-- A cycle below the limit is in the set where its bit is 1, of the number that the words make.
 unfoldable pub has_cycle : Cycles → ℕ → Bool
-has_cycle cycles cycle = if nat_lt cycle 128 then bit_at cycles.early cycle == 1 else (nat_lt cycle cycle_limit && bit_at cycles.late (cycle - 128) == 1)
+has_cycle cycles cycle = nat_lt cycle cycle_limit && has_unit (row_of cycles.words) cycle
 
 -- the cycle is in the set
 abbrev pub HasCycle : Cycles → ℕ → Type 0

@@ -3,7 +3,7 @@ use Rattle.std.specs.Prelude.{◌≡◌, ◌↔◌, ◌⊎◌, ℕ, ◌+◌, ◌
 use Rattle.std.specs.List.{range_with_len}
 use Rattle.hz_base_model.specs.Pairs.{Pair}
 use Rattle.hz_grid.specs.declared.rows.TheConstants.{UNITS}
-use Rattle.hz_grid.specs.declared.grids.TheConstants.{CYCLES}
+use Rattle.hz_grid.specs.declared.grid_of.TheConstants.{CYCLES}
 use Rattle.hz_grid.specs.Rows.{has_unit, HasUnit}
 
 -- the unit is in the row of that cycle; no unit is past the last row
@@ -48,3 +48,8 @@ GainsUnit unit cycle old new = (other place : ℕ) → IsSet new other place ↔
 -- in each cycle the units of both, and no others
 abbrev pub IsJoined : List ℕ → List ℕ → List ℕ → Type 0
 IsJoined first second rows = (unit cycle : ℕ) → IsSet rows unit cycle ↔ (IsSet first unit cycle ⊎ IsSet second unit cycle)
+
+-- the rows of a grid, of so many words each
+pub record IsGridOf (many : ℕ) (all : List ℕ) : Type 0 where
+  pub few : many ≤ 4
+  pub rows : IsRows all

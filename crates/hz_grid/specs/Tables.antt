@@ -1,5 +1,5 @@
 -- Reservation tables: in which cycles units are taken.
-use Rattle.std.specs.Prelude.{ℕ, ◌+◌, ◌*◌, ◌<◌, List, slice_index_or}
+use Rattle.std.specs.Prelude.{ℕ, ◌+◌, ◌*◌, ◌<◌, List, [], slice_index_or}
 use Rattle.hz_base_model.specs.Limits.{automaton_limit, unit_limit}
 use Rattle.hz_grid.specs.declared.cycles.Cycles.{Cycles}
 use Rattle.hz_grid.specs.Sets.{HasCycle}
@@ -10,7 +10,7 @@ row_of automaton unit = automaton * unit_limit + unit
 
 -- the cycles of a row
 abbrev pub row_at : List Cycles → ℕ → Cycles
-row_at rows row = slice_index_or rows row (record { early = 0; late = 0 })
+row_at rows row = slice_index_or rows row (record { words = [] })
 
 -- the unit of the automaton is taken in the cycle
 pub record IsTaken (rows : List Cycles) (automaton unit cycle : ℕ) : Type 0 where

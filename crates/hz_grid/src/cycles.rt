@@ -3,17 +3,16 @@ ghost use Rattle.std.specs.Prelude.{◌≡◌, ◌↔◌, ◌⊎◌, ◌+◌, �
 ghost use Rattle.hz_base_model.specs.Limits.{cycle_limit};
 ghost use Rattle.hz_grid.specs.Sets.{HasCycle, IsLater, IsCopied};
 
+use crate::shifting::raise;
+use crate::words;
+
 // How many cycles there are: a cycle's number is below it.
-const CYCLES: u32 = 256;
+const CYCLES: u32 = 512;
 
-// How many cycles stand in one word.
-const WORD: u32 = 128;
-
-/// A set of cycles from 0 to 255.
+/// A set of cycles from 0 to 511, a word for 64 of them.
 #[derive(Clone, Copy, PartialEq, Eq, Debug)]
 pub struct Cycles {
-    early: u128,
-    late: u128,
+    words: [u64; 8],
 }
 
 impl Cycles {
@@ -21,7 +20,7 @@ impl Cycles {
     pub fn none() -> Cycles
         ensures { (cycle : ℕ) → ¬ HasCycle result cycle }
     {
-        Cycles { early: 0, late: 0 }
+        Cycles { words: [0; 8] }
     }
 
     /// The set with that cycle too.
@@ -29,70 +28,49 @@ impl Cycles {
         requires { cycle < cycle_limit }
         ensures { (other : ℕ) → HasCycle result other ↔ (HasCycle self other ⊎ (other ≡ cycle)) }
     {
-        if cycle < WORD {
-            Cycles {
-                early: self.early | 1 << cycle,
-                late: self.late,
-            }
-        } else {
-            Cycles {
-                early: self.early,
-                late: self.late | 1 << (cycle - WORD),
-            }
-        }
+        let mut words = self.words;
+        words::add(&mut words, cycle as usize);
+        Cycles { words }
     }
 
-    /// Whether the cycle is in the set: none from 256 on is.
+    /// Whether the cycle is in the set: none from 512 on is.
     pub fn holds(self, cycle: u32) -> bool
         ensures { IsTrue result ↔ HasCycle self cycle }
     {
-        if cycle < WORD {
-            self.early >> cycle & 1 == 1
-        } else {
-            cycle < CYCLES && self.late >> (cycle - WORD) & 1 == 1
-        }
+        cycle < CYCLES && words::holds(&self.words, cycle as usize)
     }
 
     /// Whether no cycle is in the set.
     pub fn is_empty(self) -> bool
         ensures { IsTrue result ↔ ((cycle : ℕ) → ¬ HasCycle self cycle) }
     {
-        self.early | self.late == 0
+        words::is_empty(&self.words)
     }
 
     /// The cycles of both sets.
     pub fn join(self, other: Cycles) -> Cycles
         ensures { (cycle : ℕ) → HasCycle result cycle ↔ (HasCycle self cycle ⊎ HasCycle other cycle) }
     {
-        Cycles {
-            early: self.early | other.early,
-            late: self.late | other.late,
-        }
+        let mut words = self.words;
+        words::join(&mut words, &other.words);
+        Cycles { words }
     }
 
-    /// The same cycles, so many later. What would come behind cycle 255 is dropped.
+    /// The same cycles, so many later. What would come after cycle 511 is dropped.
     pub fn later(self, cycles: u32) -> Cycles
         ensures { (cycle : ℕ) → HasCycle result cycle ↔ IsLater self cycles cycle }
     {
-        if cycles == 0 {
-            self
-        } else if cycles < WORD {
-            Cycles {
-                early: self.early << cycles,
-                late: self.late << cycles | self.early >> (WORD - cycles),
-            }
-        } else if cycles < CYCLES {
-            Cycles {
-                early: 0,
-                late: self.early << (cycles - WORD),
-            }
+        if cycles < CYCLES {
+            let mut words = [0; 8];
+            raise(&self.words, cycles as usize, &mut words);
+            Cycles { words }
         } else {
             Cycles::none()
         }
     }
 
-    /// The cycles of so many copies of the set, each so many cycles behind the one before. What would come behind cycle
-    /// 255 is dropped.
+    /// The cycles of so many copies of the set, each so many cycles after the one before. What would come after cycle 511
+    /// is dropped.
     pub fn copies(self, times: u32, apart: u32) -> Cycles
         ensures { (cycle : ℕ) → HasCycle result cycle ↔ IsCopied self times apart cycle }
     {

@@ -1,39 +1,138 @@
-//! A grid: the pairs of a unit and a cycle that are reserved, with the cycles counted from the present one.
-ghost use Rattle.std.specs.Prelude.{◌≡◌, ◌↔◌, ◌<◌, ◌≤◌, ◌-◌, ℕ, [], length, drop, max, All, IsTrue, IfOk, OnOk, vec_len};
+//! A grid: the pairs of a unit and a cycle that are reserved, with the cycles counted from the present one, in rows of the
+//! width that its units need.
+ghost use Rattle.std.specs.Prelude.{◌≡◌, ◌↔◌, ◌<◌, ◌-◌, ℕ, [], All, IsTrue, IfOk};
 ghost use Rattle.hz_grid.specs.Rows.{HasUnit};
-ghost use Rattle.hz_grid.specs.Grids.{Holds, IsGrid, HoldsJust, Meets, IsUnion, IsAdvanced};
-ghost use Rattle.hz_grid.specs.Stored.{IsRows, HasJust, HasSameUnits, GainsUnit, ShareUnit, IsJoined};
+ghost use Rattle.hz_grid.specs.Grids.{Holds, IsGrid, HoldsJust, Meets, IsUnion, IsAdvanced, Unites, Advances};
+ghost use Rattle.hz_grid.specs.Widths.{pairs_of, AreBelow, IsLeast};
 
-use crate::order::order;
+use crate::grid_of::{CYCLES, GridOf, NoMemory};
 use crate::rows::{Row, UNITS};
 use std::alloc::Global;
 use std::cmp::Ordering;
 use std::hash::{Hash, Hasher};
 use std::marker::Model;
 
-/// No memory was left for the answer.
-pub use std::alloc::AllocError as NoMemory;
-
-/// How many cycles a grid may have: a pair's cycle is below it.
-pub const CYCLES: usize = 256;
-
 /// A set of pairs (unit, cycle), with units below `UNITS` and cycles below `CYCLES`.
 /// It is equal to another grid exactly where the sets are.
-#[derive(Drop, Debug)]
+#[derive(Drop)]
 pub struct Grid {
-    rows: Vec<Row>,
+    width: Width,
+}
+
+/// A grid whose rows have one word, two or four.
+#[derive(Drop)]
+pub(crate) enum Width {
+    One(GridOf<1>),
+    Two(GridOf<2>),
+    Four(GridOf<4>),
 }
 
 impl Model for Grid {
     ghost use Rattle.std.specs.Prelude.{List, ℕ};
     ghost use Rattle.hz_base_model.specs.Pairs.{Pair};
-    ghost use Rattle.hz_grid.specs.Stored.{pairs_from, IsRows};
+    ghost use Rattle.hz_grid.specs.Grids.{IsGrid};
+    ghost use Rattle.hz_grid.specs.Widths.{pairs_of};
 
     ghost Value = { List (Pair ℕ) };
 
-    ghost view = { λ grid. pairs_from 0 grid.rows.items };
+    ghost view = { λ grid. pairs_of grid.width };
 
-    ghost invariant = { λ grid. IsRows grid.rows.items };
+    ghost invariant = { λ grid. IsGrid (pairs_of grid.width) };
+}
+
+// What is done with a grid, whatever its width.
+macro_rules! in_width {
+    ($width:expr, $grid:ident => $body:expr) => {
+        match $width {
+            Width::One($grid) => $body,
+            Width::Two($grid) => $body,
+            Width::Four($grid) => $body,
+        }
+    };
+}
+
+// What is made of a grid, of the same width.
+macro_rules! of_width {
+    ($width:expr, $grid:ident => $body:expr) => {
+        match $width {
+            Width::One($grid) => Width::One($body),
+            Width::Two($grid) => Width::Two($body),
+            Width::Four($grid) => Width::Four($body),
+        }
+    };
+}
+
+impl Width {
+    // The grid of these pairs, of the least width.
+    fn of(alloc: Global, pairs: &[(u8, u16)]) -> Result<Width, NoMemory>
+        requires units { All (λ pair. pair.0 < UNITS) pairs.now }
+        requires cycles { All (λ pair. pair.1 < CYCLES) pairs.now }
+        ensures grid { IfOk result (λ width. IsGrid (pairs_of width)) }
+        ensures pairs { IfOk result (λ width. HoldsJust pairs.now (pairs_of width)) }
+        ensures least { IfOk result (IsLeast pairs.now) }
+    {
+        if are_below(pairs, 64) {
+            return Ok(Width::One(GridOf::of(alloc, pairs)?));
+        }
+        if are_below(pairs, 128) {
+            return Ok(Width::Two(GridOf::of(alloc, pairs)?));
+        }
+        Ok(Width::Four(GridOf::of(alloc, pairs)?))
+    }
+
+    // The grid with the pairs of both, of the greater width.
+    fn with(&self, alloc: Global, other: &Width) -> Result<Width, NoMemory>
+        ensures grid { IfOk result (λ width. IsGrid (pairs_of width)) }
+        ensures pairs { IfOk result (λ width. Unites (pairs_of self.now) (pairs_of other.now) (pairs_of width)) }
+    {
+        match self {
+            Width::One(first) => match other {
+                Width::One(second) => Ok(Width::One(first.with(alloc, second)?)),
+                Width::Two(second) => Ok(Width::Two(first.with(alloc, second)?)),
+                Width::Four(second) => Ok(Width::Four(first.with(alloc, second)?)),
+            },
+            Width::Two(first) => match other {
+                Width::One(second) => Ok(Width::Two(first.with(alloc, second)?)),
+                Width::Two(second) => Ok(Width::Two(first.with(alloc, second)?)),
+                Width::Four(second) => Ok(Width::Four(first.with(alloc, second)?)),
+            },
+            Width::Four(first) => match other {
+                Width::One(second) => Ok(Width::Four(first.with(alloc, second)?)),
+                Width::Two(second) => Ok(Width::Four(first.with(alloc, second)?)),
+                Width::Four(second) => Ok(Width::Four(first.with(alloc, second)?)),
+            },
+        }
+    }
+
+    // Whether both have the same pairs, whatever their widths.
+    fn same(&self, other: &Width) -> bool
+        ensures { IsTrue result ↔ (pairs_of self.now ≡ pairs_of other.now) }
+    {
+        in_width!(self, first => in_width!(other, second => first.same(second)))
+    }
+
+    // Goes one cycle on.
+    fn advance(&mut self)
+        ensures grid { IsGrid (pairs_of self.new) }
+        ensures pairs { Advances (pairs_of self.old) (pairs_of self.new) }
+    {
+        in_width!(self, grid => grid.advance())
+    }
+
+    // One more than the greatest cycle of a pair, and 0 for the grid with no pair.
+    fn length(&self) -> u16
+        ensures above { (unit cycle : ℕ) → Holds (pairs_of self.now) unit cycle → cycle < result }
+        ensures reached { 0 < result → (unit : ℕ) × Holds (pairs_of self.now) unit (result - 1) }
+    {
+        in_width!(self, grid => grid.length())
+    }
+}
+
+// Whether the units of these pairs are below a number.
+fn are_below(pairs: &[(u8, u16)], most: u8) -> bool
+    ensures { IsTrue result ↔ AreBelow most pairs.now }
+{
+    pairs.iter().all(|pair| pair.0 < most)
 }
 
 impl Grid {
@@ -43,7 +142,7 @@ impl Grid {
         ensures grid { IsGrid result }
     {
         Grid {
-            rows: Vec::new(alloc),
+            width: Width::One(GridOf::empty(alloc)),
         }
     }
 
@@ -55,7 +154,7 @@ impl Grid {
         ensures pairs { IfOk result (HoldsJust pairs.now) }
     {
         Ok(Grid {
-            rows: rows_of(alloc, pairs)?,
+            width: Width::of(alloc, pairs)?,
         })
     }
 
@@ -65,7 +164,7 @@ impl Grid {
         ensures grid { IsGrid self.now }
         ensures other { IsGrid other.now }
     {
-        share_unit(&self.rows, &other.rows)
+        in_width!(&self.width, first => in_width!(&other.width, second => first.meets(second)))
     }
 
     /// The grid with the pairs of both.
@@ -75,7 +174,7 @@ impl Grid {
         ensures pairs { IfOk result (IsUnion self.now other.now) }
     {
         Ok(Grid {
-            rows: joined(alloc, &self.rows, &other.rows)?,
+            width: self.width.with(alloc, &other.width)?,
         })
     }
 
@@ -84,9 +183,8 @@ impl Grid {
         ensures grid { IfOk result IsGrid }
         ensures same { IfOk result (λ grid. grid ≡ self.now) }
     {
-        Ok(Grid {
-            rows: Vec::from_slice(alloc, &self.rows)?,
-        })
+        let width = of_width!(&self.width, grid => grid.copy(alloc)?);
+        Ok(Grid { width })
     }
 
     /// Goes one cycle on: the pairs of cycle 0 are dropped, and the others' cycles are lowered by one.
@@ -95,7 +193,7 @@ impl Grid {
         ensures grid { IsGrid self.new }
         ensures pairs { IsAdvanced self.old self.new }
     {
-        drop_first(&mut self.rows);
+        self.width.advance();
     }
 
     /// One more than the greatest cycle of a pair, and 0 for the grid with no pair. It takes no memory.
@@ -104,24 +202,28 @@ impl Grid {
         ensures reached { 0 < result → (unit : ℕ) × Holds self.now unit (result - 1) }
         ensures grid { IsGrid self.now }
     {
-        self.rows.len() as u16
+        self.width.length()
     }
 
     /// What holds of every grid: its pairs ascend by cycle and unit, which are in their range. It does nothing.
     pub fn kept(&self)
         ensures { IsGrid self.now }
     {
-        let _ = &self.rows;
+        let _ = &self.width;
     }
 
     /// The units of the pairs of that cycle: none past the greatest one. It takes no memory.
-    pub fn row(&self, cycle: u16) -> Row
+    pub fn row(&self, cycle: u16) -> Row<4>
         ensures { (unit : ℕ) → HasUnit result unit ↔ Holds self.now unit cycle }
     {
-        self.rows
-            .get(usize::from(cycle))
-            .copied()
-            .unwrap_or(Row::empty())
+        in_width!(&self.width, grid => grid.row(cycle))
+    }
+
+    /// Whether the pair is in the grid. It takes no memory.
+    pub fn holds(&self, unit: u8, cycle: u16) -> bool
+        ensures { IsTrue result ↔ Holds self.now unit cycle }
+    {
+        in_width!(&self.width, grid => grid.holds(unit, cycle))
     }
 }
 
@@ -140,7 +242,7 @@ impl PartialEq for Grid {
         ensures equal { IsTrue result ↔ (self.now ≡ other.now) }
         ensures pairs { IsTrue result ↔ SamePairs self.now other.now }
     {
-        self.rows == other.rows
+        self.width.same(&other.width)
     }
 }
 
@@ -180,7 +282,7 @@ impl Ord for Grid {
     fn cmp(&self, other: &Grid) -> Ordering
         ensures { result ≡ grid_cmp self.now other.now }
     {
-        order(&self.rows, &other.rows)
+        in_width!(&self.width, first => in_width!(&other.width, second => first.compare(second)))
     }
 }
 
@@ -192,93 +294,6 @@ impl Hash for Grid {
     ghost respects_eq = { same_grids_are_fed_alike.fed };
 
     fn hash<H: Hasher>(&self, state: &mut H) {
-        self.rows.hash(state);
+        in_width!(&self.width, grid => grid.feed(state))
     }
-}
-
-// Whether some unit is in both in some cycle. What only one of them has rows for is not read.
-fn share_unit(first: &[Row], second: &[Row]) -> bool
-    ensures { IsTrue result ↔ ShareUnit first.now second.now }
-{
-    for (one, other) in first.iter().zip(second) {
-        if one.meets(*other) {
-            return true;
-        }
-    }
-    false
-}
-
-// The units of both, cycle by cycle.
-fn joined(alloc: Global, first: &[Row], second: &[Row]) -> Result<Vec<Row>, NoMemory>
-    requires first { IsRows first.now }
-    requires second { IsRows second.now }
-    ensures rows { IfOk result (λ rows. IsRows rows.items) }
-    ensures units { IfOk result (λ rows. IsJoined first.now second.now rows.items) }
-{
-    if first.len() < second.len() {
-        overlaid(alloc, second, first)
-    } else {
-        overlaid(alloc, first, second)
-    }
-}
-
-// The longer rows, with the units of the shorter ones too.
-fn overlaid(alloc: Global, longer: &[Row], shorter: &[Row]) -> Result<Vec<Row>, NoMemory>
-    requires { length shorter.now ≤ length longer.now }
-    ensures length { IfOk result (λ rows. vec_len rows ≡ length longer.now) }
-    ensures units { IfOk result (λ rows. IsJoined longer.now shorter.now rows.items) }
-{
-    let mut rows = Vec::from_slice(alloc, longer)?;
-    for (cycle, row) in shorter.iter().enumerate() {
-        rows[cycle] = rows[cycle].join(*row);
-    }
-    Ok(rows)
-}
-
-// Drops the first row, if there is one.
-fn drop_first(rows: &mut Vec<Row>)
-    ensures { rows.new.items ≡ drop 1 rows.old.items }
-{
-    if !rows.is_empty() {
-        let _first = rows.remove(0);
-    }
-}
-
-// The rows of these pairs.
-fn rows_of(alloc: Global, pairs: &[(u8, u16)]) -> Result<Vec<Row>, NoMemory>
-    requires units { All (λ pair. pair.0 < UNITS) pairs.now }
-    requires cycles { All (λ pair. pair.1 < CYCLES) pairs.now }
-    ensures rows { IfOk result (λ rows. IsRows rows.items) }
-    ensures units { IfOk result (λ rows. HasJust pairs.now rows.items) }
-{
-    let mut rows = Vec::new(alloc);
-    for pair in pairs {
-        put(&mut rows, pair.0, pair.1)?;
-    }
-    Ok(rows)
-}
-
-// Adds a unit in a cycle.
-fn put(rows: &mut Vec<Row>, unit: u8, cycle: u16) -> Result<(), NoMemory>
-    requires rows { IsRows rows.old.items }
-    requires unit { unit < UNITS }
-    requires cycle { cycle < CYCLES }
-    ensures rows { OnOk result (IsRows rows.new.items) }
-    ensures units { OnOk result (GainsUnit unit cycle rows.old.items rows.new.items) }
-{
-    let place = usize::from(cycle);
-    lengthen(rows, place + 1)?;
-    rows[place] = rows[place].add(unit);
-    Ok(())
-}
-
-// Adds rows with no unit, up to that length.
-fn lengthen(rows: &mut Vec<Row>, length: usize) -> Result<(), NoMemory>
-    ensures length { OnOk result (vec_len rows.new ≡ max (vec_len rows.old) length) }
-    ensures units { OnOk result (HasSameUnits rows.old.items rows.new.items) }
-{
-    while rows.len() < length {
-        rows.push(Row::empty())?;
-    }
-    Ok(())
 }

@@ -3,14 +3,18 @@
 #![tactic(auto)]
 
 mod cycles;
+mod grid_of;
 mod grids;
 mod laws;
 mod order;
 mod rows;
+mod shifting;
 mod table;
+mod words;
 
 pub use cycles::Cycles;
-pub use grids::{CYCLES, Grid, NoMemory};
+pub use grid_of::{CYCLES, NoMemory};
+pub use grids::Grid;
 pub use laws::{cycles_are_below_the_limit, what_is_taken_is_below_the_limits};
 pub use rows::{Row, UNITS, rows_are_sets_of_units};
 pub use table::ReservationTable;

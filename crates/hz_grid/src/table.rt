@@ -12,13 +12,13 @@ use std::marker::Model;
 pub use std::alloc::AllocError as NoMemory;
 
 // How many units an automaton may have.
-const UNITS: usize = 128;
+const UNITS: usize = 256;
 
 // How many rows there are: one for each unit that each automaton may have.
-const ROWS: usize = 2048;
+const ROWS: usize = 4096;
 
-/// In which cycles from 0 to 255 each unit of each automaton is taken. Automata are numbered below 16, their units below
-/// 128.
+/// In which cycles from 0 to 511 each unit of each automaton is taken. Automata are numbered below 16, their units below
+/// 256.
 #[derive(Drop, Debug)]
 pub struct ReservationTable {
     rows: Vec<Cycles>,
@@ -32,7 +32,7 @@ impl Model for ReservationTable {
 
     ghost view = { λ table. table.rows.items };
 
-    ghost invariant = { λ table. length table.rows.items ≡ 2048 };
+    ghost invariant = { λ table. length table.rows.items ≡ 4096 };
 }
 
 impl ReservationTable {
@@ -71,7 +71,7 @@ fn row_of(automaton: u8, unit: u8) -> usize
     requires automaton { automaton < automaton_limit }
     requires unit { unit < unit_limit }
     ensures place { result ≡ row_of automaton unit }
-    ensures below { result < 2048 }
+    ensures below { result < 4096 }
 {
     usize::from(automaton) * UNITS + usize::from(unit)
 }

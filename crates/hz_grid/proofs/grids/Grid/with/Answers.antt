@@ -1,11 +1,4 @@
-use Rattle.hz_grid.proofs.Pairs.{IsGrid-pairs_from}
-use Rattle.hz_grid.proofs.Steps.{IsUnion-rows}
 use Rattle.hz_grid.proofs.grids.Grid.with.Goals as goal
 
-pub returns-clause-grid : goal.returns-clause-grid
-returns-clause-grid c = IsGrid-pairs_from _ c.in_ok-joined.ensures.rows
-
 pub returns-clause-pairs : goal.returns-clause-pairs
-returns-clause-pairs c =
-    let joined = rw (c.deref.ensures.value, c.deref-2.ensures.value) at c.in_ok-joined.ensures.units in
-    rw (← c.self.view_is, ← c.other.view_is) (IsUnion-rows _ _ _ c.self.invariant c.other.invariant c.in_ok-joined.ensures.rows joined)
+returns-clause-pairs c = rw (← c.self.view_is, ← c.other.view_is) c.in_ok-with.ensures.pairs.pairs

@@ -1,9 +1,0 @@
-use Rattle.hz_grid.proofs.Pairs.{IsGrid-pairs_from}
-use Rattle.hz_grid.proofs.Steps.{HoldsJust-rows}
-use Rattle.hz_grid.proofs.grids.Grid.of.Goals as goal
-
-pub returns-clause-grid : goal.returns-clause-grid
-returns-clause-grid c = IsGrid-pairs_from _ c.in_ok-rows_of.ensures.rows
-
-pub returns-clause-pairs : goal.returns-clause-pairs
-returns-clause-pairs c = HoldsJust-rows c.args.pairs.now _ c.in_ok-rows_of.ensures.rows c.in_ok-rows_of.ensures.units
