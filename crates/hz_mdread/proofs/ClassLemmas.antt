@@ -3,12 +3,11 @@ use Rattle.std.proofs.Common.{◌≡◌, ℕ, List, [], ◌∷◌, length, get_o
 use Rattle.hz_sexp.specs.declared.form.Form.{Form}
 use Rattle.hz_sexp.specs.Shape.{tree, trees}
 use Rattle.hz_description_model.specs.Reading.DescriptionForms.{DescriptionFault, Addition, and_then, shaped, name_in, limited_number, class_form}
-use Rattle.hz_regexp.specs.declared.fault.ExprFault.TheVariants.{Unexpected, Empty, RepeatZero, TooDeep, NumberTooLarge, NoMemory}
 use Rattle.hz_mdread.specs.declared.fault.Wrong.{Wrong}
-use Rattle.hz_mdread.specs.declared.fault.Wrong.TheVariants as wrong
 use Rattle.hz_mdread.specs.Classes.{class_head, class_with}
 use Rattle.hz_mdread.specs.Faults.{TellsOf}
 use Rattle.hz_mdread.specs.Reading.{reading}
+use Rattle.hz_mdread.proofs.FaultLemmas.{tells_at}
 
 joined_head : {A B C E : Type 0} (a : Result A E) (b : Result B E) (next : A × B → Result C E) → and_then a (λ x. and_then b (λ y. next (x, y))) ≡ and_then (and_then a (λ x. and_then b (λ y. Ok (x, y)))) next
 joined_head (Ok x) (Ok y) next = refl
@@ -28,19 +27,7 @@ class_is line form (a ∷ b ∷ c ∷ d ∷ e ∷ operands) name latency conditi
 
 -- what is wrong first stays
 tells_first : {A B : Type 0} (first : Result A DescriptionFault) (next : A → Result B DescriptionFault) (wrong : Wrong) → TellsOf (λ fault. first ≡ Err fault) wrong → TellsOf (λ fault. and_then first next ≡ Err fault) wrong
-tells_first first next wrong.UnknownForm h = rw h refl
-tells_first first next wrong.BadShape h = rw h refl
-tells_first first next wrong.BadCondition h = rw h refl
-tells_first first next wrong.UnknownOption h = rw h refl
-tells_first first next wrong.LatencyLimit h = rw h refl
-tells_first first next (wrong.BadExpression (Unexpected at)) h = rw h refl
-tells_first first next (wrong.BadExpression (Empty at)) h = rw h refl
-tells_first first next (wrong.BadExpression (RepeatZero at)) h = rw h refl
-tells_first first next (wrong.BadExpression (TooDeep at)) h = rw h refl
-tells_first first next (wrong.BadExpression (NumberTooLarge at)) h = rw h refl
-tells_first first next (wrong.BadExpression NoMemory) h = h
-tells_first first next wrong.UnknownGuard h = rw h refl
-tells_first first next wrong.NoMemory h = tt
+tells_first first next wrong h = tells_at (λ fault line. and_then first next ≡ Err fault) (λ fault. first ≡ Err fault) 0 (λ fault e. rw e refl) wrong h
 
 -- what is wrong with the name or the latency is wrong with the class
 pub class_fails : (line form : ℕ) (operands : List Form) (name latency condition regexp : Form) (wrong : Wrong) → length operands ≡ 4 → name ≡ get_or operands 0 name → latency ≡ get_or operands 1 latency → condition ≡ get_or operands 2 condition → regexp ≡ get_or operands 3 regexp

@@ -1,4 +1,5 @@
 pub mod OperandLemmas
+pub mod FaultLemmas
 pub mod ListLemmas
 pub mod ClassLemmas
 pub mod ConditionLemmas

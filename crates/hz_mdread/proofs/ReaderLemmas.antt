@@ -3,18 +3,15 @@ use Rattle.std.proofs.Common.{◌≡◌, ℕ, ◌+◌, ◌<◌, ◌≤◌, List,
 use Rattle.std.proofs.lemmas.List.{drop_more, drop_all}
 use Rattle.hz_sexp.specs.declared.form.Form.{Form, out-Form}
 use Rattle.hz_sexp.specs.Shape.{tree, trees}
-use Rattle.hz_regexp.specs.declared.fault.ExprFault.{ExprFault}
-use Rattle.hz_regexp.specs.declared.fault.ExprFault.TheVariants.{Unexpected, Empty, RepeatZero, TooDeep, NumberTooLarge, NoMemory}
-use Rattle.hz_description_model.specs.Grammar.ExpressionTexts.{ExpressionFault}
 use Rattle.hz_base_model.specs.Forms.Trees.{more}
 use Rattle.hz_description_model.specs.Reading.Descriptions.{Description, no_items}
 use Rattle.hz_description_model.specs.Reading.DescriptionShape.{IsWellFormed}
-use Rattle.hz_description_model.specs.Reading.DescriptionForms.{DescriptionFault, bad_expression, form_says, forms_say, form_count, Reads, FaultAt}
+use Rattle.hz_description_model.specs.Reading.DescriptionForms.{DescriptionFault, form_says, forms_say, form_count, Reads, FaultAt}
 use Rattle.hz_description_model.proofs.Reading.DescriptionFormedAll.{well_formed}
 use Rattle.hz_mdread.specs.declared.fault.Wrong.{Wrong}
-use Rattle.hz_mdread.specs.declared.fault.Wrong.TheVariants as wrong
-use Rattle.hz_mdread.specs.Faults.{Tells, TellsOf, TellsExpression, fault_at}
+use Rattle.hz_mdread.specs.Faults.{Tells, TellsOf, fault_at}
 use Rattle.hz_mdread.specs.Reading.{reading}
+use Rattle.hz_mdread.proofs.FaultLemmas.{tells_at}
 use Rattle.hz_mdread.proofs.FormLemmas.{line_is}
 use Rattle.hz_mdread.proofs.ReadingLemmas.{reading_is}
 
@@ -30,25 +27,6 @@ module _ (forms : List Form) (i : ℕ) (form : Form) (d : Description) (inside :
   -- one that is wrong
   pub form_wrong : (fault : DescriptionFault) → form_says reading i (tree form) ≡ Err fault → forms_say reading i d (trees (drop i forms)) ≡ Err (fault, (out-Form form).line)
   form_wrong fault e = rw (forms_from forms i form inside is, e, line_is form) refl
-
-tells_expression : {P Q : ExpressionFault → ℕ → Type 0} → (fault : ExprFault) → TellsExpression Q fault → ((kind : ExpressionFault) (at : ℕ) → Q kind at → P kind at) → TellsExpression P fault
-tells_expression (Unexpected at) h weaker = weaker _ at h
-tells_expression (Empty at) h weaker = weaker _ at h
-tells_expression (RepeatZero at) h weaker = weaker _ at h
-tells_expression (TooDeep at) h weaker = weaker _ at h
-tells_expression (NumberTooLarge at) h weaker = weaker _ at h
-tells_expression NoMemory h weaker = h
-
--- what is wrong with a form is told at its line
-pub tells_at : (P : DescriptionFault → ℕ → Type 0) (Q : DescriptionFault → Type 0) (line : ℕ) → ((fault : DescriptionFault) → Q fault → P fault line) → (w : Wrong) → TellsOf Q w → Tells P (fault_at line w)
-tells_at P Q line weaker wrong.UnknownForm h = weaker _ h
-tells_at P Q line weaker wrong.BadShape h = weaker _ h
-tells_at P Q line weaker wrong.BadCondition h = weaker _ h
-tells_at P Q line weaker wrong.UnknownOption h = weaker _ h
-tells_at P Q line weaker wrong.LatencyLimit h = weaker _ h
-tells_at P Q line weaker (wrong.BadExpression fault) h = tells_expression {P = λ kind at. P (bad_expression kind at) line} {Q = λ kind at. Q (bad_expression kind at)} fault h (λ kind at k. weaker (bad_expression kind at) k)
-tells_at P Q line weaker wrong.UnknownGuard h = weaker _ h
-tells_at P Q line weaker wrong.NoMemory h = h
 
 -- the description that all forms say
 pub all_read : (forms : List Form) (i : ℕ) (d : Description) → length forms ≤ i → forms_say reading i d (trees (drop i forms)) ≡ forms_say reading 0 no_items (trees forms) → Reads (trees forms) d

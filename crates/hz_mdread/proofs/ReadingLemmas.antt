@@ -42,4 +42,4 @@ expression_wrong operand text fault is w = go fault w
     go (RepeatZero at) k = said _ at k
     go (TooDeep at) k = said _ at k
     go (NumberTooLarge at) k = said _ at k
-    go NoMemory k = k
+    go NoMemory k = refl

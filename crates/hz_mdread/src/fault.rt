@@ -1,7 +1,10 @@
 //! What can be wrong with a description.
 
 ghost use Rattle.std.specs.Prelude.{◌≡◌};
-ghost use Rattle.hz_mdread.specs.Faults.{fault_at, bad_expression_of};
+ghost use Rattle.std.specs.Option.{option_and_then};
+ghost use Rattle.hz_description_model.specs.Reading.DescriptionForms.{description_at, description_word};
+ghost use Rattle.hz_mdread.specs.Faults.{fault_at, fault_of, bad_expression_of};
+ghost use Rattle.hz_regexp.specs.Faults.{told_by, told_in};
 ghost use Rattle.hz_mdread.specs.declared.fault.Wrong.TheVariants.{NoMemory as no_memory};
 
 use hz_regexp::ExprFault;
@@ -35,6 +38,38 @@ pub enum MdFault {
     /// Memory ran out.
     #[error("out of memory")]
     NoMemory,
+}
+
+impl MdFault {
+    /// The word by which the fault is told, and its line; None for want of memory. docs/FORMATS.md, 'Answers'.
+    pub fn told(&self) -> Option<(&'static str, u32)>
+        ensures { told_in result ≡ told_by description_word (fault_of self.now) }
+    {
+        match self {
+            MdFault::UnknownForm { line } => Some(("UnknownForm", *line)),
+            MdFault::BadShape { line } => Some(("BadShape", *line)),
+            MdFault::BadCondition { line } => Some(("BadCondition", *line)),
+            MdFault::UnknownOption { line } => Some(("UnknownOption", *line)),
+            MdFault::LatencyLimit { line } => Some(("LatencyLimit", *line)),
+            MdFault::BadExpression { line, fault } => match fault.told() {
+                Some(_) => Some(("BadExpression", *line)),
+                None => None,
+            },
+            MdFault::UnknownGuard { line } => Some(("UnknownGuard", *line)),
+            MdFault::NoMemory => None,
+        }
+    }
+
+    /// Of a fault in an expression its own word, and the place of its byte, from 0; None of any other. docs/FORMATS.md,
+    /// 'Answers'.
+    pub fn at(&self) -> Option<(&'static str, u32)>
+        ensures { told_in result ≡ option_and_then (λ fault. description_at fault.0) (fault_of self.now) }
+    {
+        match self {
+            MdFault::BadExpression { fault, .. } => fault.told(),
+            _ => None,
+        }
+    }
 }
 
 /// What is wrong with one form.

@@ -1,5 +1,6 @@
 -- The tokens that the reader has taken, and what is wrong with the next one or with the end.
 use Rattle.std.proofs.Common.{◌≡◌, ℕ, List, [], ◌∷◌, ◌++◌, length, refl, sym, ap, ◌∙◌, subst, Ok, Err, Some, None}
+use Rattle.std.specs.Prelude.{⊤, Option, MatchOption}
 use Rattle.std.proofs.lemmas.List.{append-nil}
 use Rattle.hz_description_model.specs.Reservations.Alternatives.{Expression}
 use Rattle.hz_description_model.specs.Grammar.ExpressionTexts.{place, tokens, Reads, FaultAt, ExpressionFault, unexpected, no_token}
@@ -8,10 +9,9 @@ use Rattle.hz_description_model.specs.Grammar.ExpressionSteps.{State, start, tak
 use Rattle.hz_description_model.proofs.Grammar.ExpressionTextsFront.{Leads, start_leads, take_leads, behind}
 use Rattle.hz_description_model.proofs.Grammar.ExpressionTextsLaws.{take_wrong, read_end, cut_short}
 use Rattle.hz_regexp.specs.declared.fault.ExprFault.{ExprFault}
-use Rattle.hz_regexp.specs.declared.fault.ExprFault.TheVariants.{Unexpected, Empty, RepeatZero, TooDeep, NumberTooLarge, NoMemory}
 use Rattle.hz_regexp.specs.declared.tokens.Token.{Token}
 use Rattle.hz_regexp.specs.declared.tokens.Token.TheVariants as code
-use Rattle.hz_regexp.specs.Faults.{Tells}
+use Rattle.hz_regexp.specs.Faults.{Tells, fault_of}
 use Rattle.hz_regexp.specs.State.{Refuses}
 use Rattle.hz_regexp.specs.Tokens.{token_of}
 
@@ -25,12 +25,11 @@ place_of_token at code.Foreign = refl
 
 -- what is told of a fault may be said in weaker words
 pub tells_weaker : {P Q : ExpressionFault → ℕ → Type 0} → ((fault : ExpressionFault) (at : ℕ) → P fault at → Q fault at) → (e : ExprFault) → Tells P e → Tells Q e
-tells_weaker weaker (Unexpected at) h = weaker _ _ h
-tells_weaker weaker (Empty at) h = weaker _ _ h
-tells_weaker weaker (RepeatZero at) h = weaker _ _ h
-tells_weaker weaker (TooDeep at) h = weaker _ _ h
-tells_weaker weaker (NumberTooLarge at) h = weaker _ _ h
-tells_weaker weaker NoMemory h = h
+tells_weaker {P} {Q} weaker e h = go (fault_of e) h
+  where
+    go : (fault : Option (ExpressionFault × ℕ)) → MatchOption fault ⊤ (λ told. P told.0 told.1) → MatchOption fault ⊤ (λ told. Q told.0 told.1)
+    go (Some told) h = weaker _ _ h
+    go None h = h
 
 -- The reader holds one token or more of a text, and the tokens of the rest are left.
 pub record Taken (text : List ℕ) (s : State) (rest : List model.Token) : Type 0 where

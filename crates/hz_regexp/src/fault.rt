@@ -1,6 +1,8 @@
 //! What can be wrong with the text of an expression.
 
 ghost use Rattle.std.specs.Prelude.{◌≡◌};
+ghost use Rattle.hz_description_model.specs.Grammar.ExpressionTexts.{expression_word};
+ghost use Rattle.hz_regexp.specs.Faults.{fault_of, told_by, told_in};
 ghost use Rattle.hz_regexp.specs.declared.fault.ExprFault.TheVariants.{NoMemory as no_memory};
 
 use std::alloc::{AllocError, AllocFailed};
@@ -27,6 +29,23 @@ pub enum ExprFault {
     /// Memory ran out.
     #[error("out of memory")]
     NoMemory,
+}
+
+impl ExprFault {
+    /// The word by which the fault is told, and the place of its byte, from 0; None for want of memory. docs/FORMATS.md,
+    /// 'Answers'.
+    pub fn told(&self) -> Option<(&'static str, u32)>
+        ensures { told_in result ≡ told_by expression_word (fault_of self.now) }
+    {
+        match self {
+            ExprFault::Unexpected { at } => Some(("Unexpected", *at)),
+            ExprFault::Empty { at } => Some(("Empty", *at)),
+            ExprFault::RepeatZero { at } => Some(("RepeatZero", *at)),
+            ExprFault::TooDeep { at } => Some(("TooDeep", *at)),
+            ExprFault::NumberTooLarge { at } => Some(("NumberTooLarge", *at)),
+            ExprFault::NoMemory => None,
+        }
+    }
 }
 
 impl From<AllocError> for ExprFault {

@@ -1,18 +1,18 @@
 -- A trace that is read line after line is a trace by the grammar, and a line that is told is its first wrong one.
 use Rattle.std.proofs.Common.{◌≡◌, ℕ, ◌+◌, ◌≤◌, Bool, true, false, cond, nat_le, List, [], ◌∷◌, ◌++◌, length, map, Option, Some, None, Result, Ok, Err, refl, sym, ap, ◌∙◌, subst, arith, append_assoc}
+use Rattle.std.specs.Prelude.{⊤, MatchOption}
 use Rattle.std.proofs.lemmas.List.{append-nil, map-append}
 use Rattle.std.proofs.lemmas.Bool.{leb-true, leb-false}
 use Rattle.hz_acceptance_model.specs.Traces.TraceLimits.{advance_limit}
 use Rattle.hz_base_model.specs.Lines.{lines_of}
 use Rattle.hz_acceptance_model.specs.Accepting.Events.{Event, issue, advance, cycles_of}
-use Rattle.hz_acceptance_model.specs.Traces.Traces.{Trace, TraceFault, bad_line, unknown_class, too_many_advances, TraceFaultAt, Line, skipped, says, wrong, line_says, Say, nothing, skips, tells, WrongAfter, line_alone, advances, event_lines, numbered}
+use Rattle.hz_acceptance_model.specs.Traces.Traces.{Trace, TraceFault, too_many_advances, TraceFaultAt, Line, skipped, says, wrong, line_says, Say, nothing, skips, tells, WrongAfter, line_alone, advances, event_lines, numbered}
 use Rattle.std.specs.Option.{option_map}
 use Rattle.hz_replay.specs.declared.event.What.{What}
 use Rattle.hz_replay.specs.Lines.{event_of, judged, judgement}
 use Rattle.hz_replay.specs.Traces.{Placed, events_in, lines_in, placed_in, noted, cycles_in, after_line, trace_from, fault_told, IsTraceFault}
 use Rattle.hz_replay.specs.declared.event.Event.{Event as ReadEvent}
 use Rattle.hz_replay.specs.declared.fault.TraceFault.{TraceFault as Fault}
-use Rattle.hz_replay.specs.declared.fault.TraceFault.TheVariants.{BadLine, UnknownClass, AdvanceLimit, NoMemory}
 
 pub from_none : (classes : List (List ℕ)) (done : List Placed) (advanced number : ℕ) → trace_from classes done advanced number [] ≡ Ok done
 unfolding trace_from
@@ -192,10 +192,7 @@ placed_lines [] = refl
 placed_lines (e ∷ items) = ap (λ ns. e.line ∷ ns) (placed_lines items)
 
 pub fault_from : (classes : List (List ℕ)) (text : List ℕ) (told : Fault) (fault : TraceFault) (at : ℕ) → fault_told told ≡ Some (fault, at) → TraceFaultAt classes text fault at → IsTraceFault classes text told
-fault_from classes text (BadLine line) fault at h is = let same : ◌≡◌ {A = TraceFault × ℕ} (bad_line, line) (fault, at) = cc in subst (λ x. TraceFaultAt classes text x.0 x.1) (sym same) is
-fault_from classes text (UnknownClass line) fault at h is = let same : ◌≡◌ {A = TraceFault × ℕ} (unknown_class, line) (fault, at) = cc in subst (λ x. TraceFaultAt classes text x.0 x.1) (sym same) is
-fault_from classes text (AdvanceLimit line) fault at h is = let same : ◌≡◌ {A = TraceFault × ℕ} (too_many_advances, line) (fault, at) = cc in subst (λ x. TraceFaultAt classes text x.0 x.1) (sym same) is
-fault_from classes text NoMemory fault at h is = tt
+fault_from classes text told fault at h is = subst (λ (found : Option (TraceFault × ℕ)). MatchOption found ⊤ (λ told. TraceFaultAt classes text told.0 told.1)) (sym h) is
 
 pub ok_judged : (what : Option What) → judgement (Ok what) ≡ Ok (option_map event_of what)
 ok_judged None = refl

@@ -1,5 +1,5 @@
 -- A trace as the reader makes it, line after line.
-use Rattle.std.specs.Prelude.{◌≡◌, ℕ, ◌+◌, List, [], ◌∷◌, ◌++◌, map, Option, Some, None, Result, Ok, Err}
+use Rattle.std.specs.Prelude.{◌≡◌, ℕ, ◌+◌, List, [], ◌∷◌, ◌++◌, map, ⊤, Option, Some, None, MatchOption, Result, Ok, Err}
 use Rattle.hz_acceptance_model.specs.Accepting.Events as events
 use Rattle.hz_acceptance_model.specs.Traces.Traces.{TraceFault, bad_line, unknown_class, too_many_advances, TraceFaultAt, line_says}
 use Rattle.hz_replay.specs.Lines.{event_of, fault_of, judged}
@@ -16,12 +16,16 @@ events_in items = map (λ e. event_of e.what) items
 abbrev pub lines_in : List Event → List ℕ
 lines_in items = map (λ e. e.line) items
 
--- what is told of a text that is no trace, where the classes have these names
+-- the fault of the definitions and its line; want of memory is none
+abbrev pub fault_told : Fault → Option (TraceFault × ℕ)
+fault_told (BadLine line) = Some (bad_line, line)
+fault_told (UnknownClass line) = Some (unknown_class, line)
+fault_told (AdvanceLimit line) = Some (too_many_advances, line)
+fault_told NoMemory = None
+
+-- what is told of a text that is no trace, where the classes have these names; want of memory says nothing
 abbrev pub IsTraceFault : List (List ℕ) → List ℕ → Fault → Type 0
-IsTraceFault classes text (BadLine line) = TraceFaultAt classes text bad_line line
-IsTraceFault classes text (UnknownClass line) = TraceFaultAt classes text unknown_class line
-IsTraceFault classes text (AdvanceLimit line) = TraceFaultAt classes text too_many_advances line
-IsTraceFault classes text NoMemory = Unit {0}
+IsTraceFault classes text fault = MatchOption (fault_told fault) ⊤ (λ told. TraceFaultAt classes text told.0 told.1)
 
 -- An event with its line, as a pair.
 abbrev pub Placed : Type 0
@@ -51,13 +55,6 @@ unfoldable pub trace_from : List (List ℕ) → List Placed → ℕ → ℕ → 
 trace_from classes done advanced number [] = Ok done
 trace_from classes done advanced number (line ∷ lines) =
     after_line (λ done advanced. trace_from classes done advanced (number + 1) lines) done advanced number (judged advanced (line_says classes line))
-
--- what a fault tells, none for want of memory
-abbrev pub fault_told : Fault → Option (TraceFault × ℕ)
-fault_told (BadLine line) = Some (bad_line, line)
-fault_told (UnknownClass line) = Some (unknown_class, line)
-fault_told (AdvanceLimit line) = Some (too_many_advances, line)
-fault_told NoMemory = None
 
 -- the fault of a line of this number
 abbrev pub IsFaultOfLine : ℕ → WrongLine → Fault → Type 0

@@ -1,6 +1,9 @@
 //! Why a text is no trace.
 
 ghost use Rattle.std.specs.Prelude.{◌≡◌};
+ghost use Rattle.hz_acceptance_model.specs.Traces.Traces.{trace_word};
+ghost use Rattle.hz_regexp.specs.Faults.{told_by, told_in};
+ghost use Rattle.hz_replay.specs.Traces.{fault_told};
 ghost use Rattle.hz_replay.specs.declared.fault.TraceFault.TheVariants.{NoMemory as no_memory};
 
 use std::alloc::{AllocError, AllocFailed};
@@ -21,6 +24,20 @@ pub enum TraceFault {
     /// Memory ran out.
     #[error("out of memory")]
     NoMemory,
+}
+
+impl TraceFault {
+    /// The word by which the fault is told, and its line; None for want of memory. docs/FORMATS.md, 'Answers'.
+    pub fn told(&self) -> Option<(&'static str, u32)>
+        ensures { told_in result ≡ told_by trace_word (fault_told self.now) }
+    {
+        match self {
+            TraceFault::BadLine { line } => Some(("BadLine", *line)),
+            TraceFault::UnknownClass { line } => Some(("UnknownClass", *line)),
+            TraceFault::AdvanceLimit { line } => Some(("AdvanceLimit", *line)),
+            TraceFault::NoMemory => None,
+        }
+    }
 }
 
 impl From<AllocError> for TraceFault {

@@ -1,6 +1,9 @@
 //! What can be wrong with a block or a state.
 
 ghost use Rattle.std.specs.Prelude.{◌≡◌};
+ghost use Rattle.hz_block_model.specs.Texts.Operands.{rtl_word};
+ghost use Rattle.hz_regexp.specs.Faults.{told_by, told_in};
+ghost use Rattle.hz_rtl.specs.Faults.{fault_of};
 ghost use Rattle.hz_rtl.specs.declared.fault.RtlFault.TheVariants.{NoMemory as no_memory};
 
 use std::alloc::{AllocError, AllocFailed};
@@ -28,6 +31,22 @@ pub enum RtlFault {
     /// Memory ran out.
     #[error("out of memory")]
     NoMemory,
+}
+
+impl RtlFault {
+    /// The word by which the fault is told, and its line; None for want of memory. docs/FORMATS.md, 'Answers'.
+    pub fn told(&self) -> Option<(&'static str, u32)>
+        ensures { told_in result ≡ told_by rtl_word (fault_of self.now) }
+    {
+        match self {
+            RtlFault::BadShape { line } => Some(("BadShape", *line)),
+            RtlFault::UnknownCode { line } => Some(("UnknownCode", *line)),
+            RtlFault::RegisterRange { line } => Some(("RegisterRange", *line)),
+            RtlFault::Twice { line } => Some(("Twice", *line)),
+            RtlFault::InsnLimit { line } => Some(("InsnLimit", *line)),
+            RtlFault::NoMemory => None,
+        }
+    }
 }
 
 impl From<AllocError> for RtlFault {

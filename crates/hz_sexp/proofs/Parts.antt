@@ -1,12 +1,11 @@
 -- Parts of comments, strings and words, one after another.
 use Rattle.std.proofs.Common.{◌≡◌, ℕ, zero, suc, ◌<◌, List, [], ◌∷◌, ◌++◌, length, take, drop, refl, arith, append_assoc, Some, None}
-use Rattle.std.specs.Prelude.{IsTrue, IsFalse}
+use Rattle.std.specs.Prelude.{⊤, Option, MatchOption, IsTrue, IsFalse}
 use Rattle.std.proofs.lemmas.Bool.{ne_eqb}
 use Rattle.std.proofs.lemmas.List.{append-nil}
 use Rattle.hz_base_model.specs.Forms.Forms.{line_after, ends_comment, goes_on, is_string_byte, is_plain, escaped, Word, Comment, Inside, FormFault}
 use Rattle.hz_sexp.specs.declared.fault.SexpFault.{SexpFault}
-use Rattle.hz_sexp.specs.declared.fault.SexpFault.TheVariants.{Unclosed, Stray, BadEscape, TooDeep, BadByte, NumberTooLarge, NoMemory}
-use Rattle.hz_sexp.specs.Faults.{Tells}
+use Rattle.hz_sexp.specs.Faults.{Tells, fault_of}
 use Rattle.hz_sexp.specs.Steps.{IsWrongInString}
 
 -- a comment goes on by a byte
@@ -45,13 +44,11 @@ no_escape b feed quote backslash = rw (ne_eqb b 10 feed, ne_eqb b 34 quote, ne_e
 
 -- what is told of a fault may be said in weaker words
 pub tells_weaker : {P Q : FormFault → ℕ → Type 0} → ((fault : FormFault) (line : ℕ) → P fault line → Q fault line) → (e : SexpFault) → Tells P e → Tells Q e
-tells_weaker weaker (Unclosed line) h = weaker _ _ h
-tells_weaker weaker (Stray line) h = weaker _ _ h
-tells_weaker weaker (BadEscape line) h = weaker _ _ h
-tells_weaker weaker (TooDeep line) h = weaker _ _ h
-tells_weaker weaker (BadByte line) h = weaker _ _ h
-tells_weaker weaker (NumberTooLarge line) h = weaker _ _ h
-tells_weaker weaker NoMemory h = h
+tells_weaker {P} {Q} weaker e h = go (fault_of e) h
+  where
+    go : (fault : Option (FormFault × ℕ)) → MatchOption fault ⊤ (λ told. P told.0 told.1) → MatchOption fault ⊤ (λ told. Q told.0 told.1)
+    go (Some told) h = weaker _ _ h
+    go None h = h
 
 -- what is wrong in a string after a part of it is wrong in it
 pub wrong_before : (start : ℕ) {line now : ℕ} {text left given : List ℕ} → Inside line text given now left → (e : SexpFault) → Tells (IsWrongInString start now left) e

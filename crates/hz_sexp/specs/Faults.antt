@@ -1,15 +1,30 @@
 -- What a fault of the code says.
-use Rattle.std.specs.Prelude.{ℕ, ⊤}
+use Rattle.std.specs.Prelude.{ℕ, ⊤, List, Option, Some, None, MatchOption}
+use Rattle.std.specs.Borrow.{Bor}
 use Rattle.hz_sexp.specs.declared.fault.SexpFault.{SexpFault}
 use Rattle.hz_sexp.specs.declared.fault.SexpFault.TheVariants.{Unclosed, Stray, BadEscape, TooDeep, BadByte, NumberTooLarge, NoMemory}
 use Rattle.hz_base_model.specs.Forms.Forms.{FormFault, unclosed, stray, bad_escape, too_deep, bad_byte, number_too_large}
 
+-- the fault of the definitions and its line; want of memory is none
+abbrev pub fault_of : SexpFault → Option (FormFault × ℕ)
+fault_of (Unclosed line) = Some (unclosed, line)
+fault_of (Stray line) = Some (stray, line)
+fault_of (BadEscape line) = Some (bad_escape, line)
+fault_of (TooDeep line) = Some (too_deep, line)
+fault_of (BadByte line) = Some (bad_byte, line)
+fault_of (NumberTooLarge line) = Some (number_too_large, line)
+fault_of NoMemory = None
+
 -- what is said of a fault and its line holds of this one; want of memory says nothing
 abbrev pub Tells : (FormFault → ℕ → Type 0) → SexpFault → Type 0
-Tells P (Unclosed line) = P unclosed line
-Tells P (Stray line) = P stray line
-Tells P (BadEscape line) = P bad_escape line
-Tells P (TooDeep line) = P too_deep line
-Tells P (BadByte line) = P bad_byte line
-Tells P (NumberTooLarge line) = P number_too_large line
-Tells P NoMemory = ⊤
+Tells P fault = MatchOption (fault_of fault) ⊤ (λ told. P told.0 told.1)
+
+-- the bytes of a word that is told, and its line
+abbrev pub told_in : Option (Bor (List ℕ) × ℕ) → Option (List ℕ × ℕ)
+told_in (Some told) = Some (told.0.now, told.1)
+told_in None = None
+
+-- the word of a fault and its line
+abbrev pub told_by : {Fault : Type 0} → (Fault → List ℕ) → Option (Fault × ℕ) → Option (List ℕ × ℕ)
+told_by word (Some told) = Some (word told.0, told.1)
+told_by word None = None

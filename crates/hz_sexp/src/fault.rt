@@ -1,6 +1,8 @@
 //! What can be wrong with a text of forms.
 
 ghost use Rattle.std.specs.Prelude.{◌≡◌};
+ghost use Rattle.hz_base_model.specs.Forms.Forms.{form_word};
+ghost use Rattle.hz_sexp.specs.Faults.{fault_of, told_by, told_in};
 ghost use Rattle.hz_sexp.specs.declared.fault.SexpFault.TheVariants.{NoMemory as no_memory};
 
 use std::alloc::{AllocError, AllocFailed};
@@ -30,6 +32,23 @@ pub enum SexpFault {
     /// Memory ran out.
     #[error("out of memory")]
     NoMemory,
+}
+
+impl SexpFault {
+    /// The word by which the fault is told, and its line; None for want of memory. docs/FORMATS.md, 'Answers'.
+    pub fn told(&self) -> Option<(&'static str, u32)>
+        ensures { told_in result ≡ told_by form_word (fault_of self.now) }
+    {
+        match self {
+            SexpFault::Unclosed { line } => Some(("Unclosed", *line)),
+            SexpFault::Stray { line } => Some(("Stray", *line)),
+            SexpFault::BadEscape { line } => Some(("BadEscape", *line)),
+            SexpFault::TooDeep { line } => Some(("TooDeep", *line)),
+            SexpFault::BadByte { line } => Some(("BadByte", *line)),
+            SexpFault::NumberTooLarge { line } => Some(("NumberTooLarge", *line)),
+            SexpFault::NoMemory => None,
+        }
+    }
 }
 
 impl From<AllocError> for SexpFault {
