@@ -12,7 +12,7 @@ use Rattle.hz_description_model.specs.Reservations.Sets.{SetKind}
 use Rattle.hz_base_model.specs.Forms.Trees.{Tree, Trees, list, atom, quoted, none, more, line_of}
 use Rattle.hz_description_model.specs.Reading.Descriptions.{AutomatonItem, ClassItem, Description, no_options}
 use Rattle.hz_description_model.specs.Reading.DescriptionShape.{FormKind, define_automaton, define_cpu_unit, define_reservation, define_insn_reservation, define_bypass, automata_option, define_attr, set_form, are_names}
-use Rattle.hz_description_model.specs.Reading.DescriptionForms.{bad_shape, bad_condition, unknown_form, unknown_option, Said, Addition, automata, units, reservation, class, bypass, set, options, attribute, quoted_bytes, name_in, names_in, names_of, limited_number, condition_in, expression_in, set_patterns, fallback_in, shaped, headed, kind_of, with_options, automaton_items, unit_items, automata_form, units_form, reservation_form, class_form, bypass_form, set_form_of, options_form, attribute_form, form_of_kind, form_says, Reads}
+use Rattle.hz_description_model.specs.Reading.DescriptionForms.{bad_shape, bad_condition, unknown_form, unknown_option, Said, Addition, automata, units, reservation, class, set, options, attribute, quoted_bytes, name_in, names_in, names_of, limited_number, condition_in, expression_in, set_patterns, fallback_in, shaped, headed, kind_of, with_options, automaton_items, unit_items, automata_form, units_form, reservation_form, class_form, bypass_form, set_form_of, options_form, attribute_form, form_of_kind, form_says, Reads}
 use Rattle.hz_description_model.specs.Reading.AddedItems.{Add, added_automata, added_classes}
 use Rattle.hz_description_model.proofs.Reading.AddedLaws.{items_added}
 use Rattle.hz_description_model.proofs.Reading.DescriptionFormed.{then_ok, or_ok, then_some, kept_some, bypass_says}
