@@ -10,6 +10,7 @@ use Rattle.hz_base_model.specs.Pairs.{placed}
 use Rattle.hz_description_model.specs.Reservations.Sets.{Statement, Holds, HoldsSome, HoldsPattern, AllowsIn}
 use Rattle.hz_acceptance_model.specs.Accepting.Fitting.{AskTheSame}
 use Rattle.hz_base_model.proofs.Elements.{Contains-filter, Contains-from_filter, Contains-map, Contains-from_map, Contains-range}
+use Rattle.hz_grid.specs.declared.rows.TheConstants.{UNITS}
 use Rattle.hz_unitsets.specs.declared.set_rules.SetRule.{SetRule}
 use Rattle.hz_unitsets.specs.SetRules.{statement_of, statements_of, IsInRange, in_order, ordered}
 
@@ -23,14 +24,14 @@ list_any_decides units unit = (
 )
 
 abbrev AreSmall : List ℕ → Type 0
-AreSmall units = All (λ unit. unit < 128) units
+AreSmall units = All (λ unit. unit < UNITS) units
 
 in_order_has : (units : List ℕ) → AreSmall units → (unit : ℕ) → Contains (in_order units) unit ↔ Contains units unit
 unfolding in_order
 in_order_has units small unit =
     let has = list_any_decides units unit in (
-      λ h. has.0 (Contains-from_filter (λ u. list_any (λ v. v == u) units) unit (range_with_len 0 128) h).1,
-      λ h. Contains-filter (λ u. list_any (λ v. v == u) units) unit (has.1 h) (range_with_len 0 128) (Contains-range 128 unit (All-contains (λ u. u < 128) units unit small h)),
+      λ h. has.0 (Contains-from_filter (λ u. list_any (λ v. v == u) units) unit (range_with_len 0 UNITS) h).1,
+      λ h. Contains-filter (λ u. list_any (λ v. v == u) units) unit (has.1 h) (range_with_len 0 UNITS) (Contains-range UNITS unit (All-contains (λ u. u < UNITS) units unit small h)),
     )
 
 module _ (held : ℕ → Type 0) where

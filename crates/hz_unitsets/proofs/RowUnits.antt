@@ -7,6 +7,7 @@ use Rattle.std.proofs.lemmas.List.{take_more}
 use Rattle.std.proofs.lemmas.List.Elements.{All-contains, filter_agree, Contains-append_left, Contains-push, Contains-push_cases}
 use Rattle.hz_description_model.specs.Reservations.Sets.{HoldsSome, HoldsPattern}
 use Rattle.hz_base_model.proofs.Elements.{Contains-nil, Contains-filter, Contains-from_filter, Contains-map, Contains-from_map, Contains-range}
+use Rattle.hz_grid.specs.declared.rows.TheConstants.{UNITS}
 use Rattle.hz_grid.specs.Rows.{has_unit, HasUnit, RowsMeet, IsWithin}
 use Rattle.hz_unitsets.specs.SetRules.{in_order}
 use Rattle.hz_unitsets.specs.RowRules.{IsRow}
@@ -15,11 +16,11 @@ use Rattle.hz_grid.specs.Stored.{units_of}
 
 pub Contains-units_of : (row unit : ℕ) → IsRow row → HasUnit row unit → Contains (units_of row) unit
 unfolding units_of
-Contains-units_of row unit is h = Contains-filter (has_unit row) unit h (range_with_len 0 128) (Contains-range 128 unit (is.below unit h))
+Contains-units_of row unit is h = Contains-filter (has_unit row) unit h (range_with_len 0 UNITS) (Contains-range UNITS unit (is.below unit h))
 
 pub unit_from_units_in : (row unit : ℕ) → Contains (units_of row) unit → HasUnit row unit
 unfolding units_of
-unit_from_units_in row unit h = (Contains-from_filter (has_unit row) unit (range_with_len 0 128) h).1
+unit_from_units_in row unit h = (Contains-from_filter (has_unit row) unit (range_with_len 0 UNITS) h).1
 
 pub some_unit : (units row : ℕ) → IsRow units → RowsMeet units row ↔ HoldsSome (units_of units) (HasUnit row)
 some_unit units row is = (
@@ -60,12 +61,12 @@ HasJust-more units k old new within just gains unit =
       λ h. (gains unit).1 (⊎_elim (λ m. inl ((just unit).1 m)) (λ e. inr (sym e)) (Contains-push_cases (take k units) (get_or units k 0) unit (rw more at h))),
     )
 
-pub IsRow-just : (units : List ℕ) (row : ℕ) → All (λ unit. unit < 128) units → HasJust units row → IsRow row
-IsRow-just units row small just = record { below = λ unit h. All-contains (λ u. u < 128) units unit small ((just unit).0 h) }
+pub IsRow-just : (units : List ℕ) (row : ℕ) → All (λ unit. unit < UNITS) units → HasJust units row → IsRow row
+IsRow-just units row small just = record { below = λ unit h. All-contains (λ u. u < UNITS) units unit small ((just unit).0 h) }
 
 pub units_of-just : (units : List ℕ) (row : ℕ) → HasJust units row → units_of row ≡ in_order units
 unfolding units_of in_order
 units_of-just units row just =
     filter_agree (has_unit row) (λ unit. list_any (λ u. u == unit) units)
     (λ unit. same_from_decides (has_unit row unit) (list_any (λ u. u == unit) units) (just unit) (list_any_decides units unit))
-    (range_with_len 0 128)
+    (range_with_len 0 UNITS)

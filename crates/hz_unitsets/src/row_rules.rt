@@ -16,8 +16,8 @@ use std::alloc::Global;
 #[derive(Drop, PartialEq, Eq, Hash, Debug)]
 pub(crate) struct Rule {
     kind: SetKind,
-    units: Row,
-    patterns: Vec<Row>,
+    units: Row<4>,
+    patterns: Vec<Row<4>>,
 }
 
 impl Rule {
@@ -39,7 +39,7 @@ impl Rule {
     }
 
     /// Whether the rule allows a cycle with these rows: what stood there, what is added, and all of them.
-    pub(crate) fn allows_rows(&self, source: Row, added: Row, all: Row) -> bool
+    pub(crate) fn allows_rows(&self, source: Row<4>, added: Row<4>, all: Row<4>) -> bool
         requires { IsBounded self.now }
         ensures { IsTrue result ↔ AllowsIn (statement_in self.now) (HasUnit source) (HasUnit added) (HasUnit all) }
     {
@@ -86,7 +86,7 @@ impl Rule {
     }
 
     /// The units whose addition may break the rule: its own, and of an exclusion those of its patterns.
-    pub(crate) fn triggers(&self) -> Row
+    pub(crate) fn triggers(&self) -> Row<4>
         requires { IsBounded self.now }
         ensures { (unit : ℕ) → IsTrigger (statement_in self.now) unit → HasUnit result unit }
     {
@@ -97,7 +97,7 @@ impl Rule {
     }
 
     // Whether the row has a unit of the rule.
-    fn holds_some(&self, row: Row) -> bool
+    fn holds_some(&self, row: Row<4>) -> bool
         requires { IsBounded self.now }
         ensures { IsTrue result ↔ HoldsSome (units_of self.now.units) (HasUnit row) }
     {
@@ -105,7 +105,7 @@ impl Rule {
     }
 
     // Whether some pattern is wholly in the row.
-    fn holds_pattern(&self, row: Row) -> bool
+    fn holds_pattern(&self, row: Row<4>) -> bool
         requires { IsBounded self.now }
         ensures { IsTrue result ↔ HoldsPattern (map units_of self.now.patterns.items) (HasUnit row) }
     {
@@ -114,7 +114,7 @@ impl Rule {
 }
 
 // The row of these units.
-fn row_of(units: &[u8]) -> Row
+fn row_of(units: &[u8]) -> Row<4>
     requires { All (λ unit. unit < UNITS) units.now }
     ensures row { IsRow result }
     ensures units { units_of result ≡ in_order units.now }
@@ -127,7 +127,7 @@ fn row_of(units: &[u8]) -> Row
 }
 
 // The units of a row and of others.
-fn joined(units: Row, others: &[Row]) -> Row
+fn joined(units: Row<4>, others: &[Row<4>]) -> Row<4>
     ensures units { IsWithin units result }
     ensures others { All (λ other. IsWithin other result) others.now }
 {

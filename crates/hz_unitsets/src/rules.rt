@@ -18,7 +18,7 @@ use std::marker::Model;
 #[derive(Drop, Debug)]
 pub struct Rules {
     rules: Vec<Asked>,
-    triggers: Row,
+    triggers: Row<4>,
 }
 
 impl Model for Rules {
@@ -37,7 +37,7 @@ impl Model for Rules {
 #[derive(Drop, Debug)]
 struct Asked {
     rule: Rule,
-    triggers: Row,
+    triggers: Row<4>,
 }
 
 impl Rules {
@@ -104,7 +104,7 @@ fn none_broken(rules: &[Asked], source: &Grid) -> bool
 }
 
 // Whether each rule allows each cycle, where the source breaks none. The units are those that are added in any cycle.
-fn all_allow(rules: &[Asked], source: &Grid, add: &Grid, units: Row) -> bool
+fn all_allow(rules: &[Asked], source: &Grid, add: &Grid, units: Row<4>) -> bool
     requires asked { All IsAsked rules.now }
     requires unbroken { All (λ asked. ¬ Breaks (asked_statement asked) source.now) rules.now }
     requires units { IsUnitsOf add.now units }
@@ -151,7 +151,7 @@ impl Asked {
 
     // Whether the rule allows each cycle, where the source does not break it. It is asked only where an added unit may
     // break it.
-    fn allows(&self, source: &Grid, add: &Grid, units: Row) -> bool
+    fn allows(&self, source: &Grid, add: &Grid, units: Row<4>) -> bool
         requires asked { IsAsked self.now }
         requires unbroken { ¬ Breaks (asked_statement self.now) source.now }
         requires units { IsUnitsOf add.now units }
@@ -194,7 +194,7 @@ impl Asked {
 }
 
 // The units that the grid has in any cycle.
-fn units_of(grid: &Grid) -> Row
+fn units_of(grid: &Grid) -> Row<4>
     ensures { IsUnitsOf grid.now result }
 {
     let mut units = Row::empty();

@@ -1,6 +1,7 @@
 -- Behind `cycle_limit` cycles what is accepted is what is accepted from the start.
 use Rattle.std.proofs.Common.{◌≡◌, ℕ, ◌+◌, ◌-◌, ◌<◌, ◌≤◌, ⊎_elim, List, [], ◌∷◌, ◌++◌, map, refl, sym, ap, ◌∙◌, subst, append_assoc, arith, inl, inr}
 use Rattle.std.specs.Prelude.{◌↔◌}
+use Rattle.hz_base_model.specs.Limits.{cycle_limit}
 use Rattle.hz_acceptance_model.specs.Accepting.Events.{Event, advance}
 use Rattle.hz_acceptance_model.specs.Accepting.Replay.{Pipeline, Accepted, FirstRefused, start}
 use Rattle.hz_acceptance_model.proofs.Accepting.AcceptanceLaws.{advance_accepted, advances_accepted, accepted_or_refused}

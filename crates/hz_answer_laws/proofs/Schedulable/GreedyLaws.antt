@@ -4,9 +4,11 @@ use Rattle.std.specs.List.{AllPairs, range_with_len}
 use Rattle.std.proofs.lemmas.Bool.{cases_lt}
 use Rattle.std.proofs.lemmas.List.FromFn.{length-range_with_len}
 use Rattle.std.proofs.lemmas.List.Elements.{Contains-append_left, Contains-append_right}
+use Rattle.hz_base_model.specs.Limits.{cycle_limit}
 use Rattle.hz_base_model.proofs.Elements.{Contains-head, Contains-map, Contains-from_map, Contains-range}
 use Rattle.hz_acceptance_model.specs.Accepting.Events.{Event, issue, advance}
 use Rattle.hz_block_model.specs.Dependences.Graphs.{Edge}
+use Rattle.hz_block_model.specs.Scheduling.Machines.{most_wait}
 use Rattle.hz_block_model.specs.Scheduling.Schedules.{Graph, Slot, class_at, height_at, places, present, advance_to, spell, IsReady, GoesBefore, Legal, Greedy, IsCandidate, FollowsGreedily}
 use Rattle.hz_block_model.proofs.Scheduling.OneSchedule.{Rises}
 use Rattle.hz_block_model.proofs.Scheduling.GrowLaws.{greedy-push, legal_when_all}

@@ -16,6 +16,7 @@ use Rattle.hz_acceptance_model.specs.Pipelines.Pipelines.{pipeline_with}
 use Rattle.hz_block_model.specs.Running.Blocks.{Instruction}
 use Rattle.hz_block_model.specs.Dependences.Classes.{ClassFault}
 use Rattle.hz_block_model.specs.Dependences.Graphs.{Edge}
+use Rattle.hz_block_model.specs.Scheduling.Machines.{most_wait}
 use Rattle.hz_block_model.specs.Scheduling.Schedules.{Graph, Slot, class_at, places, present, advance_to, spell, IsReady, IsCandidate, FollowsGreedily}
 use Rattle.hz_block_model.proofs.Scheduling.OneSchedule.{Rises}
 use Rattle.hz_block_model.proofs.Scheduling.TraceLaws.{cycles_spelled}

@@ -4,6 +4,7 @@ use Rattle.std.specs.Prelude.{is_some, IsSome, MatchBool, slice_index_or, ◌↔
 use Rattle.std.proofs.lemmas.Bool.{cases_lt}
 use Rattle.std.proofs.lemmas.List.{get_or_default, get_or_past}
 use Rattle.std.proofs.lemmas.List.Elements.{All-append, All-cons, All-head, All-tail, All-nil}
+use Rattle.hz_base_model.specs.Limits.{cycle_limit}
 use Rattle.hz_base_model.specs.Pairs.{Pair}
 use Rattle.hz_acceptance_model.specs.Accepting.Events.{Event, issue, advance, IsOfClass}
 use Rattle.hz_acceptance_model.specs.Accepting.Replay.{Pipeline, Accepted}
