@@ -1,6 +1,6 @@
 //! Alternatives cut down to one automaton.
 
-ghost use Rattle.std.specs.Prelude.{◌≡◌, ◌↔◌, ◌++◌, ◌∷◌, ℕ, [], All, Contains, IfOk, not, filter, map, if◌then◌else◌};
+ghost use Rattle.std.specs.Prelude.{◌≡◌, ◌↔◌, ◌++◌, ◌∷◌, ℕ, [], All, Contains, IfOk, OnOk, not, filter, map, if◌then◌else◌};
 ghost use Rattle.std.specs.List.{list_any};
 ghost use Rattle.std.specs.Ordering.{nat_cmp};
 ghost use Rattle.hz_base_model.specs.Pairs.{IsAscendingBy, grid_eq};
@@ -58,6 +58,16 @@ fn is_new(seen: &mut IndexSet<Vec<(u8, u16)>>, pairs: Vec<(u8, u16)>) -> Result<
     Ok(new)
 }
 
+/// Adds a grid behind the others, where it is new.
+fn keep_new(grids: &mut Vec<Grid>, grid: Grid, new: bool) -> Result<(), NoMemory>
+    ensures { OnOk result (grids.new.items ≡ (if new then grids.old.items ++ grid ∷ [] else grids.old.items)) }
+{
+    if new {
+        grids.push(grid)?;
+    }
+    Ok(())
+}
+
 /// What alternatives take of the units of an automaton, in their order, each later equal grid dropped. Units are below
 /// `UNITS` and cycles below `CYCLES` of `hz_grid`; pairs may stand in any order. `NoMemory` where there was none.
 pub fn project(alloc: Global, alts: &[Alt], automaton: u8) -> Result<Vec<Grid>, NoMemory>
@@ -68,9 +78,8 @@ pub fn project(alloc: Global, alts: &[Alt], automaton: u8) -> Result<Vec<Grid>, 
     let mut grids = Vec::new(alloc);
     for alt in alts {
         let (pairs, grid) = cut(alloc, alt, automaton)?;
-        if is_new(&mut seen, pairs)? {
-            grids.push(grid)?;
-        }
+        let new = is_new(&mut seen, pairs)?;
+        keep_new(&mut grids, grid, new)?;
     }
     Ok(grids)
 }

@@ -11,8 +11,8 @@ ghost use Rattle.hz_block_model.specs.Scheduling.Machines.{most_wait};
 ghost use Rattle.hz_block_model.specs.Scheduled.BlockSchedules.{StartsAlone, IsScheduleOf};
 
 /// A block of a description without a fault, each of whose instructions can be issued from the start, has a schedule. In every
-/// schedule an issue comes at most `most_wait` cycles behind the one before it: 1,000 for all waits, and 256 until nothing is
-/// reserved. So the last comes within so many cycles for each.
+/// schedule an issue comes at most `most_wait` cycles behind the one before it: `latency_limit` for all waits, and `cycle_limit`
+/// until nothing is reserved. So the last comes within so many cycles for each.
 pub fn every_block_has_a_schedule()
     ensures some { (d : Description) (known : Known) (block : List Instruction) → IsCheckable d → IsSound d known → All (StartsAlone d known) block → (g : Graph) × (slots : List Slot) × IsScheduleOf d known block g slots }
     ensures next { (d : Description) (known : Known) (block : List Instruction) (g : Graph) (slots : List Slot) → IsCheckable d → IsSound d known → IsScheduleOf d known block g slots → (before after : List Slot) (x : Slot) → slots ≡ before ++ x ∷ after → x.cycle ≤ present 0 before + most_wait }

@@ -18,7 +18,8 @@ pub fn line_rows()
     ensures name { head_in 2 (codes "automaton a,b 3 01") ≡ Err bad_line }
     ensures start { origin_in 1 4 (codes "from -") ≡ Ok tt }
     ensures one_number { origin_in 1 4 (codes "from 0") ≡ Err bad_line }
-    ensures colons { grid_in (codes "grid 255:a:b") ≡ Ok tt }
+    ensures colons { grid_in (codes "grid 511:a:b") ≡ Ok tt }
     ensures no_cycle { grid_in (codes "grid :a") ≡ Err bad_number }
-    ensures no_unit { grid_in (codes "grid 256:a 1:") ≡ Err bad_line }
+    ensures past { grid_in (codes "grid 512:a") ≡ Err out_of_range }
+    ensures no_unit { grid_in (codes "grid 512:a 1:") ≡ Err bad_line }
 {}

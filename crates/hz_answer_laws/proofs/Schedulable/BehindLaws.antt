@@ -1,6 +1,7 @@
--- Behind 256 cycles what is accepted is what is accepted from the start.
+-- Behind `cycle_limit` cycles what is accepted is what is accepted from the start.
 use Rattle.std.proofs.Common.{◌≡◌, ℕ, ◌+◌, ◌-◌, ◌<◌, ◌≤◌, ⊎_elim, List, [], ◌∷◌, ◌++◌, map, refl, sym, ap, ◌∙◌, subst, append_assoc, arith, inl, inr}
 use Rattle.std.specs.Prelude.{◌↔◌}
+use Rattle.hz_base_model.specs.Limits.{cycle_limit}
 use Rattle.hz_acceptance_model.specs.Accepting.Events.{Event, advance}
 use Rattle.hz_acceptance_model.specs.Accepting.Replay.{Pipeline, Accepted, FirstRefused, start}
 use Rattle.hz_acceptance_model.proofs.Accepting.AcceptanceLaws.{advance_accepted, advances_accepted, accepted_or_refused}
@@ -54,18 +55,18 @@ module _ (d : Description) (known : Known) where
     )
 
     -- events behind a while, with the while in two
-    parts_of_while : (t u : List Event) (n : ℕ) → 256 ≤ n → Accepted machine (settled (t ++ advance (n - 256) ∷ []) ++ u) ↔ Accepted machine (t ++ advance n ∷ u)
+    parts_of_while : (t u : List Event) (n : ℕ) → cycle_limit ≤ n → Accepted machine (settled (t ++ advance (n - cycle_limit) ∷ []) ++ u) ↔ Accepted machine (t ++ advance n ∷ u)
     parts_of_while t u n long =
-        let whole : (n - 256) + 256 ≡ n = omega arith in
-        let same : t ++ advance (n - 256) ∷ advance 256 ∷ u ≡ settled (t ++ advance (n - 256) ∷ []) ++ u =
-        sym (ap (λ (v : List Event). v ++ u) (append_assoc t (advance (n - 256) ∷ []) (advance 256 ∷ [])) ∙ append_assoc t (advance (n - 256) ∷ advance 256 ∷ []) u) in
-        subst (λ (m : ℕ). Accepted machine (settled (t ++ advance (n - 256) ∷ []) ++ u) ↔ Accepted machine (t ++ advance m ∷ u)) whole
-        (subst (λ (v : List Event). Accepted machine v ↔ Accepted machine (t ++ advance ((n - 256) + 256) ∷ u)) same (advances_accepted machine (n - 256) 256 t u))
+        let whole : (n - cycle_limit) + cycle_limit ≡ n = omega arith in
+        let same : t ++ advance (n - cycle_limit) ∷ advance cycle_limit ∷ u ≡ settled (t ++ advance (n - cycle_limit) ∷ []) ++ u =
+        sym (ap (λ (v : List Event). v ++ u) (append_assoc t (advance (n - cycle_limit) ∷ []) (advance cycle_limit ∷ [])) ∙ append_assoc t (advance (n - cycle_limit) ∷ advance cycle_limit ∷ []) u) in
+        subst (λ (m : ℕ). Accepted machine (settled (t ++ advance (n - cycle_limit) ∷ []) ++ u) ↔ Accepted machine (t ++ advance m ∷ u)) whole
+        (subst (λ (v : List Event). Accepted machine v ↔ Accepted machine (t ++ advance ((n - cycle_limit) + cycle_limit) ∷ u)) same (advances_accepted machine (n - cycle_limit) cycle_limit t u))
 
     -- behind accepted events and a while the same is accepted as from the start
-    pub behind_while : (t u : List Event) (n : ℕ) → 256 ≤ n → Accepted machine t → Accepted machine (t ++ advance n ∷ u) ↔ Accepted machine u
+    pub behind_while : (t u : List Event) (n : ℕ) → cycle_limit ≤ n → Accepted machine t → Accepted machine (t ++ advance n ∷ u) ↔ Accepted machine u
     behind_while t u n long accepted =
-        let front = t ++ advance (n - 256) ∷ [] in
-        let quiet = behind front u (advance_accepted machine front 256 (advance_accepted machine t (n - 256) accepted)) in
+        let front = t ++ advance (n - cycle_limit) ∷ [] in
+        let quiet = behind front u (advance_accepted machine front cycle_limit (advance_accepted machine t (n - cycle_limit) accepted)) in
         let joined = parts_of_while t u n long in
         (λ h. quiet.0 (joined.1 h), λ h. joined.0 (quiet.1 h))

@@ -4,9 +4,11 @@ use Rattle.std.specs.List.{AllPairs, range_with_len}
 use Rattle.std.proofs.lemmas.Bool.{cases_lt}
 use Rattle.std.proofs.lemmas.List.FromFn.{length-range_with_len}
 use Rattle.std.proofs.lemmas.List.Elements.{Contains-append_left, Contains-append_right}
+use Rattle.hz_base_model.specs.Limits.{cycle_limit}
 use Rattle.hz_base_model.proofs.Elements.{Contains-head, Contains-map, Contains-from_map, Contains-range}
 use Rattle.hz_acceptance_model.specs.Accepting.Events.{Event, issue, advance}
 use Rattle.hz_block_model.specs.Dependences.Graphs.{Edge}
+use Rattle.hz_block_model.specs.Scheduling.Machines.{most_wait}
 use Rattle.hz_block_model.specs.Scheduling.Schedules.{Graph, Slot, class_at, height_at, places, present, advance_to, spell, IsReady, GoesBefore, Legal, Greedy, IsCandidate, FollowsGreedily}
 use Rattle.hz_block_model.proofs.Scheduling.OneSchedule.{Rises}
 use Rattle.hz_block_model.proofs.Scheduling.GrowLaws.{greedy-push, legal_when_all}
@@ -189,20 +191,20 @@ module _ (accepts : List Event → Type 0) (told : (t : List Event) → IsTold (
   -- ---- an issue comes
 
   module _ (upward : (e : Edge) → Contains g.edges e → (e.from < e.to) × (e.to < length g.nodes) × (e.cost ≤ 1000))
-      (alone : (j : ℕ) → j < length g.nodes → (t : List Event) (n : ℕ) → accepts t → 256 ≤ n → accepts (t ++ advance n ∷ issue (class_at g j) ∷ [])) where
-    comes : (slots : List Slot) → IsGoing slots → (j : ℕ) → j < length g.nodes → (Contains (places slots) j → ⊥) → ((i : ℕ) → i < j → Contains (places slots) i) → IsCandidate accepts g slots (present 0 slots + 1256) j
+      (alone : (j : ℕ) → j < length g.nodes → (t : List Event) (n : ℕ) → accepts t → cycle_limit ≤ n → accepts (t ++ advance n ∷ issue (class_at g j) ∷ [])) where
+    comes : (slots : List Slot) → IsGoing slots → (j : ℕ) → j < length g.nodes → (Contains (places slots) j → ⊥) → ((i : ℕ) → i < j → Contains (places slots) i) → IsCandidate accepts g slots (present 0 slots + most_wait) j
     comes slots going j within left below = record { within = within; left = left; ready = ready; fits = fits }
       where
-        ready : IsReady g slots (present 0 slots + 1256) j
+        ready : IsReady g slots (present 0 slots + most_wait) j
         ready e there to =
             let (up, inside, small) = upward e there in
             let (x, held, place) = Contains-from_map (λ (y : Slot). y.place) slots e.from (below e.from (omega arith)) in
             let low = below_present slots 0 going.rising x held in
             (x, held, place, omega arith)
 
-        fits : accepts (spell g slots ++ (advance_to (present 0 slots) (present 0 slots + 1256) ++ issue (class_at g j) ∷ []))
-        fits = subst (λ (t : List Event). accepts (spell g slots ++ (t ++ issue (class_at g j) ∷ []))) (sym (advances_later (present 0 slots) (present 0 slots + 1256) (omega arith)))
-            (alone j within (spell g slots) ((present 0 slots + 1256) - present 0 slots) going.accepted (omega arith))
+        fits : accepts (spell g slots ++ (advance_to (present 0 slots) (present 0 slots + most_wait) ++ issue (class_at g j) ∷ []))
+        fits = subst (λ (t : List Event). accepts (spell g slots ++ (t ++ issue (class_at g j) ∷ []))) (sym (advances_later (present 0 slots) (present 0 slots + most_wait) (omega arith)))
+            (alone j within (spell g slots) ((present 0 slots + most_wait) - present 0 slots) going.accepted (omega arith))
 
     -- Slots with one more, and what is then left.
     record IsStep (slots : List Slot) (left : List ℕ) : Type 0 where
@@ -239,7 +241,7 @@ module _ (accepts : List Event → Type 0) (told : (t : List Event) → IsTold (
 
     next : (slots : List Slot) → IsGoing slots → (j : ℕ) × (j < length g.nodes) × (Contains (places slots) j → ⊥) × ((i : ℕ) → i < j → Contains (places slots) i) → Next slots
     next slots going (j, within, left, below) =
-        soonest_from slots 1256 (present 0 slots) (omega arith) (λ cycle i low high k. omega (arith, low, high)) j (comes slots going j within left below)
+        soonest_from slots most_wait (present 0 slots) (omega arith) (λ cycle i low high k. omega (arith, low, high)) j (comes slots going j within left below)
 
     -- A whole schedule.
     abbrev Whole : Type 0

@@ -16,6 +16,7 @@ use Rattle.hz_acceptance_model.specs.Pipelines.Pipelines.{pipeline_with}
 use Rattle.hz_block_model.specs.Running.Blocks.{Instruction}
 use Rattle.hz_block_model.specs.Dependences.Classes.{ClassFault}
 use Rattle.hz_block_model.specs.Dependences.Graphs.{Edge}
+use Rattle.hz_block_model.specs.Scheduling.Machines.{most_wait}
 use Rattle.hz_block_model.specs.Scheduling.Schedules.{Graph, Slot, class_at, places, present, advance_to, spell, IsReady, IsCandidate, FollowsGreedily}
 use Rattle.hz_block_model.proofs.Scheduling.OneSchedule.{Rises}
 use Rattle.hz_block_model.proofs.Scheduling.TraceLaws.{cycles_spelled}
@@ -69,19 +70,19 @@ module _ (d : Description) (known : Known) where
       omega (arith, one, other, rise)
 
   module _ (block : List Instruction) (g : Graph) (slots : List Slot) (formed : IsCheckable d) (sound : IsSound d known) (is : IsScheduleOf d known block g slots) where
-    pub soon_behind : (before after : List Slot) (x : Slot) → slots ≡ before ++ x ∷ after → x.cycle ≤ present 0 before + 1256
+    pub soon_behind : (before after : List Slot) (x : Slot) → slots ≡ before ++ x ∷ after → x.cycle ≤ present 0 before + most_wait
     soon_behind before after x e = ⊎_elim
-        (λ (late : present 0 before + 1256 < x.cycle). absurd (f.soonest (present 0 before + 1256) x.place (omega arith) late (sooner late)))
-        (λ (soon : x.cycle ≤ present 0 before + 1256). soon)
-        (cases_lt (present 0 before + 1256) x.cycle)
+        (λ (late : present 0 before + most_wait < x.cycle). absurd (f.soonest (present 0 before + most_wait) x.place (omega arith) late (sooner late)))
+        (λ (soon : x.cycle ≤ present 0 before + most_wait). soon)
+        (cases_lt (present 0 before + most_wait) x.cycle)
       where
         f : FollowsGreedily (Accepted (pipeline_with d known)) g before x
         f = is.greedy before after x e
 
-        sooner : present 0 before + 1256 < x.cycle → IsCandidate (Accepted (pipeline_with d known)) g before (present 0 before + 1256) x.place
+        sooner : present 0 before + most_wait < x.cycle → IsCandidate (Accepted (pipeline_with d known)) g before (present 0 before + most_wait) x.place
         sooner late = record { within = (f.may).within; left = (f.may).left; ready = ready; fits = fits }
           where
-            ready : IsReady g before (present 0 before + 1256) x.place
+            ready : IsReady g before (present 0 before + most_wait) x.place
             ready edge there to =
                 let (y, held, place, waited) = (f.may).ready edge there to in
                 let (up, inside, small) = upward_edges d block g formed is.graph edge there in
@@ -97,30 +98,30 @@ module _ (d : Description) (known : Known) where
             alone : Accepted (pipeline_with d known) (issue (class_at g x.place) ∷ [])
             alone = (behind_while d known formed sound (spell g before) (issue (class_at g x.place) ∷ []) (x.cycle - present 0 before) (omega arith) front).0 then
 
-            fits : Accepted (pipeline_with d known) (spell g before ++ (advance_to (present 0 before) (present 0 before + 1256) ++ issue (class_at g x.place) ∷ []))
-            fits = subst (λ (t : List Event). Accepted (pipeline_with d known) (spell g before ++ (t ++ issue (class_at g x.place) ∷ []))) (sym (advances_later (present 0 before) (present 0 before + 1256) (omega arith)))
-                ((behind_while d known formed sound (spell g before) (issue (class_at g x.place) ∷ []) ((present 0 before + 1256) - present 0 before) (omega arith) front).1 alone)
+            fits : Accepted (pipeline_with d known) (spell g before ++ (advance_to (present 0 before) (present 0 before + most_wait) ++ issue (class_at g x.place) ∷ []))
+            fits = subst (λ (t : List Event). Accepted (pipeline_with d known) (spell g before ++ (t ++ issue (class_at g x.place) ∷ []))) (sym (advances_later (present 0 before) (present 0 before + most_wait) (omega arith)))
+                ((behind_while d known formed sound (spell g before) (issue (class_at g x.place) ∷ []) ((present 0 before + most_wait) - present 0 before) (omega arith) front).1 alone)
 
-    soon_from : (before after : List Slot) → slots ≡ before ++ after → present 0 before ≤ 1256 * length before → present 0 slots ≤ 1256 * length slots
-    soon_from before [] e low = subst (λ (xs : List Slot). present 0 xs ≤ 1256 * length xs) (sym (e ∙ append-nil before)) low
+    soon_from : (before after : List Slot) → slots ≡ before ++ after → present 0 before ≤ most_wait * length before → present 0 slots ≤ most_wait * length slots
+    soon_from before [] e low = subst (λ (xs : List Slot). present 0 xs ≤ most_wait * length xs) (sym (e ∙ append-nil before)) low
     soon_from before (x ∷ after) e low =
         let here = soon_behind before after x e in
         let now = present-push 0 before x in
         let long = length-append before (x ∷ []) in
         soon_from (before ++ x ∷ []) after (e ∙ sym (append_assoc before (x ∷ []) after)) (omega (arith, here, now, long, low))
 
-    pub soon_all : present 0 slots ≤ 1256 * length slots
+    pub soon_all : present 0 slots ≤ most_wait * length slots
     soon_all = soon_from [] slots refl (omega arith)
 
-pub soon_issued : (d : Description) (known : Known) (block : List Instruction) (g : Graph) (slots : List Slot) → IsCheckable d → IsSound d known → IsScheduleOf d known block g slots → present 0 slots ≤ 1256 * length slots
+pub soon_issued : (d : Description) (known : Known) (block : List Instruction) (g : Graph) (slots : List Slot) → IsCheckable d → IsSound d known → IsScheduleOf d known block g slots → present 0 slots ≤ most_wait * length slots
 soon_issued d known block g slots formed sound is = soon_all d known block g slots formed sound is
 
 -- each issue comes soon behind the one before it
-pub next_issued : (d : Description) (known : Known) (block : List Instruction) (g : Graph) (slots : List Slot) → IsCheckable d → IsSound d known → IsScheduleOf d known block g slots → (before after : List Slot) (x : Slot) → slots ≡ before ++ x ∷ after → x.cycle ≤ present 0 before + 1256
+pub next_issued : (d : Description) (known : Known) (block : List Instruction) (g : Graph) (slots : List Slot) → IsCheckable d → IsSound d known → IsScheduleOf d known block g slots → (before after : List Slot) (x : Slot) → slots ≡ before ++ x ∷ after → x.cycle ≤ present 0 before + most_wait
 next_issued d known block g slots formed sound is = soon_behind d known block g slots formed sound is
 
 -- the trace of a schedule is short
-pub short_trace : (d : Description) (known : Known) (block : List Instruction) (g : Graph) (slots : List Slot) → IsCheckable d → IsSound d known → IsScheduleOf d known block g slots → cycles_of (spell g slots) ≤ 1256 * length block
+pub short_trace : (d : Description) (known : Known) (block : List Instruction) (g : Graph) (slots : List Slot) → IsCheckable d → IsSound d known → IsScheduleOf d known block g slots → cycles_of (spell g slots) ≤ most_wait * length block
 short_trace d known block g slots formed sound is =
     let soon = soon_issued d known block g slots formed sound is in
     let cycles = cycles_spelled g slots (is.legal).rising in

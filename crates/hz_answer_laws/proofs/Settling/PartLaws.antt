@@ -1,9 +1,10 @@
--- A compiled part settles: behind events that it walks, 256 cycles lead it to its start.
+-- A compiled part settles: behind events that it walks, `cycle_limit` cycles lead it to its start.
 use Rattle.std.proofs.Common.{◌≡◌, ℕ, ◌+◌, ◌<◌, ◌≤◌, Bool, true, false, List, [], ◌∷◌, ◌++◌, length, All, Option, Some, None, refl, sym, ap, ◌∙◌, subst, arith, ⊎_elim}
 use Rattle.std.specs.Prelude.{is_some, IsSome, MatchBool, slice_index_or, ◌↔◌}
 use Rattle.std.proofs.lemmas.Bool.{cases_lt}
 use Rattle.std.proofs.lemmas.List.{get_or_default, get_or_past}
 use Rattle.std.proofs.lemmas.List.Elements.{All-append, All-cons, All-head, All-tail, All-nil}
+use Rattle.hz_base_model.specs.Limits.{cycle_limit}
 use Rattle.hz_base_model.specs.Pairs.{Pair}
 use Rattle.hz_acceptance_model.specs.Accepting.Events.{Event, issue, advance, IsOfClass}
 use Rattle.hz_acceptance_model.specs.Accepting.Replay.{Pipeline, Accepted}
@@ -80,7 +81,7 @@ module _ (lists columns : List (List (List (Pair ℕ)))) (part : Part) (is : IsC
 
   module _ (table : IsTable part.rows part.columns) (m : Pipeline ℕ) (short : IsShort m) (walks : WalksAccepted (length lists) m part) (t : List Event) (all : All (IsOfClass (length lists)) t) (walked : is_some (part_walk part 0 (settled t)) ≡ true) where
     all_settled : All (IsOfClass (length lists)) (settled t)
-    all_settled = All-append (IsOfClass (length lists)) t (advance 256 ∷ []) all (All-cons (IsOfClass (length lists)) (advance 256) [] tt (All-nil (IsOfClass (length lists))))
+    all_settled = All-append (IsOfClass (length lists)) t (advance cycle_limit ∷ []) all (All-cons (IsOfClass (length lists)) (advance cycle_limit) [] tt (All-nil (IsOfClass (length lists))))
 
     accepted : Accepted m (settled t)
     accepted = (walks.walks (settled t) all_settled).0 walked

@@ -1,7 +1,8 @@
--- What stands reserved 256 cycles behind events: nothing. From there on the same events are accepted as from the start.
+-- What stands reserved `cycle_limit` cycles behind events: nothing. From there on the same events are accepted as from the start.
 use Rattle.std.proofs.Common.{◌≡◌, ℕ, ◌+◌, ◌<◌, List, [], ◌∷◌, ◌++◌, Contains, refl, sym, ap, ◌∙◌, subst, arith, ⊎_elim}
 use Rattle.std.specs.Prelude.{◌↔◌}
 use Rattle.std.proofs.lemmas.List.Elements.{Contains-append_cases}
+use Rattle.hz_base_model.specs.Limits.{cycle_limit}
 use Rattle.hz_base_model.specs.Pairs.{Pair, later, placed}
 use Rattle.hz_base_model.proofs.Elements.{Contains-nil, Contains-head, Contains-cons_cases, Contains-from_map}
 use Rattle.hz_acceptance_model.specs.Accepting.Events.{Event, issue, advance}
@@ -14,13 +15,13 @@ use Rattle.hz_acceptance_model.proofs.Accepting.ReplayLaws.{run_of_choices}
 use Rattle.hz_automata_model.proofs.Reaching.PathLaws.{empty_future}
 use Rattle.hz_automata_model.proofs.Reaching.StepLaws.{step_from_leads, leads_from_step, unbroken_step, one_future}
 
--- the pairs of every alternative stand in cycles below 256
+-- the pairs of every alternative stand in cycles below `cycle_limit`
 abbrev pub IsShort : {U : Type 0} → Pipeline U → Type 0
-IsShort {U} m = (k i : ℕ) (p : Pair U) → Contains (chosen m k i) p → p.cycle < 256
+IsShort {U} m = (k i : ℕ) (p : Pair U) → Contains (chosen m k i) p → p.cycle < cycle_limit
 
--- what 256 cycles lead to
+-- what `cycle_limit` cycles lead to
 abbrev pub settled : List Event → List Event
-settled t = t ++ advance 256 ∷ []
+settled t = t ++ advance cycle_limit ∷ []
 
 module _ {U : Type 0} (m : Pipeline U) where
   -- runs over two lists of events
@@ -48,13 +49,13 @@ module _ {U : Type 0} (m : Pipeline U) where
   pub accepted_settled : (t : List Event) → Accepted m t → Accepted m (settled t)
   accepted_settled t h =
       let (q, run) = runs_from_accepted m t h in
-      let last : State U = record { reserved = q.reserved; now = 256 + q.now } in
-      accepted_from_runs m (settled t) (last, run_joined t (advance 256 ∷ []) start q last run (last, refl, refl))
+      let last : State U = record { reserved = q.reserved; now = cycle_limit + q.now } in
+      accepted_from_runs m (settled t) (last, run_joined t (advance cycle_limit ∷ []) start q last run (last, refl, refl))
 
   module _ (short : IsShort m) where
-    -- no pair stands 256 cycles from now, or later
+    -- no pair stands `cycle_limit` cycles from now, or later
     abbrev IsNear : State U → Type 0
-    IsNear s = (p : Pair U) → Contains s.reserved p → p.cycle < s.now + 256
+    IsNear s = (p : Pair U) → Contains s.reserved p → p.cycle < s.now + cycle_limit
 
     near_step : (e : Event) (s q : State U) → IsNear s → Step m s e q → IsNear q
     near_step (advance n) s q near step = subst IsNear (sym step) (λ p h. let low = near p h in omega arith)
@@ -74,12 +75,12 @@ module _ {U : Type 0} (m : Pipeline U) where
     near_start : IsNear start
     near_start p h = absurd (Contains-nil p h)
 
-    -- 256 cycles later nothing stands
+    -- `cycle_limit` cycles later nothing stands
     pub nothing_stands : (t : List Event) (q : State U) → Plays m start (settled t) q → IsFuture [] q
     nothing_stands t q h =
-        let (r, one, (middle, step, last)) = run_cut t (advance 256 ∷ []) start q h in
+        let (r, one, (middle, step, last)) = run_cut t (advance cycle_limit ∷ []) start q h in
         let near = near_run t start r near_start one in
-        let is : q ≡ record { reserved = r.reserved; now = 256 + r.now } = last ∙ step in
+        let is : q ≡ record { reserved = r.reserved; now = cycle_limit + r.now } = last ∙ step in
         subst (IsFuture []) (sym is) (record {
           pairs = λ unit cycle. (
             λ none. absurd (Contains-nil _ none),
@@ -91,7 +92,7 @@ module _ {U : Type 0} (m : Pipeline U) where
     pub settled_future : (t : List Event) → (a : Accepted m (settled t)) → IsFuture [] (left_by m (settled t) a.0)
     settled_future t (choices, is) = nothing_stands t (left_by m (settled t) choices) (run_of_choices m (settled t) choices is)
 
-    -- behind 256 cycles the same is accepted as from the start
+    -- behind `cycle_limit` cycles the same is accepted as from the start
     pub accepted_behind : (t u : List Event) → Accepted m (settled t) → Accepted m (settled t ++ u) ↔ Accepted m u
     accepted_behind t u before = (
       λ h.
@@ -106,7 +107,7 @@ module _ {U : Type 0} (m : Pipeline U) where
           accepted_from_runs m (settled t ++ u) (o, run_joined (settled t) u start s o one other),
     )
 
-    -- 256 cycles leave the empty grid alone
+    -- `cycle_limit` cycles leave the empty grid alone
     pub left_settled : (t : List Event) → Accepted m (settled t) → IsLeft m (settled t) ([] ∷ [])
     left_settled t (choices, is) = record {
       different = λ i j d before low. absurd (omega arith);

@@ -5,6 +5,7 @@ use Rattle.std.specs.Option.{option_map}
 use Rattle.std.proofs.lemmas.List.{length-map, get_or_default}
 use Rattle.std.proofs.lemmas.List.Elements.{All-contains, All-append, All-cons, All-head, All-tail, All-nil}
 use Rattle.std.proofs.lemmas.Option.{slice_get-map, slice_get_within, slice_get-get_or, get_or_from_slice_get}
+use Rattle.hz_base_model.specs.Limits.{cycle_limit}
 use Rattle.hz_base_model.specs.Pairs.{Pair}
 use Rattle.hz_base_model.proofs.Elements.{Contains-nil, Contains-from_map}
 use Rattle.hz_description_model.specs.Reservations.Alternatives.{Alternative}
@@ -39,21 +40,21 @@ module _ (options : Options) (automata : List AutomatonParts) (classes : List Cl
   abbrev list_at : ℕ → ClassParts → List (List (Pair ℕ))
   list_at a c = slice_index_or c.lists a []
 
-  short_class : (a : ℕ) → a < length automata → (k : ℕ) (c : ClassParts) → slice_get classes k ≡ Some c → (grid : List (Pair ℕ)) → Contains (list_at a c) grid → (p : Pair ℕ) → Contains grid p → p.cycle < 256
+  short_class : (a : ℕ) → a < length automata → (k : ℕ) (c : ClassParts) → slice_get classes k ≡ Some c → (grid : List (Pair ℕ)) → Contains (list_at a c) grid → (p : Pair ℕ) → Contains grid p → p.cycle < cycle_limit
   short_class a low k c at grid inside p there =
       let other : AutomatonParts = automaton_at automata a in
       let is_in : Contains classes c = (k, slice_get_within classes k c at, get_or_from_slice_get classes k c c at) in
-      let of_class = All-contains (λ (x : ClassParts). (n : ℕ) (b : AutomatonParts) → slice_get automata n ≡ Some b → All (λ g. All (λ q. (q.unit < length b.units) × (q.cycle < 256)) g) (slice_index_or x.lists n [])) classes c kept.grids is_in in
+      let of_class = All-contains (λ (x : ClassParts). (n : ℕ) (b : AutomatonParts) → slice_get automata n ≡ Some b → All (λ g. All (λ q. (q.unit < length b.units) × (q.cycle < cycle_limit)) g) (slice_index_or x.lists n [])) classes c kept.grids is_in in
       let of_list = of_class a other (slice_get-get_or automata a _ low) in
-      let of_grid = All-contains (λ g. All (λ q. (q.unit < length other.units) × (q.cycle < 256)) g) (list_at a c) grid of_list inside in
-      (All-contains (λ q. (q.unit < length other.units) × (q.cycle < 256)) grid p of_grid there).1
+      let of_grid = All-contains (λ g. All (λ q. (q.unit < length other.units) × (q.cycle < cycle_limit)) g) (list_at a c) grid of_list inside in
+      (All-contains (λ q. (q.unit < length other.units) × (q.cycle < cycle_limit)) grid p of_grid there).1
 
   pub short_pipeline : (a : ℕ) → a < length automata → IsShort (automaton_pipeline options automata classes a)
   short_pipeline a low k i p h =
       let same = slice_get-map class_of_grids (lists_at classes a) k ∙ ap (option_map class_of_grids) (slice_get-map (list_at a) classes k) in
       go (slice_get classes k) refl (subst (λ (o : Option (Class ℕ)). Contains (pairs_at (slice_get (of_class o) i)) p) same h)
     where
-      go : (o : Option ClassParts) → slice_get classes k ≡ o → Contains (pairs_at (slice_get (of_class (option_map class_of_grids (option_map (list_at a) o))) i)) p → p.cycle < 256
+      go : (o : Option ClassParts) → slice_get classes k ≡ o → Contains (pairs_at (slice_get (of_class (option_map class_of_grids (option_map (list_at a) o))) i)) p → p.cycle < cycle_limit
       go None e inside = let (x, none, there) = in_alternative [] i p inside in absurd (Contains-nil x none)
       go (Some c) e inside =
           let (x, in_list, there) = in_alternative (map of_pairs (list_at a c)) i p inside in
@@ -78,7 +79,7 @@ module _ (options : Options) (automata : List AutomatonParts) (classes : List Cl
         let classes_of : All (IsOfClass (length (lists_at classes i))) t = subst (λ (n : ℕ). All (IsOfClass n) t) (as_many ∙ sym count) all in
         let here = machine_walk-part m t states walked i part (slice_get-get_or m.parts i _ low) in
         let standing : is_some (part_walk part 0 t) ≡ true = ap is_some (sym here) ∙ ap is_some (slice_get-get_or states i 0 (let each = machine_walk-each m t states walked in omega arith)) in
-        let settled_classes = All-append (IsOfClass (length (lists_at classes i))) t (advance 256 ∷ []) classes_of (All-cons (IsOfClass (length (lists_at classes i))) (advance 256) [] tt (All-nil (IsOfClass (length (lists_at classes i))))) in
+        let settled_classes = All-append (IsOfClass (length (lists_at classes i))) t (advance cycle_limit ∷ []) classes_of (All-cons (IsOfClass (length (lists_at classes i))) (advance cycle_limit) [] tt (All-nil (IsOfClass (length (lists_at classes i))))) in
         let now = (walks.walks (settled t) settled_classes).1 (accepted_settled (automaton_pipeline options automata classes i) t ((walks.walks t classes_of).0 standing)) in
         settles_at_start (lists_at classes i) is.columns part is.shared is.number kept_part.table (automaton_pipeline options automata classes i) (short_pipeline i there) walks t classes_of now options.no_minimization
         (tells options.no_minimization (automaton_pipeline options automata classes i) part (sym count) is.tells)
