@@ -3,7 +3,7 @@ pub mod Twice
 pub mod PastUnits
 pub mod Bypasses
 pub mod Steps
-use Rattle.std.specs.Prelude.{◌≡◌, ℕ, List, ⊤, Result, Ok, Err, IsErr}
+use Rattle.std.specs.Prelude.{◌≡◌, ℕ, List, ⊤, Option, Some, None, MatchOption, Result, Ok, Err, IsErr}
 use Rattle.hz_check.specs.declared.fault.LimitName.{LimitName}
 use Rattle.hz_check.specs.declared.fault.LimitName.TheVariants.{Automata, Units, Classes, Alternatives, Cycles, Size}
 use Rattle.hz_check.specs.declared.fault.CheckFault.{CheckFault}
@@ -30,21 +30,25 @@ limit_of Alternatives = model.alternatives
 limit_of Cycles = model.cycles
 limit_of Size = model.size
 
+-- the fault of the definitions with its line, and the name that is wrong; want of memory is none
+abbrev pub fault_of : CheckFault → Option ((model.CheckFault × ℕ) × List ℕ)
+fault_of (TwiceDefined line name) = Some ((model.twice_defined, line), name)
+fault_of (ReservedName line name) = Some ((model.reserved_name, line), name)
+fault_of (UnknownName line name) = Some ((model.unknown_name, line), name)
+fault_of (UnknownAutomaton line name) = Some ((model.unknown_automaton, line), name)
+fault_of (UnitNeedsAutomaton line name) = Some ((model.unit_needs_automaton, line), name)
+fault_of (CircularReservation line name) = Some ((model.circular_reservation, line), name)
+fault_of (SelfExclusion line name) = Some ((model.self_exclusion, line), name)
+fault_of (SetAcrossAutomata line name) = Some ((model.set_across_automata, line), name)
+fault_of (Limit what line name) = Some ((model.limit (limit_of what), line), name)
+fault_of (AlternationOfTwoAutomata line name) = Some ((model.alternation_of_two_automata, line), name)
+fault_of (AlternationOfTwoLengths line name) = Some ((model.alternation_of_two_lengths, line), name)
+fault_of (BypassTwice line name) = Some ((model.bypass_twice, line), name)
+fault_of NoMemory = None
+
 -- what is said of a fault with its line and its name holds of this one; want of memory says nothing
 abbrev pub Tells : (model.CheckFault → ℕ → List ℕ → Type 0) → CheckFault → Type 0
-Tells P (TwiceDefined line name) = P model.twice_defined line name
-Tells P (ReservedName line name) = P model.reserved_name line name
-Tells P (UnknownName line name) = P model.unknown_name line name
-Tells P (UnknownAutomaton line name) = P model.unknown_automaton line name
-Tells P (UnitNeedsAutomaton line name) = P model.unit_needs_automaton line name
-Tells P (CircularReservation line name) = P model.circular_reservation line name
-Tells P (SelfExclusion line name) = P model.self_exclusion line name
-Tells P (SetAcrossAutomata line name) = P model.set_across_automata line name
-Tells P (Limit what line name) = P (model.limit (limit_of what)) line name
-Tells P (AlternationOfTwoAutomata line name) = P model.alternation_of_two_automata line name
-Tells P (AlternationOfTwoLengths line name) = P model.alternation_of_two_lengths line name
-Tells P (BypassTwice line name) = P model.bypass_twice line name
-Tells P NoMemory = ⊤
+Tells P fault = MatchOption (fault_of fault) ⊤ (λ told. P told.0.0 told.0.1 told.1)
 
 -- the fault is told of the description, in a form of this line and at this name
 abbrev pub IsToldAt : Description → model.CheckFault → ℕ → List ℕ → Type 0

@@ -1,6 +1,10 @@
 //! What can be wrong with a description that is read.
 
 ghost use Rattle.std.specs.Prelude.{◌≡◌};
+ghost use Rattle.std.specs.Option.{option_and_then, option_map};
+ghost use Rattle.hz_check.specs.Faults.{fault_of, limit_of};
+ghost use Rattle.hz_description_model.specs.Check.CheckFaults.{check_word, limit_passed, limit_word};
+ghost use Rattle.hz_regexp.specs.Faults.{told_by, told_in};
 ghost use Rattle.hz_check.specs.declared.fault.CheckFault.TheVariants.{NoMemory as no_memory};
 
 use hz_regexp::Name;
@@ -23,6 +27,22 @@ pub enum LimitName {
     Cycles,
     /// Cycles and pairs of all alternatives together.
     Size,
+}
+
+impl LimitName {
+    /// The word by which the limit is told. docs/FORMATS.md, 'Answers'.
+    pub fn word(&self) -> &'static str
+        ensures { result.now ≡ limit_word (limit_of self.now) }
+    {
+        match self {
+            LimitName::Automata => "Automata",
+            LimitName::Units => "Units",
+            LimitName::Classes => "Classes",
+            LimitName::Alternatives => "Alternatives",
+            LimitName::Cycles => "Cycles",
+            LimitName::Size => "Size",
+        }
+    }
 }
 
 /// What is wrong with a description: the line of the form, counted from 1, and the name that is wrong there. Of several
@@ -96,21 +116,54 @@ pub enum CheckFault {
 }
 
 impl CheckFault {
-    /// The line of the form; want of memory has none.
-    fn line(&self) -> Option<u32> {
+    /// The word by which the fault is told, and its line; None for want of memory. docs/FORMATS.md, 'Answers'.
+    pub fn told(&self) -> Option<(&'static str, u32)>
+        ensures { told_in result ≡ told_by check_word (option_map (λ told. told.0) (fault_of self.now)) }
+    {
         match self {
-            CheckFault::TwiceDefined { line, .. }
-            | CheckFault::ReservedName { line, .. }
-            | CheckFault::UnknownName { line, .. }
-            | CheckFault::UnknownAutomaton { line, .. }
-            | CheckFault::UnitNeedsAutomaton { line, .. }
-            | CheckFault::CircularReservation { line, .. }
-            | CheckFault::SelfExclusion { line, .. }
-            | CheckFault::SetAcrossAutomata { line, .. }
-            | CheckFault::Limit { line, .. }
-            | CheckFault::AlternationOfTwoAutomata { line, .. }
-            | CheckFault::AlternationOfTwoLengths { line, .. }
-            | CheckFault::BypassTwice { line, .. } => Some(*line),
+            CheckFault::TwiceDefined { line, .. } => Some(("TwiceDefined", *line)),
+            CheckFault::ReservedName { line, .. } => Some(("ReservedName", *line)),
+            CheckFault::UnknownName { line, .. } => Some(("UnknownName", *line)),
+            CheckFault::UnknownAutomaton { line, .. } => Some(("UnknownAutomaton", *line)),
+            CheckFault::UnitNeedsAutomaton { line, .. } => Some(("UnitNeedsAutomaton", *line)),
+            CheckFault::CircularReservation { line, .. } => Some(("CircularReservation", *line)),
+            CheckFault::SelfExclusion { line, .. } => Some(("SelfExclusion", *line)),
+            CheckFault::SetAcrossAutomata { line, .. } => Some(("SetAcrossAutomata", *line)),
+            CheckFault::Limit { what, line, .. } => Some((what.word(), *line)),
+            CheckFault::AlternationOfTwoAutomata { line, .. } => Some(("AlternationOfTwoAutomata", *line)),
+            CheckFault::AlternationOfTwoLengths { line, .. } => Some(("AlternationOfTwoLengths", *line)),
+            CheckFault::BypassTwice { line, .. } => Some(("BypassTwice", *line)),
+            CheckFault::NoMemory => None,
+        }
+    }
+
+    /// The limit that is passed; None of any other fault.
+    pub fn limit(&self) -> Option<LimitName>
+        ensures { option_map limit_of result ≡ option_and_then (λ told. limit_passed told.0.0) (fault_of self.now) }
+    {
+        match self {
+            CheckFault::Limit { what, .. } => Some(*what),
+            _ => None,
+        }
+    }
+
+    /// The name that is wrong; None for want of memory.
+    pub fn into_name(self) -> Option<Name>
+        ensures { result ≡ option_map (λ told. told.1) (fault_of self) }
+    {
+        match self {
+            CheckFault::TwiceDefined { name, .. } => Some(name),
+            CheckFault::ReservedName { name, .. } => Some(name),
+            CheckFault::UnknownName { name, .. } => Some(name),
+            CheckFault::UnknownAutomaton { name, .. } => Some(name),
+            CheckFault::UnitNeedsAutomaton { name, .. } => Some(name),
+            CheckFault::CircularReservation { name, .. } => Some(name),
+            CheckFault::SelfExclusion { name, .. } => Some(name),
+            CheckFault::SetAcrossAutomata { name, .. } => Some(name),
+            CheckFault::Limit { name, .. } => Some(name),
+            CheckFault::AlternationOfTwoAutomata { name, .. } => Some(name),
+            CheckFault::AlternationOfTwoLengths { name, .. } => Some(name),
+            CheckFault::BypassTwice { name, .. } => Some(name),
             CheckFault::NoMemory => None,
         }
     }
@@ -138,8 +191,8 @@ impl CheckFault {
 impl Display for CheckFault {
     fn fmt<W: Write>(&self, f: &mut Formatter<W>) -> fmt::Result {
         let words = self.words();
-        match self.line() {
-            Some(line) => write!(f, "line {line}: {words}"),
+        match self.told() {
+            Some((_, line)) => write!(f, "line {line}: {words}"),
             None => write!(f, "{words}"),
         }
     }

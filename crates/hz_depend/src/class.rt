@@ -33,6 +33,32 @@ pub enum ClassFault {
     Ambiguous { a: u32, b: u32 },
 }
 
+impl ClassFault {
+    ghost use Rattle.hz_depend.specs.Faults.{classes_in};
+
+    /// The word by which the fault is told. docs/FORMATS.md, 'Answers'.
+    pub fn word(&self) -> &'static str
+        ensures { result.now ≡ model.class_word (fault self.now) }
+    {
+        match self {
+            ClassFault::UnknownAttribute => "UnknownAttribute",
+            ClassFault::UnknownValue => "UnknownValue",
+            ClassFault::NoClass => "NoClass",
+            ClassFault::Ambiguous { .. } => "Ambiguous",
+        }
+    }
+
+    /// The two classes that the fault names, by their numbers from 0; None of a fault that names none.
+    pub fn classes(&self) -> Option<(u32, u32)>
+        ensures { classes_in result ≡ model.classes_named (fault self.now) }
+    {
+        match self {
+            ClassFault::Ambiguous { a, b } => Some((*a, *b)),
+            _ => None,
+        }
+    }
+}
+
 /// The first attribute of this name, with its values.
 fn attribute_named<'a>(
     defined: &'a [(Name, Vec<Name>)],

@@ -1,25 +1,22 @@
 -- Reading so many, one after the other, as a loop does.
 use Rattle.std.proofs.Common.{◌≡◌, ℕ, suc, ◌+◌, ◌-◌, ◌<◌, ◌≤◌, true, false, List, [], ◌∷◌, ◌++◌, Result, Ok, Err, refl, sym, ap, ◌∙◌, subst, append_assoc, arith}
 use Rattle.std.proofs.lemmas.List.{append-nil}
-use Rattle.std.specs.Prelude.{codes}
-use Rattle.hz_tabtext_model.specs.Judging.{Fault, ◌>>=◌}
+use Rattle.std.specs.Prelude.{⊤, codes, Option, Some, None, MatchOption}
+use Rattle.hz_tabtext_model.specs.Judging.{Fault, Kind, ◌>>=◌}
 use Rattle.hz_tabtext_model.specs.Lines.{Nothing, class_in, grid_in}
 use Rattle.hz_tabtext_model.specs.Reading.{Rest, judged, line_by, so_many, classes_at, comes, grids_from}
 use Rattle.hz_tabfile.specs.declared.reading.fault.TabFault.{TabFault}
-use Rattle.hz_tabfile.specs.declared.reading.fault.TabFault.TheVariants as told
-use Rattle.hz_tabfile.specs.Given.{Tells}
+use Rattle.hz_tabfile.specs.Given.{Tells, fault_of}
 use Rattle.hz_tabfile.specs.Texts.{class_read, grids_read}
 use Rattle.hz_tabfile.proofs.Told.{placed}
 
 -- what is told of a first reading is told of both
 pub told_first : {X Y : Type 0} (fault : TabFault) (r : Result X Fault) (f : X → Result Y Fault) → Tells fault r → Tells fault (r >>= f)
-told_first (told.BadHeader line) r f h = rw h refl
-told_first (told.BadLine line) r f h = rw h refl
-told_first (told.BadNumber line) r f h = rw h refl
-told_first (told.OutOfRange line) r f h = rw h refl
-told_first (told.Truncated line) r f h = rw h refl
-told_first (told.Trailing line) r f h = rw h refl
-told_first told.NoMemory r f h = tt
+told_first {X} {Y} fault r f h = go (fault_of fault) h
+  where
+    go : (found : Option (Kind × ℕ)) → MatchOption found ⊤ (λ at. r ≡ Err (record { kind = at.0; line = at.1 })) → MatchOption found ⊤ (λ at. r >>= f ≡ Err (record { kind = at.0; line = at.1 }))
+    go (Some at) h = rw h refl
+    go None h = h
 
 pub told_same : {Y : Type 0} (fault : TabFault) (r s : Result Y Fault) → r ≡ s → Tells fault r → Tells fault s
 told_same fault r s e h = subst (Tells fault) e h

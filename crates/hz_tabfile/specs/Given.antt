@@ -1,21 +1,25 @@
 -- What the reader answers of a text, beside what the definitions read. Want of memory says nothing.
-use Rattle.std.specs.Prelude.{◌≡◌, ℕ, List, Result, Ok, Err}
-use Rattle.hz_tabtext_model.specs.Judging.{Fault, bad_header, bad_line, bad_number, out_of_range, truncated, trailing}
+use Rattle.std.specs.Prelude.{◌≡◌, ℕ, ⊤, List, Option, Some, None, MatchOption, Result, Ok, Err}
+use Rattle.hz_tabtext_model.specs.Judging.{Fault, Kind, bad_header, bad_line, bad_number, out_of_range, truncated, trailing}
 use Rattle.hz_tabtext_model.specs.Reading.{Rest, lines_in}
 use Rattle.hz_tabfile.specs.declared.reading.fault.TabFault.{TabFault}
 use Rattle.hz_tabfile.specs.declared.reading.fault.TabFault.TheVariants as told
 use Rattle.hz_tabfile.specs.declared.reading.wrong.Wrong.{Wrong}
 use Rattle.hz_tabfile.specs.declared.reading.wrong.Wrong.TheVariants.{BadLine, BadNumber, OutOfRange, NoMemory}
 
--- what is told of a text is what is read
+-- the fault of the definitions and its line; want of memory is none
+abbrev pub fault_of : TabFault → Option (Kind × ℕ)
+fault_of (told.BadHeader line) = Some (bad_header, line)
+fault_of (told.BadLine line) = Some (bad_line, line)
+fault_of (told.BadNumber line) = Some (bad_number, line)
+fault_of (told.OutOfRange line) = Some (out_of_range, line)
+fault_of (told.Truncated line) = Some (truncated, line)
+fault_of (told.Trailing line) = Some (trailing, line)
+fault_of told.NoMemory = None
+
+-- what is told of a text is what is read; want of memory says nothing
 abbrev pub Tells : {Y : Type 0} → TabFault → Result Y Fault → Type 0
-Tells (told.BadHeader line) read = read ≡ Err (record { kind = bad_header; line = line })
-Tells (told.BadLine line) read = read ≡ Err (record { kind = bad_line; line = line })
-Tells (told.BadNumber line) read = read ≡ Err (record { kind = bad_number; line = line })
-Tells (told.OutOfRange line) read = read ≡ Err (record { kind = out_of_range; line = line })
-Tells (told.Truncated line) read = read ≡ Err (record { kind = truncated; line = line })
-Tells (told.Trailing line) read = read ≡ Err (record { kind = trailing; line = line })
-Tells told.NoMemory read = Unit {0}
+Tells fault read = MatchOption (fault_of fault) ⊤ (λ found. read ≡ Err (record { kind = found.0; line = found.1 }))
 
 -- what a function answered of a text, seen by view, is what is read
 abbrev pub Gives : {X Y : Type 0} → (X → Y) → Result X TabFault → Result Y Fault → Type 0

@@ -1,13 +1,12 @@
 -- From what a step finds to the fault that is told.
 use Rattle.std.proofs.Common.{◌≡◌, ℕ, ◌≤◌, true, false, List, [], ◌∷◌, length, drop, get_or, Option, Some, None, Result, Ok, Err, refl, sym, ap, ◌∙◌, subst, arith}
 use Rattle.std.specs.Option.{option_map}
-use Rattle.std.specs.Prelude.{IfOk, IfErr, IsSomeAnd, slice_get}
+use Rattle.std.specs.Prelude.{⊤, IfOk, IfErr, IsSomeAnd, MatchOption, slice_get}
 use Rattle.std.proofs.lemmas.List.{length-map, length-drop}
 use Rattle.std.proofs.lemmas.Option.{slice_get-map, get_or_from_slice_get}
 use Rattle.hz_check.specs.declared.fault.CheckFault.{CheckFault}
-use Rattle.hz_check.specs.declared.fault.CheckFault.TheVariants.{TwiceDefined, ReservedName, UnknownName, UnknownAutomaton, UnitNeedsAutomaton, CircularReservation, SelfExclusion, SetAcrossAutomata, Limit, AlternationOfTwoAutomata, AlternationOfTwoLengths, BypassTwice, NoMemory}
 use Rattle.hz_check.specs.Faults.Steps.{IsOrdered, AreWithin}
-use Rattle.hz_check.specs.Faults.{Tells, IsToldAt, IsToldHere, IsListsOrSite, IsOrderOrCircle, fault_if_copied, fault_named, limit_of, told_of, wrong_of}
+use Rattle.hz_check.specs.Faults.{Tells, IsToldAt, IsToldHere, IsListsOrSite, IsOrderOrCircle, fault_if_copied, fault_named, fault_of, told_of, wrong_of}
 use Rattle.hz_check.specs.declared.faults.told.Told.{Told as Stored}
 use Rattle.hz_check.specs.declared.faults.told.Wrong.{Wrong}
 use Rattle.hz_check.specs.declared.faults.told.Wrong.TheVariants as wrong
@@ -36,19 +35,11 @@ use Rattle.hz_check_reservations.specs.declared.ordering.fault.OrderFault.TheVar
 use Rattle.hz_check_reservations.specs.declared.ordering.site.Site.{Site as StoredSite}
 
 tells_with : (P Q : model.CheckFault → ℕ → List ℕ → Type 0) → ((f : model.CheckFault) (line : ℕ) (name : List ℕ) → P f line name → Q f line name) → (fault : CheckFault) → Tells P fault → Tells Q fault
-tells_with P Q to (TwiceDefined line name) tells = to model.twice_defined line name tells
-tells_with P Q to (ReservedName line name) tells = to model.reserved_name line name tells
-tells_with P Q to (UnknownName line name) tells = to model.unknown_name line name tells
-tells_with P Q to (UnknownAutomaton line name) tells = to model.unknown_automaton line name tells
-tells_with P Q to (UnitNeedsAutomaton line name) tells = to model.unit_needs_automaton line name tells
-tells_with P Q to (CircularReservation line name) tells = to model.circular_reservation line name tells
-tells_with P Q to (SelfExclusion line name) tells = to model.self_exclusion line name tells
-tells_with P Q to (SetAcrossAutomata line name) tells = to model.set_across_automata line name tells
-tells_with P Q to (Limit what line name) tells = to (model.limit (limit_of what)) line name tells
-tells_with P Q to (AlternationOfTwoAutomata line name) tells = to model.alternation_of_two_automata line name tells
-tells_with P Q to (AlternationOfTwoLengths line name) tells = to model.alternation_of_two_lengths line name tells
-tells_with P Q to (BypassTwice line name) tells = to model.bypass_twice line name tells
-tells_with P Q to NoMemory tells = tells
+tells_with P Q to fault tells = go (fault_of fault) tells
+  where
+    go : (found : Option ((model.CheckFault × ℕ) × List ℕ)) → MatchOption found ⊤ (λ told. P told.0.0 told.0.1 told.1) → MatchOption found ⊤ (λ told. Q told.0.0 told.0.1 told.1)
+    go (Some told) tells = to _ _ _ tells
+    go None tells = tells
 
 carried : (d : Description) (told : Told model.CheckFault) → CheckFaultAt d told.fault told.site → (fault : model.CheckFault) (line : ℕ) (name : List ℕ) → IsToldHere told fault line name
     → CheckFaultAt d fault (record { line = line; form = told.site.form; name = name })

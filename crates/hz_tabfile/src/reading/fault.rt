@@ -1,6 +1,9 @@
 //! Why a text stands for no machine.
 
 ghost use Rattle.std.specs.Prelude.{◌≡◌};
+ghost use Rattle.hz_regexp.specs.Faults.{told_by, told_in};
+ghost use Rattle.hz_tabfile.specs.Given.{fault_of};
+ghost use Rattle.hz_tabtext_model.specs.Judging.{tables_word};
 ghost use Rattle.hz_tabfile.specs.declared.reading.fault.TabFault.TheVariants.{NoMemory as no_memory};
 
 use std::alloc::{AllocError, AllocFailed};
@@ -30,6 +33,23 @@ pub enum TabFault {
     /// Memory ran out.
     #[error("out of memory")]
     NoMemory,
+}
+
+impl TabFault {
+    /// The word by which the fault is told, and its line; None for want of memory. docs/FORMATS.md, 'Answers'.
+    pub fn told(&self) -> Option<(&'static str, u32)>
+        ensures { told_in result ≡ told_by tables_word (fault_of self.now) }
+    {
+        match self {
+            TabFault::BadHeader { line } => Some(("BadHeader", *line)),
+            TabFault::BadLine { line } => Some(("BadLine", *line)),
+            TabFault::BadNumber { line } => Some(("BadNumber", *line)),
+            TabFault::OutOfRange { line } => Some(("OutOfRange", *line)),
+            TabFault::Truncated { line } => Some(("Truncated", *line)),
+            TabFault::Trailing { line } => Some(("Trailing", *line)),
+            TabFault::NoMemory => None,
+        }
+    }
 }
 
 impl From<AllocError> for TabFault {
