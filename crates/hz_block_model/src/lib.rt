@@ -1,6 +1,7 @@
 //! Blocks: what they leave, their texts, dependences and schedules, and their laws.
 #![tactic(auto)]
 
+pub mod class_laws;
 pub mod dependence_laws;
 pub mod examples;
 pub mod kept_laws;
