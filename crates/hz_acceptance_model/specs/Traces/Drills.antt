@@ -1,5 +1,5 @@
 -- The trace that `drill` draws: this profile, docs/RULES.md, 'Drills'.
-use Rattle.std.specs.Prelude.{◌≡◌, ◌⊎◌, ℕ, zero, suc, ◌+◌, ◌*◌, ◌/◌, ◌%◌, ◌==◌, List, [], ◌∷◌, ◌++◌, Option, Some, None, if◌then◌else◌}
+use Rattle.std.specs.Prelude.{◌≡◌, ◌⊎◌, ℕ, zero, suc, ◌+◌, ◌*◌, ◌/◌, ◌%◌, ◌^◌, ◌<◌, ◌==◌, List, [], ◌∷◌, ◌++◌, Option, Some, None, if◌then◌else◌}
 use Rattle.hz_acceptance_model.specs.Accepting.Events.{Event, issue, advance}
 
 -- The numbers are those of a linear congruential generator, below 2^31.
@@ -28,6 +28,10 @@ number_after number (suc turns) = number_after (next_number number) turns
 -- the class that the number of a turn draws of so many, none where there are no classes
 abbrev pub draw : (classes number : ℕ) → Option ℕ
 draw classes number = if classes == 0 then None else Some (number / upper_from % classes)
+
+-- this class is drawn at a turn, where turns count from 0 and there are so many classes. Law: `each_turn_issues_what_it_draws`
+abbrev pub IsDrawnAt : (classes number turn class : ℕ) → Type 0
+IsDrawnAt classes number turn class = (0 < classes) × (class ≡ number_after number (turn + 1) / 2 ^ 16 % classes)
 
 -- The event of a turn behind those before it: the issue of the class that is drawn where it is accepted behind them, else the advance
 -- of one cycle.
