@@ -4,5 +4,6 @@
 pub mod dependence_laws;
 pub mod examples;
 pub mod kept_laws;
+pub mod operator_laws;
 pub mod schedule_laws;
 pub mod text_laws;
