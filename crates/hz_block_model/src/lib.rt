@@ -3,6 +3,7 @@
 
 pub mod dependence_laws;
 pub mod examples;
+pub mod grammar_laws;
 pub mod kept_laws;
 pub mod operator_laws;
 pub mod schedule_laws;

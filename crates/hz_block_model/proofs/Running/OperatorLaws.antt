@@ -1,12 +1,12 @@
 -- What operators compute, in the words of arithmetic.
-use Rattle.std.proofs.Common.{◌≡◌, ℕ, zero, suc, ◌+◌, ◌-◌, ◌*◌, ◌/◌, ◌%◌, ◌^◌, ◌<◌, ◌≤◌, ◌⊎◌, ⊎_elim, inl, inr, min, max, Bool, true, false, cond, ltb, ℤ, pos, negsuc, ◌+ℤ◌, ◌*ℤ◌, ◌<ℤ◌, ◌≤ℤ◌, refl, sym, ap, ◌∙◌, subst, arith, w64}
+use Rattle.std.proofs.Common.{◌≡◌, ℕ, zero, suc, ◌+◌, ◌-◌, ◌*◌, ◌/◌, ◌%◌, ◌^◌, ◌<◌, ◌≤◌, ⊎_elim, Bool, true, false, cond, ltb, pos, negsuc, ◌+ℤ◌, ◌*ℤ◌, ◌<ℤ◌, refl, arith}
 use Rattle.std.proofs.lemmas.Int.{ints}
 use Rattle.std.proofs.lemmas.Nat.{pow_pos}
 use Rattle.std.proofs.lemmas.Bool.{cases_lt, lt-ltb, le-ltb, eqb-false}
 use Rattle.std.specs.Prelude.{◌==◌, not, nat_lt}
-use Rattle.std.specs.Int.Bits.{bit_and, and_lt, or_lt, xor_lt}
+use Rattle.std.specs.Int.Bits.{and_lt, or_lt, xor_lt}
 use Rattle.hz_block_model.specs.Running.Operators.{word_count, truth, sign, factor, BinaryOperator, plus, minus, mult, udiv, umod, conjunction, disjunction, exclusive, ashift, lshiftrt, ashiftrt, eq, ne, ltu, lt, binary_word}
-use Rattle.hz_block_model.specs.Running.Signed.{signed, IsWordOf, IsFloor, IsSignedFloor, Tells}
+use Rattle.hz_block_model.specs.Running.Signed.{signed, IsWordOf, IsSignedFloor}
 
 -- a number modulo 2 ^ 64
 pub word_of_number : (n : ℕ) → IsWordOf n (n % word_count)
