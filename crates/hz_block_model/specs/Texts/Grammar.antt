@@ -23,6 +23,10 @@ two first second = more first (more second none)
 abbrev pub three : Tree → Tree → Tree → Trees
 three first second third = more first (more second (more third none))
 
+-- `(insn NUMBER pattern attr ..)`, by its operands
+abbrev pub insn : (line at : ℕ) → (first second : Tree) → (others : Trees) → Tree
+insn line at first second others = headed line at (codes "insn") (more first (more second others))
+
 -- the words of operators
 abbrev pub unary_name : UnaryOperator → List ℕ
 unary_name neg = codes "neg"
@@ -95,13 +99,13 @@ pub data IsPattern : Tree → List Effect → Type 0 where
 pub data IsAttribute : Tree → List ℕ × List ℕ → Type 0 where
   set_attribute : {line at : ℕ} {first second : Tree} {name value : List ℕ} → IsName first name → IsName second value → IsAttribute (headed line at (codes "set_attr") (two first second)) (name, value)
 
--- `(insn NUMBER pattern attr ..)`: no two of its attributes have one name
+-- An instruction: no two of its attributes have one name.
 pub record IsInstruction (form : Tree) (i : Instruction) : Type 0 where
   pub at : ℕ
   pub first : Tree
   pub second : Tree
   pub others : Trees
-  pub form_is : form ≡ headed i.line at (codes "insn") (more first (more second others))
+  pub form_is : form ≡ insn i.line at first second others
   pub number_is : IsNumber first i.number
   pub pattern_is : IsPattern second i.effects
   pub attributes_are : EachIs IsAttribute others i.attributes

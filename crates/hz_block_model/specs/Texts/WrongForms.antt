@@ -8,7 +8,7 @@ use Rattle.hz_block_model.specs.Running.Blocks.{Value, Target, Effect, Instructi
 use Rattle.hz_block_model.specs.Running.States.{Place, reg, cell, Store}
 use Rattle.hz_block_model.specs.Texts.Operands.{RtlFault, bad_shape, unknown_code, register_range, twice, insn_limit}
 use Rattle.hz_block_model.specs.Texts.Values.{ValueCode, register_code, constant_code, memory_code, choice_code, unary_code, binary_code, TargetCode, into_code, cell_code, EffectCode, set_code, clobber_code, use_code}
-use Rattle.hz_block_model.specs.Texts.Grammar.{headed, unary_name, binary_name, IsRegister, IsWord, IsNumber, IsName, IsValue, IsPlace, IsEffect, IsVector, IsPattern, IsAttribute, IsBlock, IsStore, AreGiven}
+use Rattle.hz_block_model.specs.Texts.Grammar.{headed, insn, unary_name, binary_name, IsRegister, IsWord, IsNumber, IsName, IsValue, IsPlace, IsEffect, IsVector, IsPattern, IsAttribute, IsBlock, IsStore, AreGiven}
 
 -- What a form is to be. A kind `new_` is a name, a register or a cell that isn't given yet.
 pub data Kind : Type 0 where
@@ -148,22 +148,26 @@ mutual
     this : {kind : Kind} {kinds : List Kind} {form : Tree} {others : Trees} {fault : RtlFault} {place : ℕ} → Wrong kind form fault place → WrongAmong (kind ∷ kinds) (more form others) fault place
     later : {kind : Kind} {kinds : List Kind} {form : Tree} {others : Trees} {fault : RtlFault} {place : ℕ} → Right kind form → WrongAmong kinds others fault place → WrongAmong (kind ∷ kinds) (more form others) fault place
 
--- An attribute behind those that are given has a fault.
+-- An attribute after those that are given has a fault.
 pub data WrongAttributes : List (List ℕ × List ℕ) → Trees → RtlFault → ℕ → Type 0 where
   this_attribute : {given : List (List ℕ × List ℕ)} {form : Tree} {others : Trees} {fault : RtlFault} {place : ℕ} → Wrong (attribute_kind given) form fault place → WrongAttributes given (more form others) fault place
   later_attribute : {given : List (List ℕ × List ℕ)} {form : Tree} {others : Trees} {attribute : List ℕ × List ℕ} {fault : RtlFault} {place : ℕ} → IsAttribute form attribute → (HasName given attribute.0 → ⊥) → WrongAttributes (given ++ attribute ∷ []) others fault place → WrongAttributes given (more form others) fault place
 
--- A form behind instructions, which is to be the next one, has a fault.
+-- A form after instructions, which is to be one more, has a fault.
+pub data WrongInsn (before : List Instruction) : Tree → RtlFault → ℕ → Type 0 where
+  no_insn : {form : Tree} → ((line at : ℕ) (operands : Trees) → form ≡ headed line at (codes "insn") operands → ⊥) → WrongInsn before form bad_shape (line_of form)
+  too_short : {line at : ℕ} {operands : Trees} → count operands < 2 → WrongInsn before (headed line at (codes "insn") operands) bad_shape line
+  no_number : {line at : ℕ} {first second : Tree} {others : Trees} → ((n : ℕ) → IsNumber first n → ⊥) → WrongInsn before (insn line at first second others) bad_shape (line_of first)
+  number_twice : {line at n : ℕ} {first second : Tree} {others : Trees} → IsNumber first n → HasNumber before n → WrongInsn before (insn line at first second others) twice line
+  in_pattern : {line at n : ℕ} {first second : Tree} {others : Trees} {fault : RtlFault} {place : ℕ} → IsNumber first n → (HasNumber before n → ⊥) → Wrong pattern_kind second fault place → WrongInsn before (insn line at first second others) fault place
+  in_attributes : {line at n : ℕ} {first second : Tree} {others : Trees} {effects : List Effect} {fault : RtlFault} {place : ℕ} → IsNumber first n → (HasNumber before n → ⊥) → IsPattern second effects → WrongAttributes [] others fault place → WrongInsn before (insn line at first second others) fault place
+
+-- The same of any number of instructions: after 4,096 of them any form is one too many, whatever it holds.
 pub data WrongInstruction (before : List Instruction) : Tree → RtlFault → ℕ → Type 0 where
   too_many : {form : Tree} → 4096 ≤ length before → WrongInstruction before form insn_limit (line_of form)
-  no_insn : {form : Tree} → length before < 4096 → ((line at : ℕ) (operands : Trees) → form ≡ headed line at (codes "insn") operands → ⊥) → WrongInstruction before form bad_shape (line_of form)
-  too_short : {line at : ℕ} {operands : Trees} → length before < 4096 → count operands < 2 → WrongInstruction before (headed line at (codes "insn") operands) bad_shape line
-  no_number : {line at : ℕ} {first second : Tree} {others : Trees} → length before < 4096 → ((n : ℕ) → IsNumber first n → ⊥) → WrongInstruction before (headed line at (codes "insn") (more first (more second others))) bad_shape (line_of first)
-  number_twice : {line at n : ℕ} {first second : Tree} {others : Trees} → length before < 4096 → IsNumber first n → HasNumber before n → WrongInstruction before (headed line at (codes "insn") (more first (more second others))) twice line
-  in_pattern : {line at n : ℕ} {first second : Tree} {others : Trees} {fault : RtlFault} {place : ℕ} → length before < 4096 → IsNumber first n → (HasNumber before n → ⊥) → Wrong pattern_kind second fault place → WrongInstruction before (headed line at (codes "insn") (more first (more second others))) fault place
-  in_attributes : {line at n : ℕ} {first second : Tree} {others : Trees} {effects : List Effect} {fault : RtlFault} {place : ℕ} → length before < 4096 → IsNumber first n → (HasNumber before n → ⊥) → IsPattern second effects → WrongAttributes [] others fault place → WrongInstruction before (headed line at (codes "insn") (more first (more second others))) fault place
+  one_wrong : {form : Tree} {fault : RtlFault} {place : ℕ} → length before < 4096 → WrongInsn before form fault place → WrongInstruction before form fault place
 
--- Forms are a block, a form with a fault behind it, and a rest.
+-- Forms are a block, a form with a fault after it, and a rest.
 pub record IsWrongBlock (forms : Trees) (fault : RtlFault) (line : ℕ) : Type 0 where
   pub front : Trees
   pub before : List Instruction
