@@ -1,8 +1,8 @@
 //! Laws of drawn traces.
 
 ghost use Rattle.std.specs.Prelude.{◌≡◌, ◌⊎◌, ◌↔◌, ◌+◌, ◌*◌, ◌/◌, ◌%◌, ◌^◌, ℕ, List, [], ◌∷◌, ◌++◌, length, All, Some, None};
-ghost use Rattle.hz_acceptance_model.specs.Accepting.Events.{Event, issue, advance, issues_of, cycles_of, IsOfClass};
-ghost use Rattle.hz_acceptance_model.specs.Traces.Drills.{next_number, number_after, IsDrawnAt, upper_from, draw, Drawn};
+ghost use Rattle.hz_acceptance_model.specs.Accepting.Events.{Event, advance, issues_of, cycles_of, IsOfClass};
+ghost use Rattle.hz_acceptance_model.specs.Traces.Drills.{next_number, number_after, IsAsDrawn, upper_from, draw, Drawn};
 
 /// Which traces are accepted, whatever tells it: a machine that walks them, or the pipeline of a description.
 pub trait Acceptance {
@@ -42,11 +42,10 @@ pub fn numbers_of_turns()
     ensures next { (number turn : ℕ) → number_after number (turn + 1) ≡ (number_after number turn * 1103515245 + 12345) % 2 ^ 31 }
 {}
 
-/// An event of a drawn trace is the issue of the class that is drawn at its turn exactly where that issue is accepted behind the
-/// events of the turns before. Else it is the advance of one cycle.
+/// A trace is drawn exactly where it has one event for each turn, and each event is the issue of the class that is drawn at its turn
+/// where that is accepted after the events of the turns before, else the advance of one cycle.
 pub fn each_turn_issues_what_it_draws<A: Acceptance>()
-    ensures issue { (classes number turns : ℕ) (before after : List Event) (e : Event) → Drawn A.accepts classes number turns (before ++ e ∷ after) → (class : ℕ) → (e ≡ issue class) ↔ (IsDrawnAt classes number (length before) class × A.accepts (before ++ issue class ∷ [])) }
-    ensures advance { (classes number turns : ℕ) (before after : List Event) (e : Event) → Drawn A.accepts classes number turns (before ++ e ∷ after) → (e ≡ advance 1) ↔ ((class : ℕ) → IsDrawnAt classes number (length before) class → A.accepts (before ++ issue class ∷ []) → ⊥) }
+    ensures { (classes number turns : ℕ) (t : List Event) → Drawn A.accepts classes number turns t ↔ ((length t ≡ turns) × ((before after : List Event) (e : Event) → t ≡ before ++ e ∷ after → IsAsDrawn A.accepts classes number before e)) }
 {}
 
 /// The first draws from 1, by hand, and what they are of two classes and of none.

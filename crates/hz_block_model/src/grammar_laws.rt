@@ -17,7 +17,7 @@ pub fn blocks_are_what_their_grammar_says()
     ensures { (forms : Trees) (block : List Instruction) → blocks.Reads forms block ↔ IsBlock forms block }
 {}
 
-/// A block has a fault exactly where a form behind a block is wrong by itself, with all to its left right.
+/// A block has a fault exactly where a form after a block is wrong by itself, with all to its left right.
 pub fn wrong_blocks_have_a_wrong_form()
     ensures { (forms : Trees) (fault : RtlFault) (line : ℕ) → blocks.FaultAt forms fault line ↔ IsWrongBlock forms fault line }
 {}
@@ -27,7 +27,7 @@ pub fn states_are_what_their_grammar_says()
     ensures { (forms : Trees) (state : State) → states.Reads forms state ↔ IsState forms state }
 {}
 
-/// A state has a fault exactly where a form behind such forms is wrong by itself, with all to its left right.
+/// A state has a fault exactly where a form after such forms is wrong by itself, with all to its left right.
 pub fn wrong_states_have_a_wrong_form()
     ensures { (forms : Trees) (fault : RtlFault) (line : ℕ) → states.FaultAt forms fault line ↔ IsWrongState forms fault line }
 {}

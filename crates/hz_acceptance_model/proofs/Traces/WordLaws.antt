@@ -56,7 +56,7 @@ front_taken p front rest all stops = rw (front_long p front rest all stops) (tak
 front_dropped : (p : ℕ → Bool) (front rest : List ℕ) → list_all p front ≡ true → Stops p rest → drop (prefix_len p (front ++ rest)) (front ++ rest) ≡ rest
 front_dropped p front rest all stops = rw (front_long p front rest all stops) (drop-append_seam front rest)
 
--- ---- the margin behind
+-- ---- the margin at the end
 
 all_reversed : (p : ℕ → Bool) (xs : List ℕ) → list_all p xs ≡ true → list_all p (reverse xs) ≡ true
 all_reversed p [] h = refl
@@ -354,7 +354,7 @@ module _ (classes : List (List ℕ)) where
       let made = content_of line (codes "advance") digits 97 (codes "dvance") refl refl refl w (solid_digits digits n is) in
       ap (says_content classes) made.1 ∙ (ap (λ (word : List ℕ). says_words classes word (operand (97 ∷ made.0))) made.2 ∙ ap (says_words classes (codes "advance")) made.3)
 
-  -- a line that begins with `;` behind its margin
+  -- a line that begins with `;` after its margin
   marked_content : (rest : List ℕ) → says_content classes (take (length (59 ∷ rest) - suffix_len is_margin (59 ∷ rest)) (59 ∷ rest)) ≡ skipped
   marked_content rest = by_back (front_of is_margin (reverse (59 ∷ rest)))
     where

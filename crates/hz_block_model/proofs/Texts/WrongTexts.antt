@@ -17,7 +17,7 @@ use Rattle.hz_block_model.proofs.Texts.SaidValues.{number_said, number_comes, pa
 use Rattle.hz_block_model.proofs.Texts.SaidBlocks.{has_some, some_has, has_none, none_has, number_tells, number_key, attribute_said, attribute_comes, block_said, block_comes, given_said, given_comes}
 use Rattle.hz_block_model.proofs.Texts.Faults.{Fault, fault_in, fault_is_err, fault_wrong, wrong_fault}
 
--- what is wrong is wrong first, or behind what is right
+-- what is wrong is wrong first, or after what is right
 pub err_of : {A B : Type 0} (judged : Judged A) (next : A → Judged B) (f : Fault) → and_then judged next ≡ Err f → (judged ≡ Err f) ⊎ ((x : A) × (judged ≡ Ok x) × (next x ≡ Err f))
 err_of (Ok x) next f h = inr (x, refl, h)
 err_of (Err g) next f h = inl (ap Err (cc))
