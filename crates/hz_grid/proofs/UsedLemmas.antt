@@ -77,10 +77,12 @@ usage_of pairs rows all are within = record {
 
 pub rows_of_usage : (pairs : List (Pair ℕ)) (rows : List UsedRow) (all : ℕ) → IsUsage pairs rows all → AreRowsOf pairs rows
 rows_of_usage pairs rows all is = record {
-  each = λ k d low. record { units = λ unit.
-      let held = has_pair-Holds pairs _ unit in
-      let same = is.each k d low unit in
-      (λ h. held.0 (subst IsTrue same h), λ h. subst IsTrue (sym same) (held.1 h)) };
+  each = λ k d low. record {
+    units = λ unit.
+        let held = has_pair-Holds pairs _ unit in
+        let same = is.each k d low unit in
+        (λ h. held.0 (subst IsTrue same h), λ h. subst IsTrue (sym same) (held.1 h));
+  };
   whole = λ unit cycle h. is.whole unit cycle ((has_pair-Holds pairs cycle unit).1 h);
 }
 
