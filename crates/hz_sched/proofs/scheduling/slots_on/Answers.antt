@@ -2,6 +2,7 @@ use Rattle.std.proofs.Common.{◌≡◌, ◌*◌, ◌<◌, ◌≤◌, ℕ, List,
 use Rattle.std.proofs.lemmas.List.{length-map}
 use Rattle.hz_tables.specs.Machines.{machine_of}
 use Rattle.hz_replay.specs.Replaying.{Standing}
+use Rattle.hz_block_model.specs.Scheduling.Machines.{most_wait}
 use Rattle.hz_block_model.specs.Scheduling.Schedules.{present, Legal}
 use Rattle.hz_sched.specs.declared.parts.Slot.{Slot}
 use Rattle.hz_sched.specs.Shape.{graph_of, slots_of, node_of}

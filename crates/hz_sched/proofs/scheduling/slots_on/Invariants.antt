@@ -1,5 +1,6 @@
 use Rattle.std.proofs.Common.{◌≡◌, ◌+◌, ◌*◌, ◌≤◌, length}
 use Rattle.hz_tables.specs.Machines.{machine_of}
+use Rattle.hz_block_model.specs.Scheduling.Machines.{most_wait}
 use Rattle.hz_block_model.specs.Scheduling.Schedules.{present}
 use Rattle.hz_sched.specs.Shape.{graph_of, slots_of}
 use Rattle.hz_sched.specs.Waits.{issued_at}
