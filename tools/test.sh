@@ -49,6 +49,7 @@ refuses() {
 }
 
 extracts core --defs quill.md quill-core.md
+[ "$(grep -c '"store_data_bypass_p"' core.md)" = 1 ] || wrong "core.md has not the guard of stores"
 replays core 'accepted 3 issues 1 cycles' 'issue q1_load' 'issue q1_alu' 'advance 1' 'issue q1_store'
 replays core 'refused line 2 q1_load' 'issue q1_alu' 'issue q1_load'
 replays core 'refused line 3 q1_alu' 'issue q1_div' 'advance 9' 'issue q1_alu'

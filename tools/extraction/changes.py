@@ -7,6 +7,7 @@ from .forms import Form, Place, Text
 from .items import Attribute, Bypass, Class, Options, Units, Values, values_in
 
 NOT_BUILT = ["collapse-ndfa"]
+GUARDS = ["store_data_bypass_p"]
 UNKNOWN = "unknown"
 NUMBER = re.compile(r"-?[0-9]+")
 
@@ -83,12 +84,12 @@ def change_options(items, told):
 
 
 def change_bypasses(items, told):
-    """A guarded bypass goes; wildcards are expanded."""
+    """A bypass with a guard that hz doesn't have goes; wildcards are expanded."""
     classes, kept = [item.name for item in of_kind(items, Class)], []
     for item in items:
         if not isinstance(item, Bypass):
             kept.append(item)
-        elif item.guard:
+        elif item.guard and item.guard not in GUARDS:
             told.tell(item, "guard", f"the bypass is guarded by {item.guard}")
         else:
             item.outs = expanded(item, item.outs, classes, told)

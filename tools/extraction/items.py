@@ -150,7 +150,8 @@ class Bypass(Item):
     guard: typing.Optional[str]
 
     def text(self):
-        return f"(define_bypass {self.number} {listed(self.outs)}\n  {listed(self.ins)})"
+        guard = f" {quoted(self.guard)}" if self.guard else ""
+        return f"(define_bypass {self.number} {listed(self.outs)}\n  {listed(self.ins)}{guard})"
 
 
 @dataclasses.dataclass

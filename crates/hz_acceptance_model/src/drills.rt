@@ -1,8 +1,8 @@
 //! Laws of drawn traces.
 
-ghost use Rattle.std.specs.Prelude.{◌≡◌, ◌⊎◌, ◌↔◌, ◌+◌, ◌/◌, ℕ, List, [], ◌∷◌, ◌++◌, length, All, Some, None};
+ghost use Rattle.std.specs.Prelude.{◌≡◌, ◌⊎◌, ◌↔◌, ◌+◌, ◌*◌, ◌/◌, ◌%◌, ◌^◌, ℕ, List, [], ◌∷◌, ◌++◌, length, All, Some, None};
 ghost use Rattle.hz_acceptance_model.specs.Accepting.Events.{Event, advance, issues_of, cycles_of, IsOfClass};
-ghost use Rattle.hz_acceptance_model.specs.Traces.Drills.{next_number, upper_from, draw, Drawn};
+ghost use Rattle.hz_acceptance_model.specs.Traces.Drills.{next_number, number_after, IsAsDrawn, upper_from, draw, Drawn};
 
 /// Which traces are accepted, whatever tells it: a machine that walks them, or the pipeline of a description.
 pub trait Acceptance {
@@ -34,6 +34,18 @@ pub fn each_turn_is_one_event<A: Acceptance>()
     ensures events { (classes number turns : ℕ) (t : List Event) → Drawn A.accepts classes number turns t → length t ≡ turns }
     ensures counts { (classes number turns : ℕ) (t : List Event) → Drawn A.accepts classes number turns t → issues_of t + cycles_of t ≡ turns }
     ensures classes { (classes number turns : ℕ) (t : List Event) → Drawn A.accepts classes number turns t → All (IsOfClass classes) t }
+{}
+
+/// The number of a turn is made of the number of the turn before.
+pub fn numbers_of_turns()
+    ensures start { (number : ℕ) → number_after number 0 ≡ number }
+    ensures next { (number turn : ℕ) → number_after number (turn + 1) ≡ (number_after number turn * 1103515245 + 12345) % 2 ^ 31 }
+{}
+
+/// A trace is drawn exactly where it has one event for each turn, and each event is the issue of the class that is drawn at its turn
+/// where that is accepted after the events of the turns before, else the advance of one cycle.
+pub fn each_turn_issues_what_it_draws<A: Acceptance>()
+    ensures { (classes number turns : ℕ) (t : List Event) → Drawn A.accepts classes number turns t ↔ ((length t ≡ turns) × ((before after : List Event) (e : Event) → t ≡ before ++ e ∷ after → IsAsDrawn A.accepts classes number before e)) }
 {}
 
 /// The first draws from 1, by hand, and what they are of two classes and of none.

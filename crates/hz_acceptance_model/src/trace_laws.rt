@@ -1,9 +1,12 @@
 //! Laws of the texts of traces, whatever names classes have.
 
-ghost use Rattle.std.specs.Prelude.{◌≡◌, ℕ, ◌⊎◌, List, [], ◌∷◌, length, codes};
-ghost use Rattle.hz_base_model.specs.Lines.{lines_of};
+ghost use Rattle.std.specs.Prelude.{◌≡◌, ◌↔◌, ◌<◌, ℕ, ◌⊎◌, List, [], ◌∷◌, length, codes, slice_get, Some, None, IsTrue};
+ghost use Rattle.std.specs.List.{AllPairs};
+ghost use Rattle.hz_base_model.specs.Names.{is_name};
+ghost use Rattle.hz_base_model.specs.Lines.{lines_of, number_of, place_of};
 ghost use Rattle.hz_acceptance_model.specs.Accepting.Events.{Event, issue, advance};
-ghost use Rattle.hz_acceptance_model.specs.Traces.Traces.{line_says, skipped, says, wrong, bad_line, unknown_class, Trace, TraceFault, TraceFaultAt, event_lines};
+ghost use Rattle.hz_acceptance_model.specs.Traces.Traces.{line_says, skipped, says, wrong, bad_line, unknown_class, too_many_advances, Trace, TraceFault, TraceFaultAt, event_lines};
+ghost use Rattle.hz_acceptance_model.specs.Traces.TraceLines.{SaysEvent, IsWords, IsSkipped};
 
 /// A trace text has at most one list of events, and each event has one line.
 pub fn one_list_of_events()
@@ -24,6 +27,22 @@ pub fn events_or_fault()
 /// Every text has events or a fault.
 pub fn events_of_every_text()
     ensures { (classes : List (List ℕ)) (text : List ℕ) → ((events : List Event) × Trace classes text events) ⊎ ((fault : TraceFault) × (number : ℕ) × TraceFaultAt classes text fault number) }
+{}
+
+/// The line of an event says that event, and the lines of events ascend.
+pub fn events_stand_in_their_lines()
+    ensures says { (classes : List (List ℕ)) (text : List ℕ) (events : List Event) → Trace classes text events → (place number : ℕ) (event : Event) → slice_get events place ≡ Some event → slice_get (event_lines classes 1 (lines_of text)) place ≡ Some number → SaysEvent classes text number event }
+    ensures ascend { (classes : List (List ℕ)) (text : List ℕ) → AllPairs (λ m n. m < n) (event_lines classes 1 (lines_of text)) }
+{}
+
+/// A line says an event exactly where it is a margin, `issue` or `advance`, a gap, a name or digits, and a margin. It says nothing
+/// exactly where it is a margin, or a margin and what begins with `;`. Any other line is wrong.
+pub fn lines_of_traces()
+    ensures issue { (classes : List (List ℕ)) (line : List ℕ) (class : ℕ) → (line_says classes line ≡ says (issue class)) ↔ ((name : List ℕ) × IsWords line (codes "issue") name × IsTrue (is_name name) × (place_of name classes ≡ Some class)) }
+    ensures advance { (classes : List (List ℕ)) (line : List ℕ) (cycles : ℕ) → (line_says classes line ≡ says (advance cycles)) ↔ ((digits : List ℕ) × IsWords line (codes "advance") digits × (number_of digits ≡ Some cycles)) }
+    ensures skipped { (classes : List (List ℕ)) (line : List ℕ) → (line_says classes line ≡ skipped) ↔ IsSkipped line }
+    ensures unknown { (classes : List (List ℕ)) (line : List ℕ) → (line_says classes line ≡ wrong unknown_class) ↔ ((name : List ℕ) × IsWords line (codes "issue") name × IsTrue (is_name name) × (place_of name classes ≡ None)) }
+    ensures other { (classes : List (List ℕ)) (line : List ℕ) → line_says classes line ≡ wrong too_many_advances → ⊥ }
 {}
 
 /// Blanks and carriage returns at both ends of a line are dropped, and blanks alone stand between its words; an empty

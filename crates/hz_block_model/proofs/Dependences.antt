@@ -7,3 +7,6 @@ pub mod DoneLaws
 pub mod OrderLaws
 pub mod UpwardLaws
 pub mod HeightLaws
+pub mod DataLaws
+pub mod ClassLaws
+pub mod ServeLaws

@@ -1,3 +1,4 @@
+pub mod Running
 pub mod Texts
 pub mod Dependences
 pub mod Scheduling

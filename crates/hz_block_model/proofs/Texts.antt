@@ -2,3 +2,7 @@
 pub mod FirstWrongs
 pub mod Numbers
 pub mod Listings
+pub mod SaidValues
+pub mod SaidBlocks
+pub mod Faults
+pub mod WrongTexts

@@ -4,3 +4,5 @@ pub mod Values
 pub mod BlockForms
 pub mod StateForms
 pub mod StateTexts
+pub mod Grammar
+pub mod WrongForms

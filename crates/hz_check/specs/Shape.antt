@@ -19,7 +19,7 @@ class_of c = record { name = c.name; line = c.line; latency = c.latency; conditi
 
 -- a bypass
 abbrev pub bypass_of : CheckedBypass → BypassParts
-bypass_of b = record { number = b.number; outs = b.outs.items; ins = b.ins.items }
+bypass_of b = record { number = b.number; outs = b.outs.items; ins = b.ins.items; guard = b.guard }
 
 -- an attribute with its values
 abbrev pub attribute_of : List ℕ × Vec (List ℕ) Global → List ℕ × List (List ℕ)

@@ -17,7 +17,7 @@ pub struct Checked {
     pub automata: Vec<CheckedAutomaton>,
     /// At most 1,024 classes of different names, in the order of the file.
     pub classes: Vec<CheckedClass>,
-    /// The bypasses, in the order of the file. No two give one pair of classes different numbers.
+    /// The bypasses, in the order of the file. No two without the guard give one pair of classes different numbers.
     pub bypasses: Vec<CheckedBypass>,
     /// The attributes with their values, in the order of the file.
     pub attributes: Vec<(Name, Vec<Name>)>,
@@ -59,4 +59,6 @@ pub struct CheckedBypass {
     pub outs: Vec<u32>,
     /// The consuming classes.
     pub ins: Vec<u32>,
+    /// Whether it has the guard `store_data_bypass_p`.
+    pub guard: bool,
 }

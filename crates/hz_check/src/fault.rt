@@ -106,7 +106,7 @@ pub enum CheckFault {
         line: u32,
         name: Name,
     },
-    /// A bypass gives a pair of classes another number than an earlier one; the name is the producing class.
+    /// A bypass without the guard gives a pair of classes another number than an earlier one; the name is the producing class.
     BypassTwice {
         line: u32,
         name: Name,
@@ -130,8 +130,14 @@ impl CheckFault {
             CheckFault::SelfExclusion { line, .. } => Some(("SelfExclusion", *line)),
             CheckFault::SetAcrossAutomata { line, .. } => Some(("SetAcrossAutomata", *line)),
             CheckFault::Limit { what, line, .. } => Some((what.word(), *line)),
-            CheckFault::AlternationOfTwoAutomata { line, .. } => Some(("AlternationOfTwoAutomata", *line)),
-            CheckFault::AlternationOfTwoLengths { line, .. } => Some(("AlternationOfTwoLengths", *line)),
+            CheckFault::AlternationOfTwoAutomata { line, .. } => Some((
+                "AlternationOfTwoAutomata",
+                *line,
+            )),
+            CheckFault::AlternationOfTwoLengths { line, .. } => Some((
+                "AlternationOfTwoLengths",
+                *line,
+            )),
             CheckFault::BypassTwice { line, .. } => Some(("BypassTwice", *line)),
             CheckFault::NoMemory => None,
         }

@@ -7,11 +7,10 @@ use Rattle.std.proofs.lemmas.Bool.{cases_lt, lt-ltb, ltb-true, eqb-true, eq-eqb}
 use Rattle.std.proofs.lemmas.List.Elements.{Contains-append_left, Contains-append_right}
 use Rattle.hz_base_model.proofs.Elements.{Contains-head}
 use Rattle.hz_block_model.specs.Running.Operators.{word_count}
-use Rattle.hz_description_model.specs.Check.CheckedParts.{BypassParts}
 use Rattle.hz_block_model.specs.Dependences.Accesses.{Based, is_among}
 use Rattle.hz_block_model.specs.Dependences.Dependences.{apart_by}
 use Rattle.hz_block_model.specs.Dependences.Graphs.{Edge}
-use Rattle.hz_depend.specs.Held.{Held, meet, cost_by, is_true, is_anti, is_output, cost_held, number, edge_by, found, found_among, writes, last_of}
+use Rattle.hz_depend.specs.Held.{Held, meet, cost_by, is_true, is_anti, is_output, cost_held, edge_by, found, found_among, writes, last_of}
 use Rattle.hz_depend.specs.Lists.{list_at}
 use Rattle.hz_depend.specs.Marks.{place_before, all_lists, other_lists, below}
 use Rattle.hz_depend.specs.Noted.{key_of, same_key, is_unknown, has_base, has_key, places, had, CellPlaces, Places, AreCells, AreNoted, known_candidates, cell_candidates, candidates}
@@ -191,28 +190,28 @@ module _ (nodes : List Held) (j i : ℕ) (f s : Held) (p : Places) (noted : AreN
       (meet_has (had (λ h. h.cells_written) nodes) j p.written noted.written last (last_low nodes j) i lt f.cells_written s.cells_written (had_is (λ h. h.cells_written)) by_cell))
       (either _ _ e)
 
-  pub no_cost : (bypasses : List BypassParts) → (Contains (candidates p last s) i → ⊥) → cost_held last i f s bypasses ≡ None
-  no_cost bypasses never = go (is_true last i f s) (is_anti last i f s) (is_output last i f s) refl refl refl
+  pub no_cost : (cycles : Held → Held → ℕ) → (Contains (candidates p last s) i → ⊥) → cost_held last i f s cycles ≡ None
+  no_cost cycles never = go (is_true last i f s) (is_anti last i f s) (is_output last i f s) refl refl refl
     where
-      go : (t a o : Bool) → is_true last i f s ≡ t → is_anti last i f s ≡ a → is_output last i f s ≡ o → cost_by t a o (number bypasses f s) (f.latency - s.latency) ≡ None
+      go : (t a o : Bool) → is_true last i f s ≡ t → is_anti last i f s ≡ a → is_output last i f s ≡ o → cost_by t a o (cycles f s) (f.latency - s.latency) ≡ None
       go true a o et ea eo = absurd (never (true_has et))
       go false true o et ea eo = absurd (never (anti_has ea))
       go false false true et ea eo = absurd (never (output_has eo))
       go false false false et ea eo = refl
 
 -- where each that isn't marked has no edge, those that are have all
-pub found_same : (is_marked : ℕ → Bool) (last : ℕ → ℕ) (bypasses : List BypassParts) (j : ℕ) (s : Held) (i : ℕ) (firsts : List Held)
-    → ((k : ℕ) (f : Held) → slice_get firsts k ≡ Some f → is_marked (i + k) ≡ false → cost_held last (i + k) f s bypasses ≡ None) → found_among is_marked last bypasses j s i firsts ≡ found last bypasses j s i firsts
-found_same is_marked last bypasses j s i [] none = refl
-found_same is_marked last bypasses j s i (f ∷ firsts) none =
-    ap (λ (es : List Edge). es ++ found_among is_marked last bypasses j s (suc i) firsts) (go (is_marked i) refl)
-    ∙ ap (λ (es : List Edge). edge_by i j (cost_held last i f s bypasses) ++ es) (found_same is_marked last bypasses j s (suc i) firsts
+pub found_same : (is_marked : ℕ → Bool) (last : ℕ → ℕ) (cycles : Held → Held → ℕ) (j : ℕ) (s : Held) (i : ℕ) (firsts : List Held)
+    → ((k : ℕ) (f : Held) → slice_get firsts k ≡ Some f → is_marked (i + k) ≡ false → cost_held last (i + k) f s cycles ≡ None) → found_among is_marked last cycles j s i firsts ≡ found last cycles j s i firsts
+found_same is_marked last cycles j s i [] none = refl
+found_same is_marked last cycles j s i (f ∷ firsts) none =
+    ap (λ (es : List Edge). es ++ found_among is_marked last cycles j s (suc i) firsts) (go (is_marked i) refl)
+    ∙ ap (λ (es : List Edge). edge_by i j (cost_held last i f s cycles) ++ es) (found_same is_marked last cycles j s (suc i) firsts
     (λ k g at not_marked. let e : i + suc k ≡ suc i + k = omega arith in
-    ap (λ (q : ℕ). cost_held last q g s bypasses) (sym e) ∙ none (suc k) g at (ap is_marked e ∙ not_marked)))
+    ap (λ (q : ℕ). cost_held last q g s cycles) (sym e) ∙ none (suc k) g at (ap is_marked e ∙ not_marked)))
   where
-    go : (b : Bool) → is_marked i ≡ b → cond b (edge_by i j (cost_held last i f s bypasses)) [] ≡ edge_by i j (cost_held last i f s bypasses)
+    go : (b : Bool) → is_marked i ≡ b → cond b (edge_by i j (cost_held last i f s cycles)) [] ≡ edge_by i j (cost_held last i f s cycles)
     go true is = refl
     go false is =
         let z : i + zero ≡ i = omega arith in
-        let nothing : cost_held last i f s bypasses ≡ None = ap (λ (q : ℕ). cost_held last q f s bypasses) (sym z) ∙ none zero f refl (ap is_marked z ∙ is) in
+        let nothing : cost_held last i f s cycles ≡ None = ap (λ (q : ℕ). cost_held last q f s cycles) (sym z) ∙ none zero f refl (ap is_marked z ∙ is) in
         ap (edge_by i j) (sym nothing)

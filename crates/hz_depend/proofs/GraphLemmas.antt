@@ -1,9 +1,10 @@
 -- What is found is the graph of the definitions, and what a schedule asks of it.
-use Rattle.std.proofs.Common.{◌≡◌, ℕ, zero, suc, ◌+◌, ◌-◌, ◌<◌, ◌≤◌, ◌==◌, ◌&&◌, Bool, true, false, ◌||◌, cond, List, [], ◌∷◌, length, map, Option, Some, None, All, Contains, refl, sym, ap, ◌∙◌, subst, arith, rules}
-use Rattle.std.specs.Prelude.{slice_get, slice_index, unwrap_or, max, IsTrue}
+use Rattle.std.proofs.Common.{◌≡◌, ℕ, zero, suc, ◌+◌, ◌-◌, ◌<◌, ◌≤◌, ◌==◌, ◌&&◌, Bool, true, false, ◌||◌, cond, List, [], ◌∷◌, length, map, filter, Option, Some, None, All, Contains, refl, sym, ap, ◌∙◌, subst, arith, rules}
+use Rattle.std.specs.Prelude.{slice_get, slice_index, unwrap_or, max, not, IsTrue}
 use Rattle.std.specs.List.{find, list_any}
 use Rattle.std.specs.Option.{option_map}
 use Rattle.std.proofs.lemmas.List.{length-map}
+use Rattle.std.proofs.lemmas.List.Elements.{All-filter}
 use Rattle.std.proofs.lemmas.Option.{slice_get-map, get_or_from_slice_get}
 use Rattle.hz_base_model.proofs.Elements.{Contains-head, Contains-tail}
 use Rattle.hz_rtl.specs.declared.block.Insn.{Insn}
@@ -13,7 +14,9 @@ use Rattle.hz_check.specs.declared.checked.CheckedClass.{CheckedClass}
 use Rattle.hz_check.specs.Shape.{bypass_of, class_of}
 use Rattle.hz_description_model.specs.Check.CheckedParts.{BypassParts}
 use Rattle.hz_block_model.specs.Dependences.Accesses.{access_of}
-use Rattle.hz_block_model.specs.Dependences.Classes.{bypass_between}
+use Rattle.hz_block_model.specs.Dependences.Classes.{bypass_between, number_where}
+use Rattle.hz_block_model.specs.Dependences.Stores.{stores_data, stores_data_if, stores_data_at}
+use Rattle.hz_block_model.specs.Running.Blocks.{Instruction}
 use Rattle.hz_block_model.specs.Dependences.Dependences as model
 use Rattle.hz_block_model.specs.Dependences.Dependences.{depends, Timing}
 use Rattle.hz_block_model.specs.Dependences.Graphs.{Edge, edge, IsGraph}
@@ -73,10 +76,10 @@ module _ (checked : Checked) (insns : List Insn) where
   numbers = map (class_number checked) insns
 
   abbrev pub timing : Timing
-  timing = timing_in checked numbers
+  timing = timing_in checked numbers (block_in checked insns)
 
   abbrev pub all : List Edge
-  all = all_found bypasses (nodes_in checked insns) (length insns)
+  all = all_found (number bypasses) (nodes_in checked insns) (length insns)
 
   class_at : (i : ℕ) (x : Insn) → slice_get insns i ≡ Some x → slice_index numbers i ≡ class_number checked x
   class_at i x at = get_or_from_slice_get numbers i (class_number checked x) 0 (slice_get-map (class_number checked) insns i ∙ ap (option_map (class_number checked)) at)
@@ -94,10 +97,16 @@ module _ (checked : Checked) (insns : List Insn) where
     abbrev of_class : ℕ → ℕ
     of_class = slice_index (latencies_of checked)
 
+    stores_same : stores_data (instruction x) (instruction y) ≡ stores_data_at (block_in checked insns) i j
+    stores_same =
+        ap (λ (o : Option Instruction). stores_data_if o (Some (instruction y))) (sym (slice_get-map instruction insns i ∙ ap (option_map instruction) at_i))
+        ∙ ap (stores_data_if (slice_get (block_in checked insns) i)) (sym (slice_get-map instruction insns j ∙ ap (option_map instruction) at_j))
+
     number_same : number bypasses (node_for checked x) (node_for checked y) ≡ timing.number i j
     number_same =
-        ap (λ (c : ℕ). unwrap_or (bypass_between bypasses c cy) (of_class c)) (sym (class_at i x at_i))
-        ∙ ap (λ (c : ℕ). unwrap_or (bypass_between bypasses (slice_index numbers i) c) (of_class (slice_index numbers i))) (sym (class_at j y at_j))
+        ap (λ (b : Bool). number_where bypasses (of_class cx) b cx cy) stores_same
+        ∙ (ap (λ (c : ℕ). number_where bypasses (of_class c) (stores_data_at (block_in checked insns) i j) c cy) (sym (class_at i x at_i))
+        ∙ ap (number_where bypasses (of_class (slice_index numbers i)) (stores_data_at (block_in checked insns) i j) (slice_index numbers i)) (sym (class_at j y at_j)))
 
     difference_same : (of_class cx - of_class cy) ≡ (timing.latency i - timing.latency j)
     difference_same = ap (λ (c : ℕ). of_class c - of_class cy) (sym (class_at i x at_i)) ∙ ap (λ (c : ℕ). of_class (slice_index numbers i) - of_class c) (sym (class_at j y at_j))
@@ -126,7 +135,7 @@ module _ (checked : Checked) (insns : List Insn) where
     abbrev o : Bool
     o = model.is_output between since (access_of (instruction x)) (access_of (instruction y))
 
-    pair_cost : i < j → cost_held (last_of (nodes_in checked insns) j) i (node_for checked x) (node_for checked y) bypasses
+    pair_cost : i < j → cost_held (last_of (nodes_in checked insns) j) i (node_for checked x) (node_for checked y) (number bypasses)
         ≡ cond (depends (block_in checked insns) i j) (Some (model.cost (block_in checked insns) timing i j)) None
     pair_cost lt =
         ap (λ (b : Bool). cost_by b (is_anti last i fx fy) (is_output last i fx fy) (number bypasses fx fy) (of_class cx - of_class cy)) (true_same checked insns i j x y)
@@ -148,11 +157,11 @@ module _ (checked : Checked) (insns : List Insn) where
     pub at_to : slice_get insns e.to ≡ Some second
     pub upward : e.from < e.to
     pub inside : e.to < length insns
-    pub is_cost : cost_held (last_of (nodes_in checked insns) e.to) e.from (node_for checked first) (node_for checked second) bypasses ≡ Some e.cost
+    pub is_cost : cost_held (last_of (nodes_in checked insns) e.to) e.from (node_for checked first) (node_for checked second) (number bypasses) ≡ Some e.cost
 
   of_edge : (e : Edge) → Contains all e → Of e
   of_edge e c =
-      let r = all_only bypasses (nodes_in checked insns) (length insns) e c in
+      let r = all_only (number bypasses) (nodes_in checked insns) (length insns) e c in
       let (x, at_x, is_x) = some_of (node_for checked) (slice_get insns e.from) r.first (sym (slice_get-map (node_for checked) insns e.from) ∙ r.at_from) in
       let (y, at_y, is_y) = some_of (node_for checked) (slice_get insns e.to) r.second (sym (slice_get-map (node_for checked) insns e.to) ∙ r.at_to) in
       record {
@@ -162,12 +171,12 @@ module _ (checked : Checked) (insns : List Insn) where
         at_to = at_y;
         upward = r.upward;
         inside = r.inside;
-        is_cost = ap (λ (h : Held). cost_held (last_of (nodes_in checked insns) e.to) e.from h (node_for checked y) bypasses) is_x
-            ∙ (ap (λ (h : Held). cost_held (last_of (nodes_in checked insns) e.to) e.from r.first h bypasses) is_y ∙ r.is_cost);
+        is_cost = ap (λ (h : Held). cost_held (last_of (nodes_in checked insns) e.to) e.from h (node_for checked y) (number bypasses)) is_x
+            ∙ (ap (λ (h : Held). cost_held (last_of (nodes_in checked insns) e.to) e.from r.first h (number bypasses)) is_y ∙ r.is_cost);
       }
 
   pub graph_is : IsGraph (block_in checked insns) timing all
-  graph_is = record { each = each; only = only; once = all_once bypasses (nodes_in checked insns) (length insns) }
+  graph_is = record { each = each; only = only; once = all_once (number bypasses) (nodes_in checked insns) (length insns) }
     where
       each : (i j : ℕ) → i < length (block_in checked insns) → j < length (block_in checked insns) → depends (block_in checked insns) i j ≡ true → Contains all (edge (block_in checked insns) timing i j)
       each i j within_i within_j d =
@@ -176,7 +185,7 @@ module _ (checked : Checked) (insns : List Insn) where
           let (x, at_x) = some_at insns i (omega arith) in
           let (y, at_y) = some_at insns j (omega arith) in
           let cost = model.cost (block_in checked insns) timing i j in
-          all_has bypasses (nodes_in checked insns) (length insns) i j (node_for checked x) (node_for checked y) cost lt (omega arith) (held_at i x at_x) (held_at j y at_y)
+          all_has (number bypasses) (nodes_in checked insns) (length insns) i j (node_for checked x) (node_for checked y) cost lt (omega arith) (held_at i x at_x) (held_at j y at_y)
           (pair_cost i j x y at_x at_y lt ∙ ap (λ (b : Bool). cond b (Some cost) None) d)
 
       only : (e : Edge) → Contains all e → (e.from < e.to) × (e.to < length (block_in checked insns)) × (depends (block_in checked insns) e.from e.to ≡ true) × (e.cost ≡ model.cost (block_in checked insns) timing e.from e.to)
@@ -196,15 +205,25 @@ module _ (checked : Checked) (insns : List Insn) where
   pub small : (i : ℕ) → slice_index (latencies_of checked) i ≤ 1000
   small i = small_class checked.classes.items checked.kept.latencies i
 
-  number_small : (f s : Held) → f.latency ≤ 1000 → number bypasses f s ≤ 1000
-  number_small f s h = go (find test bypasses) refl
+  between_small : (guard : BypassParts → Bool) (out into latency : ℕ) → latency ≤ 1000 → unwrap_or (bypass_between (filter guard bypasses) out into) latency ≤ 1000
+  between_small guard out into latency h = go (find test (filter guard bypasses)) refl
     where
       test : BypassParts → Bool
-      test b = list_any (λ n. n == f.class) b.outs && list_any (λ n. n == s.class) b.ins
+      test b = list_any (λ n. n == out) b.outs && list_any (λ n. n == into) b.ins
 
-      go : (o : Option BypassParts) → find test bypasses ≡ o → unwrap_or (option_map (λ b. b.number) o) f.latency ≤ 1000
+      go : (o : Option BypassParts) → find test (filter guard bypasses) ≡ o → unwrap_or (option_map (λ b. b.number) o) latency ≤ 1000
       go None is = h
-      go (Some b) is = found_all (λ b. b.number ≤ 1000) test bypasses b checked.kept.bypass_numbers is
+      go (Some b) is = found_all (λ b. b.number ≤ 1000) test (filter guard bypasses) b (All-filter guard (λ b. b.number ≤ 1000) bypasses checked.kept.bypass_numbers) is
+
+  number_small : (f s : Held) → f.latency ≤ 1000 → number bypasses f s ≤ 1000
+  number_small f s h = go (stores_data f.instruction s.instruction)
+    where
+      plain : unwrap_or (bypass_between (filter (λ b. not b.guard) bypasses) f.class s.class) f.latency ≤ 1000
+      plain = between_small (λ b. not b.guard) f.class s.class f.latency h
+
+      go : (b : Bool) → number_where bypasses f.latency b f.class s.class ≤ 1000
+      go true = between_small (λ b. b.guard) f.class s.class (unwrap_or (bypass_between (filter (λ b. not b.guard) bypasses) f.class s.class) f.latency) plain
+      go false = plain
 
   pub edge_is : (e : Edge) → Contains all e → (e.from < e.to) × (e.to < length insns) × (e.cost ≤ 1000)
   edge_is e c =

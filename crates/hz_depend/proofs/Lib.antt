@@ -4,6 +4,7 @@ pub mod LastLemmas
 pub mod PairLemmas
 pub mod FoundLemmas
 pub mod SameLemmas
+pub mod NumberLemmas
 pub mod HeightLemmas
 pub mod EdgeLemmas
 pub mod BoundLemmas

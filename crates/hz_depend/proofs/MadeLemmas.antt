@@ -15,7 +15,10 @@ use Rattle.hz_depend.specs.declared.parts.Graph.{Graph}
 use Rattle.hz_depend.specs.declared.parts.GraphInsn.{GraphInsn}
 use Rattle.hz_depend.specs.Shape.{class_for}
 use Rattle.hz_depend.specs.GraphShape.{edge_of, latencies_of, first_class_fault, IsGraphOf, IsSchedulable}
-use Rattle.hz_depend.specs.Held.{Held, held, node_for, class_number, number_of_class, all_found}
+use Rattle.hz_depend.specs.Held.{Held, held, node_for, class_number, number_of_class, number, all_found}
+use Rattle.hz_depend.specs.Numbers.{numbers_in, HoldsNumbers}
+use Rattle.hz_depend.specs.declared.finding.numbers.Numbers.{Numbers}
+use Rattle.hz_depend.proofs.NumberLemmas.{numbers_are}
 use Rattle.hz_depend.specs.Relaxing.{height_at, relaxed}
 use Rattle.hz_block_model.specs.Dependences.Graphs as model
 use Rattle.hz_block_model.specs.Dependences.Classes.{ClassFault}
@@ -29,15 +32,16 @@ use Rattle.hz_block_model.specs.Running.Limits.{instruction_limit}
 -- The instructions and the edges that are found of a block.
 pub record Made (checked : Checked) (insns : List Insn) (nodes : List Node) (edges : List Edge) : Type 0 where
   pub holds : map held nodes ≡ map (node_for checked) insns
-  pub finds : map edge_of edges ≡ all_found (map bypass_of checked.bypasses.items) (map held nodes) (length nodes)
+  pub finds : map edge_of edges ≡ all_found (number (map bypass_of checked.bypasses.items)) (map held nodes) (length nodes)
 
-pub made : (checked : Checked) (insns given : List Insn) (nodes again : List Node) (others : List CheckedBypass) (edges : List Edge) → given ≡ insns → again ≡ nodes → others ≡ checked.bypasses.items
-    → map held nodes ≡ map (node_for checked) given → map edge_of edges ≡ all_found (map bypass_of others) (map held again) (length again) → Made checked insns nodes edges
-made checked insns given nodes again others edges same_insns same_nodes same_bypasses holds finds = record {
+pub made : (checked : Checked) (insns given : List Insn) (nodes again : List Node) (others : List CheckedBypass) (numbers : Numbers) (edges : List Edge) → given ≡ insns → again ≡ nodes → others ≡ checked.bypasses.items
+    → map held nodes ≡ map (node_for checked) given → HoldsNumbers (map bypass_of others) numbers → map edge_of edges ≡ all_found (numbers_in numbers) (map held again) (length again) → Made checked insns nodes edges
+made checked insns given nodes again others numbers edges same_insns same_nodes same_bypasses holds are finds = record {
   holds = holds ∙ ap (map (node_for checked)) same_insns;
   finds = finds
-      ∙ (ap (λ (bs : List CheckedBypass). all_found (map bypass_of bs) (map held again) (length again)) same_bypasses
-      ∙ ap (λ (ns : List Node). all_found (map bypass_of checked.bypasses.items) (map held ns) (length ns)) same_nodes);
+      ∙ (ap (λ (cycles : Held → Held → ℕ). all_found cycles (map held again) (length again)) (numbers_are (map bypass_of others) numbers are)
+      ∙ (ap (λ (bs : List CheckedBypass). all_found (number (map bypass_of bs)) (map held again) (length again)) same_bypasses
+      ∙ ap (λ (ns : List Node). all_found (number (map bypass_of checked.bypasses.items)) (map held ns) (length ns)) same_nodes));
 }
 
 -- a fault at a place, or a later one
@@ -59,7 +63,7 @@ module _ (checked : Checked) (insns : List Insn) (nodes : List Node) (edges : Li
   same_length = sym (length-map nodes held) ∙ (ap length m.holds ∙ length-map insns (node_for checked))
 
   pub found_all : map edge_of edges ≡ all checked insns
-  found_all = m.finds ∙ (ap (λ (hs : List Held). all_found (bypasses checked insns) hs (length nodes)) m.holds ∙ ap (λ (n : ℕ). all_found (bypasses checked insns) (nodes_in checked insns) n) same_length)
+  found_all = m.finds ∙ (ap (λ (hs : List Held). all_found (number (bypasses checked insns)) hs (length nodes)) m.holds ∙ ap (λ (n : ℕ). all_found (number (bypasses checked insns)) (nodes_in checked insns) n) same_length)
 
   pub node_classes : map (λ n. n.class) nodes ≡ numbers checked insns
   node_classes = sym (map_map (λ (h : Held). h.class) held nodes) ∙ (ap (map (λ (h : Held). h.class)) m.holds ∙ map_map (λ (h : Held). h.class) (node_for checked) insns)
@@ -77,7 +81,7 @@ module _ (checked : Checked) (insns : List Insn) (nodes : List Node) (edges : Li
 
   pub edges_ordered : AllPairs (λ a b. a.from < b.to) edges
   edges_ordered i j d lt within =
-      let h : AllPairs Before (map edge_of edges) = subst (λ (es : List model.Edge). AllPairs Before es) (sym m.finds) (all_before (bypasses checked insns) (map held nodes) (length nodes)) in
+      let h : AllPairs Before (map edge_of edges) = subst (λ (es : List model.Edge). AllPairs Before es) (sym m.finds) (all_before (number (bypasses checked insns)) (map held nodes) (length nodes)) in
       let n = length-map edges edge_of in
       let k = h i j (edge_of d) lt (omega arith) in
       rw (get_or-map edge_of edges i d (edge_of d) (omega arith), get_or-map edge_of edges j d (edge_of d) within) at k

@@ -1,17 +1,13 @@
 -- Small facts about what the code holds.
-use Rattle.std.proofs.Common.{◌≡◌, ℕ, ◌<◌, ◌==◌, Bool, true, false, cond, ◌||◌, ◌&&◌, not, List, [], ◌∷◌, map, length, Option, Some, None, refl, sym, ap, ◌∙◌, get_or, set, get_or-set_other, get_or-set_same}
-use Rattle.std.specs.Prelude.{unwrap_or}
-use Rattle.std.specs.List.{list_any, find}
+use Rattle.std.proofs.Common.{◌≡◌, ℕ, ◌<◌, ◌==◌, Bool, true, false, cond, ◌||◌, not, List, [], ◌∷◌, length, Option, refl, sym, ap, ◌∙◌, get_or, set, get_or-set_other, get_or-set_same}
+use Rattle.std.specs.List.{list_any}
 use Rattle.std.specs.Option.{option_map}
 use Rattle.std.proofs.lemmas.Bool.{eqb-true, eq-eqb}
-use Rattle.hz_check.specs.declared.checked.CheckedBypass.{CheckedBypass}
-use Rattle.hz_check.specs.Shape.{bypass_of}
 use Rattle.hz_depend.specs.declared.finding.access.Based.{Based}
 use Rattle.hz_depend.specs.Cells.{based, cells}
-use Rattle.hz_depend.specs.Held.{Held, meet, number}
+use Rattle.hz_depend.specs.Held.{meet}
 use Rattle.hz_block_model.specs.Dependences.Accesses.{is_among}
 use Rattle.hz_block_model.specs.Dependences.Dependences.{apart_by}
-use Rattle.hz_block_model.specs.Dependences.Classes.{bypass_between}
 
 -- the second of two tests decides where the first fails
 pub or_else : (a b p m : Bool) → p ≡ a → a ≡ false → b ≡ m → b ≡ (p || m)
@@ -43,27 +39,3 @@ noted last x rest v r lt = go (x == r) refl
     go false is =
         let ne : r ≡ x → ⊥ = λ (e : r ≡ x). let f = eq-eqb x r (sym e) in absurd (cc) in
         ap (λ (w : ℕ). cond (is_among rest r) v w) (get_or-set_other last x r v 0 ne)
-
-pub bypass_found : (test : CheckedBypass → Bool) (out into : ℕ) (bypasses : List CheckedBypass) → ((b : CheckedBypass) → test b ≡ (list_any (λ n. n == out) b.outs.items && list_any (λ n. n == into) b.ins.items))
-    → bypass_between (map bypass_of bypasses) out into ≡ option_map (λ b. b.number) (find test bypasses)
-bypass_found test out into [] same = refl
-bypass_found test out into (b ∷ bypasses) same = rw (← same b) (go (test b) (bypass_found test out into bypasses same))
-  where
-    go : (t : Bool) → bypass_between (map bypass_of bypasses) out into ≡ option_map (λ b. b.number) (find test bypasses)
-        → option_map (λ b. b.number) (cond t (Some (bypass_of b)) (find (λ b. list_any (λ n. n == out) b.outs && list_any (λ n. n == into) b.ins) (map bypass_of bypasses))) ≡ option_map (λ b. b.number) (cond t (Some b) (find test bypasses))
-    go true h = refl
-    go false h = h
-
--- the number of a true dependence
-module _ (bypasses : List CheckedBypass) (f s : Held) where
-  abbrev test : CheckedBypass → Bool
-  test b = list_any (λ n. n == f.class) b.outs.items && list_any (λ n. n == s.class) b.ins.items
-
-  abbrev found : bypass_between (map bypass_of bypasses) f.class s.class ≡ option_map (λ b. b.number) (find test bypasses)
-  found = bypass_found test f.class s.class bypasses (λ b. refl)
-
-  pub number_none : None ≡ find test bypasses → f.latency ≡ number (map bypass_of bypasses) f s
-  number_none e = ap (λ (o : Option CheckedBypass). unwrap_or (option_map (λ b. b.number) o) f.latency) e ∙ ap (λ (o : Option ℕ). unwrap_or o f.latency) (sym found)
-
-  pub number_some : (b : CheckedBypass) → Some b ≡ find test bypasses → b.number ≡ number (map bypass_of bypasses) f s
-  number_some b e = ap (λ (o : Option CheckedBypass). unwrap_or (option_map (λ b. b.number) o) f.latency) e ∙ ap (λ (o : Option ℕ). unwrap_or o f.latency) (sym found)

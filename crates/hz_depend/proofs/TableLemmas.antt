@@ -6,7 +6,6 @@ use Rattle.std.proofs.Math.Path.{fun_ext}
 use Rattle.std.proofs.lemmas.Bool.{eq-eqb}
 use Rattle.std.proofs.lemmas.List.{take-map, length-map}
 use Rattle.std.proofs.lemmas.Option.{slice_get-map, slice_get_within}
-use Rattle.hz_description_model.specs.Check.CheckedParts.{BypassParts}
 use Rattle.hz_block_model.specs.Dependences.Accesses.{Based}
 use Rattle.hz_depend.specs.declared.nodes.Node.{Node}
 use Rattle.hz_depend.specs.Held.{Held, held, found, found_among, cost_held, last_of}
@@ -55,7 +54,7 @@ pub more_noted_node : (nodes : List Node) (j : ℕ) (node : Node) (old new : Pla
 more_noted_node nodes j node old new at = more_noted (map held nodes) j (held node) old new (slice_get-map held nodes j ∙ ap (option_map held) at)
 
 -- the instructions that are marked have all edges
-module _ (nodes : List Node) (j : ℕ) (s : Held) (bypasses : List BypassParts) (last : List ℕ) (p : Places) (old new : List ℕ)
+module _ (nodes : List Node) (j : ℕ) (s : Held) (cycles : Held → Held → ℕ) (last : List ℕ) (p : Places) (old new : List ℕ)
     (same : (r : ℕ) → slice_index last r ≡ last_of (map held nodes) j r)
     (noted : AreNoted (map held nodes) j p) (many : length old ≡ length nodes) (within : j < length nodes)
     (is : new ≡ marked old (j + 1) (candidates p (slice_index last) s)) where
@@ -67,8 +66,8 @@ module _ (nodes : List Node) (j : ℕ) (s : Held) (bypasses : List BypassParts) 
       let there : Contains (candidates p (slice_index last) s) k = subst (λ (t : ℕ → ℕ). Contains (candidates p t s) k) (sym tables) c in
       eq-eqb (slice_index new k) (j + 1) (ap (λ (xs : List ℕ). slice_index xs k) is ∙ has_mark (j + 1) old (candidates p (slice_index last) s) k (omega arith) there)
 
-  pub among_all : found_among (λ i. slice_index new i == j + 1) (slice_index last) bypasses j s 0 (map held (take j nodes)) ≡ found (slice_index last) bypasses j s 0 (map held (take j nodes))
-  among_all = found_same (λ i. slice_index new i == j + 1) (slice_index last) bypasses j s 0 (map held (take j nodes)) (λ k f at not_marked.
+  pub among_all : found_among (λ i. slice_index new i == j + 1) (slice_index last) cycles j s 0 (map held (take j nodes)) ≡ found (slice_index last) cycles j s 0 (map held (take j nodes))
+  among_all = found_same (λ i. slice_index new i == j + 1) (slice_index last) cycles j s 0 (map held (take j nodes)) (λ k f at not_marked.
       let shorter = slice_get_within (map held (take j nodes)) k f at in
       let long = length-map (take j nodes) held in
       let short = length-take_at nodes j in
@@ -76,6 +75,6 @@ module _ (nodes : List Node) (j : ℕ) (s : Held) (bypasses : List BypassParts) 
       let there : slice_get (map held nodes) k ≡ Some f = sym (slice_get-take (map held nodes) j k lt) ∙ (ap (λ (xs : List Held). slice_get xs k) (take-map held j nodes) ∙ at) in
       let z : 0 + k ≡ k = omega arith in
       let unmarked : (slice_index new k == j + 1) ≡ false = ap (λ (q : ℕ). slice_index new q == j + 1) (sym z) ∙ not_marked in
-      ap (λ (q : ℕ). cost_held (slice_index last) q f s bypasses) z
-      ∙ (ap (λ (t : ℕ → ℕ). cost_held t k f s bypasses) tables
-      ∙ no_cost (map held nodes) j k f s p noted lt there bypasses (λ c. let marked_it = is_marked k lt c in absurd (cc))))
+      ap (λ (q : ℕ). cost_held (slice_index last) q f s cycles) z
+      ∙ (ap (λ (t : ℕ → ℕ). cost_held t k f s cycles) tables
+      ∙ no_cost (map held nodes) j k f s p noted lt there cycles (λ c. let marked_it = is_marked k lt c in absurd (cc))))

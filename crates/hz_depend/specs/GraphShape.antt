@@ -14,6 +14,7 @@ use Rattle.hz_depend.specs.Faults.{fault}
 use Rattle.hz_depend.specs.Shape.{class_for}
 use Rattle.hz_block_model.specs.Dependences.Classes.{ClassFault, timing_of}
 use Rattle.hz_block_model.specs.Dependences.Dependences.{Timing}
+use Rattle.hz_block_model.specs.Running.Blocks.{Instruction}
 use Rattle.hz_block_model.specs.Dependences.Graphs as model
 use Rattle.hz_block_model.specs.Running.Limits.{instruction_limit}
 
@@ -25,8 +26,8 @@ abbrev pub latencies_of : Checked → List ℕ
 latencies_of checked = map (λ c. c.latency) checked.classes.items
 
 -- the timing of a block whose instructions have these classes
-abbrev pub timing_in : Checked → List ℕ → Timing
-timing_in checked classes = timing_of (latencies_of checked) (map bypass_of checked.bypasses.items) classes
+abbrev pub timing_in : Checked → List ℕ → List Instruction → Timing
+timing_in checked classes block = timing_of (latencies_of checked) (map bypass_of checked.bypasses.items) classes block
 
 -- The dependence graph of a block by a description.
 pub record IsGraphOf (checked : Checked) (block : Block) (graph : Graph) : Type 0 where
@@ -37,7 +38,7 @@ pub record IsGraphOf (checked : Checked) (block : Block) (graph : Graph) : Type 
   -- the latency of its class
   pub latencies : map (λ i. i.latency) graph.insns.items ≡ map (λ i. slice_index (latencies_of checked) i.class) graph.insns.items
   -- exactly one edge for each dependence, with its cost, and no other
-  pub edges : model.IsGraph (instructions block) (timing_in checked (map (λ i. i.class) graph.insns.items)) (map edge_of graph.edges.items)
+  pub edges : model.IsGraph (instructions block) (timing_in checked (map (λ i. i.class) graph.insns.items) (instructions block)) (map edge_of graph.edges.items)
   pub heights : (i : ℕ) → i < length graph.insns.items → model.IsHeight (map edge_of graph.edges.items) (map (λ i. i.latency) graph.insns.items) (map (λ i. i.height) graph.insns.items) i
 
 -- What a list scheduler asks of a graph: few instructions, classes in range, edges that lead upwards, and no cost or latency that

@@ -4,6 +4,7 @@ pub mod Cells
 pub mod AccessShape
 pub mod GraphShape
 pub mod Held
+pub mod Numbers
 pub mod Relaxing
 pub mod Lists
 pub mod Marks

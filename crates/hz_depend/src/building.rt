@@ -8,6 +8,7 @@ ghost use Rattle.hz_block_model.specs.Running.Limits.{instruction_limit};
 use crate::building::edges::edges_of;
 use crate::building::heights::{height_at, sums_of};
 use crate::fault::DependFault;
+use crate::finding::numbers::Numbers;
 use crate::nodes::{Node, first_class_fault, nodes_of};
 use crate::parts::{Graph, GraphInsn};
 use hz_check::Checked;
@@ -22,7 +23,7 @@ pub(crate) mod heights;
 fn insns_of(
     alloc: Global,
     insns: &[Insn],
-    nodes: &[Node],
+    nodes: &[Node<'_>],
     sums: &[Option<u32>],
 ) -> Result<Vec<GraphInsn>, NoMemory>
     requires nodes { length insns.now ≡ length nodes.now }
@@ -59,7 +60,8 @@ pub fn graph(alloc: Global, checked: &Checked, block: &Block) -> Result<Graph, D
         return Err(DependFault::Class { place, fault });
     }
     let nodes = nodes_of(alloc, checked, &block.insns)?;
-    let edges = edges_of(alloc, &checked.bypasses, &nodes)?;
+    let numbers = Numbers::new(alloc, &checked.bypasses, checked.classes.len())?;
+    let edges = edges_of(alloc, &numbers, &nodes)?;
     let sums = sums_of(alloc, &nodes, &edges)?;
     let insns = insns_of(alloc, &block.insns, &nodes, &sums)?;
     Ok(Graph { insns, edges })

@@ -16,9 +16,10 @@ use hz_regexp::NoMemory;
 use hz_rtl::Insn;
 use std::alloc::Global;
 
-/// An instruction: the number of its class, the latency of that in cycles, and what it reads and writes.
+/// An instruction with the number of its class, the latency of that in cycles, and what it reads and writes.
 #[derive(Debug, Drop)]
-pub struct Node {
+pub struct Node<'a> {
+    pub insn: &'a Insn,
     pub class: u32,
     pub latency: u32,
     pub access: Access,
@@ -38,7 +39,7 @@ pub fn first_class_fault(checked: &Checked, insns: &[Insn]) -> Option<(u32, Clas
 }
 
 /// An instruction whose class is not wrong.
-fn node_of(alloc: Global, checked: &Checked, insn: &Insn) -> Result<Node, NoMemory>
+fn node_of<'a>(alloc: Global, checked: &Checked, insn: &'a Insn) -> Result<Node<'a>, NoMemory>
     requires { is_ok (class_for checked.now insn.now) ≡ true }
     ensures held { IfOk result (λ node. held node ≡ node_for checked.now insn.now) }
     ensures within { IfOk result (λ node. node.class < length checked.now.classes.items) }
@@ -49,6 +50,7 @@ fn node_of(alloc: Global, checked: &Checked, insn: &Insn) -> Result<Node, NoMemo
     let access = access_of(alloc, insn)?;
     let latency = checked.classes[class as usize].latency;
     Ok(Node {
+        insn,
         class,
         latency,
         access,
@@ -56,7 +58,11 @@ fn node_of(alloc: Global, checked: &Checked, insn: &Insn) -> Result<Node, NoMemo
 }
 
 /// The instructions of a block in which no class is wrong.
-pub fn nodes_of(alloc: Global, checked: &Checked, insns: &[Insn]) -> Result<Vec<Node>, NoMemory>
+pub fn nodes_of<'a>(
+    alloc: Global,
+    checked: &Checked,
+    insns: &'a [Insn],
+) -> Result<Vec<Node<'a>>, NoMemory>
     requires { first_class_fault 0 checked.now insns.now ≡ None }
     ensures held { IfOk result (λ nodes. map held nodes.items ≡ map (node_for checked.now) insns.now) }
     ensures within { IfOk result (λ nodes. All (λ n. n.class < length checked.now.classes.items) nodes.items) }

@@ -9,7 +9,7 @@ ghost use Rattle.hz_description_model.specs.Check.Places.{automaton_number, unit
 ghost use Rattle.hz_description_model.specs.Check.ToldPlaces.{ToldBehind, StandsBefore, IsPastUnits, unit_site, units_beside, PassesSize, size_together, TellsSecondNumber};
 ghost use Rattle.hz_description_model.specs.Check.CheckedParts.{automata_of, class_parts, bypass_parts, attributes_of};
 ghost use Rattle.hz_description_model.specs.Check.CheckedShape.{IsKept};
-ghost use Rattle.hz_description_model.specs.Reading.Descriptions.{Description, UnitItem, ClassItem};
+ghost use Rattle.hz_description_model.specs.Reading.Descriptions.{Description, UnitItem, ClassItem, unguarded};
 ghost use Rattle.hz_description_model.specs.Reading.DescriptionShape.{IsCheckable};
 ghost use Rattle.hz_description_model.specs.Splits.Rules.{is_mixed_class, is_uneven_class};
 ghost use Rattle.hz_description_model.specs.Check.Sites.{Site, earliest, repeated};
@@ -76,9 +76,9 @@ pub fn size_is_told_where_it_passes()
 {}
 
 /// A producing class is told of a bypass exactly where the bypass gives it, with some consuming class, another number than
-/// an earlier bypass.
+/// an earlier bypass, where bypasses with the guard are left out.
 pub fn second_numbers_are_told()
-    ensures { (d : Description) (s : Site) → Contains (second_numbers d) s ↔ TellsSecondNumber d.bypasses s }
+    ensures { (d : Description) (s : Site) → Contains (second_numbers d) s ↔ TellsSecondNumber (unguarded d.bypasses) s }
 {}
 
 /// No class of a description without a fault breaks one of the two rules on units of several automata.

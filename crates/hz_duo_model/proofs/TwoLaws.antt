@@ -30,7 +30,7 @@ module _ (d : Description) (known : Known) where
     each = rw (sym (as_many d block g graph)) keeps.each;
     kept = λ before after x i is depending.
         let (up, inside) = upwards block i x.place depending in
-        keeps.kept before after x is (edge block (timing_in d (classes_of g)) i x.place) ((graph.edges).each i x.place (omega (arith, up, inside)) inside depending) refl;
+        keeps.kept before after x is (edge block (timing_in d (classes_of g) block) i x.place) ((graph.edges).each i x.place (omega (arith, up, inside)) inside depending) refl;
   }
 
   pub keeps_both : (first second : List Instruction) (g h : Graph) (slots : List Slot) → IsGraphOf d first g → IsGraphOf d second h → Legal (Accepted (pipeline_with d known)) (joined g h) slots → KeepsBoth d known first second g h slots
@@ -41,8 +41,8 @@ module _ (d : Description) (known : Known) where
     accepted = legal.accepted;
     leaves = λ s t.
         run_two_is first second two contexts s t
-        ∙ (ap (λ (r : State). (r, run second (places (own 2 two)) t)) (graph_kept first (timing_in d (classes_of g)) g (own 1 two) one.edges (as_many d first g one) mine s)
-        ∙ ap (λ (r : State). (run first (range_with_len 0 (length first)) s, r)) (graph_kept second (timing_in d (classes_of h)) h (own 2 two) other.edges (as_many d second h other) yours t));
+        ∙ (ap (λ (r : State). (r, run second (places (own 2 two)) t)) (graph_kept first (timing_in d (classes_of g) first) g (own 1 two) one.edges (as_many d first g one) mine s)
+        ∙ ap (λ (r : State). (run first (range_with_len 0 (length first)) s, r)) (graph_kept second (timing_in d (classes_of h) second) h (own 2 two) other.edges (as_many d second h other) yours t));
   }
     where
       two : List ContextSlot

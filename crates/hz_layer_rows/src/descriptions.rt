@@ -97,7 +97,11 @@ fn write_bypass(out: &mut String, item: &BypassItem) -> Result<(), AllocError> {
     write!(out, "; bypass {}.{} {} ", item.line, item.form, item.number)?;
     write_names(out, "|", &item.outs)?;
     out.push_str(" to ")?;
-    write_names(out, "|", &item.ins)
+    write_names(out, "|", &item.ins)?;
+    if item.guard {
+        out.push_str(" if stored")?;
+    }
+    Ok(())
 }
 
 /// The word of a set form.

@@ -21,7 +21,7 @@ no_test (a ∷ []) h = refl
 no_test (a ∷ b ∷ []) h = absurd (h refl)
 no_test (a ∷ b ∷ c ∷ operands) h = refl
 
-pub no_guard : (operands : List Form) → length operands ≤ 3 → model.has_guard (trees operands) ≡ false
+pub no_guard : (operands : List Form) → length operands ≤ 3 → model.has_other_guard (trees operands) ≡ false
 no_guard [] h = refl
 no_guard (a ∷ []) h = refl
 no_guard (a ∷ b ∷ []) h = refl
@@ -54,12 +54,13 @@ module _ (line form : ℕ) where
   no_class read (a ∷ b ∷ c ∷ d ∷ []) h = absurd (h refl)
   no_class read (a ∷ b ∷ c ∷ d ∷ e ∷ operands) h = refl
 
-  pub no_bypass : (operands : List Form) → (length operands ≡ 3 → ⊥) → model.has_guard (trees operands) ≡ false → model.bypass_form line form (trees operands) ≡ Err model.bad_shape
-  no_bypass [] h g = refl
-  no_bypass (a ∷ []) h g = refl
-  no_bypass (a ∷ b ∷ []) h g = refl
-  no_bypass (a ∷ b ∷ c ∷ []) h g = absurd (h refl)
-  no_bypass (a ∷ b ∷ c ∷ d ∷ operands) h g = rw g refl
+  pub no_bypass : (operands : List Form) → (length operands ≡ 3 → ⊥) → (length operands ≡ 4 → ⊥) → model.bypass_of line form (trees operands) ≡ Err model.bad_shape
+  no_bypass [] h k = refl
+  no_bypass (a ∷ []) h k = refl
+  no_bypass (a ∷ b ∷ []) h k = refl
+  no_bypass (a ∷ b ∷ c ∷ []) h k = absurd (h refl)
+  no_bypass (a ∷ b ∷ c ∷ d ∷ []) h k = absurd (k refl)
+  no_bypass (a ∷ b ∷ c ∷ d ∷ e ∷ operands) h k = refl
 
   pub no_set : (kind : SetKind) (operands : List Form) → (length operands ≡ 2 → ⊥) → model.set_form_of line form kind (trees operands) ≡ Err model.bad_shape
   no_set kind [] h = refl

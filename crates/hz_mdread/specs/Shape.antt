@@ -58,7 +58,7 @@ abbrev pub class_item : ClassItem → model.ClassItem
 class_item i = record { line = i.line; form = i.form; name = i.name; latency = i.latency; condition = condition i.condition; expression = expression i.expr }
 
 abbrev pub bypass_item : BypassItem → model.BypassItem
-bypass_item i = record { line = i.line; form = i.form; number = i.number; outs = i.outs.items; ins = i.ins.items }
+bypass_item i = record { line = i.line; form = i.form; number = i.number; outs = i.outs.items; ins = i.ins.items; guard = i.guard }
 
 abbrev pub set_kind : SetForm → sets.SetKind
 set_kind Exclusion = sets.exclusion

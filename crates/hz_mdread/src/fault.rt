@@ -32,7 +32,7 @@ pub enum MdFault {
     /// An expression with a fault of its own, which is never want of memory.
     #[error("line {line}: in the expression, {fault}")]
     BadExpression { line: u32, fault: ExprFault },
-    /// A bypass with a guard.
+    /// A bypass with another guard than `store_data_bypass_p`.
     #[error("line {line}: an unknown guard")]
     UnknownGuard { line: u32 },
     /// Memory ran out.

@@ -1,9 +1,10 @@
 //! The forms of a description, each by its operands: first their number decides, then each from left to right.
 
 ghost use Rattle.std.specs.Prelude.{◌≡◌, ◌^◌, map, IfOk, IfErr, IsTrue, Ok, Err};
-ghost use Rattle.std.specs.Option.{option_copied, ok_or};
+ghost use Rattle.std.specs.Option.{option_copied, option_map, ok_or};
 ghost use Rattle.hz_description_model.specs.Reading.DescriptionForms as model;
 ghost use Rattle.hz_mdread.specs.Classes.{class_head, class_with};
+ghost use Rattle.hz_mdread.specs.Guards.{guard_said};
 ghost use Rattle.hz_mdread.specs.Faults.{TellsOf};
 ghost use Rattle.hz_mdread.specs.Reading.{reading};
 ghost use Rattle.hz_mdread.specs.Shape.{addition, automaton_item, condition, unit_item, kind_in, set_kind};
@@ -18,8 +19,8 @@ use crate::items::{
 };
 use crate::kinds::{FormKind, kind_of};
 use crate::operands::{
-    expression_in, fallback_in, headed, is_named, limited_number, name_in, names_in, quoted_bytes,
-    set_patterns,
+    expression_in, fallback_in, guard_in, headed, is_named, limited_number, name_in, names_in,
+    quoted_bytes, set_patterns,
 };
 use crate::options::options_of;
 use hz_regexp::{Name, NoMemory};
@@ -232,39 +233,84 @@ fn class_form(alloc: Global, place: Place, operands: &[Form]) -> Result<Addition
     class_with(alloc, place, head, condition, regexp)
 }
 
-/// Whether a string stands behind three operands.
+/// Whether a string that says another guard than that of stores stands behind three operands.
 #[tactic(auto, using(crate::proofs::OperandLemmas::no_guard))]
-fn has_guard(operands: &[Form]) -> bool
-    ensures { result ≡ model.has_guard (trees operands.now) }
+fn has_other_guard(operands: &[Form]) -> bool
+    ensures { result ≡ model.has_other_guard (trees operands.now) }
 {
-    operands.len() > 3 && quoted_bytes(&operands[3]).is_some()
+    operands.len() > 3 && matches!(guard_in(&operands[3]), Some(false))
 }
 
-/// `(define_bypass number "outs" "ins")`
-#[tactic(auto, using(crate::proofs::OperandLemmas::no_bypass))]
-fn bypass_form(alloc: Global, place: Place, operands: &[Form]) -> Result<Addition, Wrong>
-    ensures ok { IfOk result (λ added. model.bypass_form place.line place.form (trees operands.now) ≡ Ok (addition added)) }
-    ensures err { IfErr result (TellsOf (λ fault. model.bypass_form place.line place.form (trees operands.now) ≡ Err fault)) }
+/// Whether a bypass has the guard: not where there is no operand for it, and else by the string that this is, or `BadShape`.
+fn guard_at(operand: Option<&Form>) -> Result<bool, Wrong>
+    ensures ok { IfOk result (λ guard. guard_said (option_map tree (option_copied operand.entry)) ≡ Ok guard) }
+    ensures err { IfErr result (TellsOf (λ fault. guard_said (option_map tree (option_copied operand.entry)) ≡ Err fault)) }
 {
-    if operands.len() != 3 {
-        if has_guard(operands) {
-            return Err(Wrong::UnknownGuard);
-        }
-        return Err(Wrong::BadShape);
-    }
-    let [number, outs, ins] = operands else {
-        unreachable!()
+    let Some(operand) = operand else {
+        return Ok(false);
     };
+    match guard_in(operand) {
+        Some(guard) => Ok(guard),
+        None => Err(Wrong::BadShape),
+    }
+}
+
+/// A bypass by its operands, the guard as it was given.
+fn bypass_with(
+    alloc: Global,
+    place: Place,
+    number: &Form,
+    outs: &Form,
+    ins: &Form,
+    guard: Option<&Form>,
+) -> Result<Addition, Wrong>
+    ensures ok { IfOk result (λ added. model.bypass_with place.line place.form (tree number.now) (tree outs.now) (tree ins.now) (guard_said (option_map tree (option_copied guard.entry))) ≡ Ok (addition added)) }
+    ensures err { IfErr result (TellsOf (λ fault. model.bypass_with place.line place.form (tree number.now) (tree outs.now) (tree ins.now) (guard_said (option_map tree (option_copied guard.entry))) ≡ Err fault)) }
+{
     let number = limited_number(number)?;
     let outs = names_at(alloc, outs)?;
     let ins = names_at(alloc, ins)?;
+    let guard = guard_at(guard)?;
     Ok(Addition::Bypass(BypassItem {
         line: place.line,
         form: place.form,
         number,
         outs,
         ins,
+        guard,
     }))
+}
+
+/// A bypass by all its operands, where no string says another guard.
+#[tactic(auto, using(crate::proofs::OperandLemmas::no_bypass))]
+fn bypass_of(alloc: Global, place: Place, operands: &[Form]) -> Result<Addition, Wrong>
+    ensures ok { IfOk result (λ added. model.bypass_of place.line place.form (trees operands.now) ≡ Ok (addition added)) }
+    ensures err { IfErr result (TellsOf (λ fault. model.bypass_of place.line place.form (trees operands.now) ≡ Err fault)) }
+{
+    if operands.len() == 3 {
+        let [number, outs, ins] = operands else {
+            unreachable!()
+        };
+        return bypass_with(alloc, place, number, outs, ins, None);
+    }
+    if operands.len() != 4 {
+        return Err(Wrong::BadShape);
+    }
+    let [number, outs, ins, guard] = operands else {
+        unreachable!()
+    };
+    bypass_with(alloc, place, number, outs, ins, Some(guard))
+}
+
+/// `(define_bypass number "outs" "ins")` and `(define_bypass number "outs" "ins" "store_data_bypass_p")`
+fn bypass_form(alloc: Global, place: Place, operands: &[Form]) -> Result<Addition, Wrong>
+    ensures ok { IfOk result (λ added. model.bypass_form place.line place.form (trees operands.now) ≡ Ok (addition added)) }
+    ensures err { IfErr result (TellsOf (λ fault. model.bypass_form place.line place.form (trees operands.now) ≡ Err fault)) }
+{
+    if has_other_guard(operands) {
+        return Err(Wrong::UnknownGuard);
+    }
+    bypass_of(alloc, place, operands)
 }
 
 /// `(exclusion_set "units" "units")`, and the four others with patterns as the second string

@@ -42,7 +42,7 @@ pub struct ClassItem {
 }
 
 /// `define_bypass`: between each class of `outs`, which produces, and each of `ins`, which consumes, the latency is
-/// `number`, in cycles, 0 to 1,000.
+/// `number`, in cycles, 0 to 1,000; with the guard `store_data_bypass_p` only where the consumer stores what is produced.
 #[derive(Debug, Drop)]
 pub struct BypassItem {
     pub line: u32,
@@ -50,6 +50,8 @@ pub struct BypassItem {
     pub number: u32,
     pub outs: Vec<Name>,
     pub ins: Vec<Name>,
+    /// Whether it has the guard.
+    pub guard: bool,
 }
 
 /// The five set forms.

@@ -63,6 +63,14 @@ pub fn name_in(alloc: Global, form: &Form) -> Result<Option<Name>, NoMemory>
     }
 }
 
+/// Whether a string says the guard of stores.
+pub fn guard_in(form: &Form) -> Option<bool>
+    ensures { result ≡ model.guard_in (tree form.now) }
+{
+    let bytes = quoted_bytes(form)?;
+    Some(bytes == b"store_data_bypass_p".as_slice())
+}
+
 /// The names where they were read, and none where the text is no list of names; want of memory stays what it is.
 fn list_if_read(read: Result<Vec<Name>, NamesFault>) -> Result<Option<Vec<Name>>, NoMemory>
     ensures { IsListIfRead read result }

@@ -10,9 +10,20 @@ use Rattle.hz_acceptance_model.specs.Traces.Traces.{Trace, TraceFault, too_many_
 use Rattle.std.specs.Option.{option_map}
 use Rattle.hz_replay.specs.declared.event.What.{What}
 use Rattle.hz_replay.specs.Lines.{event_of, judged, judgement}
-use Rattle.hz_replay.specs.Traces.{Placed, events_in, lines_in, placed_in, noted, cycles_in, after_line, trace_from, fault_told, IsTraceFault}
+use Rattle.hz_replay.specs.Traces.{Placed, events_in, lines_in, placed_in, noted, cycles_in, fault_told, IsTraceFault}
 use Rattle.hz_replay.specs.declared.event.Event.{Event as ReadEvent}
 use Rattle.hz_replay.specs.declared.fault.TraceFault.{TraceFault as Fault}
+
+-- what follows a line that is judged: `more` goes on behind it, from the events so far and their advances
+abbrev pub after_line : (List Placed → ℕ → Result (List Placed) (TraceFault × ℕ)) → List Placed → ℕ → ℕ → Result (Option Event) TraceFault → Result (List Placed) (TraceFault × ℕ)
+after_line more done advanced number (Ok event) = more (noted done number event) (advanced + cycles_in event)
+after_line more done advanced number (Err fault) = Err (fault, number)
+
+-- The events of lines, of which the first has this number, behind those that are done; or the first line that is wrong.
+unfoldable pub trace_from : List (List ℕ) → List Placed → ℕ → ℕ → List (List ℕ) → Result (List Placed) (TraceFault × ℕ)
+trace_from classes done advanced number [] = Ok done
+trace_from classes done advanced number (line ∷ lines) =
+    after_line (λ done advanced. trace_from classes done advanced (number + 1) lines) done advanced number (judged advanced (line_says classes line))
 
 pub from_none : (classes : List (List ℕ)) (done : List Placed) (advanced number : ℕ) → trace_from classes done advanced number [] ≡ Ok done
 unfolding trace_from

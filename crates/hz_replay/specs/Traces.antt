@@ -1,8 +1,8 @@
 -- A trace as the reader makes it, line after line.
-use Rattle.std.specs.Prelude.{◌≡◌, ℕ, ◌+◌, List, [], ◌∷◌, ◌++◌, map, ⊤, Option, Some, None, MatchOption, Result, Ok, Err}
+use Rattle.std.specs.Prelude.{◌≡◌, ℕ, List, [], ◌∷◌, ◌++◌, map, ⊤, Option, Some, None, MatchOption}
 use Rattle.hz_acceptance_model.specs.Accepting.Events as events
-use Rattle.hz_acceptance_model.specs.Traces.Traces.{TraceFault, bad_line, unknown_class, too_many_advances, TraceFaultAt, line_says}
-use Rattle.hz_replay.specs.Lines.{event_of, fault_of, judged}
+use Rattle.hz_acceptance_model.specs.Traces.Traces.{TraceFault, bad_line, unknown_class, too_many_advances, TraceFaultAt}
+use Rattle.hz_replay.specs.Lines.{event_of, fault_of}
 use Rattle.hz_replay.specs.declared.words.Wrong.{Wrong as WrongLine}
 use Rattle.hz_replay.specs.declared.event.Event.{Event}
 use Rattle.hz_replay.specs.declared.fault.TraceFault.{TraceFault as Fault}
@@ -44,17 +44,6 @@ abbrev pub cycles_in : Option events.Event → ℕ
 cycles_in None = 0
 cycles_in (Some (events.issue class)) = 0
 cycles_in (Some (events.advance cycles)) = cycles
-
--- what follows a line that is judged: `more` goes on behind it, from the events so far and their advances
-abbrev pub after_line : (List Placed → ℕ → Result (List Placed) (TraceFault × ℕ)) → List Placed → ℕ → ℕ → Result (Option events.Event) TraceFault → Result (List Placed) (TraceFault × ℕ)
-after_line more done advanced number (Ok event) = more (noted done number event) (advanced + cycles_in event)
-after_line more done advanced number (Err fault) = Err (fault, number)
-
--- The events of lines, of which the first has this number, behind those that are done; or the first line that is wrong.
-unfoldable pub trace_from : List (List ℕ) → List Placed → ℕ → ℕ → List (List ℕ) → Result (List Placed) (TraceFault × ℕ)
-trace_from classes done advanced number [] = Ok done
-trace_from classes done advanced number (line ∷ lines) =
-    after_line (λ done advanced. trace_from classes done advanced (number + 1) lines) done advanced number (judged advanced (line_says classes line))
 
 -- the fault of a line of this number
 abbrev pub IsFaultOfLine : ℕ → WrongLine → Fault → Type 0

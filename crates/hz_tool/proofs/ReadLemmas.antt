@@ -1,6 +1,7 @@
 -- Files that are read, and what is decided of one that is not.
-use Rattle.std.proofs.Common.{◌≡◌, ℕ, ◌<◌, ◌≤◌, ◌⊎◌, Bool, true, false, List, [], ◌∷◌, ◌++◌, length, inl, inr, Option, Some, None, Err, MatchOption, MatchBool, nat_lt, refl, sym, subst, arith}
-use Rattle.std.specs.Prelude.{⊤, All, ◌^◌}
+use Rattle.std.proofs.Common.{◌≡◌, ℕ, zero, suc, ◌+◌, ◌<◌, ◌≤◌, ◌⊎◌, Bool, true, false, List, [], ◌∷◌, ◌++◌, length, map, take, drop, get_or, slice_index_or, inl, inr, Option, Some, None, Err, MatchOption, MatchBool, nat_lt, refl, sym, ap, ap₂, ◌∙◌, subst, arith}
+use Rattle.std.specs.Prelude.{⊤, All, Contains, ◌^◌}
+use Rattle.std.proofs.lemmas.List.{length-map, map_more, map-append}
 use Rattle.std.specs.declared.alloc.Global.{Global}
 use Rattle.std.specs.declared.vec.Vec.{Vec}
 use Rattle.std.specs.Option.{ForSome}
@@ -12,8 +13,9 @@ use Rattle.hz_answer_model.specs.Texts.{file_line, limit_line}
 use Rattle.hz_io.specs.Slurp.{SlurpCounts, Tells, LacksOnFailed}
 use Rattle.hz_io.specs.declared.faults.SlurpFault.{SlurpFault}
 use Rattle.hz_io.specs.declared.faults.SlurpFault.TheVariants.{Failed, Long, NoMemory}
-use Rattle.hz_tool.specs.Decisions.{Agrees, AreRead, CountsDecision, IsReadDecision, WhyNotRead}
-use Rattle.hz_tool.specs.Reading.{texts_in, wanted_in}
+use Rattle.hz_tool.specs.Decisions.{Agrees, AreRead, CountsDecision, IsReadDecision, NamesFile, WhyNotRead}
+use Rattle.hz_tool.proofs.AnswerLemmas.{agrees_weaker}
+use Rattle.hz_tool.specs.Reading.{Refuses, texts_in, wanted_in}
 use Rattle.hz_tool.specs.Telling.{decide_slurp}
 use Rattle.hz_tool.specs.declared.phases.read.FileWord.{FileWord as Wanted}
 use Rattle.hz_tool.specs.declared.decision.Decision.{Decision}
@@ -24,11 +26,6 @@ module _ (file : Bor (List ℕ)) (told : Decision) where
   slurp_counted old new Failed is h = subst (CountsDecision old new) (sym is) h
   slurp_counted old new (Long read) is h = subst (CountsDecision old new) (sym is) h
   slurp_counted old new NoMemory is h = subst (CountsDecision old new) (sym is) h
-
-  pub slurp_read : (fault : SlurpFault) → told ≡ decide_slurp file fault → IsReadDecision (λ other. other ≡ file.now) told
-  slurp_read Failed is = subst (IsReadDecision (λ other. other ≡ file.now)) (sym is) refl
-  slurp_read (Long read) is = subst (IsReadDecision (λ other. other ≡ file.now)) (sym is) refl
-  slurp_read NoMemory is = subst (IsReadDecision (λ other. other ≡ file.now)) (sym is) tt
 
 module _ (file : Bor (List ℕ)) (rest : Option (List ℕ)) (most old new : ℕ) (steady : Type 0) (held : Option Held) where
   why : (h : Held) → held ≡ Some h → (fault : SlurpFault) → SlurpCounts old new (Err fault) → Tells h rest file.now most (Err fault) → (steady → LacksOnFailed held file.now (Err fault)) → (new ≡ old) ⊎ steady → WhyNotRead h file.now most (decide_slurp file fault)
@@ -112,3 +109,78 @@ pub record AreReadSo {F : Type 0} (faults : F → ℕ) (held : F → Option Held
   pub read : ForSome (held old) (λ h. AreRead h (wanted_in wanted) (texts_in texts))
   pub long : length texts ≡ length wanted
   pub short : All (λ text. length text.items < 2 ^ 32) texts
+
+-- a file, read where there is none
+abbrev pub some_file : Wanted
+some_file = record { name = record { ref_ptr = (0, 0); now = [] }; most = 0 }
+
+-- the file of a wanted one in the definitions
+abbrev word : Wanted → FileWord
+word file = record { name = file.name.now; most = file.most }
+
+named_there : (wanted : List Wanted) (i : ℕ) (d : Wanted) (x : List ℕ) → i < length wanted → slice_index_or (map (λ file. file.name) (wanted_in wanted)) i x ≡ (get_or wanted i d).name.now
+named_there [] i d x low = absurd (omega (arith, low))
+named_there (file ∷ files) zero d x low = refl
+named_there (file ∷ files) (suc i) d x low = named_there files i d x (omega (arith, low))
+
+-- the name of a wanted file is one of the names
+pub named_at : (wanted : List Wanted) (i : ℕ) (d : Wanted) → i < length wanted → Contains (map (λ file. file.name) (wanted_in wanted)) (get_or wanted i d).name.now
+named_at wanted i d low = (i, omega (arith, low, length-map (wanted_in wanted) (λ (file : FileWord). file.name), length-map wanted word), named_there wanted i d (get_or wanted i d).name.now low)
+
+-- why a file was not read holds of more names
+pub read_weaker : (P Q : List ℕ → Type 0) → ((name : List ℕ) → P name → Q name) → (decision : Decision) → IsReadDecision P decision → IsReadDecision Q decision
+read_weaker P Q f (Bytes file) h = f file.now h
+read_weaker P Q f Memory h = tt
+read_weaker P Q f (File name) h = f name.now h
+read_weaker P Q f _ h = absurd h
+
+pub read_names : (P : List ℕ → Type 0) (decision : Decision) → IsReadDecision P decision → NamesFile P decision
+read_names P (Bytes file) h = tt
+read_names P Memory h = tt
+read_names P (File name) h = h
+read_names P _ h = absurd h
+
+split_at : (wanted : List Wanted) (i : ℕ) (d : Wanted) → i < length wanted → wanted_in wanted ≡ wanted_in (take i wanted) ++ word (get_or wanted i d) ∷ wanted_in (drop (suc i) wanted)
+split_at [] i d low = absurd (omega (arith, low))
+split_at (file ∷ files) zero d low = refl
+split_at (file ∷ files) (suc i) d low = ap (λ (words : List FileWord). word file ∷ words) (split_at files i d (omega (arith, low)))
+
+-- where the files before it are read, a file that is not read is the answer
+pub refused_at : (held : Held) (wanted : List Wanted) (i : ℕ) (d : Wanted) (texts : List (List ℕ)) (decision : Decision) → i < length wanted → AreRead held (wanted_in (take i wanted)) texts → IsReadDecision (λ other. other ≡ (get_or wanted i d).name.now) decision
+    → WhyNotRead held (get_or wanted i d).name.now (get_or wanted i d).most decision → Agrees (Refuses held (wanted_in wanted)) decision
+refused_at held wanted i d texts decision low read kind why =
+    let file = get_or wanted i d in
+    let more = wanted_in (drop (suc i) wanted) in
+    let here = file_refused held file.name.now file.most (λ bytes. OpensAll held more (λ others status text. ⊥)) decision kind why in
+    subst (λ (files : List FileWord). Agrees (Refuses held files) decision) (sym (split_at wanted i d low))
+    (agrees_weaker (Opens held file.name.now file.most (λ bytes. OpensAll held more (λ others status text. ⊥))) (Refuses held (wanted_in (take i wanted) ++ word file ∷ more))
+    (λ s t h. opens_behind held (wanted_in (take i wanted)) (word file ∷ more) texts (λ others status text. ⊥) s t read h) decision here)
+
+-- one more file is read
+pub read_next : (held : Held) (wanted : List Wanted) (i : ℕ) (d : Wanted) (texts more : List (Vec ℕ Global)) (text : Vec ℕ Global) → i < length wanted → more ≡ texts ++ text ∷ [] → AreRead held (wanted_in (take i wanted)) (texts_in texts)
+    → held (get_or wanted i d).name.now ≡ Some text.items → length text.items ≤ (get_or wanted i d).most → AreRead held (wanted_in (take (i + 1) wanted)) (texts_in more)
+read_next held wanted i d texts more text low is read found short =
+    subst (λ (files : List FileWord). AreRead held files (texts_in more)) (sym (map_more word wanted i d low))
+    (subst (λ (ts : List (List ℕ)). AreRead held (wanted_in (take i wanted) ++ word (get_or wanted i d) ∷ []) ts) (sym (ap texts_in is ∙ map-append (λ (t : Vec ℕ Global). t.items) texts (text ∷ [])))
+    (read_more held (wanted_in (take i wanted)) (texts_in texts) (word (get_or wanted i d)) text.items read found short))
+
+-- a file's reading that has no answer of its own leads to any
+pub refuses_all : (held : Held) (files : List FileWord) (next : Next (List (List ℕ))) (decision : Decision) → Agrees (Refuses held files) decision → Agrees (OpensAll held files next) decision
+refuses_all held files next decision =
+    agrees_weaker (Refuses held files) (OpensAll held files next) (λ s t h. opens_all_map held files (λ texts status text. ⊥) next s t (λ texts none. absurd none) h) decision
+
+pub reads_all : (held : Held) (files : List FileWord) (texts : List (List ℕ)) (next : Next (List (List ℕ))) (decision : Decision) → AreRead held files texts → Agrees (next texts) decision → Agrees (OpensAll held files next) decision
+reads_all held files texts next decision read = agrees_weaker (next texts) (OpensAll held files next) (λ s t h. opens_read held files texts next s t read h) decision
+
+-- the bytes of one text, or of two, that are read by their places
+pub one_text : (texts : List (Vec ℕ Global)) (a : Vec ℕ Global) (x : List ℕ) → length texts ≡ 1 → a ≡ get_or texts 0 a → x ≡ a.items → x ∷ [] ≡ texts_in texts
+one_text [] a x e first is = absurd (omega (arith, e))
+one_text (b ∷ []) a x e first is = ap (λ (y : List ℕ). y ∷ []) (is ∙ ap (λ (t : Vec ℕ Global). t.items) first)
+one_text (b ∷ c ∷ texts) a x e first is = absurd (omega (arith, e))
+
+pub two_texts : (texts : List (Vec ℕ Global)) (a b : Vec ℕ Global) (x y : List ℕ) → length texts ≡ 2 → a ≡ get_or texts 0 a → b ≡ get_or texts 1 b → x ≡ a.items → y ≡ b.items → x ∷ y ∷ [] ≡ texts_in texts
+two_texts [] a b x y e first second is also = absurd (omega (arith, e))
+two_texts (c ∷ []) a b x y e first second is also = absurd (omega (arith, e))
+two_texts (c ∷ d ∷ []) a b x y e first second is also =
+    ap₂ (λ (x y : List ℕ). x ∷ y ∷ []) (is ∙ ap (λ (t : Vec ℕ Global). t.items) first) (also ∙ ap (λ (t : Vec ℕ Global). t.items) second)
+two_texts (c ∷ d ∷ f ∷ texts) a b x y e first second is also = absurd (omega (arith, e))

@@ -7,10 +7,10 @@ use Rattle.hz_answer_model.specs.Phases.{Says}
 use Rattle.hz_answer_model.specs.Texts.{memory_line}
 use Rattle.hz_words_model.specs.Words.{Order, order_of, usage_line}
 use Rattle.hz_tool.specs.Decided.{text_of, status_of}
-use Rattle.hz_tool.specs.Decisions.{Agrees, CountsDecision, NamesFile, IsFileWord}
+use Rattle.hz_tool.specs.Decisions.{Agrees, CountsDecision, DecidesWords, NamesFile, IsFileWord}
 use Rattle.hz_tool.specs.Endings.{IsAppended, AppendsPromised, SaysFile, Completes, HasAll, HasRoom, MayWrite}
 use Rattle.hz_tool.specs.declared.decision.Decision.{Decision}
-use Rattle.hz_tool.specs.declared.decision.Decision.TheVariants.{Memory, File}
+use Rattle.hz_tool.specs.declared.decision.Decision.TheVariants.{Memory, File, Usage}
 use Rattle.hz_answer_model.proofs.AnswerLaws.{answer_single}
 use Rattle.hz_answer_model.proofs.PromiseLaws.{promised}
 
@@ -70,3 +70,14 @@ pub fits_room : (words : List (List ℕ)) (held : Held) (room old new : ℕ) (st
 fits_room words held room old new steady Memory is all has counts word lacks answer = has.memory
 fits_room words held room old new steady (File name) is all has counts word lacks answer = absurd (all name.now word lacks)
 fits_room words held room old new steady _ is all has counts word lacks answer = has.answer _ _ (answer (inr is))
+
+-- memory may run out in place of any words
+pub memory_decides : (order : Option Order) → DecidesWords order Memory
+memory_decides None = inr refl
+memory_decides (Some order) = tt
+
+-- status 4 is of words that are no order
+pub no_order : (order : Option Order) (decision : Decision) → DecidesWords order decision → status_of decision ≡ 4 → order ≡ None
+no_order None decision h e = refl
+no_order (Some order) Usage h e = absurd h
+no_order (Some order) _ h e = absurd (omega arith)

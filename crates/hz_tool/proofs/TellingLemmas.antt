@@ -69,7 +69,7 @@ tells_check file d (Some told) limit name (Some found) decision same passed name
     site : Site
     site = record { line = found.0.1; form = h.0; name = found.1 }
 
-    pair : (told.0.now, told.1) ≡ (check_word fault, found.0.1)
+    pair : ◌≡◌ {A = List ℕ × ℕ} (told.0.now, told.1) (check_word fault, found.0.1)
     pair = same_Some (told.0.now, told.1) (check_word fault, found.0.1) same
 
     by_limit : (o : Option LimitName) → option_map limit_of o ≡ limit_passed fault → decision ≡ decide_check file (Some told) o (Some found.1) → Agrees (TellsCheck file.now d) decision

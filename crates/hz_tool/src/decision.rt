@@ -19,11 +19,20 @@ use hz_tables::Machine;
 #[derive(Drop)]
 pub enum Decision<'a> {
     /// Every issue of the trace fits.
-    Accepted { issues: u64, cycles: u64 },
+    Accepted {
+        issues: u64,
+        cycles: u64,
+    },
     /// The first issue that does not fit: its line and its class.
-    Refused { line: u32, class: Name },
+    Refused {
+        line: u32,
+        class: Name,
+    },
     /// The tables of a description: what is compiled of it, and the description as it was checked.
-    Tables { compiled: Compiled, checked: Checked },
+    Tables {
+        compiled: Compiled,
+        checked: Checked,
+    },
     /// The schedule of a block: the machine has the names of its classes, the graph its instructions.
     Scheduled {
         machine: Machine,
@@ -38,7 +47,9 @@ pub enum Decision<'a> {
         states: Vec<u32>,
     },
     /// The state that a block leaves.
-    After { state: State },
+    After {
+        state: State,
+    },
     /// A fault of a text, as `Report::Fault` has it.
     Fault {
         file: &'a str,
@@ -57,15 +68,22 @@ pub enum Decision<'a> {
         name: Name,
     },
     /// The automaton of this name has too many states.
-    Automaton { file: &'a str, name: Name },
+    Automaton {
+        file: &'a str,
+        name: Name,
+    },
     /// The file has more bytes than it may have.
-    Bytes { file: &'a str },
+    Bytes {
+        file: &'a str,
+    },
     /// The words are no command.
     Usage,
     /// Memory ran out.
     Memory,
     /// The file could not be opened or read.
-    File { name: &'a str },
+    File {
+        name: &'a str,
+    },
 }
 
 impl Decision<'_> {

@@ -32,16 +32,25 @@ fn files_of<'a>(alloc: Global, order: &Order<'a>) -> Result<Vec<FileWord<'a>>, A
     ensures low { IfOk result (λ files. All (λ file. file.most < 2 ^ 32) files.items) }
 {
     match order {
-        Order::Compile(order) => vec![in alloc; description_file(order.description)],
+        Order::Compile(order) => Ok(vec![in alloc; description_file(order.description)]?),
         Order::Replay(order) => {
-            vec![in alloc; description_file(order.description), trace_file(order.trace)]
+            Ok(vec![in alloc;
+                description_file(order.description),
+                trace_file(order.trace),
+            ]?)
         }
-        Order::Walk(order) => vec![in alloc; tables_file(order.tables), trace_file(order.trace)],
+        Order::Walk(order) => Ok(vec![in alloc;
+            tables_file(order.tables),
+            trace_file(order.trace),
+        ]?),
         Order::Schedule(order) => {
-            vec![in alloc; description_file(order.description), block_file(order.block)]
+            Ok(vec![in alloc;
+                description_file(order.description),
+                block_file(order.block),
+            ]?)
         }
-        Order::Eval(order) => vec![in alloc; block_file(order.block), state_file(order.state)],
-        Order::Drill(order) => vec![in alloc; description_file(order.description)],
+        Order::Eval(order) => Ok(vec![in alloc; block_file(order.block), state_file(order.state)]?),
+        Order::Drill(order) => Ok(vec![in alloc; description_file(order.description)]?),
     }
 }
 

@@ -1,23 +1,19 @@
 -- A machine with the units of one automaton alone accepts as its restriction to that automaton does.
-use Rattle.std.proofs.Common.{◌≡◌, ℕ, ◌+◌, ◌<◌, Bool, true, List, [], ◌∷◌, ◌++◌, length, take, map, filter, Contains, get_or, Option, Some, None, refl, sym, ap, ◌∙◌, subst, arith, ⊎_elim, slice_get, eq-eqb}
-use Rattle.std.specs.Prelude.{◌↔◌, ◌==◌}
-use Rattle.std.specs.List.{list_all}
+use Rattle.std.proofs.Common.{◌≡◌, ℕ, ◌+◌, ◌<◌, List, [], ◌∷◌, ◌++◌, length, take, map, Contains, Option, Some, None, refl, sym, ap, ◌∙◌, subst, arith, ⊎_elim, slice_get}
+use Rattle.std.specs.Prelude.{◌↔◌}
 use Rattle.std.specs.Option.{option_map}
 use Rattle.std.proofs.lemmas.Option.{slice_get-map, slice_get_within, slice_get-get_or}
 use Rattle.std.proofs.lemmas.List.{length-map, map-append}
-use Rattle.std.proofs.lemmas.Bool.{and_from}
-use Rattle.std.proofs.lemmas.List.Elements.{Contains-get_or, Contains-append_left, Contains-append_right, Contains-append_cases}
-use Rattle.std.proofs.lemmas.List.Sums.{list_all-from_AllPass}
+use Rattle.std.proofs.lemmas.List.Elements.{Contains-append_left, Contains-append_right, Contains-append_cases}
 use Rattle.hz_base_model.specs.Pairs.{Pair, later, placed, grid_eq}
 use Rattle.hz_description_model.specs.Reservations.Alternatives.{Alternative}
-use Rattle.hz_description_model.specs.Reservations.Automata.{UnitPlace, ascending, cut, inside, is_of, list_in, without_repeats}
-use Rattle.hz_description_model.specs.Reservations.Sets.{Statement, Holds, HoldsSome, HoldsPattern, AllowsIn, Fits}
-use Rattle.hz_description_model.specs.Reservations.Inside.{unit_numbers, inside_statement, are_inside, is_inside, IsStatementOf}
+use Rattle.hz_description_model.specs.Reservations.Automata.{UnitPlace, cut, list_in, without_repeats}
+use Rattle.hz_description_model.specs.Reservations.Sets.{Statement, Fits}
+use Rattle.hz_description_model.specs.Reservations.Inside.{IsStatementOf}
 use Rattle.hz_acceptance_model.specs.Accepting.Restricted.{of_pairs, class_in, restricted, IsOf}
 use Rattle.hz_acceptance_model.specs.Accepting.Replay.{Class, Pipeline, State, start, Step, Plays, FitsAt, MayTake, Accepted, FirstRefused, alternatives_at, of_class, chosen, pairs_at, first_fit}
 use Rattle.hz_acceptance_model.specs.Accepting.Events.{Event, issue, advance}
-use Rattle.hz_base_model.proofs.Elements.{Contains-nil, Contains-head, Contains-map, Contains-from_map, Contains-filter, Contains-from_filter}
-use Rattle.hz_description_model.proofs.Reservations.AscendingLaws.{same_ascending}
+use Rattle.hz_base_model.proofs.Elements.{Contains-nil, Contains-head, Contains-map, Contains-from_map}
 use Rattle.hz_description_model.proofs.Reservations.FirstPlaces.{numbered, number_behind, in_front, front_number, before_map, still_first, was_first}
 use Rattle.hz_acceptance_model.proofs.Accepting.ReplayLaws.{runs_from_accepted, accepted_from_runs}
 use Rattle.hz_acceptance_model.proofs.Accepting.InsideFits.{IsSeen, seen_nil, seen_append, seen_placed, seen_cut, restricted_statements, fits_inside, allowed_outside, apart_outside}

@@ -1,5 +1,5 @@
 -- The trace that `drill` draws: this profile, docs/RULES.md, 'Drills'.
-use Rattle.std.specs.Prelude.{◌≡◌, ◌⊎◌, ℕ, zero, suc, ◌+◌, ◌*◌, ◌/◌, ◌%◌, ◌==◌, List, [], ◌∷◌, ◌++◌, Option, Some, None, if◌then◌else◌}
+use Rattle.std.specs.Prelude.{◌≡◌, ◌↔◌, ◌⊎◌, ℕ, zero, suc, ◌+◌, ◌*◌, ◌/◌, ◌%◌, ◌^◌, ◌<◌, ◌==◌, List, [], ◌∷◌, ◌++◌, length, Option, Some, None, if◌then◌else◌}
 use Rattle.hz_acceptance_model.specs.Accepting.Events.{Event, issue, advance}
 
 -- The numbers are those of a linear congruential generator, below 2^31.
@@ -47,3 +47,13 @@ Draws accepts classes before number (suc turns) (e ∷ events) =
 -- issue that is drawn.
 abbrev pub Drawn : (accepts : List Event → Type 0) → (classes number turns : ℕ) → List Event → Type 0
 Drawn accepts classes number turns events = Draws accepts classes [] number turns events
+
+-- this class is drawn at a turn, where turns count from 0 and there are so many classes
+abbrev pub IsDrawnAt : (classes number turn class : ℕ) → Type 0
+IsDrawnAt classes number turn class = (0 < classes) × (class ≡ number_after number (turn + 1) / 2 ^ 16 % classes)
+
+-- An event is the issue of a class exactly where the class is drawn at its turn and the issue is accepted after the events of the turns
+-- before. It is the advance of one cycle exactly where no such issue is. Law: `each_turn_issues_what_it_draws`.
+pub record IsAsDrawn (accepts : List Event → Type 0) (classes number : ℕ) (before : List Event) (e : Event) : Type 0 where
+  pub issued : (class : ℕ) → (e ≡ issue class) ↔ (IsDrawnAt classes number (length before) class × accepts (before ++ issue class ∷ []))
+  pub waited : (e ≡ advance 1) ↔ ((class : ℕ) → IsDrawnAt classes number (length before) class → accepts (before ++ issue class ∷ []) → ⊥)

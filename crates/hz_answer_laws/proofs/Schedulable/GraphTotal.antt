@@ -285,7 +285,7 @@ some_graph d block all = (
   g,
   record {
     classes = ap (map good) same ∙ are;
-    edges = subst (λ (cs : List ℕ). IsGraph block (timing_in d cs) edges) (sym same) (some_edges block (timing_in d classes));
+    edges = subst (λ (cs : List ℕ). IsGraph block (timing_in d cs block) edges) (sym same) (some_edges block (timing_in d classes block));
     heights = λ i low. subst (λ (cs : List ℕ). IsHeight edges (map (slice_index (latencies_in d)) cs) (map (λ n. n.height) g.nodes) i) (sym same) (height_at_place i (omega (arith, low, nodes_length h 0 classes)));
   },
 )
@@ -297,13 +297,13 @@ some_graph d block all = (
     are = (classes_given d block all).1
 
     edges : List Edge
-    edges = edges_below block (timing_in d classes) (length block)
+    edges = edges_below block (timing_in d classes block) (length block)
 
     latency : List ℕ
     latency = map (slice_index (latencies_in d)) classes
 
     upward : (e : Edge) → Contains edges e → (e.from < e.to) × (e.to < length block)
-    upward e there = let (up, inside, is, weight) = (some_edges block (timing_in d classes)).only e there in (up, inside)
+    upward e there = let (up, inside, is, weight) = (some_edges block (timing_in d classes block)).only e there in (up, inside)
 
     h : ℕ → ℕ
     h = (some_heights edges latency (length block) upward).0

@@ -12,10 +12,10 @@ use Rattle.hz_description_model.specs.Reservations.Sets.{SetKind}
 use Rattle.hz_base_model.specs.Forms.Trees.{Tree, Trees, list, atom, quoted, none, more, line_of}
 use Rattle.hz_description_model.specs.Reading.Descriptions.{AutomatonItem, ClassItem, Description, no_options}
 use Rattle.hz_description_model.specs.Reading.DescriptionShape.{FormKind, define_automaton, define_cpu_unit, define_reservation, define_insn_reservation, define_bypass, automata_option, define_attr, set_form, are_names}
-use Rattle.hz_description_model.specs.Reading.DescriptionForms.{bad_shape, bad_condition, unknown_form, unknown_option, Said, Addition, automata, units, reservation, class, bypass, set, options, attribute, quoted_bytes, name_in, names_in, names_of, limited_number, condition_in, expression_in, set_patterns, fallback_in, shaped, headed, kind_of, with_options, automaton_items, unit_items, automata_form, units_form, reservation_form, class_form, bypass_form, set_form_of, options_form, attribute_form, form_of_kind, form_says, Reads}
+use Rattle.hz_description_model.specs.Reading.DescriptionForms.{bad_shape, bad_condition, unknown_form, unknown_option, Said, Addition, automata, units, reservation, class, set, options, attribute, quoted_bytes, name_in, names_in, names_of, limited_number, condition_in, expression_in, set_patterns, fallback_in, shaped, headed, kind_of, with_options, automaton_items, unit_items, automata_form, units_form, reservation_form, class_form, bypass_form, set_form_of, options_form, attribute_form, form_of_kind, form_says, Reads}
 use Rattle.hz_description_model.specs.Reading.AddedItems.{Add, added_automata, added_classes}
 use Rattle.hz_description_model.proofs.Reading.AddedLaws.{items_added}
-use Rattle.hz_description_model.proofs.Reading.DescriptionFormed.{then_ok, or_ok, then_some, kept_some}
+use Rattle.hz_description_model.proofs.Reading.DescriptionFormed.{then_ok, or_ok, then_some, kept_some, bypass_says}
 use Rattle.hz_description_model.specs.Check.CheckedParts.{automaton_names}
 use Rattle.hz_description_model.specs.Check.Places.{class_names}
 use Rattle.hz_answer_laws.specs.Sizes.Extents.{bytes_of_strings, bytes_of_string}
@@ -114,13 +114,7 @@ module _ (line n : ℕ) where
   reservation_other read _ added h = absurd (cc)
 
   bypass_other : (operands : Trees) (added : Addition) → bypass_form line n operands ≡ Ok added → IsOther added
-  bypass_other (more latency (more outs (more ins none))) added h =
-      let (cycles, low, h1) = then_ok (limited_number latency) _ added h in
-      let (from, are, h2) = then_ok (shaped (names_in outs)) _ added h1 in
-      let (to, also, made) = then_ok (shaped (names_in ins)) _ added h2 in
-      let same : bypass (record { line = line; form = n; number = cycles; outs = from; ins = to }) ≡ added = cc in
-      rw (← same) (refl, refl)
-  bypass_other _ added h = absurd (cc)
+  bypass_other operands added h = let said = bypass_says line n operands added h in rw (← said.made) (refl, refl)
 
   set_other : (kind : SetKind) (operands : Trees) (added : Addition) → set_form_of line n kind operands ≡ Ok added → IsOther added
   set_other kind (more names (more patterns none)) added h =

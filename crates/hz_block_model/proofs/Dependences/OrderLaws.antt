@@ -13,7 +13,7 @@ use Rattle.hz_block_model.specs.Dependences.Orders.{IsOrder, Keeps}
 use Rattle.hz_block_model.proofs.Dependences.SourceLaws.{contains_among, stores_at, source, given}
 use Rattle.hz_block_model.proofs.Dependences.DoneLaws.{not_true, made, Closed, one_more, still_closed}
 
-among_contains : (places : List ℕ) (k : ℕ) → is_among places k ≡ true → Contains places k
+pub among_contains : (places : List ℕ) (k : ℕ) → is_among places k ≡ true → Contains places k
 among_contains [] k e = absurd (cc)
 among_contains (m ∷ places) k e = go (m == k) refl e (among_contains places k)
   where

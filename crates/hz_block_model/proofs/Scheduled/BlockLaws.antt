@@ -24,10 +24,10 @@ module _ (d : Description) (known : Known) (block : List Instruction) (g : Graph
   whole : IsOrder (length block) (places slots)
   whole = rw (sym (as_many d block g graph)) legal.order
 
-  behind_costs : (before after : List Slot) (x : Slot) (i : ℕ) → slots ≡ before ++ x ∷ after → depends block i x.place ≡ true → (y : Slot) × Contains before y × (y.place ≡ i) × (y.cycle + cost block (timing_in d (classes_of g)) i x.place ≤ x.cycle)
+  behind_costs : (before after : List Slot) (x : Slot) (i : ℕ) → slots ≡ before ++ x ∷ after → depends block i x.place ≡ true → (y : Slot) × Contains before y × (y.place ≡ i) × (y.cycle + cost block (timing_in d (classes_of g) block) i x.place ≤ x.cycle)
   behind_costs before after x i is depending =
       let (up, inside) = upwards block i x.place depending in
-      legal.kept before after x is (edge block (timing_in d (classes_of g)) i x.place) ((graph.edges).each i x.place (omega arith) inside depending) refl
+      legal.kept before after x is (edge block (timing_in d (classes_of g) block) i x.place) ((graph.edges).each i x.place (omega arith) inside depending) refl
 
   keeps : Keeps block (places slots)
   keeps before after i j is depending =

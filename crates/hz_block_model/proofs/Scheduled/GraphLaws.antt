@@ -69,14 +69,14 @@ module _ (d : Description) (block : List Instruction) (g h : Graph) (one : IsGra
   same_classes = same_list (classes_of g) (classes_of h) (one.classes ∙ sym other.classes)
 
   -- the edges of the second, by the classes of the first
-  edges_again : IsGraph block (timing_in d (classes_of g)) h.edges
-  edges_again = subst (λ (cs : List ℕ). IsGraph block (timing_in d cs) h.edges) (sym same_classes) other.edges
+  edges_again : IsGraph block (timing_in d (classes_of g) block) h.edges
+  edges_again = subst (λ (cs : List ℕ). IsGraph block (timing_in d cs block) h.edges) (sym same_classes) other.edges
 
   pub edge_there : (e : Edge) → Contains g.edges e → Contains h.edges e
-  edge_there = edges_there block (timing_in d (classes_of g)) g.edges h.edges one.edges edges_again
+  edge_there = edges_there block (timing_in d (classes_of g) block) g.edges h.edges one.edges edges_again
 
   pub edge_back : (e : Edge) → Contains h.edges e → Contains g.edges e
-  edge_back = edges_there block (timing_in d (classes_of g)) h.edges g.edges edges_again one.edges
+  edge_back = edges_there block (timing_in d (classes_of g) block) h.edges g.edges edges_again one.edges
 
   same_nodes : length g.nodes ≡ length h.nodes
   same_nodes = as_many d block g one ∙ sym (as_many d block h other)

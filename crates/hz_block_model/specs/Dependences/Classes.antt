@@ -1,13 +1,15 @@
 -- The class of an instruction, and what latencies and bypasses say of classes. GCC Internals, 'Defining Insns' Attributes' and
 -- 'Specifying processor pipeline description'; the faults are this profile's, docs/RULES.md, 'Dependences'.
-use Rattle.std.specs.Prelude.{ℕ, ◌==◌, ◌&&◌, if◌then◌else◌, List, [], ◌∷◌, codes, Option, Some, None, Result, Ok, Err, slice_index, unwrap_or}
+use Rattle.std.specs.Prelude.{ℕ, ◌==◌, Bool, ◌&&◌, not, if◌then◌else◌, List, [], ◌∷◌, filter, codes, Option, Some, None, Result, Ok, Err, slice_index, unwrap_or}
 use Rattle.std.specs.List.{list_any, find, filter_map, enumerate_from}
 use Rattle.std.specs.Option.{option_map, option_map_or}
 use Rattle.std.specs.Str.{bytes_eq}
 use Rattle.hz_description_model.specs.Reading.Descriptions.{Condition}
 use Rattle.hz_description_model.specs.Reading.Conditions.{value_of, holds}
 use Rattle.hz_description_model.specs.Check.CheckedParts.{BypassParts}
+use Rattle.hz_block_model.specs.Running.Blocks.{Instruction}
 use Rattle.hz_block_model.specs.Dependences.Dependences.{Timing}
+use Rattle.hz_block_model.specs.Dependences.Stores.{stores_data, stores_data_at}
 
 -- What can be wrong with the class of an instruction.
 pub data ClassFault : Type 0 where
@@ -61,9 +63,22 @@ class_of defined defaults conditions given = decide (first_fault defined given)
 abbrev pub bypass_between : List BypassParts → ℕ → ℕ → Option ℕ
 bypass_between bypasses out in_ = option_map (λ b. b.number) (find (λ b. list_any (λ n. n == out) b.outs && list_any (λ n. n == in_) b.ins) bypasses)
 
+-- the same of the bypasses with the guard, where the second instruction only stores what the first makes
+abbrev pub guarded_between : List BypassParts → (is_store : Bool) → ℕ → ℕ → Option ℕ
+guarded_between bypasses is_store out in_ = if is_store then bypass_between (filter (λ b. b.guard) bypasses) out in_ else None
+
+-- the cycles of a true dependence between two classes: of a bypass with the guard where that is met, else of one without it, else
+-- the latency
+abbrev pub number_where : List BypassParts → (latency : ℕ) → (is_store : Bool) → ℕ → ℕ → ℕ
+number_where bypasses latency is_store out in_ = unwrap_or (guarded_between bypasses is_store out in_) (unwrap_or (bypass_between (filter (λ b. not b.guard) bypasses) out in_) latency)
+
+-- `Number`: the same of two instructions of these classes
+abbrev pub number_between : List BypassParts → (latency out in_ : ℕ) → (first second : Instruction) → ℕ
+number_between bypasses latency out in_ first second = number_where bypasses latency (stores_data first second) out in_
+
 -- The timing of a block whose instructions have these classes.
-abbrev pub timing_of : (latencies : List ℕ) → List BypassParts → (classes : List ℕ) → Timing
-timing_of latencies bypasses classes = record {
+abbrev pub timing_of : (latencies : List ℕ) → List BypassParts → (classes : List ℕ) → (block : List Instruction) → Timing
+timing_of latencies bypasses classes block = record {
   latency = λ i. slice_index latencies (slice_index classes i);
-  number = λ i j. unwrap_or (bypass_between bypasses (slice_index classes i) (slice_index classes j)) (slice_index latencies (slice_index classes i));
+  number = λ i j. number_where bypasses (slice_index latencies (slice_index classes i)) (stores_data_at block i j) (slice_index classes i) (slice_index classes j);
 }

@@ -25,9 +25,10 @@ pub record IsFirstClassFault (d : Description) (block : List Instruction) (i : I
 abbrev pub latencies_in : Description → List ℕ
 latencies_in d = map (λ c. c.latency) d.classes
 
--- the latencies of instructions of these classes, and the cycles of a true dependence between two of them, by the bypasses
-abbrev pub timing_in : Description → List ℕ → Timing
-timing_in d classes = timing_of (latencies_in d) (map (bypass_parts d) d.bypasses) classes
+-- the latencies of the instructions of a block, which have these classes, and the cycles of a true dependence between two of them,
+-- by the bypasses
+abbrev pub timing_in : Description → List ℕ → List Instruction → Timing
+timing_in d classes block = timing_of (latencies_in d) (map (bypass_parts d) d.bypasses) classes block
 
 -- the classes of a graph's instructions
 abbrev pub classes_of : Graph → List ℕ
@@ -36,5 +37,5 @@ classes_of g = map (λ n. n.class) g.nodes
 -- The dependence graph of a block: the class of each instruction, exactly one edge for each dependence, with its cost, and heights.
 pub record IsGraphOf (d : Description) (block : List Instruction) (g : Graph) : Type 0 where
   pub classes : map Ok (classes_of g) ≡ map (class_in d) block
-  pub edges : IsGraph block (timing_in d (classes_of g)) g.edges
+  pub edges : IsGraph block (timing_in d (classes_of g) block) g.edges
   pub heights : (i : ℕ) → i < length g.nodes → IsHeight g.edges (map (slice_index (latencies_in d)) (classes_of g)) (map (λ n. n.height) g.nodes) i

@@ -1,4 +1,4 @@
-//! Bypasses that give a pair of classes another number than an earlier one.
+//! Bypasses without the guard that give a pair of classes another number than an earlier one.
 
 ghost use Rattle.std.specs.Prelude.{◌≡◌, ◌<◌, ◌≤◌, ℕ, Bool, All, IfOk, None, filter, vec_len};
 ghost use Rattle.std.specs.List.{AllPairs};
@@ -30,7 +30,7 @@ fn distinct_numbers<'a>(
     Ok(kept)
 }
 
-/// Where a bypass gives a pair of classes another number than an earlier one.
+/// Where a bypass without the guard gives a pair of classes another number than an earlier one without it.
 pub(crate) fn second_number<'a>(
     alloc: Global,
     names: &Names<'a>,
@@ -43,6 +43,9 @@ pub(crate) fn second_number<'a>(
     let classes = desc.classes.len();
     let mut rows = no_rows(alloc, classes)?;
     for bypass in &desc.bypasses {
+        if bypass.guard {
+            continue;
+        }
         let outs = distinct_numbers(alloc, names, &bypass.outs)?;
         let ins = distinct_numbers(alloc, names, &bypass.ins)?;
         if let Some(out) = first_other(&rows, &outs, &ins, bypass.number) {

@@ -136,6 +136,7 @@ fn bypass<'a>(
         number: item.number,
         outs,
         ins,
+        guard: item.guard,
     })
 }
 

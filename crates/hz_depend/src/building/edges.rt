@@ -1,18 +1,18 @@
 //! The edges of a block's dependence graph: to each instruction from those that its tables tell.
 
 ghost use Rattle.std.specs.Prelude.{◌≡◌, ◌≤◌, ◌<◌, ◌==◌, ◌+◌, ◌++◌, ℕ, if◌then◌else◌, length, map, slice_index, IfOk, OnOk};
-ghost use Rattle.hz_check.specs.Shape.{bypass_of};
 ghost use Rattle.hz_block_model.specs.Dependences.Accesses.{is_among};
 ghost use Rattle.hz_depend.specs.GraphShape.{edge_of};
 ghost use Rattle.hz_depend.specs.Held.{held, found_among, all_found};
+ghost use Rattle.hz_depend.specs.Numbers.{numbers_in};
 ghost use Rattle.hz_block_model.specs.Running.Limits.{instruction_limit};
 
 use crate::finding::access::Touched;
+use crate::finding::numbers::Numbers;
 use crate::finding::pairs::{REGISTERS, cost};
 use crate::finding::tables::Tables;
 use crate::nodes::Node;
 use crate::parts::Edge;
-use hz_check::CheckedBypass;
 use hz_regexp::NoMemory;
 use std::alloc::Global;
 
@@ -21,21 +21,21 @@ fn add_edges(
     edges: &mut Vec<Edge>,
     stamps: &[u32],
     last: &[u32],
-    bypasses: &[CheckedBypass],
-    firsts: &[Node],
+    numbers: &Numbers,
+    firsts: &[Node<'_>],
     to: u32,
-    second: &Node,
+    second: &Node<'_>,
 ) -> Result<(), NoMemory>
     requires registers { length last.now ≡ 256 }
     requires few { length firsts.now ≤ instruction_limit }
     requires place { to < instruction_limit }
     requires stamps { length firsts.now ≤ length stamps.now }
-    ensures { OnOk result (map edge_of edges.new.items ≡ map edge_of edges.old.items ++ found_among (λ i. slice_index stamps.now i == to + 1) (slice_index last.now) (map bypass_of bypasses.now) to (held second.now) 0 (map held firsts.now)) }
+    ensures { OnOk result (map edge_of edges.new.items ≡ map edge_of edges.old.items ++ found_among (λ i. slice_index stamps.now i == to + 1) (slice_index last.now) (numbers_in numbers.now) to (held second.now) 0 (map held firsts.now)) }
 {
     for (place, first) in firsts.iter().enumerate() {
         if stamps[place] == to + 1 {
             let from = place as u32;
-            if let Some(cost) = cost(last, bypasses, from, first, second) {
+            if let Some(cost) = cost(last, numbers, from, first, second) {
                 edges.push(Edge { from, to, cost })?;
             }
         }
@@ -54,13 +54,9 @@ fn note_written(last: &mut [u32], written: &Touched, after: u32)
 }
 
 /// All edges.
-pub fn edges_of(
-    alloc: Global,
-    bypasses: &[CheckedBypass],
-    nodes: &[Node],
-) -> Result<Vec<Edge>, NoMemory>
+pub fn edges_of(alloc: Global, numbers: &Numbers, nodes: &[Node<'_>]) -> Result<Vec<Edge>, NoMemory>
     requires { length nodes.now ≤ instruction_limit }
-    ensures { IfOk result (λ edges. map edge_of edges.items ≡ all_found (map bypass_of bypasses.now) (map held nodes.now) (length nodes.now)) }
+    ensures { IfOk result (λ edges. map edge_of edges.items ≡ all_found (numbers_in numbers.now) (map held nodes.now) (length nodes.now)) }
 {
     let mut last = [0; REGISTERS];
     let mut tables = Tables::new(alloc)?;
@@ -71,7 +67,7 @@ pub fn edges_of(
         let to = place as u32;
         let firsts = &nodes[..place];
         tables.mark(stamps, to + 1, &last, node);
-        add_edges(&mut edges, stamps, &last, bypasses, firsts, to, node)?;
+        add_edges(&mut edges, stamps, &last, numbers, firsts, to, node)?;
         tables.note(node, to)?;
         note_written(&mut last, &node.access.written, to + 1);
     }

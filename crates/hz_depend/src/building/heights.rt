@@ -13,7 +13,7 @@ use hz_regexp::NoMemory;
 use std::alloc::Global;
 
 /// The height of an instruction by the edges so far: the greatest sum of the edges that lead from it, else its latency.
-pub fn height_at(nodes: &[Node], sums: &[Option<u32>], place: usize) -> u32
+pub fn height_at(nodes: &[Node<'_>], sums: &[Option<u32>], place: usize) -> u32
     requires nodes { place < length nodes.now }
     requires sums { place < length sums.now }
     ensures { result ≡ height_at (map (λ n. n.latency) nodes.now) sums.now place }
@@ -23,7 +23,11 @@ pub fn height_at(nodes: &[Node], sums: &[Option<u32>], place: usize) -> u32
 
 /// For each instruction the greatest sum of the cost of an edge that leads from it and the height where that leads, if one
 /// leads from it. No edge leads from a place at or behind one to which a later edge leads.
-pub fn sums_of(alloc: Global, nodes: &[Node], edges: &[Edge]) -> Result<Vec<Option<u32>>, NoMemory>
+pub fn sums_of(
+    alloc: Global,
+    nodes: &[Node<'_>],
+    edges: &[Edge],
+) -> Result<Vec<Option<u32>>, NoMemory>
     requires few { length nodes.now ≤ instruction_limit }
     requires latencies { All (λ n. n.latency ≤ latency_limit) nodes.now }
     requires edges { All (λ e. (e.from < e.to) × (e.to < length nodes.now) × (e.cost ≤ latency_limit)) edges.now }

@@ -1,19 +1,19 @@
 //! Whether an instruction depends on one before it, and at what cost. For each register `last` has the place after the last
 //! instruction, before the second of the two, that writes it; so one comparison tells whether any from a place on does.
 
-ghost use Rattle.std.specs.Prelude.{◌≡◌, ◌+◌, ◌<◌, ◌^◌, ◌==◌, ◌&&◌, not, nat_lt, length, map, slice_index};
-ghost use Rattle.std.specs.List.{list_any, find};
-ghost use Rattle.std.specs.Option.{option_map, option_copied};
-ghost use Rattle.hz_check.specs.Shape.{bypass_of};
+ghost use Rattle.std.specs.Prelude.{◌≡◌, ◌+◌, ◌<◌, ◌^◌, ◌==◌, ◌&&◌, not, nat_lt, length, slice_index};
+ghost use Rattle.std.specs.List.{list_any};
+ghost use Rattle.std.specs.Option.{option_map};
 ghost use Rattle.hz_block_model.specs.Dependences.Accesses.{is_among};
 ghost use Rattle.hz_block_model.specs.Dependences.Dependences.{apart_by};
 ghost use Rattle.hz_depend.specs.Cells.{based, cells};
 ghost use Rattle.hz_depend.specs.Held as model;
 ghost use Rattle.hz_depend.specs.Held.{held};
+ghost use Rattle.hz_depend.specs.Numbers.{numbers_in};
 
 use crate::finding::access::{Based, Touched};
+use crate::finding::numbers::Numbers;
 use crate::nodes::Node;
-use hz_check::CheckedBypass;
 
 /// How many registers there are.
 pub const REGISTERS: usize = 256;
@@ -81,7 +81,7 @@ fn meet(last: &[u32], i: u32, first: &Touched, second: &Touched) -> bool
 }
 
 /// Whether the second instruction reads what the first wrote.
-fn is_true(last: &[u32], i: u32, first: &Node, second: &Node) -> bool
+fn is_true(last: &[u32], i: u32, first: &Node<'_>, second: &Node<'_>) -> bool
     requires registers { length last.now ≡ 256 }
     requires place { i + 1 < 2 ^ 32 }
     ensures { result ≡ model.is_true (slice_index last.now) i (held first.now) (held second.now) }
@@ -92,7 +92,7 @@ fn is_true(last: &[u32], i: u32, first: &Node, second: &Node) -> bool
 }
 
 /// Whether the second instruction writes what the first reads.
-fn is_anti(last: &[u32], i: u32, first: &Node, second: &Node) -> bool
+fn is_anti(last: &[u32], i: u32, first: &Node<'_>, second: &Node<'_>) -> bool
     requires { length last.now ≡ 256 }
     ensures { result ≡ model.is_anti (slice_index last.now) i (held first.now) (held second.now) }
 {
@@ -102,7 +102,7 @@ fn is_anti(last: &[u32], i: u32, first: &Node, second: &Node) -> bool
 }
 
 /// Whether both instructions write the same.
-fn is_output(last: &[u32], i: u32, first: &Node, second: &Node) -> bool
+fn is_output(last: &[u32], i: u32, first: &Node<'_>, second: &Node<'_>) -> bool
     requires { length last.now ≡ 256 }
     ensures { result ≡ model.is_output (slice_index last.now) i (held first.now) (held second.now) }
 {
@@ -111,41 +111,17 @@ fn is_output(last: &[u32], i: u32, first: &Node, second: &Node) -> bool
     share(earlier, later) || meet(last, i, earlier, later)
 }
 
-/// Whether a bypass leads from one class to another.
-fn leads(bypass: &CheckedBypass, out: u32, into: u32) -> bool
-    ensures { result ≡ (list_any (λ n. n == out) bypass.now.outs.items && list_any (λ n. n == into) bypass.now.ins.items) }
-{
-    bypass.outs.contains(&out) && bypass.ins.contains(&into)
-}
-
-/// The first bypass from one class to another.
-fn bypass_from(bypasses: &[CheckedBypass], out: u32, into: u32) -> Option<&CheckedBypass>
-    ensures { option_copied result ≡ find (λ b. list_any (λ n. n == out) b.outs.items && list_any (λ n. n == into) b.ins.items) bypasses.now }
-{
-    bypasses.iter().find(|bypass| leads(bypass, out, into))
-}
-
-/// The cycles of a true dependence: those of the bypass between the two classes, else the latency of the first.
-fn number(bypasses: &[CheckedBypass], first: &Node, second: &Node) -> u32
-    ensures { result ≡ model.number (map bypass_of bypasses.now) (held first.now) (held second.now) }
-{
-    match bypass_from(bypasses, first.class, second.class) {
-        Some(bypass) => bypass.number,
-        None => first.latency,
-    }
-}
-
 /// The cost of the second instruction's dependence on the first, which stands at i, if it depends on it.
 pub fn cost(
     last: &[u32],
-    bypasses: &[CheckedBypass],
+    numbers: &Numbers,
     i: u32,
-    first: &Node,
-    second: &Node,
+    first: &Node<'_>,
+    second: &Node<'_>,
 ) -> Option<u32>
     requires registers { length last.now ≡ 256 }
     requires place { i + 1 < 2 ^ 32 }
-    ensures { result ≡ model.cost_held (slice_index last.now) i (held first.now) (held second.now) (map bypass_of bypasses.now) }
+    ensures { result ≡ model.cost_held (slice_index last.now) i (held first.now) (held second.now) (numbers_in numbers.now) }
 {
     let reads = is_true(last, i, first, second);
     let writes = is_output(last, i, first, second);
@@ -153,7 +129,7 @@ pub fn cost(
         return None;
     }
     let by_true = if reads {
-        number(bypasses, first, second)
+        numbers.between(first, second)
     } else {
         0
     };

@@ -49,7 +49,7 @@ impl Tables {
     }
 
     /// Notes an instruction, which stands behind all that are noted.
-    pub fn note(&mut self, node: &Node, place: u32) -> Result<(), NoMemory>
+    pub fn note(&mut self, node: &Node<'_>, place: u32) -> Result<(), NoMemory>
         ensures { OnOk result (HasNoted place (held node.now) (tables_of self.old) (tables_of self.new)) }
     {
         let read = &node.access.read;
@@ -65,7 +65,7 @@ impl Tables {
     /// that it reads, all that read or write a register that it writes, and all that touch a cell which isn't apart from one of
     /// its own, where one of the two writes.
     #[tactic(auto, using(crate::proofs::MarkLemmas::marked_append))]
-    pub fn mark(&self, stamps: &mut [u32], stamp: u32, last: &[u32], node: &Node)
+    pub fn mark(&self, stamps: &mut [u32], stamp: u32, last: &[u32], node: &Node<'_>)
         requires { length last.now ≡ 256 }
         ensures { stamps.new ≡ marked stamps.old stamp (candidates (tables_of self.now) (slice_index last.now) (held node.now)) }
     {

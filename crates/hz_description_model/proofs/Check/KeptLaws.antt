@@ -25,7 +25,7 @@ use Rattle.hz_description_model.specs.Reservations.NamesIn.{names_in}
 use Rattle.hz_description_model.specs.Check.CheckedParts.{statements_in, class_numbers, AutomatonParts, ClassParts, BypassParts, automaton_names, automaton_count, units_in, automaton_parts, automata_from, automata_of, lists_of, class_parts, bypass_parts, attributes_of}
 use Rattle.hz_description_model.specs.Check.CheckedShape.{IsKept}
 use Rattle.hz_description_model.specs.Reading.DescriptionShape.{IsCheckableReservation, IsCheckable, IsCheckableClass, IsCheckableBypass}
-use Rattle.hz_description_model.specs.Reading.Descriptions.{SetItem, ReservationItem, Description, AutomatonItem, UnitItem, ClassItem, BypassItem, AttributeItem}
+use Rattle.hz_description_model.specs.Reading.Descriptions.{SetItem, ReservationItem, Description, AutomatonItem, UnitItem, ClassItem, BypassItem, AttributeItem, unguarded}
 use Rattle.hz_description_model.specs.Reservations.Expressions.{is_expression}
 use Rattle.hz_base_model.specs.Limits.{cycle_limit, automaton_limit, unit_limit, class_limit}
 use Rattle.hz_description_model.specs.Reservations.Limits.{alternative_limit}
@@ -182,6 +182,15 @@ one_name names a b n x y =
 -- what passes no test is not in a list of those that pass
 pub none_passes : {A : Type 0} (f : A → Site) (p : A → Bool) (xs : List A) (x : A) → map f (filter p xs) ≡ [] → Contains xs x → p x ≡ true → ⊥
 none_passes f p xs x none there passes = Contains-nil (f x) (subst (λ (ss : List Site). Contains ss (f x)) none (Contains-map f (filter p xs) x (Contains-filter p x passes xs there)))
+
+-- those of a map that pass a test
+kept_map : {A B : Type 0} (f : A → B) (p : B → Bool) (xs : List A) → filter p (map f xs) ≡ map f (filter (λ x. p (f x)) xs)
+kept_map f p [] = refl
+kept_map {A = A} {B = B} f p (x ∷ xs) = ap (λ (ys : List B). cond (p (f x)) (f x ∷ ys) ys) (kept_map f p xs) ∙ both (p (f x)) x (filter (λ y. p (f y)) xs)
+  where
+    both : (b : Bool) (y : A) (ys : List A) → cond b (f y ∷ map f ys) (map f ys) ≡ map f (cond b (y ∷ ys) ys)
+    both true y ys = refl
+    both false y ys = refl
 
 -- two bypasses of one pair of classes have one number
 abbrev Agree : BypassItem → BypassItem → Type 0
@@ -652,7 +661,9 @@ module _ (d : Description) where
       bypass_classes = All-map (λ b. All (λ n. n < length (map (class_parts d known) d.classes)) b.outs × All (λ n. n < length (map (class_parts d known) d.classes)) b.ins) (bypass_parts d) d.bypasses
           (λ k e within. let a = length-map d.classes (class_parts d known) in let b = length-map d.classes (λ (c : ClassItem). c.name) in
           let low = λ (names : List (List ℕ)). subst (λ (n : ℕ). All (λ m. m < n) (class_numbers d names)) (b ∙ sym a) (numbers_low (class_names d) names) in (low ((get_or d.bypasses k e).outs), low ((get_or d.bypasses k e).ins)));
-      one_number = pairs_map SameNumber (bypass_parts d) d.bypasses (λ i j e low within. same_number d (get_or d.bypasses i e) (get_or d.bypasses j e) ((agreed [] d.bypasses (no_meanings 10 none (omega arith))).1 i j e low within));
+      one_number = subst (λ (bs : List BypassParts). AllPairs SameNumber bs) (sym (kept_map (bypass_parts d) (λ b. not b.guard) d.bypasses))
+          (pairs_map SameNumber (bypass_parts d) (unguarded d.bypasses)
+          (λ i j e low within. same_number d (get_or (unguarded d.bypasses) i e) (get_or (unguarded d.bypasses) j e) ((agreed [] (unguarded d.bypasses) (no_meanings 10 none (omega arith))).1 i j e low within)));
       unit_names = units_apart (unit_items_apart) 0 (automaton_names d);
       sets = all_automata (λ a. All (λ s. All (λ u. u < length a.units) s.units × All (λ pattern. All (λ u. u < length a.units) pattern) s.patterns) a.statements)
           (λ n name. sets_low n) 0 (automaton_names d);

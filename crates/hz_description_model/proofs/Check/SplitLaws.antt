@@ -1,5 +1,5 @@
 -- The classes of a description without a fault keep the two rules on units of several automata.
-use Rattle.std.proofs.Common.{◌≡◌, ℕ, Bool, true, false, [], Contains, refl, arith, length}
+use Rattle.std.proofs.Common.{◌≡◌, Bool, true, false, [], Contains, refl, arith, length}
 use Rattle.std.specs.Prelude.{IsFalse}
 use Rattle.hz_description_model.specs.Reservations.Alternatives.{Expression}
 use Rattle.hz_description_model.specs.Reading.Descriptions.{Description, ClassItem}

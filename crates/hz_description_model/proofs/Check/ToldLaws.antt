@@ -13,7 +13,7 @@ use Rattle.hz_base_model.specs.Limits.{unit_limit}
 use Rattle.hz_description_model.specs.Reservations.Limits.{size_limit}
 use Rattle.hz_base_model.proofs.Elements.{Contains-nil, Contains-head, Contains-tail, Contains-cons_cases, Contains-filter, Contains-from_filter, Contains-map, Contains-from_map}
 use Rattle.hz_description_model.specs.Reservations.Automata.{total_size}
-use Rattle.hz_description_model.specs.Reading.Descriptions.{Description, UnitItem, BypassItem}
+use Rattle.hz_description_model.specs.Reading.Descriptions.{Description, UnitItem, BypassItem, unguarded}
 use Rattle.hz_description_model.specs.Check.Sites.{Site, is_among, is_preceded, repeated}
 use Rattle.hz_description_model.specs.Check.Places.{automaton_number, place_behind, places_behind, unit_places, Known}
 use Rattle.hz_description_model.specs.Check.CheckFaults.{past_units, differs, renumbered, renumbered_behind, second_numbers}
@@ -330,9 +330,9 @@ second_number before (b ∷ bypasses) s =
           (tells_cases before bypasses b s t),
     )
 
-pub second_numbers_told : (d : Description) (s : Site) → Contains (second_numbers d) s ↔ TellsSecondNumber d.bypasses s
+pub second_numbers_told : (d : Description) (s : Site) → Contains (second_numbers d) s ↔ TellsSecondNumber (unguarded d.bypasses) s
 second_numbers_told d s =
-    let both = second_number [] d.bypasses s in (
+    let both = second_number [] (unguarded d.bypasses) s in (
       λ c. let t = both.0 c in record { before = t.front; b = t.b; after = t.after; parts = t.parts; pair = t.pair; line = t.line; form = t.form },
       λ t. both.1 (record { front = t.before; b = t.b; after = t.after; parts = t.parts; pair = t.pair; line = t.line; form = t.form }),
     )

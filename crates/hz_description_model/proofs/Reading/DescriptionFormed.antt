@@ -18,7 +18,7 @@ use Rattle.hz_base_model.specs.Forms.Trees.{Tree, Trees, list, atom, number, non
 use Rattle.hz_description_model.specs.Reading.Descriptions.{Condition, Conditions, constant, negation, conjunction, disjunction, AutomatonItem, UnitItem, ReservationItem, ClassItem, BypassItem, SetItem, AttributeItem, Description, no_items}
 use Rattle.hz_description_model.specs.Reading.Descriptions as model
 use Rattle.hz_description_model.specs.Reading.DescriptionShape.{are_names, are_patterns, are_several, is_condition, are_conditions}
-use Rattle.hz_description_model.specs.Reading.DescriptionForms.{latency_limit, and_then, shaped, kept, quoted_bytes, name_in, names_of, names_in, patterns_of, patterns_in, single_patterns, set_patterns, limited_number, string_in, fallback_in, without_blanks, behind_mark, test_behind, test_of, constant_of, constant_in, test_in, negated, several, joined, condition_in, conditions_in, Said, IsReading, expression_of, expression_in, headed}
+use Rattle.hz_description_model.specs.Reading.DescriptionForms.{DescriptionFault, bad_shape, latency_limit, unknown_guard, Addition, bypass, guard_in, has_other_guard, bypass_with, bypass_of, bypass_form, and_then, shaped, kept, quoted_bytes, name_in, names_of, names_in, patterns_of, patterns_in, single_patterns, set_patterns, limited_number, string_in, fallback_in, without_blanks, behind_mark, test_behind, test_of, constant_of, constant_in, test_in, negated, several, joined, condition_in, conditions_in, Said, IsReading, expression_of, expression_in, headed}
 use Rattle.hz_description_model.proofs.Grammar.ExpressionTextsLaws.{well_formed}
 use Rattle.hz_description_model.proofs.Reading.FormSizes.{first_true, second_true}
 
@@ -173,3 +173,53 @@ expression_formed read operand value reading h = let (bytes, is, k) = then_ok (s
     go : (bytes : List ℕ) (said : Said) → MatchResult said (expression.Reads bytes) (λ wrong. expression.FaultAt bytes wrong.0 wrong.1) → expression_of said ≡ Ok value → is_expression value ≡ true
     go bytes (Ok e) says k = let same : e ≡ value = cc in rw (← same) (well_formed bytes e says)
     go bytes (Err wrong) says k = absurd (cc)
+
+-- Bypasses.
+
+-- The operands that a bypass is read from, and what they say.
+pub record SaysBypass (line form : ℕ) (added : Addition) : Type 0 where
+  pub latency : Tree
+  pub out_names : Tree
+  pub in_names : Tree
+  pub number : ℕ
+  pub outs : List (List ℕ)
+  pub ins : List (List ℕ)
+  pub guard : Bool
+  pub limited : limited_number latency ≡ Ok number
+  pub from : names_in out_names ≡ Some outs
+  pub to : names_in in_names ≡ Some ins
+  pub made : bypass (record { line = line; form = form; number = number; outs = outs; ins = ins; guard = guard }) ≡ added
+
+bypass_with_says : (line form : ℕ) (latency outs ins : Tree) (guard : Result Bool DescriptionFault) (added : Addition) → bypass_with line form latency outs ins guard ≡ Ok added → SaysBypass line form added
+bypass_with_says line form latency outs ins guard added h =
+    let (cycles, low, h1) = then_ok (limited_number latency) _ added h in
+    let (from, are, h2) = then_ok (shaped (names_in outs)) _ added h1 in
+    let (to, also, h3) = then_ok (shaped (names_in ins)) _ added h2 in
+    let (has, is, made) = then_ok guard _ added h3 in
+    let same : bypass (record { line = line; form = form; number = cycles; outs = from; ins = to; guard = has }) ≡ added = cc in
+    record {
+      latency = latency;
+      out_names = outs;
+      in_names = ins;
+      number = cycles;
+      outs = from;
+      ins = to;
+      guard = has;
+      limited = low;
+      from = or_ok (names_in outs) bad_shape from are;
+      to = or_ok (names_in ins) bad_shape to also;
+      made = same;
+    }
+
+bypass_of_says : (line form : ℕ) (operands : Trees) (added : Addition) → bypass_of line form operands ≡ Ok added → SaysBypass line form added
+bypass_of_says line form (more latency (more outs (more ins none))) added h = bypass_with_says line form latency outs ins (Ok false) added h
+bypass_of_says line form (more latency (more outs (more ins (more guard none)))) added h = bypass_with_says line form latency outs ins (shaped (guard_in guard)) added h
+bypass_of_says line form _ added h = absurd (cc)
+
+not_told : {A E : Type 0} (b : Bool) (e : E) (r : Result A E) (y : A) → cond b (Err e) r ≡ Ok y → r ≡ Ok y
+not_told true e r y h = absurd (cc)
+not_told false e r y h = h
+
+-- what the operands of a bypass say that is read
+pub bypass_says : (line form : ℕ) (operands : Trees) (added : Addition) → bypass_form line form operands ≡ Ok added → SaysBypass line form added
+bypass_says line form operands added h = bypass_of_says line form operands added (not_told (has_other_guard operands) unknown_guard (bypass_of line form operands) added h)

@@ -11,10 +11,10 @@ use Rattle.hz_base_model.specs.Lines.{separated}
 use Rattle.hz_base_model.specs.Names.{is_name}
 use Rattle.hz_description_model.specs.Reservations.Sets.{SetKind}
 use Rattle.hz_base_model.specs.Forms.Trees.{Tree, Trees, none, more, line_of}
-use Rattle.hz_description_model.specs.Reading.Descriptions.{AutomatonItem, UnitItem, ReservationItem, ClassItem, BypassItem, SetItem, AttributeItem, Description, no_options, no_items}
+use Rattle.hz_description_model.specs.Reading.Descriptions.{AutomatonItem, UnitItem, ReservationItem, ClassItem, SetItem, AttributeItem, Description, no_options, no_items}
 use Rattle.hz_description_model.specs.Reading.DescriptionShape.{FormKind, define_automaton, define_cpu_unit, define_reservation, define_insn_reservation, define_bypass, automata_option, define_attr, set_form, are_names, IsForm, IsAutomaton, IsUnit, IsReservation, IsClass, IsBypass, IsSet, IsAttribute, SharesAutomaton, IsWellFormed}
 use Rattle.hz_description_model.specs.Reading.DescriptionForms.{DescriptionFault, bad_shape, bad_condition, unknown_form, unknown_option, quoted_bytes, with_options, shaped, name_in, names_in, set_patterns, limited_number, fallback_in, condition_in, Said, IsReading, expression_in, Addition, automata, units, reservation, class, bypass, set, options, attribute, automaton_items, unit_items, automata_form, units_form, reservation_form, class_form, bypass_form, set_form_of, options_form, attribute_form, form_of_kind, headed, kind_of, form_says, with_addition, at_line, forms_say, Reads, form_count}
-use Rattle.hz_description_model.proofs.Reading.DescriptionFormed.{then_ok, or_ok, name_formed, names_formed, set_patterns_formed, number_formed, fallback_formed, condition_formed, expression_formed}
+use Rattle.hz_description_model.proofs.Reading.DescriptionFormed.{then_ok, or_ok, name_formed, names_formed, set_patterns_formed, number_formed, fallback_formed, condition_formed, expression_formed, bypass_says}
 
 -- names that are all names
 all_named : (names : List (List ℕ)) → are_names names ≡ true → All (λ name. is_name name ≡ true) names
@@ -93,22 +93,17 @@ module _ (kinds : List FormKind) (n : ℕ) where
   class_formed line read _ added reading form h = absurd (cc)
 
   bypass_formed : (line : ℕ) (operands : Trees) (added : Addition) → IsForm kinds n define_bypass → bypass_form line n operands ≡ Ok added → IsAddition added
-  bypass_formed line (more latency (more outs (more ins none))) added form h =
-      let (cycles, low, h1) = then_ok (limited_number latency) _ added h in
-      let (from, are, h2) = then_ok (shaped (names_in outs)) _ added h1 in
-      let (to, also, made) = then_ok (shaped (names_in ins)) _ added h2 in
-      let item : BypassItem = record { line = line; form = n; number = cycles; outs = from; ins = to } in
-      let same : bypass item ≡ added = cc in
-      rw (← same) (
+  bypass_formed line operands added form h =
+      let said = bypass_says line n operands added h in
+      rw (← said.made) (
         refl,
         record {
           form = form;
-          number = number_formed latency cycles low;
-          outs = names_formed outs from (or_ok (names_in outs) bad_shape from are);
-          ins = names_formed ins to (or_ok (names_in ins) bad_shape to also);
+          number = number_formed said.latency said.number said.limited;
+          outs = names_formed said.out_names said.outs said.from;
+          ins = names_formed said.in_names said.ins said.to;
         },
       )
-  bypass_formed line _ added form h = absurd (cc)
 
   set_formed : (line : ℕ) (kind : SetKind) (operands : Trees) (added : Addition) → IsForm kinds n (set_form kind) → set_form_of line n kind operands ≡ Ok added → IsAddition added
   set_formed line kind (more names (more patterns none)) added form h =

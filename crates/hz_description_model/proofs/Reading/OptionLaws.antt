@@ -14,7 +14,7 @@ use Rattle.hz_description_model.specs.Reading.DescriptionShape.{FormKind, define
 use Rattle.hz_description_model.specs.Reservations.Sets.{SetKind}
 use Rattle.hz_description_model.specs.Reading.DescriptionForms.{set_of, DescriptionFault, bad_shape, bad_condition, unknown_form, name_in, names_in, set_patterns, limited_number, fallback_in, condition_in, expression_in, unknown_option, Said, Addition, automata, units, reservation, class, bypass, set, options, attribute, at_line, headed, kind_of, form_of_kind, form_says, forms_say, with_addition, with_option, with_options, all_options, is_silent, quoted_bytes, shaped, options_form, Reads}
 use Rattle.hz_description_model.specs.Reading.AddedItems.{Among, IsOption, HasOption, HasOptions}
-use Rattle.hz_description_model.proofs.Reading.DescriptionFormed.{then_ok, or_ok, then_some, kept_some}
+use Rattle.hz_description_model.proofs.Reading.DescriptionFormed.{then_ok, or_ok, then_some, kept_some, bypass_says}
 use Rattle.hz_description_model.proofs.Reading.AddedLaws.{line_ok}
 
 -- what one word adds
@@ -133,12 +133,7 @@ module _ (line n : ℕ) (read : List ℕ → Said) where
       let (value, reads, made) = then_ok (expression_in read regexp) _ a h3 in
       adds_other _ a tt made
   other_kind define_insn_reservation _ a not h = absurd (cc)
-  other_kind define_bypass (more latency (more outs (more ins none))) a not h =
-      let (cycles, low, h1) = then_ok (limited_number latency) _ a h in
-      let (from, are, h2) = then_ok (shaped (names_in outs)) _ a h1 in
-      let (to, also, made) = then_ok (shaped (names_in ins)) _ a h2 in
-      adds_other _ a tt made
-  other_kind define_bypass _ a not h = absurd (cc)
+  other_kind define_bypass operands a not h = let said = bypass_says line n operands a h in adds_other _ a tt (ap Ok said.made)
   other_kind (set_form kind) (more names (more patterns none)) a not h =
       let (us, are, h1) = then_ok (shaped (names_in names)) _ a h in
       let (ps, also, made) = then_ok (shaped (set_patterns kind patterns)) _ a h1 in

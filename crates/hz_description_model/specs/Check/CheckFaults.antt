@@ -10,7 +10,7 @@ use Rattle.hz_description_model.specs.Reservations.Automata.{UnitPlace}
 use Rattle.hz_description_model.specs.Reservations.Meanings.{Reaches}
 use Rattle.hz_description_model.specs.Reservations.NamesIn.{names_in}
 use Rattle.hz_description_model.specs.Reservations.Sets.{SetKind, exclusion}
-use Rattle.hz_description_model.specs.Reading.Descriptions.{Description, Condition, Conditions, UnitItem, ReservationItem, ClassItem, BypassItem, SetItem, AttributeItem}
+use Rattle.hz_description_model.specs.Reading.Descriptions.{Description, Condition, Conditions, UnitItem, ReservationItem, ClassItem, BypassItem, SetItem, AttributeItem, unguarded}
 use Rattle.hz_description_model.specs.Reading.Descriptions as condition
 use Rattle.hz_description_model.specs.Check.CountingOrder.{Reserving, reservation_site, reservations_of, classes_of, alternatives_in, IsCountingOrder, past_size}
 use Rattle.hz_description_model.specs.Check.FirstTold.{Standing, Told, first_told}
@@ -250,7 +250,8 @@ past_limit d known order alternatives = sites_where (has_too_many known) d
 past_limit d known order cycles = sites_where (has_too_long known) d
 past_limit d known order size = past_size known 0 order
 
--- Bypass twice: a bypass gives a pair of classes another number than an earlier one. The name is the producing class.
+-- Bypass twice: a bypass without the guard gives a pair of classes another number than an earlier one without it. The name is the
+-- producing class.
 
 -- the bypass gives the pair another number than the one of this number
 abbrev pub differs : ℕ → List ℕ → List ℕ → BypassItem → Bool
@@ -266,7 +267,7 @@ renumbered_behind before [] = []
 renumbered_behind before (b ∷ bypasses) = renumbered before b ++ renumbered_behind (before ++ b ∷ []) bypasses
 
 abbrev pub second_numbers : Description → List Site
-second_numbers d = renumbered_behind [] d.bypasses
+second_numbers d = renumbered_behind [] (unguarded d.bypasses)
 
 -- the faults of names, in their order
 abbrev pub faults_of_names : Description → List (Standing CheckFault)

@@ -1,5 +1,5 @@
 -- What a description without a fault gives, automaton by automaton and class by class. This profile, docs/RULES.md.
-use Rattle.std.specs.Prelude.{ℕ, suc, ◌==◌, List, [], ◌∷◌, map, filter, length, codes, if◌then◌else◌}
+use Rattle.std.specs.Prelude.{ℕ, suc, ◌==◌, Bool, List, [], ◌∷◌, map, filter, length, codes, if◌then◌else◌}
 use Rattle.std.specs.List.{range_with_len, filter_map}
 use Rattle.hz_base_model.specs.Lines.{place_of}
 use Rattle.hz_base_model.specs.Pairs.{Pair}
@@ -24,11 +24,12 @@ pub record ClassParts : Type 0 where
   pub condition : Condition
   pub lists : List (List (List (Pair ℕ)))
 
--- a bypass, on classes by their numbers
+-- a bypass, on classes by their numbers, and whether it has the guard
 pub record BypassParts : Type 0 where
   pub number : ℕ
   pub outs : List ℕ
   pub ins : List ℕ
+  pub guard : Bool
 
 -- the names of the automata; where none is defined there is one, which is written `-`
 abbrev pub automaton_names : Description → List (List ℕ)
@@ -71,7 +72,7 @@ abbrev pub class_numbers : Description → List (List ℕ) → List ℕ
 class_numbers d names = filter_map (λ name. place_of name (class_names d)) names
 
 abbrev pub bypass_parts : Description → BypassItem → BypassParts
-bypass_parts d b = record { number = b.number; outs = class_numbers d b.outs; ins = class_numbers d b.ins }
+bypass_parts d b = record { number = b.number; outs = class_numbers d b.outs; ins = class_numbers d b.ins; guard = b.guard }
 
 -- the attributes with their values, in the order of the file
 abbrev pub attributes_of : Description → List (List ℕ × List (List ℕ))

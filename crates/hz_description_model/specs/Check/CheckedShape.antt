@@ -1,5 +1,5 @@
 -- What holds of the parts of every description without a fault. Law: `parts_are_kept`.
-use Rattle.std.specs.Prelude.{◌≡◌, ◌≢◌, ℕ, ◌<◌, ◌≤◌, List, [], Some, slice_get, slice_index_or, length, map, All}
+use Rattle.std.specs.Prelude.{◌≡◌, ◌≢◌, ℕ, ◌<◌, ◌≤◌, List, [], Some, slice_get, slice_index_or, length, map, filter, not, All}
 use Rattle.std.specs.List.{Contains, flat_map, AllPairs}
 use Rattle.hz_description_model.specs.Check.CheckedParts.{AutomatonParts, ClassParts, BypassParts}
 use Rattle.hz_base_model.specs.Limits.{automaton_limit, unit_limit, class_limit, cycle_limit}
@@ -33,7 +33,7 @@ pub record IsKept (automata : List AutomatonParts) (classes : List ClassParts) (
   pub bypass_numbers : All (λ b. b.number ≤ latency_limit) bypasses
   -- a bypass names classes by their numbers
   pub bypass_classes : All (λ b. All (λ n. n < length classes) b.outs × All (λ n. n < length classes) b.ins) bypasses
-  -- two bypasses of one pair of classes have one number
-  pub one_number : AllPairs (λ a b. (out «in» : ℕ) → Contains a.outs out → Contains a.ins «in» → Contains b.outs out → Contains b.ins «in» → a.number ≡ b.number) bypasses
+  -- two bypasses of one pair of classes that have no guard have one number
+  pub one_number : AllPairs (λ a b. (out «in» : ℕ) → Contains a.outs out → Contains a.ins «in» → Contains b.outs out → Contains b.ins «in» → a.number ≡ b.number) (filter (λ b. not b.guard) bypasses)
   -- no two attributes have one name
   pub attribute_names : AllPairs (λ a b. a ≢ b) (map (λ a. a.0) attributes)

@@ -56,7 +56,7 @@ pub record IsRenumbered (before : List BypassItem) (b : BypassItem) (out : List 
   pub to_earlier : Contains earlier.ins consumer
   pub other : earlier.number ≢ b.number
 
--- the site is that of such a pair
+-- the site is that of such a pair, of these bypasses
 pub record TellsSecondNumber (bypasses : List BypassItem) (s : Site) : Type 0 where
   pub before : List BypassItem
   pub b : BypassItem

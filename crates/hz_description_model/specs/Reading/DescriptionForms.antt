@@ -1,7 +1,7 @@
 -- The forms of a description: what each adds, what can be wrong with it, and what a list of forms says. GCC Internals,
 -- 'Specifying processor pipeline description' and 'Defining Attributes and their Values'; the faults are this profile's,
 -- docs/FORMATS.md.
-use Rattle.std.specs.Prelude.{◌≡◌, ℕ, ◌+◌, ◌==◌, pos, negsuc, Bool, true, false, ◌&&◌, ◌||◌, not, nat_lt, nat_le, if◌then◌else◌, List, [], ◌∷◌, ◌++◌, length, map, filter, drop, codes, Option, Some, None, is_some, Result, Ok, Err, MatchResult}
+use Rattle.std.specs.Prelude.{◌≡◌, ℕ, ◌+◌, ◌==◌, pos, negsuc, Bool, true, false, ◌&&◌, ◌||◌, not, nat_lt, nat_le, if◌then◌else◌, List, [], ◌∷◌, ◌++◌, length, map, filter, drop, codes, Option, Some, None, Result, Ok, Err, MatchResult}
 use Rattle.std.specs.Char.{is_ascii_whitespace}
 use Rattle.std.specs.List.{slice_split, prefix_len}
 use Rattle.std.specs.Option.{option_map, option_map_or, option_and_then, ok_or}
@@ -274,10 +274,14 @@ options_form (more words none) =
     Ok (options o)))
 options_form _ = Err bad_shape
 
--- a string stands behind three operands
-abbrev pub has_guard : Trees → Bool
-has_guard (more _ (more _ (more _ (more guard _)))) = is_some (quoted_bytes guard)
-has_guard _ = false
+-- whether a string says the guard of stores; of no string nothing
+abbrev pub guard_in : Tree → Option Bool
+guard_in operand = option_map (λ bytes. bytes_eq bytes (codes "store_data_bypass_p")) (quoted_bytes operand)
+
+-- a string that says another guard stands behind three operands
+abbrev pub has_other_guard : Trees → Bool
+has_other_guard (more _ (more _ (more _ (more guard _)))) = option_map_or not (guard_in guard) false
+has_other_guard _ = false
 
 -- Those with items, of a line and a number in the file.
 module _ (line form : ℕ) where
@@ -325,14 +329,25 @@ module _ (line form : ℕ) where
       Ok (class (record { line = line; form = form; name = name; latency = latency; condition = condition; expression = value }))))))
   class_form read _ = Err bad_shape
 
-  -- `(define_bypass number "outs" "ins")`; a string behind them is a guard, of which none is known
-  abbrev pub bypass_form : Trees → Result Addition DescriptionFault
-  bypass_form (more latency (more outs (more ins none))) =
+  -- a bypass between classes, with the guard or without it
+  abbrev pub bypass_with : (latency outs ins : Tree) → (guard : Result Bool DescriptionFault) → Result Addition DescriptionFault
+  bypass_with latency outs ins guard =
       and_then (limited_number latency) (λ latency.
       and_then (shaped (names_in outs)) (λ outs.
       and_then (shaped (names_in ins)) (λ ins.
-      Ok (bypass (record { line = line; form = form; number = latency; outs = outs; ins = ins })))))
-  bypass_form operands = Err (if has_guard operands then unknown_guard else bad_shape)
+      and_then guard (λ guard.
+      Ok (bypass (record { line = line; form = form; number = latency; outs = outs; ins = ins; guard = guard }))))))
+
+  -- a bypass by its operands, where no string behind three of them says another guard
+  abbrev pub bypass_of : Trees → Result Addition DescriptionFault
+  bypass_of (more latency (more outs (more ins none))) = bypass_with latency outs ins (Ok false)
+  bypass_of (more latency (more outs (more ins (more guard none)))) = bypass_with latency outs ins (shaped (guard_in guard))
+  bypass_of _ = Err bad_shape
+
+  -- `(define_bypass number "outs" "ins")` and `(define_bypass number "outs" "ins" "store_data_bypass_p")`; another guard is told
+  -- with the number of the operands, before any of them is judged
+  abbrev pub bypass_form : Trees → Result Addition DescriptionFault
+  bypass_form operands = if has_other_guard operands then Err unknown_guard else bypass_of operands
 
   -- `(exclusion_set "units" "units")`, and the four others with patterns as the second string
   abbrev pub set_form_of : SetKind → Trees → Result Addition DescriptionFault

@@ -1,6 +1,6 @@
 -- What a description says, form by form, as it is read. GCC Internals, 'Specifying processor pipeline description' and,
 -- for attributes and conditions, 'Instruction Attributes'.
-use Rattle.std.specs.Prelude.{ℕ, ℤ, Bool, false, List, [], Option}
+use Rattle.std.specs.Prelude.{ℕ, ℤ, Bool, false, not, List, [], filter, Option}
 use Rattle.hz_description_model.specs.Reservations.Alternatives.{Expression}
 use Rattle.hz_description_model.specs.Reservations.Sets.{SetKind}
 
@@ -49,13 +49,14 @@ pub record ClassItem : Type 0 where
   pub condition : Condition
   pub expression : Expression
 
--- `define_bypass`
+-- `define_bypass`; `guard` tells whether it has the guard `store_data_bypass_p`
 pub record BypassItem : Type 0 where
   pub line : ℕ
   pub form : ℕ
   pub number : ℕ
   pub outs : List (List ℕ)
   pub ins : List (List ℕ)
+  pub guard : Bool
 
 -- the five set forms; of an exclusion each unit of the second string is a pattern by itself
 pub record SetItem : Type 0 where
@@ -91,6 +92,10 @@ pub record Description : Type 0 where
   pub sets : List SetItem
   pub attributes : List AttributeItem
   pub options : Options
+
+-- the bypasses without the guard
+abbrev pub unguarded : List BypassItem → List BypassItem
+unguarded bypasses = filter (λ b. not b.guard) bypasses
 
 -- no option stands
 abbrev pub no_options : Options

@@ -7,11 +7,11 @@ ghost use Rattle.hz_description_model.specs.Reading.Descriptions.{Description};
 ghost use Rattle.hz_tool.specs.Compiled.{IsCompiledBy};
 ghost use Rattle.hz_tool.specs.Decisions.{Agrees, IsJudged};
 
+use crate::decision::Decision;
 use crate::phases::compiling::judge_compiled;
 use crate::phases::describing::judge_described;
 use hz_auto::Compiled;
 use hz_check::Checked;
-use crate::decision::Decision;
 use hz_tabfile::text_stands;
 use hz_tool_words::CompileOrder;
 use std::alloc::Global;

@@ -15,13 +15,13 @@ ghost use Rattle.hz_automata_model.specs.Tables.Machines.{machine_walk, IsWalked
 ghost use Rattle.hz_tool.specs.Compiled.{IsCompiledBy};
 ghost use Rattle.hz_tool.specs.Decisions.{Agrees, IsJudged};
 
+use crate::decision::Decision;
 use crate::phases::compiling::judge_compiled;
 use crate::phases::describing::judge_described;
 use hz_auto::Compiled;
 use hz_check::Checked;
 use hz_regexp::NoMemory;
 use hz_replay::{Event, Replayer, What, drill_from};
-use crate::decision::Decision;
 use hz_tables::{Machine, Steps};
 use hz_tool_words::DrillOrder;
 use std::alloc::Global;

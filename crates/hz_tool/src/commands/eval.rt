@@ -10,9 +10,9 @@ ghost use Rattle.hz_block_model.specs.Running.Limits.{instruction_limit};
 ghost use Rattle.hz_sexp.specs.Shape.{trees};
 ghost use Rattle.hz_tool.specs.Decisions.{Agrees, IsJudged};
 
+use crate::decision::Decision;
 use crate::phases::judging::{judge_block, judge_forms, judge_state};
 use hz_regexp::NoMemory;
-use crate::decision::Decision;
 use hz_rtl::{Block, State, eval};
 use hz_sexp::Form;
 use hz_tool_words::EvalOrder;

@@ -14,6 +14,7 @@ ghost use Rattle.hz_tables.specs.Machines.{machine_of};
 ghost use Rattle.hz_tool.specs.Decisions.{Agrees, IsJudged};
 ghost use Rattle.hz_tool.specs.Machines.{IsIssueIn, Refuses};
 
+use crate::decision::Decision;
 use crate::phases::compiling::judge_states;
 use crate::phases::describing::judge_described;
 use crate::phases::judging::judge_trace;
@@ -21,7 +22,6 @@ use crate::phases::telling::refused_at;
 use hz_check::Checked;
 use hz_regexp::Name;
 use hz_replay::{Event, Outcome, What, replay};
-use crate::decision::Decision;
 use hz_tables::{Machine, Steps};
 use hz_tool_words::ReplayOrder;
 use std::alloc::Global;
@@ -90,7 +90,12 @@ fn decide_outcome<'a>(machine: &Machine, events: &[Event], outcome: Outcome) -> 
 }
 
 /// What is decided of a trace over a machine.
-pub fn decide_trace<'a>(alloc: Global, file: &'a str, machine: &Machine, trace: &[u8]) -> Decision<'a>
+pub fn decide_trace<'a>(
+    alloc: Global,
+    file: &'a str,
+    machine: &Machine,
+    trace: &[u8],
+) -> Decision<'a>
     requires { length trace.now < 2 ^ 32 }
     ensures kind { IsJudged result }
     ensures answer { Agrees (WalksTrace file.entry.now trace.now (machine_of machine.now)) result }

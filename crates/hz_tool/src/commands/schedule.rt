@@ -24,6 +24,7 @@ ghost use Rattle.hz_rtl.specs.Shape.{instruction};
 ghost use Rattle.hz_tool.specs.Telling.{TellsDepend, TellsStuck};
 ghost use Rattle.hz_block_model.specs.Running.Limits.{instruction_limit};
 
+use crate::decision::Decision;
 use crate::phases::compiling::judge_states;
 use crate::phases::describing::judge_described;
 use crate::phases::judging::{judge_block, judge_forms};
@@ -31,7 +32,6 @@ use crate::phases::telling::{decide_ambiguous, decide_insn};
 use hz_check::Checked;
 use hz_depend::{ClassFault, DependFault, Graph, graph};
 use hz_regexp::{Name, NoMemory};
-use crate::decision::Decision;
 use hz_rtl::{Block, Insn};
 use hz_sched::{SchedFault, schedule};
 use hz_sexp::Form;
@@ -54,7 +54,12 @@ fn two_names(machine: &Machine, a: u32, b: u32) -> Result<(Name, Name), NoMemory
 const STUCK: &str = "CannotStartAlone";
 
 /// What is decided of an instruction whose class is wrong.
-fn decide_class<'a>(file: &'a str, machine: &Machine, insn: &Insn, fault: ClassFault) -> Decision<'a>
+fn decide_class<'a>(
+    file: &'a str,
+    machine: &Machine,
+    insn: &Insn,
+    fault: ClassFault,
+) -> Decision<'a>
     requires { IsFaultIn (length machine.now.classes.items) (fault_of fault) }
     ensures kind { IsJudged result }
     ensures answer { Agrees (Says 2 (class_line file.entry.now machine.now.classes.items (instruction insn.now) (fault_of fault))) result }

@@ -9,8 +9,8 @@ ghost use Rattle.hz_tabtext_model.specs.Texts.{TableText};
 ghost use Rattle.hz_tool.specs.Decisions.{Agrees, IsJudged};
 
 use crate::commands::replay::decide_trace;
-use crate::phases::telling::decide_fault;
 use crate::decision::Decision;
+use crate::phases::telling::decide_fault;
 use hz_tabfile::read_tables;
 use hz_tables::Machine;
 use hz_tool_words::WalkOrder;
@@ -20,6 +20,7 @@ use std::alloc::Global;
 fn judge_tables<'a>(alloc: Global, file: &'a str, text: &[u8]) -> Result<Machine, Decision<'a>>
     requires { length text.now < 2 ^ 32 }
     ensures ok { IfOk result (λ machine. TableText text.now (machine_of machine)) }
+    ensures kind { IfErr result IsJudged }
     ensures err { IfErr result (Agrees (TellsFault tables_word (TablesFaultAt text.now) file.entry.now)) }
 {
     match read_tables(alloc, text) {

@@ -11,11 +11,11 @@ ghost use Rattle.hz_answer_model.specs.Answers.{TellsLimit};
 ghost use Rattle.hz_tool.specs.Decisions.{Agrees, IsJudged};
 ghost use Rattle.hz_tool.specs.Machines.{IsMachineFor};
 
-use crate::phases::telling::{limited, decide_states};
+use crate::decision::Decision;
+use crate::phases::telling::{decide_states, limited};
 use hz_auto::{AutoFault, Compiled, compile};
 use hz_check::Checked;
 use hz_regexp::{Name, NoMemory};
-use crate::decision::Decision;
 use hz_tables::Machine;
 use std::alloc::Global;
 

@@ -8,9 +8,9 @@ ghost use Rattle.hz_sexp.specs.Shape.{trees};
 ghost use Rattle.hz_tool.specs.Decisions.{IsJudged};
 ghost use Rattle.hz_tool.specs.Fronts.{IsCheckedIn, TellsSaid, TellsDescribed};
 
+use crate::decision::Decision;
 use crate::phases::judging::{judge_check, judge_description, judge_forms};
 use hz_check::Checked;
-use crate::decision::Decision;
 use hz_sexp::Form;
 use std::alloc::Global;
 
@@ -29,7 +29,11 @@ fn judge_said<'a>(alloc: Global, file: &'a str, read: &[Form]) -> Result<Checked
 }
 
 /// The description that a text says, checked, or what is decided of what is wrong first: a form, what forms say, or the check.
-pub fn judge_described<'a>(alloc: Global, file: &'a str, text: &[u8]) -> Result<Checked, Decision<'a>>
+pub fn judge_described<'a>(
+    alloc: Global,
+    file: &'a str,
+    text: &[u8],
+) -> Result<Checked, Decision<'a>>
     requires { length text.now < 2 ^ 32 }
     ensures ok { IfOk result (IsCheckedIn text.now) }
     ensures kind { IfErr result IsJudged }

@@ -19,15 +19,15 @@ ghost use Rattle.hz_answer_model.specs.Phases.{TellsFault};
 ghost use Rattle.hz_base_model.specs.Forms.Forms.{form_word};
 ghost use Rattle.hz_block_model.specs.Texts.Operands.{rtl_word};
 ghost use Rattle.hz_acceptance_model.specs.Traces.Traces.{TraceFaultAt, trace_word};
-ghost use Rattle.hz_tool.specs.Decisions.{Agrees};
+ghost use Rattle.hz_tool.specs.Decisions.{Agrees, IsJudged};
 ghost use Rattle.hz_replay.specs.Traces.{events_in, lines_in};
 ghost use Rattle.hz_block_model.specs.Running.Limits.{instruction_limit};
 
+use crate::decision::Decision;
 use crate::phases::telling::{decide_check, decide_fault};
 use hz_check::{Checked, check};
 use hz_mdread::{Description, read_description};
 use hz_replay::{Event, read_trace};
-use crate::decision::Decision;
 use hz_rtl::{Block, State, read_block, read_state};
 use hz_sexp::{Form, read_forms};
 use hz_tables::Machine;
@@ -37,6 +37,7 @@ use std::alloc::Global;
 pub fn judge_forms<'a>(alloc: Global, file: &'a str, text: &[u8]) -> Result<Vec<Form>, Decision<'a>>
     requires { length text.now < 2 ^ 32 }
     ensures ok { IfOk result (λ read. forms.Reads text.now (trees read.items)) }
+    ensures kind { IfErr result IsJudged }
     ensures err { IfErr result (Agrees (TellsFault form_word (forms.FaultAt text.now) file.entry.now)) }
 {
     match read_forms(alloc, text) {
@@ -55,6 +56,7 @@ pub fn judge_description<'a>(
     requires strings { IsTrue (description_forms.strings_below (2 ^ 32) (trees read.now)) }
     ensures ok { IfOk result (λ d. description_forms.Reads (trees read.now) (description d)) }
     ensures formed { IfOk result (λ d. IsWellFormed (description d)) }
+    ensures kind { IfErr result IsJudged }
     ensures err { IfErr result (Agrees (TellsDescription file.entry.now (trees read.now))) }
 {
     match read_description(alloc, read) {
@@ -72,6 +74,7 @@ pub fn judge_check<'a>(
     requires formed { IsCheckable (description described) }
     requires shared { AllPairs SharesAutomaton (description described).units }
     ensures ok { IfOk result (IsCheckedOf (description described)) }
+    ensures kind { IfErr result IsJudged }
     ensures err { IfErr result (Agrees (TellsCheck file.entry.now (description described))) }
 {
     match check(alloc, described) {
@@ -84,6 +87,7 @@ pub fn judge_check<'a>(
 pub fn judge_block<'a>(alloc: Global, file: &'a str, read: &[Form]) -> Result<Block, Decision<'a>>
     ensures ok { IfOk result (λ block. blocks.Reads (trees read.now) (instructions block)) }
     ensures few { IfOk result (λ block. length block.insns.items ≤ instruction_limit) }
+    ensures kind { IfErr result IsJudged }
     ensures err { IfErr result (Agrees (TellsFault rtl_word (blocks.FaultAt (trees read.now)) file.entry.now)) }
 {
     match read_block(alloc, read) {
@@ -95,6 +99,7 @@ pub fn judge_block<'a>(alloc: Global, file: &'a str, read: &[Form]) -> Result<Bl
 /// The state that forms give, or what is decided of the first that is wrong.
 pub fn judge_state<'a>(alloc: Global, file: &'a str, read: &[Form]) -> Result<State, Decision<'a>>
     ensures ok { IfOk result (λ state. states.Reads (trees read.now) (words state)) }
+    ensures kind { IfErr result IsJudged }
     ensures err { IfErr result (Agrees (TellsFault rtl_word (states.FaultAt (trees read.now)) file.entry.now)) }
 {
     match read_state(alloc, read) {
@@ -113,6 +118,7 @@ pub fn judge_trace<'a>(
     requires { length text.now < 2 ^ 32 }
     ensures ok { IfOk result (λ events. Trace machine.now.classes.items text.now (events_in events.items)) }
     ensures lines { IfOk result (λ events. lines_in events.items ≡ event_lines machine.now.classes.items 1 (lines_of text.now)) }
+    ensures kind { IfErr result IsJudged }
     ensures err { IfErr result (Agrees (TellsFault trace_word (TraceFaultAt machine.now.classes.items text.now) file.entry.now)) }
 {
     match read_trace(alloc, text, machine) {

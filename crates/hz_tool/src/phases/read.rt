@@ -2,7 +2,10 @@
 
 ghost use Rattle.std.specs.Prelude.{◌≡◌, ◌⊎◌, ◌-◌, ◌^◌, ◌<◌, ◌≤◌, IfErr, IfOk, Contains, None, All, length, map, vec_len};
 ghost use Rattle.std.specs.Option.{ForSome};
-ghost use Rattle.hz_answer_model.specs.Answers.{files_of};
+ghost use Rattle.hz_acceptance_model.specs.Traces.TraceLimits.{trace_limit};
+ghost use Rattle.hz_answer_model.specs.BlockAnswers.{block_limit, state_text_limit};
+ghost use Rattle.hz_answer_model.specs.TableAnswers.{tables_limit};
+ghost use Rattle.hz_description_model.specs.Reading.Limits.{description_limit};
 ghost use Rattle.hz_tool.specs.Decisions.{Agrees, AreRead, CountsRead, IsReadDecision, NamesFile, TellsFile};
 ghost use Rattle.hz_tool.specs.Reading.{Refuses, texts_in, wanted_in, word_of};
 

@@ -4,7 +4,7 @@ ghost use Rattle.std.specs.Prelude.{◌≡◌};
 ghost use Rattle.hz_answer_model.specs.Answers.{TellsCheck};
 ghost use Rattle.hz_check.specs.Faults.{IsToldAt, Tells};
 ghost use Rattle.hz_description_model.specs.Reading.Descriptions.{Description};
-ghost use Rattle.hz_tool.specs.Decisions.{Agrees};
+ghost use Rattle.hz_tool.specs.Decisions.{Agrees, IsJudged};
 ghost use Rattle.hz_tool.specs.Telling as telling;
 
 use crate::decision::Decision;
@@ -31,7 +31,8 @@ pub fn decide_fault<'a>(
     told: Option<(&'static str, u32)>,
     at: Option<(&'static str, u32)>,
 ) -> Decision<'a>
-    ensures { result ≡ telling.decide_fault file.entry told.entry at.entry }
+    ensures kind { IsJudged result }
+    ensures value { result ≡ telling.decide_fault file.entry told.entry at.entry }
 {
     match told {
         Some((kind, line)) => Decision::Fault {
@@ -54,7 +55,8 @@ fn decide_named<'a>(
     limit: Option<LimitName>,
     name: Option<Name>,
 ) -> Decision<'a>
-    ensures { result ≡ telling.decide_check file.entry told.entry limit name }
+    ensures kind { IsJudged result }
+    ensures value { result ≡ telling.decide_check file.entry told.entry limit name }
 {
     let Some((kind, line)) = told else {
         return Decision::Memory;
@@ -83,7 +85,8 @@ fn decide_named<'a>(
 
 /// What is decided of a fault or a limit that the check tells.
 pub fn decide_check<'a>(file: &'a str, fault: CheckFault) -> Decision<'a>
-    ensures { (d : Description) → Tells (IsToldAt d) fault → Agrees (TellsCheck file.entry.now d) result }
+    ensures kind { IsJudged result }
+    ensures answer { (d : Description) → Tells (IsToldAt d) fault → Agrees (TellsCheck file.entry.now d) result }
 {
     let told = fault.told();
     let limit = fault.limit();

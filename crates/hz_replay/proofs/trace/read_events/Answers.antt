@@ -7,8 +7,8 @@ use Rattle.hz_acceptance_model.specs.Traces.Traces.{Trace, line_says}
 use Rattle.hz_replay.specs.Names.{names_in}
 use Rattle.hz_replay.specs.Lines.{event_of, fault_of, judged, judgement}
 use Rattle.hz_replay.specs.Reading.{Source}
-use Rattle.hz_replay.specs.Traces.{placed_in, trace_from, cycles_in}
-use Rattle.hz_replay.proofs.TraceLemmas.{wrong_line, good_line, low_after, from_none, is_trace, on_lines, placed_events, placed_lines, fault_from, ok_judged}
+use Rattle.hz_replay.specs.Traces.{placed_in, cycles_in}
+use Rattle.hz_replay.proofs.TraceLemmas.{wrong_line, good_line, low_after, from_none, is_trace, on_lines, placed_events, placed_lines, fault_from, ok_judged, trace_from}
 use Rattle.hz_replay.proofs.trace.read_events.Goals as goal
 
 pub returns-in-Err-clause-err : goal.returns-in-Err-clause-err

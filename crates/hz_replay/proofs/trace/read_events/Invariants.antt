@@ -2,7 +2,8 @@ use Rattle.std.proofs.Common.{◌≡◌, ◌+◌, ◌-◌, ◌≤◌, [], length
 use Rattle.hz_acceptance_model.specs.Traces.TraceLimits.{advance_limit}
 use Rattle.hz_base_model.specs.Lines.{lines_of}
 use Rattle.hz_replay.specs.Names.{names_in}
-use Rattle.hz_replay.specs.Traces.{placed_in, trace_from}
+use Rattle.hz_replay.specs.Traces.{placed_in}
+use Rattle.hz_replay.proofs.TraceLemmas.{trace_from}
 use Rattle.hz_replay.proofs.trace.read_events.Given as goal
 
 -- the events so far, with those of the rest, are those of the text

@@ -1,7 +1,7 @@
 use Rattle.std.proofs.Common.{◌≡◌, ◌<◌, ◌≤◌, ◌⊎◌, ℕ, ⊎_elim, inr, sym, subst, ◌∙◌, arith}
 use Rattle.std.proofs.lemmas.Bool.{cases_lt}
 use Rattle.hz_answer_model.specs.Answers.{Answer}
-use Rattle.hz_tool.proofs.RunLemmas.{says_file, may_write, status_exact, file_answer, completes, appends_promised, no_file, fits_room}
+use Rattle.hz_tool.proofs.RunLemmas.{says_file, may_write, status_exact, file_answer, completes, appends_promised, no_file, fits_room, no_order}
 use Rattle.hz_tool.specs.Endings.{Completes}
 use Rattle.hz_tool_words.specs.Shape.{words_in}
 use Rattle.hz_tool.proofs.top.run.Goals as goal
@@ -57,3 +57,6 @@ pub returns-clause-neither : goal.returns-clause-neither
 returns-clause-neither g c = λ held told steady all room there has.
     let fits = fits_room (words_in c.args.words.now) held room _ _ (g.F.Files.steady c.args.files.now) c.decide-decision.result steady all has c.decide-decision.ensures.counts c.decide-decision.ensures.file (c.decide-decision.ensures.lacks held told steady) (c.decide-decision.ensures.answer held told) in
     absurd (omega (arith, fits, c.in-Err.ensures.exceeded room there))
+
+pub returns-in-Ok-clause-words : goal.returns-in-Ok-clause-words
+returns-in-Ok-clause-words g c = λ four. no_order _ c.decide-decision.result c.decide-decision.ensures.words (sym c.status.ensures.value ∙ four)

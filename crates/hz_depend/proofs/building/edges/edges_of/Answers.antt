@@ -1,6 +1,6 @@
 use Rattle.std.proofs.Common.{List, ◌++◌, length, map, refl, ap, ◌∙◌, arith, rules}
 use Rattle.std.proofs.lemmas.Option.{slice_get_read}
-use Rattle.hz_check.specs.Shape.{bypass_of}
+use Rattle.hz_depend.specs.Numbers.{numbers_in}
 use Rattle.hz_block_model.specs.Dependences.Graphs.{Edge}
 use Rattle.hz_depend.specs.GraphShape.{edge_of}
 use Rattle.hz_depend.specs.Held.{held}
@@ -21,10 +21,10 @@ loop-place-init c = record {
 pub loop-place-preserved : goal.loop-place-preserved
 loop-place-preserved c =
     let at = slice_get_read c.args.nodes.now (length c.args.nodes.now) c.loop-place.place c.index-nodes-place.result refl (omega arith) c.index-nodes-place.is in
-    let all = among_all c.args.nodes.now c.loop-place.place (held c.index-nodes-place.result) (map bypass_of c.args.bypasses.now) c.loop-place.last (tables_of c.loop-place.tables) c.loop-place.stamps c.mark.new.stamps
+    let all = among_all c.args.nodes.now c.loop-place.place (held c.index-nodes-place.result) (numbers_in c.args.numbers.now) c.loop-place.last (tables_of c.loop-place.tables) c.loop-place.stamps c.mark.new.stamps
     c.loop-place.invariant.last c.loop-place.invariant.noted c.loop-place.invariant.stamps (omega arith) c.mark.ensures in
     record {
-      edges = more_edges c.args.nodes.now c.loop-place.place c.index-nodes-place.result at (map bypass_of c.args.bypasses.now) c.loop-place.last (map edge_of c.loop-place.edges.items) (map edge_of c.add_edges.new.edges.items)
+      edges = more_edges c.args.nodes.now c.loop-place.place c.index-nodes-place.result at (numbers_in c.args.numbers.now) c.loop-place.last (map edge_of c.loop-place.edges.items) (map edge_of c.add_edges.new.edges.items)
           c.loop-place.invariant.last c.loop-place.invariant.edges (c.in_ok-add_edges.ensures ∙ ap (λ (es : List Edge). map edge_of c.loop-place.edges.items ++ es) all);
       size = omega arith;
       last = more_written c.args.nodes.now c.loop-place.place c.index-nodes-place.result at c.loop-place.last c.note_written.new.last c.loop-place.invariant.last c.note_written.ensures;

@@ -21,4 +21,4 @@ returns-in-Some-clause-answer c =
 pub returns-in-None-clause-answer : goal.returns-in-None-clause-answer
 returns-in-None-clause-answer c =
     subst (Agrees (Says 2 (class_line c.args.file.now c.args.machine.now.classes.items (instruction c.args.insn.now) (fault_of c.args.fault)))) (sym c.decide_insn.ensures)
-    (class_told c.args.file c.args.machine.now.classes.items c.args.insn.now c.word.result (fault_of c.args.fault) c.word.ensures (classes_in c.classes.result) (ap classes_in c.in-None.is) c.classes.ensures)
+    (class_told c.args.file c.args.machine.now.classes.items c.args.insn.now c.word-in-None.result (fault_of c.args.fault) c.word-in-None.ensures (classes_in c.classes.result) (ap classes_in c.in-None.is) c.classes.ensures)

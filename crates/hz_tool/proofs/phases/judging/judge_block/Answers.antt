@@ -6,4 +6,4 @@ use Rattle.hz_tool.proofs.TellingLemmas.{tells_fault}
 use Rattle.hz_tool.proofs.phases.judging.judge_block.Goals as goal
 
 pub returns-in-Err-clause-err : goal.returns-in-Err-clause-err
-returns-in-Err-clause-err c = tells_fault rtl_word (blocks.FaultAt (trees c.args.read.now)) c.args.file c.told.result (faults.fault_of c.in-Err.fault) c.decide_fault.result c.told.ensures c.in-Err.ensures.faults c.decide_fault.ensures
+returns-in-Err-clause-err c = tells_fault rtl_word (blocks.FaultAt (trees c.args.read.now)) c.args.file c.told.result (faults.fault_of c.in-Err.fault) c.decide_fault.result c.told.ensures c.in-Err.ensures.faults c.decide_fault.ensures.value

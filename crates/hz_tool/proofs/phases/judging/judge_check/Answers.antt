@@ -2,4 +2,4 @@ use Rattle.hz_mdread.specs.Shape.{description}
 use Rattle.hz_tool.proofs.phases.judging.judge_check.Goals as goal
 
 pub returns-in-Err-clause-err : goal.returns-in-Err-clause-err
-returns-in-Err-clause-err c = c.decide_check.ensures (description c.args.described) c.in-Err.ensures.faults
+returns-in-Err-clause-err c = c.decide_check.ensures.answer (description c.args.described) c.in-Err.ensures.faults

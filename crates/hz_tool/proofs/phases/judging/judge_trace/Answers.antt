@@ -4,4 +4,4 @@ use Rattle.hz_tool.proofs.TellingLemmas.{tells_fault}
 use Rattle.hz_tool.proofs.phases.judging.judge_trace.Goals as goal
 
 pub returns-in-Err-clause-err : goal.returns-in-Err-clause-err
-returns-in-Err-clause-err c = tells_fault trace_word (TraceFaultAt c.args.machine.now.classes.items c.args.text.now) c.args.file c.told.result (faults.fault_told c.in-Err.fault) c.decide_fault.result c.told.ensures c.in-Err.ensures.err c.decide_fault.ensures
+returns-in-Err-clause-err c = tells_fault trace_word (TraceFaultAt c.args.machine.now.classes.items c.args.text.now) c.args.file c.told.result (faults.fault_told c.in-Err.fault) c.decide_fault.result c.told.ensures c.in-Err.ensures.err c.decide_fault.ensures.value

@@ -1,0 +1,14 @@
+use Rattle.hz_acceptance_model.proofs.Traces.WordLaws.{issue_line, advance_line, skipped_line, unknown_line}
+use Rattle.hz_acceptance_model.proofs.trace_laws.lines_of_traces.Goals as goal
+
+pub returns-clause-issue : goal.returns-clause-issue
+returns-clause-issue c = issue_line
+
+pub returns-clause-advance : goal.returns-clause-advance
+returns-clause-advance c = advance_line
+
+pub returns-clause-skipped : goal.returns-clause-skipped
+returns-clause-skipped c = skipped_line
+
+pub returns-clause-unknown : goal.returns-clause-unknown
+returns-clause-unknown c = unknown_line

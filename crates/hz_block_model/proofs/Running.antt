@@ -1,0 +1,2 @@
+-- What operators compute.
+pub mod OperatorLaws

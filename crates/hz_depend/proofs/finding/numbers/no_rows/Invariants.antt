@@ -1,0 +1,9 @@
+use Rattle.std.proofs.Common.{◌≡◌, ℕ, [], get_or, vec_len}
+use Rattle.hz_check.specs.Faults.Bypasses.{rows_of}
+use Rattle.hz_depend.proofs.finding.numbers.no_rows.Given as goal
+
+abbrev pub invariant-loop : goal.invariant-loop
+invariant-loop l = record {
+  len : vec_len l.rows ≡ l.counter;
+  none : (out : ℕ) → get_or (rows_of l.rows.items) out [] ≡ [];
+}

@@ -1,0 +1,15 @@
+use Rattle.std.proofs.Common.{ap, ◌∙◌, rules, tests}
+use Rattle.std.specs.List.{list_any}
+use Rattle.std.proofs.lemmas.Iterator.{YieldsList-from_slice}
+use Rattle.std.proofs.lemmas.Iterator.Search.{any_from_yields_List}
+use Rattle.hz_rtl.specs.declared.block.Effect.{Effect}
+use Rattle.hz_rtl.specs.Shape.{effect, instruction}
+use Rattle.hz_block_model.specs.Dependences.Accesses.{registers_in, is_among}
+use Rattle.hz_block_model.specs.Dependences.Stores.{registers_set, addresses_set_by}
+use Rattle.hz_rtl.proofs.StoringLemmas.{any_addressed}
+use Rattle.hz_rtl.proofs.storing.addresses.Goals as goal
+
+pub returns : goal.returns
+returns c =
+    any_from_yields_List (λ (e : Effect). list_any (λ address. list_any (is_among (registers_in address)) (registers_set (instruction c.args.producer.now))) (addresses_set_by (effect e))) _ _ _ c.any.ensures.ran (YieldsList-from_slice c.deref.result.now cc) (λ x b q k. search (rules, tests))
+    ∙ (ap (list_any (λ (e : Effect). list_any (λ address. list_any (is_among (registers_in address)) (registers_set (instruction c.args.producer.now))) (addresses_set_by (effect e)))) c.deref.ensures.value ∙ any_addressed (registers_set (instruction c.args.producer.now)) c.args.consumer.now.effects.items)

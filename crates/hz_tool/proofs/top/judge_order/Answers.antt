@@ -1,0 +1,44 @@
+use Rattle.std.proofs.Common.{ℕ, List, length, sym, ap, ◌∙◌, subst}
+use Rattle.hz_answer_model.specs.Answers.{JudgesOrder, files_of}
+use Rattle.hz_tool.proofs.ReadLemmas.{one_text, two_texts}
+use Rattle.hz_tool.specs.Decisions.{Agrees}
+use Rattle.hz_tool.specs.Reading.{texts_in}
+use Rattle.hz_tool_words.specs.Shape.{order_in}
+use Rattle.hz_tool_words.specs.declared.order.Order.{Order}
+use Rattle.hz_tool_words.specs.declared.order.Order.TheVariants.{Replay, Walk, Schedule, Eval, Drill}
+use Rattle.hz_tool.proofs.top.judge_order.Goals as goal
+
+pub returns-in-Replay-clause-answer : goal.returns-in-Replay-clause-answer
+returns-in-Replay-clause-answer c =
+    subst (λ (o : Order). Agrees (JudgesOrder (order_in o) (texts_in c.args.texts.now)) c.judge_replay.result) (sym c.in-Replay.is)
+    (subst (λ (texts : List (List ℕ)). Agrees (JudgesOrder (order_in (Replay c.in-Replay.order)) texts) c.judge_replay.result)
+    (two_texts c.args.texts.now _ _ _ _ (c.requires.count ∙ ap (λ (o : Order). length (files_of (order_in o))) c.in-Replay.is) c.index-texts-0-in-Replay.is c.index-texts-1.is c.as_slice-in-Replay.ensures.value c.as_slice-in-Replay-2.ensures.value)
+    c.judge_replay.ensures.answer)
+
+pub returns-in-Walk-clause-answer : goal.returns-in-Walk-clause-answer
+returns-in-Walk-clause-answer c =
+    subst (λ (o : Order). Agrees (JudgesOrder (order_in o) (texts_in c.args.texts.now)) c.judge_walk.result) (sym c.in-Walk.is)
+    (subst (λ (texts : List (List ℕ)). Agrees (JudgesOrder (order_in (Walk c.in-Walk.order)) texts) c.judge_walk.result)
+    (two_texts c.args.texts.now _ _ _ _ (c.requires.count ∙ ap (λ (o : Order). length (files_of (order_in o))) c.in-Walk.is) c.index-texts-0-in-Walk.is c.index-texts-1-in-Walk.is c.as_slice-in-Walk.ensures.value c.as_slice-in-Walk-2.ensures.value)
+    c.judge_walk.ensures.answer)
+
+pub returns-in-Schedule-clause-answer : goal.returns-in-Schedule-clause-answer
+returns-in-Schedule-clause-answer c =
+    subst (λ (o : Order). Agrees (JudgesOrder (order_in o) (texts_in c.args.texts.now)) c.judge_schedule.result) (sym c.in-Schedule.is)
+    (subst (λ (texts : List (List ℕ)). Agrees (JudgesOrder (order_in (Schedule c.in-Schedule.order)) texts) c.judge_schedule.result)
+    (two_texts c.args.texts.now _ _ _ _ (c.requires.count ∙ ap (λ (o : Order). length (files_of (order_in o))) c.in-Schedule.is) c.index-texts-0-in-Schedule.is c.index-texts-1-in-Schedule.is c.as_slice-in-Schedule.ensures.value c.as_slice-in-Schedule-2.ensures.value)
+    c.judge_schedule.ensures.answer)
+
+pub returns-in-Eval-clause-answer : goal.returns-in-Eval-clause-answer
+returns-in-Eval-clause-answer c =
+    subst (λ (o : Order). Agrees (JudgesOrder (order_in o) (texts_in c.args.texts.now)) c.judge_eval.result) (sym c.in-Eval.is)
+    (subst (λ (texts : List (List ℕ)). Agrees (JudgesOrder (order_in (Eval c.in-Eval.order)) texts) c.judge_eval.result)
+    (two_texts c.args.texts.now _ _ _ _ (c.requires.count ∙ ap (λ (o : Order). length (files_of (order_in o))) c.in-Eval.is) c.index-texts-0-in-Eval.is c.index-texts-1-in-Eval.is c.as_slice-in-Eval.ensures.value c.as_slice-in-Eval-2.ensures.value)
+    c.judge_eval.ensures.answer)
+
+pub returns-in-Drill-clause-answer : goal.returns-in-Drill-clause-answer
+returns-in-Drill-clause-answer c =
+    subst (λ (o : Order). Agrees (JudgesOrder (order_in o) (texts_in c.args.texts.now)) c.judge_drill.result) (sym c.in-Drill.is)
+    (subst (λ (texts : List (List ℕ)). Agrees (JudgesOrder (order_in (Drill c.in-Drill.order)) texts) c.judge_drill.result)
+    (one_text c.args.texts.now _ _ (c.requires.count ∙ ap (λ (o : Order). length (files_of (order_in o))) c.in-Drill.is) c.index-texts-0-in-Drill.is c.as_slice-in-Drill.ensures.value)
+    c.judge_drill.ensures.answer)
