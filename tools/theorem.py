@@ -9,12 +9,13 @@ import os
 import re
 import sys
 
-from contracts.naming import citations, function_clauses, laws_of, reach
+from contracts.naming import case_citations, citations, function_clauses, laws_of, reach
 from contracts.sources import Definition, Library, TOP, Unreadable
 
 PAGE = "docs/THEOREM.md"
 RUN = ("crates/hz_tool/src/top.rt", "run")
 ANSWERS = "Rattle.hz_answer_model.specs.Answers"
+PHASES = "Rattle.hz_answer_model.specs.Phases"
 COMMANDS = ("compile", "replay", "walk", "schedule", "eval", "drill")
 
 # What `run` asks of its caller, in plain words.
@@ -43,12 +44,16 @@ ENSURED = {
     "file_line": "With status 6 one line is written. It names a file of the command.",
     "cut": "With status 7 only the front of a text is written, and the whole text is longer than the room for it. The text is an answer by"
            " the rules, the line `memory`, or after a failed read the line of a file.",
-    "tables": "With status 0 `compile` writes tables of the machine that the description means. `walk` on these tables answers every trace"
-              " as `replay` does on the description, with the same status and text. This applies to tables within their limit of bytes.",
-    "schedules": "With status 0 `schedule` writes a schedule that keeps its block: each instruction once, no sooner than latencies and"
-                 " bypasses allow. `replay` accepts it. From every state it leaves what the order of the source leaves.",
-    "drills": "With status 0 `drill` reports a trace that is drawn by what the description accepts. The description accepts it, and so does"
-              " `replay`. The states that it reports are those that the trace leaves in the tables that `compile` writes.",
+    "neither": "The status is at most 5 if only the opening of a name that is not there can fail, each file that the words name is there, and"
+               " the sink has room for each answer and for the line `memory`. So such files and such a sink never fail.",
+    "promised": "With status 0 what is written keeps what is promised of the command (`Promised`, by its cases)."
+                " `compile` writes tables of the machine that the description means. `walk` on them answers every trace as `replay` does on"
+                " the description, with the same status and text, if they are within their limit of bytes."
+                " `schedule` writes a schedule that keeps its block: each instruction once, no sooner than latencies and bypasses allow;"
+                " `replay` accepts it, and from every state it leaves what the order of the source leaves."
+                " `drill` reports a trace that is drawn by what the description accepts; the description accepts it, and so does `replay`, and"
+                " its states are those that it leaves in the tables that `compile` writes."
+                " Of `replay`, `walk` and `eval` nothing more is promised than the answer.",
 }
 
 INTRODUCTION = """# What one must read to believe `run`
@@ -190,6 +195,12 @@ def listed(theorem, items):
     return lines
 
 
+def roots_of(library, command):
+    """What the case of a command names: how its files are read, and how their texts are judged."""
+    cases = [item for name in ("files_of", "JudgesOrder") for item in library.find(ANSWERS, name)]
+    return library.find(PHASES, "OpensAll") + [found for item in cases for found in case_citations(library, item, command)]
+
+
 def counts_section(theorem):
     """How much there is to read, in all, by clause and by command."""
     rows, before = [], set()
@@ -200,10 +211,9 @@ def counts_section(theorem):
     rows.append(("all clauses",) + size(theorem.all) + (len(theorem.all),))
     commands = []
     for name in COMMANDS:
-        roots = theorem.library.find(ANSWERS, "Answers" + name.capitalize())
-        commands.append((f"`{name}`",) + size(reach(theorem.library, roots)[0]))
+        commands.append((f"`{name}`",) + size(reach(theorem.library, roots_of(theorem.library, name))[0]))
     lines = ["## How much there is", ""] + table(("clause", "definitions", "lines", "files", "listed there"), rows)
-    lines += ["", "Who uses one command alone needs less. This is what its case of `Answer` needs:", ""]
+    lines += ["", "Who uses one command alone needs less. This is what its files and its case of `JudgesOrder` need:", ""]
     return lines + table(("command", "definitions", "lines", "files"), commands)
 
 

@@ -200,6 +200,17 @@ def citations(library, item):
     return item.cited
 
 
+def case_citations(library, item, value):
+    """What the clauses of a definition name whose first argument is this value with its fields."""
+    reader = Reader(library, item.source)
+    for lines in item.chunks:
+        if re.match(rf"\s*{item.name} \({value} ", lines[0][1]):
+            reader.clause(lines, set())
+    if not reader.found:
+        raise Unreadable(f"{item.source.path}: {item.name} has no case of `{value}`")
+    return reader.found
+
+
 def reach(library, roots):
     """All definitions that are reached from here, and the words of libraries that they use."""
     seen, words, left = set(), set(), list(roots)
