@@ -91,10 +91,10 @@ module _ (d : Description) (checked : Checked) (is : IsCheckedOf d checked) wher
       ap (λ (r : Result ℕ ClassFault). r ∷ map (class_for checked) insns) (class_same i)
       ∙ ap (λ (rs : List (Result ℕ ClassFault)). class_in d (instruction i) ∷ rs) (classes_same insns)
 
-  timing_same : (numbers : List ℕ) → depend.timing_in checked numbers ≡ timing_in d numbers
-  timing_same numbers =
-      ap (λ (ls : List ℕ). timing_of ls (map bypass_of checked.bypasses.items) numbers) latencies_same
-      ∙ ap (λ (bs : List BypassParts). timing_of (latencies_in d) bs numbers) is.bypasses
+  timing_same : (numbers : List ℕ) (block : List Instruction) → depend.timing_in checked numbers block ≡ timing_in d numbers block
+  timing_same numbers block =
+      ap (λ (ls : List ℕ). timing_of ls (map bypass_of checked.bypasses.items) numbers block) latencies_same
+      ∙ ap (λ (bs : List BypassParts). timing_of (latencies_in d) bs numbers block) is.bypasses
 
   -- ---- the graph
 
@@ -115,7 +115,7 @@ module _ (d : Description) (checked : Checked) (is : IsCheckedOf d checked) wher
     pub is_graph : IsGraphOf d (instructions block) (graph_of graph)
     is_graph = record {
       classes = ap (map good) same_nodes ∙ (map_twice good (λ (i : GraphInsn). i.class) insns ∙ (made.classes ∙ classes_same block.insns.items));
-      edges = subst (λ (t : Timing). IsGraph (instructions block) t (map edge_of graph.edges.items)) (timing_same (map (λ i. i.class) insns) ∙ ap (timing_in d) (sym same_nodes)) made.edges;
+      edges = subst (λ (t : Timing). IsGraph (instructions block) t (map edge_of graph.edges.items)) (timing_same (map (λ i. i.class) insns) (instructions block) ∙ ap (λ (ns : List ℕ). timing_in d ns (instructions block)) (sym same_nodes)) made.edges;
       heights = λ i lt.
           let within : i < length insns = omega (arith, lt, length-map insns node_of) in
           subst (λ (heights : List ℕ). IsHeight (map edge_of graph.edges.items) (map (slice_index (latencies_in d)) (classes_of (graph_of graph))) heights i) (sym (map_twice (λ (n : Node). n.height) node_of insns))

@@ -4,6 +4,7 @@ pub mod BlockTelling
 pub mod JudgeLemmas
 pub mod MachineLemmas
 pub mod ReadLemmas
+pub mod ReplayLaws
 pub mod RunLemmas
 pub mod SlotLemmas
 pub mod StartLemmas

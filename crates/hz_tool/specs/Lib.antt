@@ -6,4 +6,5 @@ pub mod Endings
 pub mod Fronts
 pub mod Machines
 pub mod Reading
+pub mod Replays
 pub mod Telling

@@ -3,6 +3,7 @@
 
 mod commands;
 mod decision;
+pub mod laws;
 mod phases;
 mod top;
 
