@@ -304,7 +304,7 @@ expect 2 'fault accent line 2 BadByte' compile accent
 long_name=$(head -c 300 /dev/zero | tr '\0' n)
 yes '' | head -n 50000 > feeds
 { cat feeds; echo "(define_cpu_unit \"$long_name,$long_name\")"; } > late
-{ cat feeds; echo "(define_reservation \"$long_name\" \"nothing*257\")"; } > late_limit
+{ cat feeds; echo "(define_reservation \"$long_name\" \"nothing*513\")"; } > late_limit
 { cat feeds; echo "(define_cpu_unit \"$long_name\")"; echo "(define_insn_reservation \"$long_name\" 1 (const_int 1) \"$long_name\")"; } > late_class
 { cat feeds; echo "issue $long_name"; echo "issue $long_name"; } > late_issues
 { cat feeds; echo 'issue'; } > late_trace

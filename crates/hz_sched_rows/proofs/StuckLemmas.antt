@@ -1,6 +1,7 @@
 -- The machine of the tests settles: it has no other state than its start.
 use Rattle.std.proofs.Common.{◌≡◌, ℕ, List, [], ◌∷◌, ◌++◌, replicate, Option, Some, None, true, refl, sym, ap, ◌∙◌}
 use Rattle.std.specs.Prelude.{zero, suc, is_some}
+use Rattle.hz_base_model.specs.Limits.{cycle_limit}
 use Rattle.hz_acceptance_model.specs.Accepting.Events.{Event, advance}
 use Rattle.hz_automata_model.specs.Tables.Tables.{walk}
 use Rattle.hz_automata_model.specs.Tables.Machines.{Machine, machine_walk, parts_walk, onto_states, word_of}
@@ -28,9 +29,9 @@ stuck_settles class name = record { settles = λ t all walked. go t (machine_wal
     m : Machine
     m = stuck_machine class name
 
-    go : (t : List Event) (o : Option (List ℕ)) → machine_walk m t ≡ o → is_some o ≡ true → machine_walk m (t ++ advance 256 ∷ []) ≡ Some (0 ∷ [])
+    go : (t : List Event) (o : Option (List ℕ)) → machine_walk m t ≡ o → is_some o ≡ true → machine_walk m (t ++ advance cycle_limit ∷ []) ≡ Some (0 ∷ [])
     go t None e h = absurd (cc)
     go t (Some states) e h =
-        walk_on m t (advance 256 ∷ []) states e
-        ∙ (ap (λ (next : List ℕ). parts_walk m.parts next (advance 256 ∷ [])) (alone (walk stuck.rows (Some 0) (word_of (stuck_part name) t)) states e (stays (word_of (stuck_part name) t)))
-        ∙ ap (λ (o : Option ℕ). onto_states o (Some [])) (rests 256))
+        walk_on m t (advance cycle_limit ∷ []) states e
+        ∙ (ap (λ (next : List ℕ). parts_walk m.parts next (advance cycle_limit ∷ [])) (alone (walk stuck.rows (Some 0) (word_of (stuck_part name) t)) states e (stays (word_of (stuck_part name) t)))
+        ∙ ap (λ (o : Option ℕ). onto_states o (Some [])) (rests cycle_limit))

@@ -258,17 +258,17 @@ fn the_last_cycle_is_kept(rt: HostRuntime) -> Result<(), Fail> {
     let alloc = rt.alloc();
     let known = units(&rt, alloc)?;
     for (text, pairs) in [
-        ("(nothing*255,a)+b", 2),
-        ("U*256+V*256", 256),
-        ("(S*128)+(nothing*254,S)+(b*256)", 384),
-        ("((nothing*127,p)*2)+(p*256)+(a*128)*2", 512),
+        ("(nothing*511,a)+b", 2),
+        ("U*512+V*512", 512),
+        ("(S*256)+(nothing*510,S)+(b*512)", 768),
+        ("((nothing*255,p)*2)+(p*512)+(a*256)*2", 1024),
     ] {
         assert!(rt; text.len() < 100);
         let alts = expanded(&rt, alloc, &known, text)?.expect(&rt, "alternatives");
         assert_eq!(rt; alts.len(), 1);
-        assert_eq!(rt; alts[0].length, 256);
+        assert_eq!(rt; alts[0].length, 512);
         assert_eq!(rt; alts[0].pairs.len(), pairs);
-        assert_eq!(rt; alts[0].pairs.last().expect(&rt, "a pair").cycle, 255);
+        assert_eq!(rt; alts[0].pairs.last().expect(&rt, "a pair").cycle, 511);
     }
     Ok(())
 }
@@ -294,15 +294,15 @@ fn limits_are_exact(rt: HostRuntime) -> Result<(), Fail> {
         (
             "(a|a)*65535",
             4097,
-            257,
+            513,
             Some(AlternFault::AlternativesLimit),
         ),
-        ("nothing*256", 1, 256, None),
-        ("nothing*257", 1, 257, Some(AlternFault::CyclesLimit)),
-        ("nothing*65535", 1, 257, Some(AlternFault::CyclesLimit)),
-        ("(a*255,b)+c", 1, 256, None),
-        ("a|(a*255,R)", 3, 257, Some(AlternFault::CyclesLimit)),
-        ("(a|b)*12,a*245", 4096, 257, Some(AlternFault::CyclesLimit)),
+        ("nothing*512", 1, 512, None),
+        ("nothing*513", 1, 513, Some(AlternFault::CyclesLimit)),
+        ("nothing*65535", 1, 513, Some(AlternFault::CyclesLimit)),
+        ("(a*511,b)+c", 1, 512, None),
+        ("a|(a*511,R)", 3, 513, Some(AlternFault::CyclesLimit)),
+        ("(a|b)*12,a*501", 4096, 513, Some(AlternFault::CyclesLimit)),
         ("(a|b)*12,a*244", 4096, 256, None),
         (ONE_ABOVE, 4096, 256, Some(AlternFault::SizeLimit)),
         (SEQUENCE_ONE_ABOVE, 4096, 256, Some(AlternFault::SizeLimit)),

@@ -4,7 +4,7 @@
 ghost use Rattle.std.specs.Prelude.{All, IsTrue, ◌<◌};
 ghost use Rattle.hz_unitsets.specs.SetRules.{IsInRange};
 
-use hz_grid::{CYCLES, Grid, UNITS};
+use hz_grid::{CYCLES, Grid, UNITS, Usage};
 use hz_unitsets::SetKind::{Absence, Exclusion, FinalAbsence, FinalPresence, Presence};
 use hz_unitsets::{Rules, SetKind, SetRule};
 use std::alloc::Global;
@@ -72,7 +72,7 @@ fn fit(
     assert!(rt; sets.iter().all(|set| in_range(set)));
     let rules = Rules::build(alloc, sets)?;
     let source = grid(rt, alloc, source)?;
-    let added = grid(rt, alloc, added)?;
+    let added = Usage::of(alloc, grid(rt, alloc, added)?)?;
     let fits = rules.fits(&source, &added);
     if rules.is_unbroken(&source) {
         assert_eq!(rt; rules.fits_unbroken(&source, &added), fits);
