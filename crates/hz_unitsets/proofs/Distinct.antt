@@ -1,10 +1,10 @@
 -- Equal statements stand once.
 use denote.Enum.Bare.{sameb, same_true}
 use Rattle.std.proofs.Common.{◌≡◌, ◌≢◌, inl, inr, ℕ, ◌+◌, ◌<◌, Bool, true, false, true≢false, List, [], ◌∷◌, ◌++◌, length, get_or, map, take, All, Contains, refl, sym, ap, ◌∙◌, subst, if◌then◌else◌, ⊎_elim, rules}
-use Rattle.std.specs.Prelude.{◌==◌}
+use Rattle.std.specs.Prelude.{◌==◌, ◌||◌, nat_eq}
 use Rattle.std.specs.List.{AllPairs, list_any}
 use Rattle.std.specs.Bool.{Decides}
-use Rattle.std.specs.Cmp.Lexicographic.{pointwise, pointwise_decides}
+use Rattle.std.specs.Cmp.Lexicographic.{pointwise, pointwise_decides, bytes_decides}
 use Rattle.std.proofs.lemmas.Bool.{and_parts, and_from, eqb-true, eq-eqb}
 use Rattle.std.proofs.lemmas.List.{map_push, take_more}
 use Rattle.std.proofs.lemmas.List.Elements.{All-contains, All-head, All-tail, All-push, Contains-append_left, Contains-push, Contains-push_cases, Contains-get_or}
@@ -22,7 +22,9 @@ use Rattle.hz_unitsets.specs.declared.set_rules.SetRule.{SetRule}
 use Rattle.hz_unitsets.specs.declared.row_rules.Rule.{Rule}
 use Rattle.hz_unitsets.specs.contracts.row_rules.RulePartialEq.TheImpl.{eq-value}
 use Rattle.hz_unitsets.specs.contracts.set_rules.SetKind.{the_type}
-use Rattle.hz_unitsets.specs.SetRules.{kind_of, statement_of, statements_of, IsInRange, ordered}
+use Rattle.hz_unitsets.specs.SetRules.{kind_of, statement_of, statements_of, IsInRange, in_order, each_once, ordered}
+use Rattle.hz_unitsets.proofs.Once.{same, each_once-push}
+use Rattle.std.proofs.lemmas.Bool.Decides.{same_from_decides}
 use Rattle.hz_unitsets.specs.RowRules.{statement_in, IsRow, IsBounded, IsKept, AreSame}
 use Rattle.hz_unitsets.proofs.InOrder.{rules_ask_the_same}
 use Rattle.hz_unitsets.proofs.RowUnits.{Contains-units_of, unit_from_units_in}
@@ -52,6 +54,46 @@ same_rows (x ∷ xs) (y ∷ ys) are_xs are_ys e =
 
 rows_decide : (xs ys : List ℕ) → Decides (pointwise (λ a b. a == b) xs ys) (xs ≡ ys)
 rows_decide = pointwise_decides (λ a b. (eqb-true a b, eq-eqb a b))
+
+-- ---- rows of which each stands once
+
+same_key : (row key : ℕ) → IsRow row → IsRow key → nat_eq row key ≡ same (units_of row) (units_of key)
+same_key row key is_row is_key =
+    let units = bytes_decides (units_of row) (units_of key) in
+    same_from_decides {P = row ≡ key} _ _ (eqb-true row key, eq-eqb row key) (λ t. same_row row key is_row is_key (units.0 t), λ e. units.1 (ap units_of e))
+
+among_rows : (row : ℕ) (keys : List ℕ) → IsRow row → All IsRow keys → list_any (nat_eq row) keys ≡ list_any (same (units_of row)) (map units_of keys)
+among_rows row [] is are = refl
+among_rows row (key ∷ keys) is are =
+    ap (λ b. b || list_any (nat_eq row) keys) (same_key row key is (All-head IsRow key keys are))
+    ∙ ap (λ b. same (units_of row) (units_of key) || b) (among_rows row keys is (All-tail IsRow key keys are))
+
+pub units_inserted : (keys : List ℕ) (row : ℕ) → IsRow row → All IsRow keys → map units_of (insert_key nat_eq keys row) ≡ insert_key same (map units_of keys) (units_of row)
+units_inserted keys row is are = by (list_any (nat_eq row) keys) refl
+  where
+    among : list_any (nat_eq row) keys ≡ list_any (same (units_of row)) (map units_of keys)
+    among = among_rows row keys is are
+
+    by : (b : Bool) → list_any (nat_eq row) keys ≡ b → map units_of (insert_key nat_eq keys row) ≡ insert_key same (map units_of keys) (units_of row)
+    by true e = ap (λ b. map units_of (if b then keys else keys ++ row ∷ [])) e ∙ sym (ap (λ b. if b then map units_of keys else map units_of keys ++ units_of row ∷ []) (sym among ∙ e))
+    by false e = ap (λ b. map units_of (if b then keys else keys ++ row ∷ [])) e ∙ map_push units_of keys row ∙ sym (ap (λ b. if b then map units_of keys else map units_of keys ++ units_of row ∷ []) (sym among ∙ e))
+
+pub rows_inserted : (keys : List ℕ) (row : ℕ) → IsRow row → All IsRow keys → All IsRow (insert_key nat_eq keys row)
+rows_inserted keys row is are = by (list_any (nat_eq row) keys) refl
+  where
+    by : (b : Bool) → list_any (nat_eq row) keys ≡ b → All IsRow (insert_key nat_eq keys row)
+    by true e = subst (All IsRow) (sym (ap (λ b. if b then keys else keys ++ row ∷ []) e)) are
+    by false e = subst (All IsRow) (sym (ap (λ b. if b then keys else keys ++ row ∷ []) e)) (All-push IsRow keys row are is)
+
+-- one more pattern
+pub once_more_row : (patterns : List (List ℕ)) (pattern : List ℕ) (keys new : List ℕ) (row : ℕ) → new ≡ insert_key nat_eq keys row → IsRow row → All IsRow keys → units_of row ≡ in_order pattern → map units_of keys ≡ each_once (map in_order patterns) → map units_of new ≡ each_once (map in_order (patterns ++ pattern ∷ []))
+once_more_row patterns pattern keys new row inserted is are units so_far =
+    ap (map units_of) inserted
+    ∙ units_inserted keys row is are
+    ∙ ap (λ (ks : List (List ℕ)). insert_key same ks (units_of row)) so_far
+    ∙ ap (insert_key same (each_once (map in_order patterns))) units
+    ∙ sym (each_once-push (map in_order patterns) (in_order pattern))
+    ∙ ap each_once (sym (map_push in_order patterns pattern))
 
 kind_from : model.SetKind → SetKind
 kind_from model.exclusion = Exclusion

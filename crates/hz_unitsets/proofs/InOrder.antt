@@ -12,7 +12,8 @@ use Rattle.hz_acceptance_model.specs.Accepting.Fitting.{AskTheSame}
 use Rattle.hz_base_model.proofs.Elements.{Contains-filter, Contains-from_filter, Contains-map, Contains-from_map, Contains-range}
 use Rattle.hz_grid.specs.declared.rows.TheConstants.{UNITS}
 use Rattle.hz_unitsets.specs.declared.set_rules.SetRule.{SetRule}
-use Rattle.hz_unitsets.specs.SetRules.{statement_of, statements_of, IsInRange, in_order, ordered}
+use Rattle.hz_unitsets.proofs.Once.{pattern_once}
+use Rattle.hz_unitsets.specs.SetRules.{statement_of, statements_of, IsInRange, in_order, each_once, ordered}
 
 -- a list of units has the unit
 pub list_any_decides : (units : List ℕ) (unit : ℕ) → Decides (list_any (λ u. u == unit) units) (Contains units unit)
@@ -41,8 +42,8 @@ module _ (held : ℕ → Type 0) where
     λ h. (h.0, (in_order_has units small h.0).1 h.1, h.2),
   )
 
-  pattern_in_order : (patterns : List (List ℕ)) → All AreSmall patterns → HoldsPattern (map in_order patterns) held ↔ HoldsPattern patterns held
-  pattern_in_order patterns small = (
+  each_in_order : (patterns : List (List ℕ)) → All AreSmall patterns → HoldsPattern (map in_order patterns) held ↔ HoldsPattern patterns held
+  each_in_order patterns small = (
     λ h.
         let found = Contains-from_map in_order patterns h.0 h.1 in
         let has = in_order_has found.0 (All-contains AreSmall patterns found.0 small found.1) in
@@ -51,6 +52,12 @@ module _ (held : ℕ → Type 0) where
         let has = in_order_has h.0 (All-contains AreSmall patterns h.0 small h.1) in
         (in_order h.0, Contains-map in_order patterns h.0 h.1, λ u is. h.2 u ((has u).0 is)),
   )
+
+  pattern_in_order : (patterns : List (List ℕ)) → All AreSmall patterns → HoldsPattern (each_once (map in_order patterns)) held ↔ HoldsPattern patterns held
+  pattern_in_order patterns small =
+      let once = pattern_once held (map in_order patterns) in
+      let both = each_in_order patterns small in
+      (λ h. both.0 (once.0 h), λ h. once.1 (both.1 h))
 
 -- the units of the statement are in their range
 record IsSmall (s : Statement ℕ) : Type 0 where

@@ -2,3 +2,4 @@ pub mod Cycles
 pub mod Distinct
 pub mod InOrder
 pub mod RowUnits
+pub mod Once

@@ -1,5 +1,7 @@
 -- The statements of set rules.
-use Rattle.std.specs.Prelude.{ℕ, ◌<◌, ◌==◌, List, map, filter, All}
+use Rattle.std.specs.Prelude.{ℕ, ◌<◌, ◌==◌, nat_eq, List, [], map, filter, All}
+use Rattle.std.specs.Cmp.Lexicographic.{pointwise}
+use Rattle.indexmap.specs.IndexSet.{insert_all}
 use Rattle.std.specs.List.{list_any, range_with_len}
 use Rattle.hz_description_model.specs.Reservations.Sets as model
 use Rattle.hz_description_model.specs.Reservations.Sets.{Statement, exclusion, presence, final_presence, absence, final_absence}
@@ -33,6 +35,10 @@ pub record IsInRange (set : SetRule) : Type 0 where
 unfoldable pub in_order : List ℕ → List ℕ
 in_order units = filter (λ unit. list_any (λ u. u == unit) units) (range_with_len 0 UNITS)
 
--- the statement with the units of each of its lists in order
+-- the patterns, each later equal one dropped
+unfoldable pub each_once : List (List ℕ) → List (List ℕ)
+each_once patterns = insert_all (pointwise nat_eq) [] patterns
+
+-- the statement with the units of each of its lists in order, and each pattern once
 abbrev pub ordered : Statement ℕ → Statement ℕ
-ordered s = record { kind = s.kind; units = in_order s.units; patterns = map in_order s.patterns }
+ordered s = record { kind = s.kind; units = in_order s.units; patterns = each_once (map in_order s.patterns) }

@@ -10,9 +10,10 @@ ghost use Rattle.hz_grid.specs.Stored.{units_of};
 use crate::set_rules::{SetKind, SetRule};
 pub use hz_grid::NoMemory;
 use hz_grid::{Grid, Row, UNITS};
+use indexmap::IndexSet;
 use std::alloc::Global;
 
-/// One statement, its units and each of its patterns as a row.
+/// One statement, its units and each of its patterns as a row, equal ones once.
 #[derive(Drop, PartialEq, Eq, Hash, Debug)]
 pub(crate) struct Rule {
     kind: SetKind,
@@ -27,14 +28,14 @@ impl Rule {
         ensures bounded { IfOk result IsBounded }
         ensures statement { IfOk result (λ rule. statement_in rule ≡ ordered (statement_of set.now)) }
     {
-        let mut patterns = Vec::new(alloc);
+        let mut patterns = IndexSet::new(alloc);
         for pattern in &set.patterns {
-            patterns.push(row_of(pattern))?;
+            patterns.insert(row_of(pattern))?;
         }
         Ok(Rule {
             kind: set.kind,
             units: row_of(&set.units),
-            patterns,
+            patterns: rows_in(alloc, patterns)?,
         })
     }
 
@@ -121,6 +122,13 @@ impl Rule {
     {
         self.patterns.iter().any(|pattern| pattern.within(row))
     }
+}
+
+// The rows in their order. None is copied.
+fn rows_in(alloc: Global, rows: IndexSet<Row<4>>) -> Result<Vec<Row<4>>, NoMemory>
+    ensures { IfOk result (λ all. all.items ≡ rows.keys) }
+{
+    rows.into_iter().collect(alloc)
 }
 
 // The row of these units.
