@@ -1,6 +1,6 @@
 #!/bin/sh
 # Replays each example trace, walks it on the tables of its machine, schedules each example block that has a machine beside it,
-# evaluates each that has a state, draws each drill, and compares status and text with its .answer file: the status on the first line, then the
+# evaluates each that has a state, draws each drill, tells each bound, and compares status and text with its .answer file: the status on the first line, then the
 # text. The trace of each schedule is replayed on its machine. Each .tables file is the text that its description compiles to.
 hz=$1
 cd "$(dirname "$0")/.." || exit 2
@@ -11,9 +11,14 @@ count=0
 
 # compare EXAMPLE WORDS..: the program, given the words, ends as the answer of the example has it
 compare() {
-    example=$1
-    answer=${example%.*}.answer
-    shift
+    against "${1%.*}.answer" "$@"
+}
+
+# against ANSWER EXAMPLE WORDS..: the same with an answer of another name
+against() {
+    answer=$1
+    example=$2
+    shift 2
     "$hz" "$@" > "$work/text"
     status=$?
     count=$((count + 1))
@@ -66,6 +71,9 @@ done
 for drill in examples/*/*.drill; do
     # its words are the number and the turns
     compare "$drill" drill "$(dirname "$drill")/machine.md" $(cat "$drill")
+done
+for bound in examples/*/*.bound; do
+    against "$bound" "$bound" bound "$(dirname "$bound")/machine.md" "${bound%.bound}.block"
 done
 for block in examples/*/*.block; do
     machine=$(dirname "$block")/machine.md

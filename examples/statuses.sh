@@ -86,7 +86,7 @@ lines() {
     printf '%s\n' "$@" > "$file"
 }
 
-usage='usage: hz compile DESC | replay DESC TRACE | walk TABLES TRACE | schedule DESC BLOCK | eval BLOCK STATE | drill DESC NUMBER COUNT'
+usage='usage: hz compile DESC | replay DESC TRACE | walk TABLES TRACE | schedule DESC BLOCK | eval BLOCK STATE | drill DESC NUMBER COUNT | bound DESC BLOCK'
 
 # descriptions
 unit='(define_cpu_unit "u")'
@@ -262,6 +262,19 @@ expect 3 'limit long bytes' eval b long
 expect 6 'file missing could not be read' eval b missing
 expect_memory 8192 eval longest longest
 expect_sink eval b s
+
+# bound
+expect 0 "$(printf 'path 0 1\nload a 1 0 0\nbound 0\nschedule 0 cycles')" bound d b
+expect 0 "$(printf 'path 0\nload -\nbound 0\nschedule 0 cycles')" bound d empty
+expect 2 'fault ambiguous line 2 Ambiguous insn 2 x y' bound classes ambiguous
+expect 2 'fault b line 1 CannotStartAlone insn 1' bound never b
+expect 2 'fault d line 1 UnknownCode' bound d d
+expect 2 'fault unclosed line 1 Unclosed' bound unclosed code
+expect 3 'limit states automaton -' bound states code
+expect 3 'limit long bytes' bound d long
+expect 6 'file missing could not be read' bound d missing
+expect_memory 32768 bound most_states b
+expect_sink bound d b
 
 # drill
 expect 0 "$(printf 'drill 4 turns\naccepted 2 issues 2 cycles\nstates 0')" drill d 1 4

@@ -6,7 +6,7 @@ use Rattle.hz_base_model.proofs.Forms.FormsLaws.{one_reading, one_fault, forms_o
 use Rattle.hz_description_model.proofs.Reading.DescriptionLaws.{one_description, one_fault_of_descriptions, description_or_fault}
 use Rattle.hz_description_model.proofs.Check.CheckLaws.{fault_one, fault_or_sound, sound_one}
 use Rattle.hz_acceptance_model.proofs.Accepting.AcceptanceLaws.{one_refused, accepted_or_refused}
-use Rattle.hz_answer_model.specs.Answers.{Describes, Checks, HasDescription, Compiles, CompilesDescription, DrillsDescription, Replays, ReplaysTrace, ReplaysDescription, Judges, SchedulesByDescription, IsIssueOf, files_of, JudgesOrder, AnswersOrder, Answer}
+use Rattle.hz_answer_model.specs.Answers.{Describes, Checks, HasDescription, Compiles, CompilesDescription, DrillsDescription, Replays, ReplaysTrace, ReplaysDescription, Judges, SchedulesByDescription, BoundsByDescription, IsIssueOf, files_of, JudgesOrder, AnswersOrder, Answer}
 use Rattle.hz_description_model.specs.Check.CheckFaults.{CheckFault}
 use Rattle.hz_description_model.specs.Check.Places.{Known, class_names}
 use Rattle.hz_description_model.specs.Reading.DescriptionForms.{DescriptionFault}
@@ -34,7 +34,7 @@ use Rattle.hz_acceptance_model.specs.Accepting.Replay.{Pipeline, Class}
 use Rattle.hz_acceptance_model.specs.Accepting.Events.{Event, issue}
 use Rattle.hz_answer_model.specs.Texts.{file_line, limit_line, fault_line, states_line, refused_line, slot_line, scheduled_line}
 use Rattle.hz_base_model.specs.Forms.Trees.{Trees}
-use Rattle.hz_words_model.specs.Words.{Order, compile, replay, walk, schedule, eval, drill, order_of, usage_line}
+use Rattle.hz_words_model.specs.Words.{Order, compile, replay, walk, schedule, eval, drill, bound, order_of, usage_line}
 use Rattle.hz_base_model.specs.Names.{Held}
 use Rattle.hz_answer_model.specs.Phases.{Says, Next, FileWord, OpensAll, TellsFault, HasForms, Traces}
 use Rattle.hz_answer_model.specs.TableAnswers.{tables_limit, WritesTablesOf, HasTables, IsIssueIn, Walks, WalksTrace}
@@ -42,8 +42,12 @@ use Rattle.hz_answer_model.proofs.TableLaws.{one_unwalked, walked_or_not, one_is
 use Rattle.hz_answer_model.proofs.OneText.{one_tables_text}
 use Rattle.hz_answer_model.proofs.DrillLaws.{one_drill_text}
 use Rattle.hz_answer_model.specs.DrillAnswers.{Drills}
-use Rattle.hz_answer_model.specs.BlockAnswers.{block_limit, state_text_limit, IsBlock, IsState, Evaluates, JudgesBlock}
-use Rattle.hz_answer_model.specs.ScheduleAnswers.{schedule_text, HasClasses, Schedules, SchedulesBlock}
+use Rattle.hz_answer_model.specs.BlockAnswers.{block_limit, state_text_limit, IsBlock, IsState, HasBlock, Evaluates, JudgesBlock}
+use Rattle.hz_answer_model.specs.ScheduleAnswers.{schedule_text, HasClasses, Starts, TellsSchedule, SchedulesBlock}
+use Rattle.hz_answer_model.specs.BoundAnswers.{TellsBound}
+use Rattle.hz_bound_model.specs.Bounds.{Bound}
+use Rattle.hz_bound_model.specs.Texts.{text_of_bound}
+use Rattle.hz_bound_model.proofs.BlockBounds.{one_bound_of_a_block}
 use Rattle.hz_block_model.specs.Scheduling.Schedules.{Graph, Slot, present}
 use Rattle.hz_block_model.specs.Scheduled.BlockGraphs.{classes_of}
 use Rattle.hz_block_model.proofs.Scheduled.BlockLaws.{one_of_a_block}
@@ -236,22 +240,33 @@ text_by_classes d block classes slots =
 same_schedule_text : (d : Description) (block : List Instruction) (g h : Graph) (slots others : List Slot) → classes_of g ≡ classes_of h → slots ≡ others → schedule_text d block g slots ≡ schedule_text d block h others
 same_schedule_text d block g h slots others classes same = ap (λ (cs : List ℕ). text_by_classes d block cs slots) classes ∙ ap (schedule_text d block h) same
 
-schedules_single : (name : List ℕ) (d : Description) (known : Known) (block : List Instruction) → IsSingle (Schedules name d known block)
-schedules_single name d known block s s' t t' (inl (all, g, slots, is, x)) (inl (every, h, others, also, y)) =
-    let same = one_of_a_block d known block g h slots others is also in
-    says_same 0 0 _ _ refl (same_schedule_text d block g h slots others same.0 same.1) s s' t t' x y
-schedules_single name d known block s s' t t' (inl (all, g, slots, is, x)) (inr (i, first, y)) = absurd (stuck_or_all d known block i first all)
-schedules_single name d known block s s' t t' (inr (i, first, x)) (inl (all, g, slots, is, y)) = absurd (stuck_or_all d known block i first all)
-schedules_single name d known block s s' t t' (inr (i, first, x)) (inr (j, second, y)) =
+starts_single : (name : List ℕ) (d : Description) (known : Known) (block : List Instruction) (next : ℕ → List ℕ → Type 0) → IsSingle next → IsSingle (Starts name d known block next)
+starts_single name d known block next single s s' t t' (inl (all, x)) (inl (every, y)) = single s s' t t' x y
+starts_single name d known block next single s s' t t' (inl (all, x)) (inr (i, first, y)) = absurd (stuck_or_all d known block i first all)
+starts_single name d known block next single s s' t t' (inr (i, first, x)) (inl (all, y)) = absurd (stuck_or_all d known block i first all)
+starts_single name d known block next single s s' t t' (inr (i, first, x)) (inr (j, second, y)) =
     says_same 2 2 _ _ refl (ap (stuck_line name) (one_stuck d known block i j first second)) s s' t t' x y
 
-scheduled_single : (description described block blocked : List ℕ) → IsSingle (HasDescription description described (SchedulesByDescription description block blocked))
-scheduled_single description described block blocked =
-    description_single description described (SchedulesByDescription description block blocked) (λ d known.
-    compiles_single description d known (SchedulesBlock block blocked d known)
+schedule_single : (d : Description) (known : Known) (block : List Instruction) → IsSingle (TellsSchedule d known block)
+schedule_single d known block s s' t t' (g, slots, is, x) (h, others, also, y) =
+    let same = one_of_a_block d known block g h slots others is also in
+    says_same 0 0 _ _ refl (same_schedule_text d block g h slots others same.0 same.1) s s' t t' x y
+
+bound_single : (d : Description) (known : Known) (block : List Instruction) → IsSingle (TellsBound d known block)
+bound_single d known block s s' t t' (g, slots, b, is, bounds, x) (h, others, c, also, too, y) =
+    let same = one_of_a_block d known block g h slots others is also in
+    let one = one_bound_of_a_block d known block g h b c is.graph also.graph bounds too in
+    says_same 0 0 _ _ refl (ap (λ (b : Bound). text_of_bound d block b slots) one ∙ ap (text_of_bound d block c) same.1) s s' t t' x y
+
+-- a block by a description leaves no choice where what follows leaves none
+blocked_single : (description described block blocked : List ℕ) (next : (d : Description) (known : Known) (insns : List Instruction) → ℕ → List ℕ → Type 0) → ((d : Description) (known : Known) (insns : List Instruction) → IsSingle (next d known insns))
+    → IsSingle (HasDescription description described (λ d known. Compiles description d known (HasBlock block blocked (λ insns. HasClasses block d insns (Starts block d known insns (next d known insns))))))
+blocked_single description described block blocked next single =
+    description_single description described _ (λ d known.
+    compiles_single description d known _
     (forms_single block blocked _ (λ read.
     block_single block read _ (λ insns.
-    classes_single block d insns (Schedules block d known insns) (schedules_single block d known insns)))))
+    classes_single block d insns _ (starts_single block d known insns (next d known insns) (single d known insns))))))
 
 -- Tables.
 
@@ -305,7 +320,8 @@ judges_single (compile description) =
     λ described. description_single description described (CompilesDescription description) (λ d known.
     compiles_single description d known (WritesTablesOf d known) (compiled_single d known))
 judges_single (walk tables trace) = λ tabled traced. walked_single tables tabled trace traced
-judges_single (schedule description block) = λ described blocked. scheduled_single description described block blocked
+judges_single (schedule description block) = λ described blocked. blocked_single description described block blocked TellsSchedule schedule_single
+judges_single (bound description block) = λ described blocked. blocked_single description described block blocked TellsBound bound_single
 judges_single (eval block state) = λ blocked stated. blocks_single block blocked state stated
 judges_single (drill description number turns) =
     λ described. description_single description described (DrillsDescription description number turns) (λ d known.

@@ -13,7 +13,7 @@ use Rattle.hz_description_model.proofs.Check.CheckTotal.{sound_or_fault}
 use Rattle.hz_acceptance_model.proofs.Accepting.AcceptanceLaws.{refused_issue}
 use Rattle.hz_acceptance_model.proofs.Accepting.PlayLaws.{accepted_or_first_refused}
 use Rattle.hz_acceptance_model.proofs.Accepting.Rows.{same_unit, places_tell}
-use Rattle.hz_answer_model.specs.Answers.{Describes, Checks, HasDescription, Compiles, CompilesDescription, DrillsDescription, Replays, ReplaysTrace, ReplaysDescription, Judges, SchedulesByDescription, IsIssueOf, files_of, JudgesOrder, AnswersOrder, Answer}
+use Rattle.hz_answer_model.specs.Answers.{Describes, Checks, HasDescription, Compiles, CompilesDescription, DrillsDescription, Replays, ReplaysTrace, ReplaysDescription, Judges, IsIssueOf, files_of, JudgesOrder, AnswersOrder, Answer}
 use Rattle.hz_description_model.specs.Check.CheckFaults.{CheckFault, CheckFaultAt, IsSound}
 use Rattle.hz_description_model.specs.Check.Places.{Known, class_names}
 use Rattle.hz_description_model.specs.Reading.DescriptionForms as description_forms
@@ -39,15 +39,18 @@ use Rattle.hz_acceptance_model.specs.Traces.Traces.{Trace, TraceFault, TraceFaul
 use Rattle.hz_acceptance_model.proofs.Traces.TraceLaws.{trace_of_every_text, counted_lines}
 use Rattle.hz_answer_model.specs.Texts.{file_line, limit_line, fault_line, refused_line, accepted_line, states_line}
 use Rattle.hz_base_model.specs.Forms.Trees.{Trees}
-use Rattle.hz_words_model.specs.Words.{Order, compile, replay, walk, schedule, eval, drill, order_of, usage_line}
+use Rattle.hz_words_model.specs.Words.{Order, compile, replay, walk, schedule, eval, drill, bound, order_of, usage_line}
 use Rattle.hz_base_model.specs.Names.{Held}
 use Rattle.hz_answer_model.specs.Phases.{Says, Next, FileWord, OpensAll, HasForms}
 use Rattle.hz_answer_model.specs.TableAnswers.{tables_limit, IsTablesOf, WritesTablesOf, HasTables, IsFirstUnwalked, Walks, WalksTrace}
 use Rattle.hz_answer_model.proofs.TableLaws.{walked_or_first, unwalked_issue}
 use Rattle.hz_answer_model.proofs.DrillLaws.{some_drill}
 use Rattle.hz_answer_model.specs.DrillAnswers.{Drills}
-use Rattle.hz_answer_model.specs.BlockAnswers.{block_limit, state_text_limit, IsBlock, IsState, Evaluates, JudgesBlock}
-use Rattle.hz_answer_model.specs.ScheduleAnswers.{schedule_text, HasClasses, Schedules, SchedulesBlock}
+use Rattle.hz_answer_model.specs.BlockAnswers.{block_limit, state_text_limit, IsBlock, IsState, HasBlock, Evaluates, JudgesBlock}
+use Rattle.hz_answer_model.specs.ScheduleAnswers.{schedule_text, HasClasses, Starts, TellsSchedule}
+use Rattle.hz_answer_model.specs.BoundAnswers.{TellsBound}
+use Rattle.hz_bound_model.specs.Texts.{text_of_bound}
+use Rattle.hz_bound_model.proofs.BlockBounds.{some_bound_of_a_block}
 use Rattle.hz_block_model.specs.Dependences.Classes.{ClassFault}
 use Rattle.hz_block_model.specs.Scheduled.BlockGraphs.{IsFirstClassFault}
 use Rattle.hz_block_model.specs.Scheduled.BlockSchedules.{StartsAlone, IsFirstStuck}
@@ -215,20 +218,35 @@ classes_one name d block next one = ⊎_elim
     wider (Says 2 line) _ (λ s t h. inr (first.0, first.1, first.2, h)) (says_one 2 line))
     (classes_or_fault d block)
 
-schedules_one : (name : List ℕ) (d : Description) (known : Known) (block : List Instruction) → IsCheckable d → IsSound d known → HasOne (Schedules name d known block)
-schedules_one name d known block formed sound = ⊎_elim
-    (λ (all : All (StartsAlone d known) block). let (g, slots, is) = some_schedule_of d known block formed sound all in
-    wider (Says 0 (schedule_text d block g slots)) _ (λ s t h. inl (all, g, slots, is, h)) (says_one 0 (schedule_text d block g slots)))
+starts_one : (name : List ℕ) (d : Description) (known : Known) (block : List Instruction) (next : ℕ → List ℕ → Type 0) → (All (StartsAlone d known) block → HasOne next) → HasOne (Starts name d known block next)
+starts_one name d known block next one = ⊎_elim
+    (λ (all : All (StartsAlone d known) block). wider next _ (λ s t h. inl (all, h)) (one all))
     (λ (first : (i : Instruction) × IsFirstStuck d known block i). wider (Says 2 (stuck_line name first.0)) _ (λ s t h. inr (first.0, first.1, h)) (says_one 2 (stuck_line name first.0)))
     (starts_or_stuck d known block)
 
-scheduled_one : (description described block blocked : List ℕ) → HasOne (HasDescription description described (SchedulesByDescription description block blocked))
-scheduled_one description described block blocked =
-    description_one description described (SchedulesByDescription description block blocked) (λ d known formed sound.
-    compiles_one description d known (SchedulesBlock block blocked d known) (λ kept.
+-- a description without a fault, and a block whose instructions can be issued from the start
+abbrev Answers : ((d : Description) (known : Known) (insns : List Instruction) → ℕ → List ℕ → Type 0) → Type 0
+Answers next = (d : Description) (known : Known) (insns : List Instruction) → IsCheckable d → IsSound d known → All (StartsAlone d known) insns → HasOne (next d known insns)
+
+schedule_one : Answers TellsSchedule
+schedule_one d known block formed sound all =
+    let (g, slots, is) = some_schedule_of d known block formed sound all in
+    wider (Says 0 (schedule_text d block g slots)) _ (λ s t h. (g, slots, is, h)) (says_one 0 (schedule_text d block g slots))
+
+bound_one : Answers TellsBound
+bound_one d known block formed sound all =
+    let (g, slots, is) = some_schedule_of d known block formed sound all in
+    let (b, bounds) = some_bound_of_a_block d known block g is.graph in
+    wider (Says 0 (text_of_bound d block b slots)) _ (λ s t h. (g, slots, b, is, bounds, h)) (says_one 0 (text_of_bound d block b slots))
+
+blocked_one : (description described block blocked : List ℕ) (next : (d : Description) (known : Known) (insns : List Instruction) → ℕ → List ℕ → Type 0) → Answers next
+    → HasOne (HasDescription description described (λ d known. Compiles description d known (HasBlock block blocked (λ insns. HasClasses block d insns (Starts block d known insns (next d known insns))))))
+blocked_one description described block blocked next one =
+    description_one description described _ (λ d known formed sound.
+    compiles_one description d known _ (λ kept.
     forms_one block blocked _ (λ read reads.
     block_one block read _ (λ insns.
-    classes_one block d insns (Schedules block d known insns) (schedules_one block d known insns formed sound)))))
+    classes_one block d insns _ (starts_one block d known insns (next d known insns) (one d known insns formed sound))))))
 
 -- Tables.
 
@@ -311,7 +329,8 @@ judges_one : (order : Order) → ForTexts (files_of order) (λ texts. HasOne (Ju
 judges_one (replay description trace) = λ described traced. texts_one description described trace traced
 judges_one (compile description) = λ described. compiled_one description described
 judges_one (walk tables trace) = λ tabled traced. walked_one tables tabled trace traced
-judges_one (schedule description block) = λ described blocked. scheduled_one description described block blocked
+judges_one (schedule description block) = λ described blocked. blocked_one description described block blocked TellsSchedule schedule_one
+judges_one (bound description block) = λ described blocked. blocked_one description described block blocked TellsBound bound_one
 judges_one (eval block state) = λ blocked stated. blocks_one block blocked state stated
 judges_one (drill description number turns) = λ described. drilled_one description described number turns
 

@@ -9,14 +9,12 @@ use Rattle.hz_description_model.specs.Check.CheckFaults.{CheckFault, LimitName, 
 use Rattle.hz_description_model.specs.Check.Places.{Known}
 use Rattle.hz_block_model.specs.Running.Blocks.{Instruction}
 use Rattle.hz_block_model.specs.Texts.BlockForms as blocks
-use Rattle.hz_block_model.specs.Scheduling.Schedules.{Graph, Slot}
-use Rattle.hz_block_model.specs.Scheduled.BlockSchedules.{IsScheduleOf}
 use Rattle.hz_answer_model.specs.Texts.{file_line, limit_line}
 use Rattle.hz_answer_model.specs.FaultTexts.{status_by, check_status}
 use Rattle.hz_answer_model.specs.Phases.{Says, Next, HasForms}
 use Rattle.hz_answer_model.specs.BlockAnswers.{IsBlock}
 use Rattle.hz_answer_model.specs.Answers.{Describes, Checks, HasDescription, Compiles}
-use Rattle.hz_answer_model.specs.ScheduleAnswers.{schedule_text, HasClasses, Schedules}
+use Rattle.hz_answer_model.specs.ScheduleAnswers.{HasClasses, Starts}
 use Rattle.hz_answer_model.specs.Headline.{IsDescribed}
 
 -- A file that was read.
@@ -80,6 +78,6 @@ pub classes_of_block : (name : List ℕ) (d : Description) (block : List Instruc
 classes_of_block name d block next text (inl good) = good.1
 classes_of_block name d block next text (inr (i, fault, first, h)) = absurd (omega (arith, h.0))
 
-pub schedule_of : (name : List ℕ) (d : Description) (known : Known) (block : List Instruction) (text : List ℕ) → Schedules name d known block 0 text → (g : Graph) × (slots : List Slot) × IsScheduleOf d known block g slots × (text ≡ schedule_text d block g slots)
-schedule_of name d known block text (inl (all, g, slots, is, h)) = (g, slots, is, h.1)
-schedule_of name d known block text (inr (i, first, h)) = absurd (omega (arith, h.0))
+pub started_of : (name : List ℕ) (d : Description) (known : Known) (block : List Instruction) (next : ℕ → List ℕ → Type 0) (text : List ℕ) → Starts name d known block next 0 text → next 0 text
+started_of name d known block next text (inl good) = good.1
+started_of name d known block next text (inr (i, first, h)) = absurd (omega (arith, h.0))

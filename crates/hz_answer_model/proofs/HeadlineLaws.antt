@@ -1,4 +1,4 @@
--- What `schedule` answers with status 0 is a schedule that keeps its block.
+-- What `schedule` answers with status 0 is a schedule that keeps its block, and what `bound` does a bound of it.
 use Rattle.std.proofs.Common.{◌≡◌, ℕ, inl, Bool, false, List, [], length, Option, Some, MatchOption, MatchBool, nat_lt, ◌≤◌, refl, sym, ap, ◌∙◌, subst, arith}
 use Rattle.std.specs.List.{AllPairs}
 use Rattle.std.proofs.lemmas.Bool.{le-ltb}
@@ -19,50 +19,98 @@ use Rattle.hz_acceptance_model.specs.Traces.TraceLimits.{trace_limit}
 use Rattle.hz_description_model.specs.Check.CheckFaults.{IsSound}
 use Rattle.hz_description_model.specs.Check.Places.{Known}
 use Rattle.hz_block_model.proofs.Texts.Numbers.{all_few}
+use Rattle.hz_block_model.specs.Running.Blocks.{Instruction}
 use Rattle.hz_block_model.specs.Scheduling.Schedules.{Graph, Slot, present, spell}
 use Rattle.hz_block_model.proofs.Scheduled.BlockLaws.{legal_keeps}
 use Rattle.hz_answer_laws.proofs.Schedulable.ScheduleTotal.{short_trace}
 use Rattle.hz_answer_model.specs.Texts.{file_line, limit_line, accepted_line}
 use Rattle.hz_base_model.specs.Names.{Held}
-use Rattle.hz_words_model.specs.Words.{schedule}
+use Rattle.hz_words_model.specs.Words.{schedule, bound}
 use Rattle.hz_answer_model.specs.Phases.{Says, Opens}
-use Rattle.hz_answer_model.specs.BlockAnswers.{block_limit, IsBlock}
-use Rattle.hz_answer_model.specs.Answers.{HasDescription, Judges, AnswersOrder, SchedulesByDescription}
-use Rattle.hz_answer_model.specs.ScheduleAnswers.{HasClasses, Schedules, SchedulesBlock}
-use Rattle.hz_answer_model.specs.Headline.{IsDescribed, WritesSchedule, ReplayAccepts}
-use Rattle.hz_answer_model.proofs.DoneLaws.{opened, formed_of, given_of, compiled_of, block_of, classes_of_block, schedule_of}
+use Rattle.hz_answer_model.specs.BlockAnswers.{block_limit, HasBlock, IsBlock}
+use Rattle.hz_answer_model.specs.Answers.{HasDescription, Compiles, Judges, AnswersOrder, SchedulesByDescription}
+use Rattle.hz_answer_model.specs.ScheduleAnswers.{HasClasses, Starts, TellsSchedule, SchedulesBlock}
+use Rattle.hz_answer_model.specs.BoundAnswers.{TellsBound}
+use Rattle.hz_answer_model.specs.Headline.{IsDescribed, HoldBlock, WritesSchedule, ReplayAccepts, KeepsBound}
+use Rattle.hz_bound_model.proofs.BoundLaws.{bound_of_block}
+use Rattle.hz_answer_model.proofs.DoneLaws.{opened, formed_of, given_of, compiled_of, block_of, classes_of_block, started_of}
 
 -- ---- the promise
 
-pub writes_schedule : (held : Held) (description block text : List ℕ) → AnswersOrder held (schedule description block) 0 text → WritesSchedule held description block text
-writes_schedule held description block text h =
-    let first = opened (held description) description description_limit (λ described. Opens held block block_limit (λ blocked. HasDescription description described (SchedulesByDescription description block blocked))) text h in
-    let second = opened (held block) block block_limit (λ blocked. HasDescription description first.bytes (SchedulesByDescription description block blocked)) text first.answers in
-    let given = given_of description first.bytes (SchedulesByDescription description block second.bytes) text second.answers in
+-- What status 0 tells of a description and a block, whatever follows.
+pub record IsFront (held : Held) (description block : List ℕ) (next : (d : Description) (known : Known) (insns : List Instruction) → ℕ → List ℕ → Type 0) (text : List ℕ) : Type 0 where
+  pub d : Description
+  pub known : Known
+  pub insns : List Instruction
+  pub holds : HoldBlock held description block d known insns
+  pub answers : next d known insns 0 text
+
+-- what a description and a block answer
+abbrev ByBlock : List ℕ → List ℕ → List ℕ → List ℕ → ((d : Description) (known : Known) (insns : List Instruction) → ℕ → List ℕ → Type 0) → ℕ → List ℕ → Type 0
+ByBlock description described block blocked next = HasDescription description described (λ d known. Compiles description d known (HasBlock block blocked (λ insns. HasClasses block d insns (Starts block d known insns (next d known insns)))))
+
+front_of : (held : Held) (description block text : List ℕ) (next : (d : Description) (known : Known) (insns : List Instruction) → ℕ → List ℕ → Type 0)
+    → Opens held description description_limit (λ described. Opens held block block_limit (λ blocked. ByBlock description described block blocked next)) 0 text → IsFront held description block next text
+front_of held description block text next h =
+    let first = opened (held description) description description_limit (λ described. Opens held block block_limit (λ blocked. ByBlock description described block blocked next)) text h in
+    let second = opened (held block) block block_limit (λ blocked. ByBlock description first.bytes block blocked next) text first.answers in
+    let given = given_of description first.bytes (λ d known. Compiles description d known (HasBlock block second.bytes (λ insns. HasClasses block d insns (Starts block d known insns (next d known insns))))) text second.answers in
     let d = given.d in
     let known = given.known in
-    let (read, forms, more) = formed_of block second.bytes (λ read. IsBlock block read (λ insns. HasClasses block d insns (Schedules block d known insns))) text (compiled_of description d known (SchedulesBlock block second.bytes d known) text given.answers).1 in
-    let (insns, says, others) = block_of block read (λ insns. HasClasses block d insns (Schedules block d known insns)) text more in
-    let (g, slots, is, written) = schedule_of block d known insns text (classes_of_block block d insns (Schedules block d known insns) text others) in
-    let formed = can_be_checked d (well_formed ((given.is).read) d ((given.is).says)).0 in
-    let few = all_few [] read insns (omega arith) says in
-    let short = short_trace d known insns g slots formed ((given.is).sound) is in
+    let (read, forms, more) = formed_of block second.bytes (λ read. IsBlock block read (λ insns. HasClasses block d insns (Starts block d known insns (next d known insns)))) text (compiled_of description d known (HasBlock block second.bytes (λ insns. HasClasses block d insns (Starts block d known insns (next d known insns)))) text given.answers).1 in
+    let (insns, says, others) = block_of block read (λ insns. HasClasses block d insns (Starts block d known insns (next d known insns))) text more in
     record {
-      described = first.bytes;
-      blocked = second.bytes;
-      first_file = first.is;
-      second_file = second.is;
       d = d;
       known = known;
       insns = insns;
-      is_described = given.is;
-      is_block = record { read = read; forms = forms; says = says };
+      holds = record { described = first.bytes; blocked = second.bytes; first_file = first.is; second_file = second.is; is_described = given.is; is_block = record { read = read; forms = forms; says = says } };
+      answers = started_of block d known insns (next d known insns) text (classes_of_block block d insns (Starts block d known insns (next d known insns)) text others);
+    }
+
+pub writes_schedule : (held : Held) (description block text : List ℕ) → AnswersOrder held (schedule description block) 0 text → WritesSchedule held description block text
+writes_schedule held description block text h =
+    let front = front_of held description block text TellsSchedule h in
+    let holds = front.holds in
+    let (g, slots, is, written) = front.answers in
+    let described = holds.is_described in
+    let formed = can_be_checked front.d (well_formed described.read front.d described.says).0 in
+    let few = all_few [] (holds.is_block).read front.insns (omega arith) (holds.is_block).says in
+    let short = short_trace front.d front.known front.insns g slots formed described.sound is in
+    record {
+      described = holds.described;
+      blocked = holds.blocked;
+      first_file = holds.first_file;
+      second_file = holds.second_file;
+      d = front.d;
+      known = front.known;
+      insns = front.insns;
+      is_described = described;
+      is_block = holds.is_block;
       g = g;
       slots = slots;
       graph = is.graph;
-      keeps = legal_keeps d known insns g slots is.graph is.legal;
+      keeps = legal_keeps front.d front.known front.insns g slots is.graph is.legal;
       short = omega (arith, few, short);
-      text_is = written;
+      text_is = written.1;
+    }
+
+pub keeps_bound : (held : Held) (description block text : List ℕ) → AnswersOrder held (bound description block) 0 text → KeepsBound held description block text
+keeps_bound held description block text h =
+    let front = front_of held description block text TellsBound h in
+    let (g, slots, b, is, bounds, written) = front.answers in
+    record {
+      d = front.d;
+      known = front.known;
+      insns = front.insns;
+      holds = front.holds;
+      g = g;
+      graph = is.graph;
+      b = b;
+      is_bound = bounds;
+      none_shorter = λ others legal. bound_of_block front.d front.known front.insns g b others is.graph bounds legal;
+      slots = slots;
+      keeps = legal_keeps front.d front.known front.insns g slots is.graph is.legal;
+      text_is = written.1;
     }
 
 -- ---- what `replay` answers

@@ -24,6 +24,10 @@ IsBlock name read next status text =
     ((block : List Instruction) × blocks.Reads read block × next block status text)
     ⊎ TellsFault rtl_word (blocks.FaultAt read) name status text
 
+-- the block of a text: its forms, and what they are
+abbrev pub HasBlock : List ℕ → List ℕ → Next (List Instruction) → ℕ → List ℕ → Type 0
+HasBlock name bytes next = HasForms name bytes (λ read. IsBlock name read next)
+
 -- the state that forms give, or the first wrong one
 abbrev pub IsState : List ℕ → Trees → Next State → ℕ → List ℕ → Type 0
 IsState name read next status text =

@@ -1,4 +1,4 @@
--- What is written of a schedule, of tables and of a drill, and what `replay` and `walk` answer of them, in the words of the promise: README.md.
+-- What is written of a schedule, of tables, of a drill and of a bound, and what `replay` and `walk` answer of them, in the words of the promise: README.md.
 use Rattle.std.specs.Prelude.{⊤, ◌≡◌, ◌↔◌, ℕ, ◌≤◌, ◌<◌, false, List, length, Some}
 use Rattle.hz_base_model.specs.Forms.Trees.{Trees}
 use Rattle.hz_base_model.specs.Forms.Forms as forms
@@ -13,15 +13,17 @@ use Rattle.hz_automata_model.specs.Compiling.Compiled.{shows_states}
 use Rattle.hz_acceptance_model.specs.Pipelines.Pipelines.{pipeline_with}
 use Rattle.hz_block_model.specs.Running.Blocks.{Instruction}
 use Rattle.hz_block_model.specs.Texts.BlockForms as blocks
-use Rattle.hz_block_model.specs.Scheduling.Schedules.{Graph, Slot, present, spell}
+use Rattle.hz_block_model.specs.Scheduling.Schedules.{Graph, Slot, Legal, present, spell}
 use Rattle.hz_block_model.specs.Scheduled.BlockGraphs.{IsGraphOf}
 use Rattle.hz_block_model.specs.Scheduled.BlockSchedules.{KeepsBlock}
 use Rattle.hz_acceptance_model.specs.Traces.Traces.{Trace}
 use Rattle.hz_tabtext_model.specs.Texts.{TableText}
+use Rattle.hz_bound_model.specs.Bounds.{Bound, IsBoundOf}
+use Rattle.hz_bound_model.specs.Texts.{text_of_bound}
 use Rattle.hz_answer_model.specs.Answers.{AnswersOrder}
 use Rattle.hz_answer_model.specs.DrillAnswers.{IsDrillOf}
 use Rattle.hz_base_model.specs.Names.{Held}
-use Rattle.hz_words_model.specs.Words.{Order, compile, replay, walk, schedule, drill}
+use Rattle.hz_words_model.specs.Words.{Order, compile, replay, walk, schedule, drill, bound}
 use Rattle.hz_answer_model.specs.Texts.{accepted_line}
 use Rattle.hz_answer_model.specs.ScheduleAnswers.{schedule_text}
 use Rattle.hz_answer_model.specs.TableAnswers.{tables_limit, IsTablesOf}
@@ -38,6 +40,15 @@ pub record IsBlockIn (bytes : List ℕ) (block : List Instruction) : Type 0 wher
   pub read : Trees
   pub forms : forms.Reads bytes read
   pub says : blocks.Reads read block
+
+-- A description and a block are held.
+pub record HoldBlock (held : Held) (description block : List ℕ) (d : Description) (known : Known) (insns : List Instruction) : Type 0 where
+  pub described : List ℕ
+  pub blocked : List ℕ
+  pub first_file : held description ≡ Some described
+  pub second_file : held block ≡ Some blocked
+  pub is_described : IsDescribed described d known
+  pub is_block : IsBlockIn blocked insns
 
 -- The text is that of a schedule of the block by the description: it has the block's instructions each once, every latency and
 -- bypass is kept, the description accepts their trace, which has fewer advances than a trace may have, and their order leaves from
@@ -114,9 +125,27 @@ pub record KeepsDrill (held : Held) (description : List ℕ) (number turns : ℕ
   pub writes : WritesDrill held description number turns text
   pub replays : ReplayAcceptsEvents held description writes.d writes.drill.events
 
+-- What is written is the bound of the block that is held, with what shows it: the chain, along which the dependences cost its path,
+-- and the unit of the greatest load. No legal schedule of the block ends before it, in either treatment. The last line is of the
+-- block's schedule, which keeps the block.
+pub record KeepsBound (held : Held) (description block text : List ℕ) : Type 0 where
+  pub d : Description
+  pub known : Known
+  pub insns : List Instruction
+  pub holds : HoldBlock held description block d known insns
+  pub g : Graph
+  pub graph : IsGraphOf d insns g
+  pub b : Bound
+  pub is_bound : IsBoundOf d known g b
+  pub none_shorter : (others : List Slot) → Legal (Accepted (pipeline_with d known)) g others → b.value ≤ present 0 others
+  pub slots : List Slot
+  pub keeps : KeepsBlock d known insns g slots
+  pub text_is : text ≡ text_of_bound d insns b slots
+
 -- What status 0 promises of the text that is written, beside that it is the answer: one case for each command that promises more.
 abbrev pub Promised : Held → Order → List ℕ → Type 0
 Promised held (compile description) text = KeepsTables held description text
 Promised held (schedule description block) text = KeepsSchedule held description block text
 Promised held (drill description number turns) text = KeepsDrill held description number turns text
+Promised held (bound description block) text = KeepsBound held description block text
 Promised held _ text = ⊤

@@ -3,6 +3,7 @@ pub mod FaultTexts
 pub mod Phases
 pub mod BlockAnswers
 pub mod ScheduleAnswers
+pub mod BoundAnswers
 pub mod TableAnswers
 pub mod DrillAnswers
 pub mod Answers

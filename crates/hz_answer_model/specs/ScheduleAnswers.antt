@@ -8,9 +8,9 @@ use Rattle.hz_block_model.specs.Dependences.Classes.{ClassFault}
 use Rattle.hz_block_model.specs.Scheduling.Schedules.{Graph, Slot, class_at, present}
 use Rattle.hz_block_model.specs.Scheduled.BlockGraphs.{class_in, IsFirstClassFault}
 use Rattle.hz_block_model.specs.Scheduled.BlockSchedules.{StartsAlone, IsFirstStuck, IsScheduleOf}
-use Rattle.hz_answer_model.specs.BlockAnswers.{IsBlock}
+use Rattle.hz_answer_model.specs.BlockAnswers.{HasBlock}
 use Rattle.hz_answer_model.specs.FaultTexts.{class_line, stuck_line}
-use Rattle.hz_answer_model.specs.Phases.{Says, HasForms}
+use Rattle.hz_answer_model.specs.Phases.{Says}
 use Rattle.hz_answer_model.specs.Texts.{slot_line, scheduled_line}
 
 -- the line of a slot: its cycle, and the instruction's number and class
@@ -27,13 +27,23 @@ HasClasses name d block next status text =
     (All (λ i. (class : ℕ) × (class_in d i ≡ Ok class)) block × next status text)
     ⊎ ((i : Instruction) × (fault : ClassFault) × IsFirstClassFault d block i fault × Says 2 (class_line name (class_names d) i fault) status text)
 
+-- the first instruction of a block that can't be issued from the start is told
+abbrev pub TellsStuck : List ℕ → Description → Known → List Instruction → ℕ → List ℕ → Type 0
+TellsStuck name d known block status text = (i : Instruction) × IsFirstStuck d known block i × Says 2 (stuck_line name i) status text
+
+-- each instruction of a block can be issued from the start, or the first that can't
+abbrev pub Starts : List ℕ → Description → Known → List Instruction → (ℕ → List ℕ → Type 0) → ℕ → List ℕ → Type 0
+Starts name d known block next status text = (All (StartsAlone d known) block × next status text) ⊎ TellsStuck name d known block status text
+
+-- the schedule of a block is told
+abbrev pub TellsSchedule : Description → Known → List Instruction → ℕ → List ℕ → Type 0
+TellsSchedule d known block status text = (g : Graph) × (slots : List Slot) × IsScheduleOf d known block g slots × Says 0 (schedule_text d block g slots) status text
+
 -- the schedule of a block whose instructions have classes, where each of them can be issued from the start, or the first that can't
 abbrev pub Schedules : List ℕ → Description → Known → List Instruction → ℕ → List ℕ → Type 0
-Schedules name d known block status text =
-    (All (StartsAlone d known) block × (g : Graph) × (slots : List Slot) × IsScheduleOf d known block g slots × Says 0 (schedule_text d block g slots) status text)
-    ⊎ ((i : Instruction) × IsFirstStuck d known block i × Says 2 (stuck_line name i) status text)
+Schedules name d known block = Starts name d known block (TellsSchedule d known block)
 
 -- the block of this name is judged, and scheduled
 abbrev pub SchedulesBlock : List ℕ → List ℕ → Description → Known → ℕ → List ℕ → Type 0
 SchedulesBlock block blocked d known =
-    HasForms block blocked (λ read. IsBlock block read (λ insns. HasClasses block d insns (Schedules block d known insns)))
+    HasBlock block blocked (λ insns. HasClasses block d insns (Schedules block d known insns))

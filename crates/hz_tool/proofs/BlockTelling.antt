@@ -6,7 +6,7 @@ use Rattle.std.specs.Option.{option_map}
 use Rattle.std.proofs.lemmas.Option.{slice_get-map}
 use Rattle.hz_answer_model.specs.FaultTexts.{class_line, stuck_line}
 use Rattle.hz_answer_model.specs.Phases.{Says}
-use Rattle.hz_answer_model.specs.ScheduleAnswers.{HasClasses, Schedules}
+use Rattle.hz_answer_model.specs.ScheduleAnswers.{HasClasses, Starts}
 use Rattle.hz_answer_model.specs.Texts.{fault_text}
 use Rattle.hz_block_model.specs.Dependences.Classes.{ClassFault, class_word, classes_named}
 use Rattle.hz_block_model.specs.Running.Blocks.{Instruction}
@@ -38,11 +38,11 @@ stuck_within n (sched.CannotStartAlone place) low = low place refl
 stuck_within n sched.NoMemory low = tt
 
 -- what is told is the answer, where what is told first can't be issued
-pub stuck_told : (file : Bor (List ℕ)) (d : Description) (known : Known) (insns : List Insn) (fault : SchedFault) (told : Decision) → ((place : ℕ) (i : Instruction) → alone_in (Err fault) ≡ Some place → slice_get (map instruction insns) place ≡ Some i → IsFirstStuck d known (map instruction insns) i)
-    → TellsStuck file insns fault told → Agrees (Schedules file.now d known (map instruction insns)) told
-stuck_told file d known insns (sched.CannotStartAlone place) told first (insn, there, h) =
-    stuck_refused file.now d known (map instruction insns) told (instruction insn) (first place (instruction insn) refl (slice_get-map instruction insns place ∙ ap (option_map instruction) there)) h
-stuck_told file d known insns sched.NoMemory told first is = subst (Agrees (Schedules file.now d known (map instruction insns))) (sym is) tt
+pub stuck_told : (file : Bor (List ℕ)) (d : Description) (known : Known) (insns : List Insn) (next : ℕ → List ℕ → Type 0) (fault : SchedFault) (told : Decision) → ((place : ℕ) (i : Instruction) → alone_in (Err fault) ≡ Some place → slice_get (map instruction insns) place ≡ Some i → IsFirstStuck d known (map instruction insns) i)
+    → TellsStuck file insns fault told → Agrees (Starts file.now d known (map instruction insns) next) told
+stuck_told file d known insns next (sched.CannotStartAlone place) told first (insn, there, h) =
+    stuck_refused file.now d known (map instruction insns) told (instruction insn) next (first place (instruction insn) refl (slice_get-map instruction insns place ∙ ap (option_map instruction) there)) h
+stuck_told file d known insns next sched.NoMemory told first is = subst (Agrees (Starts file.now d known (map instruction insns) next)) (sym is) tt
 
 -- the instruction is one of the block and the classes are of the description, where each that is told is
 pub wrong_in : (count insns : ℕ) (fault : DependFault) → ((place : ℕ) (e : ClassFault) → class_fault_in (Err fault) ≡ Some (place, e) → (place < insns) × IsFaultIn count e) → IsWrongIn count insns fault

@@ -3,7 +3,7 @@ use Rattle.std.specs.Prelude.{Ok}
 use Rattle.std.proofs.Common.{◌≡◌, ℕ, All, List, inl, inr, ⊎_elim, ap, ◌∙◌}
 use Rattle.hz_answer_model.specs.Answers.{TellsDescription, Describes, TellsCheck, Checks, HasDescription}
 use Rattle.hz_answer_model.specs.Phases.{Says, Next, TellsFault, HasForms}
-use Rattle.hz_answer_model.specs.ScheduleAnswers.{HasClasses, Schedules}
+use Rattle.hz_answer_model.specs.ScheduleAnswers.{HasClasses, Starts}
 use Rattle.hz_block_model.specs.Dependences.Classes.{ClassFault}
 use Rattle.hz_block_model.specs.Scheduled.BlockGraphs.{class_in, IsFirstClassFault}
 use Rattle.hz_block_model.specs.Scheduled.BlockSchedules.{IsFirstStuck}
@@ -15,12 +15,14 @@ use Rattle.hz_answer_model.specs.FaultTexts.{class_line, stuck_line}
 use Rattle.hz_base_model.specs.Forms.Forms.{form_word}
 use Rattle.hz_base_model.specs.Forms.Forms as forms
 use Rattle.hz_base_model.specs.Forms.Trees.{Trees}
-use Rattle.hz_answer_model.specs.BlockAnswers.{IsBlock, IsState}
+use Rattle.hz_answer_model.specs.BlockAnswers.{HasBlock, IsBlock, IsState}
 use Rattle.hz_block_model.specs.Running.Blocks.{Instruction}
 use Rattle.hz_block_model.specs.Running.States.{State}
 use Rattle.hz_block_model.specs.Texts.Operands.{rtl_word}
 use Rattle.hz_block_model.specs.Texts.BlockForms as blocks
 use Rattle.hz_block_model.specs.Texts.StateForms as states
+use Rattle.hz_answer_model.specs.Headline.{IsBlockIn}
+use Rattle.hz_tool.specs.Blocks.{Nothing}
 use Rattle.hz_tool.proofs.AnswerLemmas.{agrees_weaker}
 use Rattle.hz_check.specs.declared.checked.Checked.{Checked}
 use Rattle.hz_tool.specs.Fronts.{IsCheckedIn, TellsDescribed}
@@ -76,6 +78,30 @@ block_on name read block next report is = agrees_weaker (next block) (IsBlock na
 pub state_on : (name : List ℕ) (read : Trees) (state : State) (next : Next State) (report : Decision) → states.Reads read state → Agrees (next state) report → Agrees (IsState name read next) report
 state_on name read state next report is = agrees_weaker (next state) (IsState name read next) (λ s t a. inl (state, is, a)) report
 
+-- a text that is no block is told, whatever would follow
+pub text_refused : (name bytes : List ℕ) (next : Next (List Instruction)) (told : Decision) → Agrees (HasBlock name bytes (λ insns. Nothing)) told → Agrees (HasBlock name bytes next) told
+text_refused name bytes next = agrees_weaker (HasBlock name bytes (λ insns. Nothing)) (HasBlock name bytes next) by_forms
+  where
+    by_block : (read : Trees) (s : ℕ) (t : List ℕ) → IsBlock name read (λ insns. Nothing) s t → IsBlock name read next s t
+    by_block read s t (inl (block, says, none)) = absurd none
+    by_block read s t (inr wrong) = inr wrong
+
+    by_forms : (s : ℕ) (t : List ℕ) → HasBlock name bytes (λ insns. Nothing) s t → HasBlock name bytes next s t
+    by_forms s t (inl (read, is, more)) = inl (read, is, by_block read s t more)
+    by_forms s t (inr wrong) = inr wrong
+
+-- a text that is a block leads on
+pub text_on : (name bytes : List ℕ) (insns : List Instruction) (next : Next (List Instruction)) (report : Decision) → IsBlockIn bytes insns → Agrees (next insns) report → Agrees (HasBlock name bytes next) report
+text_on name bytes insns next report is h = forms_on name bytes is.read (λ read. IsBlock name read next) report is.forms (block_on name is.read insns next report is.says h)
+
+-- a class that is wrong is told, whatever would follow
+pub classes_refused : (name : List ℕ) (d : Description) (block : List Instruction) (next : ℕ → List ℕ → Type 0) (told : Decision) → Agrees (HasClasses name d block Nothing) told → Agrees (HasClasses name d block next) told
+classes_refused name d block next = agrees_weaker (HasClasses name d block Nothing) (HasClasses name d block next) by_classes
+  where
+    by_classes : (s : ℕ) (t : List ℕ) → HasClasses name d block Nothing s t → HasClasses name d block next s t
+    by_classes s t (inl (all, none)) = absurd none
+    by_classes s t (inr wrong) = inr wrong
+
 -- the instructions of a block have classes
 pub classes_on : (name : List ℕ) (d : Description) (block : List Instruction) (next : ℕ → List ℕ → Type 0) (report : Decision) → All (λ i. (class : ℕ) × (class_in d i ≡ Ok class)) block → Agrees next report → Agrees (HasClasses name d block next) report
 classes_on name d block next report all = agrees_weaker next (HasClasses name d block next) (λ s t a. inl (all, a)) report
@@ -88,5 +114,5 @@ class_refused name d names block next report i fault same first =
     (λ s t a. inr (i, fault, first, (a.0, a.1 ∙ ap (λ (ns : List (List ℕ)). class_line name ns i fault) same))) report
 
 -- the first that can't be issued from the start is told
-pub stuck_refused : (name : List ℕ) (d : Description) (known : Known) (block : List Instruction) (report : Decision) (i : Instruction) → IsFirstStuck d known block i → Agrees (Says 2 (stuck_line name i)) report → Agrees (Schedules name d known block) report
-stuck_refused name d known block report i first = agrees_weaker (Says 2 (stuck_line name i)) (Schedules name d known block) (λ s t a. inr (i, first, a)) report
+pub stuck_refused : (name : List ℕ) (d : Description) (known : Known) (block : List Instruction) (report : Decision) (i : Instruction) (next : ℕ → List ℕ → Type 0) → IsFirstStuck d known block i → Agrees (Says 2 (stuck_line name i)) report → Agrees (Starts name d known block next) report
+stuck_refused name d known block report i next first = agrees_weaker (Says 2 (stuck_line name i)) (Starts name d known block next) (λ s t a. inr (i, first, a)) report

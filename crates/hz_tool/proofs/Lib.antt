@@ -1,5 +1,6 @@
 pub mod AnswerLemmas
 pub mod BlockLemmas
+pub mod BoundLemmas
 pub mod BlockTelling
 pub mod JudgeLemmas
 pub mod MachineLemmas

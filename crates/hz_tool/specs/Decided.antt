@@ -1,7 +1,11 @@
 -- The text and the status of what is decided.
 use Rattle.std.specs.Prelude.{⊤, ℕ, List, map}
 use Rattle.hz_answer_model.specs.Texts as model
+use Rattle.hz_block_model.specs.Scheduling.Schedules.{present}
 use Rattle.hz_block_model.specs.Texts.StateTexts.{listing_text}
+use Rattle.hz_bound.specs.Shape.{names_of, bound_of}
+use Rattle.hz_bound.specs.Shape as bounds
+use Rattle.hz_bound_model.specs.Texts.{bound_text}
 use Rattle.hz_check.specs.Faults.{limit_of}
 use Rattle.hz_description_model.specs.Check.CheckFaults.{limit_word}
 use Rattle.hz_base_model.specs.Told.{told_in}
@@ -12,7 +16,7 @@ use Rattle.hz_tabfile.specs.Saying.{says, IsSayable}
 use Rattle.hz_tabtext_model.specs.Texts.{spelled}
 use Rattle.hz_words_model.specs.Words.{usage_line}
 use Rattle.hz_tool.specs.declared.decision.Decision.{Decision}
-use Rattle.hz_tool.specs.declared.decision.Decision.TheVariants.{Accepted, Refused, Tables, Scheduled, Drilled, After, Fault, Limit, Automaton, Bytes, Usage, Memory, File}
+use Rattle.hz_tool.specs.declared.decision.Decision.TheVariants.{Accepted, Refused, Tables, Scheduled, Bounded, Drilled, After, Fault, Limit, Automaton, Bytes, Usage, Memory, File}
 
 -- the text that is written
 abbrev pub text_of : Decision → List ℕ
@@ -20,6 +24,7 @@ text_of (Accepted issues cycles) = model.accepted_line issues cycles
 text_of (Refused line class) = model.refused_line line class
 text_of (Tables compiled checked) = spelled (says compiled checked)
 text_of (Scheduled machine graph schedule) = schedule_by machine.classes.items (map (λ i. i.number) graph.insns.items) (graph_of graph) (slots_of schedule.slots.items)
+text_of (Bounded checked graph schedule bound) = bound_text (names_of checked) (map (λ i. i.number) graph.insns.items) (bound_of bound) (present 0 (slots_of schedule.slots.items))
 text_of (Drilled turns issues cycles states) = model.drill_text turns issues cycles states.items
 text_of (After state) = listing_text (listing state)
 text_of (Fault file line kind insn first second at) = model.fault_text file.now line kind.now insn first second (told_in at)
@@ -36,6 +41,7 @@ status_of (Accepted issues cycles) = 0
 status_of (Refused line class) = 1
 status_of (Tables compiled checked) = 0
 status_of (Scheduled machine graph schedule) = 0
+status_of (Bounded checked graph schedule bound) = 0
 status_of (Drilled turns issues cycles states) = 0
 status_of (After state) = 0
 status_of (Fault file line kind insn first second at) = 2
@@ -46,8 +52,10 @@ status_of Usage = 4
 status_of Memory = 5
 status_of (File name) = 6
 
--- what is named is there to be told: what is told of each automaton of tables, the instructions and the classes of a schedule
+-- what is named is there to be told: what is told of each automaton of tables, the instructions and the classes of a schedule,
+-- the instructions and the unit of a bound
 abbrev pub IsTellable : Decision → Type 0
 IsTellable (Tables compiled checked) = IsSayable compiled checked
 IsTellable (Scheduled machine graph schedule) = IsInRange machine graph schedule
+IsTellable (Bounded checked graph schedule bound) = bounds.IsInRange checked graph bound
 IsTellable _ = ⊤

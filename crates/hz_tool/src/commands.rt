@@ -1,5 +1,6 @@
 //! The commands, each by the word that is typed: its phases in their order, over texts that are read.
 
+pub(crate) mod bound;
 pub(crate) mod compile;
 pub(crate) mod drill;
 pub(crate) mod eval;

@@ -5,6 +5,7 @@ ghost use Rattle.hz_io.specs.Sink.{Writes};
 ghost use Rattle.hz_tool.specs.Decided.{status_of, text_of, IsTellable};
 
 use hz_auto::Compiled;
+use hz_bound::{Bound, write_bound};
 use hz_check::{Checked, LimitName};
 use hz_depend::Graph;
 use hz_io::{Failed, Sink};
@@ -38,6 +39,13 @@ pub enum Decision<'a> {
         machine: Machine,
         graph: Graph,
         schedule: Schedule,
+    },
+    /// The bound of a block, with its schedule: the description has the names of its units, the graph its instructions.
+    Bounded {
+        checked: Checked,
+        graph: Graph,
+        schedule: Schedule,
+        bound: Bound,
     },
     /// A drill: its turns, the issues and cycles of its trace, and the state in which the trace leaves each automaton.
     Drilled {
@@ -96,6 +104,7 @@ impl Decision<'_> {
             Decision::Accepted { .. }
             | Decision::Tables { .. }
             | Decision::Scheduled { .. }
+            | Decision::Bounded { .. }
             | Decision::Drilled { .. }
             | Decision::After { .. } => 0,
             Decision::Refused { .. } => 1,
@@ -138,6 +147,12 @@ impl Decision<'_> {
                 },
                 out,
             ),
+            Decision::Bounded {
+                checked,
+                graph,
+                schedule,
+                bound,
+            } => write_bound(bound, checked, graph, schedule, out),
             Decision::Drilled {
                 turns,
                 issues,

@@ -1,5 +1,6 @@
 //! The phases that commands share: files read, texts judged, machines compiled, and what is decided of each fault.
 
+pub(crate) mod blocks;
 pub(crate) mod compiling;
 pub(crate) mod describing;
 pub(crate) mod judging;

@@ -6,7 +6,7 @@ use Rattle.hz_words_model.specs.Words as model
 use Rattle.hz_tool_words.specs.declared.arguments.Argument.{Argument}
 use Rattle.hz_tool_words.specs.declared.arguments.Argument.TheVariants.{File, Value}
 use Rattle.hz_tool_words.specs.declared.order.Order.{Order}
-use Rattle.hz_tool_words.specs.declared.order.Order.TheVariants.{Compile, Replay, Walk, Schedule, Eval, Drill}
+use Rattle.hz_tool_words.specs.declared.order.Order.TheVariants.{Compile, Replay, Walk, Schedule, Eval, Drill, Bound}
 
 -- the bytes of words
 abbrev pub words_in : List (String Global) → List (List ℕ)
@@ -33,3 +33,4 @@ order_in (Walk order) = model.walk order.tables.now order.trace.now
 order_in (Schedule order) = model.schedule order.description.now order.block.now
 order_in (Eval order) = model.eval order.block.now order.state.now
 order_in (Drill order) = model.drill order.description.now order.number order.turns
+order_in (Bound order) = model.bound order.description.now order.block.now

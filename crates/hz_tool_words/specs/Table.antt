@@ -2,7 +2,7 @@
 use Rattle.std.specs.Prelude.{◌≤◌, List, Option, length, map}
 use Rattle.hz_words_model.specs.Words as model
 use Rattle.hz_tool_words.specs.declared.table.Verb.{Verb}
-use Rattle.hz_tool_words.specs.declared.table.Verb.TheVariants.{Compile, Replay, Walk, Schedule, Eval, Drill}
+use Rattle.hz_tool_words.specs.declared.table.Verb.TheVariants.{Compile, Replay, Walk, Schedule, Eval, Drill, Bound}
 use Rattle.hz_tool_words.specs.declared.table.Operand.{Operand}
 use Rattle.hz_tool_words.specs.declared.table.Operand.TheVariants.{Description, Trace, Tables, Block, State, Number, Turns}
 use Rattle.hz_tool_words.specs.declared.table.Row.{Row}
@@ -25,6 +25,7 @@ make_of Walk = model.on_two model.walk
 make_of Schedule = model.on_two model.schedule
 make_of Eval = model.on_two model.eval
 make_of Drill = model.with_numbers model.drill
+make_of Bound = model.on_two model.bound
 
 -- a row as a command of the definitions
 abbrev pub command_in : Row → model.Command

@@ -8,7 +8,7 @@ ghost use Rattle.hz_words_model.specs.Words as model;
 
 use super::numbers::number_in;
 use super::order::{
-    CompileOrder, DrillOrder, EvalOrder, Order, ReplayOrder, ScheduleOrder, WalkOrder,
+    BoundOrder, CompileOrder, DrillOrder, EvalOrder, Order, ReplayOrder, ScheduleOrder, WalkOrder,
 };
 use super::table::{Operand, Verb};
 
@@ -103,6 +103,10 @@ pub fn make_order<'a>(verb: Verb, arguments: &[Argument<'a>]) -> Option<Order<'a
                 number,
                 turns,
             }))
+        }
+        Verb::Bound => {
+            let (description, block) = two_files(arguments)?;
+            Some(Order::Bound(BoundOrder { description, block }))
         }
     }
 }

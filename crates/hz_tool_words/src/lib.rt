@@ -9,7 +9,7 @@ mod reading;
 mod table;
 
 pub use order::{
-    CompileOrder, DrillOrder, EvalOrder, Order, ReplayOrder, ScheduleOrder, WalkOrder,
+    BoundOrder, CompileOrder, DrillOrder, EvalOrder, Order, ReplayOrder, ScheduleOrder, WalkOrder,
 };
 pub use reading::order_of;
 pub use table::usage;

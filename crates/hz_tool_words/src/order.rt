@@ -42,6 +42,13 @@ pub struct DrillOrder<'a> {
     pub turns: u32,
 }
 
+/// `bound DESC BLOCK`: the names of the two files.
+#[derive(Clone, Copy, Debug)]
+pub struct BoundOrder<'a> {
+    pub description: &'a str,
+    pub block: &'a str,
+}
+
 /// A command with the names of its files and its numbers.
 #[derive(Clone, Copy, Debug)]
 pub enum Order<'a> {
@@ -51,4 +58,5 @@ pub enum Order<'a> {
     Schedule(ScheduleOrder<'a>),
     Eval(EvalOrder<'a>),
     Drill(DrillOrder<'a>),
+    Bound(BoundOrder<'a>),
 }

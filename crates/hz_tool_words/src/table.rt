@@ -26,6 +26,7 @@ pub enum Verb {
     Schedule,
     Eval,
     Drill,
+    Bound,
 }
 
 /// A row of the table: the name of a command, its operands in their order, and which command it is.
@@ -37,7 +38,7 @@ pub struct Row {
 }
 
 /// The commands, in the order of the usage line. A command has one to three operands.
-const COMMANDS: [Row; 6] = [
+const COMMANDS: [Row; 7] = [
     Row {
         name: "compile",
         operands: &[Operand::Description],
@@ -68,6 +69,11 @@ const COMMANDS: [Row; 6] = [
         operands: &[Operand::Description, Operand::Number, Operand::Turns],
         verb: Verb::Drill,
     },
+    Row {
+        name: "bound",
+        operands: &[Operand::Description, Operand::Block],
+        verb: Verb::Bound,
+    },
 ];
 
 /// The row of the command of this name.
@@ -82,5 +88,5 @@ pub fn find_row(name: &str) -> Option<&'static Row>
 pub fn usage() -> &'static str
     ensures { result.now ≡ model.usage_line }
 {
-    "usage: hz compile DESC | replay DESC TRACE | walk TABLES TRACE | schedule DESC BLOCK | eval BLOCK STATE | drill DESC NUMBER COUNT\n"
+    "usage: hz compile DESC | replay DESC TRACE | walk TABLES TRACE | schedule DESC BLOCK | eval BLOCK STATE | drill DESC NUMBER COUNT | bound DESC BLOCK\n"
 }

@@ -13,6 +13,7 @@ pub data Order : Type 0 where
   schedule : (description block : List ℕ) → Order
   eval : (block state : List ℕ) → Order
   drill : (description : List ℕ) → (number turns : ℕ) → Order
+  bound : (description block : List ℕ) → Order
 
 -- The kinds of operands. The first five are files.
 pub data Operand : Type 0 where
@@ -107,6 +108,7 @@ commands =
     ∷ record { name = codes "schedule"; operands = description ∷ block ∷ []; make = on_two schedule }
     ∷ record { name = codes "eval"; operands = block ∷ state ∷ []; make = on_two eval }
     ∷ record { name = codes "drill"; operands = description ∷ number ∷ turns ∷ []; make = with_numbers drill }
+    ∷ record { name = codes "bound"; operands = description ∷ block ∷ []; make = on_two bound }
     ∷ []
 
 -- the command of this name

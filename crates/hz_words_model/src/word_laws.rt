@@ -3,7 +3,7 @@
 ghost use Rattle.std.specs.Prelude.{◌≡◌, ◌==◌, ℕ, true, false, List, [], ◌∷◌, Some, codes};
 ghost use Rattle.std.specs.List.{count_by, list_all};
 ghost use Rattle.std.specs.Str.{bytes_eq};
-ghost use Rattle.hz_words_model.specs.Words.{commands, compile, replay, walk, schedule, eval, drill, has_option, number_in, number_limit, order_of, turn_limit, usage_line};
+ghost use Rattle.hz_words_model.specs.Words.{commands, compile, replay, walk, schedule, eval, drill, bound, has_option, number_in, number_limit, order_of, turn_limit, usage_line};
 
 /// What the words of each command ask for, if none of its operands begins with `-`.
 pub fn commands_ask()
@@ -14,6 +14,7 @@ pub fn commands_ask()
     ensures evaluates { (b s : List ℕ) → has_option (b ∷ s ∷ []) ≡ false → order_of (codes "eval" ∷ b ∷ s ∷ []) ≡ Some (eval b s) }
     ensures drills { (d n c : List ℕ) (number turns : ℕ) → has_option (d ∷ n ∷ c ∷ []) ≡ false → number_in number_limit n ≡ Some number → number_in turn_limit c ≡ Some turns
         → order_of (codes "drill" ∷ d ∷ n ∷ c ∷ []) ≡ Some (drill d number turns) }
+    ensures bounds { (d b : List ℕ) → has_option (d ∷ b ∷ []) ≡ false → order_of (codes "bound" ∷ d ∷ b ∷ []) ≡ Some (bound d b) }
 {}
 
 /// No two commands have one name.
@@ -23,5 +24,5 @@ pub fn names_differ()
 
 /// The text of the usage line.
 pub fn usage_names_commands()
-    ensures { usage_line ≡ codes "usage: hz compile DESC | replay DESC TRACE | walk TABLES TRACE | schedule DESC BLOCK | eval BLOCK STATE | drill DESC NUMBER COUNT\n" }
+    ensures { usage_line ≡ codes "usage: hz compile DESC | replay DESC TRACE | walk TABLES TRACE | schedule DESC BLOCK | eval BLOCK STATE | drill DESC NUMBER COUNT | bound DESC BLOCK\n" }
 {}

@@ -5,7 +5,7 @@ use Rattle.hz_tool.specs.Decisions.{Agrees}
 use Rattle.hz_tool.specs.Reading.{texts_in}
 use Rattle.hz_tool_words.specs.Shape.{order_in}
 use Rattle.hz_tool_words.specs.declared.order.Order.{Order}
-use Rattle.hz_tool_words.specs.declared.order.Order.TheVariants.{Replay, Walk, Schedule, Eval, Drill}
+use Rattle.hz_tool_words.specs.declared.order.Order.TheVariants.{Replay, Walk, Schedule, Eval, Drill, Bound}
 use Rattle.hz_tool.proofs.top.judge_order.Goals as goal
 
 pub returns-in-Replay-clause-answer : goal.returns-in-Replay-clause-answer
@@ -35,6 +35,13 @@ returns-in-Eval-clause-answer c =
     (subst (λ (texts : List (List ℕ)). Agrees (JudgesOrder (order_in (Eval c.in-Eval.order)) texts) c.judge_eval.result)
     (two_texts c.args.texts.now _ _ _ _ (c.requires.count ∙ ap (λ (o : Order). length (files_of (order_in o))) c.in-Eval.is) c.index-texts-0-in-Eval.is c.index-texts-1-in-Eval.is c.as_slice-in-Eval.ensures.value c.as_slice-in-Eval-2.ensures.value)
     c.judge_eval.ensures.answer)
+
+pub returns-in-Bound-clause-answer : goal.returns-in-Bound-clause-answer
+returns-in-Bound-clause-answer c =
+    subst (λ (o : Order). Agrees (JudgesOrder (order_in o) (texts_in c.args.texts.now)) c.judge_bound.result) (sym c.in-Bound.is)
+    (subst (λ (texts : List (List ℕ)). Agrees (JudgesOrder (order_in (Bound c.in-Bound.order)) texts) c.judge_bound.result)
+    (two_texts c.args.texts.now _ _ _ _ (c.requires.count ∙ ap (λ (o : Order). length (files_of (order_in o))) c.in-Bound.is) c.index-texts-0-in-Bound.is c.index-texts-1-in-Bound.is c.as_slice-in-Bound.ensures.value c.as_slice-in-Bound-2.ensures.value)
+    c.judge_bound.ensures.answer)
 
 pub returns-in-Drill-clause-answer : goal.returns-in-Drill-clause-answer
 returns-in-Drill-clause-answer c =

@@ -1,5 +1,6 @@
 use Rattle.std.proofs.Common.{inl, refl, sym, ◌∙◌, length, arith}
 use Rattle.std.proofs.lemmas.List.{length-map}
+use Rattle.hz_answer_model.specs.ScheduleAnswers.{TellsSchedule}
 use Rattle.hz_rtl.specs.Shape.{instructions}
 use Rattle.hz_sched.specs.Shape.{graph_of, node_of, slots_of}
 use Rattle.hz_block_model.proofs.Scheduling.StuckLaws.{first_stuck as stuck_first}
@@ -25,10 +26,12 @@ returns-in-Ok-clause-answer c = λ d known machine graph numbers.
     let ranges = nodes_below (length m.classes) (length d.classes) c.args.graph c.requires.schedulable.classes (classes_count d known m machine) in
     inl (
       each_starts d known m machine g block graph ranges (sym c.in-Ok.ensures.fault),
-      g,
-      slots,
-      schedule_is d known m block g slots machine graph ranges c.in-Ok.ensures.legal c.in-Ok.ensures.greedy,
-      (refl, text_told d m.classes c.args.block.now c.args.graph slots machine.names numbers),
+      (
+        g,
+        slots,
+        schedule_is d known m block g slots machine graph ranges c.in-Ok.ensures.legal c.in-Ok.ensures.greedy,
+        (refl, text_told d m.classes c.args.block.now c.args.graph slots machine.names numbers),
+      ),
     )
 
 pub decide_sched-requires : goal.decide_sched-requires
@@ -45,6 +48,6 @@ returns-clause-answer c = λ d known machine graph numbers.
     let g = graph_of c.args.graph in
     let block = instructions c.args.block.now in
     let ranges = nodes_below (length m.classes) (length d.classes) c.args.graph c.requires.schedulable.classes (classes_count d known m machine) in
-    stuck_told c.args.file d known c.args.block.now.insns.items c.in-Err.fault c.decide_sched.result
+    stuck_told c.args.file d known c.args.block.now.insns.items (TellsSchedule d known block) c.in-Err.fault c.decide_sched.result
     (λ place i told there. first_stuck d known m machine g block graph ranges place i (sym c.in-Err.ensures.fault ∙ told) there)
     c.decide_sched.ensures.answer

@@ -6,7 +6,7 @@ use Rattle.hz_rtl.specs.Shape.{instruction}
 use Rattle.hz_sched.specs.declared.fault.SchedFault.{SchedFault}
 use Rattle.hz_tool.specs.Decisions.{Agrees}
 use Rattle.hz_tool.specs.Telling.{TellsStuck}
-use Rattle.hz_tool.proofs.commands.schedule.decide_sched.Goals as goal
+use Rattle.hz_tool.proofs.phases.blocks.decide_sched.Goals as goal
 
 pub returns-in-CannotStartAlone-clause-answer : goal.returns-in-CannotStartAlone-clause-answer
 returns-in-CannotStartAlone-clause-answer c =

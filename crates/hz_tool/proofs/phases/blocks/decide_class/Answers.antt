@@ -7,7 +7,7 @@ use Rattle.hz_rtl.specs.Shape.{instruction}
 use Rattle.hz_tool.proofs.BlockTelling.{ambiguous_judged, class_told, classes_told}
 use Rattle.hz_tool.specs.Decisions.{Agrees, IsJudged}
 use Rattle.hz_tool.specs.declared.decision.Decision.{Decision}
-use Rattle.hz_tool.proofs.commands.schedule.decide_class.Goals as goal
+use Rattle.hz_tool.proofs.phases.blocks.decide_class.Goals as goal
 
 pub returns-in-Some-clause-kind : goal.returns-in-Some-clause-kind
 returns-in-Some-clause-kind c = subst IsJudged (sym c.decide_ambiguous.ensures) (ambiguous_judged c.args.file c.args.insn.now c.word.result c.two_names.result)

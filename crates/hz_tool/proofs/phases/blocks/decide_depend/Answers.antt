@@ -2,7 +2,7 @@ use Rattle.std.proofs.Common.{length, sym, subst}
 use Rattle.hz_depend.specs.declared.fault.DependFault.{DependFault}
 use Rattle.hz_tool.specs.Blocks.{IsWrongIn}
 use Rattle.hz_tool.specs.Telling.{TellsDepend}
-use Rattle.hz_tool.proofs.commands.schedule.decide_depend.Goals as goal
+use Rattle.hz_tool.proofs.phases.blocks.decide_depend.Goals as goal
 
 pub insn_at-requires : goal.insn_at-requires
 insn_at-requires c = (subst (IsWrongIn (length c.args.machine.now.classes.items) (length c.args.block.now.insns.items)) c.in-Class.is c.requires).0
