@@ -24,7 +24,8 @@ use crate::phases::read::{
     FileWord, block_file, description_file, read_all, state_file, tables_file, trace_file,
 };
 use hz_io::{Files, Sink};
-use hz_tool_words::{Order, order_of};
+use hz_tool_words::order::Order;
+use hz_tool_words::order_of;
 use std::alloc::{AllocError, Global};
 
 /// The file words of an order with their limits, in the order in which they are read.

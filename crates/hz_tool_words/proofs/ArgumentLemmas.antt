@@ -3,7 +3,7 @@ use Rattle.std.proofs.Common.{◌≡◌, ◌∙◌, ◌<◌, ◌+◌, ◌++◌, 
 use Rattle.std.specs.Option.{option_map, option_and_then, option_zip}
 use Rattle.std.proofs.Math.Seq.{drop-cons}
 use Rattle.hz_tool_words.specs.Operands.{arguments_at}
-use Rattle.hz_tool_words.specs.Table.{operand_in}
+use Rattle.hz_tool_words.specs.Shape.{operand_in}
 use Rattle.hz_tool_words.specs.declared.table.Operand.{Operand}
 use Rattle.hz_words_model.specs.Words as model
 

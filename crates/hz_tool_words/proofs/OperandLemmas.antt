@@ -12,7 +12,7 @@ use Rattle.clap.specs.declared.parser.matches.ArgMatches.{ArgMatches}
 use Rattle.clap.proofs.OnLiterals.{clap_on_literals}
 use Rattle.clap.proofs.WalkLemmas.{first_value-rows}
 use Rattle.hz_tool_words.specs.Operands.{Finds, IsRefusal, app_with, arguments_at, id_at, value_of}
-use Rattle.hz_tool_words.specs.Table.{IsFew, operand_in}
+use Rattle.hz_tool_words.specs.Shape.{IsFew, operand_in}
 use Rattle.hz_tool_words.specs.declared.table.Operand.{Operand}
 use Rattle.hz_words_model.specs.Words.{begins_with_dash, has_option}
 use Rattle.hz_words_model.specs.Words as model

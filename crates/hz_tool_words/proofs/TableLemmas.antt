@@ -4,7 +4,7 @@ use Rattle.std.specs.Option.{option_map}
 use Rattle.std.specs.List.{find}
 use Rattle.std.specs.Str.{bytes_eq}
 use Rattle.hz_words_model.specs.Words as model
-use Rattle.hz_tool_words.specs.Table.{command_in}
+use Rattle.hz_tool_words.specs.Shape.{command_in}
 use Rattle.hz_tool_words.specs.declared.table.Row.{Row}
 
 -- the first image that is found is the image of the first that is found

@@ -1,4 +1,3 @@
 pub mod Operands
 pub mod Shape
 pub mod Numbers
-pub mod Table

@@ -5,7 +5,7 @@ use Rattle.clap.specs.Words.{App, HasMatchesOf, Rule, fault_of, first_value, fou
 use Rattle.clap.specs.declared.error.kind.ErrorKind.{ErrorKind}
 use Rattle.clap.specs.declared.error.kind.ErrorKind.TheVariants.{OutOfMemory}
 use Rattle.clap.specs.declared.parser.matches.ArgMatches.{ArgMatches}
-use Rattle.hz_tool_words.specs.Table.{operand_in}
+use Rattle.hz_tool_words.specs.Shape.{operand_in}
 use Rattle.hz_tool_words.specs.declared.table.Operand.{Operand}
 use Rattle.hz_words_model.specs.Words as model
 

@@ -2,8 +2,7 @@
 
 ghost use Rattle.std.specs.Prelude.{◌≡◌, map};
 ghost use Rattle.std.specs.Option.{option_map};
-ghost use Rattle.hz_tool_words.specs.Shape.{argument_in, order_in, pair_in, triple_in};
-ghost use Rattle.hz_tool_words.specs.Table.{make_of, operand_in};
+ghost use Rattle.hz_tool_words.specs.Shape.{argument_in, make_of, operand_in, order_in, pair_in, triple_in};
 ghost use Rattle.hz_words_model.specs.Words as model;
 
 use super::numbers::number_in;

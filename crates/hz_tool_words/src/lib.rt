@@ -4,12 +4,9 @@
 mod arguments;
 mod numbers;
 mod operands;
-mod order;
+pub mod order;
 mod reading;
 mod table;
 
-pub use order::{
-    BoundOrder, CompileOrder, DrillOrder, EvalOrder, Order, ReplayOrder, ScheduleOrder, WalkOrder,
-};
 pub use reading::order_of;
 pub use table::usage;

@@ -3,8 +3,7 @@
 ghost use Rattle.std.specs.Prelude.{◌≡◌, IfOk, map};
 ghost use Rattle.std.specs.Option.{option_and_then, option_map};
 ghost use Rattle.clap.specs.Words.{app_of, with_rule};
-ghost use Rattle.hz_tool_words.specs.Shape.{argument_in, words_in};
-ghost use Rattle.hz_tool_words.specs.Table.{operand_in};
+ghost use Rattle.hz_tool_words.specs.Shape.{argument_in, operand_in, words_in};
 ghost use Rattle.hz_tool_words.specs.Operands.{Finds, IsRefusal, app_with, arguments_at, id_at, operand, value_of};
 ghost use Rattle.hz_words_model.specs.Words as model;
 

@@ -2,8 +2,7 @@
 
 ghost use Rattle.std.specs.Prelude.{◌≡◌, IfOk, drop, false};
 ghost use Rattle.std.specs.Option.{option_map};
-ghost use Rattle.hz_tool_words.specs.Shape.{words_in, order_in};
-ghost use Rattle.hz_tool_words.specs.Table.{IsFew, command_in};
+ghost use Rattle.hz_tool_words.specs.Shape.{IsFew, command_in, order_in, words_in};
 ghost use Rattle.hz_words_model.specs.Words as model;
 
 use super::arguments::make_order;

@@ -2,7 +2,7 @@
 
 ghost use Rattle.std.specs.Prelude.{◌≡◌, IfSome};
 ghost use Rattle.std.specs.Option.{option_map};
-ghost use Rattle.hz_tool_words.specs.Table.{IsFew, command_in};
+ghost use Rattle.hz_tool_words.specs.Shape.{IsFew, command_in};
 ghost use Rattle.hz_words_model.specs.Words as model;
 
 /// The kinds of operands. The first five are files.

@@ -22,7 +22,7 @@ use hz_depend::Graph;
 use hz_rtl::Block;
 use hz_sched::schedule;
 use hz_tables::Machine;
-use hz_tool_words::BoundOrder;
+use hz_tool_words::order::BoundOrder;
 use std::alloc::Global;
 
 /// What is decided of a block with its graph, over the machine of the description.

@@ -13,7 +13,7 @@ use crate::phases::describing::judge_described;
 use hz_auto::Compiled;
 use hz_check::Checked;
 use hz_tabfile::text_stands;
-use hz_tool_words::CompileOrder;
+use hz_tool_words::order::CompileOrder;
 use std::alloc::Global;
 
 /// What is decided of the tables of what is compiled.

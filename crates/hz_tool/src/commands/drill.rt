@@ -23,7 +23,7 @@ use hz_check::Checked;
 use hz_regexp::NoMemory;
 use hz_replay::{Event, Replayer, What, drill_from};
 use hz_tables::{Machine, Steps};
-use hz_tool_words::DrillOrder;
+use hz_tool_words::order::DrillOrder;
 use std::alloc::Global;
 use std::marker::Brand;
 use std::sync::ledger::{Blank, Ledger};

@@ -15,7 +15,7 @@ use crate::phases::judging::{judge_block, judge_forms, judge_state};
 use hz_regexp::NoMemory;
 use hz_rtl::{Block, State, eval};
 use hz_sexp::Form;
-use hz_tool_words::EvalOrder;
+use hz_tool_words::order::EvalOrder;
 use std::alloc::Global;
 
 /// The state that a block leaves, in the order of its source.

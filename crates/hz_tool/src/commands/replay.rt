@@ -23,7 +23,7 @@ use hz_check::Checked;
 use hz_regexp::Name;
 use hz_replay::{Event, Outcome, What, replay};
 use hz_tables::{Machine, Steps};
-use hz_tool_words::ReplayOrder;
+use hz_tool_words::order::ReplayOrder;
 use std::alloc::Global;
 use std::marker::Brand;
 use std::sync::ledger::{Blank, Ledger};

@@ -24,7 +24,7 @@ use hz_depend::Graph;
 use hz_rtl::Block;
 use hz_sched::schedule;
 use hz_tables::Machine;
-use hz_tool_words::ScheduleOrder;
+use hz_tool_words::order::ScheduleOrder;
 use std::alloc::Global;
 
 /// What is decided of a block with its graph, over the machine of the description.

@@ -13,7 +13,7 @@ use crate::decision::Decision;
 use crate::phases::telling::decide_fault;
 use hz_tabfile::read_tables;
 use hz_tables::Machine;
-use hz_tool_words::WalkOrder;
+use hz_tool_words::order::WalkOrder;
 use std::alloc::Global;
 
 /// The machine of a tables text, or what is decided of its first fault.

@@ -1,7 +1,6 @@
 use Rattle.std.proofs.Common.{◌∙◌, ap, sym, map}
 use Rattle.std.specs.Option.{option_and_then, option_map}
-use Rattle.hz_tool_words.specs.Shape.{argument_in, words_in}
-use Rattle.hz_tool_words.specs.Table.{make_of}
+use Rattle.hz_tool_words.specs.Shape.{argument_in, make_of, words_in}
 use Rattle.hz_tool_words.proofs.OperandLemmas.{all_given, none_given}
 use Rattle.hz_tool_words.proofs.reading.read_order.Goals as goal
 

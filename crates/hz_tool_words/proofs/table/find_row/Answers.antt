@@ -2,7 +2,7 @@ use Rattle.std.proofs.Common.{ap, map, refl, rules, tests}
 use Rattle.std.proofs.lemmas.Iterator.{YieldsList-from_slice}
 use Rattle.std.proofs.lemmas.Iterator.Search.{find_from_yields_List}
 use Rattle.std.specs.Str.{bytes_eq}
-use Rattle.hz_tool_words.specs.Table.{command_in}
+use Rattle.hz_tool_words.specs.Shape.{command_in}
 use Rattle.hz_tool_words.proofs.TableLemmas.{row_is_command}
 use Rattle.hz_tool_words.proofs.table.find_row.Goals as goal
 
