@@ -130,8 +130,14 @@ impl CheckFault {
             CheckFault::SelfExclusion { line, .. } => Some(("SelfExclusion", *line)),
             CheckFault::SetAcrossAutomata { line, .. } => Some(("SetAcrossAutomata", *line)),
             CheckFault::Limit { what, line, .. } => Some((what.word(), *line)),
-            CheckFault::AlternationOfTwoAutomata { line, .. } => Some(("AlternationOfTwoAutomata", *line)),
-            CheckFault::AlternationOfTwoLengths { line, .. } => Some(("AlternationOfTwoLengths", *line)),
+            CheckFault::AlternationOfTwoAutomata { line, .. } => Some((
+                "AlternationOfTwoAutomata",
+                *line,
+            )),
+            CheckFault::AlternationOfTwoLengths { line, .. } => Some((
+                "AlternationOfTwoLengths",
+                *line,
+            )),
             CheckFault::BypassTwice { line, .. } => Some(("BypassTwice", *line)),
             CheckFault::NoMemory => None,
         }
