@@ -2,7 +2,6 @@
 use Rattle.std.proofs.Common.{◌≡◌, ℕ, Some, None, refl}
 use Rattle.std.specs.Prelude.{Option, MatchOption}
 use Rattle.std.specs.Option.{option_map}
-use Rattle.hz_regexp.specs.declared.fault.ExprFault.{ExprFault}
 use Rattle.hz_regexp.specs.Faults as regexp
 use Rattle.hz_description_model.specs.Grammar.ExpressionTexts.{ExpressionFault}
 use Rattle.hz_description_model.specs.Reading.DescriptionForms.{DescriptionFault}
