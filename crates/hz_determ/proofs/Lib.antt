@@ -7,3 +7,4 @@ pub mod ReadLemmas
 pub mod SetLemmas
 pub mod BuildLemmas
 pub mod LateLemmas
+pub mod TryLemmas

@@ -6,3 +6,4 @@ pub mod Sets
 pub mod Reading
 pub mod Explored
 pub mod Worked
+pub mod Trying

@@ -8,3 +8,4 @@ pub mod Steps
 pub mod Ordered
 pub mod RowsAgain
 pub mod OrderSteps
+pub mod UsedLemmas

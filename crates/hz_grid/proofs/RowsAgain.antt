@@ -67,7 +67,7 @@ HasUnit-number_of test n unit = (
 pair_equivalence : IsEquivalence (same_pair nat_eq)
 pair_equivalence = and_equiv (on_equiv (λ (p : Pair ℕ). p.unit) nat_eq_equiv) (on_equiv (λ (p : Pair ℕ). p.cycle) nat_eq_equiv)
 
-has_pair-Holds : (pairs : List (Pair ℕ)) (cycle unit : ℕ) → IsTrue (has_pair pairs cycle unit) ↔ Holds pairs unit cycle
+pub has_pair-Holds : (pairs : List (Pair ℕ)) (cycle unit : ℕ) → IsTrue (has_pair pairs cycle unit) ↔ Holds pairs unit cycle
 has_pair-Holds pairs cycle unit = (
   λ t. Contains-from_any (λ p q e. (same_pair-Decides p q).0 e) (record { unit = unit; cycle = cycle }) pairs t,
   λ h. list_any-from_Contains pair_equivalence (record { unit = unit; cycle = cycle }) pairs h,

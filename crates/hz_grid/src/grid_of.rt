@@ -1,8 +1,9 @@
 //! A grid of one width: the pairs of a unit and a cycle that are reserved, with the cycles counted from the present one.
-ghost use Rattle.std.specs.Prelude.{◌≡◌, ◌↔◌, ◌<◌, ◌≤◌, ◌-◌, ◌*◌, ℕ, [], length, drop, max, All, IsTrue, IfOk, OnOk, vec_len, fold};
+ghost use Rattle.std.specs.Prelude.{◌≡◌, ◌↔◌, ◌<◌, ◌≤◌, ◌-◌, ◌*◌, ℕ, [], length, drop, max, All, IsTrue, IfOk, OnOk, vec_len, fold, slice_index};
 ghost use Rattle.hz_base_model.specs.Pairs.{grid_cmp};
 ghost use Rattle.hz_grid.specs.Hashes.{fed_for};
-ghost use Rattle.hz_grid.specs.Rows.{HasUnit};
+ghost use Rattle.hz_grid.specs.Rows.{HasUnit, RowsMeet};
+ghost use Rattle.hz_grid.specs.Used.{MeetsIn};
 ghost use Rattle.hz_grid.specs.Grids.{Holds, IsGrid, HoldsJust, Meets, Unites, Advances};
 ghost use Rattle.hz_grid.specs.Stored.{IsRows, HasJust, HasSameUnits, GainsUnit, ShareUnit, IsJoined};
 
@@ -130,6 +131,13 @@ impl<const N: usize> GridOf<N> {
         row_at(&self.rows, usize::from(cycle))
     }
 
+    /// Whether the grid has a unit of the row in that cycle. It takes no memory.
+    pub fn meets_in(&self, cycle: u16, units: Row<4>) -> bool
+        ensures { IsTrue result ↔ MeetsIn self.now cycle units }
+    {
+        row_meets(&self.rows, usize::from(cycle), units)
+    }
+
     /// Whether the pair is in the grid. It takes no memory.
     pub fn holds(&self, unit: u8, cycle: u16) -> bool
         ensures { IsTrue result ↔ Holds self.now unit cycle }
@@ -169,6 +177,16 @@ fn share_unit<const N: usize, const M: usize>(first: &[Row<N>], second: &[Row<M>
         }
     }
     false
+}
+
+// Whether the row of that cycle, if there is one, has a unit of another.
+fn row_meets<const N: usize>(rows: &[Row<N>], cycle: usize, units: Row<4>) -> bool
+    ensures { IsTrue result ↔ RowsMeet (slice_index rows.now cycle) units }
+{
+    match rows.get(cycle) {
+        Some(row) => row.meets(units),
+        None => false,
+    }
 }
 
 // Whether both have the same units in each cycle.

@@ -3,6 +3,7 @@
 ghost use Rattle.std.specs.Prelude.{◌≡◌, ◌↔◌, ◌<◌, ◌-◌, ℕ, [], All, IsTrue, IfOk};
 ghost use Rattle.hz_grid.specs.Rows.{HasUnit};
 ghost use Rattle.hz_grid.specs.Grids.{Holds, IsGrid, HoldsJust, Meets, IsUnion, IsAdvanced, Unites, Advances};
+ghost use Rattle.hz_grid.specs.Used.{MeetsIn};
 ghost use Rattle.hz_grid.specs.Widths.{pairs_of, AreBelow, IsLeast};
 
 use crate::grid_of::{CYCLES, GridOf, NoMemory};
@@ -217,6 +218,13 @@ impl Grid {
         ensures { (unit : ℕ) → HasUnit result unit ↔ Holds self.now unit cycle }
     {
         in_width!(&self.width, grid => grid.row(cycle))
+    }
+
+    /// Whether the grid has a unit of the row in that cycle. It takes no memory.
+    pub(crate) fn meets_in(&self, cycle: u16, units: Row<4>) -> bool
+        ensures { IsTrue result ↔ MeetsIn self.now cycle units }
+    {
+        in_width!(&self.width, grid => grid.meets_in(cycle, units))
     }
 
     /// Whether the pair is in the grid. It takes no memory.

@@ -10,6 +10,7 @@ mod order;
 mod rows;
 mod shifting;
 mod table;
+mod usage;
 mod words;
 
 pub use cycles::Cycles;
@@ -18,3 +19,4 @@ pub use grids::Grid;
 pub use laws::{cycles_are_below_the_limit, what_is_taken_is_below_the_limits};
 pub use rows::{Row, UNITS, rows_are_sets_of_units};
 pub use table::ReservationTable;
+pub use usage::{Usage, UsedRow};

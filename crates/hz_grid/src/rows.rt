@@ -59,6 +59,13 @@ impl<const N: usize> Row<N> {
         words::holds(&self.words, usize::from(unit))
     }
 
+    /// Whether no unit is in the row.
+    pub fn is_empty(self) -> bool
+        ensures { IsTrue result ↔ ((unit : ℕ) → ¬ HasUnit self.entry unit) }
+    {
+        words::is_empty(&self.words)
+    }
+
     /// Whether some unit is in both rows.
     pub fn meets<const M: usize>(self, other: Row<M>) -> bool
         ensures { IsTrue result ↔ RowsMeet self.entry other.entry }

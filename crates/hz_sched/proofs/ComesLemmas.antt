@@ -4,6 +4,8 @@ use Rattle.std.specs.Prelude.{IsSome}
 use Rattle.hz_acceptance_model.specs.Accepting.Events.{issue, advance, IsOfClass}
 use Rattle.std.proofs.lemmas.List.Elements.{All-append, All-cons, All-nil}
 use Rattle.hz_automata_model.specs.Tables.Machines.{Machine, parts_walk, machine_walk, starts_of, IsWalked}
+use Rattle.hz_base_model.specs.Limits.{cycle_limit}
+use Rattle.hz_description_model.specs.Reading.Limits.{latency_limit}
 use Rattle.hz_block_model.specs.Scheduling.Schedules.{Graph, Slot, class_at, present, spell, IsReady, IsCandidate}
 use Rattle.hz_block_model.specs.Scheduling.Machines.{Settles, can_start}
 use Rattle.hz_block_model.proofs.Scheduling.SameSchedules.{greedy_within, spelled_of_class}
@@ -19,8 +21,8 @@ some_of (Some x) h = (x, refl)
 
 module _ (m : Machine) (g : Graph) (settles : Settles m) (upward : IsUpward g) (ranges : All (λ n. n.class < length m.classes) g.nodes) (alone : (j : ℕ) → j < length g.nodes → can_start m (class_at g j) ≡ true)
     (slots : List Slot) (cycle : ℕ) (states : List ℕ) (at : IsAt m g slots cycle states) where
-  -- the machine settles behind the trace and a thousand cycles
-  settled : (a b c d : ℕ) → b ≡ 256 → d ≡ a + b → cycle - present 0 slots ≡ a + c → machine_walk m (spell g slots ++ advance d ∷ []) ≡ Some (starts_of m)
+  -- the machine settles behind the trace and `latency_limit` cycles
+  settled : (a b c d : ℕ) → b ≡ cycle_limit → d ≡ a + b → cycle - present 0 slots ≡ a + c → machine_walk m (spell g slots ++ advance d ∷ []) ≡ Some (starts_of m)
   settled a b c d quiet both late =
       let all : machine_walk m (spell g slots ++ advance (a + c) ∷ []) ≡ Some states = subst (λ (n : ℕ). machine_walk m (spell g slots ++ advance n ∷ []) ≡ Some states) late at.walked in
       let parted : machine_walk m ((spell g slots ++ advance a ∷ []) ++ advance c ∷ []) ≡ Some states = ap (machine_walk m) (append_assoc (spell g slots) (advance a ∷ []) (advance c ∷ [])) ∙ (walk_split m (spell g slots) [] a c ∙ all) in
@@ -34,7 +36,7 @@ module _ (m : Machine) (g : Graph) (settles : Settles m) (upward : IsUpward g) (
       ∙ (ap (λ (n : ℕ). machine_walk m ((spell g slots ++ advance a ∷ []) ++ advance n ∷ [])) quiet ∙ quiet_then)))
 
   -- the first that is left waits for issues alone that have come
-  waits_no_more : (l : Least (issued_at slots) (length g.nodes)) (then : ℕ) → present 0 slots + 1000 ≤ then → IsReady g slots then l.place
+  waits_no_more : (l : Least (issued_at slots) (length g.nodes)) (then : ℕ) → present 0 slots + latency_limit ≤ then → IsReady g slots then l.place
   waits_no_more l then late e there to =
       let (up, inside, small) = upward.upward e there in
       let (c, some) = some_of (issued_at slots e.from) (l.below e.from (omega arith)) in
@@ -43,7 +45,7 @@ module _ (m : Machine) (g : Graph) (settles : Settles m) (upward : IsUpward g) (
       (x, held, place, omega arith)
 
   -- where enough cycles have gone by, a candidate came in time
-  pub some_comes : 0 < left_below (issued_at slots) (length g.nodes) → (a b c then : ℕ) → a ≡ 1000 → b ≡ 256 → cycle ≡ present 0 slots + (a + c) → then ≡ present 0 slots + (a + b) → (j : ℕ) × IsCandidate (IsWalked m) g slots then j
+  pub some_comes : 0 < left_below (issued_at slots) (length g.nodes) → (a b c then : ℕ) → a ≡ latency_limit → b ≡ cycle_limit → cycle ≡ present 0 slots + (a + c) → then ≡ present 0 slots + (a + b) → (j : ℕ) × IsCandidate (IsWalked m) g slots then j
   some_comes some a b c then thousand quiet late soon =
       let l = least_left (issued_at slots) (length g.nodes) some in
       let low : present 0 slots ≤ then = omega arith in

@@ -18,8 +18,10 @@ use Rattle.hz_replay.specs.Replaying.{Standing, AreStates}
 use Rattle.hz_depend.specs.declared.parts.Graph as depend_graph
 use Rattle.hz_depend.specs.declared.parts.GraphInsn.{GraphInsn}
 use Rattle.hz_depend.specs.GraphShape.{edge_of, IsSchedulable}
+use Rattle.hz_base_model.specs.Limits.{cycle_limit}
+use Rattle.hz_description_model.specs.Reading.Limits.{latency_limit}
 use Rattle.hz_block_model.specs.Scheduling.Schedules.{Node, Graph, Slot, class_at, present, GoesBefore, Greedy, IsCandidate}
-use Rattle.hz_block_model.specs.Scheduling.Machines.{Settles, can_start}
+use Rattle.hz_block_model.specs.Scheduling.Machines.{Settles, most_wait, can_start}
 use Rattle.hz_block_model.proofs.Scheduling.SameSchedules.{greedy_within}
 use Rattle.hz_sched.specs.Shape.{graph_of, node_of, slot_of, slots_of}
 use Rattle.hz_sched.specs.declared.parts.Slot as made
@@ -115,11 +117,11 @@ module _ (m : Machine) (g : Graph) (board : Board) (states : List ℕ) (b : IsBo
   cycle_next none next step = next_cycle m g (slots_of board.slots.items) board.cycle states b.at none next step
 
   -- an issue has come before
-  pub never : Settles m → IsUpward g → All (λ n. n.class < length m.classes) g.nodes → AllStart m g → (count : ℕ) → count ≡ length g.nodes → 0 < left_below (issued_at (slots_of board.slots.items)) count → board.cycle ≡ present 0 (slots_of board.slots.items) + 1257 → ⊥
+  pub never : Settles m → IsUpward g → All (λ n. n.class < length m.classes) g.nodes → AllStart m g → (count : ℕ) → count ≡ length g.nodes → 0 < left_below (issued_at (slots_of board.slots.items)) count → board.cycle ≡ present 0 (slots_of board.slots.items) + (most_wait + 1) → ⊥
   never settles upward ranges start count all some late =
       let left : 0 < left_below (issued_at (slots_of board.slots.items)) (length g.nodes) = subst (λ (n : ℕ). 0 < left_below (issued_at (slots_of board.slots.items)) n) all some in
-      let (j, c) = some_comes m g settles upward ranges start.alone (slots_of board.slots.items) board.cycle states b.at left 1000 256 257 (present 0 (slots_of board.slots.items) + 1256) refl refl (omega (arith, late)) (omega arith) in
-      (b.at).barren (present 0 (slots_of board.slots.items) + 1256) j (omega arith) (omega (arith, late)) c
+      let (j, c) = some_comes m g settles upward ranges start.alone (slots_of board.slots.items) board.cycle states b.at left latency_limit cycle_limit (cycle_limit + 1) (present 0 (slots_of board.slots.items) + most_wait) refl refl (omega (arith, late)) (omega arith) in
+      (b.at).barren (present 0 (slots_of board.slots.items) + most_wait) j (omega arith) (omega (arith, late)) c
 
 -- the queue is another, which holds the same
 pub queue_next : (m : Machine) (g : Graph) (board : Board) (states : List ℕ) (queue : Queue) → IsBoard m g board states → ((at : ℕ → Option ℕ) → IsQueue g at board.cycle board.queue → IsQueue g at board.cycle queue) → IsBoard m g (record board { queue = queue }) states
@@ -181,7 +183,7 @@ all_soon slots limit rising last k d lt =
 
 pub upward_of : (classes : ℕ) (g : depend_graph.Graph) → IsSchedulable classes g → IsUpward (graph_of g)
 upward_of classes g is = record {
-  upward = λ e there. let u = All-contains (λ e. (e.from < e.to) × (e.to < length g.insns.items) × (e.cost ≤ 1000)) (map edge_of g.edges.items) e (All-map (λ e. (e.from < e.to) × (e.to < length g.insns.items) × (e.cost ≤ 1000)) edge_of g.edges.items is.edges) there in
+  upward = λ e there. let u = All-contains (λ e. (e.from < e.to) × (e.to < length g.insns.items) × (e.cost ≤ latency_limit)) (map edge_of g.edges.items) e (All-map (λ e. (e.from < e.to) × (e.to < length g.insns.items) × (e.cost ≤ latency_limit)) edge_of g.edges.items is.edges) there in
       let long = length-map g.insns.items node_of in
       (u.0, omega (arith, u.1, long), u.2);
 }

@@ -24,5 +24,5 @@ spelled_classes classes g slots is places = spelled_of_class classes (graph_of g
 
 pub spelled_short : (g : depend.Graph) (slots : List made.Slot) → AllPairs (λ x y. x.cycle ≤ y.cycle) (slots_of slots) → length g.insns.items ≤ instruction_limit → All (λ x. x.cycle ≤ most_wait * length g.insns.items) slots → cycles_of (spell (graph_of g) (slots_of slots)) ≤ advance_limit
 spelled_short g slots rising few soon =
-    let last = present_within (slots_of slots) 0 (1256 * length g.insns.items) (omega arith) (All-map (λ (x : Slot). x.cycle ≤ 1256 * length g.insns.items) slot_of slots soon) in
+    let last = present_within (slots_of slots) 0 (most_wait * length g.insns.items) (omega arith) (All-map (λ (x : Slot). x.cycle ≤ most_wait * length g.insns.items) slot_of slots soon) in
     omega (arith, last, cycles_spelled (graph_of g) (slots_of slots) rising)

@@ -26,8 +26,8 @@ use std::alloc::Global;
 use std::marker::Brand;
 use std::sync::ledger::{Blank, Ledger};
 
-/// An issue comes before so many cycles have gone by: 1,000 for all waits, 256 until the machine has settled, and its own.
-const MOST_WAIT: u32 = 1_257;
+/// An issue comes before so many cycles have gone by: 1,000 for all waits, 512 until the machine has settled, and its own.
+const MOST_WAIT: u32 = 1_513;
 
 /// Issues the next instruction at the first cycle at which one may be issued: the first of those that may.
 fn issue_next<L: Ledger>(

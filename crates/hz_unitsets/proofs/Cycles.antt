@@ -1,22 +1,25 @@
 -- What rules say of one cycle, of all cycles and of two grids.
-use Rattle.std.proofs.Common.{◌≡◌, ℕ, ◌+◌, ◌<◌, ◌≤◌, ◌↔◌, ◌⊎◌, inl, inr, List, [], ◌∷◌, ◌++◌, map, get_or, All, refl, sym, ap, ◌∙◌, arith, ⊎_elim}
-use Rattle.std.proofs.lemmas.Bool.{cases_lt}
+use Rattle.std.proofs.Common.{◌≡◌, ℕ, ◌+◌, ◌<◌, ◌≤◌, ◌↔◌, ◌⊎◌, inl, inr, Bool, true, false, List, [], ◌∷◌, ◌++◌, map, get_or, All, refl, sym, ap, ◌∙◌, subst, arith, ⊎_elim}
 use Rattle.std.proofs.lemmas.List.{append-nil, append_assoc, map_push}
 use Rattle.std.proofs.lemmas.List.Elements.{All-contains, All-map, All-push, Contains-get_or, Contains-append_left, Contains-append_right, Contains-append_cases}
 use Rattle.hz_base_model.specs.Pairs.{Pair, placed}
-use Rattle.hz_description_model.specs.Reservations.Sets.{Statement, exclusion, Holds, HoldsSome, HoldsPattern, AllowsIn, Fits}
+use Rattle.hz_description_model.specs.Reservations.Sets.{Statement, exclusion, final_presence, Holds, HoldsSome, HoldsPattern, AllowsIn, Fits}
 use Rattle.hz_base_model.proofs.Elements.{Contains-map}
 use Rattle.hz_description_model.proofs.Reservations.FitLaws.{allows_same, some_with, pattern_with, holds_moved, iff_back}
 use Rattle.hz_acceptance_model.specs.Accepting.Fitting.{IsUnbroken}
 use Rattle.hz_acceptance_model.proofs.Accepting.FittingLaws.{holds_append}
 use Rattle.hz_grid.specs.Rows.{HasUnit, RowsMeet, IsWithin}
 use Rattle.hz_grid.specs.Grids.{Meets}
+use Rattle.hz_grid.specs.declared.usage.UsedRow.{UsedRow}
+use Rattle.hz_grid.specs.Used.{is_at, AreRowsOf, HasUnitsOf}
+use Rattle.hz_grid.proofs.UsedLemmas.{row_at_cycle}
+use Rattle.std.specs.List.{list_any}
 use Rattle.hz_unitsets.specs.declared.set_rules.SetKind.{SetKind}
 use Rattle.hz_unitsets.specs.declared.set_rules.SetKind.TheVariants.{Exclusion, Presence, FinalPresence, Absence, FinalAbsence}
 use Rattle.hz_unitsets.specs.declared.row_rules.Rule.{Rule}
 use Rattle.hz_unitsets.specs.declared.rules.Asked.{Asked}
 use Rattle.hz_unitsets.specs.SetRules.{kind_of}
-use Rattle.hz_unitsets.specs.RowRules.{statement_in, asked_statement, AllowsAt, Allows, Breaks, IsTrigger, IsUnitsOf, IsAsked, AreAsked}
+use Rattle.hz_unitsets.specs.RowRules.{statement_in, asked_statement, AllowsAt, Allows, Breaks, IsTrigger, IsPart, IsAsked, AreAsked}
 
 -- ---- where no added unit may break a statement
 
@@ -45,6 +48,13 @@ exclusion_alone FinalPresence e = absurd (cc)
 exclusion_alone Absence e = absurd (cc)
 exclusion_alone FinalAbsence e = absurd (cc)
 
+pub final_presence_alone : (k : SetKind) → kind_of k ≡ final_presence → k ≡ FinalPresence
+final_presence_alone Exclusion e = absurd (cc)
+final_presence_alone Presence e = absurd (cc)
+final_presence_alone FinalPresence e = refl
+final_presence_alone Absence e = absurd (cc)
+final_presence_alone FinalAbsence e = absurd (cc)
+
 -- ---- one cycle, by rows
 
 result_rows : (source add : List (Pair ℕ)) (cycle there added all : ℕ) → ((u : ℕ) → HasUnit there u ↔ Holds source cycle u) → ((u : ℕ) → HasUnit added u ↔ Holds add cycle u) → ((u : ℕ) → HasUnit all u ↔ (HasUnit there u ⊎ HasUnit added u)) → (u : ℕ) → HasUnit all u ↔ Holds (source ++ add) cycle u
@@ -65,13 +75,39 @@ allows_by_rows s source add cycle there added all is_there is_added is_all =
 
 -- ---- all cycles
 
-pub allows_untouched : (s : Statement ℕ) (source add : List (Pair ℕ)) (triggers units : ℕ) → (Breaks s source → ⊥) → ((unit : ℕ) → IsTrigger s unit → HasUnit triggers unit) → IsUnitsOf add units → (RowsMeet triggers units → ⊥) → Allows s source add
+pub allows_untouched : (s : Statement ℕ) (source add : List (Pair ℕ)) (triggers units : ℕ) → (Breaks s source → ⊥) → ((unit : ℕ) → IsTrigger s unit → HasUnit triggers unit) → HasUnitsOf add units → (RowsMeet triggers units → ⊥) → Allows s source add
 allows_untouched s source add triggers units unbroken has all apart = record {
   at = λ cycle. allows_untriggered s source add cycle unbroken (λ unit is h. apart (unit, has unit is, all.units unit cycle h));
 }
 
-pub allows_all : (s : Statement ℕ) (source add : List (Pair ℕ)) (end : ℕ) → ((cycle : ℕ) → cycle < end → AllowsAt s source add cycle) → ((cycle : ℕ) → end ≤ cycle → AllowsAt s source add cycle) → Allows s source add
-allows_all s source add end before past = record { at = λ cycle. ⊎_elim (before cycle) (past cycle) (cases_lt cycle end) }
+-- by the cycles in which a unit is added
+pub allows_used : (s : Statement ℕ) (source add : List (Pair ℕ)) (rows : List UsedRow) → (Breaks s source → ⊥) → AreRowsOf add rows → All (λ row. AllowsAt s source add row.cycle) rows → Allows s source add
+allows_used s source add rows unbroken are each = record { at = λ cycle. here cycle (list_any (is_at cycle) rows) refl }
+  where
+    here : (cycle : ℕ) (b : Bool) → list_any (is_at cycle) rows ≡ b → AllowsAt s source add cycle
+    here cycle true e =
+        let (row, there, at) = row_at_cycle cycle rows e in
+        subst (AllowsAt s source add) at (All-contains (λ (r : UsedRow). AllowsAt s source add r.cycle) rows row each there)
+    here cycle false e = allows_untriggered s source add cycle unbroken (λ unit _ h. let t = are.whole unit cycle h in absurd (cc))
+
+-- what a statement allows it allows of a part of it, unless it looks for a pattern in the result
+pub part_allowed : (s : Statement ℕ) (source part pairs : List (Pair ℕ)) → (s.kind ≡ final_presence → ⊥) → IsPart part pairs → Allows s source pairs → Allows s source part
+part_allowed s source part pairs other is h = record { at = λ cycle. allowed cycle (h.at cycle) }
+  where
+    into : (cycle unit : ℕ) → Holds part cycle unit → Holds pairs cycle unit
+    into cycle unit held = is.within (record { unit = unit; cycle = cycle }) held
+
+    into_all : (cycle unit : ℕ) → Holds (source ++ part) cycle unit → Holds (source ++ pairs) cycle unit
+    into_all cycle unit held = ⊎_elim (λ l. Contains-append_left source pairs _ l) (λ r. Contains-append_right source pairs _ (into cycle unit r)) (Contains-append_cases source part _ held)
+
+    allowed : (cycle : ℕ) → AllowsAt s source pairs cycle → AllowsAt s source part cycle
+    allowed cycle k = record {
+      excluded = λ e some pattern. k.excluded e (some_with s.units _ _ (into_all cycle) some) (pattern_with s.patterns _ _ (into_all cycle) pattern);
+      present = λ e some. k.present e (some_with s.units _ _ (into cycle) some);
+      finally_present = λ e some. absurd (other e);
+      absent = λ e some pattern. k.absent e (some_with s.units _ _ (into cycle) some) pattern;
+      finally_absent = λ e some pattern. k.finally_absent e (some_with s.units _ _ (into cycle) some) (pattern_with s.patterns _ _ (into_all cycle) pattern);
+    }
 
 -- ---- two grids
 
@@ -127,7 +163,7 @@ module _ (rules : List Asked) (source : List (Pair ℕ)) where
   )
 
 -- where no unit is added that may break a rule, all allow each cycle
-pub none_touched : (rules : List Asked) (all units : ℕ) (source add : List (Pair ℕ)) → AreAsked rules all → All (λ asked. ¬ Breaks (asked_statement asked) source) rules → IsUnitsOf add units → (RowsMeet all units → ⊥)
+pub none_touched : (rules : List Asked) (all units : ℕ) (source add : List (Pair ℕ)) → AreAsked rules all → All (λ asked. ¬ Breaks (asked_statement asked) source) rules → HasUnitsOf add units → (RowsMeet all units → ⊥)
     → All (λ asked. Allows (asked_statement asked) source add) rules
 none_touched rules all units source add are unbroken of apart k d within =
     allows_untouched _ source add (get_or rules k d).triggers units (unbroken k d within) (are.each k d within).triggers of (λ m. apart (m.0, are.triggers k d within m.0 m.1, m.2))

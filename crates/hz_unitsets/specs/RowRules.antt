@@ -61,9 +61,9 @@ pub record AreAsked (rules : List Asked) (all : ℕ) : Type 0 where
   pub each : All IsAsked rules
   pub triggers : All (λ asked. IsWithin asked.triggers all) rules
 
--- the row has the units that the pairs hold in any cycle
-pub record IsUnitsOf (pairs : List (Pair ℕ)) (row : ℕ) : Type 0 where
-  pub units : (unit cycle : ℕ) → Holds pairs cycle unit → HasUnit row unit
+-- each of the first pairs is one of the others
+pub record IsPart (part pairs : List (Pair ℕ)) : Type 0 where
+  pub within : (p : Pair ℕ) → Contains part p → Contains pairs p
 
 -- an item is there once more only where it was not there
 abbrev pub IsKept : {X : Type 0} → List X → X → List X → Type 0

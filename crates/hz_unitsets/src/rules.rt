@@ -1,15 +1,17 @@
 //! The set statements of an automaton, each once, which are asked of grids.
 
-ghost use Rattle.std.specs.Prelude.{◌≡◌, ◌≢◌, ◌↔◌, ℕ, map, All, IfOk, OnOk, IsTrue};
+ghost use Rattle.std.specs.Prelude.{◌≡◌, ◌≢◌, ◌↔◌, ℕ, List, map, All, IfOk, OnOk, IsTrue};
 ghost use Rattle.std.specs.List.{AllPairs};
 ghost use Rattle.hz_description_model.specs.Reservations.Sets.{Fits};
 ghost use Rattle.hz_acceptance_model.specs.Accepting.Fitting.{AskTheSame, IsUnbroken};
 ghost use Rattle.hz_unitsets.specs.SetRules.{statements_of, IsInRange, ordered};
-ghost use Rattle.hz_unitsets.specs.RowRules.{statement_in, asked_statement, IsBounded, IsAsked, Allows, AllowsAt, Breaks, IsUnitsOf, IsKept, AreSame};
+ghost use Rattle.hz_unitsets.specs.RowRules.{statement_in, asked_statement, IsBounded, IsAsked, Allows, AllowsAt, Breaks, IsPart, IsKept, AreSame};
+ghost use Rattle.hz_base_model.specs.Pairs.{Pair};
+ghost use Rattle.hz_grid.specs.Used.{IsRowOf};
 
 use crate::row_rules::Rule;
 use crate::set_rules::SetRule;
-use hz_grid::{Grid, NoMemory, Row};
+use hz_grid::{Grid, NoMemory, Row, Usage, UsedRow};
 use indexmap::IndexSet;
 use std::alloc::Global;
 use std::marker::Model;
@@ -60,10 +62,10 @@ impl Rules {
 
     /// Whether the added pairs fit what stands reserved, both with cycles counted from the present one: no pair is in
     /// both, and each statement allows each cycle, the present one and all that are planned. It takes no memory.
-    pub fn fits(&self, source: &Grid, add: &Grid) -> bool
+    pub fn fits(&self, source: &Grid, add: &Usage) -> bool
         ensures { IsTrue result ↔ Fits self.now source.now add.now 0 }
     {
-        if source.meets(add) {
+        if add.meets(source) {
             return false;
         }
         self.is_unbroken(source) && self.allow(source, add)
@@ -71,11 +73,20 @@ impl Rules {
 
     /// Whether the added pairs fit a source that breaks no exclusion, as `fits` says it. A statement that no added unit
     /// may break costs one test of rows, and none where this holds of all. It takes no memory.
-    pub fn fits_unbroken(&self, source: &Grid, add: &Grid) -> bool
+    pub fn fits_unbroken(&self, source: &Grid, add: &Usage) -> bool
         requires { IsUnbroken self.now source.now }
         ensures { IsTrue result ↔ Fits self.now source.now add.now 0 }
     {
-        !source.meets(add) && self.allow(source, add)
+        !add.meets(source) && self.allow(source, add)
+    }
+
+    /// Whether it is seen from some pairs that no grid that has them fits a source that breaks no exclusion: one of them
+    /// stands there, or a statement forbids them whatever is added beside them. It takes no memory.
+    pub fn refuses(&self, source: &Grid, part: &Usage) -> bool
+        requires { IsUnbroken self.now source.now }
+        ensures { IsTrue result → (pairs : List (Pair ℕ)) → IsPart part.now pairs → ¬ Fits self.now source.now pairs 0 }
+    {
+        part.meets(source) || some_forbids(&self.rules, source, part)
     }
 
     /// Whether what stands reserved breaks no exclusion. It takes no memory.
@@ -86,12 +97,11 @@ impl Rules {
     }
 
     // Whether each rule allows each cycle, where the source breaks no exclusion.
-    fn allow(&self, source: &Grid, add: &Grid) -> bool
+    fn allow(&self, source: &Grid, add: &Usage) -> bool
         requires { IsUnbroken self.now source.now }
         ensures { IsTrue result ↔ All (λ s. Allows s source.now add.now) self.now }
     {
-        let units = units_of(add);
-        !self.triggers.meets(units) || all_allow(&self.rules, source, add, units)
+        !self.triggers.meets(add.units()) || all_allow(&self.rules, source, add)
     }
 }
 
@@ -103,14 +113,27 @@ fn none_broken(rules: &[Asked], source: &Grid) -> bool
     rules.iter().all(|asked| !asked.rule.is_broken(source))
 }
 
-// Whether each rule allows each cycle, where the source breaks none. The units are those that are added in any cycle.
-fn all_allow(rules: &[Asked], source: &Grid, add: &Grid, units: Row<4>) -> bool
+// Whether each rule allows each cycle, where the source breaks none.
+fn all_allow(rules: &[Asked], source: &Grid, add: &Usage) -> bool
     requires asked { All IsAsked rules.now }
     requires unbroken { All (λ asked. ¬ Breaks (asked_statement asked) source.now) rules.now }
-    requires units { IsUnitsOf add.now units }
     ensures { IsTrue result ↔ All (λ asked. Allows (asked_statement asked) source.now add.now) rules.now }
 {
-    rules.iter().all(|asked| asked.allows(source, add, units))
+    rules.iter().all(|asked| asked.allows(source, add))
+}
+
+// Whether some rule forbids what has these pairs, where the source breaks none.
+fn some_forbids(rules: &[Asked], source: &Grid, part: &Usage) -> bool
+    requires asked { All IsAsked rules.now }
+    requires unbroken { All (λ asked. ¬ Breaks (asked_statement asked) source.now) rules.now }
+    ensures { IsTrue result → (pairs : List (Pair ℕ)) → IsPart part.now pairs → ¬ All (λ asked. Allows (asked_statement asked) source.now pairs) rules.now }
+{
+    for asked in rules {
+        if asked.forbids(source, part) {
+            return true;
+        }
+    }
+    false
 }
 
 // The rules of these statements, each once.
@@ -151,55 +174,54 @@ impl Asked {
 
     // Whether the rule allows each cycle, where the source does not break it. It is asked only where an added unit may
     // break it.
-    fn allows(&self, source: &Grid, add: &Grid, units: Row<4>) -> bool
+    fn allows(&self, source: &Grid, add: &Usage) -> bool
         requires asked { IsAsked self.now }
         requires unbroken { ¬ Breaks (asked_statement self.now) source.now }
-        requires units { IsUnitsOf add.now units }
         ensures { IsTrue result ↔ Allows (asked_statement self.now) source.now add.now }
     {
-        if !self.triggers.meets(units) {
+        if !self.triggers.meets(add.units()) {
             return true;
         }
         self.allows_each(source, add)
     }
 
-    // The same, cycle by cycle.
-    fn allows_each(&self, source: &Grid, add: &Grid) -> bool
+    // Whether the rule forbids what has these pairs, whatever is added beside them, where the source does not break it. A
+    // final presence never does: what is added beside them may be its pattern.
+    fn forbids(&self, source: &Grid, part: &Usage) -> bool
+        requires asked { IsAsked self.now }
+        requires unbroken { ¬ Breaks (asked_statement self.now) source.now }
+        ensures { IsTrue result → (pairs : List (Pair ℕ)) → IsPart part.now pairs → ¬ Allows (asked_statement self.now) source.now pairs }
+    {
+        !self.rule.is_final_presence() && !self.allows(source, part)
+    }
+
+    // Whether the rule allows each cycle in which a unit is added.
+    fn allows_each(&self, source: &Grid, add: &Usage) -> bool
         requires asked { IsAsked self.now }
         requires unbroken { ¬ Breaks (asked_statement self.now) source.now }
         ensures { IsTrue result ↔ Allows (asked_statement self.now) source.now add.now }
     {
-        for cycle in 0..add.length() {
-            if !self.allows_at(source, add, cycle) {
+        let rows = add.rows();
+        for used in rows {
+            if !self.allows_at(source, used) {
                 return false;
             }
         }
         true
     }
 
-    // Whether the rule allows that cycle, where the source does not break it. It is asked only where a unit that is
-    // added in that cycle may break it.
-    fn allows_at(&self, source: &Grid, add: &Grid, cycle: u16) -> bool
+    // Whether the rule allows that cycle, where the source does not break it and these units are added there. It is asked
+    // only where one of them may break it.
+    fn allows_at(&self, source: &Grid, used: &UsedRow) -> bool
         requires asked { IsAsked self.now }
         requires unbroken { ¬ Breaks (asked_statement self.now) source.now }
-        ensures { IsTrue result ↔ AllowsAt (asked_statement self.now) source.now add.now cycle }
+        ensures { (add : List (Pair ℕ)) → IsRowOf add used.now → IsTrue result ↔ AllowsAt (asked_statement self.now) source.now add used.now.cycle }
     {
-        let added = add.row(cycle);
-        if !self.triggers.meets(added) {
+        if !self.triggers.meets(used.units) {
             return true;
         }
-        let there = source.row(cycle);
-        self.rule.allows_rows(there, added, there.join(added))
+        let there = source.row(used.cycle);
+        self.rule
+            .allows_rows(there, used.units, there.join(used.units))
     }
-}
-
-// The units that the grid has in any cycle.
-fn units_of(grid: &Grid) -> Row<4>
-    ensures { IsUnitsOf grid.now result }
-{
-    let mut units = Row::empty();
-    for cycle in 0..grid.length() {
-        units = units.join(grid.row(cycle));
-    }
-    units
 }

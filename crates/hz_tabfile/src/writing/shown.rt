@@ -88,7 +88,7 @@ fn add_unit<S: Sink>(
     out: &mut S,
     page: &mut Page,
     cycle: u16,
-    row: Row,
+    row: Row<4>,
     number: u8,
     unit: &Name,
 ) -> Result<(), Failed>
@@ -107,7 +107,7 @@ fn add_cycle<S: Sink>(
     out: &mut S,
     page: &mut Page,
     cycle: u16,
-    row: Row,
+    row: Row<4>,
     units: &[Name],
 ) -> Result<(), Failed>
     requires faults { S.faults out.old < 2 ^ 64 - 1 }

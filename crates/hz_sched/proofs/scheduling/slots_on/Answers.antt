@@ -2,6 +2,7 @@ use Rattle.std.proofs.Common.{◌≡◌, ◌*◌, ◌<◌, ◌≤◌, ℕ, List,
 use Rattle.std.proofs.lemmas.List.{length-map}
 use Rattle.hz_tables.specs.Machines.{machine_of}
 use Rattle.hz_replay.specs.Replaying.{Standing}
+use Rattle.hz_block_model.specs.Scheduling.Machines.{most_wait}
 use Rattle.hz_block_model.specs.Scheduling.Schedules.{present, Legal}
 use Rattle.hz_sched.specs.declared.parts.Slot.{Slot}
 use Rattle.hz_sched.specs.Shape.{graph_of, slots_of, node_of}
@@ -51,5 +52,5 @@ pub returns-clause-soon : goal.returns-clause-soon
 returns-clause-soon g c =
     let count = length c.args.graph.now.insns.items in
     let at = c.loop-turn.invariant.board.at in
-    let last : present 0 (slots_of c.loop-turn.board.slots.items) ≤ 1256 * count = omega (arith, c.loop-turn.invariant.present, c.loop-turn.invariant.soon, c.loop-turn.invariant.left) in
-    subst (λ (xs : List Slot). All (λ x. x.cycle ≤ 1256 * count) xs) (sym c.into_slots.ensures) (all_soon c.loop-turn.board.slots.items (1256 * count) at.rising last)
+    let last : present 0 (slots_of c.loop-turn.board.slots.items) ≤ most_wait * count = omega (arith, c.loop-turn.invariant.present, c.loop-turn.invariant.soon, c.loop-turn.invariant.left) in
+    subst (λ (xs : List Slot). All (λ x. x.cycle ≤ most_wait * count) xs) (sym c.into_slots.ensures) (all_soon c.loop-turn.board.slots.items (most_wait * count) at.rising last)

@@ -1,5 +1,6 @@
 use Rattle.std.proofs.Common.{◌≡◌, ◌+◌, ◌*◌, ◌≤◌, length}
 use Rattle.hz_tables.specs.Machines.{machine_of}
+use Rattle.hz_block_model.specs.Scheduling.Machines.{most_wait}
 use Rattle.hz_block_model.specs.Scheduling.Schedules.{present}
 use Rattle.hz_sched.specs.Shape.{graph_of, slots_of}
 use Rattle.hz_sched.specs.Waits.{issued_at}
@@ -15,5 +16,5 @@ invariant-loop-turn g l = record {
   present : l.board.cycle ≡ present 0 (slots_of l.board.slots.items);
   left : left_below (issued_at (slots_of l.board.slots.items)) (length l.graph.insns.items) + l._turn ≡ length l.graph.insns.items;
   count : length l.board.slots.items ≡ l._turn;
-  soon : l.board.cycle ≤ 1256 * l._turn;
+  soon : l.board.cycle ≤ most_wait * l._turn;
 }

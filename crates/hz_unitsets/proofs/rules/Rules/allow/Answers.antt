@@ -11,7 +11,7 @@ pub returns-then-not-meets : goal.returns-then-not-meets
 returns-then-not-meets c =
     let rules = c.self.inside.rules.items in
     let unbroken = rules_unbroken rules c.args.source.now (rw (← c.self.view_is) at c.requires) in
-    let none = none_touched rules c.self.inside.triggers c.units_of-units.result c.args.source.now c.args.add.now c.self.invariant unbroken c.units_of-units.ensures (λ m. let e = c.meets.ensures.1 m in let n = c.if-not-meets.true in absurd (cc)) in
+    let none = none_touched rules c.self.inside.triggers c.units.result c.args.source.now c.args.add.now c.self.invariant unbroken c.units.ensures (λ m. let e = c.meets.ensures.1 m in let n = c.if-not-meets.true in absurd (cc)) in
     rw (← c.self.view_is, c.if-not-meets.true) (λ _. (allow_rules rules c.args.source.now c.args.add.now).0 none, λ _. refl)
 
 pub returns-else-not-meets : goal.returns-else-not-meets

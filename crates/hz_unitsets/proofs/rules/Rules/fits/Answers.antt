@@ -4,12 +4,12 @@ use Rattle.hz_unitsets.proofs.rules.Rules.fits.Goals as goal
 pub returns-then-meets : goal.returns-then-meets
 returns-then-meets c = (
   λ t. absurd (cc),
-  λ h. absurd (grids_apart c.args.self.now c.args.source.now c.args.add.now h (c.meets.ensures.meets.0 c.if-meets.true)),
+  λ h. absurd (grids_apart c.args.self.now c.args.source.now c.args.add.now h (c.meets.ensures.0 c.if-meets.true)),
 )
 
 pub returns-then-is_unbroken : goal.returns-then-is_unbroken
 returns-then-is_unbroken c = (
-  λ t. fits_grids c.args.self.now c.args.source.now c.args.add.now (λ m. let e = c.meets.ensures.meets.1 m in let n = c.if-meets.false in absurd (cc)) (c.allow.ensures.0 t),
+  λ t. fits_grids c.args.self.now c.args.source.now c.args.add.now (λ m. let e = c.meets.ensures.1 m in let n = c.if-meets.false in absurd (cc)) (c.allow.ensures.0 t),
   λ h. c.allow.ensures.1 (grids_allowed c.args.self.now c.args.source.now c.args.add.now h),
 )
 
