@@ -5,8 +5,15 @@ use Rattle.hz_tool.specs.Decisions.{Agrees}
 use Rattle.hz_tool.specs.Reading.{texts_in}
 use Rattle.hz_tool_words.specs.Shape.{order_in}
 use Rattle.hz_tool_words.specs.declared.order.Order.{Order}
-use Rattle.hz_tool_words.specs.declared.order.Order.TheVariants.{Replay, Walk, Schedule, Eval, Drill, Bound}
+use Rattle.hz_tool_words.specs.declared.order.Order.TheVariants.{Compile, Replay, Walk, Schedule, Eval, Drill, Bound}
 use Rattle.hz_tool.proofs.top.judge_order.Goals as goal
+
+pub returns-in-Compile-clause-answer : goal.returns-in-Compile-clause-answer
+returns-in-Compile-clause-answer c =
+    subst (λ (o : Order). Agrees (JudgesOrder (order_in o) (texts_in c.args.texts.now)) c.judge_compile.result) (sym c.in-Compile.is)
+    (subst (λ (texts : List (List ℕ)). Agrees (JudgesOrder (order_in (Compile c.in-Compile.order)) texts) c.judge_compile.result)
+    (one_text c.args.texts.now _ _ (c.requires.count ∙ ap (λ (o : Order). length (files_of (order_in o))) c.in-Compile.is) c.index-texts-0.is c.as_slice.ensures.value)
+    c.judge_compile.ensures.answer)
 
 pub returns-in-Replay-clause-answer : goal.returns-in-Replay-clause-answer
 returns-in-Replay-clause-answer c =
