@@ -4,7 +4,6 @@ use Rattle.std.specs.List.{concat}
 use Rattle.std.specs.Borrow.{Bor}
 use Rattle.hz_answer_model.specs.Texts.{insn_words, name_words, at_words}
 
-
 -- what a fault begins with
 abbrev pub head_of : (file : List ℕ) → (line : ℕ) → (kind : List ℕ) → List ℕ
 head_of file line kind = concat (codes "fault " ∷ file ∷ codes " line " ∷ decimal line ∷ codes " " ∷ kind ∷ [])

@@ -64,12 +64,7 @@ fn put_at<S: Sink>(out: &mut S, at: Option<(&str, u32)>) -> Result<(), Failed>
     let mut digits = Buffer::new();
     put_all(
         out,
-        &[
-            b" ",
-            word.as_bytes(),
-            b" ",
-            digits.format(byte).as_bytes(),
-        ],
+        &[b" ", word.as_bytes(), b" ", digits.format(byte).as_bytes()],
     )
 }
 

@@ -12,9 +12,15 @@ use hz_tables::Machine;
 #[derive(Clone, Copy)]
 pub enum Report<'a> {
     /// Every issue of the trace fits: how many issues, and how many cycles were advanced.
-    Accepted { issues: u64, cycles: u64 },
+    Accepted {
+        issues: u64,
+        cycles: u64,
+    },
     /// The first issue that does not fit: its line and its class.
-    Refused { line: u32, class: &'a Name },
+    Refused {
+        line: u32,
+        class: &'a Name,
+    },
     /// The schedule of a block: the machine has the names of its classes, the graph its instructions.
     Scheduled {
         machine: &'a Machine,
@@ -22,7 +28,9 @@ pub enum Report<'a> {
         schedule: &'a Schedule,
     },
     /// The state that a block leaves.
-    After { state: &'a State },
+    After {
+        state: &'a State,
+    },
     /// A drill: its turns, the issues and cycles of its trace, and the state in which the trace leaves each automaton.
     Drill {
         turns: u32,
@@ -42,7 +50,9 @@ pub enum Report<'a> {
         at: Option<(&'a str, u32)>,
     },
     /// The file has more bytes than it may have.
-    Bytes { file: &'a str },
+    Bytes {
+        file: &'a str,
+    },
     /// A limit of a description is passed at this line, by what has this name.
     Checked {
         file: &'a str,
@@ -51,11 +61,16 @@ pub enum Report<'a> {
         name: &'a Name,
     },
     /// The automaton of this name has too many states.
-    Automaton { file: &'a str, name: &'a Name },
+    Automaton {
+        file: &'a str,
+        name: &'a Name,
+    },
     /// The words are no command.
     Usage,
     /// Memory ran out.
     Memory,
     /// The file could not be opened or read.
-    File { name: &'a str },
+    File {
+        name: &'a str,
+    },
 }
