@@ -29,7 +29,7 @@ build = sh tools/build_crate.sh $(1) $(beside)
 jobs =
 endif
 
-.PHONY: all try test examples check-walk check-memory check-gcc bench install uninstall dist deb clean
+.PHONY: all try test examples check-walk check-bound check-memory check-gcc bench install uninstall dist deb clean
 
 all: bin/hz
 
@@ -80,6 +80,10 @@ examples: bin/hz
 # compile and then walk, beside replay: on all examples, and on descriptions and traces that a seed makes
 check-walk: bin/hz
 	@python3 tools/check_walk.py bin/hz
+
+# bound beside an exhaustive search, on small blocks that a seed makes
+check-bound: bin/hz
+	@python3 tools/check_bound.py bin/hz
 
 # memory refused to a few commands, one request at a time: each run reports it, or answers as before
 check-memory: bin/hz
