@@ -16,7 +16,7 @@ PAGE = "docs/THEOREM.md"
 RUN = ("crates/hz_tool/src/top.rt", "run")
 ANSWERS = "Rattle.hz_answer_model.specs.Answers"
 PHASES = "Rattle.hz_answer_model.specs.Phases"
-COMMANDS = ("compile", "replay", "walk", "schedule", "eval", "drill")
+COMMANDS = ("compile", "replay", "walk", "schedule", "eval", "drill", "bound")
 
 # What `run` asks of its caller, in plain words.
 REQUIRED = {
@@ -53,6 +53,8 @@ ENSURED = {
                 " `replay` accepts it, and from every state it leaves what the order of the source leaves."
                 " `drill` reports a trace that is drawn by what the description accepts; the description accepts it, and so does `replay`, and"
                 " its states are those that it leaves in the tables that `compile` writes."
+                " `bound` reports a cycle before which no legal schedule of the block ends, with what shows it, beside the last cycle of a"
+                " schedule that keeps the block."
                 " Of `replay`, `walk` and `eval` nothing more is promised than the answer.",
 }
 
