@@ -268,7 +268,7 @@ expect 0 "$(printf 'path 0 1\nload a 1 0 0\nbound 0\nschedule 0 cycles')" bound 
 expect 0 "$(printf 'path 0\nload -\nbound 0\nschedule 0 cycles')" bound d empty
 expect 2 'fault ambiguous line 2 Ambiguous insn 2 x y' bound classes ambiguous
 expect 2 'fault b line 1 CannotStartAlone insn 1' bound never b
-expect 2 'fault d line 1 UnknownCode' bound d d
+expect 2 'fault d line 1 BadShape' bound d d
 expect 2 'fault unclosed line 1 Unclosed' bound unclosed code
 expect 3 'limit states automaton -' bound states code
 expect 3 'limit long bytes' bound d long
