@@ -1,5 +1,6 @@
 -- What rules say of one cycle, of all cycles and of two grids.
-use Rattle.std.proofs.Common.{◌≡◌, ℕ, ◌+◌, ◌<◌, ◌≤◌, ◌↔◌, ◌⊎◌, inl, inr, Bool, true, false, List, [], ◌∷◌, ◌++◌, map, get_or, All, refl, sym, ap, ◌∙◌, subst, arith, ⊎_elim}
+use Rattle.std.proofs.Common.{◌≡◌, ℕ, ◌+◌, ◌<◌, ◌≤◌, ◌↔◌, ◌⊎◌, inl, inr, Bool, true, false, List, [], ◌∷◌, ◌++◌, map, get_or, length, All, refl, sym, ap, ◌∙◌, subst, arith, ⊎_elim}
+use Rattle.std.proofs.lemmas.Bool.{cases_lt}
 use Rattle.std.proofs.lemmas.List.{append-nil, append_assoc, map_push}
 use Rattle.std.proofs.lemmas.List.Elements.{All-contains, All-map, All-push, Contains-get_or, Contains-append_left, Contains-append_right, Contains-append_cases}
 use Rattle.hz_base_model.specs.Pairs.{Pair, placed}
@@ -13,13 +14,13 @@ use Rattle.hz_grid.specs.Grids.{Meets}
 use Rattle.hz_grid.specs.declared.usage.UsedRow.{UsedRow}
 use Rattle.hz_grid.specs.Used.{is_at, AreRowsOf, HasUnitsOf}
 use Rattle.hz_grid.proofs.UsedLemmas.{row_at_cycle}
-use Rattle.std.specs.List.{list_any}
+use Rattle.std.specs.List.{Any, list_any}
 use Rattle.hz_unitsets.specs.declared.set_rules.SetKind.{SetKind}
 use Rattle.hz_unitsets.specs.declared.set_rules.SetKind.TheVariants.{Exclusion, Presence, FinalPresence, Absence, FinalAbsence}
 use Rattle.hz_unitsets.specs.declared.row_rules.Rule.{Rule}
 use Rattle.hz_unitsets.specs.declared.rules.Asked.{Asked}
 use Rattle.hz_unitsets.specs.SetRules.{kind_of}
-use Rattle.hz_unitsets.specs.RowRules.{statement_in, asked_statement, AllowsAt, Allows, Breaks, IsTrigger, IsPart, IsAsked, AreAsked}
+use Rattle.hz_unitsets.specs.RowRules.{statement_in, asked_statement, AllowsAt, AllowsRows, ForbidsRows, Allows, Breaks, BreaksRow, IsTrigger, IsPart, IsAsked, AreAsked}
 
 -- ---- where no added unit may break a statement
 
@@ -108,6 +109,104 @@ part_allowed s source part pairs other is h = record { at = λ cycle. allowed cy
       absent = λ e some pattern. k.absent e (some_with s.units _ _ (into cycle) some) pattern;
       finally_absent = λ e some pattern. k.finally_absent e (some_with s.units _ _ (into cycle) some) (pattern_with s.patterns _ _ (into_all cycle) pattern);
     }
+
+-- ---- one cycle, by what stands there and what is added alone
+
+pub rows_untriggered : (s : Statement ℕ) (there added : ℕ) → (BreaksRow s there → ⊥) → ((unit : ℕ) → IsTrigger s unit → HasUnit added unit → ⊥) → AllowsRows s there added
+rows_untriggered s there added unbroken none = record {
+  excluded = λ e some pattern. unbroken (e, some_there some, pattern_there e pattern);
+  present = λ _ h. absurd (none h.0 (inl h.1) h.2);
+  finally_present = λ _ h. absurd (none h.0 (inl h.1) h.2);
+  absent = λ _ h _. none h.0 (inl h.1) h.2;
+  finally_absent = λ _ h _. none h.0 (inl h.1) h.2;
+}
+  where
+    stood : (unit : ℕ) → IsTrigger s unit → (HasUnit there unit ⊎ HasUnit added unit) → HasUnit there unit
+    stood unit is h = ⊎_elim (λ l. l) (λ r. absurd (none unit is r)) h
+
+    some_there : HoldsSome s.units (λ unit. HasUnit there unit ⊎ HasUnit added unit) → HoldsSome s.units (HasUnit there)
+    some_there h = (h.0, h.1, stood h.0 (inl h.1) h.2)
+
+    pattern_there : s.kind ≡ exclusion → HoldsPattern s.patterns (λ unit. HasUnit there unit ⊎ HasUnit added unit) → HoldsPattern s.patterns (HasUnit there)
+    pattern_there e h = (h.0, h.1, λ u is. stood u (inr (e, h.0, h.1, is)) (h.2 u is))
+
+-- where nothing stands and nothing is added
+pub nothing_allowed : (s : Statement ℕ) (there added : ℕ) → ((unit : ℕ) → HasUnit there unit → ⊥) → ((unit : ℕ) → HasUnit added unit → ⊥) → AllowsRows s there added
+nothing_allowed s there added bare none = rows_untriggered s there added (λ b. bare b.1.0 b.1.2) (λ unit _ h. none unit h)
+
+pub allows_joined : (s : Statement ℕ) (there added all : ℕ) → ((u : ℕ) → HasUnit all u ↔ (HasUnit there u ⊎ HasUnit added u)) → AllowsIn s (HasUnit there) (HasUnit added) (HasUnit all) ↔ AllowsRows s there added
+allows_joined s there added all is_all = (
+  allows_same s _ _ _ _ _ _ (λ u. (λ x. x, λ x. x)) (λ u. (λ x. x, λ x. x)) is_all,
+  allows_same s _ _ _ _ _ _ (λ u. (λ x. x, λ x. x)) (λ u. (λ x. x, λ x. x)) (λ u. iff_back _ _ (is_all u)),
+)
+
+-- rows that are those of two grids in a cycle
+module _ (source add : List (Pair ℕ)) (cycle there added : ℕ) (is_there : (u : ℕ) → HasUnit there u ↔ Holds source cycle u) (is_added : (u : ℕ) → HasUnit added u ↔ Holds add cycle u) where
+  both_rows : (u : ℕ) → (HasUnit there u ⊎ HasUnit added u) ↔ Holds (source ++ add) cycle u
+  both_rows u = (
+    λ h. ⊎_elim (λ l. Contains-append_left source add _ ((is_there u).0 l)) (λ r. Contains-append_right source add _ ((is_added u).0 r)) h,
+    λ h. ⊎_elim (λ l. inl ((is_there u).1 l)) (λ r. inr ((is_added u).1 r)) (Contains-append_cases source add _ h),
+  )
+
+  pub rows_at : (s : Statement ℕ) → AllowsRows s there added ↔ AllowsAt s source add cycle
+  rows_at s = (
+    allows_same s _ _ _ _ _ _ is_there is_added both_rows,
+    allows_same s _ _ _ _ _ _ (λ u. iff_back _ _ (is_there u)) (λ u. iff_back _ _ (is_added u)) (λ u. iff_back _ _ (both_rows u)),
+  )
+
+  pub all_rows_at : (rules : List Asked) → All (λ asked. AllowsRows (asked_statement asked) there added) rules ↔ All (λ asked. AllowsAt (asked_statement asked) source add cycle) rules
+  all_rows_at rules = (
+    λ h k d within. (rows_at (asked_statement (get_or rules k d))).0 (h k d within),
+    λ h k d within. (rows_at (asked_statement (get_or rules k d))).1 (h k d within),
+  )
+
+  -- a part of what is added is forbidden there
+  pub rows_forbid : (rules : List Asked) (pairs : List (Pair ℕ)) → Any (λ asked. ForbidsRows (asked_statement asked) there added) rules → IsPart add pairs → All (λ asked. Allows (asked_statement asked) source pairs) rules → ⊥
+  rows_forbid rules pairs any is all =
+      let (k, asked, within, at, forbids) = any in
+      let allowed = All-contains (λ (a : Asked). Allows (asked_statement a) source pairs) rules asked all (k, within, at) in
+      forbids.1 ((rows_at (asked_statement asked)).1 ((part_allowed (asked_statement asked) source add pairs forbids.0 is allowed).at cycle))
+
+pub rows_unbroken : (rules : List Asked) (source : List (Pair ℕ)) (cycle there : ℕ) → ((u : ℕ) → HasUnit there u ↔ Holds source cycle u) → All (λ asked. ¬ Breaks (asked_statement asked) source) rules → All (λ asked. ¬ BreaksRow (asked_statement asked) there) rules
+rows_unbroken rules source cycle there is_there unbroken k d within b =
+    let s = asked_statement (get_or rules k d) in
+    unbroken k d within (b.0, (cycle, some_with s.units _ _ (λ u. (is_there u).0) b.1, pattern_with s.patterns _ _ (λ u. (is_there u).0) b.2))
+
+-- ---- rules, cycle by cycle
+
+-- each rule allows each of the first cycles
+abbrev pub AllowBefore : List Asked → List (Pair ℕ) → List (Pair ℕ) → List UsedRow → ℕ → Type 0
+AllowBefore rules source add rows cycles = (k : ℕ) (d : UsedRow) → k < cycles → All (λ asked. AllowsAt (asked_statement asked) source add (get_or rows k d).cycle) rules
+
+pub allow_more : (rules : List Asked) (source add : List (Pair ℕ)) (rows : List UsedRow) (cycles : ℕ) (used : UsedRow) → AllowBefore rules source add rows cycles → ((e : UsedRow) → used ≡ get_or rows cycles e)
+    → All (λ asked. AllowsAt (asked_statement asked) source add used.cycle) rules → AllowBefore rules source add rows (cycles + 1)
+allow_more rules source add rows cycles used before read here k d low = ⊎_elim
+    (λ (less : k < cycles). before k d less)
+    (λ (same : cycles ≤ k).
+    let is : cycles ≡ k = omega (arith, low, same) in
+    subst (λ (n : ℕ). All (λ asked. AllowsAt (asked_statement asked) source add (get_or rows n d).cycle) rules) is
+    (subst (λ (r : UsedRow). All (λ asked. AllowsAt (asked_statement asked) source add r.cycle) rules) (read d) here))
+    (cases_lt k cycles)
+
+-- by the cycles in which a unit is added
+pub all_allow_used : (rules : List Asked) (source add : List (Pair ℕ)) (rows : List UsedRow) → All (λ asked. ¬ Breaks (asked_statement asked) source) rules → AreRowsOf add rows → AllowBefore rules source add rows (length rows)
+    → All (λ asked. Allows (asked_statement asked) source add) rules
+all_allow_used rules source add rows unbroken are before i e within = allows_used _ source add rows (unbroken i e within) are (λ k d low. before k d low i e within)
+
+-- ---- rules, one by one
+
+-- each of the first rules allows each cycle
+abbrev pub FirstAllow : List Asked → List (Pair ℕ) → List (Pair ℕ) → ℕ → Type 0
+FirstAllow rules source add count = (k : ℕ) (d : Asked) → k < count → Allows (asked_statement (get_or rules k d)) source add
+
+pub first_more : (rules : List Asked) (source add : List (Pair ℕ)) (count : ℕ) (asked : Asked) → FirstAllow rules source add count → ((e : Asked) → asked ≡ get_or rules count e) → Allows (asked_statement asked) source add → FirstAllow rules source add (count + 1)
+first_more rules source add count asked before read here k d low = ⊎_elim
+    (λ (less : k < count). before k d less)
+    (λ (same : count ≤ k).
+    let is : count ≡ k = omega (arith, low, same) in
+    subst (λ (n : ℕ). Allows (asked_statement (get_or rules n d)) source add) is
+    (subst (λ (a : Asked). Allows (asked_statement a) source add) (read d) here))
+    (cases_lt k count)
 
 -- ---- two grids
 

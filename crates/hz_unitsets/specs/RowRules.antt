@@ -1,10 +1,9 @@
 -- Rules whose units and patterns are rows.
-use Rattle.std.specs.Prelude.{◌≡◌, ◌⊎◌, ℕ, ◌<◌, List, [], ◌∷◌, map, filter, ◌++◌, All, Contains}
-use Rattle.std.specs.List.{range_with_len}
+use Rattle.std.specs.Prelude.{◌≡◌, ◌⊎◌, ℕ, ◌<◌, List, [], ◌∷◌, map, ◌++◌, All, Contains}
 use Rattle.hz_base_model.specs.Pairs.{Pair}
-use Rattle.hz_description_model.specs.Reservations.Sets.{Statement, exclusion, Holds, HoldsSome, HoldsPattern, AllowsIn}
+use Rattle.hz_description_model.specs.Reservations.Sets.{Statement, exclusion, final_presence, Holds, HoldsSome, HoldsPattern, AllowsIn}
 use Rattle.hz_grid.specs.declared.rows.TheConstants.{UNITS}
-use Rattle.hz_grid.specs.Rows.{has_unit, HasUnit, IsWithin}
+use Rattle.hz_grid.specs.Rows.{HasUnit, IsWithin}
 use Rattle.hz_unitsets.specs.declared.row_rules.Rule.{Rule}
 use Rattle.hz_unitsets.specs.declared.rules.Asked.{Asked}
 use Rattle.hz_unitsets.specs.SetRules.{kind_of}
@@ -42,6 +41,18 @@ StandsIn s pairs = (cycle : ℕ) × HoldsSome s.units (Holds pairs cycle) × Hol
 -- the statement is an exclusion, and it stands in the pairs
 abbrev pub Breaks : Statement ℕ → List (Pair ℕ) → Type 0
 Breaks s pairs = (s.kind ≡ exclusion) × StandsIn s pairs
+
+-- the statement allows a cycle of these rows, what stood there and what is added
+abbrev pub AllowsRows : Statement ℕ → ℕ → ℕ → Type 0
+AllowsRows s there added = AllowsIn s (HasUnit there) (HasUnit added) (λ unit. HasUnit there unit ⊎ HasUnit added unit)
+
+-- the statement forbids a cycle of these rows, and looks for no pattern in the result that it wants
+abbrev pub ForbidsRows : Statement ℕ → ℕ → ℕ → Type 0
+ForbidsRows s there added = (s.kind ≡ final_presence → ⊥) × (AllowsRows s there added → ⊥)
+
+-- the statement is an exclusion, and it stands in the row
+abbrev pub BreaksRow : Statement ℕ → ℕ → Type 0
+BreaksRow s row = (s.kind ≡ exclusion) × HoldsSome s.units (HasUnit row) × HoldsPattern s.patterns (HasUnit row)
 
 -- The addition of the unit may break the statement: it is of its first string, or of a pattern of an exclusion.
 abbrev pub IsTrigger : Statement ℕ → ℕ → Type 0

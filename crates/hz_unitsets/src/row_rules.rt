@@ -74,6 +74,11 @@ impl Rule {
         }
     }
 
+    /// How many patterns it has.
+    pub(crate) fn pattern_count(&self) -> usize {
+        self.patterns.len()
+    }
+
     // Whether in some cycle a unit of the rule stands with a pattern of it.
     fn stands_in(&self, source: &Grid) -> bool
         requires { IsBounded self.now }

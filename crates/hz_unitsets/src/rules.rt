@@ -1,11 +1,11 @@
 //! The set statements of an automaton, each once, which are asked of grids.
 
 ghost use Rattle.std.specs.Prelude.{◌≡◌, ◌≢◌, ◌↔◌, ℕ, List, map, All, IfOk, OnOk, IsTrue};
-ghost use Rattle.std.specs.List.{AllPairs};
+ghost use Rattle.std.specs.List.{AllPairs, Any};
 ghost use Rattle.hz_description_model.specs.Reservations.Sets.{Fits};
 ghost use Rattle.hz_acceptance_model.specs.Accepting.Fitting.{AskTheSame, IsUnbroken};
 ghost use Rattle.hz_unitsets.specs.SetRules.{statements_of, IsInRange, ordered};
-ghost use Rattle.hz_unitsets.specs.RowRules.{statement_in, asked_statement, IsBounded, IsAsked, Allows, AllowsAt, Breaks, IsPart, IsKept, AreSame};
+ghost use Rattle.hz_unitsets.specs.RowRules.{statement_in, asked_statement, IsBounded, IsAsked, Allows, AllowsAt, AllowsRows, ForbidsRows, Breaks, BreaksRow, IsPart, IsKept, AreSame};
 ghost use Rattle.hz_base_model.specs.Pairs.{Pair};
 ghost use Rattle.hz_grid.specs.Used.{IsRowOf};
 
@@ -72,7 +72,8 @@ impl Rules {
     }
 
     /// Whether the added pairs fit a source that breaks no exclusion, as `fits` says it. A statement that no added unit
-    /// may break costs one test of rows, and none where this holds of all. It takes no memory.
+    /// may break costs one test of rows, and none where this holds of all. Where many others are asked, it costs one for
+    /// each cycle whose rows are not those of the one before. It takes no memory.
     pub fn fits_unbroken(&self, source: &Grid, add: &Usage) -> bool
         requires { IsUnbroken self.now source.now }
         ensures { IsTrue result ↔ Fits self.now source.now add.now 0 }
@@ -113,23 +114,158 @@ fn none_broken(rules: &[Asked], source: &Grid) -> bool
     rules.iter().all(|asked| !asked.rule.is_broken(source))
 }
 
-// Whether each rule allows each cycle, where the source breaks none.
+// How often patterns are looked for rule by rule, before it is gone cycle by cycle.
+const LOOKS: usize = 4096;
+
+// How many patterns are looked for rule by rule, each in so many cycles.
+fn few(cycles: usize) -> usize {
+    LOOKS / cycles.max(1)
+}
+
+// Whether each rule allows each cycle, where the source breaks none. A few rules that an added unit may break are asked of
+// all cycles. Where there are more, each cycle is asked of all rules.
 fn all_allow(rules: &[Asked], source: &Grid, add: &Usage) -> bool
     requires asked { All IsAsked rules.now }
     requires unbroken { All (λ asked. ¬ Breaks (asked_statement asked) source.now) rules.now }
     ensures { IsTrue result ↔ All (λ asked. Allows (asked_statement asked) source.now add.now) rules.now }
 {
-    rules.iter().all(|asked| asked.allows(source, add))
+    let units = add.units();
+    let mut left = few(add.rows().len());
+    for asked in rules {
+        if asked.triggers.meets(units) {
+            let count = asked.rule.pattern_count();
+            if left < count {
+                return all_allow_by_cycle(rules, source, add);
+            }
+            left -= count;
+            if !asked.allows_each(source, add) {
+                return false;
+            }
+        }
+    }
+    true
 }
 
-// Whether some rule forbids what has these pairs, where the source breaks none.
+// The same, cycle by cycle. A cycle with the rows of the one before is not asked of the rules again.
+fn all_allow_by_cycle(rules: &[Asked], source: &Grid, add: &Usage) -> bool
+    requires asked { All IsAsked rules.now }
+    requires unbroken { All (λ asked. ¬ Breaks (asked_statement asked) source.now) rules.now }
+    ensures { IsTrue result ↔ All (λ asked. Allows (asked_statement asked) source.now add.now) rules.now }
+{
+    let mut there = Row::empty();
+    let mut added = Row::empty();
+    let rows = add.rows();
+    for used in rows {
+        let here = source.row(used.cycle);
+        if !all_allow_next(rules, there, added, here, used.units) {
+            return false;
+        }
+        there = here;
+        added = used.units;
+    }
+    true
+}
+
+// Whether each rule allows a cycle with these rows, what stands here and the units that are added, where the first breaks
+// none. The rows of the cycle before are allowed, so where these are equal no rule is asked.
+fn all_allow_next(
+    rules: &[Asked],
+    there: Row<4>,
+    added: Row<4>,
+    here: Row<4>,
+    units: Row<4>,
+) -> bool
+    requires asked { All IsAsked rules.now }
+    requires unbroken { All (λ asked. ¬ BreaksRow (asked_statement asked) here) rules.now }
+    requires before { All (λ asked. AllowsRows (asked_statement asked) there added) rules.now }
+    ensures { IsTrue result ↔ All (λ asked. AllowsRows (asked_statement asked) here units) rules.now }
+{
+    if here == there && units == added {
+        return true;
+    }
+    all_allow_rows(rules, here, units)
+}
+
+// Whether each rule allows a cycle with these rows, what stood there and what is added, where the first breaks none.
+fn all_allow_rows(rules: &[Asked], there: Row<4>, added: Row<4>) -> bool
+    requires asked { All IsAsked rules.now }
+    requires unbroken { All (λ asked. ¬ BreaksRow (asked_statement asked) there) rules.now }
+    ensures { IsTrue result ↔ All (λ asked. AllowsRows (asked_statement asked) there added) rules.now }
+{
+    rules.iter().all(|asked| asked.allows_rows(there, added))
+}
+
+// Whether some rule forbids what has these pairs, where the source breaks none. A few rules that a unit of the pairs may
+// break are asked of all cycles. Where there are more, each cycle is asked of all rules.
 fn some_forbids(rules: &[Asked], source: &Grid, part: &Usage) -> bool
     requires asked { All IsAsked rules.now }
     requires unbroken { All (λ asked. ¬ Breaks (asked_statement asked) source.now) rules.now }
     ensures { IsTrue result → (pairs : List (Pair ℕ)) → IsPart part.now pairs → ¬ All (λ asked. Allows (asked_statement asked) source.now pairs) rules.now }
 {
+    let units = part.units();
+    let mut left = few(part.rows().len());
     for asked in rules {
-        if asked.forbids(source, part) {
+        if asked.triggers.meets(units) {
+            let count = asked.rule.pattern_count();
+            if left < count {
+                return some_forbids_by_cycle(rules, source, part);
+            }
+            left -= count;
+            if asked.forbids(source, part) {
+                return true;
+            }
+        }
+    }
+    false
+}
+
+// The same, cycle by cycle. A cycle with the rows of the one before is not asked of the rules again.
+fn some_forbids_by_cycle(rules: &[Asked], source: &Grid, part: &Usage) -> bool
+    requires asked { All IsAsked rules.now }
+    requires unbroken { All (λ asked. ¬ Breaks (asked_statement asked) source.now) rules.now }
+    ensures { IsTrue result → (pairs : List (Pair ℕ)) → IsPart part.now pairs → ¬ All (λ asked. Allows (asked_statement asked) source.now pairs) rules.now }
+{
+    let mut there = Row::empty();
+    let mut added = Row::empty();
+    let rows = part.rows();
+    for used in rows {
+        let here = source.row(used.cycle);
+        if some_forbids_next(rules, there, added, here, used.units) {
+            return true;
+        }
+        there = here;
+        added = used.units;
+    }
+    false
+}
+
+// Whether some rule is seen to forbid a cycle with these rows, what stands here and the units that are added, where the
+// first breaks none. The rows of the cycle before were not forbidden, so where these are equal no rule is asked.
+fn some_forbids_next(
+    rules: &[Asked],
+    there: Row<4>,
+    added: Row<4>,
+    here: Row<4>,
+    units: Row<4>,
+) -> bool
+    requires asked { All IsAsked rules.now }
+    requires unbroken { All (λ asked. ¬ BreaksRow (asked_statement asked) here) rules.now }
+    ensures { IsTrue result → Any (λ asked. ForbidsRows (asked_statement asked) here units) rules.now }
+{
+    if units == added && here == there {
+        return false;
+    }
+    some_forbids_rows(rules, here, units)
+}
+
+// Whether some rule forbids a cycle with these rows, whatever is added beside them, where what stood there breaks none.
+fn some_forbids_rows(rules: &[Asked], there: Row<4>, added: Row<4>) -> bool
+    requires asked { All IsAsked rules.now }
+    requires unbroken { All (λ asked. ¬ BreaksRow (asked_statement asked) there) rules.now }
+    ensures { IsTrue result → Any (λ asked. ForbidsRows (asked_statement asked) there added) rules.now }
+{
+    for asked in rules {
+        if asked.forbids_rows(there, added) {
             return true;
         }
     }
@@ -172,19 +308,6 @@ impl Asked {
         Asked { rule, triggers }
     }
 
-    // Whether the rule allows each cycle, where the source does not break it. It is asked only where an added unit may
-    // break it.
-    fn allows(&self, source: &Grid, add: &Usage) -> bool
-        requires asked { IsAsked self.now }
-        requires unbroken { ¬ Breaks (asked_statement self.now) source.now }
-        ensures { IsTrue result ↔ Allows (asked_statement self.now) source.now add.now }
-    {
-        if !self.triggers.meets(add.units()) {
-            return true;
-        }
-        self.allows_each(source, add)
-    }
-
     // Whether the rule forbids what has these pairs, whatever is added beside them, where the source does not break it. A
     // final presence never does: what is added beside them may be its pattern.
     fn forbids(&self, source: &Grid, part: &Usage) -> bool
@@ -192,7 +315,29 @@ impl Asked {
         requires unbroken { ¬ Breaks (asked_statement self.now) source.now }
         ensures { IsTrue result → (pairs : List (Pair ℕ)) → IsPart part.now pairs → ¬ Allows (asked_statement self.now) source.now pairs }
     {
-        !self.rule.is_final_presence() && !self.allows(source, part)
+        !self.rule.is_final_presence() && !self.allows_each(source, part)
+    }
+
+    // Whether the rule allows a cycle with these rows, what stood there and what is added, where the first does not break it.
+    // It is asked only where an added unit may break it.
+    fn allows_rows(&self, there: Row<4>, added: Row<4>) -> bool
+        requires asked { IsAsked self.now }
+        requires unbroken { ¬ BreaksRow (asked_statement self.now) there }
+        ensures { IsTrue result ↔ AllowsRows (asked_statement self.now) there added }
+    {
+        if !self.triggers.meets(added) {
+            return true;
+        }
+        self.rule.allows_rows(there, added, there.join(added))
+    }
+
+    // Whether the rule forbids a cycle with these rows, whatever is added beside them. A final presence never does.
+    fn forbids_rows(&self, there: Row<4>, added: Row<4>) -> bool
+        requires asked { IsAsked self.now }
+        requires unbroken { ¬ BreaksRow (asked_statement self.now) there }
+        ensures { IsTrue result → ForbidsRows (asked_statement self.now) there added }
+    {
+        !self.allows_rows(there, added) && !self.rule.is_final_presence()
     }
 
     // Whether the rule allows each cycle in which a unit is added.

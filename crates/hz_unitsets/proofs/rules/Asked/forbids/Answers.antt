@@ -12,4 +12,4 @@ not_allowed false t h = cc
 pub returns-then-not-is_final_presence : goal.returns-then-not-is_final_presence
 returns-then-not-is_final_presence c t pairs is h =
     let part = part_allowed _ c.args.source.now c.args.part.now pairs (λ e. not_both c.is_final_presence.result (c.is_final_presence.ensures e) c.if-not-is_final_presence.true) is h in
-    not_allowed c.allows.result t (c.allows.ensures.1 part)
+    not_allowed c.allows_each.result t (c.allows_each.ensures.1 part)
