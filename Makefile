@@ -103,6 +103,7 @@ bench: bin/hz
 	@sh bench/compile/pipelines.sh bin/hz
 	@sh bench/walk/run.sh bin/hz
 	@sh bench/schedule/run.sh bin/hz
+	@sh bench/bound/run.sh bin/hz
 	@sh bench/blocks/run.sh bin/hz
 	@sh bench/states/run.sh
 	@sh bench/determ/run.sh

@@ -1,24 +1,28 @@
 -- The cycles of a unit in a grid, cycle by cycle, and ranges of cycles side by side.
-use Rattle.std.proofs.Common.{◌≡◌, ℕ, suc, ◌+◌, ◌-◌, ◌<◌, ◌≤◌, ◌==◌, ⊎_elim, Bool, true, false, cond, List, [], ◌∷◌, ◌++◌, map, filter, drop, length, get_or, Contains, rules, Option, Some, None, refl, sym, ap, ◌∙◌, subst, arith}
-use Rattle.std.specs.Prelude.{min, max, IsTrue}
+use Rattle.std.proofs.Common.{◌≡◌, ℕ, suc, ◌+◌, ◌-◌, ◌<◌, ◌≤◌, ◌==◌, ⊎_elim, Bool, true, false, cond, List, [], ◌∷◌, ◌++◌, filter, length, get_or, Contains, rules, Option, Some, None, refl, sym, ap, ◌∙◌, subst, arith}
+use Rattle.std.specs.Prelude.{min, max, IsTrue, not}
 use Rattle.std.specs.List.{range_with_len, list_any, AllPairs}
 use Rattle.std.proofs.lemmas.Bool.{eqb-true, eq-eqb, or_cases}
-use Rattle.std.proofs.lemmas.List.{length-map, get_or-map, drop_more, drop_all}
+use Rattle.std.proofs.lemmas.List.{length-map, get_or-map}
 use Rattle.std.proofs.lemmas.List.Kept.{AllPairs-filter}
-use Rattle.std.proofs.lemmas.List.Elements.{Contains-get_or}
+use Rattle.std.proofs.lemmas.List.Elements.{All-contains, Contains-get_or}
 use Rattle.hz_base_model.specs.Pairs.{Pair, IsAscendingBy, precedes_by}
 use Rattle.hz_base_model.proofs.PairOrder.{precedes_parts}
 use Rattle.hz_base_model.proofs.Elements.{Contains-head, Contains-tail, Contains-map, Contains-from_map, Contains-filter, Contains-from_filter, Contains-range}
 use Rattle.hz_base_model.proofs.Ascending.{same_from_ascending, AllPairs-range}
 use Rattle.hz_block_model.proofs.Dependences.SourceLaws.{any_contains}
 use Rattle.std.specs.Ordering.{nat_cmp}
-use Rattle.hz_bound_model.specs.Loads.{least, cycles_at, ways_in}
+use Rattle.std.proofs.lemmas.List.Filters.{length-filter_both}
+use Rattle.std.proofs.lemmas.List.FromFn.{length-range_with_len}
+use Rattle.hz_grid.specs.Grids.{IsGrid}
+use Rattle.hz_grid.specs.declared.grid_of.TheConstants.{CYCLES}
+use Rattle.hz_bound_model.specs.Loads.{cycles_at}
 use Rattle.hz_bound.specs.declared.cycles.Range.{Range}
-use Rattle.hz_bound.specs.Ranges.{has, range_of, joined, all_cycles, least_count}
+use Rattle.hz_bound.specs.Ranges.{has, range_of, joined}
 
 -- ---- ranges
 
-join_none : (o : Option Range) → joined o None ≡ o
+pub join_none : (o : Option Range) → joined o None ≡ o
 join_none None = refl
 join_none (Some a) = refl
 
@@ -34,7 +38,7 @@ join_all (Some a) (Some b) (Some c) = λ i. Some (record { first = low i; last =
     high : max (max a.last b.last) c.last ≡ max a.last (max b.last c.last)
     high = omega arith
 
-range_cons : (c : ℕ) (cs : List ℕ) → range_of (c ∷ cs) ≡ joined (Some (record { first = c; last = c })) (range_of cs)
+pub range_cons : (c : ℕ) (cs : List ℕ) → range_of (c ∷ cs) ≡ joined (Some (record { first = c; last = c })) (range_of cs)
 range_cons c [] = λ i. Some (record { first = c; last = high i })
   where
     high : max c 0 ≡ c
@@ -45,47 +49,11 @@ pub range_append : (cs ds : List ℕ) → range_of (cs ++ ds) ≡ joined (range_
 range_append [] ds = refl
 range_append (c ∷ cs) ds = range_cons c (cs ++ ds) ∙ (ap (λ (o : Option Range). joined (Some (record { first = c; last = c })) o) (range_append cs ds) ∙ (sym (join_all (Some (record { first = c; last = c })) (range_of cs) (range_of ds)) ∙ ap (λ (o : Option Range). joined o (range_of ds)) (sym (range_cons c cs))))
 
--- ---- least counts
-
-pub least_counts : (n : ℕ) (ns : List ℕ) → least_count (Some n) ns ≡ Some (least (n ∷ ns))
-least_counts n [] = refl
-least_counts n (m ∷ ns) = least_counts (min n m) ns ∙ ap (λ (k : ℕ). Some k) (mins ns)
-  where
-    mins : (ns : List ℕ) → least (min n m ∷ ns) ≡ least (n ∷ m ∷ ns)
-    mins [] = refl
-    mins (o ∷ ns) = omega arith
-
-least_ends : (answer other : Option ℕ) (ns rest : List ℕ) → least_count answer rest ≡ least_count None ns → rest ≡ [] → answer ≡ other → other ≡ least_count None ns
-least_ends answer other ns rest same empty e = sym e ∙ (sym (ap (least_count answer) empty) ∙ same)
-
-pub force_none : (answer : Option ℕ) (ns rest : List ℕ) → least_count answer rest ≡ least_count None ns → rest ≡ [] → answer ≡ None → 0 ≡ least ns
-force_none answer [] rest same empty e = refl
-force_none answer (n ∷ ns) rest same empty e = absurd (let is = least_ends answer None (n ∷ ns) rest same empty e ∙ least_counts n ns in cc)
-
-pub force_some : (answer : Option ℕ) (ns rest : List ℕ) (k : ℕ) → least_count answer rest ≡ least_count None ns → rest ≡ [] → answer ≡ Some k → k ≡ least ns
-force_some answer [] rest k same empty e = absurd (let is = least_ends answer (Some k) [] rest same empty e in cc)
-force_some answer (n ∷ ns) rest k same empty e = same_some k (least (n ∷ ns)) (least_ends answer (Some k) (n ∷ ns) rest same empty e ∙ least_counts n ns)
-  where
-    same_some : (a b : ℕ) → Some a ≡ Some b → a ≡ b
-    same_some a b e = cc
-
-pub none_left : (unit i : ℕ) (list : List (List (Pair ℕ))) → length list ≤ i → map length (ways_in unit (drop i list)) ≡ []
-none_left unit i list le = ap (λ (gs : List (List (Pair ℕ))). map length (ways_in unit gs)) (drop_all i list le)
-
-pub among_more : (unit : ℕ) (range new mine : Option Range) (list : List (List (Pair ℕ))) (i : ℕ) (item : List (Pair ℕ)) (all : Option Range) → i < length list → item ≡ get_or list i item → mine ≡ range_of (cycles_at unit item) → new ≡ joined range mine
-    → joined range (range_of (all_cycles (ways_in unit (drop i list)))) ≡ all → joined new (range_of (all_cycles (ways_in unit (drop (i + 1) list)))) ≡ all
-among_more unit range new mine list i item all lt is seen made same =
-    let rest = all_cycles (ways_in unit (drop (i + 1) list)) in
-    let parts : drop i list ≡ item ∷ drop (i + 1) list = drop_more list i item lt ∙ ap (λ (g : List (Pair ℕ)). g ∷ drop (i + 1) list) (sym is) in
-    ap (λ (o : Option Range). joined o (range_of rest)) (made ∙ ap (joined range) seen)
-    ∙ (join_all range (range_of (cycles_at unit item)) (range_of rest)
-    ∙ (ap (joined range) (sym (range_append (cycles_at unit item) rest)) ∙ (ap (λ (gs : List (List (Pair ℕ))). joined range (range_of (all_cycles (ways_in unit gs)))) (sym parts) ∙ same)))
-
-from_true : (b : Bool) → b ≡ true → IsTrue b
+pub from_true : (b : Bool) → b ≡ true → IsTrue b
 from_true true h = search rules
 from_true false h = absurd (cc)
 
-to_true : (b : Bool) → IsTrue b → b ≡ true
+pub to_true : (b : Bool) → IsTrue b → b ≡ true
 to_true true h = refl
 to_true false h = absurd (search rules)
 
@@ -166,28 +134,10 @@ module _ (grid : List (Pair ℕ)) (unit : ℕ) where
   pub all_from : (n : ℕ) → IsAscendingBy nat_cmp grid → ((c : ℕ) → Contains grid (record { unit = unit; cycle = c }) → c < n) → filter (has grid unit) (range_with_len 0 (n - 0)) ≡ cycles_at unit grid
   all_from n up below = let same : n - 0 ≡ n = omega arith in ap (λ (k : ℕ). filter (has grid unit) (range_with_len 0 k)) same ∙ all_passed n up below
 
-  pub range_more : (range new : Option Range) (c n : ℕ) (b : Bool) (all : Option Range) → c < n → b ≡ has grid unit c → new ≡ cond b (joined range (Some (record { first = c; last = c }))) range
-      → joined range (range_of (filter (has grid unit) (range_with_len c (n - c)))) ≡ all → joined new (range_of (filter (has grid unit) (range_with_len (c + 1) (n - (c + 1))))) ≡ all
-  range_more range new c n b all lt is made same = go b (has grid unit c) is made (ap (λ (cs : List ℕ). joined range (range_of cs)) (sym (one_passed c n lt)) ∙ same)
-    where
-      go : (b h : Bool) → b ≡ h → new ≡ cond b (joined range (Some (record { first = c; last = c }))) range → joined range (range_of (cond h (c ∷ filter (has grid unit) (range_with_len (c + 1) (n - (c + 1)))) (filter (has grid unit) (range_with_len (c + 1) (n - (c + 1)))))) ≡ all
-          → joined new (range_of (filter (has grid unit) (range_with_len (c + 1) (n - (c + 1))))) ≡ all
-      go true true e made same = ap (λ (o : Option Range). joined o (range_of (filter (has grid unit) (range_with_len (c + 1) (n - (c + 1)))))) made ∙ (join_all range (Some (record { first = c; last = c })) (range_of (filter (has grid unit) (range_with_len (c + 1) (n - (c + 1)))))
-          ∙ (ap (λ (o : Option Range). joined range o) (sym (range_cons c (filter (has grid unit) (range_with_len (c + 1) (n - (c + 1)))))) ∙ same))
-      go false false e made same = ap (λ (o : Option Range). joined o (range_of (filter (has grid unit) (range_with_len (c + 1) (n - (c + 1)))))) made ∙ same
-      go true false e made same = absurd (cc)
-      go false true e made same = absurd (cc)
-
-  pub count_more : (count new c n : ℕ) (b : Bool) (all : ℕ) → c < n → b ≡ has grid unit c → new ≡ count + cond b 1 0 → count + length (filter (has grid unit) (range_with_len c (n - c))) ≡ all → new + length (filter (has grid unit) (range_with_len (c + 1) (n - (c + 1)))) ≡ all
-  count_more count new c n b all lt is made same = go b (has grid unit c) is made (ap (λ (cs : List ℕ). count + length cs) (sym (one_passed c n lt)) ∙ same)
-    where
-      go : (b h : Bool) → b ≡ h → new ≡ count + cond b 1 0 → count + length (cond h (c ∷ filter (has grid unit) (range_with_len (c + 1) (n - (c + 1)))) (filter (has grid unit) (range_with_len (c + 1) (n - (c + 1))))) ≡ all
-          → new + length (filter (has grid unit) (range_with_len (c + 1) (n - (c + 1)))) ≡ all
-      go true true e made same = omega (arith, made, same)
-      go false false e made same = omega (arith, made, same)
-      go true false e made same = absurd (cc)
-      go false true e made same = absurd (cc)
-
-  pub range_next : (range new : Option Range) (c d n : ℕ) (b : Bool) (all : Option Range) → c < n → b ≡ has grid unit c → d ≡ c → new ≡ cond b (joined range (Some (record { first = d; last = d }))) range
-      → joined range (range_of (filter (has grid unit) (range_with_len c (n - c)))) ≡ all → joined new (range_of (filter (has grid unit) (range_with_len (c + 1) (n - (c + 1))))) ≡ all
-  range_next range new c d n b all lt is at made same = range_more range new c n b all lt is (made ∙ ap (λ (k : ℕ). cond b (joined range (Some (record { first = k; last = k }))) range) at) same
+  -- a unit has few cycles
+  pub few_cycles : IsGrid grid → length (cycles_at unit grid) ≤ 512
+  few_cycles is =
+      let all = all_passed 512 is.ascending (λ c there. All-contains (λ (p : Pair ℕ). p.cycle < CYCLES) grid (record { unit = unit; cycle = c }) is.cycles there) in
+      let parts = length-filter_both (has grid unit) (λ (c : ℕ). not (has grid unit c)) (λ c. refl) (range_with_len 0 512) in
+      let same = ap length all in
+      omega (arith, parts, same, length-range_with_len 0 512)

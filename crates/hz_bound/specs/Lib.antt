@@ -1,4 +1,5 @@
 pub mod Rows
 pub mod Ranges
+pub mod Tallies
 pub mod Sums
 pub mod Shape

@@ -24,13 +24,3 @@ joined (Some a) (Some b) = Some (record { first = min a.first b.first; last = ma
 -- the cycles of all ways
 abbrev pub all_cycles : List (List ℕ) → List ℕ
 all_cycles ways = flat_map (λ cycles. cycles) ways
-
--- the lesser of a count, if there is one, and another
-abbrev pub lesser_count : Option ℕ → ℕ → Option ℕ
-lesser_count None n = Some n
-lesser_count (Some m) n = Some (min m n)
-
--- the least of a count, if there is one, and others
-abbrev pub least_count : Option ℕ → List ℕ → Option ℕ
-least_count least [] = least
-least_count least (n ∷ ns) = least_count (lesser_count least n) ns

@@ -5,14 +5,16 @@ ghost use Rattle.std.specs.Option.{option_map, option_map_or};
 ghost use Rattle.hz_block_model.specs.Running.Limits.{instruction_limit};
 ghost use Rattle.hz_bound_model.specs.Bounds as model;
 ghost use Rattle.hz_bound_model.specs.Loads.{ways_by};
-ghost use Rattle.hz_bound_model.specs.Loads as loads;
 ghost use Rattle.hz_bound.specs.Shape.{names_of, lists_in, load_of};
-ghost use Rattle.hz_bound.specs.Sums.{AreMarked};
+ghost use Rattle.hz_bound.specs.Tallies.{AreMasks};
+ghost use Rattle.hz_bound.specs.Sums.{AreTimes, load_by, shown};
 
-use crate::loads::{load_in, marks_of};
+use crate::loads::{Total, load_from, times_of, totals_of};
 use crate::parts::Load;
+use crate::tallies::masks_of;
 use hz_check::Checked;
 use hz_depend::GraphInsn;
+use hz_grid::Row;
 use hz_regexp::NoMemory;
 use std::alloc::Global;
 
@@ -39,33 +41,21 @@ pub fn value_of(load: Option<Load>) -> u32
     }
 }
 
-/// The load of a unit of an automaton, where there is one.
-fn load_at(
-    alloc: Global,
-    checked: &Checked,
-    marks: &[bool],
-    insns: &[GraphInsn],
-    automaton: usize,
-    unit: usize,
-) -> Result<Option<Load>, NoMemory>
-    requires few { length insns.now ≤ instruction_limit }
-    requires classes { All (λ i. i.class < length checked.now.classes.items) insns.now }
-    requires size { length marks.now ≡ length checked.now.classes.items }
-    requires marks { AreMarked (map (λ i. i.class) insns.now) marks.now }
-    requires automaton { automaton < length checked.now.automata.items }
+/// The load of a unit of an automaton by its total, if there is one.
+fn load_at(total: Total, automaton: usize, unit: usize) -> Option<Load>
+    requires automaton { automaton < 4294967296 }
     requires unit { unit < 256 }
-    ensures { IfOk result (λ load. option_map load_of load ≡ option_map (λ l. record { unit = record { automaton = automaton; unit = unit }; load = l }) (loads.load_of (ways_by (lists_in checked.now.classes.items) (record { automaton = automaton; unit = unit })) (map (λ i. i.class) insns.now))) }
+    ensures { option_map load_of result ≡ option_map (λ l. record { unit = record { automaton = automaton; unit = unit }; load = l }) (option_map shown (load_by total)) }
 {
-    let load = load_in(alloc, &checked.classes, marks, insns, automaton, unit as u8)?;
-    match load {
-        None => Ok(None),
-        Some(load) => Ok(Some(Load {
+    match load_from(total) {
+        None => None,
+        Some(load) => Some(Load {
             automaton: automaton as u32,
             unit: unit as u32,
             count: load.count,
             span: load.span,
             value: load.value,
-        })),
+        }),
     }
 }
 
@@ -82,21 +72,24 @@ fn unit_count(checked: &Checked, automaton: usize) -> usize
 fn heaviest_in(
     alloc: Global,
     checked: &Checked,
-    marks: &[bool],
+    masks: &[Row<4>],
+    times: &[u32],
     insns: &[GraphInsn],
     automaton: usize,
 ) -> Result<Option<Load>, NoMemory>
     requires few { length insns.now ≤ instruction_limit }
     requires classes { All (λ i. i.class < length checked.now.classes.items) insns.now }
-    requires size { length marks.now ≡ length checked.now.classes.items }
-    requires marks { AreMarked (map (λ i. i.class) insns.now) marks.now }
+    requires size { length masks.now ≡ 16 }
+    requires masks { AreMasks masks.now }
+    requires times { AreTimes (map (λ i. i.class) insns.now) (length checked.now.classes.items) times.now }
     requires automaton { automaton < length checked.now.automata.items }
     ensures { IfOk result (λ load. option_map load_of load ≡ model.heaviest (model.loads_of (ways_by (lists_in checked.now.classes.items)) (model.units_of automaton (length (slice_index_or (names_of checked.now) automaton []))) (map (λ i. i.class) insns.now))) }
 {
+    let units = unit_count(checked, automaton);
+    let totals = totals_of(alloc, &checked.classes, masks, times, automaton, units)?;
     let mut most = None;
-    for unit in 0..unit_count(checked, automaton) {
-        let load = load_at(alloc, checked, marks, insns, automaton, unit)?;
-        most = heavier(most, load);
+    for unit in 0..units {
+        most = heavier(most, load_at(totals[unit], automaton, unit));
     }
     Ok(most)
 }
@@ -112,10 +105,11 @@ pub fn heaviest_of(
     requires classes { All (λ i. i.class < length checked.now.classes.items) insns.now }
     ensures { IfOk result (λ load. option_map load_of load ≡ model.heaviest (model.loads_of (ways_by (lists_in checked.now.classes.items)) (model.units_from 0 (names_of checked.now)) (map (λ i. i.class) insns.now))) }
 {
-    let marks = marks_of(alloc, insns, checked.classes.len())?;
+    let times = times_of(alloc, insns, checked.classes.len())?;
+    let masks = masks_of(alloc)?;
     let mut most = None;
     for automaton in 0..checked.automata.len() {
-        let load = heaviest_in(alloc, checked, &marks, insns, automaton)?;
+        let load = heaviest_in(alloc, checked, &masks, &times, insns, automaton)?;
         most = heavier(most, load);
     }
     Ok(most)

@@ -8,6 +8,7 @@ mod heaviest;
 mod loads;
 mod parts;
 mod tails;
+mod tallies;
 mod writing;
 
 pub use bounding::bound;

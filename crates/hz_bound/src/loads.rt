@@ -1,25 +1,25 @@
-//! The load of a unit.
+//! The loads of the units of an automaton, in one walk through the pairs of each class that instructions have.
 
-ghost use Rattle.std.specs.Prelude.{◌≡◌, ◌<◌, ◌≤◌, ◌-◌, true, [], Some, None, length, map, All, IfOk, slice_index_or};
-ghost use Rattle.std.specs.Option.{option_map};
-ghost use Rattle.hz_block_model.specs.Running.Limits.{instruction_limit};
+ghost use Rattle.std.specs.Prelude.{◌≡◌, ◌<◌, ◌≤◌, ◌*◌, ◌+◌, ℕ, min, [], length, map, All, IfOk, OnOk, slice_index_or};
 ghost use Rattle.hz_check.specs.Shape.{class_of};
-ghost use Rattle.hz_bound_model.specs.Loads.{ways_in, ways_by, load_of};
 ghost use Rattle.hz_bound.specs.Shape.{lists_in};
-ghost use Rattle.hz_bound.specs.Sums.{Tells, AreMarked, TakesMarked, user_count, user_range, load_by, shown};
+ghost use Rattle.hz_bound.specs.Tallies.{AreMasks, tally_at, forced};
+ghost use Rattle.hz_bound.specs.Sums.{AreTimes, AreJoined, AreTotals, no_total, total_at, load_by};
+ghost use Rattle.hz_bound.specs.Sums as model;
 
-use crate::cycles::{Range, force_of, join_ranges, range_among};
+use crate::cycles::{Range, join_ranges};
+use crate::tallies::{Tally, force_of, range_of, tallies_of};
 use hz_check::CheckedClass;
 use hz_depend::GraphInsn;
-use hz_grid::Grid;
+use hz_grid::{Grid, Row};
 use hz_regexp::NoMemory;
 use std::alloc::Global;
 
-/// What the alternatives of a class take of a unit.
+/// What instructions take of a unit that they can't do without.
 #[derive(Clone, Copy, Debug, PartialEq, Eq)]
-pub struct Taken {
-    /// The least number of cycles.
-    pub force: u16,
+pub struct Total {
+    /// For how many cycles they take it together.
+    pub count: u32,
     /// The first and the last cycle.
     pub range: Option<Range>,
 }
@@ -32,14 +32,85 @@ pub struct Counted {
     pub value: u32,
 }
 
-/// What the grids of a list take of a unit.
-fn taken_in(list: &[Grid], unit: u8) -> Taken
-    ensures { Tells (ways_in unit list.now) result }
+/// The total before any class.
+fn none_yet() -> Total
+    ensures { result ≡ no_total }
 {
-    Taken {
-        force: force_of(list, unit),
-        range: range_among(list, unit),
+    Total {
+        count: 0,
+        range: None,
     }
+}
+
+/// One more, up to the greatest.
+fn one_more(count: u32) -> u32
+    ensures { result ≡ min (count + 1) 4294967295 }
+{
+    if count == u32::MAX { count } else { count + 1 }
+}
+
+/// How many of the instructions each of so many classes has.
+pub fn times_of(alloc: Global, insns: &[GraphInsn], classes: usize) -> Result<Vec<u32>, NoMemory>
+    requires { All (λ i. i.class < classes) insns.now }
+    ensures { IfOk result (λ times. AreTimes (map (λ i. i.class) insns.now) classes times.items) }
+{
+    let mut times = vec![in alloc; 0; classes]?;
+    for insn in insns {
+        let class = insn.class as usize;
+        times[class] = one_more(times[class]);
+    }
+    Ok(times)
+}
+
+/// The total with so many instructions of a class, if it can't do without the unit.
+fn with_times(total: Total, times: u32, force: u16, range: Option<Range>) -> Total
+    ensures { result ≡ model.with_times times force range total }
+{
+    if times == 0 {
+        return total;
+    }
+    if force == 0 {
+        return total;
+    }
+    Total {
+        count: total
+            .count
+            .saturating_add(times.saturating_mul(u32::from(force))),
+        range: join_ranges(total.range, range),
+    }
+}
+
+/// Tells each unit what so many instructions of a class take, by its tallies over so many alternatives.
+fn add_tallies(totals: &mut [Total], tallies: &[Tally], count: usize, times: u32)
+    requires { length tallies.now ≡ length totals.old }
+    ensures long { length totals.new ≡ length totals.old }
+    ensures each { (u : ℕ) → u < length totals.old → total_at totals.new u ≡ model.with_times times (forced count (tally_at tallies.now u)) (tally_at tallies.now u).range (total_at totals.old u) }
+{
+    for unit in 0..totals.len() {
+        let tally = tallies[unit];
+        totals[unit] = with_times(totals[unit], times, force_of(tally, count), range_of(tally));
+    }
+}
+
+/// Tells each unit what so many instructions of a class take, by its grids.
+fn add_list(
+    alloc: Global,
+    totals: &mut [Total],
+    list: &[Grid],
+    masks: &[Row<4>],
+    times: u32,
+) -> Result<(), NoMemory>
+    requires few { length totals.old ≤ 256 }
+    requires size { length masks.now ≡ 16 }
+    requires masks { AreMasks masks.now }
+    ensures { OnOk result (AreJoined list.now times totals.old totals.new) }
+{
+    if times == 0 {
+        return Ok(());
+    }
+    let tallies = tallies_of(alloc, list, masks, totals.len())?;
+    add_tallies(totals, &tallies, list.len(), times);
+    Ok(())
 }
 
 /// The list of a class for an automaton.
@@ -52,114 +123,67 @@ fn list_of(class: &CheckedClass, automaton: usize) -> &[Grid]
     }
 }
 
-/// What a class that is marked takes of a unit. Of others nothing is said.
-fn taken_if(is_marked: bool, class: &CheckedClass, automaton: usize, unit: u8) -> Taken
-    ensures { is_marked ≡ true → Tells (ways_in unit (slice_index_or (class_of class.now).lists automaton [])) result }
+/// Tells each unit of an automaton what the instructions of all classes take.
+fn add_classes(
+    alloc: Global,
+    totals: &mut [Total],
+    classes: &[CheckedClass],
+    masks: &[Row<4>],
+    times: &[u32],
+    automaton: usize,
+) -> Result<(), NoMemory>
+    requires few { length totals.old ≤ 256 }
+    requires none { (u : ℕ) → total_at totals.old u ≡ no_total }
+    requires size { length masks.now ≡ 16 }
+    requires masks { AreMasks masks.now }
+    requires times { length times.now ≡ length classes.now }
+    ensures { OnOk result (AreTotals (lists_in classes.now) automaton times.now (length classes.now) (length totals.old) totals.new) }
 {
-    if is_marked {
-        taken_in(list_of(class, automaton), unit)
-    } else {
-        Taken {
-            force: 0,
-            range: None,
-        }
+    for (number, class) in classes.iter().enumerate() {
+        add_list(
+            alloc,
+            totals,
+            list_of(class, automaton),
+            masks,
+            times[number],
+        )?;
     }
+    Ok(())
 }
 
-/// What each class that is marked takes of a unit of an automaton.
-fn taken_of(
+/// What the instructions take of each of so many units of an automaton, by how many each class has.
+pub fn totals_of(
     alloc: Global,
     classes: &[CheckedClass],
-    marks: &[bool],
+    masks: &[Row<4>],
+    times: &[u32],
     automaton: usize,
-    unit: u8,
-) -> Result<Vec<Taken>, NoMemory>
-    requires { length marks.now ≡ length classes.now }
-    ensures { IfOk result (λ taken. TakesMarked (ways_by (lists_in classes.now) (record { automaton = automaton; unit = unit })) marks.now (length classes.now) taken.items) }
+    units: usize,
+) -> Result<Vec<Total>, NoMemory>
+    requires few { units ≤ 256 }
+    requires size { length masks.now ≡ 16 }
+    requires masks { AreMasks masks.now }
+    requires times { length times.now ≡ length classes.now }
+    ensures { IfOk result (λ totals. AreTotals (lists_in classes.now) automaton times.now (length classes.now) units totals.items) }
 {
-    let mut taken = Vec::new(alloc);
-    for (number, class) in classes.iter().enumerate() {
-        taken.push(taken_if(marks[number], class, automaton, unit))?;
-    }
-    Ok(taken)
+    let mut totals = vec![in alloc; none_yet(); units]?;
+    add_classes(alloc, &mut totals, classes, masks, times, automaton)?;
+    Ok(totals)
 }
 
-/// Marks the classes of instructions, of so many.
-pub fn marks_of(alloc: Global, insns: &[GraphInsn], classes: usize) -> Result<Vec<bool>, NoMemory>
-    requires { All (λ i. i.class < classes) insns.now }
-    ensures size { IfOk result (λ marks. length marks.items ≡ classes) }
-    ensures marks { IfOk result (λ marks. AreMarked (map (λ i. i.class) insns.now) marks.items) }
+/// The load of a unit by what is taken of it, if some instruction can't do without it.
+pub fn load_from(total: Total) -> Option<Counted>
+    ensures { result ≡ load_by total }
 {
-    let mut marks = vec![in alloc; false; classes]?;
-    for insn in insns {
-        marks[insn.class as usize] = true;
-    }
-    Ok(marks)
-}
-
-/// For how many cycles the instructions that can't do without the unit take it together.
-fn count_of(taken: &[Taken], insns: &[GraphInsn]) -> u32
-    requires few { length insns.now ≤ instruction_limit }
-    requires classes { All (λ i. i.class < length taken.now) insns.now }
-    ensures { result ≡ user_count taken.now (map (λ i. i.class) insns.now) }
-{
-    let mut count = 0;
-    for insn in insns {
-        count += u32::from(taken[insn.class as usize].force);
-    }
-    count
-}
-
-/// The first and the last cycle in which these may take it.
-fn range_of(taken: &[Taken], insns: &[GraphInsn]) -> Option<Range>
-    requires classes { All (λ i. i.class < length taken.now) insns.now }
-    ensures { result ≡ user_range taken.now (map (λ i. i.class) insns.now) }
-{
-    let mut range = None;
-    for insn in insns {
-        let one = taken[insn.class as usize];
-        if 0 < one.force {
-            range = join_ranges(range, one.range);
-        }
-    }
-    range
-}
-
-/// The load of a unit by what is taken of it.
-fn load_from(taken: &[Taken], insns: &[GraphInsn]) -> Option<Counted>
-    requires few { length insns.now ≤ instruction_limit }
-    requires classes { All (λ i. i.class < length taken.now) insns.now }
-    ensures { result ≡ load_by taken.now (map (λ i. i.class) insns.now) }
-{
-    let count = count_of(taken, insns);
-    match range_of(taken, insns) {
+    match total.range {
         None => None,
         Some(range) => {
             let span = range.last.saturating_sub(range.first);
             Some(Counted {
-                count,
+                count: total.count,
                 span,
-                value: count.saturating_sub(1).saturating_sub(span),
+                value: total.count.saturating_sub(1).saturating_sub(span),
             })
         }
     }
-}
-
-/// The load of a unit of an automaton, where some instruction can't do without it. The classes of the instructions are marked.
-pub fn load_in(
-    alloc: Global,
-    classes: &[CheckedClass],
-    marks: &[bool],
-    insns: &[GraphInsn],
-    automaton: usize,
-    unit: u8,
-) -> Result<Option<Counted>, NoMemory>
-    requires few { length insns.now ≤ instruction_limit }
-    requires classes { All (λ i. i.class < length classes.now) insns.now }
-    requires size { length marks.now ≡ length classes.now }
-    requires marks { AreMarked (map (λ i. i.class) insns.now) marks.now }
-    ensures { IfOk result (λ load. option_map shown load ≡ load_of (ways_by (lists_in classes.now) (record { automaton = automaton; unit = unit })) (map (λ i. i.class) insns.now)) }
-{
-    let taken = taken_of(alloc, classes, marks, automaton, unit)?;
-    Ok(load_from(&taken, insns))
 }

@@ -9,5 +9,5 @@ use Rattle.hz_bound.proofs.heaviest.heaviest_in.Given as goal
 -- the heaviest so far, with that of the units that are left, is that of all
 abbrev pub invariant-loop-unit : goal.invariant-loop-unit
 invariant-loop-unit l =
-    heavier (option_map load_of l.most) (from_unit (ways_by (lists_in l.checked.classes.items)) (map (λ i. i.class) l.insns) l.automaton l.unit l.unit-end)
-    ≡ heaviest (loads_of (ways_by (lists_in l.checked.classes.items)) (units_of l.automaton l.unit-end) (map (λ i. i.class) l.insns))
+    heavier (option_map load_of l.most) (from_unit (ways_by (lists_in l.checked.classes.items)) (map (λ i. i.class) l.insns) l.automaton l.unit l.units)
+    ≡ heaviest (loads_of (ways_by (lists_in l.checked.classes.items)) (units_of l.automaton l.units) (map (λ i. i.class) l.insns))
