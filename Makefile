@@ -29,7 +29,7 @@ build = sh tools/build_crate.sh $(1) $(beside)
 jobs =
 endif
 
-.PHONY: all try test examples check-walk check-bound check-memory check-gcc bench install uninstall dist deb clean
+.PHONY: all try test examples check-walk check-bound check-modulo check-memory check-gcc bench install uninstall dist deb clean
 
 all: bin/hz
 
@@ -85,6 +85,10 @@ check-walk: bin/hz
 check-bound: bin/hz
 	@python3 tools/check_bound.py bin/hz
 
+# modulo beside a plain search, and turns of its kernels, on loops that a seed makes
+check-modulo: bin/hz
+	@python3 tools/check_modulo.py bin/hz
+
 # memory refused to a few commands, one request at a time: each run reports it, or answers as before
 check-memory: bin/hz
 	@python3 tools/check_memory.py bin/hz
@@ -104,6 +108,9 @@ bench: bin/hz
 	@sh bench/walk/run.sh bin/hz
 	@sh bench/schedule/run.sh bin/hz
 	@sh bench/bound/run.sh bin/hz
+	@sh bench/duo/run.sh bin/hz
+	@sh bench/timed/run.sh bin/hz
+	@sh bench/modulo/run.sh bin/hz
 	@sh bench/blocks/run.sh bin/hz
 	@sh bench/states/run.sh
 	@sh bench/determ/run.sh

@@ -1,7 +1,9 @@
 #!/bin/sh
 # Replays each example trace, walks it on the tables of its machine, schedules each example block that has a machine beside it,
-# evaluates each that has a state, draws each drill, tells each bound, and compares status and text with its .answer file: the status on the first line, then the
-# text. The trace of each schedule is replayed on its machine. Each .tables file is the text that its description compiles to.
+# evaluates each that has a state, draws each drill, tells each bound, schedules each pair of blocks, tells the reads of each block with a
+# state, overlaps the turns of each loop, and compares status and text with its .answer file: the status on the first line, then the text.
+# The trace of each schedule is replayed on its machine, and so are 40 turns of each loop. What is left behind the reads is what the block
+# leaves. Each .tables file is the text that its description compiles to.
 hz=$1
 cd "$(dirname "$0")/.." || exit 2
 work=$(mktemp -d) || exit 2
@@ -30,17 +32,69 @@ against() {
     fi
 }
 
-# trace MACHINE BLOCK: the trace of the schedule, made of its text, is accepted with as many issues as it has instructions
+# trace EXAMPLE MACHINE WORDS..: the trace of the schedule that the program, given the words, writes is made of its text: the machine accepts
+# it, with as many issues as there are instructions
 trace() {
-    "$hz" schedule "$1" "$2" | awk '
-        /^[0-9]/ { if ($1 > now) { print "advance " $1 - now; now = $1 } print "issue " $3 }' > "$work/trace"
-    wanted=$("$hz" schedule "$1" "$2" | sed -n 's/^scheduled \([0-9]*\) insns \([0-9]*\) cycles$/accepted \1 issues \2 cycles/p')
-    text=$("$hz" replay "$1" "$work/trace")
+    example=$1
+    machine=$2
+    shift 2
+    "$hz" "$@" > "$work/scheduled"
+    awk '/^[0-9]/ { if ($1 > now) { print "advance " $1 - now; now = $1 } print "issue " $NF }' "$work/scheduled" > "$work/trace"
+    insns=$(sed -n 's/^scheduled \(.*\) insns .*/\1/p' "$work/scheduled")
+    cycles=$(sed -n 's/^scheduled .* insns \([0-9]*\) cycles$/\1/p' "$work/scheduled")
+    wanted="accepted $((${insns:-0})) issues $cycles cycles"
+    text=$("$hz" replay "$machine" "$work/trace")
     count=$((count + 1))
     if [ "$text" = "$wanted" ]; then
-        echo "replay $2: $text"
+        echo "replay $example: $text"
     else
-        echo "replay $2: $text: not $wanted"
+        echo "replay $example: $text: not $wanted"
+        bad=1
+    fi
+}
+
+# left BLOCK STATE WORDS..: behind the reads that the program, given the words, writes comes what the block leaves of the state
+left() {
+    wanted=$("$hz" eval "$1" "$2")
+    example=$1
+    shift 2
+    text=$("$hz" "$@" | grep -v '^read ')
+    count=$((count + 1))
+    if [ "$text" = "$wanted" ]; then
+        echo "eval $example: $text"
+    else
+        echo "eval $example: $text: not $wanted"
+        bad=1
+    fi
+}
+
+# turns EXAMPLE MACHINE WORDS..: the trace of 40 turns is made of the kernel that the program, given the words, writes: the machine accepts
+# it, with as many issues as 40 turns have instructions
+turns() {
+    example=$1
+    machine=$2
+    shift 2
+    "$hz" "$@" > "$work/kernel"
+    awk 'BEGIN { count = 0; now = 0 }
+        /^interval / { interval = $2 }
+        /^stages / { stages = $2 }
+        /^[0-9]/ { offset[count] = $1; stage[count] = $2; class[count++] = $NF }
+        END {
+            for (part = 0; part < stages + 39; part++) for (place = 0; place < count; place++) {
+                turn = part - stage[place]
+                cycle = part * interval + offset[place]
+                if (turn < 0 || turn > 39) continue
+                if (cycle > now) { print "advance " cycle - now; now = cycle }
+                print "issue " class[place]
+            }
+        }' "$work/kernel" > "$work/trace"
+    wanted=$(awk '/^interval / { interval = $2 } /^[0-9]/ { count++ } /^list / { print "accepted " 40 * count " issues " 39 * interval + $2 " cycles" }' "$work/kernel")
+    text=$("$hz" replay "$machine" "$work/trace")
+    count=$((count + 1))
+    if [ "$text" = "$wanted" ]; then
+        echo "replay $example: $text"
+    else
+        echo "replay $example: $text: not $wanted"
         bad=1
     fi
 }
@@ -75,11 +129,29 @@ done
 for bound in examples/*/*.bound; do
     against "$bound" "$bound" bound "$(dirname "$bound")/machine.md" "${bound%.bound}.block"
 done
+for timed in examples/*/*.timed; do
+    set -- timed "$(dirname "$timed")/machine.md" "${timed%.timed}.block" "${timed%.timed}.state"
+    against "$timed" "$timed" "$@"
+    left "${timed%.timed}.block" "${timed%.timed}.state" "$@"
+done
+for duo in examples/*/*.duo; do
+    # its name is those of the two blocks
+    folder=$(dirname "$duo")
+    pair=$(basename "$duo" .duo)
+    set -- duo "$folder/machine.md" "$folder/${pair%+*}.block" "$folder/${pair#*+}.block"
+    against "$duo" "$duo" "$@"
+    trace "$duo" "$folder/machine.md" "$@"
+done
+for kernel in examples/*/*.kernel; do
+    set -- modulo "$(dirname "$kernel")/machine.md" "${kernel%.kernel}.block"
+    against "$kernel" "$kernel" "$@"
+    turns "$kernel" "$2" "$@"
+done
 for block in examples/*/*.block; do
     machine=$(dirname "$block")/machine.md
     if [ -e "$machine" ]; then
         compare "$block" schedule "$machine" "$block"
-        trace "$machine" "$block"
+        trace "$block" "$machine" schedule "$machine" "$block"
     else
         compare "$block" eval "$block" "${block%.block}.state"
     fi

@@ -86,7 +86,7 @@ lines() {
     printf '%s\n' "$@" > "$file"
 }
 
-usage='usage: hz compile DESC | replay DESC TRACE | walk TABLES TRACE | schedule DESC BLOCK | eval BLOCK STATE | drill DESC NUMBER COUNT | bound DESC BLOCK'
+usage='usage: hz compile DESC | replay DESC TRACE | walk TABLES TRACE | schedule DESC BLOCK | eval BLOCK STATE | drill DESC NUMBER COUNT | timed DESC BLOCK STATE | bound DESC BLOCK | duo DESC BLOCK BLOCK | modulo DESC BLOCK'
 
 # descriptions
 unit='(define_cpu_unit "u")'
@@ -136,6 +136,8 @@ lines ambiguous '(insn 1 (use (reg 1)))' '(insn 2 (use (reg 1)) (set_attr "type"
 lines no_class '(insn 1 (use (reg 1)) (set_attr "type" "c"))'
 lines attribute '(insn 1 (use (reg 1)) (set_attr "kind" "c"))'
 lines value '(insn 1 (use (reg 1)) (set_attr "type" "d"))'
+{ for j in $(seq 2048); do echo "(insn $j (use (reg 1)))"; done; } > half
+{ cat half; echo '(insn 2049 (use (reg 1)))'; } > more_than_half
 lines s '(reg 1 6)'
 
 # tables: of the description `ndfa` in the first treatment, with one line or byte changed, and as long as may be
@@ -263,6 +265,30 @@ expect 6 'file missing could not be read' eval b missing
 expect_memory 8192 eval longest longest
 expect_sink eval b s
 
+# timed
+expect 0 "$(printf 'read 0 1 reg 1 from start\n(reg 1 6)\n(reg 2 7)')" timed d b s
+expect 0 '(reg 1 6)' timed d empty s
+expect 0 "$(printf 'read 0 1 reg 1 from start\n(reg 2 1)')" timed d b empty
+expect 0 '' timed empty empty empty
+expect 0 "$(for j in $(seq 2048); do echo "read $((j - 1)) $j reg 1 from start"; done; echo '(reg 1 6)')" timed d half s
+expect 2 'fault unclosed line 1 Unclosed' timed unclosed code b
+expect 2 'fault code line 2 UnknownCode' timed classes code b
+expect 2 'fault b line 1 BadShape' timed classes ambiguous b
+expect 2 'fault s line 1 BadShape' timed d s s
+expect 2 'fault ambiguous line 2 Ambiguous insn 2 x y' timed classes ambiguous s
+expect 2 'fault no_class line 1 NoClass insn 1' timed classes no_class s
+expect 2 'fault b line 1 CannotStartAlone insn 1' timed never b s
+expect 3 'limit states automaton -' timed states code b
+expect 3 'limit long bytes' timed unclosed long missing
+expect 3 'limit long bytes' timed unclosed code long
+expect 6 'file missing could not be read' timed missing b s
+expect 6 'file missing could not be read' timed d missing folder
+expect 6 'file missing could not be read' timed unclosed code missing
+expect 6 'file folder could not be read' timed d b folder
+expect_memory 32768 timed most_states b s
+expect_sink timed d b s
+expect_sink timed d half s
+
 # bound
 expect 0 "$(printf 'path 0 1\nload a 1 0 0\nbound 0\nschedule 0 cycles')" bound d b
 expect 0 "$(printf 'path 0\nload -\nbound 0\nschedule 0 cycles')" bound d empty
@@ -275,6 +301,58 @@ expect 3 'limit long bytes' bound d long
 expect 6 'file missing could not be read' bound d missing
 expect_memory 32768 bound most_states b
 expect_sink bound d b
+
+# duo
+expect 0 "$(printf '0 1 1 x\n1 2 1 x\nscheduled 1 + 1 insns 1 cycles\nalone 0 0 cycles')" duo d b b
+expect 0 "$(printf '0 2 1 x\nscheduled 0 + 1 insns 0 cycles\nalone 0 0 cycles')" duo d empty b
+expect 0 "$(printf 'scheduled 0 + 0 insns 0 cycles\nalone 0 0 cycles')" duo d empty empty
+expect 0 "$(for j in $(seq 2048); do echo "$((j - 1)) 1 $j x"; done; for j in $(seq 2048); do echo "$((j + 2047)) 2 $j x"; done
+    printf 'scheduled 2048 + 2048 insns 4095 cycles\nalone 2047 2047 cycles')" duo d half half
+expect 2 'fault unclosed line 1 Unclosed' duo unclosed code code
+expect 2 'fault code line 2 UnknownCode' duo classes code ambiguous
+expect 2 'fault code line 2 UnknownCode' duo classes ambiguous code
+expect 2 'fault d line 1 BadShape' duo d b d
+expect 2 'fault ambiguous line 2 Ambiguous insn 2 x y' duo classes ambiguous no_class
+expect 2 'fault no_class line 1 NoClass insn 1' duo classes b no_class
+expect 2 'fault b line 1 CannotStartAlone insn 1' duo never empty b
+expect 3 'limit states automaton -' duo states code code
+expect 3 'limit more_than_half insns' duo classes half more_than_half
+expect 3 'limit long bytes' duo unclosed long missing
+expect 3 'limit long bytes' duo unclosed code long
+expect 6 'file missing could not be read' duo missing b b
+expect 6 'file missing could not be read' duo d missing folder
+expect 6 'file missing could not be read' duo unclosed code missing
+expect 6 'file folder could not be read' duo d b folder
+expect_memory 32768 duo most_states b b
+expect_sink duo d b b
+expect_sink duo d half more_than_half
+
+# modulo
+head -n 256 half > body
+head -n 257 half > more_than_body
+{ cat more_than_body; cat code; } > wrong_body
+expect 0 "$(printf 'interval 1\nstages 1\n0 0 1 x\nedge 0 equals edge 1\nlist 0 cycles')" modulo d b
+expect 0 "$(printf 'interval 1\nstages 1\n0 0 1 x\nedge 0 equals edge 1\nlist 0 cycles')" modulo two_automata b
+expect 0 "$(printf 'interval 1\nstages 1\nedge 0 equals edge 1\nlist 0 cycles')" modulo d empty
+expect 0 "$(printf 'interval 256\nstages 1\n'; for j in $(seq 256); do echo "$((j - 1)) 0 $j x"; done
+    printf 'edge 0 equals edge 1\nlist 255 cycles')" modulo d body
+expect 2 'fault unclosed line 1 Unclosed' modulo unclosed code
+expect 2 'fault code line 2 UnknownCode' modulo classes code
+expect 2 'fault d line 1 BadShape' modulo d d
+expect 2 'fault wrong_body line 258 Twice' modulo d wrong_body
+expect 2 'fault ambiguous line 2 Ambiguous insn 2 x y' modulo classes ambiguous
+expect 2 'fault b line 1 CannotStartAlone insn 1' modulo never b
+expect 3 'limit states automaton -' modulo states code
+expect 3 'limit more_than_body insns' modulo classes more_than_body
+expect 3 'limit more_than_body insns' modulo never more_than_body
+expect 3 'limit long bytes' modulo long missing
+expect 3 'limit long bytes' modulo unclosed long
+expect 6 'file missing could not be read' modulo missing folder
+expect 6 'file missing could not be read' modulo unclosed missing
+expect 6 'file folder could not be read' modulo d folder
+expect_memory 32768 modulo most_states b
+expect_sink modulo d b
+expect_sink modulo d more_than_body
 
 # drill
 expect 0 "$(printf 'drill 4 turns\naccepted 2 issues 2 cycles\nstates 0')" drill d 1 4
@@ -327,6 +405,9 @@ expect 2 "fault late line 50001 TwiceDefined $long_name" compile late
 expect 2 "fault late line 50001 TwiceDefined $long_name" replay late t
 expect 2 "fault late line 50001 TwiceDefined $long_name" schedule late b
 expect 2 "fault late line 50001 TwiceDefined $long_name" drill late 1 4
+expect 2 "fault late line 50001 TwiceDefined $long_name" timed late b s
+expect 2 "fault late line 50001 TwiceDefined $long_name" duo late b b
+expect 2 "fault late line 50001 TwiceDefined $long_name" modulo late b
 expect 3 "limit late_limit line 50001 Cycles $long_name" replay late_limit t
 expect 1 "refused line 50002 $long_name" replay late_class late_issues
 expect 2 'fault late_trace line 50001 BadLine' replay d late_trace
@@ -334,7 +415,11 @@ expect 2 'fault late_trace line 50001 BadLine' walk k late_trace
 expect 2 'fault late_tables line 50008 BadNumber' walk late_tables t
 expect 2 'fault late_block line 50001 RegisterRange' schedule d late_block
 expect 2 'fault late_block line 50001 RegisterRange' eval late_block s
+expect 2 'fault late_block line 50001 RegisterRange' timed d late_block s
+expect 2 'fault late_block line 50001 RegisterRange' duo d b late_block
+expect 2 'fault late_block line 50001 RegisterRange' modulo d late_block
 expect 2 'fault late_block line 50001 BadShape' eval b late_block
+expect 2 'fault late_block line 50001 BadShape' timed d b late_block
 expect 6 "file $long_name/$long_name could not be read" replay "$long_name/$long_name" t
 
 # each other answer where standard output is closed or full
@@ -350,6 +435,9 @@ expect_sink replay d folder
 expect_sink walk k missing
 expect_sink schedule d missing
 expect_sink eval b missing
+expect_sink timed d b missing
+expect_sink duo d b missing
+expect_sink modulo d missing
 expect_sink drill missing 1 4
 expect_sink
 expect_sink replay d
@@ -375,6 +463,13 @@ once both 1 'refused line 2 y' walk k /dev/stdin
 once circle 2 'fault /dev/stdin line 1 CircularReservation r' schedule /dev/stdin b
 once code 2 'fault /dev/stdin line 2 UnknownCode' schedule d /dev/stdin
 once ambiguous 2 'fault /dev/stdin line 2 Ambiguous insn 2 x y' schedule classes /dev/stdin
+once code 2 'fault /dev/stdin line 2 UnknownCode' timed d /dev/stdin s
+once ambiguous 2 'fault /dev/stdin line 2 Ambiguous insn 2 x y' timed classes /dev/stdin s
+once b 2 'fault /dev/stdin line 1 BadShape' timed d b /dev/stdin
+once code 2 'fault /dev/stdin line 2 UnknownCode' duo d b /dev/stdin
+once ambiguous 2 'fault /dev/stdin line 2 Ambiguous insn 2 x y' duo classes /dev/stdin b
+once code 2 'fault /dev/stdin line 2 UnknownCode' modulo d /dev/stdin
+once ambiguous 2 'fault /dev/stdin line 2 Ambiguous insn 2 x y' modulo classes /dev/stdin
 once code 2 'fault /dev/stdin line 2 UnknownCode' eval /dev/stdin s
 once b 2 'fault /dev/stdin line 1 BadShape' eval b /dev/stdin
 once circle 2 'fault /dev/stdin line 1 CircularReservation r' drill /dev/stdin 1 4
@@ -402,6 +497,15 @@ expect 4 "$usage" walk k t more
 expect 4 "$usage" walk k --trace
 expect 4 "$usage" schedule d
 expect 4 "$usage" eval b -
+expect 4 "$usage" timed d b
+expect 4 "$usage" timed d b s more
+expect 4 "$usage" timed d b -s
+expect 4 "$usage" duo d b
+expect 4 "$usage" duo d b b more
+expect 4 "$usage" duo d b -b
+expect 4 "$usage" modulo d
+expect 4 "$usage" modulo d b more
+expect 4 "$usage" modulo d -b
 expect 4 "$usage" Compile d
 expect 4 "$usage" comp d
 expect 4 "$usage" drill d 1
@@ -426,6 +530,9 @@ if [ -r "$words" ]; then
     expect 6 "file $words could not be read" replay d "$words"
     expect 6 "file $words could not be read" walk k "$words"
     expect 6 "file $words could not be read" schedule d "$words"
+    expect 6 "file $words could not be read" timed d b "$words"
+    expect 6 "file $words could not be read" duo d b "$words"
+    expect 6 "file $words could not be read" modulo d "$words"
     expect 6 "file $words could not be read" eval "$words" missing
     expect 6 "file $words could not be read" eval b "$words"
     expect 6 "file $words could not be read" drill "$words" 1 4

@@ -16,7 +16,7 @@ PAGE = "docs/THEOREM.md"
 RUN = ("crates/hz_tool/src/top.rt", "run")
 ANSWERS = "Rattle.hz_answer_model.specs.Answers"
 PHASES = "Rattle.hz_answer_model.specs.Phases"
-COMMANDS = ("compile", "replay", "walk", "schedule", "eval", "drill", "bound")
+COMMANDS = ("compile", "replay", "walk", "schedule", "eval", "drill", "timed", "bound", "duo", "modulo")
 
 # What `run` asks of its caller, in plain words.
 REQUIRED = {
@@ -53,8 +53,16 @@ ENSURED = {
                 " `replay` accepts it, and from every state it leaves what the order of the source leaves."
                 " `drill` reports a trace that is drawn by what the description accepts; the description accepts it, and so does `replay`, and"
                 " its states are those that it leaves in the tables that `compile` writes."
+                " `timed` writes what a schedule that keeps the block reads of a state on a pipeline without interlocks, and the state that it"
+                " leaves there, which is what `eval` answers for the block and the state."
                 " `bound` reports a cycle before which no legal schedule of the block ends, with what shows it, beside the last cycle of a"
                 " schedule that keeps the block."
+                " `duo` writes a schedule of two blocks in one pipeline, which `replay` accepts: each instruction of each block once, no sooner"
+                " than the latencies and bypasses of its block allow; from every pair of states it leaves each context what its block leaves in"
+                " the order of the source."
+                " `modulo` writes the kernel of a loop: the least interval at which the body's schedule repeats. Every number of turns at this"
+                " interval is a legal schedule of so many copies of the body, which `replay` accepts; from every state it leaves what the body"
+                " leaves, so many times in the order of its source."
                 " Of `replay`, `walk` and `eval` nothing more is promised than the answer.",
 }
 

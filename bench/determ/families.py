@@ -6,6 +6,7 @@ taken: 4,096 alternatives of two units each, of which all second ones are taken.
 absent: 2,048 alternatives that one absence statement of a thousand equal patterns refuses.
 apart: the same under a thousand different patterns.
 single: the same under a thousand statements of one pattern each.
+alternating: the same, where another unit is taken in every other cycle.
 """
 import sys
 
@@ -47,11 +48,11 @@ def taken(cycles):
     insn("y", f"nothing*{cycles - 1},y")
 
 
-def refused(cycles, statements):
-    unit("u", "v", "w", "z", *names("p", 46))
+def refused(cycles, statements, more=(), held=None):
+    unit("u", "v", "w", "z", *more, *names("p", 46))
     for patterns in statements:
         print(f'(absence_set "z" "{",".join(patterns)}")')
-    insn("x", f"((u|v)*11,z*{cycles - 11})|nothing*{cycles}")
+    insn("x", f"((u|v)*11,{held or f'z*{cycles - 11}'})|nothing*{cycles}")
     insn("y", f"nothing*{cycles - 1},w")
 
 
@@ -72,6 +73,8 @@ def main():
         refused(cycles, [["u v"] * 999 + ["w"]])
     elif kind == "apart":
         refused(cycles, [pairs() + ["w"]])
+    elif kind == "alternating":
+        refused(cycles, [[pattern] for pattern in pairs() + ["w"]], ["t"], f"(z,t)*{(cycles - 11) // 2}")
     else:
         refused(cycles, [[pattern] for pattern in pairs() + ["w"]])
 

@@ -1,12 +1,12 @@
 -- Answers: there is one, and no other.
-use Rattle.std.proofs.Common.{refl, ◌≡◌, ℕ, ◌<◌, ◌≤◌, ⊎_elim, arith, slice_index_or, inl, inr, true, false, List, [], ◌∷◌, ◌++◌, map, length, Option, Some, None, MatchOption, MatchBool, nat_lt, slice_get, sym, ap, ◌∙◌, subst}
+use Rattle.std.proofs.Common.{refl, ◌≡◌, ℕ, ◌+◌, ◌<◌, ◌≤◌, ⊎_elim, arith, slice_index_or, inl, inr, true, false, List, [], ◌∷◌, ◌++◌, map, length, Option, Some, None, MatchOption, MatchBool, nat_lt, slice_get, sym, ap, ◌∙◌, subst}
 use Rattle.std.proofs.lemmas.Bool.{cases_lt}
 use Rattle.std.proofs.lemmas.Option.{same_Some}
 use Rattle.hz_base_model.proofs.Forms.FormsLaws.{one_reading, one_fault, forms_or_fault}
 use Rattle.hz_description_model.proofs.Reading.DescriptionLaws.{one_description, one_fault_of_descriptions, description_or_fault}
 use Rattle.hz_description_model.proofs.Check.CheckLaws.{fault_one, fault_or_sound, sound_one}
 use Rattle.hz_acceptance_model.proofs.Accepting.AcceptanceLaws.{one_refused, accepted_or_refused}
-use Rattle.hz_answer_model.specs.Answers.{Describes, Checks, HasDescription, Compiles, CompilesDescription, DrillsDescription, Replays, ReplaysTrace, ReplaysDescription, Judges, SchedulesByDescription, BoundsByDescription, IsIssueOf, files_of, JudgesOrder, AnswersOrder, Answer}
+use Rattle.hz_answer_model.specs.Answers.{Describes, Checks, HasDescription, Compiles, CompilesDescription, DrillsDescription, Replays, ReplaysTrace, ReplaysDescription, Judges, SchedulesByDescription, TimesByDescription, BoundsByDescription, SchedulesTwoByDescription, OverlapsByDescription, IsIssueOf, files_of, JudgesOrder, AnswersOrder, Answer}
 use Rattle.hz_description_model.specs.Check.CheckFaults.{CheckFault}
 use Rattle.hz_description_model.specs.Check.Places.{Known, class_names}
 use Rattle.hz_description_model.specs.Reading.DescriptionForms.{DescriptionFault}
@@ -32,9 +32,9 @@ use Rattle.hz_automata_model.specs.Compiling.DescriptionLimits.{KeepsLimits, Pas
 use Rattle.hz_automata_model.proofs.Compiling.LimitLaws.{within_or_past}
 use Rattle.hz_acceptance_model.specs.Accepting.Replay.{Pipeline, Class}
 use Rattle.hz_acceptance_model.specs.Accepting.Events.{Event, issue}
-use Rattle.hz_answer_model.specs.Texts.{file_line, limit_line, fault_line, states_line, refused_line, slot_line, scheduled_line}
+use Rattle.hz_answer_model.specs.Texts.{file_line, limit_line, fault_line, states_line, refused_line, slot_line, scheduled_line, insns_line}
 use Rattle.hz_base_model.specs.Forms.Trees.{Trees}
-use Rattle.hz_words_model.specs.Words.{Order, compile, replay, walk, schedule, eval, drill, bound, order_of, usage_line}
+use Rattle.hz_words_model.specs.Words.{Order, compile, replay, walk, schedule, eval, drill, timed, bound, duo, modulo, order_of, usage_line}
 use Rattle.hz_base_model.specs.Names.{Held}
 use Rattle.hz_answer_model.specs.Phases.{Says, Next, FileWord, OpensAll, TellsFault, HasForms, Traces}
 use Rattle.hz_answer_model.specs.TableAnswers.{tables_limit, WritesTablesOf, HasTables, IsIssueIn, Walks, WalksTrace}
@@ -42,17 +42,30 @@ use Rattle.hz_answer_model.proofs.TableLaws.{one_unwalked, walked_or_not, one_is
 use Rattle.hz_answer_model.proofs.OneText.{one_tables_text}
 use Rattle.hz_answer_model.proofs.DrillLaws.{one_drill_text}
 use Rattle.hz_answer_model.specs.DrillAnswers.{Drills}
-use Rattle.hz_answer_model.specs.BlockAnswers.{block_limit, state_text_limit, IsBlock, IsState, HasBlock, Evaluates, JudgesBlock}
+use Rattle.hz_answer_model.specs.BlockAnswers.{block_limit, state_text_limit, IsBlock, IsState, HasBlock, HasAtMost, Evaluates, JudgesBlock}
 use Rattle.hz_answer_model.specs.ScheduleAnswers.{schedule_text, HasClasses, Starts, TellsSchedule, SchedulesBlock}
+use Rattle.hz_answer_model.specs.TimedAnswers.{TellsTimed}
 use Rattle.hz_answer_model.specs.BoundAnswers.{TellsBound}
+use Rattle.hz_answer_model.specs.DuoAnswers.{TellsTwo}
+use Rattle.hz_answer_model.specs.ModuloAnswers.{TellsKernel}
+use Rattle.hz_modulo_model.specs.Repeats.{body_limit}
+use Rattle.hz_answer_model.proofs.KernelLaws.{one_kernel_text}
+use Rattle.hz_block_model.specs.Scheduled.BlockGraphs.{classes_of, timing_in}
+use Rattle.hz_block_model.specs.Texts.StateTexts.{IsText}
+use Rattle.hz_timed_model.specs.ByDescription.{exposed_in}
+use Rattle.hz_timed_model.specs.Exposed.{Timed, exposed}
+use Rattle.hz_timed_model.specs.Texts.{text_of_reads}
 use Rattle.hz_bound_model.specs.Bounds.{Bound}
 use Rattle.hz_bound_model.specs.Texts.{text_of_bound}
 use Rattle.hz_bound_model.proofs.BlockBounds.{one_bound_of_a_block}
+use Rattle.hz_duo_model.proofs.OneOfTwo.{one_of_two}
+use Rattle.hz_duo_model.specs.Joining.{in_contexts}
+use Rattle.hz_duo_model.specs.Texts.{issue_line, together_line, alone_line, last_cycle, text_of_two}
 use Rattle.hz_block_model.specs.Scheduling.Schedules.{Graph, Slot, present}
-use Rattle.hz_block_model.specs.Scheduled.BlockGraphs.{classes_of}
 use Rattle.hz_block_model.proofs.Scheduled.BlockLaws.{one_of_a_block}
 use Rattle.hz_block_model.proofs.Scheduled.FaultLaws.{one_wrong_class, wrong_class_or_all, one_stuck, stuck_or_all}
 use Rattle.hz_block_model.specs.Running.Blocks.{Instruction}
+use Rattle.hz_block_model.specs.Running.Limits.{instruction_limit}
 use Rattle.hz_block_model.specs.Running.States.{State, run, all_stored}
 use Rattle.hz_block_model.specs.Texts.Operands.{RtlFault, Judged}
 use Rattle.hz_block_model.specs.Texts.BlockForms as blocks
@@ -63,7 +76,7 @@ use Rattle.hz_tabtext_model.specs.Judging.{Fault}
 use Rattle.hz_tabtext_model.proofs.TextAgain.{tables_again}
 use Rattle.hz_tabtext_model.proofs.Steps.{ok_is}
 use Rattle.std.specs.List.{range_with_len, flat_map}
-use Rattle.std.specs.Prelude.{Ok, Err, slice_index}
+use Rattle.std.specs.Prelude.{Ok, Err, slice_index, ◌==◌, if◌then◌else◌}
 
 -- what is judged good is not wrong
 good_or_wrong : {A : Type 0} (value : A) (wrong : RtlFault × ℕ) (judged : Judged A) → judged ≡ Ok value → judged ≡ Err wrong → ⊥
@@ -252,6 +265,40 @@ schedule_single d known block s s' t t' (g, slots, is, x) (h, others, also, y) =
     let same = one_of_a_block d known block g h slots others is also in
     says_same 0 0 _ _ refl (same_schedule_text d block g h slots others same.0 same.1) s s' t t' x y
 
+-- what is read by the classes of a graph
+abbrev left_by_classes : Description → List Instruction → State → List Slot → List ℕ → Timed
+left_by_classes d block state slots classes = exposed block (timing_in d classes block).number state slots
+
+timed_single : (d : Description) (known : Known) (block : List Instruction) (state : State) → IsSingle (TellsTimed d known block state)
+timed_single d known block state s s' t t' (g, slots, is, zero, one) (h, others, also, zero', two) = (zero ∙ sym zero', text)
+  where
+    same : (classes_of g ≡ classes_of h) × (slots ≡ others)
+    same = one_of_a_block d known block g h slots others is also
+
+    left : exposed_in d block g slots state ≡ exposed_in d block h others state
+    left = ap (left_by_classes d block state slots) same.0 ∙ ap (λ (xs : List Slot). exposed_in d block h xs state) same.1
+
+    tail : one.tail ≡ two.tail
+    tail = same_text (exposed_in d block h others state).state one.tail two.tail (subst (λ (x : Timed). IsText x.state one.tail) left one.state_is) two.state_is
+
+    text : t ≡ t'
+    text =
+        one.text_is
+        ∙ (ap (λ (x : Timed). text_of_reads block slots x.reads ++ one.tail) left
+        ∙ (ap (λ (xs : List Slot). text_of_reads block xs (exposed_in d block h others state).reads ++ one.tail) same.1
+        ∙ (ap (λ (u : List ℕ). text_of_reads block others (exposed_in d block h others state).reads ++ u) tail ∙ sym two.text_is)))
+
+timed_blocks_single : (description described block blocked state stated : List ℕ) → IsSingle (HasDescription description described (TimesByDescription description block blocked state stated))
+timed_blocks_single description described block blocked state stated =
+    description_single description described _ (λ d known.
+    compiles_single description d known _
+    (forms_single block blocked _ (λ read.
+    block_single block read _ (λ insns.
+    forms_single state stated _ (λ also.
+    state_single state also _ (λ start.
+    classes_single block d insns _
+    (starts_single block d known insns _ (timed_single d known insns start))))))))
+
 bound_single : (d : Description) (known : Known) (block : List Instruction) → IsSingle (TellsBound d known block)
 bound_single d known block s s' t t' (g, slots, b, is, bounds, x) (h, others, c, also, too, y) =
     let same = one_of_a_block d known block g h slots others is also in
@@ -267,6 +314,66 @@ blocked_single description described block blocked next single =
     (forms_single block blocked _ (λ read.
     block_single block read _ (λ insns.
     classes_single block d insns _ (starts_single block d known insns (next d known insns) (single d known insns))))))
+
+-- Two blocks.
+
+few_single : (most count : ℕ) (name : List ℕ) (next : ℕ → List ℕ → Type 0) → IsSingle next → IsSingle (HasAtMost most count name next)
+few_single most count name next single =
+    elim (nat_lt most count) as (λ b. IsSingle (λ s t. MatchBool b (Says 3 (insns_line name) s t) (next s t))) [
+      | true ↦ says_single 3 (insns_line name)
+      | false ↦ single
+    ]
+
+-- the text of a schedule of two blocks by the classes of their graphs
+abbrev two_by_classes : Description → List Instruction → List Instruction → (mine yours : List ℕ) → List Slot → (alone other : ℕ) → List ℕ
+two_by_classes d first second mine yours slots alone other =
+    flat_map (λ x. if x.context == 1
+    then issue_line x.cycle x.context (slice_index (map (λ i. i.number) first) x.place) (slice_index_or (class_names d) (slice_index mine x.place) [])
+    else issue_line x.cycle x.context (slice_index (map (λ i. i.number) second) x.place) (slice_index_or (class_names d) (slice_index yours x.place) [])) (in_contexts (length first) slots)
+    ++ (together_line (length (map (λ i. i.number) first)) (length (map (λ i. i.number) second)) (last_cycle 0 (in_contexts (length first) slots)) ++ alone_line alone other)
+
+same_two_text : (d : Description) (first second : List Instruction) (g h i j : Graph) (slots slots' alone alone' other other' : List Slot) → classes_of g ≡ classes_of i → classes_of h ≡ classes_of j → slots ≡ slots' → alone ≡ alone' → other ≡ other'
+    → text_of_two d first second g h slots alone other ≡ text_of_two d first second i j slots' alone' other'
+same_two_text d first second g h i j slots slots' alone alone' other other' mine yours together one two =
+    ap (λ (cs : List ℕ). two_by_classes d first second cs (classes_of h) slots (present 0 alone) (present 0 other)) mine
+    ∙ (ap (λ (cs : List ℕ). two_by_classes d first second (classes_of i) cs slots (present 0 alone) (present 0 other)) yours
+    ∙ (ap (λ (all : List Slot). text_of_two d first second i j all alone other) together
+    ∙ (ap (λ (all : List Slot). text_of_two d first second i j slots' all other) one ∙ ap (text_of_two d first second i j slots' alone') two)))
+
+two_single : (d : Description) (known : Known) (first second : List Instruction) → IsSingle (TellsTwo d known first second)
+two_single d known first second s s' t t' (g, h, slots, alone, other, is, one, two, x) (i, j, slots', alone', other', also, one', two', y) =
+    let mine = one_of_a_block d known first g i alone alone' one one' in
+    let yours = one_of_a_block d known second h j other other' two two' in
+    let together = one_of_two d known first second g h i j slots slots' is also in
+    says_same 0 0 _ _ refl (same_two_text d first second g h i j slots slots' alone alone' other other' mine.0 yours.0 together mine.1 yours.1) s s' t t' x y
+
+two_blocks_single : (description described first one second other : List ℕ) → IsSingle (HasDescription description described (SchedulesTwoByDescription description first one second other))
+two_blocks_single description described first one second other =
+    description_single description described _ (λ d known.
+    compiles_single description d known _
+    (forms_single first one _ (λ read.
+    block_single first read _ (λ mine.
+    forms_single second other _ (λ also.
+    block_single second also _ (λ yours.
+    few_single instruction_limit (length mine + length yours) second _
+    (classes_single first d mine _
+    (classes_single second d yours _
+    (starts_single first d known mine _
+    (starts_single second d known yours _ (two_single d known mine yours)))))))))))
+
+-- Kernels.
+
+kernel_single : (d : Description) (known : Known) (body : List Instruction) → IsSingle (TellsKernel d known body)
+kernel_single d known body s s' t t' (zero, is) (zero', also) = (zero ∙ sym zero', one_kernel_text d known body t t' is also)
+
+kernels_single : (description described block blocked : List ℕ) → IsSingle (HasDescription description described (OverlapsByDescription description block blocked))
+kernels_single description described block blocked =
+    description_single description described _ (λ d known.
+    compiles_single description d known _
+    (forms_single block blocked _ (λ read.
+    block_single block read _ (λ body.
+    few_single body_limit (length body) block _
+    (classes_single block d body _ (starts_single block d known body _ (kernel_single d known body)))))))
 
 -- Tables.
 
@@ -321,7 +428,10 @@ judges_single (compile description) =
     compiles_single description d known (WritesTablesOf d known) (compiled_single d known))
 judges_single (walk tables trace) = λ tabled traced. walked_single tables tabled trace traced
 judges_single (schedule description block) = λ described blocked. blocked_single description described block blocked TellsSchedule schedule_single
+judges_single (timed description block state) = λ described blocked stated. timed_blocks_single description described block blocked state stated
 judges_single (bound description block) = λ described blocked. blocked_single description described block blocked TellsBound bound_single
+judges_single (duo description first second) = λ described one other. two_blocks_single description described first one second other
+judges_single (modulo description block) = λ described blocked. kernels_single description described block blocked
 judges_single (eval block state) = λ blocked stated. blocks_single block blocked state stated
 judges_single (drill description number turns) =
     λ described. description_single description described (DrillsDescription description number turns) (λ d known.

@@ -1,5 +1,5 @@
 -- There is an answer to all words, whatever is held.
-use Rattle.std.proofs.Common.{◌≡◌, ℕ, zero, suc, ◌<◌, ◌≤◌, ⊎_elim, inl, inr, true, false, List, [], ◌∷◌, length, map, All, Option, Some, None, MatchOption, MatchBool, nat_lt, get_or, slice_get, refl, subst, arith, ◌⊎◌}
+use Rattle.std.proofs.Common.{◌≡◌, ℕ, zero, suc, ◌+◌, ◌<◌, ◌≤◌, ⊎_elim, inl, inr, sym, ◌++◌, true, false, List, [], ◌∷◌, length, map, All, Option, Some, None, MatchOption, MatchBool, nat_lt, get_or, slice_get, refl, subst, arith, ◌⊎◌}
 use Rattle.std.proofs.lemmas.Bool.{cases_lt}
 use Rattle.std.proofs.lemmas.List.Elements.{All-get_or}
 use Rattle.std.proofs.lemmas.Option.{slice_get-get_or, slice_get_within, get_or_from_slice_get}
@@ -13,7 +13,7 @@ use Rattle.hz_description_model.proofs.Check.CheckTotal.{sound_or_fault}
 use Rattle.hz_acceptance_model.proofs.Accepting.AcceptanceLaws.{refused_issue}
 use Rattle.hz_acceptance_model.proofs.Accepting.PlayLaws.{accepted_or_first_refused}
 use Rattle.hz_acceptance_model.proofs.Accepting.Rows.{same_unit, places_tell}
-use Rattle.hz_answer_model.specs.Answers.{Describes, Checks, HasDescription, Compiles, CompilesDescription, DrillsDescription, Replays, ReplaysTrace, ReplaysDescription, Judges, IsIssueOf, files_of, JudgesOrder, AnswersOrder, Answer}
+use Rattle.hz_answer_model.specs.Answers.{Describes, Checks, HasDescription, Compiles, CompilesDescription, DrillsDescription, TimesByDescription, SchedulesTwoByDescription, OverlapsByDescription, Replays, ReplaysTrace, ReplaysDescription, Judges, IsIssueOf, files_of, JudgesOrder, AnswersOrder, Answer}
 use Rattle.hz_description_model.specs.Check.CheckFaults.{CheckFault, CheckFaultAt, IsSound}
 use Rattle.hz_description_model.specs.Check.Places.{Known, class_names}
 use Rattle.hz_description_model.specs.Reading.DescriptionForms as description_forms
@@ -37,29 +37,44 @@ use Rattle.hz_acceptance_model.specs.Accepting.Replay.{FirstRefused}
 use Rattle.hz_acceptance_model.specs.Accepting.Events.{Event, issue, cycles_of, issues_of, IsOfClass}
 use Rattle.hz_acceptance_model.specs.Traces.Traces.{Trace, TraceFault, TraceFaultAt, event_lines}
 use Rattle.hz_acceptance_model.proofs.Traces.TraceLaws.{trace_of_every_text, counted_lines}
-use Rattle.hz_answer_model.specs.Texts.{file_line, limit_line, fault_line, refused_line, accepted_line, states_line}
+use Rattle.hz_answer_model.specs.Texts.{file_line, limit_line, fault_line, refused_line, accepted_line, states_line, insns_line}
 use Rattle.hz_base_model.specs.Forms.Trees.{Trees}
-use Rattle.hz_words_model.specs.Words.{Order, compile, replay, walk, schedule, eval, drill, bound, order_of, usage_line}
+use Rattle.hz_words_model.specs.Words.{Order, compile, replay, walk, schedule, eval, drill, timed, bound, duo, modulo, order_of, usage_line}
 use Rattle.hz_base_model.specs.Names.{Held}
 use Rattle.hz_answer_model.specs.Phases.{Says, Next, FileWord, OpensAll, HasForms}
 use Rattle.hz_answer_model.specs.TableAnswers.{tables_limit, IsTablesOf, WritesTablesOf, HasTables, IsFirstUnwalked, Walks, WalksTrace}
 use Rattle.hz_answer_model.proofs.TableLaws.{walked_or_first, unwalked_issue}
 use Rattle.hz_answer_model.proofs.DrillLaws.{some_drill}
 use Rattle.hz_answer_model.specs.DrillAnswers.{Drills}
-use Rattle.hz_answer_model.specs.BlockAnswers.{block_limit, state_text_limit, IsBlock, IsState, HasBlock, Evaluates, JudgesBlock}
+use Rattle.hz_answer_model.specs.BlockAnswers.{block_limit, state_text_limit, IsBlock, IsState, HasBlock, HasAtMost, Evaluates, JudgesBlock}
 use Rattle.hz_answer_model.specs.ScheduleAnswers.{schedule_text, HasClasses, Starts, TellsSchedule}
+use Rattle.hz_answer_model.specs.TimedAnswers.{TellsTimed}
 use Rattle.hz_answer_model.specs.BoundAnswers.{TellsBound}
+use Rattle.hz_answer_model.proofs.ExposedLaws.{leaves_source}
+use Rattle.hz_timed_model.specs.ByDescription.{exposed_in}
+use Rattle.hz_timed_model.specs.Texts.{text_of_reads}
+use Rattle.hz_block_model.specs.Texts.StateTexts.{IsText}
+use Rattle.hz_answer_model.specs.DuoAnswers.{TellsTwo}
+use Rattle.hz_answer_model.specs.ModuloAnswers.{TellsKernel}
+use Rattle.hz_modulo_model.specs.Repeats.{body_limit}
+use Rattle.hz_answer_model.proofs.KernelLaws.{some_kernel_text}
 use Rattle.hz_bound_model.specs.Texts.{text_of_bound}
 use Rattle.hz_bound_model.proofs.BlockBounds.{some_bound_of_a_block}
+use Rattle.hz_duo_model.proofs.OneOfTwo.{some_of_two}
+use Rattle.hz_duo_model.specs.Texts.{text_of_two}
 use Rattle.hz_block_model.specs.Dependences.Classes.{ClassFault}
-use Rattle.hz_block_model.specs.Scheduled.BlockGraphs.{IsFirstClassFault}
-use Rattle.hz_block_model.specs.Scheduled.BlockSchedules.{StartsAlone, IsFirstStuck}
+use Rattle.hz_block_model.specs.Scheduled.BlockGraphs.{IsGraphOf, IsFirstClassFault}
+use Rattle.hz_block_model.specs.Scheduled.BlockSchedules.{StartsAlone, IsFirstStuck, IsScheduleOf}
+use Rattle.hz_block_model.specs.Scheduling.Schedules.{Graph, Slot}
+use Rattle.hz_block_model.proofs.Scheduling.AlikeGraphs.{legal_there, greedy_there}
+use Rattle.hz_acceptance_model.specs.Accepting.Replay.{Accepted}
 use Rattle.hz_answer_laws.proofs.Leaving.LimitsTold.{are_counted}
 use Rattle.hz_answer_laws.proofs.Schedulable.ScheduleTotal.{some_schedule_of}
-use Rattle.hz_block_model.proofs.Scheduled.GraphLaws.{HasClass}
+use Rattle.hz_block_model.proofs.Scheduled.GraphLaws.{HasClass, graphs_alike}
 use Rattle.hz_block_model.proofs.Scheduled.FaultLaws.{classes_or_fault, starts_or_stuck}
 use Rattle.hz_answer_model.proofs.ListingTotal.{IsFinite, finite_given, finite_run, has_text}
 use Rattle.hz_block_model.specs.Running.Blocks.{Instruction}
+use Rattle.hz_block_model.specs.Running.Limits.{instruction_limit}
 use Rattle.hz_block_model.specs.Running.States.{State, Store, run, all_stored}
 use Rattle.hz_block_model.specs.Texts.Operands.{Judged}
 use Rattle.hz_block_model.specs.Texts.BlockForms as blocks
@@ -233,6 +248,24 @@ schedule_one d known block formed sound all =
     let (g, slots, is) = some_schedule_of d known block formed sound all in
     wider (Says 0 (schedule_text d block g slots)) _ (λ s t h. (g, slots, is, h)) (says_one 0 (schedule_text d block g slots))
 
+timed_one : (d : Description) (known : Known) (block : List Instruction) (state : State) → IsFinite state → IsCheckable d → IsSound d known → All (StartsAlone d known) block → HasOne (TellsTimed d known block state)
+timed_one d known block state finite formed sound all =
+    let (g, slots, is) = some_schedule_of d known block formed sound all in
+    let written = has_text (run block (range_with_len 0 (length block)) state) (finite_run block (range_with_len 0 (length block)) state finite) in
+    let left = subst (λ (x : State). IsText x written.0) (sym (leaves_source d known block g slots state is)) written.1 in
+    (0, text_of_reads block slots (exposed_in d block g slots state).reads ++ written.0, (g, slots, is, refl, record { tail = written.0; state_is = left; text_is = refl }))
+
+timed_blocks_one : (description described block blocked state stated : List ℕ) → HasOne (HasDescription description described (TimesByDescription description block blocked state stated))
+timed_blocks_one description described block blocked state stated =
+    description_one description described _ (λ d known formed sound.
+    compiles_one description d known _ (λ kept.
+    forms_one block blocked _ (λ read reads.
+    block_one block read _ (λ insns.
+    forms_one state stated _ (λ also too.
+    state_one state also _ (λ start finite.
+    classes_one block d insns _
+    (starts_one block d known insns _ (timed_one d known insns start finite formed sound))))))))
+
 bound_one : Answers TellsBound
 bound_one d known block formed sound all =
     let (g, slots, is) = some_schedule_of d known block formed sound all in
@@ -247,6 +280,47 @@ blocked_one description described block blocked next one =
     forms_one block blocked _ (λ read reads.
     block_one block read _ (λ insns.
     classes_one block d insns _ (starts_one block d known insns (next d known insns) (one d known insns formed sound))))))
+
+-- Two blocks.
+
+few_one : (most count : ℕ) (name : List ℕ) (next : ℕ → List ℕ → Type 0) → HasOne next → HasOne (HasAtMost most count name next)
+few_one most count name next one =
+    elim (nat_lt most count) as (λ b. HasOne (λ s t. MatchBool b (Says 3 (insns_line name) s t) (next s t))) [
+      | true ↦ says_one 3 (insns_line name)
+      | false ↦ one
+    ]
+
+-- the schedule of a block, by another of its graphs
+by_graph : (d : Description) (known : Known) (block : List Instruction) (g h : Graph) (slots : List Slot) → IsScheduleOf d known block g slots → IsGraphOf d block h → IsScheduleOf d known block h slots
+by_graph d known block g h slots is graph =
+    let alike = graphs_alike d block g h is.graph graph in
+    record {
+      graph = graph;
+      legal = legal_there (Accepted (pipeline_with d known)) g h alike slots is.legal;
+      greedy = greedy_there (Accepted (pipeline_with d known)) g h alike slots is.greedy;
+    }
+
+two_one : (d : Description) (known : Known) (first second : List Instruction) → IsCheckable d → IsSound d known → All (StartsAlone d known) first → All (StartsAlone d known) second → HasOne (TellsTwo d known first second)
+two_one d known first second formed sound one other =
+    let (g, h, slots, is) = some_of_two d known first second formed sound one other in
+    let (i, alone, mine) = some_schedule_of d known first formed sound one in
+    let (j, others, yours) = some_schedule_of d known second formed sound other in
+    let text = text_of_two d first second g h slots alone others in
+    wider (Says 0 text) _ (λ s t says. (g, h, slots, alone, others, is, by_graph d known first i g alone mine is.first_graph, by_graph d known second j h others yours is.second_graph, says)) (says_one 0 text)
+
+two_blocks_one : (description described first one second other : List ℕ) → HasOne (HasDescription description described (SchedulesTwoByDescription description first one second other))
+two_blocks_one description described first one second other =
+    description_one description described _ (λ d known formed sound.
+    compiles_one description d known _ (λ kept.
+    forms_one first one _ (λ read reads.
+    block_one first read _ (λ mine.
+    forms_one second other _ (λ more too.
+    block_one second more _ (λ yours.
+    few_one instruction_limit (length mine + length yours) second _
+    (classes_one first d mine _
+    (classes_one second d yours _
+    (starts_one first d known mine _ (λ all.
+    starts_one second d known yours _ (two_one d known mine yours formed sound all)))))))))))
 
 -- Tables.
 
@@ -302,6 +376,24 @@ some_tables d known formed sound keep =
       },
     )
 
+kernel_one : (d : Description) (known : Known) → IsWellFormed d → IsSound d known → AllKeepLimits d known → (body : List Instruction) → All (StartsAlone d known) body → HasOne (TellsKernel d known body)
+kernel_one d known formed sound keep body all =
+    let has : HasMachine d known = some_machine d known formed sound keep in
+    let (g, slots, is) = some_schedule_of d known body (can_be_checked d formed) sound all in
+    let found = some_kernel_text d known has.machine has.reports (can_be_checked d formed) sound has.is has.compiled body g slots is in
+    (0, found.0, (refl, found.1))
+
+kernels_one : (description described block blocked : List ℕ) → HasOne (HasDescription description described (OverlapsByDescription description block blocked))
+kernels_one description described block blocked =
+    forms_one description described _ (λ text is.
+    describes_one description text _ (λ d says formed.
+    checks_one description d _ formed (λ known sound.
+    compiles_one description d known _ (λ kept.
+    forms_one block blocked _ (λ read reads.
+    block_one block read _ (λ body.
+    few_one body_limit (length body) block _
+    (classes_one block d body _ (starts_one block d known body _ (kernel_one d known formed sound kept body)))))))))
+
 -- it is compiled, where what follows has an answer for its tables
 tabled_one : (description described : List ℕ) (next : Description → Known → ℕ → List ℕ → Type 0)
     → ((d : Description) (known : Known) (text : List ℕ) → IsSound d known → IsTablesOf d known text → HasOne (next d known)) → HasOne (HasDescription description described (λ d known. Compiles description d known (next d known)))
@@ -330,7 +422,10 @@ judges_one (replay description trace) = λ described traced. texts_one descripti
 judges_one (compile description) = λ described. compiled_one description described
 judges_one (walk tables trace) = λ tabled traced. walked_one tables tabled trace traced
 judges_one (schedule description block) = λ described blocked. blocked_one description described block blocked TellsSchedule schedule_one
+judges_one (timed description block state) = λ described blocked stated. timed_blocks_one description described block blocked state stated
 judges_one (bound description block) = λ described blocked. blocked_one description described block blocked TellsBound bound_one
+judges_one (duo description first second) = λ described one other. two_blocks_one description described first one second other
+judges_one (modulo description block) = λ described blocked. kernels_one description described block blocked
 judges_one (eval block state) = λ blocked stated. blocks_one block blocked state stated
 judges_one (drill description number turns) = λ described. drilled_one description described number turns
 

@@ -8,11 +8,13 @@ use Rattle.hz_description_model.specs.Reading.DescriptionForms as description_fo
 use Rattle.hz_description_model.specs.Check.CheckFaults.{CheckFault, LimitName, limit_passed, IsSound}
 use Rattle.hz_description_model.specs.Check.Places.{Known}
 use Rattle.hz_block_model.specs.Running.Blocks.{Instruction}
+use Rattle.hz_block_model.specs.Running.States.{State}
 use Rattle.hz_block_model.specs.Texts.BlockForms as blocks
-use Rattle.hz_answer_model.specs.Texts.{file_line, limit_line}
+use Rattle.hz_block_model.specs.Texts.StateForms as states
+use Rattle.hz_answer_model.specs.Texts.{file_line, limit_line, insns_line}
 use Rattle.hz_answer_model.specs.FaultTexts.{status_by, check_status}
 use Rattle.hz_answer_model.specs.Phases.{Says, Next, HasForms}
-use Rattle.hz_answer_model.specs.BlockAnswers.{IsBlock}
+use Rattle.hz_answer_model.specs.BlockAnswers.{IsBlock, HasAtMost, IsState}
 use Rattle.hz_answer_model.specs.Answers.{Describes, Checks, HasDescription, Compiles}
 use Rattle.hz_answer_model.specs.ScheduleAnswers.{HasClasses, Starts}
 use Rattle.hz_answer_model.specs.Headline.{IsDescribed}
@@ -74,6 +76,10 @@ pub block_of : (name : List ℕ) (read : Trees) (next : Next (List Instruction))
 block_of name read next text (inl good) = good
 block_of name read next text (inr (fault, line, wrong, h)) = absurd (omega (arith, h.0))
 
+pub state_of : (name : List ℕ) (read : Trees) (next : Next State) (text : List ℕ) → IsState name read next 0 text → (state : State) × states.Reads read state × next state 0 text
+state_of name read next text (inl good) = good
+state_of name read next text (inr (fault, line, wrong, h)) = absurd (omega (arith, h.0))
+
 pub classes_of_block : (name : List ℕ) (d : Description) (block : List Instruction) (next : ℕ → List ℕ → Type 0) (text : List ℕ) → HasClasses name d block next 0 text → next 0 text
 classes_of_block name d block next text (inl good) = good.1
 classes_of_block name d block next text (inr (i, fault, first, h)) = absurd (omega (arith, h.0))
@@ -81,3 +87,10 @@ classes_of_block name d block next text (inr (i, fault, first, h)) = absurd (ome
 pub started_of : (name : List ℕ) (d : Description) (known : Known) (block : List Instruction) (next : ℕ → List ℕ → Type 0) (text : List ℕ) → Starts name d known block next 0 text → next 0 text
 started_of name d known block next text (inl good) = good.1
 started_of name d known block next text (inr (i, first, h)) = absurd (omega (arith, h.0))
+
+pub few_of : (most count : ℕ) (name : List ℕ) (next : ℕ → List ℕ → Type 0) (text : List ℕ) → HasAtMost most count name next 0 text → (nat_lt most count ≡ false) × next 0 text
+few_of most count name next text h = go (nat_lt most count) refl h
+  where
+    go : (b : Bool) → nat_lt most count ≡ b → MatchBool b (Says 3 (insns_line name) 0 text) (next 0 text) → (nat_lt most count ≡ false) × next 0 text
+    go true is h = absurd (omega (arith, h.0))
+    go false is h = (is, h)

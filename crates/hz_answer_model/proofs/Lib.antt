@@ -5,6 +5,8 @@ pub mod AnswerLaws
 pub mod AnswerTotal
 pub mod EventLaws
 pub mod DoneLaws
+pub mod ExposedLaws
+pub mod KernelLaws
 pub mod HeadlineLaws
 pub mod ShortLaws
 pub mod WalkLaws

@@ -18,12 +18,15 @@ use Rattle.hz_base_model.specs.Lines.{lines_of}
 use Rattle.hz_acceptance_model.specs.Traces.Traces.{event_lines}
 use Rattle.hz_answer_model.specs.Texts.{states_line, accepted_line, refused_line}
 use Rattle.hz_base_model.specs.Forms.Trees.{Trees}
-use Rattle.hz_words_model.specs.Words.{Order, compile, replay, walk, schedule, eval, drill, bound, order_of, usage_line}
+use Rattle.hz_words_model.specs.Words.{Order, compile, replay, walk, schedule, eval, drill, timed, bound, duo, modulo, order_of, usage_line}
 use Rattle.hz_base_model.specs.Names.{Held}
 use Rattle.hz_answer_model.specs.Phases.{Says, Next, FileWord, OpensAll, HasForms, Traces}
 use Rattle.hz_answer_model.specs.BlockAnswers.{block_limit, state_text_limit, JudgesBlock}
 use Rattle.hz_answer_model.specs.ScheduleAnswers.{SchedulesBlock}
+use Rattle.hz_answer_model.specs.TimedAnswers.{TimesBlock}
 use Rattle.hz_answer_model.specs.BoundAnswers.{BoundsBlock}
+use Rattle.hz_answer_model.specs.DuoAnswers.{SchedulesBlocks}
+use Rattle.hz_answer_model.specs.ModuloAnswers.{OverlapsBlock}
 use Rattle.hz_answer_model.specs.DrillAnswers.{Drills}
 use Rattle.hz_answer_model.specs.TableAnswers.{tables_limit, WritesTablesOf, HasTables, WalksTrace}
 
@@ -86,9 +89,21 @@ CompilesDescription description d known = Compiles description d known (WritesTa
 abbrev pub SchedulesByDescription : List ℕ → List ℕ → List ℕ → Description → Known → ℕ → List ℕ → Type 0
 SchedulesByDescription description block blocked d known = Compiles description d known (SchedulesBlock block blocked d known)
 
+-- a description without a fault is compiled, then the block and the state are judged, and what the block's schedule reads is told
+abbrev pub TimesByDescription : (description block blocked state stated : List ℕ) → Description → Known → ℕ → List ℕ → Type 0
+TimesByDescription description block blocked state stated d known = Compiles description d known (TimesBlock block blocked state stated d known)
+
 -- a description without a fault is compiled, and then the block is judged and its bound is told
 abbrev pub BoundsByDescription : List ℕ → List ℕ → List ℕ → Description → Known → ℕ → List ℕ → Type 0
 BoundsByDescription description block blocked d known = Compiles description d known (BoundsBlock block blocked d known)
+
+-- a description without a fault is compiled, and then two blocks are judged and scheduled together
+abbrev pub SchedulesTwoByDescription : List ℕ → (first_name first_text second_name second_text : List ℕ) → Description → Known → ℕ → List ℕ → Type 0
+SchedulesTwoByDescription description first_name first_text second_name second_text d known = Compiles description d known (SchedulesBlocks first_name first_text second_name second_text d known)
+
+-- a description without a fault is compiled, and then the body of a loop is judged and its kernel is told
+abbrev pub OverlapsByDescription : List ℕ → List ℕ → List ℕ → Description → Known → ℕ → List ℕ → Type 0
+OverlapsByDescription description block blocked d known = Compiles description d known (OverlapsBlock block blocked d known)
 
 -- a description without a fault is compiled, and its drill is told
 abbrev pub DrillsDescription : List ℕ → (number turns : ℕ) → Description → Known → ℕ → List ℕ → Type 0
@@ -106,7 +121,10 @@ files_of (walk tables trace) = file_word tables tables_limit ∷ file_word trace
 files_of (schedule description block) = file_word description description_limit ∷ file_word block block_limit ∷ []
 files_of (eval block state) = file_word block block_limit ∷ file_word state state_text_limit ∷ []
 files_of (drill description number turns) = file_word description description_limit ∷ []
+files_of (timed description block state) = file_word description description_limit ∷ file_word block block_limit ∷ file_word state state_text_limit ∷ []
 files_of (bound description block) = file_word description description_limit ∷ file_word block block_limit ∷ []
+files_of (duo description first second) = file_word description description_limit ∷ file_word first block_limit ∷ file_word second block_limit ∷ []
+files_of (modulo description block) = file_word description description_limit ∷ file_word block block_limit ∷ []
 
 -- what an order answers to the bytes of its files: one case for each command, which judges its texts in their order
 abbrev pub JudgesOrder : Order → Next (List (List ℕ))
@@ -116,7 +134,10 @@ JudgesOrder (walk tables trace) (tabled ∷ traced ∷ []) status text = HasTabl
 JudgesOrder (schedule description block) (described ∷ blocked ∷ []) status text = HasDescription description described (SchedulesByDescription description block blocked) status text
 JudgesOrder (eval block state) (blocked ∷ stated ∷ []) status text = JudgesBlock block blocked state stated status text
 JudgesOrder (drill description number turns) (described ∷ []) status text = HasDescription description described (DrillsDescription description number turns) status text
+JudgesOrder (timed description block state) (described ∷ blocked ∷ stated ∷ []) status text = HasDescription description described (TimesByDescription description block blocked state stated) status text
 JudgesOrder (bound description block) (described ∷ blocked ∷ []) status text = HasDescription description described (BoundsByDescription description block blocked) status text
+JudgesOrder (duo description first second) (described ∷ one ∷ other ∷ []) status text = HasDescription description described (SchedulesTwoByDescription description first one second other) status text
+JudgesOrder (modulo description block) (described ∷ blocked ∷ []) status text = HasDescription description described (OverlapsByDescription description block blocked) status text
 JudgesOrder _ _ status text = ⊥
 
 -- what an order answers: all its files are read, and then their texts are judged

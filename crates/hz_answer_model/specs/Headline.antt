@@ -1,5 +1,6 @@
--- What is written of a schedule, of tables, of a drill and of a bound, and what `replay` and `walk` answer of them, in the words of the promise: README.md.
-use Rattle.std.specs.Prelude.{⊤, ◌≡◌, ◌↔◌, ℕ, ◌≤◌, ◌<◌, false, List, length, Some}
+-- What is written of a schedule, of tables, of a drill, on an exposed pipeline, of a bound, of two blocks and of a kernel, and what `replay` and `walk` answer of them, in the words of the promise: README.md.
+use Rattle.std.specs.List.{repeat}
+use Rattle.std.specs.Prelude.{⊤, ◌≡◌, ◌↔◌, ℕ, ◌+◌, ◌≤◌, ◌<◌, false, List, ◌++◌, length, Some}
 use Rattle.hz_base_model.specs.Forms.Trees.{Trees}
 use Rattle.hz_base_model.specs.Forms.Forms as forms
 use Rattle.hz_description_model.specs.Reading.Descriptions.{Description}
@@ -12,18 +13,31 @@ use Rattle.hz_acceptance_model.specs.Accepting.Replay.{Accepted}
 use Rattle.hz_automata_model.specs.Compiling.Compiled.{shows_states}
 use Rattle.hz_acceptance_model.specs.Pipelines.Pipelines.{pipeline_with}
 use Rattle.hz_block_model.specs.Running.Blocks.{Instruction}
+use Rattle.hz_block_model.specs.Running.Limits.{instruction_limit}
 use Rattle.hz_block_model.specs.Texts.BlockForms as blocks
-use Rattle.hz_block_model.specs.Scheduling.Schedules.{Graph, Slot, Legal, present, spell}
+use Rattle.hz_block_model.specs.Scheduling.Schedules.{Graph, Slot, Legal, places, present, spell}
 use Rattle.hz_block_model.specs.Scheduled.BlockGraphs.{IsGraphOf}
-use Rattle.hz_block_model.specs.Scheduled.BlockSchedules.{KeepsBlock}
+use Rattle.hz_block_model.specs.Scheduled.BlockSchedules.{IsScheduleOf, KeepsBlock}
 use Rattle.hz_acceptance_model.specs.Traces.Traces.{Trace}
 use Rattle.hz_tabtext_model.specs.Texts.{TableText}
+use Rattle.hz_block_model.specs.Running.States.{State, run}
+use Rattle.hz_block_model.specs.Texts.StateForms as states
+use Rattle.hz_timed_model.specs.ByDescription.{exposed_in}
+use Rattle.hz_timed_model.specs.Exposed.{Timed}
+use Rattle.hz_timed_model.specs.Texts.{text_of_reads}
+use Rattle.hz_block_model.specs.Texts.StateTexts.{IsText}
 use Rattle.hz_bound_model.specs.Bounds.{Bound, IsBoundOf}
 use Rattle.hz_bound_model.specs.Texts.{text_of_bound}
+use Rattle.hz_modulo_model.specs.KernelTexts.{IsKernelOf}
+use Rattle.hz_modulo_model.specs.Turns.{turns, run_times}
+use Rattle.hz_modulo_model.specs.Repeats.{body_limit}
+use Rattle.hz_duo_model.specs.Joining.{joined}
+use Rattle.hz_duo_model.specs.Texts.{text_of_two}
+use Rattle.hz_duo_model.specs.TwoContexts.{IsScheduleOfTwo, KeepsBoth}
 use Rattle.hz_answer_model.specs.Answers.{AnswersOrder}
 use Rattle.hz_answer_model.specs.DrillAnswers.{IsDrillOf}
 use Rattle.hz_base_model.specs.Names.{Held}
-use Rattle.hz_words_model.specs.Words.{Order, compile, replay, walk, schedule, drill, bound}
+use Rattle.hz_words_model.specs.Words.{Order, compile, replay, walk, schedule, eval, drill, timed, bound, duo, modulo}
 use Rattle.hz_answer_model.specs.Texts.{accepted_line}
 use Rattle.hz_answer_model.specs.ScheduleAnswers.{schedule_text}
 use Rattle.hz_answer_model.specs.TableAnswers.{tables_limit, IsTablesOf}
@@ -40,6 +54,12 @@ pub record IsBlockIn (bytes : List ℕ) (block : List Instruction) : Type 0 wher
   pub read : Trees
   pub forms : forms.Reads bytes read
   pub says : blocks.Reads read block
+
+-- The state that bytes say.
+pub record IsStateIn (bytes : List ℕ) (state : State) : Type 0 where
+  pub read : Trees
+  pub forms : forms.Reads bytes read
+  pub says : states.Reads read state
 
 -- A description and a block are held.
 pub record HoldBlock (held : Held) (description block : List ℕ) (d : Description) (known : Known) (insns : List Instruction) : Type 0 where
@@ -125,27 +145,97 @@ pub record KeepsDrill (held : Held) (description : List ℕ) (number turns : ℕ
   pub writes : WritesDrill held description number turns text
   pub replays : ReplayAcceptsEvents held description writes.d writes.drill.events
 
+-- The lines of a state are what `eval` answers, wherever the same block and the same state are held.
+pub record IsAsEval (held : Held) (block state tail : List ℕ) : Type 0 where
+  pub answers : (other : Held) → other block ≡ held block → other state ≡ held state → AnswersOrder other (eval block state) 0 tail
+
+-- What is written is what the block's schedule, which is legal and greedy and keeps the block, reads of the state that is held on an
+-- exposed pipeline, where nothing waits for what is read. It leaves the state that the block leaves in the order of the source: its
+-- lines are those of `eval`.
+pub record KeepsTimed (held : Held) (description block state text : List ℕ) : Type 0 where
+  pub d : Description
+  pub known : Known
+  pub insns : List Instruction
+  pub holds : HoldBlock held description block d known insns
+  pub stated : List ℕ
+  pub third_file : held state ≡ Some stated
+  pub start : State
+  pub is_state : IsStateIn stated start
+  pub g : Graph
+  pub slots : List Slot
+  pub is_schedule : IsScheduleOf d known insns g slots
+  pub keeps : KeepsBlock d known insns g slots
+  pub tail : List ℕ
+  pub state_is : IsText (exposed_in d insns g slots start).state tail
+  pub text_is : text ≡ text_of_reads insns slots (exposed_in d insns g slots start).reads ++ tail
+  pub as_eval : IsAsEval held block state tail
+
 -- What is written is the bound of the block that is held, with what shows it: the chain, along which the dependences cost its path,
 -- and the unit of the greatest load. No legal schedule of the block ends before it, in either treatment. The last line is of the
--- block's schedule, which keeps the block.
+-- block's schedule, which is legal and greedy, and keeps the block.
 pub record KeepsBound (held : Held) (description block text : List ℕ) : Type 0 where
   pub d : Description
   pub known : Known
   pub insns : List Instruction
   pub holds : HoldBlock held description block d known insns
   pub g : Graph
-  pub graph : IsGraphOf d insns g
   pub b : Bound
   pub is_bound : IsBoundOf d known g b
   pub none_shorter : (others : List Slot) → Legal (Accepted (pipeline_with d known)) g others → b.value ≤ present 0 others
   pub slots : List Slot
+  pub is_schedule : IsScheduleOf d known insns g slots
   pub keeps : KeepsBlock d known insns g slots
   pub text_is : text ≡ text_of_bound d insns b slots
+
+-- What is written is the schedule of the two blocks that are held, in one pipeline. It has the instructions of each once and keeps
+-- each context's latencies and bypasses. Its trace is accepted, by the description and by `replay`. It leaves each context what its
+-- block in the order of the source leaves, from every pair of states, whatever the other block is. The last line is of each block's
+-- own schedule.
+pub record KeepsTwo (held : Held) (description first_name second_name text : List ℕ) : Type 0 where
+  pub d : Description
+  pub known : Known
+  pub first : List Instruction
+  pub second : List Instruction
+  pub holds_first : HoldBlock held description first_name d known first
+  pub holds_second : HoldBlock held description second_name d known second
+  pub few : length first + length second ≤ instruction_limit
+  pub g : Graph
+  pub h : Graph
+  pub slots : List Slot
+  pub is_schedule : IsScheduleOfTwo d known first second g h slots
+  pub keeps : KeepsBoth d known first second g h slots
+  pub replays : ReplayAccepts held description d (joined g h) slots
+  pub alone : List Slot
+  pub other : List Slot
+  pub first_alone : IsScheduleOf d known first g alone
+  pub second_alone : IsScheduleOf d known second h other
+  pub text_is : text ≡ text_of_two d first second g h slots alone other
+
+-- What so many turns of a loop's body are, as a kernel overlaps them: a legal schedule of so many copies of the body. `replay` accepts
+-- its trace, and in its order the copies leave from every state what the body leaves, so many times.
+pub record KeepsTurns (held : Held) (description : List ℕ) (d : Description) (known : Known) (body : List Instruction) (interval : ℕ) (slots : List Slot) (count : ℕ) (g : Graph) : Type 0 where
+  pub legal : Legal (Accepted (pipeline_with d known)) g (turns (length body) interval slots count)
+  pub replays : ReplayAccepts held description d g (turns (length body) interval slots count)
+  pub leaves : (state : State) → run (repeat count body) (places (turns (length body) interval slots count)) state ≡ run_times body count state
+
+-- What is written is the kernel of the loop's body that is held: the least interval at which its schedule repeats on the machine that is
+-- compiled. Every number of turns that it overlaps is good.
+pub record KeepsKernel (held : Held) (description block text : List ℕ) : Type 0 where
+  pub d : Description
+  pub known : Known
+  pub insns : List Instruction
+  pub holds : HoldBlock held description block d known insns
+  pub short : length insns ≤ body_limit
+  pub kernel : IsKernelOf d known insns text
+  pub every : (count : ℕ) (g : Graph) → IsGraphOf d (repeat count insns) g → KeepsTurns held description d known insns kernel.interval kernel.slots count g
 
 -- What status 0 promises of the text that is written, beside that it is the answer: one case for each command that promises more.
 abbrev pub Promised : Held → Order → List ℕ → Type 0
 Promised held (compile description) text = KeepsTables held description text
 Promised held (schedule description block) text = KeepsSchedule held description block text
 Promised held (drill description number turns) text = KeepsDrill held description number turns text
+Promised held (timed description block state) text = KeepsTimed held description block state text
 Promised held (bound description block) text = KeepsBound held description block text
+Promised held (duo description first second) text = KeepsTwo held description first second text
+Promised held (modulo description block) text = KeepsKernel held description block text
 Promised held _ text = ⊤

@@ -3,7 +3,10 @@ pub mod FaultTexts
 pub mod Phases
 pub mod BlockAnswers
 pub mod ScheduleAnswers
+pub mod TimedAnswers
 pub mod BoundAnswers
+pub mod DuoAnswers
+pub mod ModuloAnswers
 pub mod TableAnswers
 pub mod DrillAnswers
 pub mod Answers

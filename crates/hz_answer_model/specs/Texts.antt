@@ -64,6 +64,10 @@ passed_line file line what name = concat (codes "limit " ∷ file ∷ codes " li
 abbrev pub states_line : List ℕ → List ℕ → List ℕ
 states_line file automaton = concat (codes "limit " ∷ file ∷ codes " automaton " ∷ automaton ∷ codes "\n" ∷ [])
 
+-- a limit on the instructions of a block, or of two together, which is told of the second
+abbrev pub insns_line : List ℕ → List ℕ
+insns_line file = concat (codes "limit " ∷ file ∷ codes " insns\n" ∷ [])
+
 abbrev pub limit_line : List ℕ → List ℕ
 limit_line file = concat (codes "limit " ∷ file ∷ codes " bytes\n" ∷ [])
 

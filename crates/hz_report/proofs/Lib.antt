@@ -1,3 +1,2 @@
-pub mod ListingLemmas
 pub mod ScheduleLemmas
 pub mod FaultLines

@@ -11,7 +11,7 @@ use Rattle.hz_sched.specs.Shape.{graph_of, slots_of}
 use Rattle.hz_block_model.specs.Texts.StateTexts.{listing_text}
 use Rattle.hz_words_model.specs.Words.{usage_line}
 use Rattle.hz_report.specs.declared.report.Report.{Report}
-use Rattle.hz_report.specs.declared.report.Report.TheVariants.{Accepted, Refused, Scheduled, After, Drill, Fault, Bytes, Checked, Automaton, Usage, Memory, File}
+use Rattle.hz_report.specs.declared.report.Report.TheVariants.{Accepted, Refused, Scheduled, After, Drill, Fault, Bytes, Insns, Checked, Automaton, Usage, Memory, File}
 
 -- the text of a report
 abbrev pub text_of : Report → List ℕ
@@ -22,6 +22,7 @@ text_of (After state) = listing_text (listing state.now)
 text_of (Drill turns issues cycles states) = model.drill_text turns issues cycles states.now
 text_of (Fault file line kind insn first second at) = model.fault_text file.now line kind.now insn (option_map (λ n. n.now) first) (option_map (λ n. n.now) second) (told_in at)
 text_of (Bytes file) = model.limit_line file.now
+text_of (Insns file) = model.insns_line file.now
 text_of (Checked file line what name) = model.passed_line file.now line (limit_word (limit_of what)) name.now
 text_of (Automaton file name) = model.states_line file.now name.now
 text_of Usage = usage_line

@@ -4,7 +4,6 @@
 mod drilled;
 mod faults;
 mod limits;
-mod listing;
 mod outcomes;
 mod report;
 mod scheduled;

@@ -19,6 +19,14 @@ pub fn put_bytes<S: Sink>(out: &mut S, file: &str) -> Result<(), Failed>
     put_all(out, &[b"limit ", file.as_bytes(), b" bytes\n"])
 }
 
+/// Writes the line of a block that has too many instructions.
+pub fn put_insns<S: Sink>(out: &mut S, file: &str) -> Result<(), Failed>
+    requires { S.faults out.old < 2 ^ 64 - 1 }
+    ensures { Writes S.written S.room S.faults out.old out.new (model.insns_line file.now) result }
+{
+    put_all(out, &[b"limit ", file.as_bytes(), b" insns\n"])
+}
+
 /// Writes the line of a limit of a description that is passed.
 pub fn put_checked<'a, S: Sink>(
     out: &mut S,

@@ -53,6 +53,10 @@ pub enum Report<'a> {
     Bytes {
         file: &'a str,
     },
+    /// A block has more instructions than it may have, or two have together; then the second is the file.
+    Insns {
+        file: &'a str,
+    },
     /// A limit of a description is passed at this line, by what has this name.
     Checked {
         file: &'a str,

@@ -6,12 +6,12 @@ ghost use Rattle.hz_report.specs.Reports.{text_of, IsTellable};
 
 use super::drilled::put_drill;
 use super::faults::put_fault;
-use super::limits::{put_automaton, put_bytes, put_checked};
-use super::listing::put_state;
+use super::limits::{put_automaton, put_bytes, put_checked, put_insns};
 use super::outcomes::{put_accepted, put_file, put_memory, put_refused, put_usage};
 use super::report::Report;
 use super::scheduled::put_schedule;
 use hz_io::{Failed, Sink};
+use hz_listing::write_state;
 
 /// Writes the text of a report: all of it, or a front of it if the sink failed, with one more fault. It takes no memory.
 /// The slots of a schedule are of instructions of its graph, and these of classes of its machine.
@@ -28,7 +28,7 @@ pub fn write_report<S: Sink>(report: &Report<'_>, out: &mut S) -> Result<(), Fai
             graph,
             schedule,
         } => put_schedule(out, machine, graph, schedule),
-        Report::After { state } => put_state(out, state),
+        Report::After { state } => write_state(state, out),
         Report::Drill {
             turns,
             issues,
@@ -45,6 +45,7 @@ pub fn write_report<S: Sink>(report: &Report<'_>, out: &mut S) -> Result<(), Fai
             at,
         } => put_fault(out, file, line, kind, insn, first, second, at),
         Report::Bytes { file } => put_bytes(out, file),
+        Report::Insns { file } => put_insns(out, file),
         Report::Checked {
             file,
             line,

@@ -7,7 +7,7 @@
 //! group NAME         what is said before its first row holds for each of its rows
 //! row NAME           a row: what it says replaces what its group says
 //! words WORD WORD .. what `run` is given; `""` is a word without a letter. Several lines: each of them in turn
-//! file NAME          a file, whose text follows. There are two at most
+//! file NAME          a file, whose text follows. There are three at most
 //! reads COUNT        the most bytes that a read gives, 64 if it is not said
 //! fail CALL CALL     each call from the first number to the last fails, in a run of its own
 //! room COUNT         the room of the sink, 1000 if it is not said

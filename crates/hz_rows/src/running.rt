@@ -1,6 +1,7 @@
 //! One run, and its comparison with what is wanted.
 
-ghost use Rattle.std.specs.Prelude.{◌≡◌, ◌<◌, IfOk};
+ghost use Rattle.std.specs.Prelude.{◌≡◌, ◌<◌, IfOk, [], ◌∷◌};
+ghost use Rattle.hz_io.specs.Drive.{are_distinct};
 
 use super::faults::unreadable;
 use super::row::Input;
@@ -42,7 +43,14 @@ fn name_of(alloc: Global, file: &Input) -> io::Result<FileName> {
     name.ok_or(unreadable())
 }
 
-/// Two files of different names at most, of which a read gives at most so many bytes and this call fails.
+/// Whether three names differ.
+fn are_apart(one: &FileName, other: &FileName, last: &FileName) -> bool
+    ensures { result ≡ are_distinct (one.now ∷ other.now ∷ last.now ∷ []) }
+{
+    one.bytes() != other.bytes() && one.bytes() != last.bytes() && other.bytes() != last.bytes()
+}
+
+/// Three files of different names at most, of which a read gives at most so many bytes and this call fails.
 fn files_of(alloc: Global, files: &[Input], fail: Option<u64>, reads: usize) -> io::Result<MemFiles>
     requires { 0 < reads }
     ensures { IfOk result (λ files. files.faults ≡ 0) }
@@ -65,6 +73,20 @@ fn files_of(alloc: Global, files: &[Input], fail: Option<u64>, reads: usize) -> 
                 return Err(unreadable());
             }
             let held = vec![in alloc; (one, first.bytes.clone()?), (other, second.bytes.clone()?)]?;
+            Ok(MemFiles::new(held, fails, reads))
+        }
+        [first, second, third] => {
+            let one = name_of(alloc, first)?;
+            let other = name_of(alloc, second)?;
+            let last = name_of(alloc, third)?;
+            if !are_apart(&one, &other, &last) {
+                return Err(unreadable());
+            }
+            let held = vec![in alloc;
+                (one, first.bytes.clone()?),
+                (other, second.bytes.clone()?),
+                (last, third.bytes.clone()?),
+            ]?;
             Ok(MemFiles::new(held, fails, reads))
         }
         _ => Err(unreadable()),

@@ -91,7 +91,7 @@ module _ (d : Description) (checked : Checked) (is : IsCheckedOf d checked) wher
       ap (λ (r : Result ℕ ClassFault). r ∷ map (class_for checked) insns) (class_same i)
       ∙ ap (λ (rs : List (Result ℕ ClassFault)). class_in d (instruction i) ∷ rs) (classes_same insns)
 
-  timing_same : (numbers : List ℕ) (block : List Instruction) → depend.timing_in checked numbers block ≡ timing_in d numbers block
+  pub timing_same : (numbers : List ℕ) (block : List Instruction) → depend.timing_in checked numbers block ≡ timing_in d numbers block
   timing_same numbers block =
       ap (λ (ls : List ℕ). timing_of ls (map bypass_of checked.bypasses.items) numbers block) latencies_same
       ∙ ap (λ (bs : List BypassParts). timing_of (latencies_in d) bs numbers block) is.bypasses

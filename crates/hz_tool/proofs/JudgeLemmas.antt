@@ -15,13 +15,13 @@ use Rattle.hz_answer_model.specs.FaultTexts.{class_line, stuck_line}
 use Rattle.hz_base_model.specs.Forms.Forms.{form_word}
 use Rattle.hz_base_model.specs.Forms.Forms as forms
 use Rattle.hz_base_model.specs.Forms.Trees.{Trees}
-use Rattle.hz_answer_model.specs.BlockAnswers.{HasBlock, IsBlock, IsState}
+use Rattle.hz_answer_model.specs.BlockAnswers.{HasBlock, IsBlock, HasState, IsState}
 use Rattle.hz_block_model.specs.Running.Blocks.{Instruction}
 use Rattle.hz_block_model.specs.Running.States.{State}
 use Rattle.hz_block_model.specs.Texts.Operands.{rtl_word}
 use Rattle.hz_block_model.specs.Texts.BlockForms as blocks
 use Rattle.hz_block_model.specs.Texts.StateForms as states
-use Rattle.hz_answer_model.specs.Headline.{IsBlockIn}
+use Rattle.hz_answer_model.specs.Headline.{IsBlockIn, IsStateIn}
 use Rattle.hz_tool.specs.Blocks.{Nothing}
 use Rattle.hz_tool.proofs.AnswerLemmas.{agrees_weaker}
 use Rattle.hz_check.specs.declared.checked.Checked.{Checked}
@@ -93,6 +93,22 @@ text_refused name bytes next = agrees_weaker (HasBlock name bytes (λ insns. Not
 -- a text that is a block leads on
 pub text_on : (name bytes : List ℕ) (insns : List Instruction) (next : Next (List Instruction)) (report : Decision) → IsBlockIn bytes insns → Agrees (next insns) report → Agrees (HasBlock name bytes next) report
 text_on name bytes insns next report is h = forms_on name bytes is.read (λ read. IsBlock name read next) report is.forms (block_on name is.read insns next report is.says h)
+
+-- a text that is no state is told, whatever would follow
+pub state_text_refused : (name bytes : List ℕ) (next : Next State) (told : Decision) → Agrees (HasState name bytes (λ state. Nothing)) told → Agrees (HasState name bytes next) told
+state_text_refused name bytes next = agrees_weaker (HasState name bytes (λ state. Nothing)) (HasState name bytes next) by_forms
+  where
+    by_state : (read : Trees) (s : ℕ) (t : List ℕ) → IsState name read (λ state. Nothing) s t → IsState name read next s t
+    by_state read s t (inl (state, says, none)) = absurd none
+    by_state read s t (inr wrong) = inr wrong
+
+    by_forms : (s : ℕ) (t : List ℕ) → HasState name bytes (λ state. Nothing) s t → HasState name bytes next s t
+    by_forms s t (inl (read, is, more)) = inl (read, is, by_state read s t more)
+    by_forms s t (inr wrong) = inr wrong
+
+-- a text that is a state leads on
+pub state_text_on : (name bytes : List ℕ) (state : State) (next : Next State) (report : Decision) → IsStateIn bytes state → Agrees (next state) report → Agrees (HasState name bytes next) report
+state_text_on name bytes state next report is h = forms_on name bytes is.read (λ read. IsState name read next) report is.forms (state_on name is.read state next report is.says h)
 
 -- a class that is wrong is told, whatever would follow
 pub classes_refused : (name : List ℕ) (d : Description) (block : List Instruction) (next : ℕ → List ℕ → Type 0) (told : Decision) → Agrees (HasClasses name d block Nothing) told → Agrees (HasClasses name d block next) told

@@ -2,13 +2,16 @@ pub mod AnswerLemmas
 pub mod BlockLemmas
 pub mod BoundLemmas
 pub mod BlockTelling
+pub mod DuoLemmas
 pub mod JudgeLemmas
+pub mod KernelLemmas
 pub mod MachineLemmas
 pub mod ReadLemmas
 pub mod ReplayLaws
 pub mod RunLemmas
 pub mod SlotLemmas
 pub mod StartLemmas
+pub mod TimedLemmas
 pub mod TraceLemmas
 pub mod TablesLemmas
 pub mod DrillLemmas

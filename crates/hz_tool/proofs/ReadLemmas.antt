@@ -184,3 +184,12 @@ two_texts (c ∷ []) a b x y e first second is also = absurd (omega (arith, e))
 two_texts (c ∷ d ∷ []) a b x y e first second is also =
     ap₂ (λ (x y : List ℕ). x ∷ y ∷ []) (is ∙ ap (λ (t : Vec ℕ Global). t.items) first) (also ∙ ap (λ (t : Vec ℕ Global). t.items) second)
 two_texts (c ∷ d ∷ f ∷ texts) a b x y e first second is also = absurd (omega (arith, e))
+
+pub three_texts : (texts : List (Vec ℕ Global)) (a b c : Vec ℕ Global) (x y z : List ℕ) → length texts ≡ 3 → a ≡ get_or texts 0 a → b ≡ get_or texts 1 b → c ≡ get_or texts 2 c → x ≡ a.items → y ≡ b.items → z ≡ c.items → x ∷ y ∷ z ∷ [] ≡ texts_in texts
+three_texts [] a b c x y z e first second third is also too = absurd (omega (arith, e))
+three_texts (d ∷ []) a b c x y z e first second third is also too = absurd (omega (arith, e))
+three_texts (d ∷ f ∷ []) a b c x y z e first second third is also too = absurd (omega (arith, e))
+three_texts (d ∷ f ∷ g ∷ []) a b c x y z e first second third is also too =
+    ap₂ (λ (x y : List ℕ). x ∷ y ∷ z ∷ []) (is ∙ ap (λ (t : Vec ℕ Global). t.items) first) (also ∙ ap (λ (t : Vec ℕ Global). t.items) second)
+    ∙ ap (λ (z : List ℕ). d.items ∷ f.items ∷ z ∷ []) (too ∙ ap (λ (t : Vec ℕ Global). t.items) third)
+three_texts (d ∷ f ∷ g ∷ h ∷ texts) a b c x y z e first second third is also too = absurd (omega (arith, e))

@@ -4,7 +4,9 @@ pub mod Decided
 pub mod Decisions
 pub mod Endings
 pub mod Fronts
+pub mod Kernels
 pub mod Machines
+pub mod Pairs
 pub mod Reading
 pub mod Replays
 pub mod Telling

@@ -8,13 +8,16 @@ use hz_auto::Compiled;
 use hz_bound::{Bound, write_bound};
 use hz_check::{Checked, LimitName};
 use hz_depend::Graph;
+use hz_duo::{DuoSlot, write_duo};
 use hz_io::{Failed, Sink};
+use hz_modulo::{Kernel, write_kernel};
 use hz_regexp::Name;
 use hz_report::{Report, write_report};
-use hz_rtl::State;
+use hz_rtl::{Block, State};
 use hz_sched::Schedule;
 use hz_tabfile::write_tables;
 use hz_tables::Machine;
+use hz_timed::{Timed, write_timed};
 
 /// An answer before it is written, which owns what is done. A file goes by the word that names it, lines are counted from 1.
 #[derive(Drop)]
@@ -46,6 +49,28 @@ pub enum Decision<'a> {
         graph: Graph,
         schedule: Schedule,
         bound: Bound,
+    },
+    /// What the schedule of a block reads and leaves on an exposed pipeline: the block has the numbers of its instructions.
+    Timed {
+        block: Block,
+        schedule: Schedule,
+        timed: Timed,
+    },
+    /// The schedule of two blocks: the machine has the names of its classes, the graphs their instructions; and the last cycle of
+    /// each block's own schedule.
+    Paired {
+        machine: Machine,
+        first: Graph,
+        second: Graph,
+        slots: Vec<DuoSlot>,
+        alone: (u32, u32),
+    },
+    /// The kernel of a loop, with the schedule of its body: the machine has the names of its classes, the graph its instructions.
+    Overlapped {
+        machine: Machine,
+        graph: Graph,
+        schedule: Schedule,
+        kernel: Kernel,
     },
     /// A drill: its turns, the issues and cycles of its trace, and the state in which the trace leaves each automaton.
     Drilled {
@@ -84,6 +109,10 @@ pub enum Decision<'a> {
     Bytes {
         file: &'a str,
     },
+    /// A block has more instructions than it may have, or two have together; then the second is the file.
+    Insns {
+        file: &'a str,
+    },
     /// The words are no command.
     Usage,
     /// Memory ran out.
@@ -104,12 +133,18 @@ impl Decision<'_> {
             Decision::Accepted { .. }
             | Decision::Tables { .. }
             | Decision::Scheduled { .. }
+            | Decision::Timed { .. }
             | Decision::Bounded { .. }
+            | Decision::Paired { .. }
+            | Decision::Overlapped { .. }
             | Decision::Drilled { .. }
             | Decision::After { .. } => 0,
             Decision::Refused { .. } => 1,
             Decision::Fault { .. } => 2,
-            Decision::Limit { .. } | Decision::Automaton { .. } | Decision::Bytes { .. } => 3,
+            Decision::Limit { .. }
+            | Decision::Automaton { .. }
+            | Decision::Bytes { .. }
+            | Decision::Insns { .. } => 3,
             Decision::Usage => 4,
             Decision::Memory => 5,
             Decision::File { .. } => 6,
@@ -153,6 +188,24 @@ impl Decision<'_> {
                 schedule,
                 bound,
             } => write_bound(bound, checked, graph, schedule, out),
+            Decision::Timed {
+                block,
+                schedule,
+                timed,
+            } => write_timed(block, schedule, timed, out),
+            Decision::Paired {
+                machine,
+                first,
+                second,
+                slots,
+                alone,
+            } => write_duo(slots, machine, first, second, *alone, out),
+            Decision::Overlapped {
+                machine,
+                graph,
+                schedule,
+                kernel,
+            } => write_kernel(kernel, machine, graph, schedule, out),
             Decision::Drilled {
                 turns,
                 issues,
@@ -206,6 +259,7 @@ impl Decision<'_> {
                 write_report(&Report::Automaton { file, name }, out)
             }
             Decision::Bytes { file } => write_report(&Report::Bytes { file }, out),
+            Decision::Insns { file } => write_report(&Report::Insns { file }, out),
             Decision::Usage => write_report(&Report::Usage, out),
             Decision::Memory => write_report(&Report::Memory, out),
             Decision::File { name } => write_report(&Report::File { name }, out),

@@ -5,4 +5,5 @@ pub(crate) mod compiling;
 pub(crate) mod describing;
 pub(crate) mod judging;
 pub(crate) mod read;
+pub(crate) mod states;
 pub(crate) mod telling;

@@ -15,9 +15,12 @@ ghost use Rattle.hz_tool_words.specs.Shape.{words_in, order_in};
 use crate::commands::bound::judge_bound;
 use crate::commands::compile::judge_compile;
 use crate::commands::drill::judge_drill;
+use crate::commands::duo::judge_duo;
 use crate::commands::eval::judge_eval;
+use crate::commands::modulo::judge_modulo;
 use crate::commands::replay::judge_replay;
 use crate::commands::schedule::judge_schedule;
+use crate::commands::timed::judge_timed;
 use crate::commands::walk::judge_walk;
 use crate::decision::Decision;
 use crate::phases::read::{
@@ -53,7 +56,27 @@ fn files_of<'a>(alloc: Global, order: &Order<'a>) -> Result<Vec<FileWord<'a>>, A
         }
         Order::Eval(order) => Ok(vec![in alloc; block_file(order.block), state_file(order.state)]?),
         Order::Drill(order) => Ok(vec![in alloc; description_file(order.description)]?),
+        Order::Timed(order) => {
+            Ok(vec![in alloc;
+                description_file(order.description),
+                block_file(order.block),
+                state_file(order.state),
+            ]?)
+        }
         Order::Bound(order) => {
+            Ok(vec![in alloc;
+                description_file(order.description),
+                block_file(order.block),
+            ]?)
+        }
+        Order::Duo(order) => {
+            Ok(vec![in alloc;
+                description_file(order.description),
+                block_file(order.first),
+                block_file(order.second),
+            ]?)
+        }
+        Order::Modulo(order) => {
             Ok(vec![in alloc;
                 description_file(order.description),
                 block_file(order.block),
@@ -80,7 +103,24 @@ fn judge_order<'a>(alloc: Global, order: &Order<'a>, texts: &[Vec<u8>]) -> Decis
         }
         Order::Eval(order) => judge_eval(alloc, order, texts[0].as_slice(), texts[1].as_slice()),
         Order::Drill(order) => judge_drill(alloc, order, texts[0].as_slice()),
+        Order::Timed(order) => judge_timed(
+            alloc,
+            order,
+            texts[0].as_slice(),
+            texts[1].as_slice(),
+            texts[2].as_slice(),
+        ),
         Order::Bound(order) => judge_bound(alloc, order, texts[0].as_slice(), texts[1].as_slice()),
+        Order::Duo(order) => judge_duo(
+            alloc,
+            order,
+            texts[0].as_slice(),
+            texts[1].as_slice(),
+            texts[2].as_slice(),
+        ),
+        Order::Modulo(order) => {
+            judge_modulo(alloc, order, texts[0].as_slice(), texts[1].as_slice())
+        }
     }
 }
 
@@ -151,7 +191,8 @@ pub fn run<F: Files, S: Sink>(alloc: Global, words: &[String], files: &mut F, ou
     // file nor the sink fails.
     ensures neither { ForSome (F.held files.old) (λ held. F.steady files.old → HasAll (words_in words.now) held → ForSome (S.room out.old) (λ room. HasRoom (words_in words.now) held room → result ≤ 5)) }
 
-    // Status 0 keeps what is promised of the command (`Promised`): what tables, schedules, drills and bounds are.
+    // Status 0 keeps what is promised of the command (`Promised`): what tables, schedules, drills, what an exposed pipeline reads,
+    // bounds, schedules of two blocks and kernels are.
     ensures promised { ForSome (F.held files.old) (λ held. result ≡ 0 → (order : model.Order) → model.order_of (words_in words.now) ≡ Some order → AppendsPromised held order (S.written out.old) (S.written out.new)) }
 {
     let decision = decide(alloc, words, files);

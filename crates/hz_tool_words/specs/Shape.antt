@@ -12,7 +12,7 @@ use Rattle.hz_tool_words.specs.declared.table.Operand.{Operand}
 use Rattle.hz_tool_words.specs.declared.table.Operand.TheVariants.{Description, Trace, Tables, Block, State, Number, Turns}
 use Rattle.hz_tool_words.specs.declared.table.Row.{Row}
 use Rattle.hz_tool_words.specs.declared.table.Verb.{Verb}
-use Rattle.hz_tool_words.specs.declared.table.Verb.TheVariants.{Compile, Replay, Walk, Schedule, Eval, Drill, Bound}
+use Rattle.hz_tool_words.specs.declared.table.Verb.TheVariants.{Compile, Replay, Walk, Schedule, Eval, Drill, Timed, Bound, Duo, Modulo}
 
 -- the bytes of words
 abbrev pub words_in : List (String Global) → List (List ℕ)
@@ -21,6 +21,10 @@ words_in words = map string_bytes words
 -- the bytes of two words
 abbrev pub pair_in : Bor (List ℕ) × Bor (List ℕ) → List ℕ × List ℕ
 pair_in pair = (pair.0.now, pair.1.now)
+
+-- the bytes of three words
+abbrev pub three_in : Bor (List ℕ) × Bor (List ℕ) × Bor (List ℕ) → List ℕ × List ℕ × List ℕ
+three_in words = (words.0.now, words.1.now, words.2.now)
 
 -- the bytes of a word, and two numbers
 abbrev pub triple_in : Bor (List ℕ) × ℕ × ℕ → List ℕ × ℕ × ℕ
@@ -39,7 +43,10 @@ order_in (order.Walk o) = model.walk o.tables.now o.trace.now
 order_in (order.Schedule o) = model.schedule o.description.now o.block.now
 order_in (order.Eval o) = model.eval o.block.now o.state.now
 order_in (order.Drill o) = model.drill o.description.now o.number o.turns
+order_in (order.Timed o) = model.timed o.description.now o.block.now o.state.now
 order_in (order.Bound o) = model.bound o.description.now o.block.now
+order_in (order.Duo o) = model.duo o.description.now o.first.now o.second.now
+order_in (order.Modulo o) = model.modulo o.description.now o.block.now
 
 -- ---- the table of commands
 
@@ -61,7 +68,10 @@ make_of Walk = model.on_two model.walk
 make_of Schedule = model.on_two model.schedule
 make_of Eval = model.on_two model.eval
 make_of Drill = model.with_numbers model.drill
+make_of Timed = model.on_three model.timed
 make_of Bound = model.on_two model.bound
+make_of Duo = model.on_three model.duo
+make_of Modulo = model.on_two model.modulo
 
 -- a row as a command of the definitions
 abbrev pub command_in : Row → model.Command

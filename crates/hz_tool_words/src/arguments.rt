@@ -2,12 +2,13 @@
 
 ghost use Rattle.std.specs.Prelude.{◌≡◌, map};
 ghost use Rattle.std.specs.Option.{option_map};
-ghost use Rattle.hz_tool_words.specs.Shape.{argument_in, make_of, operand_in, order_in, pair_in, triple_in};
+ghost use Rattle.hz_tool_words.specs.Shape.{argument_in, make_of, operand_in, order_in, pair_in, three_in, triple_in};
 ghost use Rattle.hz_words_model.specs.Words as model;
 
 use super::numbers::number_in;
 use super::order::{
-    BoundOrder, CompileOrder, DrillOrder, EvalOrder, Order, ReplayOrder, ScheduleOrder, WalkOrder,
+    BoundOrder, CompileOrder, DrillOrder, DuoOrder, EvalOrder, ModuloOrder, Order, ReplayOrder,
+    ScheduleOrder, TimedOrder, WalkOrder,
 };
 use super::table::{Operand, Verb};
 
@@ -52,6 +53,20 @@ fn two_files<'a>(arguments: &[Argument<'a>]) -> Option<(&'a str, &'a str)>
 {
     match arguments {
         [Argument::File(first), Argument::File(second)] => Some((*first, *second)),
+        _ => None,
+    }
+}
+
+/// The names of three files.
+fn three_files<'a>(arguments: &[Argument<'a>]) -> Option<(&'a str, &'a str, &'a str)>
+    ensures { option_map three_in result ≡ model.three_files (map argument_in arguments.now) }
+{
+    match arguments {
+        [
+            Argument::File(first),
+            Argument::File(second),
+            Argument::File(third),
+        ] => { Some((*first, *second, *third)) }
         _ => None,
     }
 }
@@ -103,9 +118,29 @@ pub fn make_order<'a>(verb: Verb, arguments: &[Argument<'a>]) -> Option<Order<'a
                 turns,
             }))
         }
+        Verb::Timed => {
+            let (description, block, state) = three_files(arguments)?;
+            Some(Order::Timed(TimedOrder {
+                description,
+                block,
+                state,
+            }))
+        }
         Verb::Bound => {
             let (description, block) = two_files(arguments)?;
             Some(Order::Bound(BoundOrder { description, block }))
+        }
+        Verb::Duo => {
+            let (description, first, second) = three_files(arguments)?;
+            Some(Order::Duo(DuoOrder {
+                description,
+                first,
+                second,
+            }))
+        }
+        Verb::Modulo => {
+            let (description, block) = two_files(arguments)?;
+            Some(Order::Modulo(ModuloOrder { description, block }))
         }
     }
 }

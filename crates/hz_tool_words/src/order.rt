@@ -42,9 +42,32 @@ pub struct DrillOrder<'a> {
     pub turns: u32,
 }
 
+/// `timed DESC BLOCK STATE`: the names of the three files.
+#[derive(Clone, Copy, Debug)]
+pub struct TimedOrder<'a> {
+    pub description: &'a str,
+    pub block: &'a str,
+    pub state: &'a str,
+}
+
 /// `bound DESC BLOCK`: the names of the two files.
 #[derive(Clone, Copy, Debug)]
 pub struct BoundOrder<'a> {
+    pub description: &'a str,
+    pub block: &'a str,
+}
+
+/// `duo DESC BLOCK BLOCK`: the names of the three files, the blocks in the order of their contexts.
+#[derive(Clone, Copy, Debug)]
+pub struct DuoOrder<'a> {
+    pub description: &'a str,
+    pub first: &'a str,
+    pub second: &'a str,
+}
+
+/// `modulo DESC BLOCK`: the names of the two files.
+#[derive(Clone, Copy, Debug)]
+pub struct ModuloOrder<'a> {
     pub description: &'a str,
     pub block: &'a str,
 }
@@ -58,5 +81,8 @@ pub enum Order<'a> {
     Schedule(ScheduleOrder<'a>),
     Eval(EvalOrder<'a>),
     Drill(DrillOrder<'a>),
+    Timed(TimedOrder<'a>),
     Bound(BoundOrder<'a>),
+    Duo(DuoOrder<'a>),
+    Modulo(ModuloOrder<'a>),
 }

@@ -26,7 +26,10 @@ pub enum Verb {
     Schedule,
     Eval,
     Drill,
+    Timed,
     Bound,
+    Duo,
+    Modulo,
 }
 
 /// A row of the table: the name of a command, its operands in their order, and which command it is.
@@ -38,7 +41,7 @@ pub struct Row {
 }
 
 /// The commands, in the order of the usage line. A command has one to three operands.
-const COMMANDS: [Row; 7] = [
+const COMMANDS: [Row; 10] = [
     Row {
         name: "compile",
         operands: &[Operand::Description],
@@ -70,9 +73,24 @@ const COMMANDS: [Row; 7] = [
         verb: Verb::Drill,
     },
     Row {
+        name: "timed",
+        operands: &[Operand::Description, Operand::Block, Operand::State],
+        verb: Verb::Timed,
+    },
+    Row {
         name: "bound",
         operands: &[Operand::Description, Operand::Block],
         verb: Verb::Bound,
+    },
+    Row {
+        name: "duo",
+        operands: &[Operand::Description, Operand::Block, Operand::Block],
+        verb: Verb::Duo,
+    },
+    Row {
+        name: "modulo",
+        operands: &[Operand::Description, Operand::Block],
+        verb: Verb::Modulo,
     },
 ];
 
@@ -88,5 +106,5 @@ pub fn find_row(name: &str) -> Option<&'static Row>
 pub fn usage() -> &'static str
     ensures { result.now ≡ model.usage_line }
 {
-    "usage: hz compile DESC | replay DESC TRACE | walk TABLES TRACE | schedule DESC BLOCK | eval BLOCK STATE | drill DESC NUMBER COUNT | bound DESC BLOCK\n"
+    "usage: hz compile DESC | replay DESC TRACE | walk TABLES TRACE | schedule DESC BLOCK | eval BLOCK STATE | drill DESC NUMBER COUNT | timed DESC BLOCK STATE | bound DESC BLOCK | duo DESC BLOCK BLOCK | modulo DESC BLOCK\n"
 }

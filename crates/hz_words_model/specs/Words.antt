@@ -13,7 +13,10 @@ pub data Order : Type 0 where
   schedule : (description block : List ℕ) → Order
   eval : (block state : List ℕ) → Order
   drill : (description : List ℕ) → (number turns : ℕ) → Order
+  timed : (description block state : List ℕ) → Order
   bound : (description block : List ℕ) → Order
+  duo : (description first second : List ℕ) → Order
+  modulo : (description block : List ℕ) → Order
 
 -- The kinds of operands. The first five are files.
 pub data Operand : Type 0 where
@@ -76,6 +79,11 @@ abbrev pub two_files : List Argument → Option (List ℕ × List ℕ)
 two_files (file a ∷ file b ∷ []) = Some (a, b)
 two_files _ = None
 
+-- the names of three files
+abbrev pub three_files : List Argument → Option (List ℕ × List ℕ × List ℕ)
+three_files (file a ∷ file b ∷ file c ∷ []) = Some (a, b, c)
+three_files _ = None
+
 -- the name of a file, and two numbers
 abbrev pub file_and_numbers : List Argument → Option (List ℕ × ℕ × ℕ)
 file_and_numbers (file a ∷ value m ∷ value n ∷ []) = Some (a, m, n)
@@ -88,6 +96,10 @@ on_one make given = option_map make (one_file given)
 -- on two files
 abbrev pub on_two : (List ℕ → List ℕ → Order) → List Argument → Option Order
 on_two make given = option_map (λ files. make files.0 files.1) (two_files given)
+
+-- on three files
+abbrev pub on_three : (List ℕ → List ℕ → List ℕ → Order) → List Argument → Option Order
+on_three make given = option_map (λ files. make files.0 files.1 files.2) (three_files given)
 
 -- on a file, with two numbers
 abbrev pub with_numbers : (List ℕ → ℕ → ℕ → Order) → List Argument → Option Order
@@ -108,7 +120,10 @@ commands =
     ∷ record { name = codes "schedule"; operands = description ∷ block ∷ []; make = on_two schedule }
     ∷ record { name = codes "eval"; operands = block ∷ state ∷ []; make = on_two eval }
     ∷ record { name = codes "drill"; operands = description ∷ number ∷ turns ∷ []; make = with_numbers drill }
+    ∷ record { name = codes "timed"; operands = description ∷ block ∷ state ∷ []; make = on_three timed }
     ∷ record { name = codes "bound"; operands = description ∷ block ∷ []; make = on_two bound }
+    ∷ record { name = codes "duo"; operands = description ∷ block ∷ block ∷ []; make = on_three duo }
+    ∷ record { name = codes "modulo"; operands = description ∷ block ∷ []; make = on_two modulo }
     ∷ []
 
 -- the command of this name

@@ -46,6 +46,8 @@ pub fn judge_compiled<'a>(
     checked: &Checked,
 ) -> Result<Compiled, Decision<'a>>
     ensures ok { IfOk result (IsCompiledBy checked.now) }
+    ensures classes { IfOk result (λ compiled. length compiled.machine.classes.items ≡ length checked.now.classes.items) }
+    ensures settles { IfOk result (λ compiled. Settles (machine_of compiled.machine)) }
     ensures kind { IfErr result IsJudged }
     ensures err { IfErr result (λ told. (d : Description) (is : IsCheckedOf d checked.now) → Agrees (TellsLimit file.entry.now d is.known) told) }
 {

@@ -1,11 +1,11 @@
 use Rattle.std.proofs.Common.{ℕ, List, length, sym, ap, ◌∙◌, subst}
 use Rattle.hz_answer_model.specs.Answers.{JudgesOrder, files_of}
-use Rattle.hz_tool.proofs.ReadLemmas.{one_text, two_texts}
+use Rattle.hz_tool.proofs.ReadLemmas.{one_text, two_texts, three_texts}
 use Rattle.hz_tool.specs.Decisions.{Agrees}
 use Rattle.hz_tool.specs.Reading.{texts_in}
 use Rattle.hz_tool_words.specs.Shape.{order_in}
 use Rattle.hz_tool_words.specs.declared.order.Order.{Order}
-use Rattle.hz_tool_words.specs.declared.order.Order.TheVariants.{Compile, Replay, Walk, Schedule, Eval, Drill, Bound}
+use Rattle.hz_tool_words.specs.declared.order.Order.TheVariants.{Compile, Replay, Walk, Schedule, Eval, Drill, Timed, Bound, Duo, Modulo}
 use Rattle.hz_tool.proofs.top.judge_order.Goals as goal
 
 pub returns-in-Compile-clause-answer : goal.returns-in-Compile-clause-answer
@@ -56,3 +56,24 @@ returns-in-Drill-clause-answer c =
     (subst (λ (texts : List (List ℕ)). Agrees (JudgesOrder (order_in (Drill c.in-Drill.order)) texts) c.judge_drill.result)
     (one_text c.args.texts.now _ _ (c.requires.count ∙ ap (λ (o : Order). length (files_of (order_in o))) c.in-Drill.is) c.index-texts-0-in-Drill.is c.as_slice-in-Drill.ensures.value)
     c.judge_drill.ensures.answer)
+
+pub returns-in-Duo-clause-answer : goal.returns-in-Duo-clause-answer
+returns-in-Duo-clause-answer c =
+    subst (λ (o : Order). Agrees (JudgesOrder (order_in o) (texts_in c.args.texts.now)) c.judge_duo.result) (sym c.in-Duo.is)
+    (subst (λ (texts : List (List ℕ)). Agrees (JudgesOrder (order_in (Duo c.in-Duo.order)) texts) c.judge_duo.result)
+    (three_texts c.args.texts.now _ _ _ _ _ _ (c.requires.count ∙ ap (λ (o : Order). length (files_of (order_in o))) c.in-Duo.is) c.index-texts-0-in-Duo.is c.index-texts-1-in-Duo.is c.index-texts-2-in-Duo.is c.as_slice-in-Duo.ensures.value c.as_slice-in-Duo-2.ensures.value c.as_slice-in-Duo-3.ensures.value)
+    c.judge_duo.ensures.answer)
+
+pub returns-in-Timed-clause-answer : goal.returns-in-Timed-clause-answer
+returns-in-Timed-clause-answer c =
+    subst (λ (o : Order). Agrees (JudgesOrder (order_in o) (texts_in c.args.texts.now)) c.judge_timed.result) (sym c.in-Timed.is)
+    (subst (λ (texts : List (List ℕ)). Agrees (JudgesOrder (order_in (Timed c.in-Timed.order)) texts) c.judge_timed.result)
+    (three_texts c.args.texts.now _ _ _ _ _ _ (c.requires.count ∙ ap (λ (o : Order). length (files_of (order_in o))) c.in-Timed.is) c.index-texts-0-in-Timed.is c.index-texts-1-in-Timed.is c.index-texts-2.is c.as_slice-in-Timed.ensures.value c.as_slice-in-Timed-2.ensures.value c.as_slice-in-Timed-3.ensures.value)
+    c.judge_timed.ensures.answer)
+
+pub returns-in-Modulo-clause-answer : goal.returns-in-Modulo-clause-answer
+returns-in-Modulo-clause-answer c =
+    subst (λ (o : Order). Agrees (JudgesOrder (order_in o) (texts_in c.args.texts.now)) c.judge_modulo.result) (sym c.in-Modulo.is)
+    (subst (λ (texts : List (List ℕ)). Agrees (JudgesOrder (order_in (Modulo c.in-Modulo.order)) texts) c.judge_modulo.result)
+    (two_texts c.args.texts.now _ _ _ _ (c.requires.count ∙ ap (λ (o : Order). length (files_of (order_in o))) c.in-Modulo.is) c.index-texts-0-in-Modulo.is c.index-texts-1-in-Modulo.is c.as_slice-in-Modulo.ensures.value c.as_slice-in-Modulo-2.ensures.value)
+    c.judge_modulo.ensures.answer)

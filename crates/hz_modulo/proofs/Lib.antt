@@ -1,0 +1,6 @@
+mod GraphLemmas
+mod CycleLemmas
+mod EdgeLemmas
+mod SortLemmas
+mod SearchLemmas
+mod KernelLemmas

@@ -1,0 +1,25 @@
+use Rattle.std.proofs.Common.{ℕ, ◌+◌, ◌<◌, List, length, map, drop, sym, subst, arith}
+use Rattle.std.specs.List.{flat_map}
+use Rattle.hz_io.specs.Sink.{Wrote, Cut}
+use Rattle.hz_io.proofs.Writing.{wrote_then, wrote_then_cut, cut_before}
+use Rattle.hz_io.proofs.PieceTexts.{lines_more, lines_parts}
+use Rattle.hz_modulo_model.specs.KernelTexts.{line_of_kernel}
+use Rattle.hz_sched.specs.Shape.{graph_of}
+use Rattle.hz_turns.specs.declared.parts.KernelSlot.{KernelSlot}
+use Rattle.hz_turns.specs.Walking.{kernel_slot_of}
+use Rattle.hz_modulo.proofs.GraphLemmas.{some_slot}
+use Rattle.hz_modulo.proofs.writing.put_slots.Goals as goal
+
+pub loop-slot-preserved : goal.loop-slot-preserved
+loop-slot-preserved g c =
+    let line : KernelSlot → List ℕ = λ x. line_of_kernel c.args.machine.now.classes.items (map (λ i. i.number) c.args.graph.now.insns.items) (graph_of c.args.graph.now) (kernel_slot_of x) in
+    let inside : c.loop-slot.slot-index < length c.args.slots.now = omega arith in
+    subst (λ (bytes : List ℕ). Wrote g.S.Sink.written g.S.Sink.room g.S.Sink.faults c.args.out.now c.put_slot.new.out bytes) (sym (lines_more line c.args.slots.now c.loop-slot.slot-index some_slot inside))
+    (wrote_then c.loop-slot.invariant c.in-Ok.ensures)
+
+pub returns-in-Err : goal.returns-in-Err
+returns-in-Err g c =
+    let line : KernelSlot → List ℕ = λ x. line_of_kernel c.args.machine.now.classes.items (map (λ i. i.number) c.args.graph.now.insns.items) (graph_of c.args.graph.now) (kernel_slot_of x) in
+    let inside : c.loop-slot.slot-index < length c.args.slots.now = omega arith in
+    subst (λ (bytes : List ℕ). Cut g.S.Sink.written g.S.Sink.room g.S.Sink.faults c.args.out.now c.put_slot.new.out bytes) (sym (lines_parts line c.args.slots.now c.loop-slot.slot-index some_slot inside))
+    (cut_before (flat_map line (drop (c.loop-slot.slot-index + 1) c.args.slots.now)) (wrote_then_cut c.loop-slot.invariant c.in-Err.ensures))

@@ -1,0 +1,86 @@
+//! The first interval at which turns repeat.
+
+ghost use Rattle.std.specs.Prelude.{◌≡◌, ◌<◌, ◌≤◌, ◌+◌, ◌^◌, ℕ, length, All, IfOk, IfSome, IfNone};
+ghost use Rattle.hz_block_model.specs.Scheduling.Machines.{Settles};
+ghost use Rattle.hz_block_model.specs.Scheduling.Schedules.{present};
+ghost use Rattle.hz_modulo_model.specs.Repeats.{stage_limit};
+ghost use Rattle.hz_modulo_model.specs.Turns.{stages};
+ghost use Rattle.hz_sched.specs.Shape.{slots_of};
+ghost use Rattle.hz_tables.specs.Machines.{machine_of};
+ghost use Rattle.hz_turns.specs.Walking.{graph_of};
+ghost use Rattle.hz_modulo.specs.Kernels.{RepeatsIn, IsKernelAt, IsFirstFrom};
+
+use crate::parts::Kernel;
+use crate::sorting::kernel_slots;
+use hz_regexp::NoMemory;
+use hz_sched::Slot;
+use hz_tables::Machine;
+use hz_turns::first_repeat;
+use std::alloc::Global;
+
+/// So many cycles after the last of the schedule each wait is over, and the machine is in its start again.
+const MOST_WAIT: u32 = 1_000;
+
+/// The kernel at an interval, if the turns repeat there. `last` is the last cycle of the slots.
+fn kernel_at(
+    alloc: Global,
+    machine: &Machine,
+    classes: &[u32],
+    slots: &[Slot],
+    last: u32,
+    interval: u32,
+) -> Result<Option<Kernel>, NoMemory>
+    requires settles { Settles (machine_of machine.now) }
+    requires classes { All (λ c. c < length machine.now.classes.items) classes.now }
+    requires places { All (λ x. x.place < length classes.now) slots.now }
+    requires last { last ≡ present 0 (slots_of slots.now) }
+    requires rising { All (λ x. x.cycle ≤ last) (slots_of slots.now) }
+    requires some { 0 < interval }
+    requires few { stages interval (slots_of slots.now) ≤ stage_limit }
+    ensures found { IfOk result (λ kernel. IfSome kernel (IsKernelAt (machine_of machine.now) (graph_of classes.now) (slots_of slots.now) interval)) }
+    ensures range { IfOk result (λ kernel. IfSome kernel (λ k. All (λ x. x.place < length classes.now) k.slots.items)) }
+    ensures none { IfOk result (λ kernel. IfNone kernel ((first second : ℕ) → RepeatsIn (machine_of machine.now) (graph_of classes.now) (slots_of slots.now) interval first second → ⊥)) }
+{
+    let stages = last / interval;
+    let slots = kernel_slots(alloc, slots, interval)?;
+    match first_repeat(alloc, machine, classes, &slots, interval, stages)? {
+        Some(repeat) => Ok(Some(Kernel {
+            interval,
+            stages: stages + 1,
+            slots,
+            first_edge: repeat.first,
+            second_edge: repeat.second,
+        })),
+        None => Ok(None),
+    }
+}
+
+/// The kernel at the first interval from one on at which the turns repeat. One comes at most 1,000 cycles after the last of the slots.
+pub fn first_kernel(
+    alloc: Global,
+    machine: &Machine,
+    classes: &[u32],
+    slots: &[Slot],
+    last: u32,
+    first: u32,
+) -> Result<Kernel, NoMemory>
+    requires settles { Settles (machine_of machine.now) }
+    requires classes { All (λ c. c < length machine.now.classes.items) classes.now }
+    requires places { All (λ x. x.place < length classes.now) slots.now }
+    requires last { last ≡ present 0 (slots_of slots.now) }
+    requires rising { All (λ x. x.cycle ≤ last) (slots_of slots.now) }
+    requires small { last < 2 ^ 30 }
+    requires some { 0 < first }
+    requires few { (interval : ℕ) → first ≤ interval → stages interval (slots_of slots.now) ≤ stage_limit }
+    requires near { first ≤ last + 1000 }
+    requires long { RepeatsIn (machine_of machine.now) (graph_of classes.now) (slots_of slots.now) (last + 1000) 0 1 }
+    ensures first { IfOk result (IsFirstFrom (machine_of machine.now) (graph_of classes.now) (slots_of slots.now) first) }
+    ensures range { IfOk result (λ k. All (λ x. x.place < length classes.now) k.slots.items) }
+{
+    for interval in first..last + MOST_WAIT + 1 {
+        if let Some(kernel) = kernel_at(alloc, machine, classes, slots, last, interval)? {
+            return Ok(kernel);
+        }
+    }
+    unreachable!()
+}

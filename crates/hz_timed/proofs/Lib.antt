@@ -1,0 +1,13 @@
+pub mod NoteLemmas
+pub mod BelowLemmas
+pub mod IndexLemmas
+pub mod SeenLemmas
+pub mod OrderedLemmas
+pub mod EffectLemmas
+pub mod AskedLemmas
+pub mod TimedLemmas
+pub mod WholeLemmas
+pub mod WaitLemmas
+pub mod LeavingLemmas
+pub mod RangeLemmas
+pub mod WritingLemmas

@@ -1,0 +1,9 @@
+use Rattle.std.proofs.Common.{map}
+use Rattle.hz_block_model.specs.Running.States as model
+use Rattle.hz_timed.specs.Shape.{read_of}
+use Rattle.hz_timed.specs.Reads.{reads_by}
+use Rattle.hz_timed.proofs.EffectLemmas.{MappedSoFar}
+use Rattle.hz_timed.proofs.timing.add_cells.Given as goal
+
+abbrev pub invariant-loop-address : goal.invariant-loop-address
+invariant-loop-address l = MappedSoFar (λ n. reads_by l.fn.look l.fn.slot (model.cell n)) l.fn.cells (map read_of l.fn.reads.items) (map read_of l.reads.items) l.address-index

@@ -1,0 +1,5 @@
+pub mod LastLaws
+pub mod ApartLaws
+pub mod TimedLaws
+pub mod AscendingLaws
+pub mod RangeLaws

@@ -1,0 +1,4 @@
+pub mod Exposed
+pub mod ByDescription
+pub mod Texts
+pub mod Examples

@@ -1,0 +1,1 @@
+use Rattle.hz_tool.proofs.commands.duo.decide_pair.Goals as goal

@@ -1,0 +1,5 @@
+mod WalkingLemmas
+mod StateLemmas
+mod ScanLemmas
+mod HeldLemmas
+pub mod RepeatLemmas
