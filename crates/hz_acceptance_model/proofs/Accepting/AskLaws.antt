@@ -57,7 +57,7 @@ module _ {U : Type 0} (m : Pipeline U) where
 
 -- ---- the same choices
 
-without-append : (xs ys : List Event) → without_asks (xs ++ ys) ≡ without_asks xs ++ without_asks ys
+pub without-append : (xs ys : List Event) → without_asks (xs ++ ys) ≡ without_asks xs ++ without_asks ys
 without-append [] ys = refl
 without-append (issue k ∷ xs) ys = ap (λ (es : List Event). issue k ∷ es) (without-append xs ys)
 without-append (advance n ∷ xs) ys = ap (λ (es : List Event). advance n ∷ es) (without-append xs ys)

@@ -1,8 +1,9 @@
 -- Laws of machines.
 use Rattle.std.proofs.Common.{◌≡◌, ℕ, zero, suc, List, [], ◌∷◌, ◌++◌, length, slice_get, Option, None, Some, IsTrue, is_some, option_and_then, replicate, refl, sym, ap, ◌∙◌}
-use Rattle.std.proofs.lemmas.List.{append_assoc}
+use Rattle.std.proofs.lemmas.List.{append_assoc, append-nil}
 use Rattle.hz_acceptance_model.specs.Accepting.Events.{Event, issue, advance, ask}
 use Rattle.hz_acceptance_model.specs.Accepting.Asking.{without_asks}
+use Rattle.hz_acceptance_model.proofs.Accepting.AskLaws.{without-append}
 use Rattle.hz_automata_model.specs.Tables.Tables.{Table, entry, walk}
 use Rattle.hz_automata_model.specs.Tables.Machines.{Part, Machine, column_of, next_of, word_of, part_walk, onto_states, parts_walk, machine_walk}
 use Rattle.hz_automata_model.proofs.Tables.TableLaws.{walk-append}
@@ -64,6 +65,11 @@ parts_walk-asked (part ∷ parts) (state ∷ states) t = λ i. onto_states (walk
 
 pub machine_walk-asked : (m : Machine) (t : List Event) → machine_walk m (without_asks t) ≡ machine_walk m t
 machine_walk-asked m t = parts_walk-asked m.parts (replicate (length m.parts) 0) t
+
+pub machine_walk-ask : (m : Machine) (t : List Event) (automaton query : ℕ) → machine_walk m (t ++ ask automaton query ∷ []) ≡ machine_walk m t
+machine_walk-ask m t automaton query =
+    sym (machine_walk-asked m (t ++ ask automaton query ∷ []))
+    ∙ (ap (machine_walk m) (without-append t (ask automaton query ∷ []) ∙ append-nil (without_asks t)) ∙ machine_walk-asked m t)
 
 -- the states that are walked to, where there are any
 both_some : (next : Option ℕ) (others : Option (List ℕ)) (states : List ℕ) → onto_states next others ≡ Some states → (state : ℕ) × (rest : List ℕ) × (next ≡ Some state) × (others ≡ Some rest) × (states ≡ state ∷ rest)
