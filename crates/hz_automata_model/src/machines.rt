@@ -2,7 +2,7 @@
 
 ghost use Rattle.std.specs.Prelude.{◌≡◌, ℕ, List, [], ◌∷◌, ◌++◌, None, Option, Some, IsTrue, is_some, length, option_and_then, slice_get};
 ghost use Rattle.hz_acceptance_model.specs.Accepting.Events.{Event, issue, advance, ask};
-ghost use Rattle.hz_acceptance_model.specs.Accepting.Asking.{without_asks};
+ghost use Rattle.hz_acceptance_model.specs.Accepting.Asking.{issues_and_advances};
 ghost use Rattle.hz_automata_model.specs.Tables.Machines.{Part, Machine, next_of, word_of, part_walk, parts_walk, machine_walk};
 
 /// The columns of two lists of events are those of the first and then those of the second.
@@ -19,9 +19,9 @@ pub fn one_event_is_one_entry()
 
 /// Asks leave the states: a machine walks events as it walks the issues and advances among them, from any states.
 pub fn asks_leave_the_states()
-    ensures words { (part : Part) (t : List Event) → word_of part (without_asks t) ≡ word_of part t }
-    ensures walks { (parts : List Part) (states : List ℕ) (t : List Event) → parts_walk parts states (without_asks t) ≡ parts_walk parts states t }
-    ensures machines { (m : Machine) (t : List Event) → machine_walk m (without_asks t) ≡ machine_walk m t }
+    ensures words { (part : Part) (t : List Event) → word_of part (issues_and_advances t) ≡ word_of part t }
+    ensures walks { (parts : List Part) (states : List ℕ) (t : List Event) → parts_walk parts states (issues_and_advances t) ≡ parts_walk parts states t }
+    ensures machines { (m : Machine) (t : List Event) → machine_walk m (issues_and_advances t) ≡ machine_walk m t }
 {}
 
 /// A walk of a machine over two lists of events is the walk over the second, from where the first ends.

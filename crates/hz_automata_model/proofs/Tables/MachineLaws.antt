@@ -2,7 +2,7 @@
 use Rattle.std.proofs.Common.{◌≡◌, ℕ, zero, suc, List, [], ◌∷◌, ◌++◌, length, slice_get, Option, None, Some, IsTrue, is_some, option_and_then, replicate, refl, sym, ap, ◌∙◌}
 use Rattle.std.proofs.lemmas.List.{append_assoc, append-nil}
 use Rattle.hz_acceptance_model.specs.Accepting.Events.{Event, issue, advance, ask}
-use Rattle.hz_acceptance_model.specs.Accepting.Asking.{without_asks}
+use Rattle.hz_acceptance_model.specs.Accepting.Asking.{issues_and_advances}
 use Rattle.hz_acceptance_model.proofs.Accepting.AskLaws.{without-append}
 use Rattle.hz_automata_model.specs.Tables.Tables.{Table, entry, walk}
 use Rattle.hz_automata_model.specs.Tables.Machines.{Part, Machine, column_of, next_of, word_of, part_walk, onto_states, parts_walk, machine_walk}
@@ -15,7 +15,7 @@ word_of-append part (ask a u ∷ s) t = word_of-append part s t
 word_of-append part (advance n ∷ s) t =
     ap (λ w. replicate n part.columns ++ w) (word_of-append part s t) ∙ sym (append_assoc (replicate n part.columns) (word_of part s) (word_of part t))
 
-pub word_of-asked : (part : Part) (t : List Event) → word_of part (without_asks t) ≡ word_of part t
+pub word_of-asked : (part : Part) (t : List Event) → word_of part (issues_and_advances t) ≡ word_of part t
 word_of-asked part [] = refl
 word_of-asked part (issue class ∷ t) = ap (λ w. column_of part class ∷ w) (word_of-asked part t)
 word_of-asked part (advance n ∷ t) = ap (λ w. replicate n part.columns ++ w) (word_of-asked part t)
@@ -58,18 +58,18 @@ parts_walk-append (part ∷ parts) (state ∷ states) s t =
     (λ i. onto_states (own i) (parts_walk-append parts states s t i)) ∙ continued part parts t (part_walk part state s) (parts_walk parts states s)
 
 -- the states are left as they are by asks
-pub parts_walk-asked : (parts : List Part) (states : List ℕ) (t : List Event) → parts_walk parts states (without_asks t) ≡ parts_walk parts states t
+pub parts_walk-asked : (parts : List Part) (states : List ℕ) (t : List Event) → parts_walk parts states (issues_and_advances t) ≡ parts_walk parts states t
 parts_walk-asked [] states t = refl
 parts_walk-asked (part ∷ parts) [] t = refl
 parts_walk-asked (part ∷ parts) (state ∷ states) t = λ i. onto_states (walk part.rows (Some state) (word_of-asked part t i)) (parts_walk-asked parts states t i)
 
-pub machine_walk-asked : (m : Machine) (t : List Event) → machine_walk m (without_asks t) ≡ machine_walk m t
+pub machine_walk-asked : (m : Machine) (t : List Event) → machine_walk m (issues_and_advances t) ≡ machine_walk m t
 machine_walk-asked m t = parts_walk-asked m.parts (replicate (length m.parts) 0) t
 
 pub machine_walk-ask : (m : Machine) (t : List Event) (automaton query : ℕ) → machine_walk m (t ++ ask automaton query ∷ []) ≡ machine_walk m t
 machine_walk-ask m t automaton query =
     sym (machine_walk-asked m (t ++ ask automaton query ∷ []))
-    ∙ (ap (machine_walk m) (without-append t (ask automaton query ∷ []) ∙ append-nil (without_asks t)) ∙ machine_walk-asked m t)
+    ∙ (ap (machine_walk m) (without-append t (ask automaton query ∷ []) ∙ append-nil (issues_and_advances t)) ∙ machine_walk-asked m t)
 
 -- the states that are walked to, where there are any
 both_some : (next : Option ℕ) (others : Option (List ℕ)) (states : List ℕ) → onto_states next others ≡ Some states → (state : ℕ) × (rest : List ℕ) × (next ≡ Some state) × (others ≡ Some rest) × (states ≡ state ∷ rest)
