@@ -1,0 +1,5 @@
+-- Ask columns.
+pub mod AskLaws
+pub mod AlikeLaws
+pub mod NumberLaws
+pub mod BareLaws
