@@ -3,3 +3,5 @@ pub mod AskLaws
 pub mod AlikeLaws
 pub mod NumberLaws
 pub mod BareLaws
+pub mod PresentLaws
+pub mod HeldLaws

@@ -1,11 +1,17 @@
-//! Laws of ask columns.
+//! Laws of ask columns, and of what they tell.
 
-ghost use Rattle.std.specs.Prelude.{◌≡◌, ℕ, ◌+◌, ◌<◌, Bool, List, Some, is_some, length};
+ghost use Rattle.std.specs.Prelude.{◌≡◌, ◌↔◌, ℕ, ◌+◌, ◌<◌, Bool, List, [], ◌∷◌, Some, is_some, length};
+ghost use Rattle.hz_base_model.specs.Pairs.{Pair};
+ghost use Rattle.hz_acceptance_model.specs.Accepting.Events.{Event};
+ghost use Rattle.hz_acceptance_model.specs.Accepting.Replay.{Pipeline, first_fit};
+ghost use Rattle.hz_acceptance_model.specs.Accepting.Asking.{IsHeld};
 ghost use Rattle.hz_automata_model.specs.Tables.Tables.{Table, entry, walk, IsTable};
 ghost use Rattle.hz_automata_model.specs.Tables.Apart.{WalkTheSame};
 ghost use Rattle.hz_automata_model.specs.Tables.Orders.{IsBreadthFirst};
 ghost use Rattle.hz_automata_model.specs.Tables.AskColumns.{HasAsks, AsksStay, AsksAlike, without_asks, places_beside, all_beside};
 ghost use Rattle.hz_automata_model.specs.Reaching.Columns.{AreColumns};
+ghost use Rattle.hz_automata_model.specs.Reaching.Reach.{IsLeft};
+ghost use Rattle.hz_automata_model.specs.Reaching.Present.{HasPresent, MarksPresent, marks_of};
 ghost use Rattle.hz_automata_model.specs.Least.Normal.{IsNormal};
 
 /// A table with asks is one whose asks are columns, they stay where they are, and taken out they leave the table.
@@ -36,4 +42,14 @@ pub fn tables_with_asks_walk_the_same()
 /// Beside asks states keep their breadth-first numbers.
 pub fn asks_keep_numbers()
     ensures { (table asked : Table) (columns asks : ℕ) (marks : ℕ → ℕ → Bool) (parents : List (ℕ × ℕ)) → IsTable table columns → HasAsks table asked columns asks marks → IsBreadthFirst table columns parents → IsBreadthFirst asked (columns + asks) (places_beside columns asks parents) }
+{}
+
+/// The marks that are computed are true exactly where the one grid of a state has the unit in its present cycle.
+pub fn marks_are_of_present_units()
+    ensures { (grids : List (List (Pair ℕ))) (sets : List (List ℕ)) (queries : List ℕ) → MarksPresent grids sets queries (marks_of grids sets queries) }
+{}
+
+/// In the first treatment a unit is held exactly where the one grid that events leave has it in its present cycle.
+pub fn what_is_held_is_left<U>()
+    ensures { (m : Pipeline U) → m.treatment ≡ first_fit → (t : List Event) → (grid : List (Pair U)) → IsLeft m t (grid ∷ []) → (unit : U) → IsHeld m t unit ↔ HasPresent grid unit }
 {}

@@ -5,6 +5,10 @@ use Rattle.std.specs.Prelude.{◌≡◌, ℕ, ◌+◌, ◌<◌, nat_lt, if◌the
 use Rattle.hz_automata_model.specs.Tables.Tables.{Table, row_of, entry, walk}
 use Rattle.hz_automata_model.specs.Reaching.Columns.{AreColumns}
 
+-- columns of a table before the advance: 1,024 of classes, and 256 that ask
+abbrev pub column_limit : ℕ
+column_limit = 1280
+
 -- The table with so many ask columns: the entries of classes and of the advance are as they were, and the entry of an
 -- ask is the row's own state where that is marked, else none.
 pub record HasAsks (table asked : Table) (columns asks : ℕ) (marks : ℕ → ℕ → Bool) : Type 0 where
