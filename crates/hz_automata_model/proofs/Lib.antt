@@ -1,4 +1,5 @@
 pub mod Tables
+pub mod Asks
 pub mod Reaching
 pub mod Least
 pub mod Combs

@@ -3,5 +3,6 @@ pub mod Reach
 pub mod Counts
 pub mod Columns
 pub mod Built
+pub mod Present
 pub mod Graphs
 pub mod Subsets

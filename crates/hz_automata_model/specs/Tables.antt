@@ -3,4 +3,5 @@ pub mod StateLimits
 pub mod Tables
 pub mod Apart
 pub mod Orders
+pub mod AskColumns
 pub mod Machines

@@ -1,6 +1,7 @@
 //! Automata: tables, what is reached, least tables, combs and machines, and their laws.
 #![tactic(auto)]
 
+pub mod asking;
 pub mod comb_laws;
 pub mod compiled;
 pub mod counting;

@@ -8,3 +8,4 @@ pub mod SetLemmas
 pub mod BuildLemmas
 pub mod LateLemmas
 pub mod TryLemmas
+pub mod AskingLemmas

@@ -7,3 +7,4 @@ pub mod Reading
 pub mod Explored
 pub mod Worked
 pub mod Trying
+pub mod Asking

@@ -4,7 +4,9 @@ use Rattle.std.proofs.lemmas.Bool.{eq-eqb, ne_eqb}
 use Rattle.std.proofs.lemmas.List.Elements.{All-from_get_or}
 use Rattle.std.proofs.lemmas.Nat.{mul-le}
 use Rattle.hz_tables.specs.Rows.{Rows, KeepsRows}
+use Rattle.hz_automata_model.specs.Tables.StateLimits.{state_limit}
 use Rattle.hz_automata_model.specs.Tables.Tables.{Table, row_of, entry}
+use Rattle.hz_automata_model.specs.Tables.AskColumns.{column_limit}
 use Rattle.hz_automata_model.specs.Combs.Combs.{Comb, place_at, laid, rows_in, entries_of}
 use Rattle.hz_automata_model.proofs.Combs.CombLaws.{rows_in-each, rows_in-entry, rows_in-entries, rows_in-table}
 use Rattle.hz_tables.specs.Laying.{IsLaid}
@@ -64,7 +66,7 @@ pub small_bases : (rows : Rows) → KeepsRows rows → (comb : Comb) → IsLaid 
 small_bases rows keeps comb is all few bases same =
     let wide = keeps.columns in
     let high = keeps.few in
-    let most : length rows.rows * (rows.columns + 1) ≤ 65536 * 1025 = mul-le (length rows.rows) (rows.columns + 1) 65536 1025 high (omega arith) in
+    let most : length rows.rows * (rows.columns + 1) ≤ state_limit * (column_limit + 1) = mul-le (length rows.rows) (rows.columns + 1) state_limit (column_limit + 1) high (omega arith) in
     subst (All (λ base. base < 4294967296)) (sym same) (All-from_get_or (λ base. base < 4294967296) comb.bases 0 (λ state within.
     let place = is.places.within state within in omega arith))
 

@@ -1,6 +1,6 @@
 -- A table that is kept as a comb.
 use Rattle.std.specs.Prelude.{ℕ, ◌+◌, ◌*◌, ◌≤◌, length}
-use Rattle.hz_base_model.specs.Limits.{class_limit}
+use Rattle.hz_automata_model.specs.Tables.AskColumns.{column_limit}
 use Rattle.hz_automata_model.specs.Tables.StateLimits.{state_limit}
 use Rattle.hz_automata_model.specs.Tables.Tables.{Table}
 use Rattle.hz_automata_model.specs.Combs.Combs.{Comb, HasPlaces, rows_in}
@@ -17,7 +17,7 @@ packing_of comb = record { columns = comb.columns; rows = rows_in comb; places =
 
 -- What holds of every comb that is kept: there are places for its rows, and no more than full rows take.
 pub record IsPacked (comb : Comb) : Type 0 where
-  pub wide : comb.columns ≤ class_limit
+  pub wide : comb.columns ≤ column_limit
   pub few : length comb.bases ≤ state_limit
   pub places : HasPlaces comb
   pub most : length comb.owners ≤ length comb.bases * (comb.columns + 1)

@@ -1,7 +1,7 @@
 //! A table that is kept row by row.
 
 ghost use Rattle.std.specs.Prelude.{◌≡◌, ◌+◌, ◌*◌, ◌<◌, ◌≤◌, [], ◌∷◌, ◌++◌, length, OnOk, OnErr, vec_len};
-ghost use Rattle.hz_base_model.specs.Limits.{class_limit};
+ghost use Rattle.hz_automata_model.specs.Tables.AskColumns.{column_limit};
 ghost use Rattle.hz_automata_model.specs.Tables.StateLimits.{state_limit};
 ghost use Rattle.hz_automata_model.specs.Tables.Tables.{entry};
 ghost use Rattle.hz_tables.specs.Rows.{AreStates, KeepsRows};
@@ -35,7 +35,7 @@ impl Model for Plain {
 impl Plain {
     /// The table with no row, and so many columns before the advance. It takes no memory.
     pub fn new(alloc: Global, columns: u32) -> Plain
-        requires { columns ≤ class_limit }
+        requires { columns ≤ column_limit }
         ensures { result ≡ record { columns = columns; rows = [] } }
     {
         Plain {

@@ -1,4 +1,4 @@
-use Rattle.std.proofs.Common.{◌+◌, ◌++◌, ◌∷◌, [], ap, ◌∙◌, arith}
+use Rattle.std.proofs.Common.{◌++◌, ◌∷◌, [], ap, ◌∙◌, arith}
 use Rattle.hz_tables.proofs.LayLaws.{row_more}
 use Rattle.hz_tables.proofs.laying.Laying.lay_row.Goals as goal
 

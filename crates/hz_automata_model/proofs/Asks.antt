@@ -1,0 +1,7 @@
+-- Ask columns.
+pub mod AskLaws
+pub mod AlikeLaws
+pub mod NumberLaws
+pub mod BareLaws
+pub mod PresentLaws
+pub mod HeldLaws
