@@ -73,8 +73,8 @@ impl Rules {
     }
 
     /// Whether the added pairs fit a source that breaks no exclusion, as `fits` says it. A statement that no added unit
-    /// may break costs one test of rows, and none where this holds of all. Where many others are asked, it costs one for
-    /// each cycle whose rows are not those of the one before. It takes no memory.
+    /// may break costs one test of rows, and none where this holds of all. Of many others, each that nothing in these
+    /// cycles together can break costs one more. It takes no memory.
     pub fn fits_unbroken(&self, source: &Grid, add: &Usage) -> bool
         requires { IsUnbroken self.now source.now }
         ensures { IsTrue result ↔ Fits self.now source.now add.now 0 }
@@ -115,12 +115,15 @@ fn none_broken(rules: &[Asked], source: &Grid) -> bool
     rules.iter().all(|asked| !asked.rule.is_broken(source))
 }
 
-// How often patterns are looked for rule by rule, before it is gone cycle by cycle.
-const LOOKS: usize = 4096;
+// How often patterns are looked for rule by rule, before all cycles are asked at once.
+const FIRST_LOOKS: usize = 256;
 
-// How many patterns are looked for rule by rule, each in so many cycles.
-fn few(cycles: usize) -> usize {
-    LOOKS / cycles.max(1)
+// How often patterns are looked for rule by rule after that, before it is gone cycle by cycle.
+const MORE_LOOKS: usize = 4096;
+
+// How many patterns so many looks are, each in so many cycles.
+fn patterns_in(looks: usize, cycles: usize) -> usize {
+    looks / cycles.max(1)
 }
 
 // Whether each rule allows each cycle, where the source breaks none. A few rules that an added unit may break are asked of
@@ -131,7 +134,7 @@ fn all_allow(rules: &[Asked], source: &Grid, add: &Usage) -> bool
     ensures { IsTrue result ↔ All (λ asked. Allows (asked_statement asked) source.now add.now) rules.now }
 {
     let units = add.units();
-    let mut left = few(add.rows().len());
+    let mut left = patterns_in(FIRST_LOOKS, add.rows().len());
     for asked in rules {
         if asked.triggers.meets(units) {
             let count = asked.rule.pattern_count();
@@ -156,7 +159,7 @@ fn all_allow_whole(rules: &[Asked], source: &Grid, add: &Usage) -> bool
 {
     let units = add.units();
     let there = standing(source, add.rows());
-    let mut left = few(add.rows().len());
+    let mut left = patterns_in(MORE_LOOKS, add.rows().len());
     for asked in rules {
         if !asked.clears(there, units) {
             let count = asked.rule.pattern_count();
@@ -274,7 +277,7 @@ fn some_forbids(rules: &[Asked], source: &Grid, part: &Usage) -> bool
     ensures { IsTrue result → (pairs : List (Pair ℕ)) → IsPart part.now pairs → ¬ All (λ asked. Allows (asked_statement asked) source.now pairs) rules.now }
 {
     let units = part.units();
-    let mut left = few(part.rows().len());
+    let mut left = patterns_in(FIRST_LOOKS, part.rows().len());
     for asked in rules {
         if asked.triggers.meets(units) {
             let count = asked.rule.pattern_count();
@@ -299,7 +302,7 @@ fn some_forbids_whole(rules: &[Asked], source: &Grid, part: &Usage) -> bool
 {
     let units = part.units();
     let there = standing(source, part.rows());
-    let mut left = few(part.rows().len());
+    let mut left = patterns_in(MORE_LOOKS, part.rows().len());
     for asked in rules {
         if !asked.clears(there, units) {
             let count = asked.rule.pattern_count();
