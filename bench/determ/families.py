@@ -7,6 +7,9 @@ absent: 2,048 alternatives that one absence statement of a thousand equal patter
 apart: the same under a thousand different patterns.
 single: the same under a thousand statements of one pattern each.
 alternating: the same, where another unit is taken in every other cycle.
+drifting: the same, where each cycle takes other units beside `z`.
+parted: alternating under 529 statements, the units of whose patterns all stand there, but in different cycles.
+present: alternating under a thousand presence statements, whose patterns stand in every cycle.
 """
 import sys
 
@@ -48,12 +51,35 @@ def taken(cycles):
     insn("y", f"nothing*{cycles - 1},y")
 
 
-def refused(cycles, statements, more=(), held=None):
+def refused(cycles, statements, more=(), held=None, choices=11, kind="absence"):
     unit("u", "v", "w", "z", *more, *names("p", 46))
     for patterns in statements:
-        print(f'(absence_set "z" "{",".join(patterns)}")')
-    insn("x", f"((u|v)*11,{held or f'z*{cycles - 11}'})|nothing*{cycles}")
+        print(f'({kind}_set "z" "{",".join(patterns)}")')
+    if kind != "absence":
+        print('(absence_set "z" "w")')
+    insn("x", f"((u|v)*{choices},{held or f'z*{cycles - choices}'})|nothing*{cycles}")
     insn("y", f"nothing*{cycles - 1},w")
+
+
+def alternating(cycles, statements, kind="absence"):
+    refused(cycles, [[pattern] for pattern in statements], ["t"], f"(z,t)*{(cycles - 11) // 2}", kind=kind)
+
+
+def drifting(cycles):
+    units = names("t", 8)
+    held = [" + ".join(["z"] + [one for place, one in enumerate(units) if cycle >> place & 1]) for cycle in range(cycles - 10)]
+    refused(cycles, [[pattern] for pattern in pairs() + ["w"]], units, ",".join(f"({one})" for one in held), choices=10)
+
+
+def parted(cycles):
+    units = names("p", 46)
+    alternating(cycles, [f"{one} {other}" for one in units[::2] for other in units[1::2]] + ["w"])
+    insn("a", f"(({'+'.join(units[::2])}),({'+'.join(units[1::2])}))*{cycles // 2}")
+
+
+def present(cycles):
+    alternating(cycles, pairs(), kind="presence")
+    insn("a", f"({'+'.join(names('p', 46))})*{cycles}")
 
 
 def pairs():
@@ -74,7 +100,13 @@ def main():
     elif kind == "apart":
         refused(cycles, [pairs() + ["w"]])
     elif kind == "alternating":
-        refused(cycles, [[pattern] for pattern in pairs() + ["w"]], ["t"], f"(z,t)*{(cycles - 11) // 2}")
+        alternating(cycles, pairs() + ["w"])
+    elif kind == "drifting":
+        drifting(cycles)
+    elif kind == "parted":
+        parted(cycles)
+    elif kind == "present":
+        present(cycles)
     else:
         refused(cycles, [[pattern] for pattern in pairs() + ["w"]])
 

@@ -5,10 +5,11 @@ hz=$1
 . "$(dirname "$0")/../common.sh"
 
 echo "kind cycles bytes s peak_kB"
-for kind in late early taken absent apart single alternating; do
+for kind in late early taken absent apart single alternating drifting parted present; do
     for cycles in 256 512; do
         case $kind-$cycles in
-        late-512 | early-512 | absent-512 | apart-512 | single-512 | alternating-512) continue ;;
+        taken-512) ;;
+        *-512) continue ;;
         esac
         text=$data/family_${kind}_$cycles
         python3 bench/determ/families.py "$kind" "$cycles" > "$text"

@@ -20,7 +20,7 @@ use Rattle.hz_unitsets.specs.declared.set_rules.SetKind.TheVariants.{Exclusion, 
 use Rattle.hz_unitsets.specs.declared.row_rules.Rule.{Rule}
 use Rattle.hz_unitsets.specs.declared.rules.Asked.{Asked}
 use Rattle.hz_unitsets.specs.SetRules.{kind_of}
-use Rattle.hz_unitsets.specs.RowRules.{statement_in, asked_statement, AllowsAt, AllowsRows, ForbidsRows, Allows, Breaks, BreaksRow, IsTrigger, IsPart, IsAsked, AreAsked}
+use Rattle.hz_unitsets.specs.RowRules.{statement_in, asked_statement, AllowsAt, AllowsRows, ForbidsRows, Allows, Breaks, BreaksRow, IsTrigger, IsPart, IsAsked, AreAsked, ClearsIn, IsClear, HasStanding}
 
 -- ---- where no added unit may break a statement
 
@@ -90,6 +90,50 @@ allows_used s source add rows unbroken are each = record { at = λ cycle. here c
         let (row, there, at) = row_at_cycle cycle rows e in
         subst (AllowsAt s source add) at (All-contains (λ (r : UsedRow). AllowsAt s source add r.cycle) rows row each there)
     here cycle false e = allows_untriggered s source add cycle unbroken (λ unit _ h. let t = are.whole unit cycle h in absurd (cc))
+
+-- ---- all cycles, by the whole of what stands in them
+
+cleared_at : (s : Statement ℕ) (source add : List (Pair ℕ)) (cycle there units : ℕ) → ((u : ℕ) → Holds source cycle u → HasUnit there u) → ((u : ℕ) → Holds add cycle u → HasUnit units u)
+    → ClearsIn s (HasUnit there) (HasUnit units) (λ u. HasUnit there u ⊎ HasUnit units u) → AllowsAt s source add cycle
+cleared_at s source add cycle there units stands adds clear = record {
+  excluded = λ e some pattern. clear.excluded e (some_with s.units _ _ both some) (pattern_with s.patterns _ _ both pattern);
+  present = λ e some. absurd (clear.present e (some_with s.units _ _ adds some));
+  finally_present = λ e some. absurd (clear.finally_present e (some_with s.units _ _ adds some));
+  absent = λ e some pattern. clear.absent e (some_with s.units _ _ adds some) (pattern_with s.patterns _ _ stands pattern);
+  finally_absent = λ e some pattern. clear.finally_absent e (some_with s.units _ _ adds some) (pattern_with s.patterns _ _ both pattern);
+}
+  where
+    both : (u : ℕ) → Holds (source ++ add) cycle u → (HasUnit there u ⊎ HasUnit units u)
+    both u h = ⊎_elim (λ l. inl (stands u l)) (λ r. inr (adds u r)) (Contains-append_cases source add _ h)
+
+pub allows_cleared : (s : Statement ℕ) (source add : List (Pair ℕ)) (rows : List UsedRow) (there units : ℕ) → (Breaks s source → ⊥) → AreRowsOf add rows → HasStanding source rows there → HasUnitsOf add units → IsClear s there units → Allows s source add
+allows_cleared s source add rows there units unbroken are stands has clear = ⊎_elim
+    (λ clears. allows_used s source add rows unbroken are (λ k d low. cleared_at s source add _ there units (stands k d low) (λ u. has.units u _) clears))
+    (λ none. record { at = λ cycle. allows_untriggered s source add cycle unbroken (λ unit is h. none unit is (has.units unit cycle h)) })
+    clear
+
+-- the row has what stands in the cycles of the first rows
+abbrev pub StandsBefore : List (Pair ℕ) → List UsedRow → ℕ → ℕ → Type 0
+StandsBefore source rows cycles there = (k : ℕ) (d : UsedRow) → k < cycles → (unit : ℕ) → Holds source (get_or rows k d).cycle unit → HasUnit there unit
+
+pub standing_more : (source : List (Pair ℕ)) (rows : List UsedRow) (cycles old here new : ℕ) (used : UsedRow) → StandsBefore source rows cycles old → ((e : UsedRow) → used ≡ get_or rows cycles e)
+    → ((u : ℕ) → HasUnit here u ↔ Holds source used.cycle u) → ((u : ℕ) → HasUnit new u ↔ (HasUnit old u ⊎ HasUnit here u)) → StandsBefore source rows (cycles + 1) new
+standing_more source rows cycles old here new used before read is_here is_new k d low unit h = ⊎_elim
+    (λ (less : k < cycles). (is_new unit).1 (inl (before k d less unit h)))
+    (λ (same : cycles ≤ k).
+    let is : k ≡ cycles = omega (arith, low, same) in
+    let there = subst (λ (n : ℕ). Holds source (get_or rows n d).cycle unit) is h in
+    (is_new unit).1 (inr ((is_here unit).1 (subst (λ (r : UsedRow). Holds source r.cycle unit) (sym (read d)) there))))
+    (cases_lt k cycles)
+
+pub clears_joined : (s : Statement ℕ) (there added all : ℕ) → ((u : ℕ) → HasUnit all u ↔ (HasUnit there u ⊎ HasUnit added u)) → ClearsIn s (HasUnit there) (HasUnit added) (HasUnit all) → ClearsIn s (HasUnit there) (HasUnit added) (λ u. HasUnit there u ⊎ HasUnit added u)
+clears_joined s there added all is_all clear = record {
+  excluded = λ e some pattern. clear.excluded e (some_with s.units _ _ (λ u. (is_all u).1) some) (pattern_with s.patterns _ _ (λ u. (is_all u).1) pattern);
+  present = clear.present;
+  finally_present = clear.finally_present;
+  absent = clear.absent;
+  finally_absent = λ e some pattern. clear.finally_absent e some (pattern_with s.patterns _ _ (λ u. (is_all u).1) pattern);
+}
 
 -- what a statement allows it allows of a part of it, unless it looks for a pattern in the result
 pub part_allowed : (s : Statement ℕ) (source part pairs : List (Pair ℕ)) → (s.kind ≡ final_presence → ⊥) → IsPart part pairs → Allows s source pairs → Allows s source part

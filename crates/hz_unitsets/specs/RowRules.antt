@@ -1,9 +1,10 @@
 -- Rules whose units and patterns are rows.
 use Rattle.std.specs.Prelude.{◌≡◌, ◌⊎◌, ℕ, ◌<◌, List, [], ◌∷◌, map, ◌++◌, All, Contains}
 use Rattle.hz_base_model.specs.Pairs.{Pair}
-use Rattle.hz_description_model.specs.Reservations.Sets.{Statement, exclusion, final_presence, Holds, HoldsSome, HoldsPattern, AllowsIn}
+use Rattle.hz_description_model.specs.Reservations.Sets.{Statement, exclusion, presence, final_presence, absence, final_absence, Holds, HoldsSome, HoldsPattern, AllowsIn}
 use Rattle.hz_grid.specs.declared.rows.TheConstants.{UNITS}
 use Rattle.hz_grid.specs.Rows.{HasUnit, IsWithin}
+use Rattle.hz_grid.specs.declared.usage.UsedRow.{UsedRow}
 use Rattle.hz_unitsets.specs.declared.row_rules.Rule.{Rule}
 use Rattle.hz_unitsets.specs.declared.rules.Asked.{Asked}
 use Rattle.hz_unitsets.specs.SetRules.{kind_of}
@@ -57,6 +58,23 @@ BreaksRow s row = (s.kind ≡ exclusion) × HoldsSome s.units (HasUnit row) × H
 -- The addition of the unit may break the statement: it is of its first string, or of a pattern of an exclusion.
 abbrev pub IsTrigger : Statement ℕ → ℕ → Type 0
 IsTrigger s unit = Contains s.units unit ⊎ ((s.kind ≡ exclusion) × (pattern : List ℕ) × Contains s.patterns pattern × Contains pattern unit)
+
+-- In no cycle with parts of these units the statement is broken: what it forbids is not in all of them, and what it wants is
+-- not asked for.
+pub record ClearsIn (s : Statement ℕ) (there added all : ℕ → Type 0) : Type 0 where
+  pub excluded : s.kind ≡ exclusion → HoldsSome s.units all → HoldsPattern s.patterns all → ⊥
+  pub present : s.kind ≡ presence → HoldsSome s.units added → ⊥
+  pub finally_present : s.kind ≡ final_presence → HoldsSome s.units added → ⊥
+  pub absent : s.kind ≡ absence → HoldsSome s.units added → HoldsPattern s.patterns there → ⊥
+  pub finally_absent : s.kind ≡ final_absence → HoldsSome s.units added → HoldsPattern s.patterns all → ⊥
+
+-- The same of rows, what stands and what is added. Or no unit is added that may break the statement.
+abbrev pub IsClear : Statement ℕ → ℕ → ℕ → Type 0
+IsClear s there added = ClearsIn s (HasUnit there) (HasUnit added) (λ unit. HasUnit there unit ⊎ HasUnit added unit) ⊎ ((unit : ℕ) → IsTrigger s unit → HasUnit added unit → ⊥)
+
+-- the row has the units that the pairs hold in the cycles of the rows
+abbrev pub HasStanding : List (Pair ℕ) → List UsedRow → ℕ → Type 0
+HasStanding pairs rows there = All (λ row. (unit : ℕ) → Holds pairs row.cycle unit → HasUnit there unit) rows
 
 -- the statement of a rule that is asked
 abbrev pub asked_statement : Asked → Statement ℕ

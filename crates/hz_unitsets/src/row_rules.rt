@@ -4,7 +4,7 @@ ghost use Rattle.std.specs.Prelude.{◌≡◌, ◌↔◌, ◌<◌, ℕ, map, All
 ghost use Rattle.hz_description_model.specs.Reservations.Sets.{AllowsIn, HoldsSome, HoldsPattern, final_presence};
 ghost use Rattle.hz_grid.specs.Rows.{HasUnit, IsWithin};
 ghost use Rattle.hz_unitsets.specs.SetRules.{statement_of, IsInRange, in_order, ordered};
-ghost use Rattle.hz_unitsets.specs.RowRules.{statement_in, IsRow, IsBounded, IsTrigger, Breaks, StandsIn, StandsAt};
+ghost use Rattle.hz_unitsets.specs.RowRules.{statement_in, IsRow, IsBounded, IsTrigger, Breaks, ClearsIn, StandsIn, StandsAt};
 ghost use Rattle.hz_grid.specs.Stored.{units_of};
 
 use crate::set_rules::{SetKind, SetRule};
@@ -50,6 +50,20 @@ impl Rule {
             SetKind::FinalPresence => !self.holds_some(added) || self.holds_pattern(all),
             SetKind::Absence => !(self.holds_some(added) && self.holds_pattern(source)),
             SetKind::FinalAbsence => !(self.holds_some(added) && self.holds_pattern(all)),
+        }
+    }
+
+    /// Whether no cycle in which no more than these rows stands, is added and is there in all, can break the rule. A presence
+    /// is broken where its pattern is missing, so only what is added can clear it.
+    pub(crate) fn clears_rows(&self, source: Row<4>, added: Row<4>, all: Row<4>) -> bool
+        requires { IsBounded self.now }
+        ensures { IsTrue result → ClearsIn (statement_in self.now) (HasUnit source) (HasUnit added) (HasUnit all) }
+    {
+        match self.kind {
+            SetKind::Exclusion => !self.holds_some(all) || !self.holds_pattern(all),
+            SetKind::Presence | SetKind::FinalPresence => !self.holds_some(added),
+            SetKind::Absence => !self.holds_some(added) || !self.holds_pattern(source),
+            SetKind::FinalAbsence => !self.holds_some(added) || !self.holds_pattern(all),
         }
     }
 

@@ -1,12 +1,13 @@
 //! The set statements of an automaton, each once, which are asked of grids.
 
-ghost use Rattle.std.specs.Prelude.{◌≡◌, ◌≢◌, ◌↔◌, ℕ, List, map, All, IfOk, OnOk, IsTrue};
+ghost use Rattle.std.specs.Prelude.{◌≡◌, ◌≢◌, ◌↔◌, ◌<◌, ℕ, List, map, All, IfOk, OnOk, IsTrue};
 ghost use Rattle.std.specs.List.{AllPairs, Any};
 ghost use Rattle.hz_description_model.specs.Reservations.Sets.{Fits};
 ghost use Rattle.hz_acceptance_model.specs.Accepting.Fitting.{AskTheSame, IsUnbroken};
 ghost use Rattle.hz_unitsets.specs.SetRules.{statements_of, IsInRange, ordered};
-ghost use Rattle.hz_unitsets.specs.RowRules.{statement_in, asked_statement, IsBounded, IsAsked, Allows, AllowsAt, AllowsRows, ForbidsRows, Breaks, BreaksRow, IsPart, IsKept, AreSame};
+ghost use Rattle.hz_unitsets.specs.RowRules.{statement_in, asked_statement, IsBounded, IsAsked, Allows, AllowsAt, AllowsRows, ForbidsRows, Breaks, BreaksRow, HasStanding, IsClear, IsPart, IsKept, AreSame};
 ghost use Rattle.hz_base_model.specs.Pairs.{Pair};
+ghost use Rattle.hz_grid.specs.Rows.{HasUnit};
 ghost use Rattle.hz_grid.specs.Used.{IsRowOf};
 
 use crate::row_rules::Rule;
@@ -72,8 +73,8 @@ impl Rules {
     }
 
     /// Whether the added pairs fit a source that breaks no exclusion, as `fits` says it. A statement that no added unit
-    /// may break costs one test of rows, and none where this holds of all. Where many others are asked, it costs one for
-    /// each cycle whose rows are not those of the one before. It takes no memory.
+    /// may break costs one test of rows, and none where this holds of all. Of many others, each that nothing in these
+    /// cycles together can break costs one more. It takes no memory.
     pub fn fits_unbroken(&self, source: &Grid, add: &Usage) -> bool
         requires { IsUnbroken self.now source.now }
         ensures { IsTrue result ↔ Fits self.now source.now add.now 0 }
@@ -114,12 +115,15 @@ fn none_broken(rules: &[Asked], source: &Grid) -> bool
     rules.iter().all(|asked| !asked.rule.is_broken(source))
 }
 
-// How often patterns are looked for rule by rule, before it is gone cycle by cycle.
-const LOOKS: usize = 4096;
+// How often patterns are looked for rule by rule, before all cycles are asked at once.
+const FIRST_LOOKS: usize = 256;
 
-// How many patterns are looked for rule by rule, each in so many cycles.
-fn few(cycles: usize) -> usize {
-    LOOKS / cycles.max(1)
+// How often patterns are looked for rule by rule after that, before it is gone cycle by cycle.
+const MORE_LOOKS: usize = 4096;
+
+// How many patterns so many looks are, each in so many cycles.
+fn patterns_in(looks: usize, cycles: usize) -> usize {
+    looks / cycles.max(1)
 }
 
 // Whether each rule allows each cycle, where the source breaks none. A few rules that an added unit may break are asked of
@@ -130,9 +134,34 @@ fn all_allow(rules: &[Asked], source: &Grid, add: &Usage) -> bool
     ensures { IsTrue result ↔ All (λ asked. Allows (asked_statement asked) source.now add.now) rules.now }
 {
     let units = add.units();
-    let mut left = few(add.rows().len());
+    let mut left = patterns_in(FIRST_LOOKS, add.rows().len());
     for asked in rules {
         if asked.triggers.meets(units) {
+            let count = asked.rule.pattern_count();
+            if left < count {
+                return all_allow_whole(rules, source, add);
+            }
+            left -= count;
+            if !asked.allows_each(source, add) {
+                return false;
+            }
+        }
+    }
+    true
+}
+
+// The same, where many rules are asked: each once, of all that stands in the cycles in which units are added. The few that
+// this may break are asked of all cycles. Where there are more, each cycle is asked of all rules.
+fn all_allow_whole(rules: &[Asked], source: &Grid, add: &Usage) -> bool
+    requires asked { All IsAsked rules.now }
+    requires unbroken { All (λ asked. ¬ Breaks (asked_statement asked) source.now) rules.now }
+    ensures { IsTrue result ↔ All (λ asked. Allows (asked_statement asked) source.now add.now) rules.now }
+{
+    let units = add.units();
+    let there = standing(source, add.rows());
+    let mut left = patterns_in(MORE_LOOKS, add.rows().len());
+    for asked in rules {
+        if !asked.clears(there, units) {
             let count = asked.rule.pattern_count();
             if left < count {
                 return all_allow_by_cycle(rules, source, add);
@@ -146,44 +175,89 @@ fn all_allow(rules: &[Asked], source: &Grid, add: &Usage) -> bool
     true
 }
 
-// The same, cycle by cycle. A cycle with the rows of the one before is not asked of the rules again.
+// What stands in any of the rows' cycles.
+fn standing(source: &Grid, rows: &[UsedRow]) -> Row<4>
+    ensures { HasStanding source.now rows.now result }
+{
+    let mut there = Row::empty();
+    for used in rows {
+        there = there.join(source.row(used.cycle));
+    }
+    there
+}
+
+// How many cycles are remembered while cycles are asked.
+const REMEMBERED: usize = 16;
+
+// What stands in a cycle, and the units that are added there.
+#[derive(Clone, Copy)]
+struct Cycle {
+    there: Row<4>,
+    added: Row<4>,
+}
+
+// A cycle in which nothing stands and nothing is added.
+fn empty_cycle() -> Cycle
+    ensures there { (unit : ℕ) → ¬ HasUnit result.there unit }
+    ensures added { (unit : ℕ) → ¬ HasUnit result.added unit }
+{
+    Cycle {
+        there: Row::empty(),
+        added: Row::empty(),
+    }
+}
+
+// The place behind that one, and behind the last the first.
+fn place_after(place: usize) -> usize
+    ensures { result < REMEMBERED }
+{
+    if place < REMEMBERED - 1 { place + 1 } else { 0 }
+}
+
+// Whether a cycle with these rows is among the cycles.
+fn is_among(there: Row<4>, added: Row<4>, cycles: &[Cycle]) -> bool
+    ensures { IsTrue result → Any (λ cycle. (cycle.there ≡ there) × (cycle.added ≡ added)) cycles.now }
+{
+    for cycle in cycles {
+        if cycle.there == there && cycle.added == added {
+            return true;
+        }
+    }
+    false
+}
+
+// The same, cycle by cycle. A cycle with the rows of one of the last is not asked of the rules again.
 fn all_allow_by_cycle(rules: &[Asked], source: &Grid, add: &Usage) -> bool
     requires asked { All IsAsked rules.now }
     requires unbroken { All (λ asked. ¬ Breaks (asked_statement asked) source.now) rules.now }
     ensures { IsTrue result ↔ All (λ asked. Allows (asked_statement asked) source.now add.now) rules.now }
 {
-    let mut there = Row::empty();
-    let mut added = Row::empty();
+    let mut last = [empty_cycle(); REMEMBERED];
+    let mut place = 0;
     let rows = add.rows();
     for used in rows {
         let here = source.row(used.cycle);
-        if !all_allow_next(rules, there, added, here, used.units) {
+        if !all_allow_next(rules, &last, here, used.units) {
             return false;
         }
-        there = here;
-        added = used.units;
+        last[place] = Cycle {
+            there: here,
+            added: used.units,
+        };
+        place = place_after(place);
     }
     true
 }
 
-// Whether each rule allows a cycle with these rows, what stands here and the units that are added, where the first breaks
-// none. The rows of the cycle before are allowed, so where these are equal no rule is asked.
-fn all_allow_next(
-    rules: &[Asked],
-    there: Row<4>,
-    added: Row<4>,
-    here: Row<4>,
-    units: Row<4>,
-) -> bool
+// Whether each rule allows a cycle, where what stands there breaks none. The last cycles are allowed, so where one of them has
+// its rows no rule is asked.
+fn all_allow_next(rules: &[Asked], last: &[Cycle], there: Row<4>, added: Row<4>) -> bool
     requires asked { All IsAsked rules.now }
-    requires unbroken { All (λ asked. ¬ BreaksRow (asked_statement asked) here) rules.now }
-    requires before { All (λ asked. AllowsRows (asked_statement asked) there added) rules.now }
-    ensures { IsTrue result ↔ All (λ asked. AllowsRows (asked_statement asked) here units) rules.now }
+    requires unbroken { All (λ asked. ¬ BreaksRow (asked_statement asked) there) rules.now }
+    requires before { All (λ old. All (λ asked. AllowsRows (asked_statement asked) old.there old.added) rules.now) last.now }
+    ensures { IsTrue result ↔ All (λ asked. AllowsRows (asked_statement asked) there added) rules.now }
 {
-    if here == there && units == added {
-        return true;
-    }
-    all_allow_rows(rules, here, units)
+    is_among(there, added, last) || all_allow_rows(rules, there, added)
 }
 
 // Whether each rule allows a cycle with these rows, what stood there and what is added, where the first breaks none.
@@ -203,9 +277,34 @@ fn some_forbids(rules: &[Asked], source: &Grid, part: &Usage) -> bool
     ensures { IsTrue result → (pairs : List (Pair ℕ)) → IsPart part.now pairs → ¬ All (λ asked. Allows (asked_statement asked) source.now pairs) rules.now }
 {
     let units = part.units();
-    let mut left = few(part.rows().len());
+    let mut left = patterns_in(FIRST_LOOKS, part.rows().len());
     for asked in rules {
         if asked.triggers.meets(units) {
+            let count = asked.rule.pattern_count();
+            if left < count {
+                return some_forbids_whole(rules, source, part);
+            }
+            left -= count;
+            if asked.forbids(source, part) {
+                return true;
+            }
+        }
+    }
+    false
+}
+
+// The same, where many rules are asked: each once, of all that stands in the cycles in which units are added. The few that
+// this may break are asked of all cycles. Where there are more, each cycle is asked of all rules.
+fn some_forbids_whole(rules: &[Asked], source: &Grid, part: &Usage) -> bool
+    requires asked { All IsAsked rules.now }
+    requires unbroken { All (λ asked. ¬ Breaks (asked_statement asked) source.now) rules.now }
+    ensures { IsTrue result → (pairs : List (Pair ℕ)) → IsPart part.now pairs → ¬ All (λ asked. Allows (asked_statement asked) source.now pairs) rules.now }
+{
+    let units = part.units();
+    let there = standing(source, part.rows());
+    let mut left = patterns_in(MORE_LOOKS, part.rows().len());
+    for asked in rules {
+        if !asked.clears(there, units) {
             let count = asked.rule.pattern_count();
             if left < count {
                 return some_forbids_by_cycle(rules, source, part);
@@ -219,43 +318,37 @@ fn some_forbids(rules: &[Asked], source: &Grid, part: &Usage) -> bool
     false
 }
 
-// The same, cycle by cycle. A cycle with the rows of the one before is not asked of the rules again.
+// The same, cycle by cycle. A cycle with the rows of one of the last is not asked of the rules again.
 fn some_forbids_by_cycle(rules: &[Asked], source: &Grid, part: &Usage) -> bool
     requires asked { All IsAsked rules.now }
     requires unbroken { All (λ asked. ¬ Breaks (asked_statement asked) source.now) rules.now }
     ensures { IsTrue result → (pairs : List (Pair ℕ)) → IsPart part.now pairs → ¬ All (λ asked. Allows (asked_statement asked) source.now pairs) rules.now }
 {
-    let mut there = Row::empty();
-    let mut added = Row::empty();
+    let mut last = [empty_cycle(); REMEMBERED];
+    let mut place = 0;
     let rows = part.rows();
     for used in rows {
         let here = source.row(used.cycle);
-        if some_forbids_next(rules, there, added, here, used.units) {
+        if some_forbids_next(rules, &last, here, used.units) {
             return true;
         }
-        there = here;
-        added = used.units;
+        last[place] = Cycle {
+            there: here,
+            added: used.units,
+        };
+        place = place_after(place);
     }
     false
 }
 
-// Whether some rule is seen to forbid a cycle with these rows, what stands here and the units that are added, where the
-// first breaks none. The rows of the cycle before were not forbidden, so where these are equal no rule is asked.
-fn some_forbids_next(
-    rules: &[Asked],
-    there: Row<4>,
-    added: Row<4>,
-    here: Row<4>,
-    units: Row<4>,
-) -> bool
+// Whether some rule is seen to forbid a cycle, where what stands there breaks none. The last cycles were not forbidden, so
+// where one of them has its rows no rule is asked.
+fn some_forbids_next(rules: &[Asked], last: &[Cycle], there: Row<4>, added: Row<4>) -> bool
     requires asked { All IsAsked rules.now }
-    requires unbroken { All (λ asked. ¬ BreaksRow (asked_statement asked) here) rules.now }
-    ensures { IsTrue result → Any (λ asked. ForbidsRows (asked_statement asked) here units) rules.now }
+    requires unbroken { All (λ asked. ¬ BreaksRow (asked_statement asked) there) rules.now }
+    ensures { IsTrue result → Any (λ asked. ForbidsRows (asked_statement asked) there added) rules.now }
 {
-    if units == added && here == there {
-        return false;
-    }
-    some_forbids_rows(rules, here, units)
+    !is_among(there, added, last) && some_forbids_rows(rules, there, added)
 }
 
 // Whether some rule forbids a cycle with these rows, whatever is added beside them, where what stood there breaks none.
@@ -306,6 +399,18 @@ impl Asked {
     {
         let triggers = rule.triggers();
         Asked { rule, triggers }
+    }
+
+    // Whether the rule is seen to allow all that is added to a source that does not break it, by what stands in any of the
+    // cycles in which units are added, and all these units.
+    fn clears(&self, there: Row<4>, added: Row<4>) -> bool
+        requires { IsAsked self.now }
+        ensures { IsTrue result → IsClear (asked_statement self.now) there added }
+    {
+        if !self.triggers.meets(added) {
+            return true;
+        }
+        self.rule.clears_rows(there, added, there.join(added))
     }
 
     // Whether the rule forbids what has these pairs, whatever is added beside them, where the source does not break it. A

@@ -1,6 +1,9 @@
-use Rattle.std.proofs.Common.{sym, subst, refl, arith}
+use Rattle.std.proofs.Common.{All, sym, subst, refl, arith}
 use Rattle.std.proofs.lemmas.List.{get_or_read}
+use Rattle.std.proofs.lemmas.List.Elements.{All-set}
 use Rattle.hz_grid.specs.Used.{IsRowOf}
+use Rattle.hz_unitsets.specs.declared.rules.Cycle.{Cycle}
+use Rattle.hz_unitsets.specs.RowRules.{asked_statement, AllowsRows}
 use Rattle.hz_unitsets.proofs.Cycles.{all_rows_at, rows_unbroken, allow_more, all_allow_used}
 use Rattle.hz_unitsets.proofs.rules.all_allow_by_cycle.Goals as goal
 
@@ -20,7 +23,8 @@ loop-used-preserved c =
     record {
       each = allow_more c.args.rules.now c.args.source.now c.args.add.now rows at used c.loop-used.invariant.each (λ e. get_or_read rows at used c.loop-used-test.true c.used-item.is e)
           ((all_rows_at c.args.source.now c.args.add.now used.cycle c.row-here.result used.units c.row-here.ensures row.units c.args.rules.now).0 allowed);
-      last = allowed;
+      last = All-set (λ (cycle : Cycle). All (λ asked. AllowsRows (asked_statement asked) cycle.there cycle.added) c.args.rules.now) c.loop-used.last c.loop-used.place _ allowed c.loop-used.invariant.last;
+      place = c.place_after-place.ensures;
     }
 
 pub returns : goal.returns
