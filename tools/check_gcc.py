@@ -14,10 +14,11 @@ import sys
 import tarfile
 import tempfile
 
-from extract import Reader, extract, written
+from extract import Reader, extract
 from extraction.forms import Fault
 from extraction.items import Class, Reservation, Units
 from extraction.shared import needed
+from extraction.writing import written
 
 SOURCES = "/usr/src/gcc-12/gcc-12*.tar.xz"
 MEMORY = 6 << 30
