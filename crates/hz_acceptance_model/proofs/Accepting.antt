@@ -5,6 +5,7 @@ pub mod ReplayLaws
 pub mod AcceptanceLaws
 pub mod ChoiceLaws
 pub mod PlayLaws
+pub mod AskLaws
 pub mod InsideFits
 pub mod RestrictLaws
 pub mod Rows

@@ -1,10 +1,11 @@
 //! Laws of acceptance, for both treatments and any units.
 
-ghost use Rattle.std.specs.Prelude.{◌≡◌, ℕ, ◌+◌, ◌↔◌, ◌⊎◌, Bool, Contains, List, ◌∷◌, ◌++◌, take, Some, slice_get};
+ghost use Rattle.std.specs.Prelude.{◌≡◌, ℕ, ◌+◌, ◌↔◌, ◌⊎◌, Bool, Contains, List, ◌∷◌, ◌++◌, length, take, Some, slice_get};
 ghost use Rattle.std.specs.Bool.{Decides};
 ghost use Rattle.hz_acceptance_model.specs.Accepting.Plays.{Tells, plays, accepts};
-ghost use Rattle.hz_acceptance_model.specs.Accepting.Replay.{Pipeline, SamePipeline, State, Plays, IsPlayable, first_fit, ChoiceFirst, IsChoice, Accepted, FirstRefused};
-ghost use Rattle.hz_acceptance_model.specs.Accepting.Events.{Event, issue, advance};
+ghost use Rattle.hz_acceptance_model.specs.Accepting.Replay.{Pipeline, SamePipeline, State, start, Plays, IsPlayable, first_fit, ChoiceFirst, IsChoice, Accepted, FirstRefused, calendar};
+ghost use Rattle.hz_acceptance_model.specs.Accepting.Events.{Event, issue, advance, issues_of, cycles_of};
+ghost use Rattle.hz_acceptance_model.specs.Accepting.Asking.{IsHeld, without_asks};
 
 /// Where a list of events is accepted, each of its prefixes is.
 pub fn prefixes_are_accepted<U>()
@@ -59,4 +60,25 @@ pub fn one_choice_in_the_first_treatment<U>()
 pub fn alternatives_are_sets<U>()
     ensures acceptance { (m o : Pipeline U) → SamePipeline m o → (t : List Event) → Accepted m t ↔ Accepted o t }
     ensures refused { (m o : Pipeline U) → SamePipeline m o → (t : List Event) (i : ℕ) → FirstRefused m t i ↔ FirstRefused o t i }
+{}
+
+/// Asks change nothing: without them the same choices are made, and with these as much is reserved, in as many cycles. So the
+/// same is accepted, the same states are left, the same units are held, and the same event is refused first.
+pub fn asks_change_nothing<U>()
+    ensures choices { (m : Pipeline U) (t : List Event) (choices : List ℕ) → IsChoice m t choices ↔ IsChoice m (without_asks t) choices }
+    ensures calendar { (m : Pipeline U) (now : ℕ) (t : List Event) (choices : List ℕ) → calendar m now (without_asks t) choices ≡ calendar m now t choices }
+    ensures cycles { (t : List Event) → cycles_of (without_asks t) ≡ cycles_of t }
+    ensures issues { (t : List Event) → issues_of (without_asks t) ≡ issues_of t }
+    ensures acceptance { (m : Pipeline U) (t : List Event) → Accepted m t ↔ Accepted m (without_asks t) }
+    ensures states { (m : Pipeline U) (t : List Event) (old new : State U) → Plays m old t new ↔ Plays m old (without_asks t) new }
+    ensures held { (m : Pipeline U) (t : List Event) (unit : U) → IsHeld m t unit ↔ IsHeld m (without_asks t) unit }
+    ensures refused { (m : Pipeline U) (t : List Event) (j : ℕ) → FirstRefused m (without_asks t) j ↔ ((i : ℕ) × FirstRefused m t i × (j ≡ length (without_asks (take i t)))) }
+{}
+
+/// A unit is held after events exactly where what their one choice reserves, or what a run of them leaves, has it in the present
+/// cycle. Where a test tells units apart, it is held or it is not.
+pub fn reserved_or_free<U>()
+    ensures choice { (m : Pipeline U) (t : List Event) (choices : List ℕ) → ChoiceFirst m t choices → (unit : U) → IsHeld m t unit ↔ Contains (calendar m 0 t choices) (record { unit = unit; cycle = cycles_of t }) }
+    ensures run { (m : Pipeline U) → m.treatment ≡ first_fit → (t : List Event) (s : State U) → Plays m start t s → (unit : U) → IsHeld m t unit ↔ Contains s.reserved (record { unit = unit; cycle = s.now }) }
+    ensures decided { (same : U → U → Bool) → Tells same → (m : Pipeline U) (t : List Event) (unit : U) → IsHeld m t unit ⊎ (IsHeld m t unit → ⊥) }
 {}

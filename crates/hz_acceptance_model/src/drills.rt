@@ -2,7 +2,7 @@
 
 ghost use Rattle.std.specs.Prelude.{◌≡◌, ◌⊎◌, ◌↔◌, ◌+◌, ◌*◌, ◌/◌, ◌%◌, ◌^◌, ℕ, List, [], ◌∷◌, ◌++◌, length, All, Some, None};
 ghost use Rattle.hz_acceptance_model.specs.Accepting.Events.{Event, advance, issues_of, cycles_of, IsOfClass};
-ghost use Rattle.hz_acceptance_model.specs.Traces.Drills.{next_number, number_after, IsAsDrawn, upper_from, draw, Drawn};
+ghost use Rattle.hz_acceptance_model.specs.Traces.Drills.{next_number, number_after, IsAsDrawn, IsOfTurn, upper_from, draw, Drawn};
 
 /// Which traces are accepted, whatever tells it: a machine that walks them, or the pipeline of a description.
 pub trait Acceptance {
@@ -29,10 +29,11 @@ pub fn drawn_traces_are_accepted<A: Acceptance>()
     ensures { A.accepts [] → ((t : List Event) → A.accepts t → A.accepts (t ++ advance 1 ∷ [])) → (classes number turns : ℕ) (t : List Event) → Drawn A.accepts classes number turns t → A.accepts t }
 {}
 
-/// A drawn trace has one event for each turn, an issue of one of the classes or the advance of one cycle.
+/// A drawn trace has one event for each turn, an issue of one of the classes or the advance of one cycle. It asks nothing.
 pub fn each_turn_is_one_event<A: Acceptance>()
     ensures events { (classes number turns : ℕ) (t : List Event) → Drawn A.accepts classes number turns t → length t ≡ turns }
     ensures counts { (classes number turns : ℕ) (t : List Event) → Drawn A.accepts classes number turns t → issues_of t + cycles_of t ≡ turns }
+    ensures kinds { (classes number turns : ℕ) (t : List Event) → Drawn A.accepts classes number turns t → All (IsOfTurn classes) t }
     ensures classes { (classes number turns : ℕ) (t : List Event) → Drawn A.accepts classes number turns t → All (IsOfClass classes) t }
 {}
 

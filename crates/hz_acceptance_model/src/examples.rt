@@ -1,10 +1,11 @@
 //! Worked examples of the rules, computed on the definitions.
 
 ghost use Rattle.std.specs.Prelude.{◌≡◌, List, [], ◌∷◌, codes};
-ghost use Rattle.hz_acceptance_model.specs.Accepting.Events.{issue, advance};
+ghost use Rattle.hz_acceptance_model.specs.Accepting.Events.{issue, advance, ask};
 ghost use Rattle.hz_acceptance_model.specs.Accepting.Replay.{first_fit, any_fit, Accepted, FirstRefused};
+ghost use Rattle.hz_acceptance_model.specs.Accepting.Asking.{IsHeld};
 ghost use Rattle.hz_description_model.specs.Reservations.Sets.{final_presence};
-ghost use Rattle.hz_acceptance_model.specs.Accepting.Examples.{superscalar, simple, mult, div, float, choice, slot_present, slots_together, slot_absent, pattern_present, excluded_later, two_stages, two_lengths};
+ghost use Rattle.hz_acceptance_model.specs.Accepting.Examples.{superscalar, simple, mult, div, float, divider, choice, slot_present, slots_together, slot_absent, pattern_present, excluded_later, two_stages, two_lengths};
 
 /// The superscalar example: a third `simple` finds both integer pipelines taken; after a `float` two `simple` would need
 /// one port more; the divider is held for eight cycles.
@@ -42,4 +43,13 @@ pub fn cycle_rows()
     ensures later { FirstRefused excluded_later (issue 0 ∷ issue 1 ∷ []) 1 }
     ensures two_automata { FirstRefused two_stages (issue 0 ∷ issue 0 ∷ issue 0 ∷ []) 2 }
     ensures two_lengths { Accepted two_lengths (issue 0 ∷ advance 2 ∷ issue 0 ∷ []) }
+{}
+
+/// The divider is held from the cycle after the issue of a `div` to the eighth, and asks change nothing.
+pub fn query_rows()
+    ensures at_issue { IsHeld superscalar (issue div ∷ []) divider → ⊥ }
+    ensures first { IsHeld superscalar (issue div ∷ advance 1 ∷ []) divider }
+    ensures last { IsHeld superscalar (issue div ∷ ask 0 0 ∷ advance 8 ∷ []) divider }
+    ensures past { IsHeld superscalar (issue div ∷ advance 9 ∷ []) divider → ⊥ }
+    ensures asked { FirstRefused superscalar (issue div ∷ ask 0 0 ∷ advance 7 ∷ ask 0 0 ∷ issue div ∷ []) 4 }
 {}

@@ -1,11 +1,12 @@
 //! Laws of a description with several automata that keeps the two rules.
 
-ghost use Rattle.std.specs.Prelude.{◌≡◌, ◌↔◌, ◌<◌, ℕ, List, Contains, take};
+ghost use Rattle.std.specs.Prelude.{◌≡◌, ◌↔◌, ◌<◌, ℕ, false, List, Contains, take};
 ghost use Rattle.hz_base_model.specs.Pairs.{Pair};
 ghost use Rattle.hz_description_model.specs.Reservations.Alternatives.{Alternative, alternatives_of};
 ghost use Rattle.hz_description_model.specs.Reservations.Automata.{UnitPlace, cut, list_in};
 ghost use Rattle.hz_acceptance_model.specs.Accepting.Events.{Event};
 ghost use Rattle.hz_acceptance_model.specs.Accepting.Replay.{State, MayTake, chosen, Accepted, FirstRefused};
+ghost use Rattle.hz_acceptance_model.specs.Accepting.Asking.{IsHeld};
 ghost use Rattle.hz_acceptance_model.specs.Accepting.Restricted.{restricted};
 ghost use Rattle.hz_description_model.specs.Reading.Descriptions.{Description, ClassItem};
 ghost use Rattle.hz_description_model.specs.Check.CheckFaults.{IsSound};
@@ -32,4 +33,9 @@ pub fn alternatives_are_unions_of_grids()
 pub fn issues_are_taken_in_each_automaton()
     ensures parts { (d : Description) (known : Known) → IsSound d known → (s : State UnitPlace) (k i : ℕ) → MayTake (pipeline_with d known) s k i → (a : ℕ) → a < automaton_count d → (j : ℕ) × MayTake (restricted a (pipeline_with d known)) (state_in a s) k j × (chosen (restricted a (pipeline_with d known)) k j ≡ cut a (chosen (pipeline_with d known) k i)) }
     ensures whole { (d : Description) (known : Known) → IsSound d known → (s : State UnitPlace) (k : ℕ) (choices : ℕ → ℕ) → ((a : ℕ) → a < automaton_count d → MayTake (restricted a (pipeline_with d known)) (state_in a s) k (choices a)) → (i : ℕ) × MayTake (pipeline_with d known) s k i × ((a : ℕ) → a < automaton_count d → chosen (restricted a (pipeline_with d known)) k (choices a) ≡ cut a (chosen (pipeline_with d known) k i)) × IsUnion (automaton_count d) (λ a. chosen (restricted a (pipeline_with d known)) k (choices a)) (chosen (pipeline_with d known) k i) }
+{}
+
+/// Without `ndfa` a unit is held in the present cycle exactly where it is held in its automaton by itself.
+pub fn units_are_held_in_their_automaton()
+    ensures { (d : Description) (known : Known) → IsSound d known → d.options.ndfa ≡ false → (t : List Event) → Accepted (pipeline_with d known) t → (a unit : ℕ) → a < automaton_count d → IsHeld (pipeline_with d known) t (record { automaton = a; unit = unit }) ↔ IsHeld (restricted a (pipeline_with d known)) t unit }
 {}

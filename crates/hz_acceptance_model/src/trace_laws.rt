@@ -4,7 +4,8 @@ ghost use Rattle.std.specs.Prelude.{◌≡◌, ◌↔◌, ◌<◌, ℕ, ◌⊎�
 ghost use Rattle.std.specs.List.{AllPairs};
 ghost use Rattle.hz_base_model.specs.Names.{is_name};
 ghost use Rattle.hz_base_model.specs.Lines.{lines_of, number_of, place_of};
-ghost use Rattle.hz_acceptance_model.specs.Accepting.Events.{Event, issue, advance};
+ghost use Rattle.hz_acceptance_model.specs.Accepting.Events.{Event, issue, advance, ask};
+ghost use Rattle.hz_acceptance_model.specs.Accepting.Asking.{without_asks};
 ghost use Rattle.hz_acceptance_model.specs.Traces.Traces.{line_says, skipped, says, wrong, bad_line, unknown_class, too_many_advances, Trace, TraceFault, TraceFaultAt, event_lines};
 ghost use Rattle.hz_acceptance_model.specs.Traces.TraceLines.{SaysEvent, IsWords, IsSkipped};
 
@@ -12,6 +13,11 @@ ghost use Rattle.hz_acceptance_model.specs.Traces.TraceLines.{SaysEvent, IsWords
 pub fn one_list_of_events()
     ensures events { (classes : List (List ℕ)) (text : List ℕ) (a b : List Event) → Trace classes text a → Trace classes text b → a ≡ b }
     ensures lines { (classes : List (List ℕ)) (text : List ℕ) (events : List Event) → Trace classes text events → length (event_lines classes 1 (lines_of text)) ≡ length events }
+{}
+
+/// The events of a trace text ask nothing.
+pub fn traces_ask_nothing()
+    ensures { (classes : List (List ℕ)) (text : List ℕ) (events : List Event) → Trace classes text events → without_asks events ≡ events }
 {}
 
 /// A trace text has at most one fault, at one line.
@@ -36,12 +42,13 @@ pub fn events_stand_in_their_lines()
 {}
 
 /// A line says an event exactly where it is a margin, `issue` or `advance`, a gap, a name or digits, and a margin. It says nothing
-/// exactly where it is a margin, or a margin and what begins with `;`. Any other line is wrong.
+/// exactly where it is a margin, or a margin and what begins with `;`. Any other line is wrong, and none says an ask.
 pub fn lines_of_traces()
     ensures issue { (classes : List (List ℕ)) (line : List ℕ) (class : ℕ) → (line_says classes line ≡ says (issue class)) ↔ ((name : List ℕ) × IsWords line (codes "issue") name × IsTrue (is_name name) × (place_of name classes ≡ Some class)) }
     ensures advance { (classes : List (List ℕ)) (line : List ℕ) (cycles : ℕ) → (line_says classes line ≡ says (advance cycles)) ↔ ((digits : List ℕ) × IsWords line (codes "advance") digits × (number_of digits ≡ Some cycles)) }
     ensures skipped { (classes : List (List ℕ)) (line : List ℕ) → (line_says classes line ≡ skipped) ↔ IsSkipped line }
     ensures unknown { (classes : List (List ℕ)) (line : List ℕ) → (line_says classes line ≡ wrong unknown_class) ↔ ((name : List ℕ) × IsWords line (codes "issue") name × IsTrue (is_name name) × (place_of name classes ≡ None)) }
+    ensures ask { (classes : List (List ℕ)) (line : List ℕ) (automaton query : ℕ) → line_says classes line ≡ says (ask automaton query) → ⊥ }
     ensures other { (classes : List (List ℕ)) (line : List ℕ) → line_says classes line ≡ wrong too_many_advances → ⊥ }
 {}
 

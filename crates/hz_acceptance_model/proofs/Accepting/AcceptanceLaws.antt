@@ -6,7 +6,7 @@ use Rattle.std.proofs.lemmas.List.{map-append, take_more, take-append-drop, take
 use Rattle.std.proofs.lemmas.Option.{slice_get-get_or, get_or_from_slice_get}
 use Rattle.hz_base_model.specs.Pairs.{placed}
 use Rattle.hz_acceptance_model.specs.Accepting.Replay.{Pipeline, State, Plays, MayTake, Accepted, FirstRefused, start, chosen}
-use Rattle.hz_acceptance_model.specs.Accepting.Events.{Event, issue, advance}
+use Rattle.hz_acceptance_model.specs.Accepting.Events.{Event, issue, advance, ask}
 use Rattle.hz_description_model.proofs.Reservations.FitLaws.{placed_placed, fits_moved, fits_back}
 use Rattle.hz_acceptance_model.proofs.Accepting.ReplayLaws.{run_split, run_join, run_more, runs_from_accepted, accepted_from_runs}
 
@@ -22,6 +22,12 @@ module _ {U : Type 0} (m : Pipeline U) where
   advance_accepted xs n h =
       let run = runs_from_accepted m xs h in
       accepted_from_runs m (xs ++ advance n ∷ []) (record { reserved = (run.0).reserved; now = n + (run.0).now }, run_more m start run.0 _ xs (advance n) run.1 refl)
+
+  -- an ask is never refused
+  pub ask_accepted : (xs : List Event) (a u : ℕ) → Accepted m xs → Accepted m (xs ++ ask a u ∷ [])
+  ask_accepted xs a u h =
+      let run = runs_from_accepted m xs h in
+      accepted_from_runs m (xs ++ ask a u ∷ []) (run.0, run_more m start run.0 run.0 xs (ask a u) run.1 refl)
 
   -- two advances are one
   one_advance : (a b : ℕ) (ys : List Event) (s q : State U) → Plays m s (advance a ∷ advance b ∷ ys) q → Plays m s (advance (a + b) ∷ ys) q
@@ -71,6 +77,7 @@ module _ {U : Type 0} (m : Pipeline U) where
   run_moved n (advance a ∷ t) s q (middle, e, run) =
       let time : n + (a + s.now) ≡ a + (n + s.now) = omega arith in
       (moved n middle, ap (moved n) e ∙ ap (λ (c : ℕ). record { reserved = placed n s.reserved; now = c }) time, run_moved n t middle q run)
+  run_moved n (ask a u ∷ t) s q (middle, e, run) = (moved n middle, ap (moved n) e, run_moved n t middle q run)
   run_moved n (issue k ∷ t) s q (middle, (i, may, e), run) =
       (moved n middle, (i, may_moved n s k i may, ap (moved n) e ∙ sym (issued_moved n k i s)), run_moved n t middle q run)
 
@@ -81,6 +88,9 @@ module _ {U : Type 0} (m : Pipeline U) where
       let same : middle ≡ moved n (record { reserved = s.reserved; now = a + s.now }) = e ∙ ap (λ (c : ℕ). record { reserved = placed n s.reserved; now = c }) time in
       let rest = run_back n t (record { reserved = s.reserved; now = a + s.now }) p (subst (λ (x : State U). Plays m x t p) same run) in
       (rest.0, (_, refl, rest.1))
+  run_back n (ask a u ∷ t) s p (middle, e, run) =
+      let rest = run_back n t s p (subst (λ (x : State U). Plays m x t p) e run) in
+      (rest.0, (s, refl, rest.1))
   run_back n (issue k ∷ t) s p (middle, (i, may, e), run) =
       let rest = run_back n t (record { reserved = s.reserved ++ placed s.now (chosen m k i); now = s.now }) p (subst (λ (x : State U). Plays m x t p) (e ∙ issued_moved n k i s) run) in
       (rest.0, (_, (i, may_back n s k i may, refl), rest.1))
@@ -105,6 +115,11 @@ module _ {U : Type 0} (m : Pipeline U) where
     where
       by_event : (e : Event) → slice_get t i ≡ Some e → (k : ℕ) × (slice_get t i ≡ Some (issue k))
       by_event (issue k) is = (k, is)
+      by_event (ask a u) is =
+          let here = get_or_from_slice_get t i (ask a u) (advance 0) is in
+          let within = h.within in
+          let front : take (i + 1) t ≡ take i t ++ ask a u ∷ [] = take_more t i (advance 0) within ∙ ap (λ (e : Event). take i t ++ e ∷ []) here in
+          absurd (h.refused (subst (Accepted m) (sym front) (ask_accepted (take i t) a u h.before)))
       by_event (advance n) is =
           let here = get_or_from_slice_get t i (advance n) (advance n) is in
           let within = h.within in

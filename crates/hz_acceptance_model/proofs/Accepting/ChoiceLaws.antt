@@ -6,7 +6,7 @@ use Rattle.std.proofs.Math.Seq.{take-length}
 use Rattle.hz_base_model.specs.Pairs.{Pair, placed}
 use Rattle.std.specs.Prelude.{◌↔◌}
 use Rattle.hz_acceptance_model.specs.Accepting.Replay.{Pipeline, Treatment, first_fit, State, MayTake, IsChoice, ChoiceFirst, Accepted, calendar, chosen, left_by}
-use Rattle.hz_acceptance_model.specs.Accepting.Events.{Event, issue, advance, issues_of, cycles_of}
+use Rattle.hz_acceptance_model.specs.Accepting.Events.{Event, issue, advance, ask, issues_of, cycles_of}
 
 -- the issue of this number, with what stands around it
 record IssueAt (t : List Event) (n : ℕ) : Type 0 where
@@ -20,6 +20,8 @@ issue_at : (t : List Event) (n : ℕ) → n < issues_of t → IssueAt t n
 issue_at [] n h = absurd (omega arith)
 issue_at (advance c ∷ t) n h = let rest = issue_at t n h in
     record { before = advance c ∷ rest.before; after = rest.after; class = rest.class; parts = ap (λ (es : List Event). advance c ∷ es) rest.parts; number = rest.number }
+issue_at (ask a u ∷ t) n h = let rest = issue_at t n h in
+    record { before = ask a u ∷ rest.before; after = rest.after; class = rest.class; parts = ap (λ (es : List Event). ask a u ∷ es) rest.parts; number = rest.number }
 issue_at (issue k ∷ t) zero h = record { before = []; after = t; class = k; parts = refl; number = refl }
 issue_at (issue k ∷ t) (suc n) h = let rest = issue_at t n (omega arith) in
     record { before = issue k ∷ rest.before; after = rest.after; class = rest.class; parts = ap (λ (es : List Event). issue k ∷ es) rest.parts; number = ap suc rest.number }
@@ -29,6 +31,7 @@ module _ {U : Type 0} (m : Pipeline U) where
   calendar_take : (now : ℕ) (t : List Event) (choices : List ℕ) → calendar m now t (take (issues_of t) choices) ≡ calendar m now t choices
   calendar_take now [] choices = refl
   calendar_take now (advance n ∷ t) choices = calendar_take (n + now) t choices
+  calendar_take now (ask a u ∷ t) choices = calendar_take now t choices
   calendar_take now (issue k ∷ t) [] = refl
   calendar_take now (issue k ∷ t) (i ∷ choices) = ap (λ (ps : List (Pair U)). placed now (chosen m k i) ++ ps) (calendar_take now t choices)
 

@@ -6,7 +6,7 @@ use Rattle.std.proofs.lemmas.List.Elements.{Contains-append_left, Contains-appen
 use Rattle.hz_base_model.specs.Pairs.{Pair, SamePairs, placed}
 use Rattle.hz_description_model.specs.Reservations.Sets.{Statement, exclusion, Holds, HoldsSome, HoldsPattern, AllowsIn, Fits}
 use Rattle.hz_acceptance_model.specs.Accepting.Replay.{Pipeline, State, start, Step, Plays, chosen}
-use Rattle.hz_acceptance_model.specs.Accepting.Events.{Event, issue, advance}
+use Rattle.hz_acceptance_model.specs.Accepting.Events.{Event, issue, advance, ask}
 use Rattle.hz_acceptance_model.specs.Accepting.Fitting.{IsFuture, IsUnbroken}
 use Rattle.hz_base_model.proofs.Elements.{Contains-nil}
 use Rattle.hz_description_model.proofs.Reservations.FitLaws.{iff_back, allows_same, some_with, pattern_with, holds_moved, holds_none}
@@ -103,6 +103,7 @@ module _ {U : Type 0} where
 
   unbroken_step : (m : Pipeline U) (old new : State U) (e : Event) → IsUnbroken m.statements old.reserved → Step m old e new → IsUnbroken m.statements new.reserved
   unbroken_step m old new (advance n) h step = subst (λ (q : State U). IsUnbroken m.statements q.reserved) (sym step) h
+  unbroken_step m old new (ask a u) h step = subst (λ (q : State U). IsUnbroken m.statements q.reserved) (sym step) h
   unbroken_step m old new (issue k) h (i, may, step) =
       subst (λ (q : State U). IsUnbroken m.statements q.reserved) (sym step) (unbroken_added m.statements old.reserved (chosen m k i) old.now may.fits.1)
 

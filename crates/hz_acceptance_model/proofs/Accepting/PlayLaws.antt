@@ -10,7 +10,7 @@ use Rattle.hz_base_model.specs.Pairs.{Pair, placed}
 use Rattle.hz_description_model.specs.Reservations.Sets.{SetKind, exclusion, presence, final_presence, absence, final_absence, Statement, Holds, HoldsSome, HoldsPattern, AllowsIn, Fits}
 use Rattle.hz_description_model.specs.Reservations.Alternatives.{Alternative}
 use Rattle.hz_acceptance_model.specs.Accepting.Replay.{Treatment, first_fit, any_fit, Pipeline, State, start, alternatives_at, chosen, pairs_at, FitsAt, MayTake, Step, Plays, Accepted, FirstRefused}
-use Rattle.hz_acceptance_model.specs.Accepting.Events.{Event, issue, advance}
+use Rattle.hz_acceptance_model.specs.Accepting.Events.{Event, issue, advance, ask}
 use Rattle.hz_acceptance_model.specs.Accepting.Plays.{Tells, has, holds, holds_pattern, asks, allows, fits_added, taken, next, plays, accepts}
 use Rattle.hz_base_model.proofs.Elements.{Contains-nil, Contains-head, Contains-tail, Contains-cons_cases, Contains-map, Contains-from_map}
 use Rattle.hz_acceptance_model.proofs.Accepting.ReplayLaws.{runs_from_accepted, accepted_from_runs}
@@ -248,6 +248,7 @@ module _ {U : Type 0} (same : U → U → Bool) (tells : Tells same) (m : Pipeli
 
   next_step : (s : State U) (e : Event) (q : State U) → Contains (next same m s e) q → Step m s e q
   next_step s (advance n) q h = ⊎_elim sym (λ there. absurd (Contains-nil q there)) (Contains-cons_cases _ q [] h)
+  next_step s (ask a u) q h = ⊎_elim sym (λ there. absurd (Contains-nil q there)) (Contains-cons_cases _ q [] h)
   next_step s (issue k) q h =
       let found = Contains-from_map (issued s) (taken m.treatment (fit s) (alternatives_at m k)) q h in
       let picked = taken_picked (fit s) m.treatment (alternatives_at m k) found.0 found.1 in
@@ -256,6 +257,7 @@ module _ {U : Type 0} (same : U → U → Bool) (tells : Tells same) (m : Pipeli
 
   step_next : (s : State U) (e : Event) (q : State U) → Step m s e q → Contains (next same m s e) q
   step_next s (advance n) q h = rw h (Contains-head _ [])
+  step_next s (ask a u) q h = rw h (Contains-head _ [])
   step_next s (issue k) q (i, may, is) =
       let a = some_at (alternatives_at m k) i may.fits.0 in
       let there = picked_taken (fit s) m.treatment (alternatives_at m k) i a.0 (picked_of_may s k i a.0 a.1 may) in

@@ -12,7 +12,7 @@ use Rattle.hz_description_model.specs.Reservations.Sets.{Statement, Fits}
 use Rattle.hz_description_model.specs.Reservations.Inside.{IsStatementOf}
 use Rattle.hz_acceptance_model.specs.Accepting.Restricted.{of_pairs, class_in, restricted, IsOf}
 use Rattle.hz_acceptance_model.specs.Accepting.Replay.{Class, Pipeline, State, start, Step, Plays, FitsAt, MayTake, Accepted, FirstRefused, alternatives_at, of_class, chosen, pairs_at, first_fit}
-use Rattle.hz_acceptance_model.specs.Accepting.Events.{Event, issue, advance}
+use Rattle.hz_acceptance_model.specs.Accepting.Events.{Event, issue, advance, ask}
 use Rattle.hz_base_model.proofs.Elements.{Contains-nil, Contains-head, Contains-map, Contains-from_map}
 use Rattle.hz_description_model.proofs.Reservations.FirstPlaces.{numbered, number_behind, in_front, front_number, before_map, still_first, was_first}
 use Rattle.hz_acceptance_model.proofs.Accepting.ReplayLaws.{runs_from_accepted, accepted_from_runs}
@@ -212,6 +212,7 @@ module _ (automaton : ℕ) (m : Pipeline UnitPlace) (is : IsOf automaton m) wher
       refl,
       subst (λ (q : State UnitPlace). Follows q (record { reserved = r.reserved; now = n + r.now })) (sym step) (record { now = ap (λ (c : ℕ). n + c) follows.now; whole = follows.whole }),
     )
+    step_in (ask a u) s' step = (r, refl, subst (λ (q : State UnitPlace). Follows q r) (sym step) follows)
     step_in (issue k) s' (i, may, step) =
         let pairs = chosen m k i in
         let taken = taken_from m s k i may in
@@ -229,6 +230,7 @@ module _ (automaton : ℕ) (m : Pipeline UnitPlace) (is : IsOf automaton m) wher
       refl,
       subst (λ (q : State ℕ). Follows (record { reserved = s.reserved; now = n + s.now }) q) (sym step) (record { now = ap (λ (c : ℕ). n + c) follows.now; whole = follows.whole }),
     )
+    step_out (ask a u) r' step = (s, refl, subst (λ (q : State ℕ). Follows s q) (sym step) follows)
     step_out (issue k) r' (j, may, step) =
         let back = takes_out k j (chosen o k j) (taken_from o r k j may) in
         let choice = may_take m s k back.number back.whole back.takes in (

@@ -4,7 +4,7 @@ use Rattle.std.specs.Prelude.{◌↔◌}
 use Rattle.hz_base_model.specs.Pairs.{Pair, SamePairs, placed}
 use Rattle.hz_description_model.specs.Reservations.Sets.{Statement, Fits}
 use Rattle.hz_acceptance_model.specs.Accepting.Replay.{Pipeline, SamePipeline, FitsAt, MayTake, IsChoice, Accepted, FirstRefused, calendar, chosen}
-use Rattle.hz_acceptance_model.specs.Accepting.Events.{Event, issue, advance, cycles_of}
+use Rattle.hz_acceptance_model.specs.Accepting.Events.{Event, issue, advance, ask, cycles_of}
 use Rattle.hz_description_model.proofs.Reservations.SamePairsLaws.{same_back, same_append, same_placed, fits_same}
 
 module _ {U : Type 0} where
@@ -20,6 +20,7 @@ module _ {U : Type 0} (m o : Pipeline U) (same : SamePipeline m o) where
   calendar_same : (now : ℕ) (t : List Event) (choices : List ℕ) → SamePairs (calendar m now t choices) (calendar o now t choices)
   calendar_same now [] choices = λ p. (λ c. c, λ c. c)
   calendar_same now (advance n ∷ t) choices = calendar_same (n + now) t choices
+  calendar_same now (ask a u ∷ t) choices = calendar_same now t choices
   calendar_same now (issue k ∷ t) [] = λ p. (λ c. c, λ c. c)
   calendar_same now (issue k ∷ t) (i ∷ choices) = same_append (placed now (chosen m k i)) (calendar m now t choices) (placed now (chosen o k i)) (calendar o now t choices)
       (same_placed now (chosen m k i) (chosen o k i) (same.pairs k i)) (calendar_same now t choices)

@@ -1,15 +1,17 @@
--- Runs of a pipeline whose classes factor, and what it accepts and refuses.
+-- Runs of a pipeline whose classes factor: what it accepts, refuses and holds.
 use Rattle.std.proofs.Common.{◌≡◌, ℕ, zero, suc, ◌+◌, ◌<◌, ◌⊎◌, inl, inr, ⊎_elim, Bool, true, false, List, [], ◌∷◌, ◌++◌, take, Contains, refl, sym, ap, ◌∙◌, subst, arith}
-use Rattle.std.specs.Prelude.{◌==◌}
+use Rattle.std.specs.Prelude.{◌==◌, ◌↔◌}
 use Rattle.std.proofs.lemmas.Bool.{cases_lt, both_ways}
 use Rattle.std.proofs.lemmas.Bool.Decides.{Decides-eqb}
 use Rattle.hz_base_model.specs.Pairs.{Pair, placed}
 use Rattle.hz_description_model.specs.Reservations.Automata.{UnitPlace, cut, inside, list_in}
-use Rattle.hz_acceptance_model.specs.Accepting.Events.{Event, issue, advance}
+use Rattle.hz_acceptance_model.specs.Accepting.Events.{Event, issue, advance, ask}
 use Rattle.hz_acceptance_model.specs.Accepting.Plays.{accepts}
-use Rattle.hz_acceptance_model.specs.Accepting.Replay.{Pipeline, State, start, Step, Plays, MayTake, Accepted, FirstRefused, chosen}
+use Rattle.hz_acceptance_model.specs.Accepting.Replay.{Pipeline, State, start, first_fit, Step, Plays, MayTake, Accepted, FirstRefused, chosen}
+use Rattle.hz_acceptance_model.specs.Accepting.Asking.{IsHeld}
 use Rattle.hz_acceptance_model.specs.Accepting.Restricted.{restricted}
 use Rattle.hz_description_model.proofs.Reservations.ListInLaws.{Contains-list_in, Contains-from_list_in}
+use Rattle.hz_acceptance_model.proofs.Accepting.AskLaws.{held_by_run}
 use Rattle.hz_acceptance_model.proofs.Accepting.PlayLaws.{accepts_decides}
 use Rattle.hz_acceptance_model.proofs.Accepting.ReplayLaws.{runs_from_accepted, accepted_from_runs}
 use Rattle.hz_acceptance_model.specs.Pipelines.Factored.{IsUnion, state_in}
@@ -60,11 +62,11 @@ module _ (count : ℕ) (some : 0 < count) (xs : List Alt) (low : (x : Alt) → C
 -- ---- runs
 
 -- what stands reserved in the automaton
-record Follows (a : ℕ) (s : State UnitPlace) (r : State ℕ) : Type 0 where
-  now : r.now ≡ s.now
-  seen : IsSeen a s.reserved r.reserved
+pub record Follows (a : ℕ) (s : State UnitPlace) (r : State ℕ) : Type 0 where
+  pub now : r.now ≡ s.now
+  pub seen : IsSeen a s.reserved r.reserved
 
-follows_start : (a : ℕ) → Follows a start start
+pub follows_start : (a : ℕ) → Follows a start start
 follows_start a = record { now = refl; seen = seen_nil a }
 
 follows_advance : (a n : ℕ) (s : State UnitPlace) (r : State ℕ) → Follows a s r → Follows a (record { reserved = s.reserved; now = n + s.now }) (record { reserved = r.reserved; now = n + r.now })
@@ -101,6 +103,7 @@ module _ (count : ℕ) (m : Pipeline UnitPlace) (joint : IsJoint count m) where
       refl,
       subst (λ (q : State UnitPlace). Follows a q (record { reserved = r.reserved; now = n + r.now })) (sym step) (follows_advance a n s r f),
     )
+    step_in (ask b u) s s' r f step = (r, refl, subst (λ (q : State UnitPlace). Follows a q r) (sym step) f)
     step_in (issue k) s s' r f (i, may, step) =
         let part = taken_part count m joint s k i may a lt in
         let next : State ℕ = record { reserved = r.reserved ++ placed r.now (chosen (restricted a m) k part.0); now = r.now } in (
@@ -109,12 +112,12 @@ module _ (count : ℕ) (m : Pipeline UnitPlace) (joint : IsJoint count m) where
           subst (λ (q : State UnitPlace). Follows a q next) (sym step) (follows_issue a s r (chosen m k i) (chosen (restricted a m) k part.0) f part.2),
         )
 
-    runs_in : (t : List Event) (s s' : State UnitPlace) (r : State ℕ) → Follows a s r → Plays m s t s' → (r' : State ℕ) × Plays (restricted a m) r t r'
-    runs_in [] s s' r f run = (r, refl)
+    pub runs_in : (t : List Event) (s s' : State UnitPlace) (r : State ℕ) → Follows a s r → Plays m s t s' → (r' : State ℕ) × Plays (restricted a m) r t r' × Follows a s' r'
+    runs_in [] s s' r f run = (r, refl, subst (λ (q : State UnitPlace). Follows a q r) (sym run) f)
     runs_in (e ∷ t) s s' r f (middle, step, run) =
         let one = step_in e s middle r f step in
         let rest = runs_in t middle s' one.0 one.2 run in
-        (rest.0, (one.0, one.1, rest.1))
+        (rest.0, (one.0, one.1, rest.1), rest.2)
 
   -- a run of each automaton is one of all
   abbrev Running : List Event → ℕ → State ℕ → Type 0
@@ -129,12 +132,18 @@ module _ (count : ℕ) (m : Pipeline UnitPlace) (joint : IsJoint count m) where
   advanced : (t : List Event) (n a : ℕ) (r : State ℕ) → Running (advance n ∷ t) a r → Running t a (record { reserved = r.reserved; now = n + r.now })
   advanced t n a r (r', (middle, step, run)) = (r', subst (λ (q : State ℕ). Plays (restricted a m) q t r') step run)
 
+  asked : (t : List Event) (b u a : ℕ) (r : State ℕ) → Running (ask b u ∷ t) a r → Running t a r
+  asked t b u a r (r', (middle, step, run)) = (r', subst (λ (q : State ℕ). Plays (restricted a m) q t r') step run)
+
   runs_out : (t : List Event) (s : State UnitPlace) (r : ℕ → State ℕ) → ((a : ℕ) → a < count → Follows a s (r a)) → ((a : ℕ) → a < count → Running t a (r a)) → (s' : State UnitPlace) × Plays m s t s'
   runs_out [] s r f runs = (s, refl)
   runs_out (advance n ∷ t) s r f runs =
       let rest = runs_out t (record { reserved = s.reserved; now = n + s.now }) (λ a. record { reserved = (r a).reserved; now = n + (r a).now })
       (λ a lt. follows_advance a n s (r a) (f a lt)) (λ a lt. advanced t n a (r a) (runs a lt)) in
       (rest.0, (record { reserved = s.reserved; now = n + s.now }, refl, rest.1))
+  runs_out (ask b u ∷ t) s r f runs =
+      let rest = runs_out t s r f (λ a lt. asked t b u a (r a) (runs a lt)) in
+      (rest.0, (s, refl, rest.1))
   runs_out (issue k ∷ t) s r f runs =
       let choices = settle (λ a j. Issued t k (r a) a j) count 0 (λ a lt. issued t k a (r a) (runs a lt)) in
       let may = λ (a : ℕ) (lt : a < count). ((choices a).1 lt).0 in
@@ -153,10 +162,25 @@ module _ (count : ℕ) (m : Pipeline UnitPlace) (joint : IsJoint count m) where
   pub each_accepts : (t : List Event) → Accepted m t → EachAccepts t
   each_accepts t accepted a lt =
       let run = runs_from_accepted m t accepted in
-      accepted_from_runs (restricted a m) t (runs_in a lt t start run.0 start (follows_start a) run.1)
+      accepted_from_runs (restricted a m) t (let alone = runs_in a lt t start run.0 start (follows_start a) run.1 in (alone.0, alone.1))
 
   pub all_accept : (t : List Event) → EachAccepts t → Accepted m t
   all_accept t each = accepted_from_runs m t (runs_out t start (λ a. start) (λ a lt. follows_start a) (λ a lt. runs_from_accepted (restricted a m) t (each a lt)))
+
+  -- ---- what is held
+
+  -- in the first treatment a unit is held in all together where it is held in its automaton
+  pub held_in_one : (a : ℕ) → a < count → m.treatment ≡ first_fit → (t : List Event) → Accepted m t → (u : ℕ) → IsHeld m t (record { automaton = a; unit = u }) ↔ IsHeld (restricted a m) t u
+  held_in_one a lt first t accepted u =
+      let run = runs_from_accepted m t accepted in
+      let alone = runs_in a lt t start run.0 start (follows_start a) run.1 in
+      let all = held_by_run m first t run.0 run.1 (record { automaton = a; unit = u }) in
+      let one = held_by_run (restricted a m) first t alone.0 alone.1 u in
+      let same : (alone.0).now ≡ (run.0).now = (alone.2).now in
+      let seen = (alone.2).seen.same (record { unit = u; cycle = (run.0).now }) in (
+        λ h. one.1 (rw same (seen.1 (all.0 h))),
+        λ h. all.1 (seen.0 (rw same at (one.0 h))),
+      )
 
   -- each automaton accepts, or one does not
   some_refuses : (t : List Event) (n : ℕ) → ((a : ℕ) → a < n → Accepted (restricted a m) t) ⊎ ((a : ℕ) × (a < n) × (Accepted (restricted a m) t → ⊥))

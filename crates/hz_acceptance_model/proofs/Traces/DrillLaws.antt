@@ -5,7 +5,7 @@ use Rattle.std.proofs.lemmas.Bool.{eqb-false}
 use Rattle.std.proofs.lemmas.List.{append-nil}
 use Rattle.std.proofs.lemmas.List.Elements.{All-nil, All-cons, All-push}
 use Rattle.hz_acceptance_model.specs.Accepting.Events.{Event, issue, advance, issues_of, cycles_of, IsOfClass}
-use Rattle.hz_acceptance_model.specs.Traces.Drills.{next_number, number_after, upper_from, draw, IsTurn, Draws, Drawn}
+use Rattle.hz_acceptance_model.specs.Traces.Drills.{next_number, number_after, upper_from, draw, IsTurn, IsOfTurn, Draws, Drawn}
 
 -- ---- one turn
 
@@ -78,6 +78,16 @@ draws_of_class accepts classes before number zero t h = subst (All (IsOfClass cl
 draws_of_class accepts classes before number (suc turns) [] h = absurd h
 draws_of_class accepts classes before number (suc turns) (e ∷ t) (first, h) =
     All-cons (IsOfClass classes) e t (of_class classes e (turn_one accepts classes (next_number number) before e first)) (draws_of_class accepts classes (before ++ e ∷ []) (next_number number) turns t h)
+
+of_turn : (classes : ℕ) (e : Event) → IsOne classes e → IsOfTurn classes e
+of_turn classes _ (issued low) = low
+of_turn classes _ advanced = refl
+
+pub draws_of_turn : (accepts : List Event → Type 0) (classes : ℕ) (before : List Event) (number turns : ℕ) (t : List Event) → Draws accepts classes before number turns t → All (IsOfTurn classes) t
+draws_of_turn accepts classes before number zero t h = subst (All (IsOfTurn classes)) (sym h) (All-nil (IsOfTurn classes))
+draws_of_turn accepts classes before number (suc turns) [] h = absurd h
+draws_of_turn accepts classes before number (suc turns) (e ∷ t) (first, h) =
+    All-cons (IsOfTurn classes) e t (of_turn classes e (turn_one accepts classes (next_number number) before e first)) (draws_of_turn accepts classes (before ++ e ∷ []) (next_number number) turns t h)
 
 pub draws_each : (accepts : List Event → Type 0) (classes : ℕ) (before : List Event) (number turns : ℕ) (t : List Event) → Draws accepts classes before number turns t → length t ≡ turns
 draws_each accepts classes before number zero t h = ap length h

@@ -3,7 +3,7 @@ use Rattle.std.proofs.Common.{◌≡◌, ℕ, suc, ◌+◌, ◌≤◌, ◌⊎◌
 use Rattle.std.proofs.lemmas.Bool.{le-ltb, lt-ltb, cases_lt}
 use Rattle.hz_acceptance_model.specs.Traces.TraceLimits.{advance_limit}
 use Rattle.hz_base_model.specs.Lines.{lines_of}
-use Rattle.hz_acceptance_model.specs.Accepting.Events.{Event, issue, advance, cycles_of}
+use Rattle.hz_acceptance_model.specs.Accepting.Events.{Event, issue, advance, ask, cycles_of}
 use Rattle.hz_acceptance_model.specs.Traces.Traces.{TraceFault, too_many_advances, Line, skipped, says, wrong, line_says, Say, Trace, WrongAfter, TraceFaultAt, event_lines}
 
 -- the events of lines, or what is wrong with one of this number
@@ -19,6 +19,7 @@ abbrev judged_line : Line → ℕ → ℕ → (ℕ → Judged) → Judged
 judged_line skipped advanced number rest = rest advanced
 judged_line (says (issue k)) advanced number rest = onto (issue k) (rest advanced)
 judged_line (says (advance n)) advanced number rest = cond (nat_lt advance_limit (advanced + n)) (bad too_many_advances number) (onto (advance n) (rest (advanced + n)))
+judged_line (says (ask a u)) advanced number rest = onto (ask a u) (rest advanced)
 judged_line (wrong fault) advanced number rest = bad fault number
 
 module _ (classes : List (List ℕ)) where
@@ -30,6 +31,7 @@ module _ (classes : List (List ℕ)) where
   judged_good advanced number Say.nothing short = refl
   judged_good advanced number (Say.skips is rest) short = rw is (judged_good advanced (number + 1) rest short)
   judged_good advanced number (Say.tells {event = issue k} is rest) short = rw is (ap (onto (issue k)) (judged_good advanced (number + 1) rest short))
+  judged_good advanced number (Say.tells {event = ask a u} is rest) short = rw is (ap (onto (ask a u)) (judged_good advanced (number + 1) rest short))
   judged_good advanced number (Say.tells {event = advance n} {events = events} is rest) short =
       let low : nat_lt advance_limit (advanced + n) ≡ false = le-ltb advance_limit (advanced + n) (omega arith) in
       rw (is, low) (ap (onto (advance n)) (judged_good (advanced + n) (number + 1) rest (omega arith)))
@@ -46,6 +48,9 @@ module _ (classes : List (List ℕ)) where
   judged_bad advanced number line after fault (Say.tells {lines = lines} {event = issue k} here rest) short is =
       let count : number + 1 + length lines ≡ number + suc (length lines) = omega arith in
       rw here (ap (onto (issue k)) (judged_bad advanced (number + 1) line after fault rest short is) ∙ ap (bad fault) count)
+  judged_bad advanced number line after fault (Say.tells {lines = lines} {event = ask a u} here rest) short is =
+      let count : number + 1 + length lines ≡ number + suc (length lines) = omega arith in
+      rw here (ap (onto (ask a u)) (judged_bad advanced (number + 1) line after fault rest short is) ∙ ap (bad fault) count)
   judged_bad advanced number line after fault (Say.tells {lines = lines} {event = advance n} {events = events} here rest) short is =
       let count : number + 1 + length lines ≡ number + suc (length lines) = omega arith in
       let low : nat_lt advance_limit (advanced + n) ≡ false = le-ltb advance_limit (advanced + n) (omega arith) in
@@ -112,6 +117,7 @@ module _ (classes : List (List ℕ)) where
       by_line : (l : Line) → line_says classes line ≡ l → ((a : ℕ) → a ≤ advance_limit → Settled a lines) → Settled advanced (line ∷ lines)
       by_line skipped e rest = behind advanced 0 line lines [] (λ es. omega arith) (λ ls es say. Say.skips e say) (rest (advanced + 0) (omega arith))
       by_line (says (issue k)) e rest = behind advanced 0 line lines (issue k ∷ []) (λ es. omega arith) (λ ls es say. Say.tells e say) (rest (advanced + 0) (omega arith))
+      by_line (says (ask a u)) e rest = behind advanced 0 line lines (ask a u ∷ []) (λ es. omega arith) (λ ls es say. Say.tells e say) (rest (advanced + 0) (omega arith))
       by_line (says (advance n)) e rest = ⊎_elim
           (λ far. broken_here advanced line lines too_many_advances room (WrongAfter.advances e far))
           (λ near. behind advanced n line lines (advance n ∷ []) (λ es. refl) (λ ls es say. Say.tells e say) (rest (advanced + n) near))

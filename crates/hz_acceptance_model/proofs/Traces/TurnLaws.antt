@@ -3,8 +3,9 @@ use Rattle.std.proofs.Common.{◌≡◌, ◌⊎◌, ⊎_elim, inl, inr, ℕ, zer
 use Rattle.std.specs.Prelude.{◌==◌, ◌≢◌, ◌^◌, ◌↔◌}
 use Rattle.std.proofs.lemmas.Bool.{eqb-true, eqb-false}
 use Rattle.std.proofs.lemmas.List.{append-nil}
-use Rattle.hz_acceptance_model.specs.Accepting.Events.{Event, issue, advance}
+use Rattle.hz_acceptance_model.specs.Accepting.Events.{Event, issue, advance, ask}
 use Rattle.hz_acceptance_model.specs.Traces.Drills.{next_number, number_after, upper_from, draw, IsTurn, IsDrawnAt, IsAsDrawn, Draws, Drawn}
+use Rattle.hz_acceptance_model.proofs.Accepting.ReplayLaws.{ask_no_issue, ask_no_advance}
 use Rattle.hz_acceptance_model.proofs.Traces.DrillLaws.{draws_each}
 
 -- what is drawn of a number
@@ -94,6 +95,9 @@ as_turn accepts classes number before (advance n) a = by_draw (draw classes (num
     by_draw : (o : Option ℕ) → draw classes (number_after number (length before + 1)) ≡ o → IsTurn accepts before o (advance n)
     by_draw None e = (a.waited).1 none_fits
     by_draw (Some k) e = inr (none_fits k (drawn_is classes (number_after number (length before + 1)) k e), (a.waited).1 none_fits)
+as_turn accepts classes number before (ask b u) a =
+    let waits : ask b u ≡ advance 1 = (a.waited).1 (λ class drawn fits. let issues : ask b u ≡ issue class = (a.issued class).1 (drawn, fits) in ask_no_issue class b u issues) in
+    absurd (ask_no_advance 1 b u waits)
 
 draws_from : (accepts : List Event → Type 0) (classes : ℕ) (done : List Event) (number : ℕ) (t : List Event)
     → ((before after : List Event) (e : Event) → t ≡ before ++ e ∷ after → IsTurn accepts (done ++ before) (draw classes (number_after number (suc (length before)))) e) → Draws accepts classes done number (length t) t

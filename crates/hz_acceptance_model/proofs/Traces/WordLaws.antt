@@ -12,8 +12,9 @@ use Rattle.std.proofs.lemmas.List.Folds.{list_all-append}
 use Rattle.std.proofs.lemmas.Slice.Eq.{bytes_eq-Decides}
 use Rattle.hz_base_model.specs.Names.{is_name, is_name_byte, is_separator}
 use Rattle.hz_base_model.specs.Lines.{number_of, number_from, place_of}
-use Rattle.hz_acceptance_model.specs.Accepting.Events.{issue, advance}
-use Rattle.hz_acceptance_model.specs.Traces.Traces.{Line, skipped, says, wrong, bad_line, unknown_class, is_margin, is_gap, without_margin, first_word, operand, says_issue, says_advance, says_words, says_content, line_says}
+use Rattle.hz_acceptance_model.specs.Accepting.Events.{Event, issue, advance, ask}
+use Rattle.hz_acceptance_model.specs.Accepting.Asking.{without_asks}
+use Rattle.hz_acceptance_model.specs.Traces.Traces.{Line, skipped, says, wrong, bad_line, unknown_class, is_margin, is_gap, without_margin, first_word, operand, says_issue, says_advance, says_words, says_content, line_says, Say}
 use Rattle.hz_acceptance_model.specs.Traces.TraceLines.{IsWords, IsSkipped, is_blank, is_comment}
 
 -- ---- a front of bytes that pass a test
@@ -408,3 +409,28 @@ module _ (classes : List (List ℕ)) where
       comes : (line : List ℕ) → IsSkipped line → line_says classes line ≡ skipped
       comes line (is_blank _ all) = ap (says_content classes) (blank_is line all)
       comes _ (is_comment left rest all) = ap (says_content classes) (marked_line left rest all) ∙ marked_content rest
+
+  -- no line says an ask
+  abbrev AsksNothing : Line → Type 0
+  AsksNothing skipped = Unit {0}
+  AsksNothing (says (issue k)) = Unit {0}
+  AsksNothing (says (advance n)) = Unit {0}
+  AsksNothing (says (ask a u)) = ⊥
+  AsksNothing (wrong fault) = Unit {0}
+
+  asks_nothing : (line : List ℕ) (l : Line) → LineIs line l → AsksNothing l
+  asks_nothing line _ (an_empty is) = tt
+  asks_nothing line _ (an_issue name class words is place) = tt
+  asks_nothing line _ (an_advance digits cycles words is) = tt
+  asks_nothing line _ (an_unknown name words is place) = tt
+  asks_nothing line _ a_bad = tt
+
+  pub no_ask_line : (line : List ℕ) (automaton query : ℕ) → line_says classes line ≡ says (ask automaton query) → ⊥
+  no_ask_line line automaton query e = subst AsksNothing e (asks_nothing line (line_says classes line) (line_view line))
+
+  pub say_without_asks : {lines : List (List ℕ)} {events : List Event} → Say classes lines events → without_asks events ≡ events
+  say_without_asks Say.nothing = refl
+  say_without_asks (Say.skips is rest) = say_without_asks rest
+  say_without_asks (Say.tells {event = issue k} is rest) = ap (λ (es : List Event). issue k ∷ es) (say_without_asks rest)
+  say_without_asks (Say.tells {event = advance n} is rest) = ap (λ (es : List Event). advance n ∷ es) (say_without_asks rest)
+  say_without_asks (Say.tells {line = line} {event = ask a u} is rest) = absurd (no_ask_line line a u is)

@@ -56,6 +56,10 @@ div = 2
 abbrev pub float : ℕ
 float = 3
 
+-- and its unit `div`
+abbrev pub divider : ℕ
+divider = 5
+
 -- the units `a` and `b`, and the classes 0 `x` of `a|b` and 1 `y` of `a`
 abbrev pub choice_units : List (List ℕ)
 choice_units = codes "a" ∷ codes "b" ∷ []

@@ -6,7 +6,7 @@ use Rattle.std.specs.List.{list_any, list_all, flat_map}
 use Rattle.hz_base_model.specs.Pairs.{Pair, placed}
 use Rattle.hz_description_model.specs.Reservations.Sets.{SetKind, exclusion, presence, final_presence, absence, final_absence, Statement}
 use Rattle.hz_acceptance_model.specs.Accepting.Replay.{Treatment, first_fit, any_fit, Pipeline, State, start, alternatives_at}
-use Rattle.hz_acceptance_model.specs.Accepting.Events.{Event, issue, advance}
+use Rattle.hz_acceptance_model.specs.Accepting.Events.{Event, issue, advance, ask}
 
 -- the test answers whether two units are the same
 abbrev pub Tells : {U : Type 0} → (U → U → Bool) → Type 0
@@ -49,6 +49,7 @@ taken any_fit fit (a ∷ others) = if fit a then a ∷ taken any_fit fit others 
 -- the states after one event
 abbrev pub next : {U : Type 0} → (U → U → Bool) → Pipeline U → State U → Event → List (State U)
 next same m s (advance n) = record { reserved = s.reserved; now = n + s.now } ∷ []
+next same m s (ask a u) = s ∷ []
 next same m s (issue k) =
     map (λ a. record { reserved = s.reserved ++ placed s.now a.pairs; now = s.now })
     (taken m.treatment (λ a. fits_added same m.statements s.reserved (placed s.now a.pairs)) (alternatives_at m k))

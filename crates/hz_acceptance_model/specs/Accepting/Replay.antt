@@ -3,7 +3,7 @@ use Rattle.std.specs.Prelude.{◌≡◌, ℕ, ◌+◌, ◌<◌, List, [], ◌∷
 use Rattle.hz_base_model.specs.Pairs.{Pair, SamePairs, placed}
 use Rattle.hz_description_model.specs.Reservations.Alternatives.{Alternative}
 use Rattle.hz_description_model.specs.Reservations.Sets.{Statement, Fits}
-use Rattle.hz_acceptance_model.specs.Accepting.Events.{Event, issue, advance, issues_of, cycles_of}
+use Rattle.hz_acceptance_model.specs.Accepting.Events.{Event, issue, advance, ask, issues_of, cycles_of}
 
 -- How an issue takes an alternative: the first that fits, or under `ndfa` any that fits.
 pub data Treatment : Type 0 where
@@ -69,6 +69,7 @@ pub record MayTake {U : Type 0} (m : Pipeline U) (s : State U) (k i : ℕ) : Typ
 abbrev pub calendar : {U : Type 0} → Pipeline U → ℕ → List Event → List ℕ → List (Pair U)
 calendar m now [] choices = []
 calendar m now (advance n ∷ t) choices = calendar m (n + now) t choices
+calendar m now (ask a u ∷ t) choices = calendar m now t choices
 calendar m now (issue k ∷ t) [] = []
 calendar m now (issue k ∷ t) (i ∷ choices) = placed now (chosen m k i) ++ calendar m now t choices
 
@@ -99,6 +100,7 @@ pub record FirstRefused {U : Type 0} (m : Pipeline U) (t : List Event) (i : ℕ)
 -- One event from one state to the next.
 abbrev pub Step : {U : Type 0} → Pipeline U → State U → Event → State U → Type 0
 Step m old (advance n) new = new ≡ record { reserved = old.reserved; now = n + old.now }
+Step m old (ask a u) new = new ≡ old
 Step m old (issue k) new = (i : ℕ) × MayTake m old k i × (new ≡ record { reserved = old.reserved ++ placed old.now (chosen m k i); now = old.now })
 
 -- events from one state to another

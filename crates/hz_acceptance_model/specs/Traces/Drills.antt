@@ -1,6 +1,6 @@
 -- The trace that `drill` draws: this profile, docs/RULES.md, 'Drills'.
 use Rattle.std.specs.Prelude.{◌≡◌, ◌↔◌, ◌⊎◌, ℕ, zero, suc, ◌+◌, ◌*◌, ◌/◌, ◌%◌, ◌^◌, ◌<◌, ◌==◌, List, [], ◌∷◌, ◌++◌, length, Option, Some, None, if◌then◌else◌}
-use Rattle.hz_acceptance_model.specs.Accepting.Events.{Event, issue, advance}
+use Rattle.hz_acceptance_model.specs.Accepting.Events.{Event, issue, advance, ask}
 
 -- The numbers are those of a linear congruential generator, below 2^31.
 abbrev pub multiplier : ℕ
@@ -35,6 +35,12 @@ abbrev pub IsTurn : (accepts : List Event → Type 0) → (before : List Event) 
 IsTurn accepts before None e = e ≡ advance 1
 IsTurn accepts before (Some class) e =
     (accepts (before ++ issue class ∷ []) × (e ≡ issue class)) ⊎ ((accepts (before ++ issue class ∷ []) → ⊥) × (e ≡ advance 1))
+
+-- An event that a turn can have: an issue of one of the classes, or the advance of one cycle.
+abbrev pub IsOfTurn : (classes : ℕ) → Event → Type 0
+IsOfTurn classes (issue k) = k < classes
+IsOfTurn classes (advance n) = n ≡ 1
+IsOfTurn classes (ask a u) = ⊥
 
 -- the events of so many turns behind those before them, from a number on
 abbrev pub Draws : (accepts : List Event → Type 0) → (classes : ℕ) → (before : List Event) → (number turns : ℕ) → List Event → Type 0

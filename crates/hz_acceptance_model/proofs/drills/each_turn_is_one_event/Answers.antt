@@ -1,5 +1,5 @@
 use Rattle.std.proofs.Common.{[]}
-use Rattle.hz_acceptance_model.proofs.Traces.DrillLaws.{draws_each, draws_counts, draws_of_class}
+use Rattle.hz_acceptance_model.proofs.Traces.DrillLaws.{draws_each, draws_counts, draws_of_class, draws_of_turn}
 use Rattle.hz_acceptance_model.proofs.drills.each_turn_is_one_event.Goals as goal
 
 pub returns-clause-events : goal.returns-clause-events
@@ -7,6 +7,9 @@ returns-clause-events g c = λ classes number turns t is. draws_each g.A.Accepta
 
 pub returns-clause-counts : goal.returns-clause-counts
 returns-clause-counts g c = λ classes number turns t is. draws_counts g.A.Acceptance.accepts classes [] number turns t is
+
+pub returns-clause-kinds : goal.returns-clause-kinds
+returns-clause-kinds g c = λ classes number turns t is. draws_of_turn g.A.Acceptance.accepts classes [] number turns t is
 
 pub returns-clause-classes : goal.returns-clause-classes
 returns-clause-classes g c = λ classes number turns t is. draws_of_class g.A.Acceptance.accepts classes [] number turns t is

@@ -1,4 +1,4 @@
-use Rattle.hz_acceptance_model.proofs.Traces.WordLaws.{issue_line, advance_line, skipped_line, unknown_line}
+use Rattle.hz_acceptance_model.proofs.Traces.WordLaws.{issue_line, advance_line, skipped_line, unknown_line, no_ask_line}
 use Rattle.hz_acceptance_model.proofs.trace_laws.lines_of_traces.Goals as goal
 
 pub returns-clause-issue : goal.returns-clause-issue
@@ -12,3 +12,6 @@ returns-clause-skipped c = skipped_line
 
 pub returns-clause-unknown : goal.returns-clause-unknown
 returns-clause-unknown c = unknown_line
+
+pub returns-clause-ask : goal.returns-clause-ask
+returns-clause-ask c = no_ask_line
