@@ -6,11 +6,12 @@ use Rattle.std.proofs.lemmas.Option.{slice_get-map}
 use Rattle.std.proofs.lemmas.List.{length-map, map-append}
 use Rattle.hz_base_model.specs.Pairs.{Pair, placed}
 use Rattle.hz_description_model.specs.Reservations.Alternatives.{Alternative}
-use Rattle.hz_description_model.specs.Reservations.Sets.{Fits}
-use Rattle.hz_acceptance_model.specs.Accepting.Events.{Event, issue, advance, issues_of, cycles_of}
-use Rattle.hz_acceptance_model.specs.Accepting.Replay.{Class, Pipeline, State, FitsAt, MayTake, IsChoice, Accepted, FirstRefused, alternatives_at, of_class, chosen, pairs_at, calendar, left_by}
-use Rattle.hz_align_model.specs.Moving.{moved_pair, moved_pairs, moved_alternative, moved_class, moved, IsLate, MayMove}
-use Rattle.hz_align_model.proofs.FitLaws.{late_nil, late_append, late_placed, moved_placed, fits_moved}
+use Rattle.hz_description_model.specs.Reservations.Sets.{Holds, Fits}
+use Rattle.hz_acceptance_model.specs.Accepting.Events.{Event, issue, advance, ask, issues_of, cycles_of}
+use Rattle.hz_acceptance_model.specs.Accepting.Replay.{first_fit, ChoiceFirst, Class, Pipeline, State, FitsAt, MayTake, IsChoice, Accepted, FirstRefused, alternatives_at, of_class, chosen, pairs_at, calendar, left_by}
+use Rattle.hz_acceptance_model.specs.Accepting.Asking.{IsHeld}
+use Rattle.hz_align_model.specs.Moving.{IsHeldLater, moved_pair, moved_pairs, moved_alternative, moved_class, moved, IsLate, MayMove}
+use Rattle.hz_align_model.proofs.FitLaws.{holds_moved, late_nil, late_append, late_placed, moved_placed, fits_moved}
 
 module _ {U : Type 0} (earlier : U → ℕ) (m : Pipeline U) where
   abbrev o : Pipeline U
@@ -39,6 +40,7 @@ module _ {U : Type 0} (earlier : U → ℕ) (m : Pipeline U) where
     calendar_late : (now : ℕ) (t : List Event) (choices : List ℕ) → IsLate earlier (calendar m now t choices)
     calendar_late now [] choices = late_nil earlier
     calendar_late now (advance n ∷ t) choices = calendar_late (n + now) t choices
+    calendar_late now (ask a u ∷ t) choices = calendar_late now t choices
     calendar_late now (issue k ∷ t) [] = late_nil earlier
     calendar_late now (issue k ∷ t) (i ∷ choices) = late_append earlier (placed now (chosen m k i)) (calendar m now t choices)
         (late_placed earlier now (chosen m k i) (may.late k i)) (calendar_late now t choices)
@@ -47,6 +49,7 @@ module _ {U : Type 0} (earlier : U → ℕ) (m : Pipeline U) where
     pub calendar_moved : (now : ℕ) (t : List Event) (choices : List ℕ) → calendar o now t choices ≡ moved_pairs earlier (calendar m now t choices)
     calendar_moved now [] choices = refl
     calendar_moved now (advance n ∷ t) choices = calendar_moved (n + now) t choices
+    calendar_moved now (ask a u ∷ t) choices = calendar_moved now t choices
     calendar_moved now (issue k ∷ t) [] = refl
     calendar_moved now (issue k ∷ t) (i ∷ choices) =
         let here : placed now (chosen o k i) ≡ moved_pairs earlier (placed now (chosen m k i)) = ap (placed now) (chosen_moved k i) ∙ moved_placed earlier now (chosen m k i) (may.late k i) in
@@ -104,3 +107,34 @@ module _ {U : Type 0} (earlier : U → ℕ) (m : Pipeline U) where
       λ h. record { within = h.within; before = (accepted_moved (take i t)).0 h.before; refused = λ k. h.refused ((accepted_moved (take (i + 1) t)).1 k) },
       λ h. record { within = h.within; before = (accepted_moved (take i t)).1 h.before; refused = λ k. h.refused ((accepted_moved (take (i + 1) t)).0 k) },
     )
+
+-- the pipeline in the first treatment may be moved as well
+first_may : {U : Type 0} (earlier : U → ℕ) (m : Pipeline U) → MayMove earlier m → MayMove earlier (record m { treatment = first_fit })
+first_may earlier m may = record { late = may.late; tied = may.tied }
+
+module _ {U : Type 0} (earlier : U → ℕ) (m : Pipeline U) (may : MayMove earlier m) where
+  -- a unit is held in the moved pipeline where it is reserved so many cycles later
+  pub held_moved : (t : List Event) (unit : U) → IsHeldLater m t unit (earlier unit) ↔ IsHeld (moved earlier m) t unit
+  held_moved t unit = (there, back)
+    where
+      same : (choices : List ℕ) → ChoiceFirst m t choices ↔ ChoiceFirst (moved earlier m) t choices
+      same choices = choices_moved earlier (record m { treatment = first_fit }) (first_may earlier m may) t choices
+
+      pairs : (choices : List ℕ) → Holds (calendar (moved earlier m) 0 t choices) (cycles_of t) unit ↔ Holds (calendar m 0 t choices) (earlier unit + cycles_of t) unit
+      pairs choices = rw (calendar_moved earlier m may 0 t choices) (holds_moved earlier (calendar m 0 t choices) (calendar_late earlier m may 0 t choices) (cycles_of t) unit)
+
+      there : IsHeldLater m t unit (earlier unit) → IsHeld (moved earlier m) t unit
+      there h = (h.0, (same h.0).0 h.1, (pairs h.0).1 h.2)
+
+      back : IsHeld (moved earlier m) t unit → IsHeldLater m t unit (earlier unit)
+      back h = (h.0, (same h.0).1 h.1, (pairs h.0).0 h.2)
+
+  -- a unit that stays is held as before
+  pub held_stays : (t : List Event) (unit : U) → earlier unit ≡ 0 → IsHeld m t unit ↔ IsHeld (moved earlier m) t unit
+  held_stays t unit stays =
+      let now : earlier unit + cycles_of t ≡ cycles_of t = omega (arith, stays) in (
+        λ h. (held_moved t unit).0 (h.0, h.1, subst (λ (c : ℕ). Holds (calendar m 0 t h.0) c unit) (sym now) h.2),
+        λ h.
+            let later = (held_moved t unit).1 h in
+            (later.0, later.1, subst (λ (c : ℕ). Holds (calendar m 0 t later.0) c unit) now later.2),
+      )

@@ -1,11 +1,12 @@
 -- Pipelines of which each unit is taken earlier by a number of its own, as `tools/extract.py --align` writes them. This profile,
--- docs/GCC.md. Law: `moved_pipelines_accept_the_same`.
-use Rattle.std.specs.Prelude.{◌≡◌, ℕ, ◌-◌, ◌≤◌, List, map}
+-- docs/GCC.md. Laws: `moved_pipelines_accept_the_same`, `units_that_stay_are_held_as_before`.
+use Rattle.std.specs.Prelude.{◌≡◌, ℕ, ◌+◌, ◌-◌, ◌≤◌, List, map}
 use Rattle.std.specs.List.{Contains}
 use Rattle.hz_base_model.specs.Pairs.{Pair}
 use Rattle.hz_description_model.specs.Reservations.Alternatives.{Alternative}
 use Rattle.hz_description_model.specs.Reservations.Sets.{Statement}
-use Rattle.hz_acceptance_model.specs.Accepting.Replay.{Class, Pipeline, chosen}
+use Rattle.hz_acceptance_model.specs.Accepting.Events.{Event, cycles_of}
+use Rattle.hz_acceptance_model.specs.Accepting.Replay.{Class, Pipeline, ChoiceFirst, chosen, calendar}
 
 -- the pair, by so many cycles earlier as are said of its unit
 abbrev pub moved_pair : {U : Type 0} → (earlier : U → ℕ) → Pair U → Pair U
@@ -39,3 +40,7 @@ pub record IsTied {U : Type 0} (earlier : U → ℕ) (s : Statement U) : Type 0 
 pub record MayMove {U : Type 0} (earlier : U → ℕ) (m : Pipeline U) : Type 0 where
   pub late : (k i : ℕ) → IsLate earlier (chosen m k i)
   pub tied : (s : Statement U) → Contains m.statements s → IsTied earlier s
+
+-- The unit is reserved so many cycles after the present one, after these events: `IsHeld` looks at the present cycle.
+abbrev pub IsHeldLater : {U : Type 0} → Pipeline U → List Event → U → (cycles : ℕ) → Type 0
+IsHeldLater m t unit cycles = (choices : List ℕ) × ChoiceFirst m t choices × Contains (calendar m 0 t choices) (record { unit = unit; cycle = cycles + cycles_of t })
