@@ -6,7 +6,7 @@ the crate hz_align_model.
 """
 import itertools
 
-from .changes import of_kind
+from .changes import Told, of_kind
 from .expressions import Expander, Unexpanded, tree_of
 from .items import Class, Reservation, Units, UnitSet
 
@@ -32,37 +32,43 @@ class Groups:
         return [unit for unit in self.order if self.find(unit) == leader]
 
 
-def in_cycle(units):
-    """The units of one cycle, as an element that may be repeated."""
-    return "nothing" if not units else units[0] if len(units) == 1 else "(" + " + ".join(units) + ")"
+def cycle_text(units, times):
+    """The units of one cycle, or of so many cycles one after the other."""
+    text = " + ".join(units) or "nothing"
+    if times == 1:
+        return text
+    return f"({text})*{times}" if len(units) > 1 else f"{text}*{times}"
 
 
 def sequence_text(pairs, order):
-    """Pairs of a cycle and a unit as a sequence, and how many parts it has; equal cycles are a repeat."""
+    """Pairs of a cycle and a unit as a sequence; cycles that are alike are a repeat."""
     last = max((cycle for cycle, _ in pairs), default=0)
     cycles = [[] for _ in range(last + 1)]
     for cycle, unit in sorted(pairs, key=lambda pair: (pair[0], order[pair[1]])):
         cycles[cycle].append(unit)
-    parts = []
-    for units, run in itertools.groupby(cycles):
-        times = len(list(run))
-        parts.append(in_cycle(units) + (f"*{times}" if times > 1 else ""))
-    return ", ".join(parts), len(parts)
+    return ", ".join(cycle_text(units, len(list(run))) for units, run in itertools.groupby(cycles))
+
+
+def cycles_text(cycles):
+    return f"{cycles} cycle" + ("s" if cycles > 1 else "")
+
+
+def enclosed(text, marks):
+    """The text in parentheses if it has one of the marks."""
+    return f"({text})" if any(mark in text for mark in marks) else text
 
 
 def list_text(grids, order):
-    """The alternatives in one automaton, and whether they need parentheses beside others."""
+    """The alternatives in one automaton."""
     texts = [sequence_text(grid, order) for grid in grids]
-    if len(texts) == 1:
-        return texts[0][0], texts[0][1] > 1
-    return " | ".join(f"({text})" if parts > 1 else text for text, parts in texts), True
+    return texts[0] if len(texts) == 1 else " | ".join(enclosed(text, ",+") for text in texts)
 
 
 class Aligned:
     """The classes of a pipeline, with units that may be moved."""
 
-    def __init__(self, items, told):
-        self.items, self.told = items, told
+    def __init__(self, items):
+        self.items = items
         self.automaton = {name: item.automaton for item in of_kind(items, Units) for name in item.names}
         trees = {item.name: tree_of(item) for item in of_kind(items, Reservation)}
         self.expander = Expander(self.automaton, trees)
@@ -126,9 +132,7 @@ class Aligned:
         automata = list(dict.fromkeys(self.automaton[unit] for unit in self.automaton))
         used = [name for name in automata if name in self.expander.automata(alternatives)]
         lists = [list_text(self.grids(alternatives, name, moves), self.groups.order) for name in used]
-        if len(lists) == 1:
-            return lists[0][0]
-        return " + ".join(f"({text})" if several else text for text, several in lists)
+        return lists[0] if len(lists) == 1 else " + ".join(enclosed(text, ",|") for text in lists)
 
     def grids(self, alternatives, automaton, moves):
         """The list of a class in an automaton, its pairs moved, each later equal one dropped."""
@@ -137,35 +141,48 @@ class Aligned:
         return list(dict.fromkeys(cut))
 
     def write(self, fits):
-        """Moves what can be moved; the class with the longest text is left as it is until the text fits."""
+        """Moves what can be moved; the class with the longest text is left as it is until all fits. Gives what is told."""
+        notes = {id(item): item.notes for item in self.items}
         before = {id(item): item.expression for item in of_kind(self.items, Class)}
         while True:
             moves, lengths = self.moves(), {}
+            for item in self.items:
+                item.notes = list(notes[id(item)])
             for item in of_kind(self.items, Class):
-                moved = self.expression(item, moves)
-                item.expression = moved or before[id(item)]
-                lengths[id(item)] = len(moved or "")
+                item.expression = before[id(item)]
+                lengths[id(item)] = self.move(item, moves)
+            told = self.tell(moves)
             longest = max(lengths, key=lengths.get, default=None)
             if not moves or fits(self.items) or not lengths[longest]:
-                return self.tell(moves)
+                return told
             self.left[longest] = "the text would be too long"
 
+    def move(self, item, moves):
+        """Writes a class with its units moved, and gives the length of its expression; 0 if none is moved."""
+        moved = self.expression(item, moves)
+        if moved is None:
+            return 0
+        item.notes.append(f"was {item.expression}")
+        item.expression = moved
+        return len(moved)
+
     def tell(self, moves):
-        """Reports each group that is moved or stays, and each class that is left as it is."""
-        staying, earliest, seen = self.staying(), self.earliest(), set()
+        """Each group that is moved or stays, and each class that is left as it is."""
+        told, staying, earliest, seen = Told(), self.staying(), self.earliest(), set()
         for item in of_kind(self.items, Units):
             for leader in dict.fromkeys(self.groups.find(unit) for unit in item.names):
+                names = ", ".join(self.groups.members(leader))
                 if leader in seen:
                     continue
                 seen.add(leader)
-                names = ", ".join(self.groups.members(leader))
                 if leader in moves:
-                    self.told.tell(item, "align", f"{moves[leader]} earlier: {names}")
+                    told.tell(item, "align", f"{cycles_text(moves[leader])} earlier: {names}")
                 elif leader in staying and earliest.get(leader):
-                    self.told.tell(item, "unaligned", f"not moved, as {staying[leader]}: {names}")
+                    told.tell(item, "unaligned", f"not moved, as {staying[leader]}: {names}")
         for item in of_kind(self.items, Class):
             if id(item) in self.left:
-                self.told.tell(item, "unaligned", f"{item.name} is left as it is: {self.left[id(item)]}")
+                told.tell(item, "unaligned", f"{item.name} is left as it is: {self.left[id(item)]}")
+        return told
 
 
 def align_units(items, told, fits):
@@ -173,5 +190,5 @@ def align_units(items, told, fits):
 
     `fits` says whether the text of items is short enough.
     """
-    Aligned(items, told).write(fits)
+    told += Aligned(items).write(fits)
     return items
