@@ -214,7 +214,7 @@ def kind_of(answer):
     if answer.status == 0:
         return "compiled"
     if answer.status == 2:
-        return "fault " + words[2]
+        return "fault " + words[3]
     if answer.status == 3:
         return "limit " + (words[3] if words[1] == "line" else "of states")
     return answer.told

@@ -58,8 +58,11 @@ def extract(reader, files, defs=(), targets=(), merge=False, align=False):
     shared = [item for item in shared if os.path.realpath(item.place.file) not in mine]
     told = changes.Told()
     taken = changes.change_all(needed(own, shared) + own, own + shared, told)
-    if merge:
-        taken = merging.merge_automata(taken, told)
+    if merge and not align:
+        merging.merge_automata(taken, changes.of_kind(taken, items.Class), told)
+    while merge and align and merging.merge_automata(taken, aligning.stuck(taken), told):
+        pass
+    taken = merging.without_empty(taken)
     if align:
         taken = aligning.align_units(taken, told, lambda made: is_short(made, [*targets, *files]))
     return taken, told

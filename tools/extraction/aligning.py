@@ -5,6 +5,7 @@ moved to earlier cycles by one number: every trace is answered as before. The la
 the crate hz_align_model.
 """
 import itertools
+import math
 
 from .changes import Told, of_kind
 from .expressions import Expander, Unexpanded, tree_of
@@ -64,6 +65,25 @@ def list_text(grids, order):
     return texts[0] if len(texts) == 1 else " | ".join(enclosed(text, ",+") for text in texts)
 
 
+def split(alternatives, automata, automaton):
+    """The list of alternatives in each automaton, where each choice in one goes with each in the others.
+
+    An issue takes the first alternative that fits. So one with an earlier choice in some automata, and the same in the
+    others, has to stand before.
+    """
+    cut = [tuple(frozenset(pair for pair in one.pairs if automaton[pair[1]] == name) for name in automata)
+           for one in alternatives]
+    lists = [list(dict.fromkeys(grids)) for grids in zip(*cut)]
+    place = {grids: at for at, grids in reversed(list(enumerate(cut)))}
+    if len(place) < math.prod(len(grids) for grids in lists):
+        raise Unexpanded("a choice in one automaton depends on one in another")
+    for at, grids in enumerate(lists):
+        for first, second in zip(grids, grids[1:]):
+            if any(place[whole] > place[whole[:at] + (second,) + whole[at + 1:]] for whole in place if whole[at] == first):
+                raise Unexpanded("the order of choices in one automaton depends on one in another")
+    return lists
+
+
 class Aligned:
     """The classes of a pipeline, with units that may be moved."""
 
@@ -76,19 +96,19 @@ class Aligned:
         for item in of_kind(items, UnitSet):
             self.groups.tie(item.units + " ".join(item.patterns).split())
         self.trees = {id(item): tree_of(item) for item in of_kind(items, Class)}
-        self.alternatives, self.left = {}, {}
+        self.automata = list(dict.fromkeys(self.automaton.values()))
+        self.lists, self.broken, self.left = {}, {}, {}
         for item in of_kind(items, Class):
             self.expand(item)
 
     def expand(self, item):
-        """The alternatives of a class, or why it is left as it is."""
+        """The lists of a class, or why it is left as it is."""
         tree = self.trees[id(item)]
         try:
-            fault = self.expander.fault(tree)
-            if fault is None:
-                self.alternatives[id(item)] = self.expander.of(tree)
-            else:
-                self.left[id(item)] = fault
+            alternatives = self.expander.of(tree)
+            automata = [name for name in self.automata if name in self.expander.automata(alternatives)]
+            self.lists[id(item)] = split(alternatives, automata, self.automaton)
+            self.broken[id(item)] = self.expander.fault(tree) is not None
         except Unexpanded as why:
             self.left[id(item)] = str(why)
 
@@ -97,11 +117,16 @@ class Aligned:
         names = {node.name for node in self.expander.reached(self.trees[id(item)])}
         return [unit for unit in self.automaton if unit in names]
 
+    def pairs(self, item):
+        """All pairs of the alternatives of a class that is not left as it is."""
+        lists = self.lists.get(id(item), []) if id(item) not in self.left else []
+        return {pair for grids in lists for grid in grids for pair in grid}
+
     def earliest(self):
         """The earliest cycle in which a class takes a unit of each group; 0 of one that stays."""
         first = {}
         for item in of_kind(self.items, Class):
-            for cycle, unit in {pair for one in self.alternatives.get(id(item), ()) for pair in one.pairs}:
+            for cycle, unit in self.pairs(item):
                 leader = self.groups.find(unit)
                 first[leader] = min(cycle, first.get(leader, cycle))
         return first
@@ -125,20 +150,16 @@ class Aligned:
         return {leader: cycle for leader, cycle in self.earliest().items() if cycle and leader not in staying}
 
     def expression(self, item, moves):
-        """The expression of a class with its units moved; None if none of them is."""
-        alternatives = self.alternatives.get(id(item), [])
-        if not any(self.groups.find(unit) in moves for one in alternatives for _, unit in one.pairs):
+        """The expression of a class with its units moved; None if none is, and both rules hold by its own form."""
+        if id(item) in self.left:
             return None
-        automata = list(dict.fromkeys(self.automaton[unit] for unit in self.automaton))
-        used = [name for name in automata if name in self.expander.automata(alternatives)]
-        lists = [list_text(self.grids(alternatives, name, moves), self.groups.order) for name in used]
+        if not self.broken[id(item)] and not any(self.groups.find(unit) in moves for _, unit in self.pairs(item)):
+            return None
+        lists = [list_text([self.moved(grid, moves) for grid in grids], self.groups.order) for grids in self.lists[id(item)]]
         return lists[0] if len(lists) == 1 else " + ".join(enclosed(text, ",|") for text in lists)
 
-    def grids(self, alternatives, automaton, moves):
-        """The list of a class in an automaton, its pairs moved, each later equal one dropped."""
-        cut = [frozenset((cycle - moves.get(self.groups.find(unit), 0), unit) for cycle, unit in one.pairs
-                         if self.automaton[unit] == automaton) for one in alternatives]
-        return list(dict.fromkeys(cut))
+    def moved(self, grid, moves):
+        return frozenset((cycle - moves.get(self.groups.find(unit), 0), unit) for cycle, unit in grid)
 
     def write(self, fits):
         """Moves what can be moved; the class with the longest text is left as it is until all fits. Gives what is told."""
@@ -153,7 +174,7 @@ class Aligned:
                 lengths[id(item)] = self.move(item, moves)
             told = self.tell(moves)
             longest = max(lengths, key=lengths.get, default=None)
-            if not moves or fits(self.items) or not lengths[longest]:
+            if fits(self.items) or longest is None or not lengths[longest]:
                 return told
             self.left[longest] = "the text would be too long"
 
@@ -182,7 +203,15 @@ class Aligned:
         for item in of_kind(self.items, Class):
             if id(item) in self.left:
                 told.tell(item, "unaligned", f"{item.name} is left as it is: {self.left[id(item)]}")
+            elif self.broken[id(item)]:
+                told.tell(item, "align", f"{item.name} is written automaton by automaton")
         return told
+
+
+def stuck(items):
+    """The classes that can't be written automaton by automaton."""
+    aligned = Aligned(items)
+    return [item for item in of_kind(items, Class) if id(item) in aligned.left]
 
 
 def align_units(items, told, fits):

@@ -45,21 +45,20 @@ class Leading:
         return {self.automaton[name] for name in self.reached(names) if self.automaton.get(name)}
 
 
-def alternations(items, leading):
-    """Each alternation in a class, or in a reservation to which one leads: the item and the automata there."""
-    classes = of_kind(items, Class)
+def alternations(items, classes, leading):
+    """Each alternation in one of the classes, or in a reservation to which one leads: the item and the automata there."""
     used = leading.reached(name for item in classes for name in tree_of(item).names())
-    for item in of_kind(items, Reservation) + classes:
-        if isinstance(item, Class) or item.name in used:
-            for node in tree_of(item).walk():
-                if node.mark == "|":
-                    yield item, sorted(leading.automata(node.names()))
+    for item in [item for item in of_kind(items, Reservation) if item.name in used] + classes:
+        for node in tree_of(item).walk():
+            if node.mark == "|":
+                yield item, sorted(leading.automata(node.names()))
 
 
-def merge_automata(items, told):
-    """Automata that one alternation holds together become the first of them."""
+def merge_automata(items, classes, told):
+    """Automata that one alternation of the classes holds together become the first of them. Gives whether there are any."""
     joined = Joined(list(dict.fromkeys(name for item in of_kind(items, Automata) for name in item.names)))
-    for item, together in alternations(items, Leading(items)):
+    before = len(told)
+    for item, together in alternations(items, classes, Leading(items)):
         if joined.join(name for name in together if name in joined.order):
             told.tell(item, "merge", f"{item.name} chooses between units of {', '.join(together)}")
     for item in of_kind(items, Units):
@@ -67,4 +66,9 @@ def merge_automata(items, told):
             item.automaton = joined.find(item.automaton)
     for item in of_kind(items, Automata):
         item.names = [name for name in item.names if joined.find(name) == name]
+    return len(told) > before
+
+
+def without_empty(items):
+    """The items but forms of automata that name none."""
     return [item for item in items if not isinstance(item, Automata) or item.names]
