@@ -28,8 +28,8 @@ SOURCES = "/usr/src/gcc-12/gcc-12*.tar.xz"
 MEMORY = 6 << 30
 NUMBER, TURNS = 59, 2000
 
-Answer = collections.namedtuple("Answer", "status told seconds sizes text")
-Row = collections.namedtuple("Row", "name classes plain aligned agreement changes")
+Answer = collections.namedtuple("Answer", "status told seconds states grids text")
+Row = collections.namedtuple("Row", "target name classes plain aligned agreement changes")
 
 
 def spent():
@@ -57,17 +57,18 @@ def compiled(hz, items, most):
         answer.seek(0)
         text = answer.read().decode("latin-1")
         if status == 0:
-            return Answer(status, "compiled", seconds, sizes(Tables(text)), text)
-        return Answer(status, text.split("\n")[0].replace(f" {out.name}", ""), seconds, "-", text)
+            tables = Tables(text)
+            return Answer(status, "compiled", seconds, tables.states(), tables.grids(), text)
+        return Answer(status, text.split("\n")[0].replace(f" {out.name}", ""), seconds, 0, 0, text)
 
 
 def unanswered(why):
-    return Answer(None, why, 0, "-", "")
+    return Answer(None, why, 0, 0, 0, "")
 
 
-def sizes(tables):
-    """States, and grids before minimisation, of all automata."""
-    return f"{tables.states()} of {tables.grids()} grids"
+def sizes(answer):
+    """States of all automata, and grids before minimisation."""
+    return f"{answer.states} of {answer.grids} grids" if answer.status == 0 else "-"
 
 
 def unpack(source, folder):
@@ -169,17 +170,18 @@ def agreement(hz, plain, aligned, answers, most):
     return "" if answers[0].told == answers[1].told else "another answer"
 
 
-def row(hz, reader, name, most, **what):
+def row(hz, reader, target, name, most, **what):
     """One row of the table: a pipeline or a whole target, with or without --merge."""
     try:
         plain, _ = extract(reader, **what)
         aligned, told = extract(reader, align=True, **what)
     except Fault as fault:
-        return Row(name, 0, *[unanswered(f"not read: {fault}")] * 2, "", [])
+        return Row(target, name, 0, *[unanswered(f"not read: {fault}")] * 2, "", [])
     answers = [compiled(hz, with_option(items, "stats", True), most) for items in (plain, aligned)]
     same = agreement(hz, plain, aligned, answers, most)
     short = [answer._replace(text="") for answer in answers]
-    return Row(name, sum(isinstance(item, Class) for item in plain), *short, same, [change.kind for change in told])
+    classes = sum(isinstance(item, Class) for item in plain)
+    return Row(target, name, classes, *short, same, [change.kind for change in told])
 
 
 def rows(hz, config, only, most):
@@ -192,16 +194,16 @@ def rows(hz, config, only, most):
         try:
             found = pipelines(reader, main)
         except Fault as fault:
-            yield Row(target, 0, *[unanswered(f"not read: {fault}")] * 2, "", [])
+            yield Row(target, target, 0, *[unanswered(f"not read: {fault}")] * 2, "", [])
             continue
         tries = [(" ".join(files), {"files": list(files), "defs": [main]}) for files in found]
         if len(found) > 1:
             tries.append((f"all of {target}", {"files": [], "targets": [main]}))
         for name, what in tries:
-            first = row(hz, reader, name, most, **what)
+            first = row(hz, reader, target, name, most, **what)
             yield first
             if "AlternationOfTwo" in first.plain.told:
-                yield row(hz, reader, name + " --merge", most, merge=True, **what)
+                yield row(hz, reader, target, name + " --merge", most, merge=True, **what)
 
 
 def spelled(kinds):
@@ -221,8 +223,8 @@ def kind_of(answer):
 
 
 def line_of(one):
-    return " | ".join([one.name, str(one.classes), one.plain.told, f"{one.plain.seconds:.2f}", one.plain.sizes,
-                       one.aligned.told, f"{one.aligned.seconds:.2f}", one.aligned.sizes, one.agreement, spelled(one.changes)])
+    return " | ".join([one.name, str(one.classes), one.plain.told, f"{one.plain.seconds:.2f}", sizes(one.plain),
+                       one.aligned.told, f"{one.aligned.seconds:.2f}", sizes(one.aligned), one.agreement, spelled(one.changes)])
 
 
 def summary(title, found):
@@ -233,23 +235,46 @@ def summary(title, found):
         print(f"  {way}: " + ", ".join(f"{count} {kind}" for kind, count in counts.most_common()))
         for one in sorted(found, key=lambda one: -getattr(one, way).seconds)[:3]:
             answer = getattr(one, way)
-            print(f"    {answer.seconds:.2f} s {one.name}: {answer.told}, {answer.sizes}")
+            print(f"    {answer.seconds:.2f} s {one.name}: {answer.told}, {sizes(answer)}")
     print(f"  the same tables: {sum(one.agreement == 'the same tables' for one in found)}")
     print(f"  drills: {sum('accepted' in one.agreement for one in found)}")
     print(f"  changes: {spelled(kind for one in found for kind in one.changes)}")
 
 
+def better(first, second):
+    """Of a pipeline without and with --merge, what compiles aligned."""
+    return first if first.aligned.status == 0 else second
+
+
+def is_one(one):
+    """Whether a row is of one pipeline, without --merge."""
+    return not one.name.startswith("all of ") and not one.name.endswith(" --merge")
+
+
 def by_target(found):
-    """One line for each target: how many pipelines compile, and the slowest of them, aligned."""
+    """The table of docs/GCC.md: of each target how many pipelines compile, and the one with the most grids, aligned."""
     targets = collections.defaultdict(dict)
     for one in found:
-        if not one.name.startswith("all of"):
-            targets[one.name.split("/")[0]][one.name.replace(" --merge", "")] = one
-    print("\ntarget | pipelines | compiled | seconds of the slowest | its states | which")
+        if not one.name.startswith("all of "):
+            own, name = targets[one.target], one.name.replace(" --merge", "")
+            own[name] = better(own.get(name, one), one)
+    print("\n| target | pipelines | compiled | with `--align` | the largest | its grids | its states | seconds |")
+    print("|---|---|---|---|---|---|---|---|")
     for target, own in sorted(targets.items()):
-        slowest = max(own.values(), key=lambda one: one.aligned.seconds)
-        count = sum(one.aligned.status == 0 for one in own.values())
-        print(f"{target} | {len(own)} | {count} | {slowest.aligned.seconds:.2f} | {slowest.aligned.sizes} | {slowest.name}")
+        plain = sum(one.target == target and is_one(one) and one.plain.status == 0 for one in found)
+        aligned = [one for one in own.values() if one.aligned.status == 0]
+        if not aligned:
+            print(f"| `{target}` | {len(own)} | {plain} | 0 | | | | |")
+            continue
+        largest = max(aligned, key=lambda one: one.aligned.grids)
+        print(f"| `{target}` | {len(own)} | {plain} | {len(aligned)} | {short(largest.name)} | {largest.aligned.grids:,} "
+              f"| {largest.aligned.states:,} | {largest.aligned.seconds:.2f} |")
+
+
+def short(name):
+    """The first file of a pipeline, without its folder and its ending, and the option that it took."""
+    words = name.split()
+    return f"`{os.path.basename(words[0])[:-3]}`" + (" with `--merge`" if words[-1] == "--merge" else "")
 
 
 def words():

@@ -1,4 +1,4 @@
-"""Takes units earlier, so that none is reserved in cycles in which no class can ask for it.
+"""Takes units earlier, so that none is reserved in cycles in which no class can ask for it, and writes classes by automata.
 
 Units meet only in one cycle. So all reservations of a unit, with those of the units that set statements tie to it, can be
 moved to earlier cycles by one number: every trace is answered as before. The law is `moved_pipelines_accept_the_same` of
@@ -10,27 +10,7 @@ import math
 from .changes import Told, of_kind
 from .expressions import Expander, Unexpanded, tree_of
 from .items import Class, Reservation, Units, UnitSet
-
-
-class Groups:
-    """Units in groups: those that set statements tie, directly or by others."""
-
-    def __init__(self, units):
-        self.order = {unit: place for place, unit in enumerate(units)}
-        self.leader = {unit: unit for unit in units}
-
-    def find(self, unit):
-        while self.leader[unit] != unit:
-            unit = self.leader[unit]
-        return unit
-
-    def tie(self, units):
-        leaders = sorted({self.find(unit) for unit in units if unit in self.leader}, key=self.order.get)
-        for leader in leaders[1:]:
-            self.leader[leader] = leaders[0]
-
-    def members(self, leader):
-        return [unit for unit in self.order if self.find(unit) == leader]
+from .merging import Joined
 
 
 def cycle_text(units, times):
@@ -92,9 +72,9 @@ class Aligned:
         self.automaton = {name: item.automaton for item in of_kind(items, Units) for name in item.names}
         trees = {item.name: tree_of(item) for item in of_kind(items, Reservation)}
         self.expander = Expander(self.automaton, trees)
-        self.groups = Groups(self.automaton)
+        self.groups = Joined(self.automaton)
         for item in of_kind(items, UnitSet):
-            self.groups.tie(item.units + " ".join(item.patterns).split())
+            self.groups.join(unit for unit in item.units + " ".join(item.patterns).split() if unit in self.automaton)
         self.trees = {id(item): tree_of(item) for item in of_kind(items, Class)}
         self.automata = list(dict.fromkeys(self.automaton.values()))
         self.lists, self.broken, self.left = {}, {}, {}
@@ -192,7 +172,7 @@ class Aligned:
         told, staying, earliest, seen = Told(), self.staying(), self.earliest(), set()
         for item in of_kind(self.items, Units):
             for leader in dict.fromkeys(self.groups.find(unit) for unit in item.names):
-                names = ", ".join(self.groups.members(leader))
+                names = ", ".join(unit for unit in self.automaton if self.groups.find(unit) == leader)
                 if leader in seen:
                     continue
                 seen.add(leader)

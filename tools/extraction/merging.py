@@ -5,7 +5,7 @@ from .items import Automata, Class, Reservation, Units
 
 
 class Joined:
-    """Automata in groups; each group is called by its first in the order of the file."""
+    """Names in groups; each group is called by its first in the order of the file."""
 
     def __init__(self, names):
         self.order = {name: place for place, name in enumerate(names)}

@@ -5,7 +5,7 @@ ghost use Rattle.std.specs.Bool.{Decides};
 ghost use Rattle.hz_acceptance_model.specs.Accepting.Plays.{Tells, plays, accepts};
 ghost use Rattle.hz_acceptance_model.specs.Accepting.Replay.{Pipeline, SamePipeline, State, start, Plays, IsPlayable, first_fit, ChoiceFirst, IsChoice, Accepted, FirstRefused, calendar};
 ghost use Rattle.hz_acceptance_model.specs.Accepting.Events.{Event, issue, advance, issues_of, cycles_of};
-ghost use Rattle.hz_acceptance_model.specs.Accepting.Asking.{IsHeld, without_asks};
+ghost use Rattle.hz_acceptance_model.specs.Accepting.Asking.{IsHeld, issues_and_advances};
 
 /// Where a list of events is accepted, each of its prefixes is.
 pub fn prefixes_are_accepted<U>()
@@ -65,14 +65,14 @@ pub fn alternatives_are_sets<U>()
 /// Asks change nothing: without them the same choices are made, and with these as much is reserved, in as many cycles. So the
 /// same is accepted, the same states are left, the same units are held, and the same event is refused first.
 pub fn asks_change_nothing<U>()
-    ensures choices { (m : Pipeline U) (t : List Event) (choices : List ℕ) → IsChoice m t choices ↔ IsChoice m (without_asks t) choices }
-    ensures calendar { (m : Pipeline U) (now : ℕ) (t : List Event) (choices : List ℕ) → calendar m now (without_asks t) choices ≡ calendar m now t choices }
-    ensures cycles { (t : List Event) → cycles_of (without_asks t) ≡ cycles_of t }
-    ensures issues { (t : List Event) → issues_of (without_asks t) ≡ issues_of t }
-    ensures acceptance { (m : Pipeline U) (t : List Event) → Accepted m t ↔ Accepted m (without_asks t) }
-    ensures states { (m : Pipeline U) (t : List Event) (old new : State U) → Plays m old t new ↔ Plays m old (without_asks t) new }
-    ensures held { (m : Pipeline U) (t : List Event) (unit : U) → IsHeld m t unit ↔ IsHeld m (without_asks t) unit }
-    ensures refused { (m : Pipeline U) (t : List Event) (j : ℕ) → FirstRefused m (without_asks t) j ↔ ((i : ℕ) × FirstRefused m t i × (j ≡ length (without_asks (take i t)))) }
+    ensures choices { (m : Pipeline U) (t : List Event) (choices : List ℕ) → IsChoice m t choices ↔ IsChoice m (issues_and_advances t) choices }
+    ensures calendar { (m : Pipeline U) (now : ℕ) (t : List Event) (choices : List ℕ) → calendar m now (issues_and_advances t) choices ≡ calendar m now t choices }
+    ensures cycles { (t : List Event) → cycles_of (issues_and_advances t) ≡ cycles_of t }
+    ensures issues { (t : List Event) → issues_of (issues_and_advances t) ≡ issues_of t }
+    ensures acceptance { (m : Pipeline U) (t : List Event) → Accepted m t ↔ Accepted m (issues_and_advances t) }
+    ensures states { (m : Pipeline U) (t : List Event) (old new : State U) → Plays m old t new ↔ Plays m old (issues_and_advances t) new }
+    ensures held { (m : Pipeline U) (t : List Event) (unit : U) → IsHeld m t unit ↔ IsHeld m (issues_and_advances t) unit }
+    ensures refused { (m : Pipeline U) (t : List Event) (j : ℕ) → FirstRefused m (issues_and_advances t) j ↔ ((i : ℕ) × FirstRefused m t i × (j ≡ length (issues_and_advances (take i t)))) }
 {}
 
 /// A unit is held after events exactly where what their one choice reserves, or what a run of them leaves, has it in the present

@@ -5,7 +5,7 @@ ghost use Rattle.std.specs.List.{AllPairs};
 ghost use Rattle.hz_base_model.specs.Names.{is_name};
 ghost use Rattle.hz_base_model.specs.Lines.{lines_of, number_of, place_of};
 ghost use Rattle.hz_acceptance_model.specs.Accepting.Events.{Event, issue, advance, ask};
-ghost use Rattle.hz_acceptance_model.specs.Accepting.Asking.{without_asks};
+ghost use Rattle.hz_acceptance_model.specs.Accepting.Asking.{issues_and_advances};
 ghost use Rattle.hz_acceptance_model.specs.Traces.Traces.{line_says, skipped, says, wrong, bad_line, unknown_class, too_many_advances, Trace, TraceFault, TraceFaultAt, event_lines};
 ghost use Rattle.hz_acceptance_model.specs.Traces.TraceLines.{SaysEvent, IsWords, IsSkipped};
 
@@ -17,7 +17,7 @@ pub fn one_list_of_events()
 
 /// The events of a trace text ask nothing.
 pub fn traces_ask_nothing()
-    ensures { (classes : List (List ℕ)) (text : List ℕ) (events : List Event) → Trace classes text events → without_asks events ≡ events }
+    ensures { (classes : List (List ℕ)) (text : List ℕ) (events : List Event) → Trace classes text events → issues_and_advances events ≡ events }
 {}
 
 /// A trace text has at most one fault, at one line.

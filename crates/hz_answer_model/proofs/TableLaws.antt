@@ -5,11 +5,11 @@ use Rattle.std.proofs.lemmas.Bool.{cases_lt}
 use Rattle.std.proofs.lemmas.List.{take_more, take_all, take-append-drop, take-take}
 use Rattle.std.proofs.lemmas.Option.{same_Some, slice_get-get_or, slice_get_within, get_or_from_slice_get}
 use Rattle.std.proofs.lemmas.List.Elements.{All-get_or}
-use Rattle.hz_acceptance_model.specs.Accepting.Events.{Event, issue, advance}
+use Rattle.hz_acceptance_model.specs.Accepting.Events.{Event, issue, advance, ask}
 use Rattle.hz_automata_model.specs.Tables.Machines.{Machine, IsMachine, IsPart, Part, part_walk, word_of, machine_walk, parts_walk, starts_of}
 use Rattle.hz_automata_model.specs.Tables.Tables.{Table, IsTable, walk, entry}
 use Rattle.hz_automata_model.proofs.Tables.TableLaws.{walk-append, walk_stays}
-use Rattle.hz_automata_model.proofs.Tables.MachineLaws.{word_of-append, parts_walk-append, machine_walk-each, machine_walk-part, machine_walk-all}
+use Rattle.hz_automata_model.proofs.Tables.MachineLaws.{machine_walk-ask, word_of-append, parts_walk-append, machine_walk-each, machine_walk-part, machine_walk-all}
 use Rattle.hz_answer_model.specs.TableAnswers.{IsFirstUnwalked, IsIssueIn}
 
 module _ (m : Machine) where
@@ -92,6 +92,10 @@ unwalked_issue m is events i within (before, stops) = by_event (get_or events i 
   where
     by_event : (e : Event) → slice_get events i ≡ Some e → (k : ℕ) × (slice_get events i ≡ Some (issue k))
     by_event (issue k) there = (k, there)
+    by_event (ask a u) there =
+        let here : get_or events i (advance 0) ≡ ask a u = same_Some _ _ (sym (slice_get-get_or events i (advance 0) within) ∙ there) in
+        let front : take (i + 1) events ≡ take i events ++ ask a u ∷ [] = take_more events i (advance 0) within ∙ ap (λ (e : Event). take i events ++ e ∷ []) here in
+        absurd (not_both m (take (i + 1) events) stops (subst (λ (es : List Event). IsSome (machine_walk m es)) (sym front) (subst IsSome (sym (machine_walk-ask m (take i events) a u)) before)))
     by_event (advance n) there =
         let here : get_or events i (advance 0) ≡ advance n = same_Some _ _ (sym (slice_get-get_or events i (advance 0) within) ∙ there) in
         let front : take (i + 1) events ≡ take i events ++ advance n ∷ [] = take_more events i (advance 0) within ∙ ap (λ (e : Event). take i events ++ e ∷ []) here in

@@ -2,7 +2,7 @@
 use Rattle.std.proofs.Common.{◌≡◌, ℕ, ◌+◌, ◌*◌, ◌<◌, ◌≤◌, Bool, true, false, List, [], ◌∷◌, ◌++◌, length, replicate, All, Option, Some, None, refl, sym, ap, ◌∙◌, subst, arith}
 use Rattle.std.specs.Prelude.{is_some, MatchBool, IsSomeAnd, slice_index_or, ◌&&◌}
 use Rattle.std.proofs.Math.Nat.{mul-le-mul_left}
-use Rattle.hz_acceptance_model.specs.Accepting.Events.{Event, issue, advance}
+use Rattle.hz_acceptance_model.specs.Accepting.Events.{Event, issue, advance, ask}
 use Rattle.hz_acceptance_model.specs.Accepting.Replay.{Pipeline}
 use Rattle.hz_description_model.specs.Reading.Descriptions.{Options}
 use Rattle.hz_description_model.specs.Check.CheckedParts.{AutomatonParts, ClassParts}
@@ -25,6 +25,7 @@ words_same one other maps columns (issue class ∷ t) =
     ap (λ (w : List ℕ). slice_index_or one.map class (one.columns + 1) ∷ w) (words_same one other maps columns t)
     ∙ (ap (λ (ms : List ℕ). slice_index_or ms class (one.columns + 1) ∷ word_of other t) maps
     ∙ ap (λ (n : ℕ). slice_index_or other.map class (n + 1) ∷ word_of other t) columns)
+words_same one other maps columns (ask a u ∷ t) = words_same one other maps columns t
 words_same one other maps columns (advance n ∷ t) =
     ap (λ (w : List ℕ). replicate n one.columns ++ w) (words_same one other maps columns t)
     ∙ ap (λ (m : ℕ). replicate n m ++ word_of other t) columns

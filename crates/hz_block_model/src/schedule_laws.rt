@@ -2,6 +2,7 @@
 
 ghost use Rattle.std.specs.Prelude.{◌≡◌, ◌↔◌, ◌<◌, ◌≤◌, ◌*◌, ℕ, List, length, All};
 ghost use Rattle.std.specs.List.{AllPairs};
+ghost use Rattle.hz_acceptance_model.specs.Accepting.Asking.{issues_and_advances};
 ghost use Rattle.hz_acceptance_model.specs.Accepting.Events.{Event, IsOfClass, issues_of, cycles_of};
 ghost use Rattle.hz_acceptance_model.specs.Accepting.Replay.{Pipeline, Accepted};
 ghost use Rattle.hz_automata_model.specs.Tables.Machines.{Machine, IsWalked};
@@ -35,10 +36,11 @@ pub fn schedules_on_machines_are_on_their_pipelines<U>()
     ensures greedy { (m : Machine) (p : Pipeline U) (classes : ℕ) → ((t : List Event) → All (IsOfClass classes) t → IsWalked m t ↔ Accepted p t) → (g : Graph) → All (λ n. n.class < classes) g.nodes → (slots : List Slot) → Greedy (IsWalked m) g slots ↔ Greedy (Accepted p) g slots }
 {}
 
-/// A trace of slots has an issue for each of them, at most as many other events, and, where cycles don't fall, as many advances as
-/// the cycle of the last.
+/// A trace of slots has an issue for each of them, at most as many other events, none of them an ask, and, where cycles don't fall,
+/// as many advances as the cycle of the last.
 pub fn traces_issue_each_slot()
     ensures issues { (g : Graph) (slots : List Slot) → issues_of (spell g slots) ≡ length slots }
     ensures few { (g : Graph) (slots : List Slot) → length (spell g slots) ≤ 2 * length slots }
+    ensures asks { (g : Graph) (slots : List Slot) → issues_and_advances (spell g slots) ≡ spell g slots }
     ensures cycles { (g : Graph) (slots : List Slot) → AllPairs (λ x y. x.cycle ≤ y.cycle) slots → cycles_of (spell g slots) ≡ present 0 slots }
 {}

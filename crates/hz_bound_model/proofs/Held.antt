@@ -6,7 +6,7 @@ use Rattle.std.proofs.lemmas.List.Elements.{Contains-append_left, Contains-appen
 use Rattle.hz_base_model.specs.Pairs.{Pair, later, placed}
 use Rattle.hz_base_model.proofs.Elements.{Contains-nil, Contains-head, Contains-tail, Contains-map, Contains-from_map}
 use Rattle.hz_base_model.proofs.Ascending.{AllPairs-append, AllPairs-map}
-use Rattle.hz_acceptance_model.specs.Accepting.Events.{Event, issue, advance, cycles_of}
+use Rattle.hz_acceptance_model.specs.Accepting.Events.{Event, issue, advance, ask, cycles_of}
 use Rattle.hz_acceptance_model.specs.Accepting.Replay.{Pipeline, State, start, alternatives_at, chosen, Plays, Accepted}
 use Rattle.hz_acceptance_model.proofs.Accepting.ReplayLaws.{runs_from_accepted}
 use Rattle.hz_bound_model.proofs.Numbers.{Differs, few_between}
@@ -16,6 +16,7 @@ abbrev pub asked : (ℕ → ℕ) → List Event → ℕ
 asked force [] = 0
 asked force (issue k ∷ t) = force k + asked force t
 asked force (advance n ∷ t) = asked force t
+asked force (ask a q ∷ t) = asked force t
 
 module _ {U : Type 0} (u : U) (low high : ℕ) where
   abbrev at : ℕ → Pair U
@@ -80,6 +81,10 @@ module _ {U : Type 0} (m : Pipeline U) (u : U) (force : ℕ → ℕ) (low high :
   run_holds [] n old new offers run h = (rw run (omega arith), rw (run, zero-add) h)
   run_holds (advance more ∷ t) n old new offers (middle, step, run) h =
       let (now, is) = run_holds t n middle new (λ k i there. offers k i (Contains-tail (advance more) (issue k) t there)) run (rw step (waits u low high n more old h)) in
+      let e = ap (λ (s : State U). s.now) step in
+      (omega (arith, now, e), is)
+  run_holds (ask a q ∷ t) n old new offers (middle, step, run) h =
+      let (now, is) = run_holds t n middle new (λ k i there. offers k i (Contains-tail (ask a q) (issue k) t there)) run (rw step h) in
       let e = ap (λ (s : State U). s.now) step in
       (omega (arith, now, e), is)
   run_holds (issue k ∷ t) n old new offers (middle, (i, may, step), run) h =

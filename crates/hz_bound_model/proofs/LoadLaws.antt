@@ -16,7 +16,7 @@ use Rattle.hz_description_model.specs.Reservations.Alternatives.{Alternative}
 use Rattle.hz_description_model.specs.Reservations.Automata.{UnitPlace, ascending}
 use Rattle.hz_description_model.proofs.Reservations.FirstPlaces.{numbered}
 use Rattle.hz_description_model.proofs.Reservations.AscendingLaws.{Precedes, IsAscending-ascending, Contains-from_ascending}
-use Rattle.hz_acceptance_model.specs.Accepting.Events.{Event, issue, advance}
+use Rattle.hz_acceptance_model.specs.Accepting.Events.{Event, issue, advance, ask}
 use Rattle.hz_acceptance_model.specs.Accepting.Replay.{Pipeline, alternatives_at, chosen, Accepted}
 use Rattle.hz_block_model.specs.Scheduling.Schedules.{Node, Graph, Slot, class_at, places, present, advance_to, spelled, spell, Legal}
 use Rattle.hz_block_model.proofs.Scheduling.TraceLaws.{cycles_spelled}
@@ -100,6 +100,7 @@ module _ (force : ℕ → ℕ) where
   asked-append [] ys = omega arith
   asked-append (issue k ∷ xs) ys = omega (arith, asked-append xs ys)
   asked-append (advance n ∷ xs) ys = asked-append xs ys
+  asked-append (ask a q ∷ xs) ys = asked-append xs ys
 
   asked_spelled : (g : Graph) (cycle : ℕ) (slots : List Slot) → asked force (spelled g cycle slots) ≡ sum_by (λ p. force (class_at g p)) (places slots)
   asked_spelled g cycle [] = refl

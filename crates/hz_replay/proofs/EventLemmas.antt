@@ -31,10 +31,12 @@ events_more es i h = map_more (λ (e : Event). event_of e.what) es i no_event h
 issues_of_push : (xs : List model.Event) (e : model.Event) → issues_of (xs ++ e ∷ []) ≡ issues_of xs + issues_in e
 issues_of_push xs (model.issue k) = issues_of-append xs (model.issue k ∷ [])
 issues_of_push xs (model.advance n) = issues_of-append xs (model.advance n ∷ [])
+issues_of_push xs (model.ask a u) = issues_of-append xs (model.ask a u ∷ [])
 
 cycles_of_push : (xs : List model.Event) (e : model.Event) → cycles_of (xs ++ e ∷ []) ≡ cycles_of xs + cycles_of_one e
 cycles_of_push xs (model.issue k) = cycles_of-append xs (model.issue k ∷ [])
 cycles_of_push xs (model.advance n) = omega (arith, cycles_of-append xs (model.advance n ∷ []))
+cycles_of_push xs (model.ask a u) = cycles_of-append xs (model.ask a u ∷ [])
 
 -- one more event is counted
 pub issues_more : (es : List Event) (i : ℕ) → i < length es → issues_of (events_in (take (i + 1) es)) ≡ issues_of (events_in (take i es)) + issues_in (event_at es i)
@@ -57,6 +59,7 @@ issues_front es i =
 pub one_issue : (e : model.Event) → issues_in e ≤ 1
 one_issue (model.issue k) = omega arith
 one_issue (model.advance n) = omega arith
+one_issue (model.ask a u) = omega arith
 
 -- Steps: at most four for each part and each issue or cycle.
 pub steps_more : (parts before more all from now next : ℕ) → all ≡ before + more → now ≤ from + 4 * parts * before → next ≤ now + 4 * parts * more → next ≤ from + 4 * parts * all

@@ -5,7 +5,7 @@ use Rattle.std.proofs.lemmas.List.{append-nil, map-append}
 use Rattle.std.proofs.lemmas.Bool.{leb-true, leb-false}
 use Rattle.hz_acceptance_model.specs.Traces.TraceLimits.{advance_limit}
 use Rattle.hz_base_model.specs.Lines.{lines_of}
-use Rattle.hz_acceptance_model.specs.Accepting.Events.{Event, issue, advance, cycles_of}
+use Rattle.hz_acceptance_model.specs.Accepting.Events.{Event, issue, advance, ask, cycles_of}
 use Rattle.hz_acceptance_model.specs.Traces.Traces.{Trace, TraceFault, too_many_advances, TraceFaultAt, Line, skipped, says, wrong, line_says, Say, nothing, skips, tells, WrongAfter, line_alone, advances, event_lines, numbered}
 use Rattle.std.specs.Option.{option_map}
 use Rattle.hz_replay.specs.declared.event.What.{What}
@@ -79,6 +79,8 @@ module _ (classes : List (List ℕ)) where
       }
   step_read done advanced number line lines items (says (issue k)) is low h later =
       told_read done advanced number line lines items (issue k) is refl (λ es. omega arith) (later (done ++ (issue k, number) ∷ []) (advanced + 0) (omega arith) h)
+  step_read done advanced number line lines items (says (ask a u)) is low h later =
+      told_read done advanced number line lines items (ask a u) is refl (λ es. omega arith) (later (done ++ (ask a u, number) ∷ []) (advanced + 0) (omega arith) h)
   step_read done advanced number line lines items (says (advance n)) is low h later = by_test (nat_le (advanced + n) advance_limit) refl h
     where
       by_test : (b : Bool) → nat_le (advanced + n) advance_limit ≡ b → after_line (λ done advanced. trace_from classes done advanced (number + 1) lines) done advanced number (cond b (Ok (Some (advance n))) (Err too_many_advances)) ≡ Ok items → Read done advanced number (line ∷ lines) items
@@ -142,6 +144,8 @@ module _ (classes : List (List ℕ)) where
       record { before = line ∷ t.before; line = t.line; after = t.after; events = t.events; parts = ap (λ ls. line ∷ ls) t.parts; say = skips is t.say; short = omega (arith, short); counted = omega (arith, counted); wrong = subst (λ n. WrongAfter classes n t.line fault) none t.wrong }
   step_told done advanced number line lines fault at (says (issue k)) is low h later =
       event_told advanced number line lines fault at (issue k) is (λ es. omega arith) (later (done ++ (issue k, number) ∷ []) (advanced + 0) (omega arith) h)
+  step_told done advanced number line lines fault at (says (ask a u)) is low h later =
+      event_told advanced number line lines fault at (ask a u) is (λ es. omega arith) (later (done ++ (ask a u, number) ∷ []) (advanced + 0) (omega arith) h)
   step_told done advanced number line lines fault at (says (advance n)) is low h later = by_test (nat_le (advanced + n) advance_limit) refl h
     where
       by_test : (b : Bool) → nat_le (advanced + n) advance_limit ≡ b → after_line (λ done advanced. trace_from classes done advanced (number + 1) lines) done advanced number (cond b (Ok (Some (advance n))) (Err too_many_advances)) ≡ Err (fault, at) → Told advanced number (line ∷ lines) fault at
@@ -187,6 +191,7 @@ module _ (classes : List (List ℕ)) where
 pub low_after : (advanced : ℕ) (l : Line) (event : Option Event) → advanced ≤ advance_limit → judged advanced l ≡ Ok event → advanced + cycles_in event ≤ advance_limit
 low_after advanced skipped event low h = let same : None ≡ event = cc in subst (λ e. advanced + cycles_in e ≤ advance_limit) same (omega (arith, low))
 low_after advanced (says (issue k)) event low h = let same : Some (issue k) ≡ event = cc in subst (λ e. advanced + cycles_in e ≤ advance_limit) same (omega (arith, low))
+low_after advanced (says (ask a u)) event low h = let same : Some (ask a u) ≡ event = cc in subst (λ e. advanced + cycles_in e ≤ advance_limit) same (omega (arith, low))
 low_after advanced (says (advance n)) event low h = by_test (nat_le (advanced + n) advance_limit) refl h
   where
     by_test : (b : Bool) → nat_le (advanced + n) advance_limit ≡ b → cond b (Ok (Some (advance n))) (Err too_many_advances) ≡ Ok event → advanced + cycles_in event ≤ advance_limit

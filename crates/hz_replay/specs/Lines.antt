@@ -36,6 +36,7 @@ abbrev pub capped_line : Line → Line
 capped_line skipped = skipped
 capped_line (says (events.issue class)) = says (events.issue class)
 capped_line (says (events.advance cycles)) = says (events.advance (capped cycles))
+capped_line (says (events.ask automaton query)) = says (events.ask automaton query)
 capped_line (wrong why) = wrong why
 
 -- what a line says behind so many advances: its event, none, or what is wrong with it
@@ -43,6 +44,7 @@ abbrev pub judged : ℕ → Line → Result (Option events.Event) TraceFault
 judged advanced skipped = Ok None
 judged advanced (says (events.issue class)) = Ok (Some (events.issue class))
 judged advanced (says (events.advance cycles)) = if nat_le (advanced + cycles) advance_limit then Ok (Some (events.advance cycles)) else Err too_many_advances
+judged advanced (says (events.ask automaton query)) = Ok (Some (events.ask automaton query))
 judged advanced (wrong why) = Err why
 
 -- the same, as the reader has it

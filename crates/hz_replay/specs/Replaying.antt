@@ -37,12 +37,14 @@ IsOutcome m t (Refused event) = FirstUnwalked m t event
 abbrev pub IsIssue : events.Event → Type 0
 IsIssue e = (class : ℕ) × (e ≡ events.issue class)
 
--- 1 for an issue, and 0 for advances
+-- 1 for an issue, and 0 for every other event
 abbrev pub issues_in : events.Event → ℕ
 issues_in (events.issue class) = 1
 issues_in (events.advance cycles) = 0
+issues_in (events.ask automaton query) = 0
 
 -- the cycles that one event advances
 abbrev pub cycles_of_one : events.Event → ℕ
 cycles_of_one (events.issue class) = 0
 cycles_of_one (events.advance cycles) = cycles
+cycles_of_one (events.ask automaton query) = 0

@@ -44,6 +44,7 @@ abbrev pub cycles_in : Option events.Event → ℕ
 cycles_in None = 0
 cycles_in (Some (events.issue class)) = 0
 cycles_in (Some (events.advance cycles)) = cycles
+cycles_in (Some (events.ask automaton query)) = 0
 
 -- the fault of a line of this number
 abbrev pub IsFaultOfLine : ℕ → WrongLine → Fault → Type 0

@@ -9,7 +9,7 @@ use Rattle.std.proofs.lemmas.Option.{slice_get-get_or, slice_get_past, get_or_fr
 use Rattle.hz_base_model.specs.Pairs.{Pair, later, placed}
 use Rattle.hz_base_model.proofs.Elements.{Contains-nil, Contains-from_map}
 use Rattle.hz_description_model.specs.Reservations.Alternatives.{Alternative}
-use Rattle.hz_acceptance_model.specs.Accepting.Events.{Event, issue, advance, IsOfClass}
+use Rattle.hz_acceptance_model.specs.Accepting.Events.{Event, issue, advance, ask, IsOfClass}
 use Rattle.hz_acceptance_model.specs.Accepting.Replay.{Class, Pipeline, of_class, alternatives_at, pairs_at, chosen, calendar}
 use Rattle.hz_acceptance_model.specs.Accepting.Restricted.{of_pairs}
 use Rattle.hz_description_model.specs.Reading.Descriptions.{Options}
@@ -108,6 +108,7 @@ module _ (n : ℕ) where
   calendar_below : (m : Pipeline ℕ) → ((k i : ℕ) → AreBelow (chosen m k i)) → (now : ℕ) (t : List Event) (choices : List ℕ) (q : Pair ℕ) → Contains (calendar m now t choices) q → q.unit < n
   calendar_below m all now [] choices q h = absurd (Contains-nil q h)
   calendar_below m all now (advance k ∷ t) choices q h = calendar_below m all (k + now) t choices q h
+  calendar_below m all now (ask a u ∷ t) choices q h = calendar_below m all now t choices q h
   calendar_below m all now (issue k ∷ t) [] q h = absurd (Contains-nil q h)
   calendar_below m all now (issue k ∷ t) (i ∷ choices) q h =
       ⊎_elim

@@ -1,7 +1,7 @@
 -- The drill over a machine that is compiled is that of its description.
 use Rattle.std.proofs.Common.{◌≡◌, ℕ, ◌+◌, ◌<◌, ◌≤◌, List, [], ◌∷◌, ◌++◌, length, take, get_or, Some, refl, ap, ◌∙◌, subst, arith}
 use Rattle.std.proofs.lemmas.List.{map_more}
-use Rattle.hz_acceptance_model.specs.Accepting.Events.{Event, issue, advance, issues_of, cycles_of}
+use Rattle.hz_acceptance_model.specs.Accepting.Events.{Event, issue, advance, ask, issues_of, cycles_of}
 use Rattle.hz_acceptance_model.proofs.Accepting.ReplayLaws.{issues_of-append}
 use Rattle.hz_acceptance_model.specs.Accepting.Replay.{Accepted}
 use Rattle.hz_answer_model.specs.DrillAnswers.{Drills}
@@ -57,6 +57,7 @@ turns_counted m classes number turns t = draws_counts (IsWalked m) classes [] nu
 issues_push : (t : List Event) (e : Event) → issues_of (t ++ e ∷ []) ≡ issues_of t + issues_in e
 issues_push t (issue k) = issues_of-append t (issue k ∷ [])
 issues_push t (advance n) = issues_of-append t (advance n ∷ [])
+issues_push t (ask a u) = issues_of-append t (ask a u ∷ [])
 
 pub issues_more : (es : List Placed) (i : ℕ) (e : Placed) → i < length es → issues_of (events_in (take (i + 1) es)) ≡ issues_of (events_in (take i es)) + issues_in (event_of (get_or es i e).what)
 issues_more es i e low = ap issues_of (map_more (λ (x : Placed). event_of x.what) es i e low) ∙ issues_push (events_in (take i es)) (event_of (get_or es i e).what)
@@ -64,3 +65,4 @@ issues_more es i e low = ap issues_of (map_more (λ (x : Placed). event_of x.wha
 pub one_issue : (e : Event) → issues_in e ≤ 1
 one_issue (issue k) = omega arith
 one_issue (advance n) = omega arith
+one_issue (ask a u) = omega arith

@@ -5,7 +5,7 @@ use Rattle.std.proofs.lemmas.Bool.{both_ways}
 use Rattle.hz_base_model.specs.Pairs.{Pair, placed}
 use Rattle.hz_acceptance_model.specs.Accepting.Events.{Event, issue, advance, ask, issues_of, cycles_of}
 use Rattle.hz_acceptance_model.specs.Accepting.Replay.{Pipeline, Treatment, first_fit, State, start, Plays, Accepted, IsChoice, ChoiceFirst, FirstRefused, MayTake, calendar, chosen, left_by}
-use Rattle.hz_acceptance_model.specs.Accepting.Asking.{IsHeld, without_asks}
+use Rattle.hz_acceptance_model.specs.Accepting.Asking.{IsHeld, issues_and_advances}
 use Rattle.hz_acceptance_model.specs.Accepting.Plays.{Tells, has, accepts}
 use Rattle.hz_acceptance_model.proofs.Accepting.ReplayLaws.{none_last, same_first, same_rest, no_advance, ask_no_issue, chosen_run, runs_from_accepted, accepted_from_runs}
 use Rattle.hz_acceptance_model.proofs.Accepting.ChoiceLaws.{one_choice}
@@ -14,50 +14,50 @@ use Rattle.hz_acceptance_model.proofs.Accepting.PlayLaws.{accepts_decides, has_d
 
 -- ---- without the asks
 
-pub cycles_without : (t : List Event) → cycles_of (without_asks t) ≡ cycles_of t
+pub cycles_without : (t : List Event) → cycles_of (issues_and_advances t) ≡ cycles_of t
 cycles_without [] = refl
 cycles_without (issue k ∷ t) = cycles_without t
 cycles_without (advance n ∷ t) = ap (λ (c : ℕ). n + c) (cycles_without t)
 cycles_without (ask a u ∷ t) = cycles_without t
 
-pub issues_without : (t : List Event) → issues_of (without_asks t) ≡ issues_of t
+pub issues_without : (t : List Event) → issues_of (issues_and_advances t) ≡ issues_of t
 issues_without [] = refl
 issues_without (issue k ∷ t) = ap suc (issues_without t)
 issues_without (advance n ∷ t) = issues_without t
 issues_without (ask a u ∷ t) = issues_without t
 
 module _ {U : Type 0} (m : Pipeline U) where
-  pub calendar_without : (now : ℕ) (t : List Event) (choices : List ℕ) → calendar m now (without_asks t) choices ≡ calendar m now t choices
+  pub calendar_without : (now : ℕ) (t : List Event) (choices : List ℕ) → calendar m now (issues_and_advances t) choices ≡ calendar m now t choices
   calendar_without now [] choices = refl
   calendar_without now (advance n ∷ t) choices = calendar_without (n + now) t choices
   calendar_without now (ask a u ∷ t) choices = calendar_without now t choices
   calendar_without now (issue k ∷ t) [] = refl
   calendar_without now (issue k ∷ t) (i ∷ choices) = ap (λ (ps : List (Pair U)). placed now (chosen m k i) ++ ps) (calendar_without now t choices)
 
-  run_without : (t : List Event) (s q : State U) → Plays m s t q → Plays m s (without_asks t) q
+  run_without : (t : List Event) (s q : State U) → Plays m s t q → Plays m s (issues_and_advances t) q
   run_without [] s q run = run
   run_without (issue k ∷ t) s q (middle, step, run) = (middle, step, run_without t middle q run)
   run_without (advance n ∷ t) s q (middle, step, run) = (middle, step, run_without t middle q run)
   run_without (ask a u ∷ t) s q (middle, step, run) = run_without t s q (subst (λ (p : State U). Plays m p t q) step run)
 
-  run_with : (t : List Event) (s q : State U) → Plays m s (without_asks t) q → Plays m s t q
+  run_with : (t : List Event) (s q : State U) → Plays m s (issues_and_advances t) q → Plays m s t q
   run_with [] s q run = run
   run_with (issue k ∷ t) s q (middle, step, run) = (middle, step, run_with t middle q run)
   run_with (advance n ∷ t) s q (middle, step, run) = (middle, step, run_with t middle q run)
   run_with (ask a u ∷ t) s q run = (s, refl, run_with t s q run)
 
-  pub runs_without : (t : List Event) (s q : State U) → Plays m s t q ↔ Plays m s (without_asks t) q
+  pub runs_without : (t : List Event) (s q : State U) → Plays m s t q ↔ Plays m s (issues_and_advances t) q
   runs_without t s q = (run_without t s q, run_with t s q)
 
-  pub accepted_without : (t : List Event) → Accepted m t ↔ Accepted m (without_asks t)
+  pub accepted_without : (t : List Event) → Accepted m t ↔ Accepted m (issues_and_advances t)
   accepted_without t = (
-    λ h. let run = runs_from_accepted m t h in accepted_from_runs m (without_asks t) (run.0, run_without t start run.0 run.1),
-    λ h. let run = runs_from_accepted m (without_asks t) h in accepted_from_runs m t (run.0, run_with t start run.0 run.1),
+    λ h. let run = runs_from_accepted m t h in accepted_from_runs m (issues_and_advances t) (run.0, run_without t start run.0 run.1),
+    λ h. let run = runs_from_accepted m (issues_and_advances t) h in accepted_from_runs m t (run.0, run_with t start run.0 run.1),
   )
 
 -- ---- the same choices
 
-without-append : (xs ys : List Event) → without_asks (xs ++ ys) ≡ without_asks xs ++ without_asks ys
+pub without-append : (xs ys : List Event) → issues_and_advances (xs ++ ys) ≡ issues_and_advances xs ++ issues_and_advances ys
 without-append [] ys = refl
 without-append (issue k ∷ xs) ys = ap (λ (es : List Event). issue k ∷ es) (without-append xs ys)
 without-append (advance n ∷ xs) ys = ap (λ (es : List Event). advance n ∷ es) (without-append xs ys)
@@ -68,9 +68,9 @@ record Among (t before after : List Event) (k : ℕ) : Type 0 where
   front : List Event
   rest : List Event
   parts : t ≡ front ++ issue k ∷ rest
-  bare : without_asks front ≡ before
+  bare : issues_and_advances front ≡ before
 
-behind_event : (e : Event) (t before after : List Event) (k : ℕ) → ((es : List Event) → without_asks (e ∷ es) ≡ e ∷ without_asks es) → Among t before after k → Among (e ∷ t) (e ∷ before) after k
+behind_event : (e : Event) (t before after : List Event) (k : ℕ) → ((es : List Event) → issues_and_advances (e ∷ es) ≡ e ∷ issues_and_advances es) → Among t before after k → Among (e ∷ t) (e ∷ before) after k
 behind_event e t before after k stays a = record {
   front = e ∷ a.front;
   rest = a.rest;
@@ -81,7 +81,7 @@ behind_event e t before after k stays a = record {
 behind_ask : (a u : ℕ) (t before after : List Event) (k : ℕ) → Among t before after k → Among (ask a u ∷ t) before after k
 behind_ask a u t before after k there = record { front = ask a u ∷ there.front; rest = there.rest; parts = ap (λ (es : List Event). ask a u ∷ es) there.parts; bare = there.bare }
 
-among : (t before after : List Event) (k : ℕ) → without_asks t ≡ before ++ issue k ∷ after → Among t before after k
+among : (t before after : List Event) (k : ℕ) → issues_and_advances t ≡ before ++ issue k ∷ after → Among t before after k
 among [] before after k e = absurd (none_last before after k e)
 among (ask a u ∷ t) before after k e = behind_ask a u t before after k (among t before after k e)
 among (issue l ∷ t) [] after k e = record { front = []; rest = t; parts = ap (λ (f : Event). f ∷ t) (same_first _ _ _ _ e); bare = refl }
@@ -94,7 +94,7 @@ among (advance n ∷ t) (f ∷ before) after k e =
     (behind_event (advance n) t before after k (λ es. refl) (among t before after k (same_rest _ _ _ _ e)))
 
 module _ {U : Type 0} (m : Pipeline U) where
-  left_without : (t : List Event) (choices : List ℕ) → left_by m (without_asks t) choices ≡ left_by m t choices
+  left_without : (t : List Event) (choices : List ℕ) → left_by m (issues_and_advances t) choices ≡ left_by m t choices
   left_without t choices =
       let pairs = calendar_without m 0 t choices in
       let time = cycles_without t in
@@ -103,17 +103,17 @@ module _ {U : Type 0} (m : Pipeline U) where
   abbrev MayAt : List Event → List ℕ → ℕ → Type 0
   MayAt before choices k = MayTake m (left_by m before choices) k (slice_index choices (issues_of before))
 
-  may_without : (before : List Event) (choices : List ℕ) (k : ℕ) → MayAt before choices k → MayAt (without_asks before) choices k
+  may_without : (before : List Event) (choices : List ℕ) (k : ℕ) → MayAt before choices k → MayAt (issues_and_advances before) choices k
   may_without before choices k may =
-      subst (λ (n : ℕ). MayTake m (left_by m (without_asks before) choices) k (slice_index choices n)) (sym (issues_without before))
+      subst (λ (n : ℕ). MayTake m (left_by m (issues_and_advances before) choices) k (slice_index choices n)) (sym (issues_without before))
       (subst (λ (s : State U). MayTake m s k (slice_index choices (issues_of before))) (sym (left_without before choices)) may)
 
-  may_with : (before : List Event) (choices : List ℕ) (k : ℕ) → MayAt (without_asks before) choices k → MayAt before choices k
+  may_with : (before : List Event) (choices : List ℕ) (k : ℕ) → MayAt (issues_and_advances before) choices k → MayAt before choices k
   may_with before choices k may =
       subst (λ (n : ℕ). MayTake m (left_by m before choices) k (slice_index choices n)) (issues_without before)
-      (subst (λ (s : State U). MayTake m s k (slice_index choices (issues_of (without_asks before)))) (left_without before choices) may)
+      (subst (λ (s : State U). MayTake m s k (slice_index choices (issues_of (issues_and_advances before)))) (left_without before choices) may)
 
-  pub choice_without : (t : List Event) (choices : List ℕ) → IsChoice m t choices ↔ IsChoice m (without_asks t) choices
+  pub choice_without : (t : List Event) (choices : List ℕ) → IsChoice m t choices ↔ IsChoice m (issues_and_advances t) choices
   choice_without t choices = (
     λ is. record {
       each = is.each ∙ sym (issues_without t);
@@ -123,7 +123,7 @@ module _ {U : Type 0} (m : Pipeline U) where
     },
     λ is. record {
       each = is.each ∙ issues_without t;
-      may = λ before after k e. may_with before choices k (is.may (without_asks before) (without_asks after) k (ap without_asks e ∙ without-append before (issue k ∷ after)));
+      may = λ before after k e. may_with before choices k (is.may (issues_and_advances before) (issues_and_advances after) k (ap issues_and_advances e ∙ without-append before (issue k ∷ after)));
     },
   )
 
@@ -132,12 +132,12 @@ module _ {U : Type 0} (m : Pipeline U) where
 -- A place among all events and the place among the others that stand for the same event.
 record Meets (t : List Event) (i j : ℕ) : Type 0 where
   within : i < length t
-  there : j < length (without_asks t)
-  number : j ≡ length (without_asks (take i t))
-  before : take j (without_asks t) ≡ without_asks (take i t)
-  after : take (suc j) (without_asks t) ≡ without_asks (take (suc i) t)
+  there : j < length (issues_and_advances t)
+  number : j ≡ length (issues_and_advances (take i t))
+  before : take j (issues_and_advances t) ≡ issues_and_advances (take i t)
+  after : take (suc j) (issues_and_advances t) ≡ issues_and_advances (take (suc i) t)
 
-meets_next : (e : Event) (t : List Event) (i j : ℕ) → ((es : List Event) → without_asks (e ∷ es) ≡ e ∷ without_asks es) → Meets t i j → Meets (e ∷ t) (suc i) (suc j)
+meets_next : (e : Event) (t : List Event) (i j : ℕ) → ((es : List Event) → issues_and_advances (e ∷ es) ≡ e ∷ issues_and_advances es) → Meets t i j → Meets (e ∷ t) (suc i) (suc j)
 meets_next e t i j stays h =
     let within = h.within in
     let there = h.there in
@@ -153,7 +153,7 @@ meets_next e t i j stays h =
 meets_ask : (a u : ℕ) (t : List Event) (i j : ℕ) → Meets t i j → Meets (ask a u ∷ t) (suc i) j
 meets_ask a u t i j h = record { within = (let within = h.within in omega arith); there = h.there; number = h.number; before = h.before; after = h.after }
 
-meets_here : (e : Event) (t : List Event) → ((es : List Event) → without_asks (e ∷ es) ≡ e ∷ without_asks es) → Meets (e ∷ t) 0 0
+meets_here : (e : Event) (t : List Event) → ((es : List Event) → issues_and_advances (e ∷ es) ≡ e ∷ issues_and_advances es) → Meets (e ∷ t) 0 0
 meets_here e t stays = record {
   within = omega arith;
   there = rw (stays t) (omega arith);
@@ -173,7 +173,7 @@ from_issue (advance n ∷ t) (suc i) k is = let rest = from_issue t i k is in (s
 from_issue (ask a u ∷ t) (suc i) k is = let rest = from_issue t i k is in (rest.0, meets_ask a u t i rest.0 rest.1)
 
 -- the place of an event that is no ask
-from_other : (t : List Event) (j : ℕ) → j < length (without_asks t) → (i : ℕ) × Meets t i j
+from_other : (t : List Event) (j : ℕ) → j < length (issues_and_advances t) → (i : ℕ) × Meets t i j
 from_other [] j h = absurd (omega (arith, h))
 from_other (issue l ∷ t) zero h = (0, meets_here (issue l) t (λ es. refl))
 from_other (advance n ∷ t) zero h = (0, meets_here (advance n) t (λ es. refl))
@@ -182,7 +182,7 @@ from_other (advance n ∷ t) (suc j) h = let rest = from_other t j (omega (arith
 from_other (ask a u ∷ t) j h = let rest = from_other t j h in (suc rest.0, meets_ask a u t rest.0 j rest.1)
 
 module _ {U : Type 0} (m : Pipeline U) where
-  refused_there : (t : List Event) (i j : ℕ) → Meets t i j → FirstRefused m t i → FirstRefused m (without_asks t) j
+  refused_there : (t : List Event) (i j : ℕ) → Meets t i j → FirstRefused m t i → FirstRefused m (issues_and_advances t) j
   refused_there t i j is h = record {
     within = is.there;
     before = subst (Accepted m) (sym is.before) ((accepted_without m (take i t)).0 h.before);
@@ -190,7 +190,7 @@ module _ {U : Type 0} (m : Pipeline U) where
         h.refused (rw (add-one i) ((accepted_without m (take (suc i) t)).1 (subst (Accepted m) is.after (rw (add-one j) at accepted))));
   }
 
-  refused_back : (t : List Event) (i j : ℕ) → Meets t i j → FirstRefused m (without_asks t) j → FirstRefused m t i
+  refused_back : (t : List Event) (i j : ℕ) → Meets t i j → FirstRefused m (issues_and_advances t) j → FirstRefused m t i
   refused_back t i j is h = record {
     within = is.within;
     before = (accepted_without m (take i t)).1 (subst (Accepted m) is.before h.before);
@@ -198,13 +198,13 @@ module _ {U : Type 0} (m : Pipeline U) where
         h.refused (rw (add-one j) (subst (Accepted m) (sym is.after) ((accepted_without m (take (suc i) t)).0 (rw (add-one i) at accepted))));
   }
 
-  pub refused_without : (t : List Event) (j : ℕ) → FirstRefused m (without_asks t) j ↔ ((i : ℕ) × FirstRefused m t i × (j ≡ length (without_asks (take i t))))
+  pub refused_without : (t : List Event) (j : ℕ) → FirstRefused m (issues_and_advances t) j ↔ ((i : ℕ) × FirstRefused m t i × (j ≡ length (issues_and_advances (take i t))))
   refused_without t j = (
     λ h. let at = from_other t j h.within in (at.0, refused_back t at.0 j at.1 h, at.1.number),
     λ (i, h, number).
         let issued = refused_issue m t i h in
         let at = from_issue t i issued.0 issued.1 in
-        subst (FirstRefused m (without_asks t)) (at.1.number ∙ sym number) (refused_there t i at.0 at.1 h),
+        subst (FirstRefused m (issues_and_advances t)) (at.1.number ∙ sym number) (refused_there t i at.0 at.1 h),
   )
 
 -- ---- what is held
@@ -237,7 +237,7 @@ module _ {U : Type 0} (m : Pipeline U) where
       let both = held_by_choice t choices ((by_first m first t choices).1 is) unit in
       subst (λ (q : State U). IsHeld m t unit ↔ Contains q.reserved (record { unit = unit; cycle = q.now })) (sym led) both
 
-  pub held_without : (t : List Event) (unit : U) → IsHeld m t unit ↔ IsHeld m (without_asks t) unit
+  pub held_without : (t : List Event) (unit : U) → IsHeld m t unit ↔ IsHeld m (issues_and_advances t) unit
   held_without t unit = (
     λ (choices, is, held).
         (choices, (choice_without (record m { treatment = first_fit }) t choices).0 is, rw (calendar_without m 0 t choices, cycles_without t) held),

@@ -13,7 +13,7 @@ use Rattle.std.proofs.lemmas.Slice.Eq.{bytes_eq-Decides}
 use Rattle.hz_base_model.specs.Names.{is_name, is_name_byte, is_separator}
 use Rattle.hz_base_model.specs.Lines.{number_of, number_from, place_of}
 use Rattle.hz_acceptance_model.specs.Accepting.Events.{Event, issue, advance, ask}
-use Rattle.hz_acceptance_model.specs.Accepting.Asking.{without_asks}
+use Rattle.hz_acceptance_model.specs.Accepting.Asking.{issues_and_advances}
 use Rattle.hz_acceptance_model.specs.Traces.Traces.{Line, skipped, says, wrong, bad_line, unknown_class, is_margin, is_gap, without_margin, first_word, operand, says_issue, says_advance, says_words, says_content, line_says, Say}
 use Rattle.hz_acceptance_model.specs.Traces.TraceLines.{IsWords, IsSkipped, is_blank, is_comment}
 
@@ -428,7 +428,7 @@ module _ (classes : List (List ℕ)) where
   pub no_ask_line : (line : List ℕ) (automaton query : ℕ) → line_says classes line ≡ says (ask automaton query) → ⊥
   no_ask_line line automaton query e = subst AsksNothing e (asks_nothing line (line_says classes line) (line_view line))
 
-  pub say_without_asks : {lines : List (List ℕ)} {events : List Event} → Say classes lines events → without_asks events ≡ events
+  pub say_without_asks : {lines : List (List ℕ)} {events : List Event} → Say classes lines events → issues_and_advances events ≡ events
   say_without_asks Say.nothing = refl
   say_without_asks (Say.skips is rest) = say_without_asks rest
   say_without_asks (Say.tells {event = issue k} is rest) = ap (λ (es : List Event). issue k ∷ es) (say_without_asks rest)

@@ -20,8 +20,8 @@ IsOfQuery queries (advance n) = Unit {0}
 IsOfQuery queries (ask a u) = u < length (slice_index_or queries a [])
 
 -- the issues and advances among the events, in their order
-abbrev pub without_asks : List Event → List Event
-without_asks [] = []
-without_asks (issue k ∷ t) = issue k ∷ without_asks t
-without_asks (advance n ∷ t) = advance n ∷ without_asks t
-without_asks (ask a u ∷ t) = without_asks t
+abbrev pub issues_and_advances : List Event → List Event
+issues_and_advances [] = []
+issues_and_advances (issue k ∷ t) = issue k ∷ issues_and_advances t
+issues_and_advances (advance n ∷ t) = advance n ∷ issues_and_advances t
+issues_and_advances (ask a u ∷ t) = issues_and_advances t

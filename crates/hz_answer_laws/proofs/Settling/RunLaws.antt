@@ -5,7 +5,7 @@ use Rattle.std.proofs.lemmas.List.Elements.{Contains-append_cases}
 use Rattle.hz_base_model.specs.Limits.{cycle_limit}
 use Rattle.hz_base_model.specs.Pairs.{Pair, later, placed}
 use Rattle.hz_base_model.proofs.Elements.{Contains-nil, Contains-head, Contains-cons_cases, Contains-from_map}
-use Rattle.hz_acceptance_model.specs.Accepting.Events.{Event, issue, advance}
+use Rattle.hz_acceptance_model.specs.Accepting.Events.{Event, issue, advance, ask}
 use Rattle.hz_acceptance_model.specs.Accepting.Replay.{Pipeline, State, Step, Plays, start, chosen, Accepted, left_by}
 use Rattle.hz_acceptance_model.specs.Accepting.Fitting.{IsFuture, IsUnbroken}
 use Rattle.hz_acceptance_model.proofs.Accepting.ReplayLaws.{runs_from_accepted, accepted_from_runs}
@@ -59,6 +59,7 @@ module _ {U : Type 0} (m : Pipeline U) where
 
     near_step : (e : Event) (s q : State U) → IsNear s → Step m s e q → IsNear q
     near_step (advance n) s q near step = subst IsNear (sym step) (λ p h. let low = near p h in omega arith)
+    near_step (ask a u) s q near step = subst IsNear (sym step) near
     near_step (issue k) s q near (i, may, step) = subst IsNear (sym step) (λ p h. ⊎_elim
         (near p)
         (λ (new : Contains (placed s.now (chosen m k i)) p).

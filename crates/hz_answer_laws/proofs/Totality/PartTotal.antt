@@ -15,7 +15,7 @@ use Rattle.hz_base_model.proofs.Ascending.{AllPairs-map}
 use Rattle.hz_base_model.proofs.Elements.{Contains-nil, Contains-from_map}
 use Rattle.hz_description_model.specs.Reservations.Sets.{Statement}
 use Rattle.hz_description_model.specs.Reservations.Alternatives.{Alternative}
-use Rattle.hz_acceptance_model.specs.Accepting.Events.{Event, issue, advance, cycles_of, IsOfClass}
+use Rattle.hz_acceptance_model.specs.Accepting.Events.{Event, issue, advance, ask, cycles_of, IsOfClass}
 use Rattle.hz_acceptance_model.specs.Accepting.Fitting.{AskTheSame}
 use Rattle.hz_acceptance_model.specs.Accepting.Replay.{Pipeline, Treatment, Class, chosen, calendar, alternatives_at, of_class, pairs_at}
 use Rattle.hz_acceptance_model.specs.Accepting.Restricted.{of_pairs}
@@ -92,6 +92,7 @@ module _ (treatment : Treatment) (statements : List (Statement ℕ)) (lists : Li
   calendar_low : (now : ℕ) (t : List Event) (choices : List ℕ) (q : Pair ℕ) → Contains (calendar pipeline now t choices) q → q.cycle < now + cycles_of t + cycle_limit
   calendar_low now [] choices q h = absurd (Contains-nil q h)
   calendar_low now (advance n ∷ t) choices q h = let less = calendar_low (n + now) t choices q h in omega (arith, less)
+  calendar_low now (ask b u ∷ t) choices q h = calendar_low now t choices q h
   calendar_low now (issue k ∷ t) [] q h = absurd (Contains-nil q h)
   calendar_low now (issue k ∷ t) (i ∷ choices) q h = ⊎_elim
       (λ (here : Contains (placed now (chosen pipeline k i)) q).
@@ -352,6 +353,7 @@ module _ (options : Options) (automata : List AutomatonParts) (classes : List Cl
     words_same : (t : List Event) → word_of least t ≡ word_of found.part t
     words_same [] = refl
     words_same (issue k ∷ t) = ap (λ (w : List ℕ). slice_index_or (found.part).map k ((found.part).columns + 1) ∷ w) (words_same t)
+    words_same (ask b u ∷ t) = words_same t
     words_same (advance k ∷ t) = ap (λ (w : List ℕ). replicate k (found.part).columns ++ w) (words_same t)
 
     walked : (t : List Event) → is_some (part_walk least 0 t) ≡ is_some (part_walk found.part 0 t)

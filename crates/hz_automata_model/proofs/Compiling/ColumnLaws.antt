@@ -8,7 +8,7 @@ use Rattle.std.proofs.lemmas.List.Elements.{All-head, All-tail}
 use Rattle.std.proofs.lemmas.Option.{slice_get-map, slice_get-get_or, slice_get_within}
 use Rattle.hz_base_model.specs.Pairs.{Pair}
 use Rattle.hz_description_model.specs.Reservations.Sets.{Statement}
-use Rattle.hz_acceptance_model.specs.Accepting.Events.{Event, issue, advance, IsOfClass}
+use Rattle.hz_acceptance_model.specs.Accepting.Events.{Event, issue, advance, ask, IsOfClass}
 use Rattle.hz_acceptance_model.specs.Accepting.Replay.{Treatment, alternatives_at, of_class}
 use Rattle.hz_automata_model.specs.Reaching.Columns.{class_of_grids, pipeline_on}
 use Rattle.hz_automata_model.proofs.Reaching.WordLaws.{IsInside}
@@ -61,6 +61,7 @@ module _ (treatment : Treatment) (statements : List (Statement ℕ)) where
     moved_inside [] all = tt
     moved_inside (issue k ∷ t) all = ((column_there k (All-head (IsOfClass (length lists)) (issue k) t all)).0, moved_inside t (All-tail (IsOfClass (length lists)) (issue k) t all))
     moved_inside (advance n ∷ t) all = moved_inside t (All-tail (IsOfClass (length lists)) (advance n) t all)
+    moved_inside (ask a u ∷ t) all = moved_inside t (All-tail (IsOfClass (length lists)) (ask a u) t all)
 
     -- events of columns are those of some classes
     pub unmoved : (t : List Event) → IsInside (length columns) t → (u : List Event) × (moved to_column u ≡ t)
@@ -72,4 +73,5 @@ module _ (treatment : Treatment) (statements : List (Statement ℕ)) where
         let low = class.1 in
         let column : to_column class.0 ≡ c = get_or_default maps class.0 (length columns + 1) 0 (omega (arith, low, each)) ∙ class.2 in
         (issue class.0 ∷ rest.0, ap (λ n. issue n ∷ moved to_column rest.0) column ∙ ap (λ es. issue c ∷ es) rest.1)
+    unmoved (ask a u ∷ t) inside = let rest = unmoved t inside in (ask a u ∷ rest.0, ap (λ es. ask a u ∷ es) rest.1)
     unmoved (advance n ∷ t) inside = let rest = unmoved t inside in (advance n ∷ rest.0, ap (λ es. advance n ∷ es) rest.1)

@@ -3,7 +3,7 @@ use Rattle.std.proofs.Common.{◌≡◌, ℕ, ◌+◌, ◌<◌, ◌≤◌, List,
 use Rattle.std.specs.Prelude.{◌↔◌, All, IsSome, slice_index_or}
 use Rattle.hz_base_model.specs.Pairs.{Pair}
 use Rattle.hz_description_model.specs.Reservations.Sets.{Statement}
-use Rattle.hz_acceptance_model.specs.Accepting.Events.{Event, issue, advance, IsOfClass}
+use Rattle.hz_acceptance_model.specs.Accepting.Events.{Event, issue, advance, ask, IsOfClass}
 use Rattle.hz_acceptance_model.specs.Accepting.Fitting.{AskTheSame}
 use Rattle.hz_acceptance_model.specs.Accepting.Replay.{Pipeline, Treatment, Accepted, alternatives_at}
 use Rattle.hz_automata_model.specs.Tables.Machines.{Part, column_of, word_of, part_walk}
@@ -119,6 +119,7 @@ moved_itself : (t : List Event) → moved (λ k. k) t ≡ t
 moved_itself [] = refl
 moved_itself (issue k ∷ t) = ap (λ es. issue k ∷ es) (moved_itself t)
 moved_itself (advance n ∷ t) = ap (λ es. advance n ∷ es) (moved_itself t)
+moved_itself (ask a u ∷ t) = ap (λ es. ask a u ∷ es) (moved_itself t)
 
 module _ {U : Type 0} (m o : Pipeline U) (same : IsMoved (λ k. k) m o) where
   pub accepted_alike : (t : List Event) → Accepted m t ↔ Accepted o t

@@ -4,7 +4,7 @@ use Rattle.std.specs.Prelude.{◌↔◌}
 use Rattle.hz_base_model.specs.Pairs.{Pair, placed}
 use Rattle.hz_description_model.specs.Reservations.Alternatives.{Alternative}
 use Rattle.hz_description_model.specs.Reservations.Sets.{Statement, Fits}
-use Rattle.hz_acceptance_model.specs.Accepting.Events.{Event, issue, advance}
+use Rattle.hz_acceptance_model.specs.Accepting.Events.{Event, issue, advance, ask}
 use Rattle.hz_acceptance_model.specs.Accepting.Replay.{Pipeline, Treatment, first_fit, State, start, MayTake, FitsAt, Accepted, chosen, pairs_at, Step, Plays}
 use Rattle.hz_acceptance_model.proofs.Accepting.ReplayLaws.{runs_from_accepted, accepted_from_runs}
 use Rattle.hz_automata_model.specs.Reaching.Reach.{Leaves, IsLeft}
@@ -40,10 +40,12 @@ module _ {U : Type 0} (f : ℕ → ℕ) (m o : Pipeline U) (same : IsMoved f m o
 
   step_there : (s : State U) (e : Event) (q : State U) → Step m s e q → Step o s (moved_event f e) q
   step_there s (advance n) q h = h
+  step_there s (ask a u) q h = h
   step_there s (issue k) q (i, may, is) = (i, take_there s k i may, is ∙ ap (λ (ps : List (Pair U)). record { reserved = s.reserved ++ placed s.now ps; now = s.now }) (chosen_same k i))
 
   step_back : (s : State U) (e : Event) (q : State U) → Step o s (moved_event f e) q → Step m s e q
   step_back s (advance n) q h = h
+  step_back s (ask a u) q h = h
   step_back s (issue k) q (i, may, is) = (i, take_back s k i may, is ∙ ap (λ (ps : List (Pair U)). record { reserved = s.reserved ++ placed s.now ps; now = s.now }) (sym (chosen_same k i)))
 
   pub run_there : (s : State U) (t : List Event) (q : State U) → Plays m s t q → Plays o s (moved f t) q

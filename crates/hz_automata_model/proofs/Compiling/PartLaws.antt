@@ -2,7 +2,7 @@
 use Rattle.std.proofs.Common.{◌≡◌, ℕ, ◌≤◌, List, [], ◌∷◌, ◌++◌, Some, replicate, refl, sym, ap, ◌∙◌, subst}
 use Rattle.std.specs.Prelude.{◌↔◌, IsSome}
 use Rattle.hz_base_model.specs.Pairs.{Pair}
-use Rattle.hz_acceptance_model.specs.Accepting.Events.{Event, issue, advance}
+use Rattle.hz_acceptance_model.specs.Accepting.Events.{Event, issue, advance, ask}
 use Rattle.hz_acceptance_model.specs.Accepting.Replay.{Pipeline, Accepted, alternatives_at}
 use Rattle.hz_automata_model.specs.Tables.Tables.{walk}
 use Rattle.hz_automata_model.specs.Tables.Machines.{Part, column_of, word_of, part_walk}
@@ -20,6 +20,7 @@ use Rattle.hz_automata_model.proofs.Compiling.MovedLaws.{accepted_moved, leaves_
 pub word_spelled : (part : Part) (t : List Event) → word_of part t ≡ spelled part.columns (moved (column_of part) t)
 word_spelled part [] = refl
 word_spelled part (issue k ∷ t) = ap (λ (w : List ℕ). column_of part k ∷ w) (word_spelled part t)
+word_spelled part (ask a u ∷ t) = word_spelled part t
 word_spelled part (advance n ∷ t) = ap (λ (w : List ℕ). replicate n part.columns ++ w) (word_spelled part t)
 
 -- A pipeline m, whose classes have the columns of the part in the pipeline c.

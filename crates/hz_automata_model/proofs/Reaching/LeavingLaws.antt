@@ -1,5 +1,5 @@
 -- What choices leave is what runs leave.
-use Rattle.std.proofs.Common.{ℕ, List, subst}
+use Rattle.std.proofs.Common.{List, subst}
 use Rattle.hz_base_model.specs.Pairs.{Pair}
 use Rattle.hz_acceptance_model.specs.Accepting.Replay.{Pipeline, State, Plays, start, left_by}
 use Rattle.hz_acceptance_model.specs.Accepting.Events.{Event}

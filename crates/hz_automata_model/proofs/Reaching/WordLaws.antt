@@ -5,7 +5,7 @@ use Rattle.std.proofs.lemmas.List.{map-append}
 use Rattle.std.proofs.lemmas.List.Elements.{All-nil, All-cons, All-append, All-replicate}
 use Rattle.hz_base_model.specs.Pairs.{Pair}
 use Rattle.hz_acceptance_model.specs.Accepting.Replay.{Pipeline, State, Step, Plays, start, alternatives_at}
-use Rattle.hz_acceptance_model.specs.Accepting.Events.{Event, issue, advance}
+use Rattle.hz_acceptance_model.specs.Accepting.Events.{Event, issue, advance, ask}
 use Rattle.hz_acceptance_model.proofs.Accepting.ReplayLaws.{run_split, run_join}
 use Rattle.hz_automata_model.specs.Reaching.Reach.{Leaves}
 use Rattle.hz_automata_model.specs.Reaching.Columns.{AreColumns, event_at, events_at, spelled}
@@ -25,12 +25,14 @@ abbrev pub IsInside : ℕ → List Event → Type 0
 IsInside columns [] = Unit {0}
 IsInside columns (issue k ∷ t) = (k < columns) × IsInside columns t
 IsInside columns (advance n ∷ t) = IsInside columns t
+IsInside columns (ask a u ∷ t) = IsInside columns t
 
 pub spelled_columns : (columns : ℕ) (t : List Event) → IsInside columns t → AreColumns columns (spelled columns t)
 spelled_columns columns [] inside = All-nil (λ (c : ℕ). c ≤ columns)
 spelled_columns columns (issue k ∷ t) inside =
     let low : k ≤ columns = omega (arith, inside.0) in
     All-cons (λ (c : ℕ). c ≤ columns) k (spelled columns t) low (spelled_columns columns t inside.1)
+spelled_columns columns (ask a u ∷ t) inside = spelled_columns columns t inside
 spelled_columns columns (advance n ∷ t) inside =
     let same : columns ≤ columns = omega arith in
     All-append (λ (c : ℕ). c ≤ columns) (replicate n columns) (spelled columns t) (All-replicate (λ (c : ℕ). c ≤ columns) n columns same) (spelled_columns columns t inside)
@@ -47,6 +49,7 @@ module _ {U : Type 0} (m : Pipeline U) (columns : ℕ) (none : (k : ℕ) → col
   inside_of_run [] s q run = tt
   inside_of_run (issue k ∷ t) s q (middle, (i, may, after), run) = (class_low k i may.fits.0, inside_of_run t middle q run)
   inside_of_run (advance n ∷ t) s q (middle, step, run) = inside_of_run t middle q run
+  inside_of_run (ask a u ∷ t) s q (middle, step, run) = inside_of_run t middle q run
 
   -- the advance n times
   advances : (n : ℕ) (s : State U) → Plays m s (events_at columns (replicate n columns)) (record { reserved = s.reserved; now = n + s.now })
@@ -75,6 +78,7 @@ module _ {U : Type 0} (m : Pipeline U) (columns : ℕ) (none : (k : ℕ) → col
     subst (λ (e : Event). Step m s e middle) (sym (event_of_class columns k (class_low k i may.fits.0))) (i, may, after),
     run_spelled t middle q run,
   )
+  run_spelled (ask a u ∷ t) s q (middle, step, run) = run_spelled t s q (subst (λ (x : State U). Plays m x t q) step run)
   run_spelled (advance n ∷ t) s q (middle, step, run) =
       let next : State U = record { reserved = s.reserved; now = n + s.now } in
       let rest : Plays m next (events_at columns (spelled columns t)) q = run_spelled t next q (subst (λ (x : State U). Plays m x t q) step run) in
@@ -88,6 +92,7 @@ module _ {U : Type 0} (m : Pipeline U) (columns : ℕ) (none : (k : ℕ) → col
     subst (λ (e : Event). Step m s e middle) (event_of_class columns k inside.0) step,
     run_from_spelled t middle q inside.1 run,
   )
+  run_from_spelled (ask a u ∷ t) s q inside run = (s, refl, run_from_spelled t s q inside run)
   run_from_spelled (advance n ∷ t) s q inside run =
       let next : State U = record { reserved = s.reserved; now = n + s.now } in
       let parts = run_split m s q (events_at columns (replicate n columns)) (events_at columns (spelled columns t))

@@ -5,7 +5,7 @@ use Rattle.std.proofs.lemmas.Bool.{cases_lt}
 use Rattle.std.proofs.lemmas.List.{get_or_past}
 use Rattle.std.proofs.lemmas.List.Elements.{All-cons, All-nil}
 use Rattle.std.proofs.lemmas.Option.{none-some}
-use Rattle.hz_acceptance_model.specs.Accepting.Events.{Event, issue, advance, IsOfClass}
+use Rattle.hz_acceptance_model.specs.Accepting.Events.{Event, issue, advance, ask, IsOfClass}
 use Rattle.hz_automata_model.specs.Tables.Tables.{Table, row_of, entry, walk, IsTable}
 use Rattle.hz_automata_model.specs.Tables.Machines.{Part, column_of, word_of}
 use Rattle.hz_automata_model.proofs.Tables.TableLaws.{walk-none}
@@ -65,4 +65,5 @@ module _ (classes : ℕ) (part : Part) (is : IsTable part.rows part.columns) (fi
 pub same_word : (part other : Part) → part.map ≡ other.map → part.columns ≡ other.columns → (t : List Event) → word_of part t ≡ word_of other t
 same_word part other maps columns [] = refl
 same_word part other maps columns (issue k ∷ t) = λ i. slice_index_or (maps i) k (columns i + 1) ∷ same_word part other maps columns t i
+same_word part other maps columns (ask a u ∷ t) = same_word part other maps columns t
 same_word part other maps columns (advance n ∷ t) = λ i. replicate n (columns i) ++ same_word part other maps columns t i

@@ -1,7 +1,9 @@
 -- Laws of machines.
 use Rattle.std.proofs.Common.{◌≡◌, ℕ, zero, suc, List, [], ◌∷◌, ◌++◌, length, slice_get, Option, None, Some, IsTrue, is_some, option_and_then, replicate, refl, sym, ap, ◌∙◌}
-use Rattle.std.proofs.lemmas.List.{append_assoc}
-use Rattle.hz_acceptance_model.specs.Accepting.Events.{Event, issue, advance}
+use Rattle.std.proofs.lemmas.List.{append_assoc, append-nil}
+use Rattle.hz_acceptance_model.specs.Accepting.Events.{Event, issue, advance, ask}
+use Rattle.hz_acceptance_model.specs.Accepting.Asking.{issues_and_advances}
+use Rattle.hz_acceptance_model.proofs.Accepting.AskLaws.{without-append}
 use Rattle.hz_automata_model.specs.Tables.Tables.{Table, entry, walk}
 use Rattle.hz_automata_model.specs.Tables.Machines.{Part, Machine, column_of, next_of, word_of, part_walk, onto_states, parts_walk, machine_walk}
 use Rattle.hz_automata_model.proofs.Tables.TableLaws.{walk-append}
@@ -9,8 +11,15 @@ use Rattle.hz_automata_model.proofs.Tables.TableLaws.{walk-append}
 pub word_of-append : (part : Part) (s t : List Event) → word_of part (s ++ t) ≡ word_of part s ++ word_of part t
 word_of-append part [] t = refl
 word_of-append part (issue class ∷ s) t = ap (λ w. column_of part class ∷ w) (word_of-append part s t)
+word_of-append part (ask a u ∷ s) t = word_of-append part s t
 word_of-append part (advance n ∷ s) t =
     ap (λ w. replicate n part.columns ++ w) (word_of-append part s t) ∙ sym (append_assoc (replicate n part.columns) (word_of part s) (word_of part t))
+
+pub word_of-asked : (part : Part) (t : List Event) → word_of part (issues_and_advances t) ≡ word_of part t
+word_of-asked part [] = refl
+word_of-asked part (issue class ∷ t) = ap (λ w. column_of part class ∷ w) (word_of-asked part t)
+word_of-asked part (advance n ∷ t) = ap (λ w. replicate n part.columns ++ w) (word_of-asked part t)
+word_of-asked part (ask a u ∷ t) = word_of-asked part t
 
 -- ---- one event
 
@@ -23,6 +32,9 @@ issue_alone part state class = entry_alone part.rows (entry part.rows state (col
 
 pub advance_alone : (part : Part) (state : ℕ) → part_walk part state (advance 1 ∷ []) ≡ next_of part state None
 advance_alone part state = entry_alone part.rows (entry part.rows state part.columns)
+
+pub ask_alone : (part : Part) (state automaton query : ℕ) → part_walk part state (ask automaton query ∷ []) ≡ Some state
+ask_alone part state automaton query = refl
 
 -- ---- several parts
 
@@ -44,6 +56,20 @@ parts_walk-append (part ∷ parts) (state ∷ states) s t =
     let own : part_walk part state (s ++ t) ≡ walk part.rows (part_walk part state s) (word_of part t) =
     ap (walk part.rows (Some state)) (word_of-append part s t) ∙ walk-append part.rows (Some state) (word_of part s) (word_of part t) in
     (λ i. onto_states (own i) (parts_walk-append parts states s t i)) ∙ continued part parts t (part_walk part state s) (parts_walk parts states s)
+
+-- the states are left as they are by asks
+pub parts_walk-asked : (parts : List Part) (states : List ℕ) (t : List Event) → parts_walk parts states (issues_and_advances t) ≡ parts_walk parts states t
+parts_walk-asked [] states t = refl
+parts_walk-asked (part ∷ parts) [] t = refl
+parts_walk-asked (part ∷ parts) (state ∷ states) t = λ i. onto_states (walk part.rows (Some state) (word_of-asked part t i)) (parts_walk-asked parts states t i)
+
+pub machine_walk-asked : (m : Machine) (t : List Event) → machine_walk m (issues_and_advances t) ≡ machine_walk m t
+machine_walk-asked m t = parts_walk-asked m.parts (replicate (length m.parts) 0) t
+
+pub machine_walk-ask : (m : Machine) (t : List Event) (automaton query : ℕ) → machine_walk m (t ++ ask automaton query ∷ []) ≡ machine_walk m t
+machine_walk-ask m t automaton query =
+    sym (machine_walk-asked m (t ++ ask automaton query ∷ []))
+    ∙ (ap (machine_walk m) (without-append t (ask automaton query ∷ []) ∙ append-nil (issues_and_advances t)) ∙ machine_walk-asked m t)
 
 -- the states that are walked to, where there are any
 both_some : (next : Option ℕ) (others : Option (List ℕ)) (states : List ℕ) → onto_states next others ≡ Some states → (state : ℕ) × (rest : List ℕ) × (next ≡ Some state) × (others ≡ Some rest) × (states ≡ state ∷ rest)

@@ -1,6 +1,6 @@
 -- Events whose classes go by other numbers: words to prove with, nothing to believe.
 use Rattle.std.specs.Prelude.{◌≡◌, ℕ, List, map}
-use Rattle.hz_acceptance_model.specs.Accepting.Events.{Event, issue, advance}
+use Rattle.hz_acceptance_model.specs.Accepting.Events.{Event, issue, advance, ask}
 use Rattle.hz_acceptance_model.specs.Accepting.Fitting.{AskTheSame}
 use Rattle.hz_acceptance_model.specs.Accepting.Replay.{Pipeline, alternatives_at}
 
@@ -8,6 +8,7 @@ use Rattle.hz_acceptance_model.specs.Accepting.Replay.{Pipeline, alternatives_at
 abbrev pub moved_event : (ℕ → ℕ) → Event → Event
 moved_event f (issue k) = issue (f k)
 moved_event f (advance n) = advance n
+moved_event f (ask a u) = ask a u
 
 abbrev pub moved : (ℕ → ℕ) → List Event → List Event
 moved f t = map (moved_event f) t

@@ -3,7 +3,7 @@
 use Rattle.std.specs.Prelude.{◌≡◌, ◌≢◌, ℕ, ◌+◌, ◌*◌, ◌<◌, ◌≤◌, List, [], ◌∷◌, ◌++◌, Option, Some, None, length, replicate, slice_index_or, All, IsSome}
 use Rattle.std.specs.List.{AllPairs}
 use Rattle.hz_base_model.specs.Limits.{automaton_limit, class_limit}
-use Rattle.hz_acceptance_model.specs.Accepting.Events.{Event, issue, advance}
+use Rattle.hz_acceptance_model.specs.Accepting.Events.{Event, issue, advance, ask}
 use Rattle.hz_automata_model.specs.Tables.StateLimits.{cell_limit}
 use Rattle.hz_automata_model.specs.Tables.Tables.{Table, entry, walk, IsTable}
 
@@ -36,11 +36,13 @@ abbrev pub next_of : Part → ℕ → Option ℕ → Option ℕ
 next_of part state (Some class) = entry part.rows state (column_of part class)
 next_of part state None = entry part.rows state part.columns
 
--- The columns that events take in a part: an issue takes that of its class, an advance of n cycles the advance n times.
+-- The columns that events take in a part: an issue takes that of its class, an advance of n cycles the advance n times, and an
+-- ask none, so that it leaves the state.
 abbrev pub word_of : Part → List Event → List ℕ
 word_of part [] = []
 word_of part (issue class ∷ t) = column_of part class ∷ word_of part t
 word_of part (advance n ∷ t) = replicate n part.columns ++ word_of part t
+word_of part (ask a u ∷ t) = word_of part t
 
 -- the state of a part after events, none as soon as an entry is none
 abbrev pub part_walk : Part → ℕ → List Event → Option ℕ

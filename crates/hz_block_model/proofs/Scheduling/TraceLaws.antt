@@ -1,12 +1,14 @@
 -- What the trace of slots counts.
-use Rattle.std.proofs.Common.{◌≡◌, ℕ, ◌+◌, ◌*◌, ◌-◌, ◌≤◌, Bool, true, false, cond, List, [], ◌∷◌, length, All, refl, arith}
+use Rattle.std.proofs.Common.{◌≡◌, ℕ, ◌+◌, ◌*◌, ◌-◌, ◌≤◌, Bool, true, false, cond, List, [], ◌∷◌, ◌++◌, length, All, refl, ap, ◌∙◌, arith}
 use Rattle.std.specs.Prelude.{nat_lt}
 use Rattle.std.specs.List.{AllPairs}
 use Rattle.std.proofs.lemmas.Bool.{ltb-false}
 use Rattle.std.proofs.lemmas.List.{length-append}
 use Rattle.std.proofs.lemmas.List.Elements.{All-head, All-tail}
 use Rattle.hz_base_model.proofs.Ascending.{AllPairs-head, AllPairs-tail}
-use Rattle.hz_acceptance_model.specs.Accepting.Events.{issue, advance, issues_of, cycles_of}
+use Rattle.hz_acceptance_model.specs.Accepting.Events.{Event, issue, advance, issues_of, cycles_of}
+use Rattle.hz_acceptance_model.specs.Accepting.Asking.{issues_and_advances}
+use Rattle.hz_acceptance_model.proofs.Accepting.AskLaws.{without-append}
 use Rattle.hz_acceptance_model.proofs.Accepting.ReplayLaws.{issues_of-append, cycles_of-append}
 use Rattle.hz_block_model.specs.Scheduling.Schedules.{Graph, Slot, class_at, advance_to, spelled, spell, present}
 use Rattle.hz_block_model.proofs.Scheduling.OneSchedule.{Rises}
@@ -35,6 +37,25 @@ issues_from g cycle (x ∷ slots) =
 
 pub issues_spelled : (g : Graph) (slots : List Slot) → issues_of (spell g slots) ≡ length slots
 issues_spelled g slots = issues_from g 0 slots
+
+-- an advance to a cycle asks nothing
+no_ask : (cycle later : ℕ) → issues_and_advances (advance_to cycle later) ≡ advance_to cycle later
+no_ask cycle later = go (nat_lt cycle later)
+  where
+    go : (b : Bool) → issues_and_advances (cond b (advance (later - cycle) ∷ []) []) ≡ cond b (advance (later - cycle) ∷ []) []
+    go true = refl
+    go false = refl
+
+asks_from : (g : Graph) (cycle : ℕ) (slots : List Slot) → issues_and_advances (spelled g cycle slots) ≡ spelled g cycle slots
+asks_from g cycle [] = refl
+asks_from g cycle (x ∷ slots) =
+    let class = class_at g x.place in
+    without-append (advance_to cycle x.cycle) (issue class ∷ spelled g x.cycle slots)
+    ∙ (ap (λ (es : List Event). es ++ issue class ∷ issues_and_advances (spelled g x.cycle slots)) (no_ask cycle x.cycle)
+    ∙ ap (λ (es : List Event). advance_to cycle x.cycle ++ issue class ∷ es) (asks_from g x.cycle slots))
+
+pub asks_spelled : (g : Graph) (slots : List Slot) → issues_and_advances (spell g slots) ≡ spell g slots
+asks_spelled g slots = asks_from g 0 slots
 
 -- an advance to a cycle is one event at most
 one_event : (cycle later : ℕ) → length (advance_to cycle later) ≤ 1
