@@ -103,7 +103,7 @@ class Aligned:
         return {pair for grids in lists for grid in grids for pair in grid}
 
     def earliest(self):
-        """The earliest cycle in which a class takes a unit of each group; 0 of one that stays."""
+        """The earliest cycle in which a class takes a unit of each group."""
         first = {}
         for item in of_kind(self.items, Class):
             for cycle, unit in self.pairs(item):
@@ -139,6 +139,7 @@ class Aligned:
         return lists[0] if len(lists) == 1 else " + ".join(enclosed(text, ",|") for text in lists)
 
     def moved(self, grid, moves):
+        """A grid with its units moved."""
         return frozenset((cycle - moves.get(self.groups.find(unit), 0), unit) for cycle, unit in grid)
 
     def write(self, fits):
