@@ -1,11 +1,13 @@
 #!/usr/bin/env python3
-"""Extracts each pipeline of GCC's back ends, gives it to hz, and prints a table of the answers.
+"""Extracts each pipeline of GCC's back ends with and without --align, gives both to hz, and prints a table of the answers.
 
-The machine descriptions are those of Debian's package gcc-12-source, unpacked into a folder that is removed, or those of
-a folder with GCC's source.
+If both compile, their tables are compared. If only the aligned one does, drills of both treatments on its tables are
+compared with a calendar of the other. The machine descriptions are those of Debian's package gcc-12-source, unpacked into
+a folder that is removed, or those of a folder with GCC's source.
 """
 import argparse
 import collections
+import copy
 import glob
 import os
 import resource
@@ -14,15 +16,20 @@ import sys
 import tarfile
 import tempfile
 
-from extract import Reader, extract, written
+from extract import Reader, extract
+from extraction.calendars import Calendars
 from extraction.forms import Fault
-from extraction.items import Class, Reservation, Units
+from extraction.items import Class, Options, Reservation, Units
 from extraction.shared import needed
+from extraction.tables import Tables, is_count
+from extraction.writing import written
 
 SOURCES = "/usr/src/gcc-12/gcc-12*.tar.xz"
 MEMORY = 6 << 30
+NUMBER, TURNS = 59, 2000
 
-Row = collections.namedtuple("Row", "name classes status answer seconds changes")
+Answer = collections.namedtuple("Answer", "status told seconds states grids text")
+Row = collections.namedtuple("Row", "target name classes plain aligned agreement changes")
 
 
 def spent():
@@ -35,19 +42,33 @@ def limit_memory():
     resource.setrlimit(resource.RLIMIT_AS, (MEMORY, MEMORY))
 
 
-def answer_of(hz, description, most):
-    """The status of hz on a description, the first line of its answer, and seconds; `most` is how many it may take."""
-    words = [hz, "compile", description]
-    began = spent()
-    with tempfile.TemporaryFile() as out:
+def compiled(hz, items, most):
+    """What hz answers to items, and after how many seconds; `most` is how many it may take."""
+    with tempfile.NamedTemporaryFile("w", suffix=".md", encoding="latin-1") as out, tempfile.TemporaryFile() as answer:
+        out.write(written(items, []))
+        out.flush()
+        began = spent()
         try:
-            status = subprocess.run(words, stdout=out, stderr=out, timeout=most, preexec_fn=limit_memory).returncode
+            status = subprocess.run([hz, "compile", out.name], stdout=answer, stderr=answer, timeout=most,
+                                    preexec_fn=limit_memory).returncode
         except subprocess.TimeoutExpired:
-            return None, f"none in {most} seconds", spent() - began
-        out.seek(0)
-        line = out.readline(4096).decode("latin-1").strip()
-    told = "compiled" if status == 0 else line.replace(f" {description}", "")
-    return status, told, spent() - began
+            return unanswered(f"none in {most} seconds")
+        seconds = spent() - began
+        answer.seek(0)
+        text = answer.read().decode("latin-1")
+        if status == 0:
+            tables = Tables(text)
+            return Answer(status, "compiled", seconds, tables.states(), tables.grids(), text)
+        return Answer(status, text.split("\n")[0].replace(f" {out.name}", ""), seconds, 0, 0, text)
+
+
+def unanswered(why):
+    return Answer(None, why, 0, 0, 0, "")
+
+
+def sizes(answer):
+    """States of all automata, and grids before minimisation."""
+    return f"{answer.states} of {answer.grids} grids" if answer.status == 0 else "-"
 
 
 def unpack(source, folder):
@@ -99,17 +120,68 @@ def left_out(reader, main, files):
     return [(file,) for file in beside if file not in files and has_classes(reader.items(file, False))]
 
 
-def row(hz, reader, name, most, **what):
+def with_option(items, name, given):
+    """A copy of items with or without an option; under `ndfa` query units are units."""
+    made = copy.deepcopy(items)
+    for item in made:
+        if isinstance(item, Options):
+            item.names = [other for other in item.names if other != name]
+        if isinstance(item, Units) and name == "ndfa" and given:
+            item.query = False
+    kept = [item for item in made if not isinstance(item, Options) or item.names]
+    return kept + [Options(items[0].place, [name])] if given else kept
+
+
+def drawn(number, classes):
+    """The class that a number draws."""
+    return number // 65536 % classes
+
+
+def drills_agree(hz, plain, aligned, is_any, most):
+    """Whether the tables of aligned items and the calendars of plain ones answer each turn of a drill in the same way."""
+    answer = compiled(hz, with_option(aligned, "ndfa", is_any), most)
+    if answer.status != 0:
+        return kind_of(answer)
+    tables, calendars, number = Tables(answer.text), Calendars(plain, is_any), NUMBER
+    counts = collections.Counter()
+    for turn in range(TURNS):
+        number = (number * 1103515245 + 12345) % 2147483648
+        place = drawn(number, len(calendars.classes))
+        accepted = calendars.issue(place)
+        if accepted is None:
+            return f"{turn} turns"
+        if accepted != tables.issue(place):
+            return f"DIFFERS at turn {turn}"
+        counts[accepted] += 1
+        if not accepted:
+            calendars.advance()
+            tables.advance()
+    return f"{counts[True]} accepted, {counts[False]} refused"
+
+
+def agreement(hz, plain, aligned, answers, most):
+    """How both ways were compared."""
+    texts = ["\n".join(line for line in answer.text.split("\n") if not is_count(line)) for answer in answers]
+    if answers[0].status == answers[1].status == 0:
+        return "the same tables" if texts[0] == texts[1] else "other tables: DIFFERS"
+    if answers[0].status != 0 and answers[1].status == 0:
+        return "; ".join(f"{'ndfa' if is_any else 'first'}: {drills_agree(hz, plain, aligned, is_any, most)}"
+                         for is_any in (False, True))
+    return "" if answers[0].told == answers[1].told else "another answer"
+
+
+def row(hz, reader, target, name, most, **what):
     """One row of the table: a pipeline or a whole target, with or without --merge."""
     try:
-        taken, told = extract(reader, **what)
+        plain, _ = extract(reader, **what)
+        aligned, told = extract(reader, align=True, **what)
     except Fault as fault:
-        return Row(name, 0, None, f"not read: {fault}", 0, [])
-    with tempfile.NamedTemporaryFile("w", suffix=".md", encoding="latin-1") as out:
-        out.write(written(taken, what["files"] or what["targets"]))
-        out.flush()
-        answer = answer_of(hz, out.name, most)
-    return Row(name, sum(isinstance(item, Class) for item in taken), *answer, [change.kind for change in told])
+        return Row(target, name, 0, *[unanswered(f"not read: {fault}")] * 2, "", [])
+    answers = [compiled(hz, with_option(items, "stats", True), most) for items in (plain, aligned)]
+    same = agreement(hz, plain, aligned, answers, most)
+    short = [answer._replace(text="") for answer in answers]
+    classes = sum(isinstance(item, Class) for item in plain)
+    return Row(target, name, classes, *short, same, [change.kind for change in told])
 
 
 def rows(hz, config, only, most):
@@ -122,41 +194,87 @@ def rows(hz, config, only, most):
         try:
             found = pipelines(reader, main)
         except Fault as fault:
-            yield Row(target, 0, None, f"not read: {fault}", 0, [])
+            yield Row(target, target, 0, *[unanswered(f"not read: {fault}")] * 2, "", [])
             continue
         tries = [(" ".join(files), {"files": list(files), "defs": [main]}) for files in found]
         if len(found) > 1:
             tries.append((f"all of {target}", {"files": [], "targets": [main]}))
         for name, what in tries:
-            first = row(hz, reader, name, most, **what)
+            first = row(hz, reader, target, name, most, **what)
             yield first
-            if "AlternationOfTwo" in first.answer:
-                yield row(hz, reader, name + " --merge", most, merge=True, **what)
+            if "AlternationOfTwo" in first.plain.told:
+                yield row(hz, reader, target, name + " --merge", most, merge=True, **what)
 
 
 def spelled(kinds):
     return ", ".join(f"{count} {kind}" for kind, count in sorted(collections.Counter(kinds).items()))
 
 
-def kind_of(found):
-    """What a row counts as."""
-    words = found.answer.split()
-    if found.status == 0:
+def kind_of(answer):
+    """What an answer counts as."""
+    words = answer.told.split()
+    if answer.status == 0:
         return "compiled"
-    if found.status == 2:
+    if answer.status == 2:
         return "fault " + words[3]
-    if found.status == 3:
+    if answer.status == 3:
         return "limit " + (words[3] if words[1] == "line" else "of states")
-    return found.answer
+    return answer.told
+
+
+def line_of(one):
+    return " | ".join([one.name, str(one.classes), one.plain.told, f"{one.plain.seconds:.2f}", sizes(one.plain),
+                       one.aligned.told, f"{one.aligned.seconds:.2f}", sizes(one.aligned), one.agreement, spelled(one.changes)])
 
 
 def summary(title, found):
     print(f"\n{title}: {len(found)}")
-    for kind, count in collections.Counter(kind_of(one) for one in found).most_common():
-        print(f"  {count} {kind}")
+    for way in ("plain", "aligned"):
+        answers = [getattr(one, way) for one in found]
+        counts = collections.Counter(kind_of(answer) for answer in answers)
+        print(f"  {way}: " + ", ".join(f"{count} {kind}" for kind, count in counts.most_common()))
+        for one in sorted(found, key=lambda one: -getattr(one, way).seconds)[:3]:
+            answer = getattr(one, way)
+            print(f"    {answer.seconds:.2f} s {one.name}: {answer.told}, {sizes(answer)}")
+    print(f"  the same tables: {sum(one.agreement == 'the same tables' for one in found)}")
+    print(f"  drills: {sum('accepted' in one.agreement for one in found)}")
     print(f"  changes: {spelled(kind for one in found for kind in one.changes)}")
-    for one in sorted(found, key=lambda one: -one.seconds)[:5]:
-        print(f"  {one.seconds:.1f} s {one.name}: {one.answer}")
+
+
+def better(first, second):
+    """Of a pipeline without and with --merge, what compiles aligned."""
+    return first if first.aligned.status == 0 else second
+
+
+def is_one(one):
+    """Whether a row is of one pipeline, without --merge."""
+    return not one.name.startswith("all of ") and not one.name.endswith(" --merge")
+
+
+def by_target(found):
+    """The table of docs/GCC.md: of each target how many pipelines compile, and the one with the most grids, aligned."""
+    targets = collections.defaultdict(dict)
+    for one in found:
+        if not one.name.startswith("all of "):
+            own, name = targets[one.target], one.name.replace(" --merge", "")
+            own[name] = better(own.get(name, one), one)
+    print("\n| target | pipelines | compiled | with `--align` | the largest | its grids | its states | seconds |")
+    print("|---|---|---|---|---|---|---|---|")
+    for target, own in sorted(targets.items()):
+        plain = sum(one.target == target and is_one(one) and one.plain.status == 0 for one in found)
+        aligned = [one for one in own.values() if one.aligned.status == 0]
+        if not aligned:
+            print(f"| `{target}` | {len(own)} | {plain} | 0 | | | | |")
+            continue
+        largest = max(aligned, key=lambda one: one.aligned.grids)
+        print(f"| `{target}` | {len(own)} | {plain} | {len(aligned)} | {short(largest.name)} | {largest.aligned.grids:,} "
+              f"| {largest.aligned.states:,} | {largest.aligned.seconds:.2f} |")
+
+
+def short(name):
+    """The first file of a pipeline, without its folder and its ending, and the option that it took."""
+    words = name.split()
+    return f"`{os.path.basename(words[0])[:-3]}`" + (" with `--merge`" if words[-1] == "--merge" else "")
 
 
 def words():
@@ -175,18 +293,21 @@ def main():
         print(f"check-gcc: no {given.source}; Debian's package gcc-12-source has it")
         return 0
     hz, found = os.path.abspath(given.hz), []
-    print("pipeline | classes | answer | seconds | changes")
+    print("pipeline | classes | answer | seconds | states | aligned | seconds | states | compared | changes")
     with tempfile.TemporaryDirectory() as folder:
         for one in rows(hz, unpack(sources[0], folder), given.targets, given.seconds):
+            print(line_of(one), flush=True)
             found.append(one)
-            print(f"{one.name} | {one.classes} | {one.answer} | {one.seconds:.1f} | {spelled(one.changes)}", flush=True)
         os.chdir("/")
     merged = [one for one in found if one.name.endswith("--merge")]
     whole = [one for one in found if one.name.startswith("all of") and one not in merged]
     summary("pipelines", [one for one in found if one not in merged + whole])
     summary("whole targets", whole)
     summary("the same, merged", merged)
-    return 0
+    by_target(found)
+    wrong = [one for one in found if "DIFFERS" in one.agreement]
+    print(f"\ncheck-gcc: {len(wrong)} differ")
+    return 1 if wrong else 0
 
 
 if __name__ == "__main__":

@@ -9,9 +9,10 @@ import collections
 import os
 import sys
 
-from extraction import changes, items, merging
+from extraction import aligning, changes, items, merging
 from extraction.forms import Fault, read_file
 from extraction.shared import needed
+from extraction.writing import is_short, written
 
 EPILOG = """FILE.md, --defs and --target may be given together. Of --defs only what the others need is taken. The status is 0,
 or 2 if an input cannot be read; then nothing is written."""
@@ -48,7 +49,7 @@ class Reader:
         return taken
 
 
-def extract(reader, files, defs=(), targets=(), merge=False):
+def extract(reader, files, defs=(), targets=(), merge=False, align=False):
     """The items that are written, and the changes that were made to them."""
     own = [item for path in targets for item in reader.items(path, True)]
     own += [item for path in files for item in reader.items(path, False)]
@@ -57,16 +58,14 @@ def extract(reader, files, defs=(), targets=(), merge=False):
     shared = [item for item in shared if os.path.realpath(item.place.file) not in mine]
     told = changes.Told()
     taken = changes.change_all(needed(own, shared) + own, own + shared, told)
-    return (merging.merge_automata(taken, told) if merge else taken), told
-
-
-def written(taken, sources):
-    """The text of items, each after a comment with the file and line that it comes from."""
-    lines = [f"; Taken out of {', '.join(sources)} by tools/extract.py.", ""]
-    for item in taken:
-        comment = "; ".join([str(item.place)] + item.notes)
-        lines += ["; " + " ".join(comment.split()), item.text(), ""]
-    return "\n".join(lines)
+    if merge and not align:
+        merging.merge_automata(taken, changes.of_kind(taken, items.Class), told)
+    while merge and align and merging.merge_automata(taken, aligning.stuck(taken), told):
+        pass
+    taken = merging.without_empty(taken)
+    if align:
+        taken = aligning.align_units(taken, told, lambda made: is_short(made, [*targets, *files]))
+    return taken, told
 
 
 def counted(taken, made):
@@ -87,6 +86,8 @@ def words():
                         help="a whole target: this file and all that it includes")
     parser.add_argument("--merge", action="store_true",
                         help="make one automaton of those that one alternation holds together")
+    parser.add_argument("--align", action="store_true",
+                        help="take units earlier, so that none is reserved where no class can ask for it")
     parser.add_argument("files", nargs="*", metavar="FILE.md", help="the files of a pipeline")
     given = parser.parse_args()
     if not given.files and not given.target:
@@ -97,7 +98,7 @@ def words():
 def main():
     given, reader = words(), Reader()
     try:
-        taken, made = extract(reader, given.files, given.defs, given.target, given.merge)
+        taken, made = extract(reader, given.files, given.defs, given.target, given.merge, given.align)
     except Fault as fault:
         print(fault, file=sys.stderr)
         return 2

@@ -67,10 +67,48 @@ replays vector 'refused line 2 qv_pair' 'issue qv_simple' 'issue qv_pair'
 replays vector 'accepted 3 issues 1 cycles' 'issue qv_pair' 'advance 1' 'issue qv_simple' 'issue qv_simple'
 
 python3 "$tools/extract.py" -o port.md --merge --target quill.md 2> reported || wrong "port: status $?"
-[ "$(tail -n 1 reported)" = 'port.md: 8 classes, 15 changes: 4 attribute, 4 condition, 1 guard, 1 merge, 1 option, 1 query, 3 wildcard' ] ||
+[ "$(tail -n 1 reported)" = 'port.md: 8 classes, 14 changes: 4 attribute, 4 condition, 1 guard, 1 merge, 1 option, 3 wildcard' ] ||
     wrong "port: $(tail -n 1 reported)"
 replays port 'accepted 4 issues 0 cycles' 'issue q1_load' 'issue q1_alu' 'issue qv_simple' 'issue qv_simple'
 
+# aligned ANSWER EVENT..: hz answers so to the events on reed.md as it is and aligned
+aligned() {
+    replays plain "$@"
+    replays reed "$@"
+}
+
+extracts reed --align reed-port.md
+python3 "$tools/extract.py" -o plain.md reed-port.md 2> reported || wrong "plain: status $?"
+[ "$(cat reported)" = 'plain.md: 6 classes, 0 changes' ] || wrong "plain: $(cat reported)"
+aligned 'accepted 3 issues 0 cycles' 'issue reed_add' 'issue reed_mul' 'issue reed_nop'
+aligned 'refused line 2 reed_add' 'issue reed_add' 'issue reed_add'
+aligned 'accepted 2 issues 0 cycles' 'issue reed_add' 'issue reed_test'
+aligned 'refused line 3 reed_branch' 'issue reed_add' 'issue reed_mul' 'issue reed_branch'
+aligned 'refused line 3 reed_add' 'issue reed_mul' 'advance 1' 'issue reed_add'
+aligned 'refused line 3 reed_add' 'issue reed_mul' 'advance 2' 'issue reed_add'
+aligned 'accepted 2 issues 3 cycles' 'issue reed_mul' 'advance 3' 'issue reed_add'
+aligned 'refused line 3 reed_div' 'issue reed_div' 'advance 11' 'issue reed_div'
+aligned 'accepted 2 issues 12 cycles' 'issue reed_div' 'advance 12' 'issue reed_div'
+for each in plain reed; do
+    "$hz" compile $each.md > $each.tables || wrong "hz on $each.md: status $?"
+    { cat $each.md; echo; echo '(automata_option "stats")'; } > counted.md
+    "$hz" compile counted.md | sed -n 's/^stats \([0-9]*\) .*/\1/p' | tr '\n' ' ' > $each.grids
+    echo "hz on $each.md: grids $(cat $each.grids)"
+done
+cmp plain.tables reed.tables || wrong "reed.md: other tables"
+[ "$(cat plain.grids)" = '3 1212 324 ' ] && [ "$(cat reed.grids)" = '3 115 96 ' ] || wrong "reed.md: other grids"
+
+# what can't be moved is reported, and stays with all that is tied to it
+extracts left --align left-port.md
+
+# under ndfa no state can be asked, so a query unit is a unit, and is moved
+printf '%s\n' '(define_query_cpu_unit "q")' '(automata_option "ndfa")' \
+    '(define_insn_reservation "late" 1 (const_int 1) "nothing, q")' > any.md
+reported=$(python3 "$tools/extract.py" --align -o asked.md any.md 2>&1)
+[ "$reported" = 'any.md:1: query: query units q under ndfa
+any.md:1: align: 1 cycle earlier: q
+asked.md: 1 classes, 2 changes: 1 align, 1 query' ] || wrong "any.md: $reported"
+grep -q '^(define_cpu_unit "q")' asked.md || wrong "asked.md has a query unit"
 refuses 'bad.md:2: a string that is not closed' '\n(define_automaton "a)\n\n' bad.md
 refuses 'bad.md:2: `(` is not closed' '(define_automaton "a")\n(define_cpu_unit "u" "a"\n\n' bad.md
 refuses 'bad.md:3: `]` closes nothing' '(define_insn "x"\n [(use (reg 1))]\n ])' bad.md
@@ -84,6 +122,8 @@ refuses 'bad.md:2: missing.md: No such file or directory' '\n(include "missing.m
 refuses 'bad.md:1: bad.md includes itself' '(include "bad.md")' --target bad.md
 refuses 'missing.md: No such file or directory' '' bad.md missing.md
 refuses 'bad.md:2: `|` continues no expression' '\n(define_reservation "r" "u||u")' --merge bad.md
+refuses 'bad.md:1: `u` is no number of times' '(define_reservation "r" "u*u")' --align bad.md
+refuses 'bad.md:1: the expression ends too early' '(define_reservation "r" "u*")' --align bad.md
 reported=$(python3 "$tools/extract.py" -o core.md core.md 2>&1)
 [ $? = 2 ] && [ "$reported" = 'core.md: an input is not written over' ] || wrong "own input: $reported"
 

@@ -1,66 +1,11 @@
 """Makes one automaton of those that one alternation holds together."""
-import itertools
-import re
-
 from .changes import of_kind
-from .forms import Fault
+from .expressions import tree_of
 from .items import Automata, Class, Reservation, Units
-
-TOKEN = re.compile(r"[^\s,|+*()]+|[,|+*()]")
-MARKS = ",|+"
-DEPTH = 64
-
-
-def deepest(tokens):
-    """How many parentheses are open at most."""
-    return max(itertools.accumulate((token == "(") - (token == ")") for token in tokens), default=0)
-
-
-class Expression:
-    """Finds the names of each alternation in an expression: those between two bars stand together."""
-
-    def __init__(self, item):
-        self.item, self.tokens, self.alternations = item, TOKEN.findall(item.expression), []
-        if deepest(self.tokens) > DEPTH:
-            raise Fault(item.place, f"more than {DEPTH} parentheses are open")
-        self.names = self.parts(0)
-        if self.tokens:
-            raise Fault(item.place, f"`{self.tokens[0]}` continues no expression")
-
-    def parts(self, level):
-        """The names of parts with a mark of this level, or of a later one, between them."""
-        if level == len(MARKS):
-            return self.repeat()
-        found, several = self.parts(level + 1), False
-        while self.tokens[:1] == [MARKS[level]]:
-            self.tokens.pop(0)
-            found, several = found | self.parts(level + 1), True
-        if several and MARKS[level] == "|":
-            self.alternations.append(found)
-        return found
-
-    def repeat(self):
-        found = self.element()
-        while self.tokens[:1] == ["*"]:
-            del self.tokens[:2]
-        return found
-
-    def element(self):
-        """The names of a name or of an expression in parentheses."""
-        token = self.tokens.pop(0) if self.tokens else None
-        if token == "(":
-            found = self.parts(0)
-            token = self.tokens.pop(0) if self.tokens else None
-            if token == ")":
-                return found
-        elif token and token not in ",|+*)":
-            return {token} - {"nothing"}
-        raise Fault(self.item.place, "the expression ends too early" if token is None
-                    else f"`{token}` continues no expression")
 
 
 class Joined:
-    """Automata in groups; each group is called by its first in the order of the file."""
+    """Names in groups; each group is called by its first in the order of the file."""
 
     def __init__(self, names):
         self.order = {name: place for place, name in enumerate(names)}
@@ -83,7 +28,7 @@ class Leading:
 
     def __init__(self, items):
         self.automaton = {name: item.automaton for item in of_kind(items, Units) for name in item.names}
-        self.names = {item.name: Expression(item).names for item in of_kind(items, Reservation)}
+        self.names = {item.name: tree_of(item).names() for item in of_kind(items, Reservation)}
 
     def reached(self, names):
         """The names, and all names to which their expressions lead."""
@@ -100,20 +45,20 @@ class Leading:
         return {self.automaton[name] for name in self.reached(names) if self.automaton.get(name)}
 
 
-def alternations(items, leading):
-    """Each alternation in a class, or in a reservation to which one leads: the item and the automata there."""
-    classes = of_kind(items, Class)
-    used = leading.reached(name for item in classes for name in Expression(item).names)
-    for item in of_kind(items, Reservation) + classes:
-        if isinstance(item, Class) or item.name in used:
-            for names in Expression(item).alternations:
-                yield item, sorted(leading.automata(names))
+def alternations(items, classes, leading):
+    """Each alternation in one of the classes, or in a reservation to which one leads: the item and the automata there."""
+    used = leading.reached(name for item in classes for name in tree_of(item).names())
+    for item in [item for item in of_kind(items, Reservation) if item.name in used] + classes:
+        for node in tree_of(item).walk():
+            if node.mark == "|":
+                yield item, sorted(leading.automata(node.names()))
 
 
-def merge_automata(items, told):
-    """Automata that one alternation holds together become the first of them."""
+def merge_automata(items, classes, told):
+    """Automata that one alternation of the classes holds together become the first of them. Gives whether there are any."""
     joined = Joined(list(dict.fromkeys(name for item in of_kind(items, Automata) for name in item.names)))
-    for item, together in alternations(items, Leading(items)):
+    before = len(told)
+    for item, together in alternations(items, classes, Leading(items)):
         if joined.join(name for name in together if name in joined.order):
             told.tell(item, "merge", f"{item.name} chooses between units of {', '.join(together)}")
     for item in of_kind(items, Units):
@@ -121,4 +66,9 @@ def merge_automata(items, told):
             item.automaton = joined.find(item.automaton)
     for item in of_kind(items, Automata):
         item.names = [name for name in item.names if joined.find(name) == name]
+    return len(told) > before
+
+
+def without_empty(items):
+    """The items but forms of automata that name none."""
     return [item for item in items if not isinstance(item, Automata) or item.names]

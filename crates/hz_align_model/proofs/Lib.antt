@@ -1,0 +1,3 @@
+pub mod FitLaws
+pub mod MovingLaws
+pub mod WrongMoves

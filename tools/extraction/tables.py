@@ -1,0 +1,56 @@
+"""Reads a tables text, and answers events by it."""
+
+
+def is_count(line):
+    """Whether a line has counts from before minimisation, which say nothing of the machine."""
+    return line.startswith("stats ")
+
+
+class Table:
+    """The table of one automaton: the column of each class, and the rows."""
+
+    def __init__(self, columns):
+        self.columns, self.column, self.rows, self.grids, self.state = columns, [], [], 0, "0"
+
+    def after(self, place):
+        """The state after an issue of a class, or `-`."""
+        return self.rows[int(self.state)][self.column[place]]
+
+    def advance(self):
+        self.state = self.rows[int(self.state)][self.columns]
+
+
+class Tables:
+    """The tables of all automata."""
+
+    def __init__(self, text):
+        self.tables = []
+        for line in text.split("\n"):
+            fields = line.split(" ")
+            if fields[0] == "automaton":
+                self.tables.append(Table(int(fields[2])))
+            elif fields[0] == "map":
+                self.tables[-1].column = [int(field) for field in fields[1:] if field]
+            elif fields[0] == "stats":
+                self.tables[-1].grids = int(fields[1])
+            elif fields[0] == "row":
+                self.tables[-1].rows.append(fields[1:])
+
+    def states(self):
+        return sum(len(table.rows) for table in self.tables)
+
+    def grids(self):
+        return sum(table.grids for table in self.tables)
+
+    def issue(self, place):
+        """Whether an issue of a class is accepted."""
+        after = [table.after(place) for table in self.tables]
+        if "-" in after:
+            return False
+        for table, state in zip(self.tables, after):
+            table.state = state
+        return True
+
+    def advance(self):
+        for table in self.tables:
+            table.advance()
