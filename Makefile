@@ -90,7 +90,7 @@ check-bound: bin/hz
 check-modulo: bin/hz
 	@python3 tools/check_modulo.py bin/hz
 
-# memory refused to a few commands, one request at a time: each run reports it, or answers as before
+# memory refused to each command, one request at a time: each run reports it, or answers as before
 check-memory: bin/hz
 	@python3 tools/check_memory.py bin/hz
 
