@@ -60,9 +60,9 @@ bin/hz: $(call sources,hz) $(addprefix bin/built/,$(first) $(call needs,hz))
 	@rm -rf bin/copies
 	@echo "hz: built bin/hz"
 
-# an example at once, interpreted: nothing is proved and nothing built
+# an example at once: nothing is proved, and nothing stays built
 try:
-	@echo "hz: an example, interpreted and not proved; half a minute"
+	@echo "hz: an example, not proved; a minute or two"
 	@cd crates/hz && rt try --data machine.md=../../examples/divider/machine.md --data busy.trace=../../examples/divider/busy.trace \
 		-- replay machine.md busy.trace 2>&1 | grep -v '^run=\|^checked' || true
 
@@ -70,12 +70,13 @@ try:
 test:
 	@rt ci
 
-# each example and each status of the program, the manual page, and what tools/extract.py writes, against what is expected
+# each example and each status of the program, the manual page, what tools/extract.py writes and what pages show, against what is expected
 examples: bin/hz
 	@sh examples/check.sh bin/hz
 	@sh examples/statuses.sh bin/hz
 	@sh man/check.sh
-	@if command -v python3 > /dev/null; then sh tools/test.sh bin/hz; else echo "no python3: tools/test.sh is not run"; fi
+	@if command -v python3 > /dev/null; then sh tools/test.sh bin/hz && python3 tools/check_pages.py bin/hz; \
+		else echo "no python3: tools/test.sh and tools/check_pages.py are not run"; fi
 
 # compile and then walk, beside replay: on all examples, and on descriptions and traces that a seed makes
 check-walk: bin/hz
@@ -89,7 +90,7 @@ check-bound: bin/hz
 check-modulo: bin/hz
 	@python3 tools/check_modulo.py bin/hz
 
-# memory refused to a few commands, one request at a time: each run reports it, or answers as before
+# memory refused to each command, one request at a time: each run reports it, or answers as before
 check-memory: bin/hz
 	@python3 tools/check_memory.py bin/hz
 

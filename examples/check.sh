@@ -1,8 +1,7 @@
 #!/bin/sh
-# Replays each example trace, walks it on the tables of its machine, schedules each example block that has a machine beside it,
-# evaluates each that has a state, draws each drill, tells each bound, schedules each pair of blocks, tells the reads of each block with a
-# state, overlaps the turns of each loop, and compares status and text with its .answer file: the status on the first line, then the text.
-# The trace of each schedule is replayed on its machine, and so are 40 turns of each loop. What is left behind the reads is what the block
+# Asks the program for the answer to each example, and compares it with the file of the answer: the status on the first line, then the
+# text. Which file is asked of which command is in examples/README.md, and so is what else is tried.
+# The trace of each schedule is replayed on its machine, and so are 40 turns of each loop. What is left after the reads is what the block
 # leaves. Each .tables file is the text that its description compiles to.
 hz=$1
 cd "$(dirname "$0")/.." || exit 2
@@ -53,7 +52,7 @@ trace() {
     fi
 }
 
-# left BLOCK STATE WORDS..: behind the reads that the program, given the words, writes comes what the block leaves of the state
+# left BLOCK STATE WORDS..: after the reads that the program, given the words, writes comes what the block leaves of the state
 left() {
     wanted=$("$hz" eval "$1" "$2")
     example=$1

@@ -19,7 +19,7 @@ run() {
     text=${text%.}
 }
 
-# ends STATUS TEXT WORDS..: the program, which has written `text` and ended with `status`, ended so, with one line feed behind TEXT,
+# ends STATUS TEXT WORDS..: the program, which has written `text` and ended with `status`, ended so, with one line feed after TEXT,
 # or none where there is no text
 ends() {
     if [ "$status" = "$1" ] && [ "$text" = "$2${2:+$newline}" ] && [ ! -s errors ]; then
@@ -40,14 +40,14 @@ expect() {
     ends "$want_status" "$want_text" "$@"
 }
 
-# expect_memory KILOBYTES WORDS..: the program, given the words and so much room for all its memory, tells that it ran out
+# expect_memory KILOBYTES WORDS..: the program, given the words and so much room for all its memory, reports that it ran out
 expect_memory() {
     run "$@"
     shift
     ends 5 memory "$@"
 }
 
-# expect_sink WORDS..: the program, given the words, tells that standard output is closed, and that it is full
+# expect_sink WORDS..: the program, given the words, reports that standard output is closed, and that it is full
 expect_sink() {
     "$hz" "$@" >&- 2> errors
     status=$?
@@ -59,7 +59,7 @@ expect_sink() {
     ends 7 '' "$@"
 }
 
-# expect_front WORDS..: the program, given the words, writes tables, and a front of them into a file that may have no more, and tells it
+# expect_front WORDS..: the program, given the words, writes tables, and a front of them into a file that may have no more, and reports it
 expect_front() {
     "$hz" "$@" > whole
     status=$?
@@ -71,7 +71,7 @@ expect_front() {
     ends 7 '' "$@"
 }
 
-# expect_pipe WORDS..: the program, given the words, writes more than is taken of a pipe, and tells it
+# expect_pipe WORDS..: the program, given the words, writes more than is taken of a pipe, and reports it
 expect_pipe() {
     { "$hz" "$@" 2> errors; echo $? > ended; } | head -c 1 > front
     status=$(cat ended)
@@ -391,7 +391,7 @@ expect 2 'fault return line 1 BadByte' compile return
 printf '\n(define_cpu_unit "a\351")\n' > accent
 expect 2 'fault accent line 2 BadByte' compile accent
 
-# what is wrong behind 50,000 lines, with a name of 300 bytes
+# what is wrong after 50,000 lines, with a name of 300 bytes
 long_name=$(head -c 300 /dev/zero | tr '\0' n)
 yes '' | head -n 50000 > feeds
 { cat feeds; echo "(define_cpu_unit \"$long_name,$long_name\")"; } > late
@@ -446,7 +446,7 @@ expect_sink replay d
 { head -c 20 d; sleep 1; tail -c +21 d; } | { expect 0 'accepted 2 issues 1 cycles' replay /dev/stdin t; exit $bad; } || bad=1
 { head -c 3 twice; sleep 1; tail -c +4 twice; } | { expect 1 'refused line 2 x' replay d /dev/stdin; exit $bad; } || bad=1
 
-# each text is read once, also where a fault, a limit or a refusal is told: what comes in a pipe is gone behind the first read
+# each text is read once, also if a fault, a limit or a refusal is reported: what comes in a pipe is gone after the first read
 once() {
     file=$1
     shift
@@ -522,7 +522,7 @@ expect 4 "$usage" --version
 expect 4 "$usage" -- compile d
 expect 4 "$usage" compile -- d
 
-# a file that fails behind as many bytes as are allowed: it gives words of eight bytes alone, and no single byte
+# a file that fails after as many bytes as are allowed: it gives words of eight bytes alone, and no single byte
 words=/proc/self/pagemap
 if [ -r "$words" ]; then
     expect 6 "file $words could not be read" compile "$words"

@@ -58,6 +58,21 @@ EXCHANGE = """\
 (insn 10 (set (mem (const_int 8)) (reg 1)) (set_attr "type" "store"))
 """
 
+EXAMPLES = os.path.join(os.path.dirname(os.path.dirname(os.path.abspath(__file__))), "examples")
+
+
+def example(name):
+    """The text of a file of the examples."""
+    with open(os.path.join(EXAMPLES, name), encoding="ascii") as text:
+        return text.read()
+
+
+def answer(name):
+    """The status and the text of an answer among the examples: its first line, and the others."""
+    status, text = example(name).split("\n", 1)
+    return int(status), text
+
+
 # what is shown, the command, the texts of its files, the status and the text, and the words after the files
 ROWS = (
     (
@@ -110,6 +125,30 @@ ROWS = (
         (EXCHANGE, "(reg 1 5) (reg 2 7)"),
         0,
         "(reg 1 7)\n(reg 2 5)\n(reg 3 18446744073709551615)\n(reg 4 9)\n(mem 8 7)\n",
+    ),
+    (
+        "reads on an exposed pipeline",
+        "timed",
+        (example("exposed/machine.md"), example("exposed/scaled.block"), example("exposed/scaled.state")),
+        *answer("exposed/scaled.timed"),
+    ),
+    (
+        "a bound by a divider",
+        "bound",
+        (example("lower_bound/machine.md"), example("lower_bound/divisions.block")),
+        *answer("lower_bound/divisions.bound"),
+    ),
+    (
+        "the blocks of two contexts",
+        "duo",
+        (example("two_contexts/machine.md"), example("two_contexts/list.block"), example("two_contexts/powers.block")),
+        *answer("two_contexts/list+powers.duo"),
+    ),
+    (
+        "the kernel of a loop",
+        "modulo",
+        (example("kernel/machine.md"), example("kernel/power.block")),
+        *answer("kernel/power.kernel"),
     ),
 )
 

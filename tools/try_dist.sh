@@ -1,6 +1,6 @@
 #!/bin/sh
 # try_dist.sh FILE: tries a tar file of tools/release.sh in a folder of its own. The checksums apply, and the program answers all
-# examples and what tools/test.sh asks.
+# examples, what tools/test.sh asks, and what pages show.
 file=$(cd "$(dirname "$1")" && pwd)/$(basename "$1")
 work=$(mktemp -d) || exit 2
 trap 'rm -rf "$work"' EXIT
@@ -20,4 +20,5 @@ tried 'checksums' sha256sum --quiet -c SHA256SUMS
 tried 'all examples' sh examples/check.sh bin/hz
 if command -v python3 > /dev/null; then
     tried 'extract.py' sh tools/test.sh bin/hz
+    tried 'what pages show' python3 tools/check_pages.py bin/hz
 fi

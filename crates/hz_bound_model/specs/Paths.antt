@@ -10,7 +10,7 @@ abbrev pub greatest : List ℕ → ℕ
 greatest [] = 0
 greatest (n ∷ ns) = max n (greatest ns)
 
--- `Tail`: of each place the greatest sum of the cost of an edge from it and the tail of the place that it leads to, 0 where no edge
+-- of each place the greatest sum of the cost of an edge from it and the tail of the place that it leads to, 0 where no edge
 -- leads from it. So it is a height where all latencies are 0.
 pub record AreTails (g : Graph) (tails : List ℕ) : Type 0 where
   pub long : length tails ≡ length g.nodes

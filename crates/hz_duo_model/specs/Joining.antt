@@ -10,7 +10,7 @@ use Rattle.hz_block_model.specs.Scheduling.Schedules.{Graph, Slot}
 abbrev pub raised : ℕ → Edge → Edge
 raised n e = record { from = n + e.from; to = n + e.to; cost = e.cost }
 
--- `Joined`: the instructions of the first graph, then those of the second, and the edges of each
+-- the instructions of the first graph, then those of the second, and the edges of each
 abbrev pub joined : Graph → Graph → Graph
 joined g h = record { nodes = g.nodes ++ h.nodes; edges = g.edges ++ map (raised (length g.nodes)) h.edges }
 
@@ -36,7 +36,7 @@ own c slots = map (λ x. record { place = x.place; cycle = x.cycle }) (filter (�
 abbrev pub order_of : List ContextSlot → List (ℕ × ℕ)
 order_of slots = map (λ x. (x.context, x.place)) slots
 
--- `RunTwo`: the states of both contexts behind the instructions at the places of an order, each on the state of its context
+-- the states of both contexts after the instructions at the places of an order, each on the state of its context
 abbrev pub run_two : List Instruction → List Instruction → List (ℕ × ℕ) → State → State → State × State
 run_two first second [] s t = (s, t)
 run_two first second ((c, place) ∷ order) s t =

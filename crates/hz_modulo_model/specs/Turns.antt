@@ -25,11 +25,11 @@ module _ (size interval : ℕ) (slots : List Slot) where
   abbrev pub turns_before : ℕ → ℕ → List Slot
   turns_before count cycle = flat_map (λ c. map (λ place. record { place = place; cycle = c }) (issued_at count c)) (range_with_len 0 cycle)
 
-  -- `Turns`: all slots of so many turns
+  -- all slots of so many turns
   abbrev pub turns : ℕ → List Slot
   turns count = turns_before count (count * interval + (present 0 slots + 1))
 
-  -- `Start`: the trace of endless turns before the start of this turn, advanced to it; no later turn has begun
+  -- the trace of endless turns before the start of this turn, advanced to it; no later turn has begun
   abbrev pub start : Graph → ℕ → List Event
   start g turn = spell (repeated g turn) (turns_before turn (turn * interval)) ++ advance_to (present 0 (turns_before turn (turn * interval))) (turn * interval)
 

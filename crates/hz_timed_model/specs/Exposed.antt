@@ -70,7 +70,7 @@ module _ (block : List Instruction) (number : ℕ → ℕ → ℕ) (start : Stat
   abbrev pub is_ripe : Slot → Left → Bool
   is_ripe x l = nat_le (l.cycle + number l.place x.place) x.cycle
 
-  -- `Seen`: what the newest ripe slot left in each place, or what the state before all has
+  -- what the newest ripe slot left in each place, or what the state before all has
   abbrev pub seen : List Left → Slot → State
   seen lefts x = λ p. word_left start (newest (is_ripe x) lefts p) p
 
@@ -93,6 +93,6 @@ module _ (block : List Instruction) (number : ℕ → ℕ → ℕ) (start : Stat
   reads_of slot lefts (x ∷ slots) =
       map (read_by slot lefts x) (reads_in (slice_get block x.place) (seen lefts x)) ++ reads_of (slot + 1) (left_by lefts x ∷ lefts) slots
 
-  -- `Exposed`: what slots make of the state, whether or not they are legal
+  -- what slots make of the state, whether or not they are legal
   abbrev pub exposed : List Slot → Timed
   exposed slots = record { state = left_state start (lefts_of [] slots); reads = reads_of 0 [] slots }

@@ -72,7 +72,7 @@ guarded_between bypasses is_store out in_ = if is_store then bypass_between (fil
 abbrev pub number_where : List BypassParts → (latency : ℕ) → (is_store : Bool) → ℕ → ℕ → ℕ
 number_where bypasses latency is_store out in_ = unwrap_or (guarded_between bypasses is_store out in_) (unwrap_or (bypass_between (filter (λ b. not b.guard) bypasses) out in_) latency)
 
--- `Number`: the same of two instructions of these classes
+-- the same of two instructions of these classes
 abbrev pub number_between : List BypassParts → (latency out in_ : ℕ) → (first second : Instruction) → ℕ
 number_between bypasses latency out in_ first second = number_where bypasses latency (stores_data first second) out in_
 

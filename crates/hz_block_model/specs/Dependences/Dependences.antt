@@ -43,7 +43,7 @@ abbrev pub at_places : ((between since : ℕ → Bool) (first second : Access) �
 at_places test block i j (Some first) (Some second) = test (is_written block (i + 1) j) (is_written block i j) (access_of first) (access_of second)
 at_places test block i j _ _ = false
 
--- `Dep`: the instruction at j depends on the one at i, which stands before it
+-- the instruction at j depends on the one at i, which comes before it
 abbrev pub depends : List Instruction → ℕ → ℕ → Bool
 depends block i j = nat_lt i j && at_places (λ b s f g. is_true b s f g || is_anti b s f g || is_output b s f g) block i j (slice_get block i) (slice_get block j)
 
@@ -53,7 +53,7 @@ pub record Timing : Type 0 where
   pub latency : ℕ → ℕ
   pub number : ℕ → ℕ → ℕ
 
--- `Cost`: the greatest of the costs of the dependences between two places: of a true one its number, of an anti-dependence 0, of
+-- the greatest of the costs of the dependences between two places: of a true one its number, of an anti-dependence 0, of
 -- an output dependence the difference of the latencies, at least 0
 abbrev pub cost : List Instruction → Timing → ℕ → ℕ → ℕ
 cost block t i j = max

@@ -27,7 +27,7 @@ registers_set i = flat_map registers_set_by i.effects
 abbrev pub addresses_set : Instruction → List Value
 addresses_set i = flat_map addresses_set_by i.effects
 
--- `Stores`: the second sets a cell and no register, and no register that the first sets occurs in the address of a cell that it sets
+-- the second sets a cell and no register, and no register that the first sets occurs in the address of a cell that it sets
 abbrev pub stores_data : (first second : Instruction) → Bool
 stores_data first second =
     nat_lt 0 (length (addresses_set second))

@@ -45,7 +45,7 @@ abbrev pub spelled : Graph → ℕ → List Slot → List Event
 spelled g cycle [] = []
 spelled g cycle (x ∷ slots) = advance_to cycle x.cycle ++ issue (class_at g x.place) ∷ spelled g x.cycle slots
 
--- `Spell`: the trace of a schedule
+-- the trace of a schedule
 abbrev pub spell : Graph → List Slot → List Event
 spell g slots = spelled g 0 slots
 
