@@ -331,7 +331,8 @@ def main():
     """Runs the rows of all groups, or of those that are named."""
     parser = argparse.ArgumentParser(description=__doc__)
     parser.add_argument("hz", help="the program")
-    parser.add_argument("groups", nargs="*", choices=[[], *(group.__name__ for group in GROUPS)], help="only these rows")
+    parser.add_argument("groups", nargs="*", choices=[[], *(group.__name__ for group in GROUPS)], help="only rows of these")
+    parser.add_argument("--only", default="", help="only rows that are shown with this text")
     given = parser.parse_args()
     wrong = count = 0
     for group in GROUPS:
@@ -340,6 +341,8 @@ def main():
         with tempfile.TemporaryDirectory() as path:
             folder = Folder(path)
             for shown, words, status, pieces in group(folder):
+                if given.only not in shown:
+                    continue
                 begun = time.monotonic()
                 found = run(os.path.abspath(given.hz), folder, words, status, pieces)
                 print(f"{shown}: {found or 'as wanted'}, {time.monotonic() - begun:.1f} s", flush=True)
