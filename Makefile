@@ -29,7 +29,7 @@ build = sh tools/build_crate.sh $(1) $(beside)
 jobs =
 endif
 
-.PHONY: all try test examples check-walk check-bound check-modulo check-memory check-gcc bench install uninstall dist deb clean
+.PHONY: all try test examples check-walk check-bound check-modulo check-memory check-large check-gcc bench install uninstall dist deb clean
 
 all: bin/hz
 
@@ -93,6 +93,10 @@ check-modulo: bin/hz
 # memory refused to each command, one request at a time: each run reports it, or answers as before
 check-memory: bin/hz
 	@python3 tools/check_memory.py bin/hz
+
+# each command at the ends of sizes, and just past them: files of up to 1 GB in the folder for what is temporary, and ample memory
+check-large: bin/hz
+	@python3 tools/check_large.py bin/hz
 
 # each pipeline of GCC's back ends; GCC_SOURCE is what Debian's package gcc-12-source installs, or a folder
 check-gcc: bin/hz

@@ -61,7 +61,8 @@ dist() {
     root=$work/$name
     documents "$root"
     copy "$root" VERSION man/hz.1 tools/extract.py tools/extraction/*.py tools/test.sh tools/test/* \
-        tools/check_gcc.py tools/check_walk.py tools/check_bound.py tools/check_modulo.py tools/check_memory.py tools/check_pages.py tools/refuse_memory.c
+        tools/check_gcc.py tools/check_walk.py tools/check_bound.py tools/check_modulo.py tools/check_memory.py tools/check_pages.py tools/refuse_memory.c \
+        tools/check_large.py tools/large/*.py
     install -D -m 755 "$program" "$root/bin/hz" || exit 2
     sums sha256sum "$root" > "$work/sums" && mv "$work/sums" "$root/SHA256SUMS" || exit 2
     dated "$root"

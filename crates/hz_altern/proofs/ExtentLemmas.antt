@@ -10,7 +10,8 @@ use Rattle.hz_regexp.specs.declared.expr.Expr.{Expr}
 use Rattle.hz_regexp.specs.Shape.{expressions}
 use Rattle.hz_altern.specs.declared.mark.Mark.{Mark}
 use Rattle.hz_altern.specs.declared.mark.Mark.TheVariants.{Comma, Bar, Plus}
-use Rattle.hz_altern.specs.Joinings.{joined_lists, joined_parts}
+use Rattle.hz_altern.specs.Joinings.{joined_parts}
+use Rattle.hz_altern.proofs.JoinedLists.{joined_lists}
 use Rattle.hz_altern.specs.Tables.{AreRight, AreRightIn}
 use Rattle.hz_altern.specs.Extents.{cut_extent, joined_extents, repeated_extent}
 use Rattle.hz_altern.proofs.Lengths.{greatest-append, greatest-followed, greatest-beside, greatest-copies}

@@ -19,7 +19,8 @@ use Rattle.hz_altern.specs.declared.listing.joining.Joining.TheVariants.{Togethe
 use Rattle.hz_altern.specs.declared.mark.Mark.{Mark}
 use Rattle.hz_altern.specs.declared.mark.Mark.TheVariants.{Comma, Bar, Plus}
 use Rattle.hz_altern.specs.Answers.{total_weight, Refuses}
-use Rattle.hz_altern.specs.Joinings.{IsListed, joined_by, joined_parts, joined_lists, left_behind, listed_lists}
+use Rattle.hz_altern.specs.Joinings.{IsListed, joined_by, joined_parts, left_behind, listed_lists}
+use Rattle.hz_altern.proofs.JoinedLists.{joined_lists}
 use Rattle.hz_altern.specs.Tables.{alternatives_in, known_alternatives, is_held}
 use Rattle.hz_altern.proofs.ChoiceWeights.{parts_weigh}
 use Rattle.hz_altern.proofs.KnownLemmas.{some_of, placed_of, some_of_parts, placed_of_parts, all_listed}

@@ -3,6 +3,7 @@ pub mod Cutting
 pub mod TableLemmas
 pub mod Nodes
 pub mod OrderLemmas
+pub mod JoinedLists
 pub mod PartLemmas
 pub mod ExtentLemmas
 pub mod Shapes

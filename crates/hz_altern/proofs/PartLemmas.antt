@@ -7,7 +7,8 @@ use Rattle.hz_regexp.specs.declared.expr.Expr.{Expr}
 use Rattle.hz_regexp.specs.Shape.{expression, expressions}
 use Rattle.hz_altern.specs.declared.mark.Mark.{Mark}
 use Rattle.hz_altern.specs.declared.mark.Mark.TheVariants.{Comma, Bar, Plus}
-use Rattle.hz_altern.specs.Joinings.{joined_parts, joined_lists}
+use Rattle.hz_altern.specs.Joinings.{joined_parts}
+use Rattle.hz_altern.proofs.JoinedLists.{joined_lists}
 use Rattle.hz_altern.specs.Tables.{AreRight, AreRightIn}
 use Rattle.hz_description_model.specs.Reservations.AlternativeLists.{Extent}
 use Rattle.hz_description_model.specs.Reservations.Alternatives.{Alternative, Expression, alternatives_of, any_of, parts_of}

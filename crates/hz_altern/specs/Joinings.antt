@@ -25,12 +25,6 @@ joined_parts Comma known parts = in_sequence known parts
 joined_parts Bar known parts = any_of known parts
 joined_parts Plus known parts = together known parts
 
--- the alternatives of two parts with this mark between them
-abbrev pub joined_lists : Mark → List (Alternative UnitPlace) → List (Alternative UnitPlace) → List (Alternative UnitPlace)
-joined_lists Comma xs ys = each_choice followed_by xs ys
-joined_lists Bar xs ys = xs ++ ys
-joined_lists Plus xs ys = each_choice beside xs ys
-
 -- the same of lists of listed alternatives
 abbrev pub listed_lists : Mark → List (Alternative UnitPlace) → List (Alternative UnitPlace) → List (Alternative UnitPlace)
 listed_lists Comma xs ys = each_choice (joined_by InSequence) xs ys

@@ -4,7 +4,7 @@ use Rattle.std.proofs.lemmas.Bool.{cases_lt}
 use Rattle.std.proofs.lemmas.List.{get_or_past}
 use Rattle.hz_automata_model.specs.Tables.Tables.{row_of, IsTable}
 use Rattle.hz_tables.specs.Rows.{Rows, KeepsRows}
-use Rattle.hz_automata_rows.specs.Leading.{AreRows}
+use Rattle.hz_automata_rows.proofs.LeadingRows.{AreRows}
 
 none_some : (next : ℕ) → None ≡ Some next → ⊥
 none_some next e = cc

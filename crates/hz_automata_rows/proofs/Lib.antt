@@ -1,2 +1,3 @@
+pub mod LeadingRows
 pub mod LeadingLemmas
 pub mod RowLemmas

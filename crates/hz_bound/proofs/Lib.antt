@@ -1,3 +1,4 @@
+pub mod BegunChains
 pub mod TailLemmas
 pub mod CycleLemmas
 pub mod TallyLemmas

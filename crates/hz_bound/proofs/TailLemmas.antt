@@ -14,7 +14,8 @@ use Rattle.hz_bound_model.proofs.WayLaws.{greatest_held}
 use Rattle.hz_depend.specs.declared.parts.Edge.{Edge}
 use Rattle.hz_description_model.specs.Reading.Limits.{latency_limit}
 use Rattle.hz_block_model.specs.Running.Limits.{instruction_limit}
-use Rattle.hz_bound.specs.Rows.{sum_of, Carries, lesser, least_in, IsChainOf, TailsFrom, LeadUp, IsBegun}
+use Rattle.hz_bound.specs.Rows.{sum_of, Carries, lesser, least_in, IsChainOf, TailsFrom, LeadUp}
+use Rattle.hz_bound.proofs.BegunChains.{IsBegun}
 
 same_sums : (f h : Edge → ℕ) (row : List Edge) → ((e : Edge) → Contains row e → f e ≡ h e) → map f row ≡ map h row
 same_sums f h [] same = refl

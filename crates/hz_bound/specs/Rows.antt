@@ -1,5 +1,5 @@
 -- Tails and chains by rows of edges, one for each place. These words are only to prove with.
-use Rattle.std.specs.Prelude.{◌≡◌, ℕ, ◌+◌, ◌*◌, ◌<◌, ◌≤◌, ◌==◌, List, [], ◌∷◌, ◌++◌, map, slice_index, length, min, if◌then◌else◌, Option, Some}
+use Rattle.std.specs.Prelude.{◌≡◌, ℕ, ◌+◌, ◌*◌, ◌<◌, ◌≤◌, ◌==◌, List, [], ◌∷◌, map, slice_index, length, min, if◌then◌else◌, Option, Some}
 use Rattle.std.specs.Option.{option_map_or}
 use Rattle.std.specs.List.{Contains}
 use Rattle.hz_description_model.specs.Reading.Limits.{latency_limit}
@@ -45,10 +45,6 @@ pub record TailsFrom (rows : ℕ → List Edge) (n place : ℕ) (tails : List �
 -- Edges of rows lead upwards, and cost little.
 pub record LeadUp (rows : ℕ → List Edge) (n : ℕ) : Type 0 where
   pub up : (i : ℕ) (e : Edge) → Contains (rows i) e → (i < e.to) × (e.to < n) × (e.cost ≤ latency_limit)
-
--- A chain up to a place: whatever goes on from there makes it a chain.
-pub record IsBegun (rows : ℕ → List Edge) (tails : List ℕ) (place : ℕ) (chain : List ℕ) : Type 0 where
-  pub goes : (rest : List ℕ) → Follows rows tails place rest → IsChainOf rows tails (chain ++ rest)
 
 -- The greatest tail of a graph, with its chain.
 pub record IsPathOf (g : Graph) (most : ℕ) (places : List ℕ) : Type 0 where

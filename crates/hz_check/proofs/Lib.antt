@@ -1,4 +1,5 @@
 pub mod Lists
 pub mod Tables
+pub mod HeldNumbers
 pub mod Telling
 pub mod Built

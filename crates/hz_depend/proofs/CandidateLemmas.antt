@@ -13,7 +13,8 @@ use Rattle.hz_block_model.specs.Dependences.Graphs.{Edge}
 use Rattle.hz_depend.specs.Held.{Held, meet, cost_by, is_true, is_anti, is_output, cost_held, edge_by, found, found_among, writes, last_of}
 use Rattle.hz_depend.specs.Lists.{list_at}
 use Rattle.hz_depend.specs.Marks.{place_before, all_lists, other_lists, below}
-use Rattle.hz_depend.specs.Noted.{key_of, same_key, is_unknown, has_base, has_key, places, had, CellPlaces, Places, AreCells, AreNoted, known_candidates, cell_candidates, candidates}
+use Rattle.hz_depend.specs.Noted.{key_of, same_key, is_unknown, has_base, has_key, CellPlaces, Places, known_candidates, cell_candidates, candidates}
+use Rattle.hz_depend.proofs.NotedPlaces.{places, had, AreCells, AreNoted}
 use Rattle.hz_depend.proofs.LastLemmas.{none_after}
 use Rattle.hz_depend.proofs.NotedLemmas.{any_passes, among_there, flat_map_has, places_has, below_has, all_lists_has, other_lists_has}
 

@@ -22,7 +22,8 @@ use Rattle.hz_block_model.specs.Dependences.Dependences.{depends, Timing}
 use Rattle.hz_block_model.specs.Dependences.Graphs.{Edge, edge, IsGraph}
 use Rattle.hz_block_model.proofs.Dependences.UpwardLaws.{upwards}
 use Rattle.hz_depend.specs.GraphShape.{latencies_of, timing_in}
-use Rattle.hz_depend.specs.Held.{Held, node_for, class_number, number, cost_by, cost_held, is_true, is_anti, is_output, last_of, all_found}
+use Rattle.hz_depend.specs.Held.{Held, node_for, class_number, cost_by, cost_held, is_true, is_anti, is_output, last_of, all_found}
+use Rattle.hz_depend.proofs.HeldNumbers.{number}
 use Rattle.hz_depend.proofs.LastLemmas.{nodes_in, block_in}
 use Rattle.hz_depend.proofs.PairLemmas.{true_same, anti_same, output_same, depends_is, cost_is}
 use Rattle.hz_depend.proofs.FoundLemmas.{all_has, all_only, all_once}

@@ -4,6 +4,7 @@ pub mod LastLemmas
 pub mod PairLemmas
 pub mod FoundLemmas
 pub mod SameLemmas
+pub mod HeldNumbers
 pub mod NumberLemmas
 pub mod HeightLemmas
 pub mod EdgeLemmas
@@ -11,6 +12,7 @@ pub mod BoundLemmas
 pub mod GraphLemmas
 pub mod MadeLemmas
 pub mod MarkLemmas
+pub mod NotedPlaces
 pub mod NotedLemmas
 pub mod CandidateLemmas
 pub mod TableLemmas

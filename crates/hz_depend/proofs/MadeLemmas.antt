@@ -15,7 +15,8 @@ use Rattle.hz_depend.specs.declared.parts.Graph.{Graph}
 use Rattle.hz_depend.specs.declared.parts.GraphInsn.{GraphInsn}
 use Rattle.hz_depend.specs.Shape.{class_for}
 use Rattle.hz_depend.specs.GraphShape.{edge_of, latencies_of, first_class_fault, IsGraphOf, IsSchedulable}
-use Rattle.hz_depend.specs.Held.{Held, held, node_for, class_number, number_of_class, number, all_found}
+use Rattle.hz_depend.specs.Held.{Held, held, node_for, class_number, number_of_class, all_found}
+use Rattle.hz_depend.proofs.HeldNumbers.{number}
 use Rattle.hz_depend.specs.Numbers.{numbers_in, HoldsNumbers}
 use Rattle.hz_depend.specs.declared.finding.numbers.Numbers.{Numbers}
 use Rattle.hz_depend.proofs.NumberLemmas.{numbers_are}

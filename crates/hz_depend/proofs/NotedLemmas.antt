@@ -9,7 +9,8 @@ use Rattle.std.proofs.lemmas.List.Elements.{Contains-append_left, Contains-appen
 use Rattle.hz_base_model.proofs.Elements.{Contains-nil, Contains-head, Contains-tail, Contains-cons_cases}
 use Rattle.hz_depend.specs.Lists.{list_at}
 use Rattle.hz_depend.specs.Marks.{below, all_lists, other_lists}
-use Rattle.hz_depend.specs.Noted.{hits, ends_with, put, put_all, places}
+use Rattle.hz_depend.specs.Noted.{hits, ends_with, put, put_all}
+use Rattle.hz_depend.proofs.NotedPlaces.{places}
 
 -- one that passes
 pub record Passes {X : Type 0} (p : X → Bool) (xs : List X) : Type 0 where

@@ -16,7 +16,7 @@ use Rattle.hz_description_model.specs.Check.CheckedParts.{BypassParts}
 use Rattle.hz_block_model.specs.Dependences.Classes.{bypass_between, number_between}
 use Rattle.hz_block_model.specs.Running.Blocks.{Instruction}
 use Rattle.hz_depend.specs.declared.finding.numbers.Numbers.{Numbers}
-use Rattle.hz_depend.specs.Held.{number}
+use Rattle.hz_depend.proofs.HeldNumbers.{number}
 use Rattle.hz_depend.specs.Numbers.{has_guard, served, numbers_in, HoldsNumbers}
 
 -- the numbers that are held are those of the bypasses

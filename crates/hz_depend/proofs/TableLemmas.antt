@@ -11,7 +11,8 @@ use Rattle.hz_depend.specs.declared.nodes.Node.{Node}
 use Rattle.hz_depend.specs.Held.{Held, held, found, found_among, cost_held, last_of}
 use Rattle.hz_depend.specs.Lists.{list_at}
 use Rattle.hz_depend.specs.Marks.{marked}
-use Rattle.hz_depend.specs.Noted.{hits, put_all, places, is_unknown, has_base, has_key, had, CellPlaces, Places, IsBlank, HasMore, HasNoted, AreCells, AreNoted, candidates}
+use Rattle.hz_depend.specs.Noted.{hits, put_all, is_unknown, has_base, has_key, CellPlaces, Places, IsBlank, HasMore, HasNoted, candidates}
+use Rattle.hz_depend.proofs.NotedPlaces.{places, had, AreCells, AreNoted}
 use Rattle.hz_depend.proofs.FoundLemmas.{slice_get-take, length-take_at}
 use Rattle.hz_depend.proofs.MarkLemmas.{has_mark}
 use Rattle.hz_depend.proofs.CandidateLemmas.{no_cost, found_same}

@@ -5,14 +5,13 @@ use Rattle.std.specs.Option.{option_map, option_to_list}
 use Rattle.hz_rtl.specs.declared.block.Insn.{Insn}
 use Rattle.hz_rtl.specs.Shape.{instruction}
 use Rattle.hz_check.specs.declared.checked.Checked.{Checked}
-use Rattle.hz_description_model.specs.Check.CheckedParts.{BypassParts}
 use Rattle.hz_depend.specs.declared.nodes.Node.{Node}
 use Rattle.hz_depend.specs.Cells.{cells}
 use Rattle.hz_depend.specs.Shape.{class_for}
 use Rattle.hz_depend.specs.GraphShape.{latencies_of}
 use Rattle.hz_block_model.specs.Dependences.Accesses.{access_of, is_among, Based, based_of}
 use Rattle.hz_block_model.specs.Dependences.Dependences.{apart_by}
-use Rattle.hz_block_model.specs.Dependences.Classes.{ClassFault, number_between}
+use Rattle.hz_block_model.specs.Dependences.Classes.{ClassFault}
 use Rattle.hz_block_model.specs.Running.Blocks.{Instruction}
 use Rattle.hz_block_model.specs.Dependences.Graphs.{Edge}
 
@@ -65,10 +64,6 @@ node_for checked insn = kept (class_number checked insn) (slice_index (latencies
 -- some two of these cells aren't apart
 abbrev pub meet : (ℕ → Bool) → List (Option Based) → List (Option Based) → Bool
 meet since vs ws = list_any (λ v. list_any (λ w. not (apart_by since v w)) ws) vs
-
--- the cycles of a true dependence
-abbrev pub number : List BypassParts → Held → Held → ℕ
-number bypasses f s = number_between bypasses f.latency f.class s.class f.instruction s.instruction
 
 -- the cost of a dependence that is true, an anti-dependence, or an output dependence, if it is any
 abbrev pub cost_by : Bool → Bool → Bool → ℕ → ℕ → Option ℕ

@@ -1,6 +1,6 @@
 -- The places of instructions by what they read and write, and from them those that an instruction may depend on. These words are
 -- only to prove with.
-use Rattle.std.specs.Prelude.{◌≡◌, ℕ, zero, suc, ◌-◌, ◌%◌, ◌==◌, Bool, true, false, ◌&&◌, if◌then◌else◌, List, [], ◌∷◌, ◌++◌, Option, Some, None, length, slice_get}
+use Rattle.std.specs.Prelude.{◌≡◌, ℕ, ◌-◌, ◌%◌, ◌==◌, Bool, true, false, ◌&&◌, if◌then◌else◌, List, [], ◌∷◌, ◌++◌, Option, Some, None, length, slice_get}
 use Rattle.std.specs.List.{flat_map}
 use Rattle.std.specs.Option.{option_map_or}
 use Rattle.hz_block_model.specs.Running.Operators.{word_count}
@@ -26,11 +26,6 @@ put list place = if ends_with list place then list else list ++ place ∷ []
 abbrev pub put_all : List ℕ → List ℕ → List ℕ
 put_all list [] = list
 put_all list (p ∷ more) = put_all (put list p) more
-
--- below an end, each place once if it has items that pass a test
-abbrev pub places : {X : Type 0} → (X → Bool) → (ℕ → List X) → ℕ → List ℕ
-places test items zero = []
-places test items (suc n) = put_all (places test items n) (hits test (items n) n)
 
 -- a base register with a constant
 abbrev pub Key : Type 0
@@ -92,23 +87,6 @@ pub record HasNoted (place : ℕ) (h : Held) (old new : Places) : Type 0 where
   pub writers : (r : ℕ) → list_at new.writers r ≡ put_all (list_at old.writers r) (hits (λ n. n == r) h.registers_written place)
   pub read : HasMore place h.cells_read old.read new.read
   pub written : HasMore place h.cells_written old.written new.written
-
--- what the instruction at a place has of something
-abbrev pub had : {X : Type 0} → (Held → List X) → List Held → ℕ → List X
-had what nodes i = option_map_or what (slice_get nodes i) []
-
--- the cells of the instructions below a place are noted
-pub record AreCells (touched : ℕ → List (Option Based)) (n : ℕ) (c : CellPlaces) : Type 0 where
-  pub unknown : c.unknown ≡ places is_unknown touched n
-  pub bases : (b : ℕ) → list_at c.bases b ≡ places (has_base b) touched n
-  pub keys : (k : Key) → c.keys k ≡ places (has_key k) touched n
-
--- the instructions below a place are noted
-pub record AreNoted (nodes : List Held) (n : ℕ) (p : Places) : Type 0 where
-  pub readers : (r : ℕ) → list_at p.readers r ≡ places (λ m. m == r) (had (λ h. h.registers_read) nodes) n
-  pub writers : (r : ℕ) → list_at p.writers r ≡ places (λ m. m == r) (had (λ h. h.registers_written) nodes) n
-  pub read : AreCells (had (λ h. h.cells_read) nodes) n p.read
-  pub written : AreCells (had (λ h. h.cells_written) nodes) n p.written
 
 -- the places of cells that aren't apart from one with a base
 abbrev pub known_candidates : CellPlaces → (last : ℕ → ℕ) → Based → List ℕ

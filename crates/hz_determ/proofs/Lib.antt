@@ -1,9 +1,12 @@
 pub mod FlatLemmas
+pub mod TriedGrids
 pub mod JoinLemmas
 pub mod ListsLemmas
+pub mod SpacesSoFar
 pub mod SpaceLemmas
 pub mod UnionLemmas
 pub mod ReadLemmas
+pub mod SetsSoFar
 pub mod SetLemmas
 pub mod BuildLemmas
 pub mod LateLemmas

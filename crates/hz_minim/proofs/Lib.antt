@@ -4,8 +4,10 @@ pub mod ArrowLaws
 pub mod ApartLaws
 pub mod MoveLaws
 pub mod BucketLaws
+pub mod LedStates
 pub mod LeadLemmas
 pub mod SettleLemmas
 pub mod ReadLemmas
+pub mod FoldedRows
 pub mod FoldLemmas
 pub mod WalkLaws

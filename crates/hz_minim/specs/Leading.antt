@@ -1,5 +1,5 @@
 -- Leaders: for each state one that stands for it.
-use Rattle.std.specs.Prelude.{◌≡◌, ◌≢◌, ◌⊎◌, ℕ, zero, suc, ◌+◌, ◌<◌, ◌≤◌, ◌==◌, List, Option, Some, None, if◌then◌else◌, All, length, slice_index_or, slice_set}
+use Rattle.std.specs.Prelude.{◌≡◌, ◌≢◌, ◌⊎◌, ℕ, ◌+◌, ◌<◌, ◌≤◌, List, Option, Some, None, length, slice_index_or, slice_set}
 use Rattle.hz_automata_model.specs.Tables.Tables.{Table, entry}
 use Rattle.hz_automata_model.specs.Tables.Apart.{Apart}
 use Rattle.hz_automata_model.specs.Least.Blocks.{block_of}
@@ -65,18 +65,6 @@ pub record IsParted (table : Table) (leaders : List ℕ) (other column k : ℕ) 
   pub each : length parted ≡ k
   pub at : (state : ℕ) → state < k → IsPartedTo table leaders other column state (leader_of parted state)
 
--- how many of the first k states another one leads
-abbrev pub led_below : List ℕ → ℕ → ℕ
-led_below leaders zero = 0
-led_below leaders (suc k) = (if leader_of leaders k == k then 0 else 1) + led_below leaders k
-
 -- The first state of a block is noted: it stands there already, or it is this one.
 pub record HasFirst (old : List (Option ℕ)) (block state : ℕ) (new : List (Option ℕ)) (first : ℕ) : Type 0 where
   pub step : ((slice_index_or old block None ≡ Some first) × (new ≡ old)) ⊎ ((slice_index_or old block None ≡ None) × (first ≡ state) × (new ≡ slice_set old block (Some state)))
-
--- the first states of blocks, and the leaders of the first k states
-pub record LedSoFar (blocks : List ℕ) (k : ℕ) (firsts : List (Option ℕ)) (leaders : List ℕ) : Type 0 where
-  pub each : length leaders ≡ k
-  pub room : All (λ block. block < length firsts) blocks
-  pub held : (state : ℕ) → state < k → slice_index_or firsts (block_of blocks state) None ≡ Some (leader_of leaders state)
-  pub first : (block state : ℕ) → slice_index_or firsts block None ≡ Some state → (state < k) × (leader_of leaders state ≡ state)

@@ -10,7 +10,8 @@ use Rattle.hz_block_model.specs.Scheduling.Schedules.{Graph, Slot, class_at, pre
 use Rattle.hz_block_model.specs.Scheduling.Machines.{Settles, can_start}
 use Rattle.hz_block_model.proofs.Scheduling.SameSchedules.{greedy_within, spelled_of_class}
 use Rattle.hz_sched.specs.Waits.{issued_at}
-use Rattle.hz_sched.specs.Standing.{IsAt, IsUpward, left_below}
+use Rattle.hz_sched.specs.Standing.{IsAt, left_below}
+use Rattle.hz_sched.proofs.UpwardEdges.{IsUpward}
 use Rattle.hz_sched.proofs.SlotLemmas.{none_issued, slot_of_issue, Least, least_left}
 use Rattle.hz_block_model.proofs.Scheduling.SlotLaws.{below_present}
 use Rattle.hz_sched.proofs.WalkLemmas.{front_walked, walk_behind, walk_to, walk_split}

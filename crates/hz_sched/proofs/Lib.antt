@@ -5,6 +5,7 @@ pub mod SlotLemmas
 pub mod WaitLemmas
 pub mod WalkLemmas
 pub mod StandLemmas
+pub mod UpwardEdges
 pub mod ComesLemmas
 pub mod KeyLemmas
 pub mod QueueLemmas

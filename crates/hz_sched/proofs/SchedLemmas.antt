@@ -28,7 +28,8 @@ use Rattle.hz_sched.specs.declared.parts.Slot as made
 use Rattle.hz_sched.specs.declared.board.Board.{Board}
 use Rattle.hz_sched.specs.declared.queue.Queue.{Queue}
 use Rattle.hz_sched.specs.Waits.{issued_at, and_issued}
-use Rattle.hz_sched.specs.Standing.{IsAt, IsUpward, AllStart, left_below}
+use Rattle.hz_sched.specs.Standing.{IsAt, AllStart, left_below}
+use Rattle.hz_sched.proofs.UpwardEdges.{IsUpward}
 use Rattle.hz_sched.specs.Pending.{Key, key_of, keys_at, AreWaits, IsInRange, IsQueue, AreLater, IsBoard, may}
 use Rattle.hz_block_model.proofs.Scheduling.SlotLaws.{present-push, below_present}
 use Rattle.hz_sched.proofs.SlotLemmas.{left_less}

@@ -1,10 +1,8 @@
 -- How far a schedule has come. These words are only to prove with.
 use Rattle.std.specs.Prelude.{◌≡◌, ℕ, zero, suc, ◌+◌, ◌-◌, ◌<◌, ◌≤◌, true, is_some, if◌then◌else◌, List, [], ◌∷◌, ◌++◌, length, Option, Some}
 use Rattle.std.specs.List.{Contains, AllPairs}
-use Rattle.hz_description_model.specs.Reading.Limits.{latency_limit}
 use Rattle.hz_acceptance_model.specs.Accepting.Events.{advance}
 use Rattle.hz_automata_model.specs.Tables.Machines.{Machine, machine_walk, IsWalked}
-use Rattle.hz_block_model.specs.Dependences.Graphs.{Edge}
 use Rattle.hz_block_model.specs.Scheduling.Schedules.{Graph, Slot, class_at, present, spell, Greedy, IsCandidate}
 use Rattle.hz_block_model.specs.Scheduling.Machines.{can_start}
 use Rattle.hz_sched.specs.Waits.{issued_at}
@@ -22,10 +20,6 @@ pub record IsAt (m : Machine) (g : Graph) (slots : List Slot) (cycle : ℕ) (sta
 abbrev pub left_below : (ℕ → Option ℕ) → ℕ → ℕ
 left_below at zero = 0
 left_below at (suc n) = (if is_some (at n) then 0 else 1) + left_below at n
-
--- Edges lead upwards among the instructions, and their costs are small.
-pub record IsUpward (g : Graph) : Type 0 where
-  pub upward : (e : Edge) → Contains g.edges e → (e.from < e.to) × (e.to < length g.nodes) × (e.cost ≤ latency_limit)
 
 -- The class of each instruction can be issued from the start.
 pub record AllStart (m : Machine) (g : Graph) : Type 0 where

@@ -4,7 +4,8 @@ use Rattle.std.specs.Prelude.{nat_lt, IsFalse, length}
 use Rattle.std.proofs.lemmas.List.{reverse-append}
 use Rattle.hz_base_model.specs.Forms.Trees.{Trees}
 use Rattle.hz_base_model.specs.Forms.Forms.{Bracket, OpenBracket, Token, opens, closes, leaf, spelled_tree, closed, depth_limit, Step, FormFault, too_deep, stray, FaultAt, Faulty}
-use Rattle.hz_base_model.specs.Forms.FormFronts.{front, push, enclosed_by}
+use Rattle.hz_base_model.specs.Forms.FormFronts.{front, enclosed_by}
+use Rattle.hz_base_model.proofs.Forms.PushedForms.{push}
 use Rattle.hz_base_model.proofs.Forms.FormsFront.{front-push, front-close, same_is, Front, front_on}
 use Rattle.hz_sexp.specs.declared.form.Form.{Form}
 use Rattle.hz_sexp.specs.declared.reader.Frame as code

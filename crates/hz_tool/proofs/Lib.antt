@@ -5,6 +5,7 @@ pub mod BlockTelling
 pub mod DuoLemmas
 pub mod JudgeLemmas
 pub mod KernelLemmas
+pub mod ToldStates
 pub mod MachineLemmas
 pub mod ReadLemmas
 pub mod ReplayLaws

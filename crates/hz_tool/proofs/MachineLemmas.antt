@@ -21,7 +21,7 @@ use Rattle.hz_replay.specs.Replaying.{FirstUnwalked}
 use Rattle.hz_automata_model.specs.Tables.Machines.{Machine, machine_walk}
 use Rattle.hz_tool.proofs.AnswerLemmas.{agrees_weaker}
 use Rattle.hz_tool.specs.Decisions.{Agrees}
-use Rattle.hz_tool.specs.Fronts.{IsStatesTold}
+use Rattle.hz_tool.proofs.ToldStates.{IsStatesTold}
 use Rattle.hz_tool.specs.Machines.{IsMachineFor, Refuses}
 use Rattle.hz_tool.specs.declared.decision.Decision.{Decision}
 use Rattle.hz_tool.specs.declared.decision.Decision.TheVariants.{Automaton, Memory}

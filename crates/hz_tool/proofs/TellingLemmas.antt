@@ -30,7 +30,7 @@ use Rattle.hz_description_model.specs.Reading.DescriptionForms as description_fo
 use Rattle.hz_description_model.specs.Reading.Descriptions.{Description}
 use Rattle.hz_mdread.specs.Shape.{options as options_of}
 use Rattle.hz_tool.specs.Decisions.{Agrees, IsJudged}
-use Rattle.hz_tool.specs.Fronts.{IsStatesTold}
+use Rattle.hz_tool.proofs.ToldStates.{IsStatesTold}
 use Rattle.hz_tool.specs.Machines.{Refuses}
 use Rattle.hz_tool.specs.Telling.{decide_fault, decide_check, decide_states, refused_at, limited}
 use Rattle.hz_tool.specs.declared.decision.Decision.{Decision}

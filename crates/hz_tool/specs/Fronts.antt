@@ -1,5 +1,5 @@
 -- What the phases on a description give to those after them.
-use Rattle.std.specs.Prelude.{◌≡◌, ◌⊎◌, ⊤, ℕ, List}
+use Rattle.std.specs.Prelude.{◌⊎◌, ℕ, List}
 use Rattle.hz_answer_model.specs.Answers.{TellsDescription, TellsCheck}
 use Rattle.hz_answer_model.specs.Phases.{TellsFault}
 use Rattle.hz_check.specs.Checked.{IsCheckedOf}
@@ -11,7 +11,6 @@ use Rattle.hz_base_model.specs.Forms.Forms as forms
 use Rattle.hz_base_model.specs.Forms.Trees.{Trees}
 use Rattle.hz_tool.specs.Decisions.{Agrees}
 use Rattle.hz_tool.specs.declared.decision.Decision.{Decision}
-use Rattle.hz_tool.specs.declared.decision.Decision.TheVariants.{Automaton, Memory}
 
 -- What is held is what the description gives that bytes say.
 pub record IsCheckedIn (bytes : List ℕ) (checked : Checked) : Type 0 where
@@ -28,9 +27,3 @@ TellsSaid name read told = Agrees (TellsDescription name read) told ⊎ ((d : De
 -- what is wrong with the description that bytes say
 abbrev pub TellsDescribed : List ℕ → List ℕ → Decision → Type 0
 TellsDescribed name bytes told = Agrees (TellsFault form_word (forms.FaultAt bytes) name) told ⊎ ((read : Trees) × forms.Reads bytes read × TellsSaid name read told)
-
--- an automaton that has too many states is told by its name, or memory ran out
-abbrev pub IsStatesTold : List ℕ → List ℕ → Decision → Type 0
-IsStatesTold name automaton (Automaton file at) = (file.now ≡ name) × (at ≡ automaton)
-IsStatesTold name automaton Memory = ⊤
-IsStatesTold name automaton _ = ⊥

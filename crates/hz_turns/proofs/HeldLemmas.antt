@@ -4,7 +4,8 @@ use Rattle.std.specs.Prelude.{IsTrue, ◌↔◌, nat_lt, IfNone}
 use Rattle.std.specs.Global.{Vec}
 use Rattle.std.proofs.lemmas.Bool.{cases_lt, lt-ltb, le-ltb}
 use Rattle.std.proofs.lemmas.List.{length-append}
-use Rattle.hz_turns.specs.Repeating.{lists_in, states_at, AreKept}
+use Rattle.hz_turns.specs.Repeating.{lists_in, states_at}
+use Rattle.hz_turns.proofs.KeptStates.{AreKept}
 
 pub held_at : (held : List (Vec ℕ)) (i : ℕ) (x : Vec ℕ) → i < length held → x ≡ get_or held i x → states_at (lists_in held) i ≡ x.items
 held_at [] i x lt is = absurd (omega arith)

@@ -1,5 +1,6 @@
 mod WalkingLemmas
 mod StateLemmas
 mod ScanLemmas
+mod KeptStates
 mod HeldLemmas
 pub mod RepeatLemmas

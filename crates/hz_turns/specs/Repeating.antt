@@ -1,5 +1,5 @@
 -- When turns repeat on a machine, by the slots of their kernel.
-use Rattle.std.specs.Prelude.{◌≡◌, ℕ, zero, suc, ◌+◌, ◌-◌, ◌<◌, ◌≤◌, true, is_some, List, [], length, map, Option, Some, option_and_then, slice_index_or}
+use Rattle.std.specs.Prelude.{◌≡◌, ℕ, zero, suc, ◌+◌, ◌<◌, ◌≤◌, true, is_some, List, [], map, Option, Some, option_and_then, slice_index_or}
 use Rattle.std.specs.Global.{Vec}
 use Rattle.hz_automata_model.specs.Tables.Machines.{Machine, parts_walk, starts_of}
 use Rattle.hz_block_model.specs.Scheduling.Schedules.{Graph}
@@ -40,8 +40,3 @@ lists_in held = map (λ v. v.items) held
 -- those at an index
 abbrev pub states_at : List (List ℕ) → ℕ → List ℕ
 states_at lists i = slice_index_or lists i []
-
--- The starts from one on are kept, up to another.
-pub record AreKept (edge : ℕ → Option (List ℕ)) (stages turn : ℕ) (lists : List (List ℕ)) : Type 0 where
-  pub many : length lists ≡ turn - stages
-  pub each : (i : ℕ) → i < length lists → edge (stages + i) ≡ Some (states_at lists i)

@@ -5,7 +5,8 @@ use Rattle.std.proofs.lemmas.List.{append-nil, length-map}
 use Rattle.std.proofs.lemmas.Bool.{cases_Bool, lt-ltb, ltb-true}
 use Rattle.hz_base_model.specs.Forms.Trees.{Tree, Trees, none, more}
 use Rattle.hz_base_model.specs.Forms.Forms.{Bracket, round, square, same_bracket, OpenBracket, Token, opens, closes, leaf, spelled_tree, spelled, open_after_all, Step, Reading, Reads, FormFault, FaultAt, Word, Comment, Inside, line_end}
-use Rattle.hz_base_model.specs.Forms.FormFronts.{Frame, brackets, front, push, enclosed_by}
+use Rattle.hz_base_model.specs.Forms.FormFronts.{Frame, brackets, front, enclosed_by}
+use Rattle.hz_base_model.proofs.Forms.PushedForms.{push}
 use Rattle.hz_base_model.proofs.Forms.FormsNext.{Next, goes, stops, IsNext, is_next}
 use Rattle.hz_base_model.proofs.Forms.FormsLaws.{open_after_all-append}
 

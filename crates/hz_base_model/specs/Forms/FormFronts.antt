@@ -1,7 +1,7 @@
 -- To prove with, nothing to believe: no other definition uses it.
 -- A front of a text that is read: the brackets that are open, each with the forms before it, and the forms behind them.
 use Rattle.std.specs.Prelude.{ℕ, List, [], ◌∷◌, ◌++◌, map}
-use Rattle.hz_base_model.specs.Forms.Trees.{Tree, Trees, list, vector, none, more}
+use Rattle.hz_base_model.specs.Forms.Trees.{Tree, Trees, list, vector}
 use Rattle.hz_base_model.specs.Forms.Forms.{Bracket, round, square, OpenBracket, Token, opens, spelled}
 
 -- an open bracket, and the forms that stand before it in the list or vector around it
@@ -16,11 +16,6 @@ brackets frames = map (λ (f : Frame). f.opened) frames
 abbrev pub front : List Frame → Trees → List Token
 front [] forms = spelled forms
 front (inner ∷ outer) forms = front outer inner.before ++ (opens inner.opened.bracket inner.opened.line ∷ spelled forms)
-
--- one more form at the end
-abbrev pub push : Trees → Tree → Trees
-push none form = more form none
-push (more first others) form = more first (push others form)
 
 -- what a bracket and its partner enclose
 abbrev pub enclosed_by : Bracket → ℕ → Trees → Tree

@@ -1,5 +1,5 @@
 use Rattle.std.proofs.Common.{◌<◌, ◌≤◌, length}
-use Rattle.hz_bound.specs.Rows.{IsBegun}
+use Rattle.hz_bound.proofs.BegunChains.{IsBegun}
 use Rattle.hz_sched.specs.Rows.{row_at}
 use Rattle.hz_bound.proofs.chain.chain_of.Given as goal
 

@@ -1,5 +1,6 @@
 use Rattle.std.proofs.Common.{◌≡◌, ◌+◌, slice_index_or, ◌<◌, ◌++◌, ◌∷◌, [], ℕ, length, subst, sym, rules}
-use Rattle.hz_minim.specs.Leading.{HasFirst, LedSoFar}
+use Rattle.hz_minim.specs.Leading.{HasFirst}
+use Rattle.hz_minim.proofs.LedStates.{LedSoFar}
 use Rattle.hz_minim.proofs.LeadLemmas.{led_more, led_all}
 use Rattle.hz_minim.proofs.leading.leaders_of.Goals as goal
 

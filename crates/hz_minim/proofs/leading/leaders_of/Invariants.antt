@@ -1,4 +1,4 @@
-use Rattle.hz_minim.specs.Leading.{LedSoFar}
+use Rattle.hz_minim.proofs.LedStates.{LedSoFar}
 use Rattle.hz_minim.proofs.leading.leaders_of.Given as goal
 
 abbrev pub invariant-loop-state : goal.invariant-loop-state

@@ -1,5 +1,6 @@
 use Rattle.std.proofs.Common.{length}
-use Rattle.hz_minim.specs.Leading.{IsCoarse, led_below}
+use Rattle.hz_minim.specs.Leading.{IsCoarse}
+use Rattle.hz_minim.proofs.LedStates.{led_below}
 use Rattle.hz_minim.proofs.settling.settle.Given as goal
 
 abbrev pub invariant-loop-state : goal.invariant-loop-state

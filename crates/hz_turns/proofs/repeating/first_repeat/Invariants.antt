@@ -2,7 +2,8 @@ use Rattle.std.proofs.Common.{◌≡◌, Some, [], map}
 use Rattle.hz_automata_model.specs.Tables.Machines.{parts_walk}
 use Rattle.hz_tables.specs.Machines.{machine_of}
 use Rattle.hz_turns.specs.Walking.{kernel_slot_of, graph_of}
-use Rattle.hz_turns.specs.Repeating.{edge_by, drain_by, lists_in, AreKept}
+use Rattle.hz_turns.specs.Repeating.{edge_by, drain_by, lists_in}
+use Rattle.hz_turns.proofs.KeptStates.{AreKept}
 use Rattle.hz_turns.proofs.ScanLemmas.{IsScanned}
 use Rattle.hz_turns.proofs.repeating.first_repeat.Given as goal
 

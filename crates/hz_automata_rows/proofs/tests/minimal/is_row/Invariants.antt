@@ -1,4 +1,4 @@
-use Rattle.hz_automata_rows.specs.Leading.{LeadsWithin}
+use Rattle.hz_automata_rows.proofs.LeadingRows.{LeadsWithin}
 use Rattle.hz_automata_rows.proofs.tests.minimal.is_row.Given as goal
 
 abbrev pub invariant-loop-column : goal.invariant-loop-column

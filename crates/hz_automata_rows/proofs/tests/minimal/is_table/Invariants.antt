@@ -1,4 +1,4 @@
-use Rattle.hz_automata_rows.specs.Leading.{AreRows}
+use Rattle.hz_automata_rows.proofs.LeadingRows.{AreRows}
 use Rattle.hz_automata_rows.proofs.tests.minimal.is_table.Given as goal
 
 abbrev pub invariant-loop-state : goal.invariant-loop-state

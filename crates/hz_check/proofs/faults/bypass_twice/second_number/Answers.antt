@@ -6,7 +6,8 @@ use Rattle.hz_mdread.specs.declared.items.BypassItem.{BypassItem as StoredBypass
 use Rattle.hz_mdread.specs.declared.items.ClassItem.{ClassItem as StoredClass}
 use Rattle.hz_mdread.specs.declared.description.Description.{Description as StoredDescription}
 use Rattle.hz_mdread.specs.Shape.{description, bypass_item, class_item}
-use Rattle.hz_check.specs.Faults.Bypasses.{rows_of, number_at, is_other, HoldsNumbers}
+use Rattle.hz_check.specs.Faults.Bypasses.{rows_of, number_at, is_other}
+use Rattle.hz_check.proofs.HeldNumbers.{HoldsNumbers}
 use Rattle.hz_check.specs.Names.First.{first_of}
 use Rattle.hz_check.proofs.Telling.BypassSteps.{told_here, not_here, holds_next}
 use Rattle.hz_check.proofs.Lists.InOrder.{AllPairs-drop}

@@ -3,7 +3,7 @@ use Rattle.std.specs.Prelude.{slice_index}
 use Rattle.hz_depend.specs.Numbers.{numbers_in}
 use Rattle.hz_depend.specs.GraphShape.{edge_of}
 use Rattle.hz_depend.specs.Held.{held, last_of, all_found}
-use Rattle.hz_depend.specs.Noted.{AreNoted}
+use Rattle.hz_depend.proofs.NotedPlaces.{AreNoted}
 use Rattle.hz_depend.specs.Tables.{tables_of}
 use Rattle.hz_depend.proofs.building.edges.edges_of.Given as goal
 

@@ -4,7 +4,7 @@ use Rattle.std.proofs.lemmas.List.{length-map}
 use Rattle.hz_check.specs.Shape.{automaton_of}
 use Rattle.hz_tool.proofs.MachineLemmas.{limit_told}
 use Rattle.hz_tool.proofs.TellingLemmas.{limited_past, states_told, states_judged}
-use Rattle.hz_tool.specs.Fronts.{IsStatesTold}
+use Rattle.hz_tool.proofs.ToldStates.{IsStatesTold}
 use Rattle.hz_tool.proofs.phases.compiling.decide_limit.Goals as goal
 
 pub name_of-requires : goal.name_of-requires
