@@ -1,8 +1,8 @@
 -- What rules say of one cycle, of all cycles and of two grids.
-use Rattle.std.proofs.Common.{◌≡◌, ℕ, ◌+◌, ◌<◌, ◌≤◌, ◌↔◌, ◌⊎◌, inl, inr, Bool, true, false, List, [], ◌∷◌, ◌++◌, map, get_or, length, All, refl, sym, ap, ◌∙◌, subst, arith, ⊎_elim}
+use Rattle.std.proofs.Common.{◌≡◌, ℕ, ◌+◌, ◌-◌, ◌<◌, ◌≤◌, take, drop, length-drop, ◌↔◌, ◌⊎◌, inl, inr, Bool, true, false, List, [], ◌∷◌, ◌++◌, map, get_or, length, All, refl, sym, ap, ◌∙◌, subst, arith, ⊎_elim}
 use Rattle.std.proofs.lemmas.Bool.{cases_lt}
-use Rattle.std.proofs.lemmas.List.{append-nil, append_assoc, map_push}
-use Rattle.std.proofs.lemmas.List.Elements.{All-contains, All-map, All-push, Contains-get_or, Contains-append_left, Contains-append_right, Contains-append_cases}
+use Rattle.std.proofs.lemmas.List.{get_or-drop, take_all, append-nil, append_assoc, map_push}
+use Rattle.std.proofs.lemmas.List.Elements.{All-drop, All-contains, All-map, All-push, Contains-get_or, Contains-append_left, Contains-append_right, Contains-append_cases}
 use Rattle.hz_base_model.specs.Pairs.{Pair, placed}
 use Rattle.hz_description_model.specs.Reservations.Sets.{Statement, exclusion, final_presence, Holds, HoldsSome, HoldsPattern, AllowsIn, Fits}
 use Rattle.hz_base_model.proofs.Elements.{Contains-map}
@@ -251,6 +251,28 @@ first_more rules source add count asked before read here k d low = ⊎_elim
     subst (λ (n : ℕ). Allows (asked_statement (get_or rules n d)) source add) is
     (subst (λ (a : Asked). Allows (asked_statement a) source add) (read d) here))
     (cases_lt k count)
+
+-- the rules from that place on
+abbrev pub rest_of : List Asked → ℕ → List Asked
+rest_of rules place = take (length rules - place) (drop place rules)
+
+rest_is : (rules : List Asked) (place : ℕ) → rest_of rules place ≡ drop place rules
+rest_is rules place = take_all (length rules - place) (drop place rules) (rw (length-drop) (omega arith))
+
+pub all_rest : (P : Asked → Type 0) (rules : List Asked) (place : ℕ) → All P rules → All P (rest_of rules place)
+all_rest P rules place h = subst (All P) (sym (rest_is rules place)) (All-drop P place rules h)
+
+-- the first rules allow each cycle, and so do the rest
+pub rest_allow : (rules : List Asked) (source add : List (Pair ℕ)) (place : ℕ) → FirstAllow rules source add place → All (λ asked. Allows (asked_statement asked) source add) (rest_of rules place) → All (λ asked. Allows (asked_statement asked) source add) rules
+rest_allow rules source add place before rest k d within = ⊎_elim
+    (λ (less : k < place). before k d less)
+    (λ (same : place ≤ k).
+    let back : place + (k - place) ≡ k = omega (arith, same) in
+    let inside : k - place < length (drop place rules) = rw (length-drop) (omega (arith, same, within)) in
+    let dropped = subst (All (λ asked. Allows (asked_statement asked) source add)) (rest_is rules place) rest in
+    subst (λ (n : ℕ). Allows (asked_statement (get_or rules n d)) source add) back
+    (subst (λ (a : Asked). Allows (asked_statement a) source add) (get_or-drop place rules (k - place) d) (dropped (k - place) d inside)))
+    (cases_lt k place)
 
 -- ---- two grids
 

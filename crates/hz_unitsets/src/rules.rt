@@ -115,7 +115,7 @@ fn none_broken(rules: &[Asked], source: &Grid) -> bool
     rules.iter().all(|asked| !asked.rule.is_broken(source))
 }
 
-// How often patterns are looked for rule by rule, before all cycles are asked at once.
+// How often patterns are looked for rule by rule, before the cycles are asked about together.
 const FIRST_LOOKS: usize = 256;
 
 // How often patterns are looked for rule by rule after that, before it is gone cycle by cycle.
@@ -127,7 +127,7 @@ fn patterns_in(looks: usize, cycles: usize) -> usize {
 }
 
 // Whether each rule allows each cycle, where the source breaks none. A few rules that an added unit may break are asked of
-// all cycles. Where there are more, each cycle is asked of all rules.
+// all cycles. Where there are more, the rest are asked of these together first.
 fn all_allow(rules: &[Asked], source: &Grid, add: &Usage) -> bool
     requires asked { All IsAsked rules.now }
     requires unbroken { All (λ asked. ¬ Breaks (asked_statement asked) source.now) rules.now }
@@ -135,11 +135,11 @@ fn all_allow(rules: &[Asked], source: &Grid, add: &Usage) -> bool
 {
     let units = add.units();
     let mut left = patterns_in(FIRST_LOOKS, add.rows().len());
-    for asked in rules {
+    for (at, asked) in rules.iter().enumerate() {
         if asked.triggers.meets(units) {
             let count = asked.rule.pattern_count();
             if left < count {
-                return all_allow_whole(rules, source, add);
+                return all_allow_whole(&rules[at..], source, add);
             }
             left -= count;
             if !asked.allows_each(source, add) {
@@ -270,7 +270,7 @@ fn all_allow_rows(rules: &[Asked], there: Row<4>, added: Row<4>) -> bool
 }
 
 // Whether some rule forbids what has these pairs, where the source breaks none. A few rules that a unit of the pairs may
-// break are asked of all cycles. Where there are more, each cycle is asked of all rules.
+// break are asked of all cycles. Where there are more, the rest are asked of these together first.
 fn some_forbids(rules: &[Asked], source: &Grid, part: &Usage) -> bool
     requires asked { All IsAsked rules.now }
     requires unbroken { All (λ asked. ¬ Breaks (asked_statement asked) source.now) rules.now }
@@ -278,11 +278,11 @@ fn some_forbids(rules: &[Asked], source: &Grid, part: &Usage) -> bool
 {
     let units = part.units();
     let mut left = patterns_in(FIRST_LOOKS, part.rows().len());
-    for asked in rules {
+    for (at, asked) in rules.iter().enumerate() {
         if asked.triggers.meets(units) {
             let count = asked.rule.pattern_count();
             if left < count {
-                return some_forbids_whole(rules, source, part);
+                return some_forbids_whole(&rules[at..], source, part);
             }
             left -= count;
             if asked.forbids(source, part) {
