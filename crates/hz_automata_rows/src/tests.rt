@@ -6,6 +6,7 @@ ghost use Rattle.hz_tables.specs.Parts.{part_of};
 ghost use Rattle.hz_automata_model.specs.Tables.Machines.{IsPart};
 
 mod alternatives;
+mod asking;
 mod automata;
 mod cycles;
 mod explored;

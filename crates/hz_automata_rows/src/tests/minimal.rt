@@ -12,7 +12,7 @@ use std::alloc::Global;
 use std::process::Abort;
 use std::test::Fail;
 
-type Row = Vec<Option<u32>>;
+pub(super) type Row = Vec<Option<u32>>;
 
 /// How many columns stand before the advance, the rows of a table, and those of the least one.
 type Example = (
@@ -134,7 +134,12 @@ fn push(
 }
 
 // These rows as a table.
-fn table_of(rt: &impl Abort, alloc: Global, columns: u32, rows: &[Row]) -> Result<Plain, NoMemory> {
+pub(super) fn table_of(
+    rt: &impl Abort,
+    alloc: Global,
+    columns: u32,
+    rows: &[Row],
+) -> Result<Plain, NoMemory> {
     assert!(rt; columns <= 1024);
     let mut plain = Plain::new(alloc, columns);
     for row in rows {
@@ -144,7 +149,12 @@ fn table_of(rt: &impl Abort, alloc: Global, columns: u32, rows: &[Row]) -> Resul
 }
 
 // The row of a state.
-fn row_of(rt: &impl Abort, alloc: Global, plain: &Plain, state: u32) -> Result<Row, NoMemory> {
+pub(super) fn row_of(
+    rt: &impl Abort,
+    alloc: Global,
+    plain: &Plain,
+    state: u32,
+) -> Result<Row, NoMemory> {
     let mut row = Vec::new(alloc);
     for column in 0..plain.columns() + 1 {
         assert!(rt; state < plain.states());
@@ -154,7 +164,7 @@ fn row_of(rt: &impl Abort, alloc: Global, plain: &Plain, state: u32) -> Result<R
 }
 
 // The rows of the least table.
-fn least_rows(
+pub(super) fn least_rows(
     rt: &impl Abort,
     alloc: Global,
     columns: u32,
@@ -172,7 +182,7 @@ fn least_rows(
 }
 
 // Rows of their own.
-fn owned(alloc: Global, rows: &[&[Option<u32>]]) -> Result<Vec<Row>, NoMemory> {
+pub(super) fn owned(alloc: Global, rows: &[&[Option<u32>]]) -> Result<Vec<Row>, NoMemory> {
     let mut all = Vec::new(alloc);
     for row in rows {
         all.push(Vec::from_slice(alloc, row)?)?;
