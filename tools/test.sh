@@ -79,7 +79,8 @@ aligned() {
 
 extracts reed --align reed-port.md
 python3 "$tools/extract.py" -o plain.md reed-port.md 2> reported || wrong "plain: status $?"
-[ "$(cat reported)" = 'plain.md: 6 classes, 0 changes' ] || wrong "plain: $(cat reported)"
+[ "$(cat reported)" = 'reed-port.md:11: query: query units r_wb
+plain.md: 6 classes, 1 changes: 1 query' ] || wrong "plain: $(cat reported)"
 aligned 'accepted 3 issues 0 cycles' 'issue reed_add' 'issue reed_mul' 'issue reed_nop'
 aligned 'refused line 2 reed_add' 'issue reed_add' 'issue reed_add'
 aligned 'accepted 2 issues 0 cycles' 'issue reed_add' 'issue reed_test'
@@ -101,11 +102,11 @@ cmp plain.tables reed.tables || wrong "reed.md: other tables"
 # what can't be moved is reported, and stays with all that is tied to it
 extracts left --align left-port.md
 
-# under ndfa no state can be asked, so a query unit is a unit, and is moved
+# under ndfa no state can be asked, so a query unit is moved as a unit
 printf '%s\n' '(define_query_cpu_unit "q")' '(automata_option "ndfa")' \
     '(define_insn_reservation "late" 1 (const_int 1) "nothing, q")' > any.md
 reported=$(python3 "$tools/extract.py" --align -o asked.md any.md 2>&1)
-[ "$reported" = 'any.md:1: query: query units q under ndfa
+[ "$reported" = 'any.md:1: query: query units q
 any.md:1: align: 1 cycle earlier: q
 asked.md: 1 classes, 2 changes: 1 align, 1 query' ] || wrong "any.md: $reported"
 grep -q '^(define_cpu_unit "q")' asked.md || wrong "asked.md has a query unit"

@@ -109,8 +109,7 @@ class Units(Item):
 
     def text(self):
         behind = f' "{self.automaton}"' if self.automaton else ""
-        head = "define_query_cpu_unit" if self.query else "define_cpu_unit"
-        return f"({head} {listed(self.names)}{behind})"
+        return f"(define_cpu_unit {listed(self.names)}{behind})"
 
 
 @dataclasses.dataclass
