@@ -35,7 +35,7 @@ module _ (first second : Table) (columns asks : ℕ) (one : IsTable first (colum
         let longer = front ++ c ∷ [] in
         let each : AreColumns columns longer = All-append (λ k. k ≤ columns) front (c ∷ []) are (All-cons (λ k. k ≤ columns) c [] low (All-nil (λ k. k ≤ columns))) in
         let up : all_beside columns asks longer ≡ all_beside columns asks front ++ column ∷ [] =
-            all_beside-append columns asks front (c ∷ []) ∙ ap (λ k. all_beside columns asks front ++ k ∷ []) is in
+        all_beside-append columns asks front (c ∷ []) ∙ ap (λ k. all_beside columns asks front ++ k ∷ []) is in
         let there : walk first (Some 0) (all_beside columns asks longer) ≡ entry first p column = ap (walk first (Some 0)) up ∙ walk_one first (Some 0) p column (all_beside columns asks front) [] led ∙ walk_end first (entry first p column) in
         let there_too : walk second (Some 0) (all_beside columns asks longer) ≡ entry second q column = ap (walk second (Some 0)) up ∙ walk_one second (Some 0) q column (all_beside columns asks front) [] led_too ∙ walk_end second (entry second q column) in
         both_from first second (entry first p column) (entry second q column) (ap is_some (sym there) ∙ alike.walks longer each ∙ ap is_some there_too) w
@@ -48,9 +48,9 @@ module _ (first second : Table) (columns asks : ℕ) (one : IsTable first (colum
         let there_too : walk second (Some 0) asked ≡ entry second q column = walk_one second (Some 0) q (columns + ask) (all_beside columns asks front) [] led_too ∙ walk_end second (entry second q (columns + ask)) ∙ ap (entry second q) is in
         both_from first second (entry first p column) (entry second q column) (ap is_some (sym there) ∙ alike.tells front are ask lt ∙ ap is_some there_too) w
         (λ p' q' e e'.
-            let same = stay.stays p ask p' lt (ap (entry first p) is ∙ e) in
-            let same_too = stay_too.stays q ask q' lt (ap (entry second q) is ∙ e') in
-            rest front are p' q' (led ∙ ap Some (sym same)) (led_too ∙ ap Some (sym same_too)))
+        let same = stay.stays p ask p' lt (ap (entry first p) is ∙ e) in
+        let same_too = stay_too.stays q ask q' lt (ap (entry second q) is ∙ e') in
+        rest front are p' q' (led ∙ ap Some (sym same)) (led_too ∙ ap Some (sym same_too)))
 
     nowhere : columns + asks < column → Goal
     nowhere past =

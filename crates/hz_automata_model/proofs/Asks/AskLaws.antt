@@ -165,7 +165,7 @@ module _ (table asked : Table) (columns asks : ℕ) (marks : ℕ → ℕ → Boo
         marked_there =
             let mark = has.marked origin.0 ask origin_within lt in
             let some : is_some (entry asked origin.0 column) ≡ true =
-                ap is_some (sym (walk_end asked (entry asked origin.0 column))) ∙ sym (from_origin (column ∷ [])) ∙ ap (λ (o : Option ℕ). is_some (walk least o [])) there in
+            ap is_some (sym (walk_end asked (entry asked origin.0 column))) ∙ sym (from_origin (column ∷ [])) ∙ ap (λ (o : Option ℕ). is_some (walk least o [])) there in
             mark ∙ marked_self (marks origin.0 ask) origin.0 (ap is_some (sym mark) ∙ some)
 
         same_behind : (v : List ℕ) → is_some (walk least (Some next) v) ≡ is_some (walk least (Some state) v)

@@ -35,14 +35,14 @@ module _ (table asked : Table) (columns asks : ℕ) (marks : ℕ → ℕ → Boo
       let was = is.width state within in
       ext_get_or None (row_without_asks columns asks (row_of asked state)) (row_of table state) (omega arith)
       (λ column inside. ⊎_elim
-          (λ (lt : column < columns). bare_class columns asks (row_of asked state) wide column lt ∙ has.classes state column within lt)
-          (λ (past : columns ≤ column).
-          let last : column ≡ columns = omega arith in
-          ap (λ c. get_or (row_without_asks columns asks (row_of asked state)) c None) last
-          ∙ bare_advance columns asks (row_of asked state) wide
-          ∙ has.advance state within
-          ∙ ap (entry table state) (sym last))
-          (cases_lt column columns))
+      (λ (lt : column < columns). bare_class columns asks (row_of asked state) wide column lt ∙ has.classes state column within lt)
+      (λ (past : columns ≤ column).
+      let last : column ≡ columns = omega arith in
+      ap (λ c. get_or (row_without_asks columns asks (row_of asked state)) c None) last
+      ∙ bare_advance columns asks (row_of asked state) wide
+      ∙ has.advance state within
+      ∙ ap (entry table state) (sym last))
+      (cases_lt column columns))
 
   pub without : without_asks columns asks asked ≡ table
   without =
@@ -50,5 +50,5 @@ module _ (table asked : Table) (columns asks : ℕ) (marks : ℕ → ℕ → Boo
       let each = has.each in
       ext_get_or [] (without_asks columns asks asked) table (omega arith)
       (λ state inside.
-          get_or-map (row_without_asks columns asks) asked state [] [] (omega arith)
-          ∙ bare_row state (omega arith))
+      get_or-map (row_without_asks columns asks) asked state [] [] (omega arith)
+      ∙ bare_row state (omega arith))

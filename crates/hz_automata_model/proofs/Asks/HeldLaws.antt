@@ -17,8 +17,7 @@ pub held_is_left : {U : Type 0} (m : Pipeline U) → m.treatment ≡ first_fit �
 held_is_left {U} m first t grid left unit =
     let (choices, chosen, future) = left.only grid (Contains-head grid []) in
     let planned = future.pairs unit 0 in
-    let now : cycles_of t + 0 ≡ cycles_of t = omega arith in
-    (
+    let now : cycles_of t + 0 ≡ cycles_of t = omega arith in (
       (λ (others, by_first, held).
           let same = one_choice m first t others choices (subst (λ (o : Pipeline U). IsChoice o t others) (first_of m first) by_first) chosen in
           planned.1 (rw now (subst (λ (cs : List ℕ). Contains (calendar m 0 t cs) (record { unit = unit; cycle = cycles_of t })) same held))),
