@@ -1,4 +1,5 @@
 -- What compiled automata are, and which limit of states a description passes.
+pub mod MovedEvents
 pub mod MovedLaws
 pub mod ColumnLaws
 pub mod PartLaws

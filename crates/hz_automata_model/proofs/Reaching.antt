@@ -2,6 +2,7 @@
 pub mod LeavingLaws
 pub mod StepLaws
 pub mod PathLaws
+pub mod Spelling
 pub mod WordLaws
 pub mod CountLaws
 pub mod SubsetLaws

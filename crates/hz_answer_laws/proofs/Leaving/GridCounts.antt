@@ -7,7 +7,8 @@ use Rattle.hz_acceptance_model.specs.Accepting.Fitting.{IsFuture, IsUnbroken}
 use Rattle.hz_acceptance_model.specs.Accepting.Plays.{Tells}
 use Rattle.hz_acceptance_model.specs.Accepting.Replay.{Pipeline, State, Plays, start}
 use Rattle.hz_acceptance_model.proofs.Accepting.FittingLaws.{unbroken_empty}
-use Rattle.hz_automata_model.specs.Reaching.Columns.{AreColumns, event_at, events_at, spelled}
+use Rattle.hz_automata_model.specs.Reaching.Columns.{AreColumns, event_at, events_at}
+use Rattle.hz_automata_model.proofs.Reaching.Spelling.{spelled}
 use Rattle.hz_automata_model.specs.Reaching.Counts.{IsAbove, IsAtMost}
 use Rattle.hz_automata_model.specs.Reaching.Reach.{IsReachedGrid}
 use Rattle.hz_automata_model.proofs.Reaching.CountLaws.{same_pairs_back, same_pairs_then, same_pairs_itself}

@@ -9,7 +9,8 @@ use Rattle.hz_acceptance_model.specs.Accepting.Plays.{Tells, accepts}
 use Rattle.hz_acceptance_model.specs.Accepting.Replay.{Pipeline, Accepted, start}
 use Rattle.hz_acceptance_model.proofs.Accepting.PlayLaws.{accepts_decides}
 use Rattle.hz_acceptance_model.proofs.Accepting.ReplayLaws.{runs_from_accepted, accepted_from_runs, run_split}
-use Rattle.hz_automata_model.specs.Reaching.Columns.{AreColumns, event_at, events_at, spelled}
+use Rattle.hz_automata_model.specs.Reaching.Columns.{AreColumns, event_at, events_at}
+use Rattle.hz_automata_model.proofs.Reaching.Spelling.{spelled}
 use Rattle.hz_automata_model.specs.Reaching.Counts.{IsAbove, IsAtMost}
 use Rattle.hz_automata_model.specs.Reaching.Reach.{Leaves, IsLeft, IsReachedState, HasGrids, SameGrids}
 use Rattle.hz_automata_model.proofs.Reaching.AutomatonLaws.{leaves_of_accepted, accepted_of_leaves}

@@ -19,7 +19,8 @@ use Rattle.hz_acceptance_model.proofs.Accepting.Rows.{numbers_tell}
 use Rattle.hz_automata_model.specs.Tables.Tables.{Table, entry, walk, IsTable}
 use Rattle.hz_automata_model.proofs.Tables.TableLaws.{breadth_first_reached}
 use Rattle.hz_automata_model.specs.Reaching.Built.{IsAutomaton, grid_at, set_at, state_at}
-use Rattle.hz_automata_model.specs.Reaching.Columns.{AreColumns, event_at, events_at, spelled}
+use Rattle.hz_automata_model.specs.Reaching.Columns.{AreColumns, event_at, events_at}
+use Rattle.hz_automata_model.proofs.Reaching.Spelling.{spelled}
 use Rattle.hz_automata_model.specs.Reaching.Counts.{CountIsAtMost}
 use Rattle.hz_automata_model.specs.Reaching.Counts as count
 use Rattle.hz_automata_model.specs.Reaching.Reach.{AreDifferent, Leaves, IsLeft, IsReachedGrid, SameGrids}

@@ -13,7 +13,8 @@ use Rattle.hz_acceptance_model.specs.Accepting.Replay.{Treatment, alternatives_a
 use Rattle.hz_automata_model.specs.Reaching.Columns.{class_of_grids, pipeline_on}
 use Rattle.hz_automata_model.proofs.Reaching.WordLaws.{IsInside}
 use Rattle.hz_automata_model.specs.Compiling.ClassColumns.{IsColumns}
-use Rattle.hz_automata_model.specs.Compiling.Moved.{moved, IsMoved}
+use Rattle.hz_automata_model.specs.Compiling.Moved.{IsMoved}
+use Rattle.hz_automata_model.proofs.Compiling.MovedEvents.{moved}
 
 -- past the end of a list nothing stands
 pub past_end : {A : Type 0} (xs : List A) (k : ℕ) → length xs ≤ k → slice_get xs k ≡ None

@@ -16,7 +16,8 @@ use Rattle.hz_automata_model.proofs.Reaching.CountLaws.{has_then}
 use Rattle.hz_automata_model.proofs.Reaching.WordLaws.{IsInside, inside_of_leaves}
 use Rattle.hz_automata_model.specs.Compiling.ClassColumns.{IsColumns}
 use Rattle.hz_automata_model.specs.Compiling.CompiledParts.{WalksAccepted, TellsWhatIsLeft, IsNumbered}
-use Rattle.hz_automata_model.specs.Compiling.Moved.{moved, IsMoved}
+use Rattle.hz_automata_model.specs.Compiling.Moved.{IsMoved}
+use Rattle.hz_automata_model.proofs.Compiling.MovedEvents.{moved}
 use Rattle.hz_automata_model.proofs.Compiling.MovedLaws.{accepted_moved}
 use Rattle.hz_automata_model.proofs.Compiling.ColumnLaws.{columns_moved, moved_inside, nothing_past, unmoved, to_column}
 use Rattle.hz_automata_model.proofs.Compiling.PartLaws.{part_accepts, part_stands, above_there, most_back, grid_moved, state_moved, grid_unmoved, state_unmoved}

@@ -9,7 +9,8 @@ use Rattle.hz_acceptance_model.specs.Accepting.Replay.{Pipeline, Treatment, firs
 use Rattle.hz_acceptance_model.proofs.Accepting.ReplayLaws.{runs_from_accepted, accepted_from_runs}
 use Rattle.hz_automata_model.specs.Reaching.Reach.{Leaves, IsLeft}
 use Rattle.hz_automata_model.proofs.Reaching.LeavingLaws.{plays_from_leaves, leaves_from_plays}
-use Rattle.hz_automata_model.specs.Compiling.Moved.{moved, moved_event, IsMoved}
+use Rattle.hz_automata_model.specs.Compiling.Moved.{IsMoved}
+use Rattle.hz_automata_model.proofs.Compiling.MovedEvents.{moved, moved_event}
 
 module _ {U : Type 0} (statements : List (Statement U)) (treatment : Treatment) (s : State U) where
   -- an alternative of a list fits, and may be taken

@@ -9,11 +9,13 @@ use Rattle.hz_automata_model.specs.Tables.Machines.{Part, column_of, word_of, pa
 use Rattle.hz_automata_model.specs.Reaching.Reach.{Leaves, IsLeft, IsReachedGrid, IsReachedState}
 use Rattle.hz_automata_model.specs.Reaching.Counts.{Count, IsAbove, IsAtMost, CountIsAbove, CountIsAtMost}
 use Rattle.hz_automata_model.specs.Reaching.Counts as count
-use Rattle.hz_automata_model.specs.Reaching.Columns.{events_at, spelled}
+use Rattle.hz_automata_model.specs.Reaching.Columns.{events_at}
+use Rattle.hz_automata_model.proofs.Reaching.Spelling.{spelled}
 use Rattle.hz_automata_model.specs.Reaching.Built.{IsAutomaton, state_at}
 use Rattle.hz_automata_model.proofs.Reaching.AutomatonLaws.{leaves_of_accepted, accepted_of_leaves}
 use Rattle.hz_automata_model.proofs.Reaching.WordLaws.{IsInside, spelled_columns, leaves_spelled, leaves_from_spelled}
-use Rattle.hz_automata_model.specs.Compiling.Moved.{moved, IsMoved}
+use Rattle.hz_automata_model.specs.Compiling.Moved.{IsMoved}
+use Rattle.hz_automata_model.proofs.Compiling.MovedEvents.{moved}
 use Rattle.hz_automata_model.proofs.Compiling.MovedLaws.{accepted_moved, leaves_there, leaves_back, left_there, left_back}
 
 -- the word of a part is what its events are spelled by, by their columns

@@ -12,7 +12,8 @@ use Rattle.hz_automata_model.proofs.Tables.TableLaws.{walk_stays}
 use Rattle.hz_automata_model.specs.Reaching.Reach.{IsLeft, IsReachedGrid, IsReachedState, SameGrids, AreDifferent}
 use Rattle.hz_automata_model.specs.Reaching.Counts.{Count, IsAbove, IsAtMost, CountIsAbove, CountIsAtMost}
 use Rattle.hz_automata_model.specs.Reaching.Counts as count
-use Rattle.hz_automata_model.specs.Reaching.Columns.{AreColumns, events_at, spelled}
+use Rattle.hz_automata_model.specs.Reaching.Columns.{AreColumns, events_at}
+use Rattle.hz_automata_model.proofs.Reaching.Spelling.{spelled}
 use Rattle.hz_automata_model.specs.Reaching.Built.{IsAutomaton, state_at}
 use Rattle.hz_automata_model.proofs.Reaching.AutomatonLaws.{leaves_of_accepted, accepted_of_leaves}
 use Rattle.hz_automata_model.proofs.Reaching.CountLaws.{sum_by_ones, sum_by_alike}

@@ -8,7 +8,8 @@ use Rattle.hz_acceptance_model.specs.Accepting.Replay.{Pipeline, State, Step, Pl
 use Rattle.hz_acceptance_model.specs.Accepting.Events.{Event, issue, advance, ask}
 use Rattle.hz_acceptance_model.proofs.Accepting.ReplayLaws.{run_split, run_join}
 use Rattle.hz_automata_model.specs.Reaching.Reach.{Leaves}
-use Rattle.hz_automata_model.specs.Reaching.Columns.{AreColumns, event_at, events_at, spelled}
+use Rattle.hz_automata_model.specs.Reaching.Columns.{AreColumns, event_at, events_at}
+use Rattle.hz_automata_model.proofs.Reaching.Spelling.{spelled}
 use Rattle.hz_automata_model.proofs.Reaching.LeavingLaws.{plays_from_leaves, leaves_from_plays}
 
 -- the event of a class, and the advance
