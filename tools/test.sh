@@ -67,7 +67,7 @@ replays vector 'refused line 2 qv_pair' 'issue qv_simple' 'issue qv_pair'
 replays vector 'accepted 3 issues 1 cycles' 'issue qv_pair' 'advance 1' 'issue qv_simple' 'issue qv_simple'
 
 python3 "$tools/extract.py" -o port.md --merge --target quill.md 2> reported || wrong "port: status $?"
-[ "$(tail -n 1 reported)" = 'port.md: 8 classes, 14 changes: 4 attribute, 4 condition, 1 guard, 1 merge, 1 option, 3 wildcard' ] ||
+[ "$(tail -n 1 reported)" = 'port.md: 8 classes, 15 changes: 4 attribute, 4 condition, 1 guard, 1 merge, 1 option, 1 query, 3 wildcard' ] ||
     wrong "port: $(tail -n 1 reported)"
 replays port 'accepted 4 issues 0 cycles' 'issue q1_load' 'issue q1_alu' 'issue qv_simple' 'issue qv_simple'
 
