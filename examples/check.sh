@@ -31,6 +31,17 @@ against() {
     fi
 }
 
+# agree COMMAND EXAMPLE TEXT WANTED: what the command made of an example is what is wanted
+agree() {
+    count=$((count + 1))
+    if [ "$3" = "$4" ]; then
+        echo "$1 $2: $3"
+    else
+        echo "$1 $2: $3: not $4"
+        bad=1
+    fi
+}
+
 # trace EXAMPLE MACHINE WORDS..: the trace of the schedule that the program, given the words, writes is made of its text: the machine accepts
 # it, with as many issues as there are instructions
 trace() {
@@ -42,14 +53,7 @@ trace() {
     insns=$(sed -n 's/^scheduled \(.*\) insns .*/\1/p' "$work/scheduled")
     cycles=$(sed -n 's/^scheduled .* insns \([0-9]*\) cycles$/\1/p' "$work/scheduled")
     wanted="accepted $((${insns:-0})) issues $cycles cycles"
-    text=$("$hz" replay "$machine" "$work/trace")
-    count=$((count + 1))
-    if [ "$text" = "$wanted" ]; then
-        echo "replay $example: $text"
-    else
-        echo "replay $example: $text: not $wanted"
-        bad=1
-    fi
+    agree replay "$example" "$("$hz" replay "$machine" "$work/trace")" "$wanted"
 }
 
 # left BLOCK STATE WORDS..: after the reads that the program, given the words, writes comes what the block leaves of the state
@@ -57,14 +61,7 @@ left() {
     wanted=$("$hz" eval "$1" "$2")
     example=$1
     shift 2
-    text=$("$hz" "$@" | grep -v '^read ')
-    count=$((count + 1))
-    if [ "$text" = "$wanted" ]; then
-        echo "eval $example: $text"
-    else
-        echo "eval $example: $text: not $wanted"
-        bad=1
-    fi
+    agree eval "$example" "$("$hz" "$@" | grep -v '^read ')" "$wanted"
 }
 
 # turns EXAMPLE MACHINE WORDS..: the trace of 40 turns is made of the kernel that the program, given the words, writes: the machine accepts
@@ -88,14 +85,7 @@ turns() {
             }
         }' "$work/kernel" > "$work/trace"
     wanted=$(awk '/^interval / { interval = $2 } /^[0-9]/ { count++ } /^list / { print "accepted " 40 * count " issues " 39 * interval + $2 " cycles" }' "$work/kernel")
-    text=$("$hz" replay "$machine" "$work/trace")
-    count=$((count + 1))
-    if [ "$text" = "$wanted" ]; then
-        echo "replay $example: $text"
-    else
-        echo "replay $example: $text: not $wanted"
-        bad=1
-    fi
+    agree replay "$example" "$("$hz" replay "$machine" "$work/trace")" "$wanted"
 }
 
 # tables TEXT: the description beside it is compiled to this text

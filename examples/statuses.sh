@@ -1,5 +1,6 @@
 #!/bin/sh
-# Shows each status of each command on real files, and each kind of fault of a tables text, and compares status and text.
+# Shows each status of each command on real files, and each kind of fault of a tables text, and compares status and text. The program is
+# a proved one: one that is built to be tried without a proof can't start in the little memory that some runs are given.
 hz=$(cd "$(dirname "$1")" && pwd)/$(basename "$1")
 work=$(mktemp -d) || exit 2
 trap 'rm -rf "$work"' EXIT

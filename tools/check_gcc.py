@@ -4,6 +4,9 @@
 If both compile, their tables are compared. If only the aligned one does, drills of both treatments on its tables are
 compared with a calendar of the other. The machine descriptions are those of Debian's package gcc-12-source, unpacked into
 a folder that is removed, or those of a folder with GCC's source.
+
+Each run of hz may have 6 GB of addresses. A proved program needs far less; one that is built to be tried without a proof reserves more
+than that, and can't start.
 """
 import argparse
 import collections

@@ -1,7 +1,9 @@
 #!/usr/bin/env python3
 """Refuses memory to hz, one request at a time, from the first to the last, on each command. Each run must end in one of three ways:
 with status 5 and the line `memory`, with status 5 and nothing while the words are still got, or with the command's own status and text.
-The first two must occur."""
+The first two must occur.
+
+The program is a proved one. One that is built to be tried without a proof asks for memory of its own, and may end otherwise."""
 import argparse
 import os
 import subprocess
@@ -30,6 +32,8 @@ PORTS = """\
 (define_insn_reservation "y" 1 (const_int 1) "a")
 """
 
+ASKED_PORTS = PORTS.replace("define_cpu_unit", "define_query_cpu_unit")
+
 BLOCK = """\
 (insn 1 (set (reg 3) (mult (reg 1) (reg 2))) (set_attr "type" "mult"))
 (insn 2 (set (reg 4) (plus (reg 3) (const_int 1))))
@@ -37,7 +41,7 @@ BLOCK = """\
 """
 
 TABLES = """\
-hazard-tables 1
+hazard-tables 2
 treatment first
 classes 2
 class x
@@ -45,9 +49,10 @@ class y
 automata 1
 automaton - 2 3
 map 0 1
-row 1 1 0
-row 2 - 0
-row - - 0
+asks a b
+row 1 1 - - 0
+row 2 - 1 - 0
+row - - 2 2 0
 end
 """
 
@@ -99,16 +104,16 @@ ROWS = (
     (
         "the tables of two ports",
         "compile",
-        (PORTS,),
+        (ASKED_PORTS,),
         0,
         TABLES,
     ),
     (
         "a walk on these tables",
         "walk",
-        (TABLES, "issue x\nissue y\n"),
+        (TABLES, "issue x\nask b\nissue y\n"),
         1,
-        "refused line 2 y\n",
+        "ask line 2 b free\nrefused line 3 y\n",
     ),
     (
         "a drill of two ports",

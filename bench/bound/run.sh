@@ -5,13 +5,8 @@
 # program, as one of before, it is timed beside the first on the same.
 hz=$1
 other=${2:-}
-. "$(dirname "$0")/../common.sh"
-
-cat > "$data/one_unit.md" <<'END'
-(define_attr "type" "one,late,long" (const_string "one"))
-(define_cpu_unit "u")
-(define_insn_reservation "one" 4 (eq_attr "type" "one") "u")
-END
+. "$(dirname "$0")/../instructions.sh"
+make_machine u u
 
 # wide CYCLES: a class of 255 alternatives
 wide() {
@@ -26,21 +21,11 @@ wide() {
     }'
 }
 
-# alone COUNT: a block of so many instructions that depend on none
-alone() {
-    awk -v count="$1" 'BEGIN { for (i = 0; i < count; i++) printf "(insn %d (use (const_int 0)))\n", i }'
-}
-
-# ms TIME: milliseconds
-ms() {
-    awk -v t="$1" 'BEGIN { printf "%.0f", t / 1000000 }'
-}
-
 echo "instructions schedule_ms bound_ms times"
 for count in 1024 2048 4096; do
-    awk -v count="$count" 'BEGIN { for (i = 0; i < count; i++) printf "(insn %d (set (reg 1) (plus (reg 1) (const_int 1))))\n", i }' > "$data/block_all"
-    made=$(used "$hz" schedule "$data/one_unit.md" "$data/block_all")
-    bound=$(used "$hz" bound "$data/one_unit.md" "$data/block_all")
+    block all "$count" > "$data/block_all"
+    made=$(used "$hz" schedule "$machine" "$data/block_all")
+    bound=$(used "$hz" bound "$machine" "$data/block_all")
     echo "$count $(ms "$made") $(ms "$bound") $(doubling "$bound" "$made")"
 done
 
@@ -49,7 +34,7 @@ for cycles in 128 256 500; do
     wide "$cycles" > "$data/wide.md"
     for count in 1 4096; do
         if [ "$count" != 1 ] && [ "$cycles" != 128 ]; then continue; fi
-        alone "$count" > "$data/block_alone"
+        block none "$count" > "$data/block_alone"
         made=$(used "$hz" schedule "$data/wide.md" "$data/block_alone")
         bound=$(used "$hz" bound "$data/wide.md" "$data/block_alone")
         before=-

@@ -62,13 +62,13 @@ def refused(cycles, statements, more=(), held=None, choices=11, kind="absence"):
 
 
 def alternating(cycles, statements, kind="absence"):
-    refused(cycles, [[pattern] for pattern in statements], ["t"], f"(z,t)*{(cycles - 11) // 2}", kind=kind)
+    refused(cycles, each_alone(statements), ["t"], f"(z,t)*{(cycles - 11) // 2}", kind=kind)
 
 
 def drifting(cycles):
     units = names("t", 8)
     held = [" + ".join(["z"] + [one for place, one in enumerate(units) if cycle >> place & 1]) for cycle in range(cycles - 10)]
-    refused(cycles, [[pattern] for pattern in pairs() + ["w"]], units, ",".join(f"({one})" for one in held), choices=10)
+    refused(cycles, each_alone(pairs() + ["w"]), units, ",".join(f"({one})" for one in held), choices=10)
 
 
 def parted(cycles):
@@ -87,28 +87,22 @@ def pairs():
     return [f"{one} {other}" for place, one in enumerate(units) for other in units[place + 1 :]][:999]
 
 
-def main():
-    kind, cycles = sys.argv[1], int(sys.argv[2])
-    if kind == "late":
-        late(cycles)
-    elif kind == "early":
-        early(cycles)
-    elif kind == "taken":
-        taken(cycles)
-    elif kind == "absent":
-        refused(cycles, [["u v"] * 999 + ["w"]])
-    elif kind == "apart":
-        refused(cycles, [pairs() + ["w"]])
-    elif kind == "alternating":
-        alternating(cycles, pairs() + ["w"])
-    elif kind == "drifting":
-        drifting(cycles)
-    elif kind == "parted":
-        parted(cycles)
-    elif kind == "present":
-        present(cycles)
-    else:
-        refused(cycles, [[pattern] for pattern in pairs() + ["w"]])
+def each_alone(patterns):
+    """Each pattern in a statement of its own."""
+    return [[pattern] for pattern in patterns]
 
 
-main()
+KINDS = {
+    "late": late,
+    "early": early,
+    "taken": taken,
+    "absent": lambda cycles: refused(cycles, [["u v"] * 999 + ["w"]]),
+    "apart": lambda cycles: refused(cycles, [pairs() + ["w"]]),
+    "single": lambda cycles: refused(cycles, each_alone(pairs() + ["w"])),
+    "alternating": lambda cycles: alternating(cycles, pairs() + ["w"]),
+    "drifting": drifting,
+    "parted": parted,
+    "present": present,
+}
+
+KINDS[sys.argv[1]](int(sys.argv[2]))
