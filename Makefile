@@ -78,7 +78,7 @@ examples: bin/hz
 	@if command -v python3 > /dev/null; then sh tools/test.sh bin/hz && python3 tools/check_pages.py bin/hz; \
 		else echo "no python3: tools/test.sh and tools/check_pages.py are not run"; fi
 
-# compile and then walk, beside replay: on all examples, and on descriptions and traces that a seed makes
+# compile and then walk, beside replay and a calendar: on all examples, and on descriptions and traces with asks that a seed makes
 check-walk: bin/hz
 	@python3 tools/check_walk.py bin/hz
 
@@ -111,6 +111,7 @@ bench: bin/hz
 	@sh bench/compile/run.sh bin/hz
 	@sh bench/compile/pipelines.sh bin/hz
 	@sh bench/walk/run.sh bin/hz
+	@sh bench/asks/run.sh bin/hz
 	@sh bench/schedule/run.sh bin/hz
 	@sh bench/bound/run.sh bin/hz
 	@sh bench/duo/run.sh bin/hz

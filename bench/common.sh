@@ -43,9 +43,22 @@ doubling() {
     awk -v t="$1" -v p="${2:-0}" 'BEGIN { print p ? sprintf("%.2f", t / p) : "-" }'
 }
 
+# ms TIME: milliseconds
+ms() {
+    awk -v t="$1" 'BEGIN { printf "%.0f", t / 1000000 }'
+}
+
 # rate BYTES TIME: megabytes a second
 rate() {
     awk -v b="$1" -v t="$2" 'BEGIN { printf "%.1f", b * 1000 / t }'
+}
+
+# delays CLASSES: a unit, and classes that take it so many cycles after their issue
+delays() {
+    awk -v n="$1" 'BEGIN {
+        print "(define_cpu_unit \"u\")"
+        for (k = 0; k < n; k++) print "(define_insn_reservation \"c" k "\" 1 (const_int 1) \"" (k ? "nothing*" k ", " : "") "u\")"
+    }'
 }
 
 # make_trace MACHINE EVENTS: a trace that is accepted; on the superscalar machine ten cycles and what they issue, again

@@ -35,8 +35,3 @@ block() {
         }
     }'
 }
-
-# ms TIME: milliseconds
-ms() {
-    awk -v t="$1" 'BEGIN { printf "%.0f", t / 1000000 }'
-}

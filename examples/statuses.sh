@@ -99,6 +99,8 @@ lines ndfa '(define_cpu_unit "a,b")' '(automata_option "ndfa")' '(define_insn_re
 lines classes '(define_attr "type" "a,b,c" (const_string "a"))' '(define_cpu_unit "u,v")' '(presence_set "v" "u")' \
     '(define_insn_reservation "x" 2 (eq_attr "type" "a,b") "u")' '(define_insn_reservation "y" 1 (eq_attr "type" "b") "u")' \
     '(define_insn_reservation "z" 1 (const_int 0) "v")'
+lines query '(define_query_cpu_unit "a")' '(define_insn_reservation "x" 1 (const_int 1) "nothing,a")'
+{ cat query; echo '(automata_option "ndfa")'; } > query_ndfa
 lines never '(define_cpu_unit "u,v")' '(presence_set "v" "u")' '(define_insn_reservation "x" 1 (const_int 1) "v")'
 printf '(define_cpu_unit "a' > unclosed
 lines shape '; a comment' '(define_cpu_unit "a,")'
@@ -125,6 +127,8 @@ lines twice 'issue x' 'issue x'
 lines unknown '; no class has this name' 'issue z'
 lines bad '' '  issue x ; late'
 lines far 'advance 16777216' 'issue x' 'advance 1'
+lines asks 'issue x' 'ask a' 'advance 1' 'ask a' 'issue x' 'issue x' 'ask a'
+lines no_unit 'ask a' 'issue x' 'ask b'
 printf ' issue\tx\r\n\n; again\nissue x' > spaced
 head -c 67108864 /dev/zero | tr '\0' '\n' > longest_trace
 { cat longest_trace; echo; } > long_trace
@@ -144,12 +148,17 @@ lines s '(reg 1 6)'
 # tables: of the description `ndfa` in the first treatment, with one line or byte changed, and as long as may be
 lines k 'hazard-tables 1' 'treatment first' 'classes 2' 'class x' 'class y' 'automata 1' 'automaton - 2 3' 'map 0 1' \
     'row 1 1 0' 'row 2 - 0' 'row - - 0' end
-sed '1s/1/2/' k > header
+sed '1s/1/3/' k > header
 sed '2s/first/second/' k > treatment
 sed '9s/1 1/01 1/' k > zero
 sed '9s/1 1/3 1/' k > range
 head -c $(($(wc -c < k) - 1)) k > cut
 { cat k; echo; } > trailing
+# of the description `query`
+lines asked 'hazard-tables 2' 'treatment first' 'classes 1' 'class x' 'automata 1' 'automaton - 1 4' 'map 0' 'asks a' \
+    'row 1 - 0' 'row - - 2' 'row 3 2 0' 'row - 3 2' end
+sed '9s/1 -/1 1/' asked > other_row
+sed '8s/$/ a/' asked > again
 truncate -s 536870912 longest_tables
 truncate -s 536870913 long_tables
 
@@ -165,6 +174,8 @@ expect 0 "$(printf '%s\n' 'hazard-tables 1' 'treatment first' 'classes 1' 'class
     'row 1 0' 'row - 0' 'automaton n 1 2' 'map 0' 'row 1 0' 'row - 0' end)" compile two_automata
 expect 0 "$(printf '%s\n' 'hazard-tables 1' 'treatment first' 'classes 0' 'automata 1' 'automaton - 0 1' map 'row 0' end)" \
     compile empty
+expect 0 "$(cat asked)" compile query
+expect 2 'fault query_ndfa line 1 QueryUnderNdfa a' compile query_ndfa
 expect 2 'fault unclosed line 1 Unclosed' compile unclosed
 expect 2 'fault shape line 2 BadShape' compile shape
 expect 2 'fault comma line 2 BadExpression Unexpected 2' compile comma
@@ -191,6 +202,11 @@ expect 0 'accepted 2 issues 1 cycles' replay two_automata t
 expect 0 'accepted 2 issues 0 cycles' replay ndfa both
 expect 1 'refused line 2 x' replay d twice
 expect 1 'refused line 4 x' replay d spaced
+told="ask line 2 a free${newline}ask line 4 a reserved${newline}refused line 6 x"
+expect 1 "$told" replay query asks
+expect 2 'fault no_unit line 3 UnknownUnit' replay query no_unit
+expect 2 'fault no_unit line 1 UnknownUnit' replay d no_unit
+expect 2 'fault query_ndfa line 1 QueryUnderNdfa a' replay query_ndfa asks
 expect 2 'fault unclosed line 1 Unclosed' replay unclosed t
 expect 2 'fault shape line 2 BadShape' replay shape t
 expect 2 'fault comma line 2 BadExpression Unexpected 2' replay comma t
@@ -213,11 +229,17 @@ expect 6 'file folder could not be read' replay folder t
 expect 6 'file  could not be read' replay '' t
 expect_memory 65536 replay d longest_trace
 expect_sink replay d t
+expect_sink replay query asks
 
 # walk
 expect 0 'accepted 2 issues 1 cycles' walk k t
 expect 0 'accepted 0 issues 0 cycles' walk k empty
 expect 1 'refused line 2 y' walk k both
+expect 1 "$told" walk asked asks
+expect 2 'fault no_unit line 3 UnknownUnit' walk asked no_unit
+expect 2 'fault no_unit line 1 UnknownUnit' walk k no_unit
+expect 2 'fault other_row line 9 OutOfRange' walk other_row asks
+expect 2 'fault again line 8 BadLine' walk again asks
 expect 2 'fault header line 1 BadHeader' walk header t
 expect 2 'fault treatment line 2 BadLine' walk treatment t
 expect 2 'fault zero line 9 BadNumber' walk zero t

@@ -141,7 +141,8 @@ def drawn(number, classes):
 
 
 def drills_agree(hz, plain, aligned, is_any, most):
-    """Whether the tables of aligned items and the calendars of plain ones answer each turn of a drill in the same way."""
+    """Whether the tables of aligned items and the calendars of plain ones answer each turn of a drill in the same way, and hold the same
+    query units after it."""
     answer = compiled(hz, with_option(aligned, "ndfa", is_any), most)
     if answer.status != 0:
         return kind_of(answer)
@@ -153,7 +154,7 @@ def drills_agree(hz, plain, aligned, is_any, most):
         accepted = calendars.issue(place)
         if accepted is None:
             return f"{turn} turns"
-        if accepted != tables.issue(place):
+        if accepted != tables.issue(place) or any(calendars.holds(unit) != held for unit, held in tables.held().items()):
             return f"DIFFERS at turn {turn}"
         counts[accepted] += 1
         if not accepted:

@@ -67,7 +67,7 @@ replays vector 'refused line 2 qv_pair' 'issue qv_simple' 'issue qv_pair'
 replays vector 'accepted 3 issues 1 cycles' 'issue qv_pair' 'advance 1' 'issue qv_simple' 'issue qv_simple'
 
 python3 "$tools/extract.py" -o port.md --merge --target quill.md 2> reported || wrong "port: status $?"
-[ "$(tail -n 1 reported)" = 'port.md: 8 classes, 15 changes: 4 attribute, 4 condition, 1 guard, 1 merge, 1 option, 1 query, 3 wildcard' ] ||
+[ "$(tail -n 1 reported)" = 'port.md: 8 classes, 14 changes: 4 attribute, 4 condition, 1 guard, 1 merge, 1 option, 3 wildcard' ] ||
     wrong "port: $(tail -n 1 reported)"
 replays port 'accepted 4 issues 0 cycles' 'issue q1_load' 'issue q1_alu' 'issue qv_simple' 'issue qv_simple'
 
@@ -79,8 +79,7 @@ aligned() {
 
 extracts reed --align reed-port.md
 python3 "$tools/extract.py" -o plain.md reed-port.md 2> reported || wrong "plain: status $?"
-[ "$(cat reported)" = 'reed-port.md:11: query: query units r_wb
-plain.md: 6 classes, 1 changes: 1 query' ] || wrong "plain: $(cat reported)"
+[ "$(cat reported)" = 'plain.md: 6 classes, 0 changes' ] || wrong "plain: $(cat reported)"
 aligned 'accepted 3 issues 0 cycles' 'issue reed_add' 'issue reed_mul' 'issue reed_nop'
 aligned 'refused line 2 reed_add' 'issue reed_add' 'issue reed_add'
 aligned 'accepted 2 issues 0 cycles' 'issue reed_add' 'issue reed_test'
@@ -90,6 +89,11 @@ aligned 'refused line 3 reed_add' 'issue reed_mul' 'advance 2' 'issue reed_add'
 aligned 'accepted 2 issues 3 cycles' 'issue reed_mul' 'advance 3' 'issue reed_add'
 aligned 'refused line 3 reed_div' 'issue reed_div' 'advance 11' 'issue reed_div'
 aligned 'accepted 2 issues 12 cycles' 'issue reed_div' 'advance 12' 'issue reed_div'
+# the query unit stays in its cycle
+aligned 'ask line 2 r_wb free
+ask line 4 r_wb reserved
+ask line 6 r_wb free
+accepted 1 issues 6 cycles' 'issue reed_mul' 'ask r_wb' 'advance 5' 'ask r_wb' 'advance 1' 'ask r_wb'
 for each in plain reed; do
     "$hz" compile $each.md > $each.tables || wrong "hz on $each.md: status $?"
     { cat $each.md; echo; echo '(automata_option "stats")'; } > counted.md
@@ -102,14 +106,26 @@ cmp plain.tables reed.tables || wrong "reed.md: other tables"
 # what can't be moved is reported, and stays with all that is tied to it
 extracts left --align left-port.md
 
-# under ndfa no state can be asked, so a query unit is moved as a unit
-printf '%s\n' '(define_query_cpu_unit "q")' '(automata_option "ndfa")' \
+# under ndfa no state can be asked, so a query unit is a unit, and is moved
+printf '%s\n' '(define_query_cpu_unit "q")' '(automata_option "ndfa")' '(automata_option "collapse-ndfa")' \
     '(define_insn_reservation "late" 1 (const_int 1) "nothing, q")' > any.md
 reported=$(python3 "$tools/extract.py" --align -o asked.md any.md 2>&1)
-[ "$reported" = 'any.md:1: query: query units q
+[ "$reported" = 'any.md:1: query: query units q under ndfa
+any.md:3: option: collapse-ndfa
 any.md:1: align: 1 cycle earlier: q
-asked.md: 1 classes, 2 changes: 1 align, 1 query' ] || wrong "any.md: $reported"
+asked.md: 1 classes, 3 changes: 1 align, 1 option, 1 query' ] || wrong "any.md: $reported"
 grep -q '^(define_cpu_unit "q")' asked.md || wrong "asked.md has a query unit"
+replays asked 'refused line 2 late' 'issue late' 'issue late'
+replays asked 'fault trace line 1 UnknownUnit' 'ask q'
+
+# without ndfa it stays one, also beside collapse-ndfa
+sed '/"ndfa"/d' any.md > first.md
+reported=$(python3 "$tools/extract.py" -o asked.md first.md 2>&1)
+[ "$reported" = 'first.md:2: option: collapse-ndfa
+asked.md: 1 classes, 1 changes: 1 option' ] || wrong "first.md: $reported"
+replays asked 'ask line 3 q reserved
+accepted 1 issues 1 cycles' 'issue late' 'advance 1' 'ask q'
+
 refuses 'bad.md:2: a string that is not closed' '\n(define_automaton "a)\n\n' bad.md
 refuses 'bad.md:2: `(` is not closed' '(define_automaton "a")\n(define_cpu_unit "u" "a"\n\n' bad.md
 refuses 'bad.md:3: `]` closes nothing' '(define_insn "x"\n [(use (reg 1))]\n ])' bad.md

@@ -5,14 +5,6 @@
 hz=$1
 . "$(dirname "$0")/../common.sh"
 
-# delays CLASSES: a unit, and classes that take it so many cycles after their issue
-delays() {
-    awk -v n="$1" 'BEGIN {
-        print "(define_cpu_unit \"u\")"
-        for (k = 0; k < n; k++) print "(define_insn_reservation \"c" k "\" 1 (const_int 1) \"" (k ? "nothing*" k ", " : "") "u\")"
-    }'
-}
-
 # choices UNITS ALONE PAIRS: a class that takes any unit, one for each of the first units, and one for each of the first
 # pairs and then triples of these
 choices() {
@@ -46,7 +38,7 @@ for kind in delays members wide; do
         "$hz" compile "$text" > "$data/compiled" || { echo "$text is not compiled"; exit 1; }
         time=$(least "$hz" compile "$text")
         peak=$(/usr/bin/time -f %M "$hz" compile "$text" 2>&1 > /dev/null | tail -n 1)
-        echo "$kind $number $(awk -v t="$time" 'BEGIN { printf "%.0f", t / 1000000 }') $(doubling "$time" "$before") $peak"
+        echo "$kind $number $(ms "$time") $(doubling "$time" "$before") $peak"
         before=$time
     done
 done

@@ -69,13 +69,17 @@ class Calendar:
     def advance(self):
         self.states = {state[1:] for state in self.states}
 
+    def holds(self, unit):
+        """Whether a state has a unit, which is a bit, in the present cycle."""
+        return any(state and state[0] & unit for state in self.states)
+
 
 class Calendars:
     """The calendars of items: one for all automata, or under `ndfa` one for each, which choose by themselves."""
 
     def __init__(self, items, is_any):
         automaton = {name: item.automaton for item in of_kind(items, Units) for name in item.names}
-        bits = {unit: 1 << place for place, unit in enumerate(automaton)}
+        self.bits = bits = {unit: 1 << place for place, unit in enumerate(automaton)}
         expander = Expander(automaton, {item.name: tree_of(item) for item in of_kind(items, Reservation)})
         self.classes = [item.name for item in of_kind(items, Class)]
         lists = [[one.pairs for one in expander.of(tree_of(item))] for item in of_kind(items, Class)]
@@ -84,6 +88,11 @@ class Calendars:
             cut = [list(dict.fromkeys(grid([pair for pair in pairs if automaton[pair[1]] in own], bits) for pairs in one)) for one in lists]
             statements = [Statement(item, bits) for item in of_kind(items, UnitSet) if automaton[item.units[0]] in own]
             self.parts.append(Calendar(cut, statements, is_any))
+
+    def start(self):
+        """Nothing is reserved any more."""
+        for part in self.parts:
+            part.states = {()}
 
     def issue(self, place):
         """Whether an issue of a class is accepted; None if there are too many states to follow."""
@@ -99,3 +108,7 @@ class Calendars:
     def advance(self):
         for part in self.parts:
             part.advance()
+
+    def holds(self, unit):
+        """Whether a unit is reserved in the present cycle."""
+        return any(part.holds(self.bits[unit]) for part in self.parts)

@@ -67,12 +67,12 @@ def change_conditions(items, told):
 
 
 def change_queries(items, told):
-    """A query unit is written as a unit. Under `ndfa`, where no state can be asked for one, it is moved as a unit too."""
+    """A query unit is a unit under `ndfa`, where no state can be asked for one."""
     ndfa = any("ndfa" in item.names for item in of_kind(items, Options))
     for item in of_kind(items, Units):
-        if item.query:
-            told.tell(item, "query", f"query units {', '.join(item.names)}")
-            item.query = not ndfa
+        if item.query and ndfa:
+            told.tell(item, "query", f"query units {', '.join(item.names)} under ndfa")
+            item.query = False
     return items
 
 

@@ -109,7 +109,8 @@ class Units(Item):
 
     def text(self):
         behind = f' "{self.automaton}"' if self.automaton else ""
-        return f"(define_cpu_unit {listed(self.names)}{behind})"
+        head = "define_query_cpu_unit" if self.query else "define_cpu_unit"
+        return f"({head} {listed(self.names)}{behind})"
 
 
 @dataclasses.dataclass

@@ -7,17 +7,21 @@ def is_count(line):
 
 
 class Table:
-    """The table of one automaton: the column of each class, and the rows."""
+    """The table of one automaton: the column of each class, the places of its query units in a row, and the rows."""
 
     def __init__(self, columns):
-        self.columns, self.column, self.rows, self.grids, self.state = columns, [], [], 0, "0"
+        self.columns, self.column, self.asks, self.rows, self.grids, self.state = columns, [], {}, [], 0, "0"
 
     def after(self, place):
         """The state after an issue of a class, or `-`."""
         return self.rows[int(self.state)][self.column[place]]
 
     def advance(self):
-        self.state = self.rows[int(self.state)][self.columns]
+        self.state = self.rows[int(self.state)][-1]
+
+    def holds(self, unit):
+        """Whether a query unit is reserved."""
+        return self.rows[int(self.state)][self.asks[unit]] != "-"
 
 
 class Tables:
@@ -31,6 +35,8 @@ class Tables:
                 self.tables.append(Table(int(fields[2])))
             elif fields[0] == "map":
                 self.tables[-1].column = [int(field) for field in fields[1:] if field]
+            elif fields[0] == "asks":
+                self.tables[-1].asks = {unit: self.tables[-1].columns + place for place, unit in enumerate(fields[1:])}
             elif fields[0] == "stats":
                 self.tables[-1].grids = int(fields[1])
             elif fields[0] == "row":
@@ -54,3 +60,7 @@ class Tables:
     def advance(self):
         for table in self.tables:
             table.advance()
+
+    def held(self):
+        """Of each query unit whether it is reserved."""
+        return {unit: table.holds(unit) for table in self.tables for unit in table.asks}

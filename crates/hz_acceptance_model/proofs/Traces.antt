@@ -2,5 +2,6 @@
 pub mod TraceLaws
 pub mod LineLaws
 pub mod WordLaws
+pub mod NameLaws
 pub mod DrillLaws
 pub mod TurnLaws

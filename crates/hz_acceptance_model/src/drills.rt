@@ -2,6 +2,7 @@
 
 ghost use Rattle.std.specs.Prelude.{◌≡◌, ◌⊎◌, ◌↔◌, ◌+◌, ◌*◌, ◌/◌, ◌%◌, ◌^◌, ℕ, List, [], ◌∷◌, ◌++◌, length, All, Some, None};
 ghost use Rattle.hz_acceptance_model.specs.Accepting.Events.{Event, advance, issues_of, cycles_of, IsOfClass};
+ghost use Rattle.hz_acceptance_model.specs.Accepting.Asking.{IsOfQuery};
 ghost use Rattle.hz_acceptance_model.specs.Traces.Drills.{next_number, number_after, IsAsDrawn, IsOfTurn, upper_from, draw, Drawn};
 
 /// Which traces are accepted, whatever tells it: a machine that walks them, or the pipeline of a description.
@@ -29,12 +30,14 @@ pub fn drawn_traces_are_accepted<A: Acceptance>()
     ensures { A.accepts [] → ((t : List Event) → A.accepts t → A.accepts (t ++ advance 1 ∷ [])) → (classes number turns : ℕ) (t : List Event) → Drawn A.accepts classes number turns t → A.accepts t }
 {}
 
-/// A drawn trace has one event for each turn, an issue of one of the classes or the advance of one cycle. It asks nothing.
+/// A drawn trace has one event for each turn, an issue of one of the classes or the advance of one cycle. It asks
+/// nothing, so it is of any query units.
 pub fn each_turn_is_one_event<A: Acceptance>()
     ensures events { (classes number turns : ℕ) (t : List Event) → Drawn A.accepts classes number turns t → length t ≡ turns }
     ensures counts { (classes number turns : ℕ) (t : List Event) → Drawn A.accepts classes number turns t → issues_of t + cycles_of t ≡ turns }
     ensures kinds { (classes number turns : ℕ) (t : List Event) → Drawn A.accepts classes number turns t → All (IsOfTurn classes) t }
     ensures classes { (classes number turns : ℕ) (t : List Event) → Drawn A.accepts classes number turns t → All (IsOfClass classes) t }
+    ensures queries { (queries : List (List (List ℕ))) (classes number turns : ℕ) (t : List Event) → Drawn A.accepts classes number turns t → All (IsOfQuery queries) t }
 {}
 
 /// The number of a turn is made of the number of the turn before.

@@ -5,5 +5,6 @@ pub mod ApartTold
 pub mod LeastTables
 pub mod AscendingLists
 pub mod AutomatonTotal
+pub mod AskedRows
 pub mod PartTotal
 pub mod MachineTotal

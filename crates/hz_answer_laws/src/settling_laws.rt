@@ -8,7 +8,7 @@ ghost use Rattle.hz_description_model.specs.Reading.Descriptions.{Description, O
 ghost use Rattle.hz_description_model.specs.Check.CheckFaults.{IsSound};
 ghost use Rattle.hz_description_model.specs.Check.Places.{Known};
 ghost use Rattle.hz_description_model.specs.Check.CheckedParts.{AutomatonParts, ClassParts, BypassParts, automata_of, class_parts};
-ghost use Rattle.hz_description_model.specs.Check.CheckedShape.{IsKept};
+ghost use Rattle.hz_description_model.specs.Check.CheckedShape.{IsKept, AskNothingUnderNdfa};
 ghost use Rattle.hz_acceptance_model.specs.Pipelines.Pipelines.{pipeline_with};
 ghost use Rattle.hz_automata_model.specs.Tables.Machines.{Machine, IsMachine, IsWalked};
 ghost use Rattle.hz_automata_model.specs.Compiling.Compiled.{Report, IsCompiled};
@@ -18,7 +18,7 @@ ghost use Rattle.hz_block_model.specs.Scheduling.Machines.{Settles, cannot_start
 /// The machine that is compiled of automata and classes without a fault settles: behind any events that it walks, `cycle_limit`
 /// cycles more lead each part to its start.
 pub fn compiled_machines_settle()
-    ensures { (options : Options) (automata : List AutomatonParts) (classes : List ClassParts) (bypasses : List BypassParts) (attributes : List (List ℕ × List (List ℕ))) (m : Machine) (reports : List Report) → IsKept automata classes bypasses attributes → IsMachine m → IsCompiled options automata classes m reports → Settles m }
+    ensures { (options : Options) (automata : List AutomatonParts) (classes : List ClassParts) (bypasses : List BypassParts) (attributes : List (List ℕ × List (List ℕ))) (m : Machine) (reports : List Report) → IsKept automata classes bypasses attributes → AskNothingUnderNdfa options.ndfa automata → IsMachine m → IsCompiled options automata classes m reports → Settles m }
 {}
 
 /// On the machine that is compiled of a description the schedules of a graph are those by what the description accepts, and the

@@ -1,12 +1,12 @@
 -- Answers: there is one, and no other.
-use Rattle.std.proofs.Common.{refl, ◌≡◌, ℕ, ◌+◌, ◌<◌, ◌≤◌, ⊎_elim, arith, slice_index_or, inl, inr, true, false, List, [], ◌∷◌, ◌++◌, map, length, Option, Some, None, MatchOption, MatchBool, nat_lt, slice_get, sym, ap, ◌∙◌, subst}
+use Rattle.std.proofs.Common.{refl, ◌≡◌, ℕ, ◌+◌, ◌<◌, ◌≤◌, ⊎_elim, arith, slice_index_or, inl, inr, true, false, List, [], ◌∷◌, ◌++◌, map, take, length, Option, Some, None, MatchOption, MatchBool, nat_lt, slice_get, sym, ap, ◌∙◌, subst}
 use Rattle.std.proofs.lemmas.Bool.{cases_lt}
 use Rattle.std.proofs.lemmas.Option.{same_Some}
 use Rattle.hz_base_model.proofs.Forms.FormsLaws.{one_reading, one_fault, forms_or_fault}
 use Rattle.hz_description_model.proofs.Reading.DescriptionLaws.{one_description, one_fault_of_descriptions, description_or_fault}
 use Rattle.hz_description_model.proofs.Check.CheckLaws.{fault_one, fault_or_sound, sound_one}
 use Rattle.hz_acceptance_model.proofs.Accepting.AcceptanceLaws.{one_refused, accepted_or_refused}
-use Rattle.hz_answer_model.specs.Answers.{Describes, Checks, HasDescription, Compiles, CompilesDescription, DrillsDescription, Replays, ReplaysTrace, ReplaysDescription, Judges, SchedulesByDescription, TimesByDescription, BoundsByDescription, SchedulesTwoByDescription, OverlapsByDescription, IsIssueOf, files_of, JudgesOrder, AnswersOrder, Answer}
+use Rattle.hz_answer_model.specs.Answers.{Describes, Checks, HasDescription, Compiles, CompilesDescription, DrillsDescription, Replays, ReplaysTrace, ReplaysDescription, Judges, TimesByDescription, SchedulesTwoByDescription, OverlapsByDescription, IsIssueOf, files_of, JudgesOrder, AnswersOrder, Answer}
 use Rattle.hz_description_model.specs.Check.CheckFaults.{CheckFault}
 use Rattle.hz_description_model.specs.Check.Places.{Known, class_names}
 use Rattle.hz_description_model.specs.Reading.DescriptionForms.{DescriptionFault}
@@ -17,12 +17,10 @@ use Rattle.hz_block_model.specs.Texts.Operands.{rtl_word}
 use Rattle.hz_tabtext_model.specs.Judging.{tables_word}
 use Rattle.hz_answer_model.specs.FaultTexts.{description_line, check_line, check_status, class_line, stuck_line}
 use Rattle.hz_base_model.specs.Forms.Forms.{FormFault}
-use Rattle.hz_description_model.specs.Reading.Limits.{description_limit}
-use Rattle.hz_acceptance_model.specs.Traces.TraceLimits.{trace_limit}
 use Rattle.hz_base_model.specs.Lines.{lines_of}
 use Rattle.hz_acceptance_model.specs.Traces.Traces.{TraceFault, event_lines}
 use Rattle.hz_acceptance_model.proofs.Traces.TraceLaws.{one_trace, one_trace_fault, trace_or_fault}
-use Rattle.hz_description_model.specs.Check.CheckedParts.{automaton_names}
+use Rattle.hz_description_model.specs.Check.CheckedParts.{automaton_names, queries_in}
 use Rattle.hz_acceptance_model.specs.Pipelines.Pipelines.{pipeline_with}
 use Rattle.hz_acceptance_model.specs.Accepting.Restricted.{restricted}
 use Rattle.hz_automata_model.specs.Reaching.Counts.{Count}
@@ -36,14 +34,18 @@ use Rattle.hz_answer_model.specs.Texts.{file_line, limit_line, fault_line, state
 use Rattle.hz_base_model.specs.Forms.Trees.{Trees}
 use Rattle.hz_words_model.specs.Words.{Order, compile, replay, walk, schedule, eval, drill, timed, bound, duo, modulo, order_of, usage_line}
 use Rattle.hz_base_model.specs.Names.{Held}
-use Rattle.hz_answer_model.specs.Phases.{Says, Next, FileWord, OpensAll, TellsFault, HasForms, Traces}
-use Rattle.hz_answer_model.specs.TableAnswers.{tables_limit, WritesTablesOf, HasTables, IsIssueIn, Walks, WalksTrace}
+use Rattle.hz_answer_model.specs.Phases.{Says, Next, FileWord, OpensAll, HasForms, Traces}
+use Rattle.hz_answer_model.specs.TableAnswers.{WritesTablesOf, HasTables, IsIssueIn, Walks, WalksTrace}
+use Rattle.hz_acceptance_model.specs.Traces.TraceNames.{TraceNames}
+use Rattle.hz_automata_model.specs.Tables.MachineNames.{names_of_machine}
+use Rattle.hz_answer_model.specs.AskAnswers.{Reserved, Tells, trace_names, held_in, told_by}
+use Rattle.hz_answer_model.proofs.AskAnswerLaws.{one_told}
 use Rattle.hz_answer_model.proofs.TableLaws.{one_unwalked, walked_or_not, one_issue_in}
 use Rattle.hz_answer_model.proofs.OneText.{one_tables_text}
 use Rattle.hz_answer_model.proofs.DrillLaws.{one_drill_text}
 use Rattle.hz_answer_model.specs.DrillAnswers.{Drills}
-use Rattle.hz_answer_model.specs.BlockAnswers.{block_limit, state_text_limit, IsBlock, IsState, HasBlock, HasAtMost, Evaluates, JudgesBlock}
-use Rattle.hz_answer_model.specs.ScheduleAnswers.{schedule_text, HasClasses, Starts, TellsSchedule, SchedulesBlock}
+use Rattle.hz_answer_model.specs.BlockAnswers.{IsBlock, IsState, HasBlock, HasAtMost, Evaluates, JudgesBlock}
+use Rattle.hz_answer_model.specs.ScheduleAnswers.{schedule_text, HasClasses, Starts, TellsSchedule}
 use Rattle.hz_answer_model.specs.TimedAnswers.{TellsTimed}
 use Rattle.hz_answer_model.specs.BoundAnswers.{TellsBound}
 use Rattle.hz_answer_model.specs.DuoAnswers.{TellsTwo}
@@ -109,30 +111,34 @@ module _ {U : Type 0} (m : Pipeline U) where
       same_issue_number : (k l : ℕ) → issue k ≡ issue l → k ≡ l
       same_issue_number k l h = cc
 
-  replays_single : (lines : List ℕ) (events : List Event) → IsSingle (Replays m lines events)
-  replays_single lines events s s' t t' (inl a) (inl b) = says_single _ _ s s' t t' a.1 b.1
-  replays_single lines events s s' t t' (inl a) (inr b) = absurd (accepted_or_refused m events b.0 a.0 b.3)
-  replays_single lines events s s' t t' (inr a) (inl b) = absurd (accepted_or_refused m events a.0 b.0 a.3)
-  replays_single lines events s s' t t' (inr (i, line, class, first, there, named, says)) (inr (j, line', class', first', there', named', says')) =
+  replays_single : (reserved : Reserved) (names : TraceNames) (lines : List ℕ) (events : List Event) → IsSingle (Replays m reserved names lines events)
+  replays_single reserved names lines events s s' t t' (inl a) (inl b) = one_told reserved names lines events _ (says_single _ _) s s' t t' a.1 b.1
+  replays_single reserved names lines events s s' t t' (inl a) (inr b) = absurd (accepted_or_refused m events b.0 a.0 b.3)
+  replays_single reserved names lines events s s' t t' (inr a) (inl b) = absurd (accepted_or_refused m events a.0 b.0 a.3)
+  replays_single reserved names lines events s s' t t' (inr (i, line, class, first, there, named, tells)) (inr (j, line', class', first', there', named', tells')) =
       let place = one_refused m events i j first first' in
       let number = same_Some line line' (sym there ∙ (ap (slice_get lines) place ∙ there')) in
       let name = one_class (slice_get events i) class class' named (subst (λ (n : ℕ). IsIssueOf m (slice_get events n) class') (sym place) named') in
-      (says.0 ∙ sym says'.0, says.1 ∙ (ap (λ (n : ℕ). refused_line n class) number ∙ (ap (refused_line line') name ∙ sym says'.1)))
+      let same : refused_line line class ≡ refused_line line' class' = ap (λ (n : ℕ). refused_line n class) number ∙ ap (refused_line line') name in
+      let again : Tells reserved names lines (take i events) (Says 1 (refused_line line class)) s' t' =
+      subst (λ (text : List ℕ). Tells reserved names lines (take i events) (Says 1 text) s' t') (sym same)
+      (subst (λ (n : ℕ). Tells reserved names lines (take n events) (Says 1 (refused_line line' class')) s' t') (sym place) tells') in
+      one_told reserved names lines (take i events) _ (says_single _ _) s s' t t' tells again
 
 -- a phase leaves no choice where the next leaves none
-traces_single : (classes : List (List ℕ)) (name text : List ℕ) (next : Next (List Event)) → ((events : List Event) → IsSingle (next events)) → IsSingle (Traces classes name text next)
-traces_single classes name text next single s s' t t' (inl (events, is, a)) (inl (events', is', b)) =
-    let same = one_trace classes text events events' is is' in
+traces_single : (names : TraceNames) (name text : List ℕ) (next : Next (List Event)) → ((events : List Event) → IsSingle (next events)) → IsSingle (Traces names name text next)
+traces_single names name text next single s s' t t' (inl (events, is, a)) (inl (events', is', b)) =
+    let same = one_trace names text events events' is is' in
     single events s s' t t' a (subst (λ (es : List Event). next es s' t') (sym same) b)
-traces_single classes name text next single s s' t t' (inl (events, is, a)) (inr (fault, line, wrong, b)) = absurd (trace_or_fault classes text events fault line is wrong)
-traces_single classes name text next single s s' t t' (inr (fault, line, wrong, a)) (inl (events, is, b)) = absurd (trace_or_fault classes text events fault line is wrong)
-traces_single classes name text next single s s' t t' (inr (fault, line, wrong, a)) (inr (other, place, also, b)) =
-    let same = one_trace_fault classes text fault other line place wrong also in
+traces_single names name text next single s s' t t' (inl (events, is, a)) (inr (fault, line, wrong, b)) = absurd (trace_or_fault names text events fault line is wrong)
+traces_single names name text next single s s' t t' (inr (fault, line, wrong, a)) (inl (events, is, b)) = absurd (trace_or_fault names text events fault line is wrong)
+traces_single names name text next single s s' t t' (inr (fault, line, wrong, a)) (inr (other, place, also, b)) =
+    let same = one_trace_fault names text fault other line place wrong also in
     says_same _ _ _ _ (ap (λ (n : ℕ). 2) same.1) (ap (λ (f : TraceFault). fault_line name line (trace_word f ∷ [])) same.0 ∙ ap (λ (n : ℕ). fault_line name n (trace_word other ∷ [])) same.1) s s' t t' a b
 
 -- the first automaton past its limits is one, and then not all keep them
 pub kept_or_past : (d : Description) (known : Known) (a : ℕ) → KeepsLimits d known a → (kind : Count) → PassesLimit d known a kind → ⊥
-kept_or_past d known a kept kind past = within_or_past (class_lists d known a) (shows_states d.options) (restricted a (pipeline_with d known)) kind kept past
+kept_or_past d known a kept kind past = within_or_past (class_lists d known a) (shows_states d.options) (length (queries_in d a)) (restricted a (pipeline_with d known)) kind kept past
 
 first_past_one : (d : Description) (known : Known) (a b : ℕ) → IsFirstPastLimit d known a → IsFirstPastLimit d known b → a ≡ b
 first_past_one d known a b one other = ⊎_elim
@@ -190,7 +196,7 @@ texts_single : (description described trace traced : List ℕ) → IsSingle (Jud
 texts_single description described trace traced =
     description_single description described (ReplaysDescription description trace traced) (λ d known.
     compiles_single description d known (ReplaysTrace trace traced d known)
-    (traces_single (class_names d) trace traced (Replays (pipeline_with d known) (event_lines (class_names d) 1 (lines_of traced))) (replays_single (pipeline_with d known) (event_lines (class_names d) 1 (lines_of traced)))))
+    (traces_single (trace_names d) trace traced _ (replays_single (pipeline_with d known) (held_in d known) (trace_names d) (event_lines (trace_names d) 1 (lines_of traced)))))
 
 -- Blocks and states.
 
@@ -378,14 +384,18 @@ kernels_single description described block blocked =
 -- Tables.
 
 walks_single : (m : Machine) (lines : List ℕ) (events : List Event) → IsSingle (Walks m lines events)
-walks_single m lines events s s' t t' (inl a) (inl b) = says_single _ _ s s' t t' a.1 b.1
+walks_single m lines events s s' t t' (inl a) (inl b) = one_told (told_by m) (names_of_machine m) lines events _ (says_single _ _) s s' t t' a.1 b.1
 walks_single m lines events s s' t t' (inl a) (inr b) = absurd (walked_or_not m events b.0 a.0 b.3)
 walks_single m lines events s s' t t' (inr a) (inl b) = absurd (walked_or_not m events a.0 b.0 a.3)
-walks_single m lines events s s' t t' (inr (i, line, class, first, there, named, says)) (inr (j, line', class', first', there', named', says')) =
+walks_single m lines events s s' t t' (inr (i, line, class, first, there, named, tells)) (inr (j, line', class', first', there', named', tells')) =
     let place = one_unwalked m events i j first first' in
     let number = same_Some line line' (sym there ∙ (ap (slice_get lines) place ∙ there')) in
     let name = one_issue_in m (slice_get events i) class class' named (subst (λ (n : ℕ). IsIssueIn m (slice_get events n) class') (sym place) named') in
-    (says.0 ∙ sym says'.0, says.1 ∙ (ap (λ (n : ℕ). refused_line n class) number ∙ (ap (refused_line line') name ∙ sym says'.1)))
+    let same : refused_line line class ≡ refused_line line' class' = ap (λ (n : ℕ). refused_line n class) number ∙ ap (refused_line line') name in
+    let again : Tells (told_by m) (names_of_machine m) lines (take i events) (Says 1 (refused_line line class)) s' t' =
+    subst (λ (text : List ℕ). Tells (told_by m) (names_of_machine m) lines (take i events) (Says 1 text) s' t') (sym same)
+    (subst (λ (n : ℕ). Tells (told_by m) (names_of_machine m) lines (take n events) (Says 1 (refused_line line' class')) s' t') (sym place) tells') in
+    one_told (told_by m) (names_of_machine m) lines (take i events) _ (says_single _ _) s s' t t' tells again
 
 tables_single : (name bytes : List ℕ) (next : Next Machine) → ((m : Machine) → IsSingle (next m)) → IsSingle (HasTables name bytes next)
 tables_single name bytes next single s s' t t' (inl (m, is, a)) (inl (other, also, b)) =
@@ -402,7 +412,7 @@ tables_single name bytes next single s s' t t' (inr (kind, line, wrong, a)) (inr
 walked_single : (tables tabled trace traced : List ℕ) → IsSingle (HasTables tables tabled (WalksTrace trace traced))
 walked_single tables tabled trace traced =
     tables_single tables tabled (WalksTrace trace traced) (λ m.
-    traces_single m.classes trace traced (Walks m (event_lines m.classes 1 (lines_of traced))) (walks_single m (event_lines m.classes 1 (lines_of traced))))
+    traces_single (names_of_machine m) trace traced _ (walks_single m (event_lines (names_of_machine m) 1 (lines_of traced))))
 
 compiled_single : (d : Description) (known : Known) → IsSingle (WritesTablesOf d known)
 compiled_single d known s s' t t' (zero, is) (zero', also) = (zero ∙ sym zero', one_tables_text d known t t' is also)

@@ -1,10 +1,16 @@
 -- There is an answer to all words, whatever is held.
-use Rattle.std.proofs.Common.{◌≡◌, ℕ, zero, suc, ◌+◌, ◌<◌, ◌≤◌, ⊎_elim, inl, inr, sym, ◌++◌, true, false, List, [], ◌∷◌, length, map, All, Option, Some, None, MatchOption, MatchBool, nat_lt, get_or, slice_get, refl, subst, arith, ◌⊎◌}
+use Rattle.std.proofs.Common.{◌≡◌, ℕ, zero, suc, ◌+◌, ◌<◌, ◌≤◌, ⊎_elim, inl, inr, sym, ◌++◌, true, false, List, [], ◌∷◌, length, map, take, All, Option, Some, None, MatchOption, MatchBool, nat_lt, get_or, slice_get, refl, subst, arith, ◌⊎◌}
 use Rattle.std.proofs.lemmas.Bool.{cases_lt}
 use Rattle.std.proofs.lemmas.List.Elements.{All-get_or}
 use Rattle.std.proofs.lemmas.Option.{slice_get-get_or, slice_get_within, get_or_from_slice_get}
 use Rattle.hz_answer_model.proofs.AnswerLaws.{ForTexts}
-use Rattle.hz_answer_model.proofs.EventLaws.{issue_named, events_known}
+use Rattle.hz_acceptance_model.proofs.Accepting.AskLaws.{held_or_free}
+use Rattle.hz_acceptance_model.proofs.Traces.NameLaws.{events_of_classes}
+use Rattle.hz_automata_model.specs.Compiling.AutomatonPipelines.{query_unit}
+use Rattle.hz_automata_model.specs.Tables.MachineNames.{names_of_machine}
+use Rattle.hz_answer_model.specs.AskAnswers.{Tells, trace_names, held_in, told_by}
+use Rattle.hz_answer_model.proofs.AskAnswerLaws.{some_told, told_or_not}
+use Rattle.hz_answer_model.proofs.EventLaws.{issue_named}
 use Rattle.hz_base_model.proofs.Forms.FormsFront.{every_text}
 use Rattle.hz_description_model.proofs.Reading.DescriptionLaws.{every_list}
 use Rattle.hz_description_model.proofs.Reading.DescriptionFormedAll.{well_formed}
@@ -24,8 +30,6 @@ use Rattle.hz_acceptance_model.specs.Traces.Traces.{trace_word}
 use Rattle.hz_block_model.specs.Texts.Operands.{rtl_word}
 use Rattle.hz_tabtext_model.specs.Judging.{tables_word}
 use Rattle.hz_answer_model.specs.FaultTexts.{description_line, check_line, check_status, class_line, stuck_line}
-use Rattle.hz_description_model.specs.Reading.Limits.{description_limit}
-use Rattle.hz_acceptance_model.specs.Traces.TraceLimits.{trace_limit}
 use Rattle.hz_base_model.specs.Lines.{lines_of}
 use Rattle.hz_base_model.specs.Forms.Forms as forms
 use Rattle.hz_description_model.specs.Check.CheckedParts.{automaton_names, automaton_count, automata_of, class_parts, bypass_parts, attributes_of}
@@ -42,11 +46,11 @@ use Rattle.hz_base_model.specs.Forms.Trees.{Trees}
 use Rattle.hz_words_model.specs.Words.{Order, compile, replay, walk, schedule, eval, drill, timed, bound, duo, modulo, order_of, usage_line}
 use Rattle.hz_base_model.specs.Names.{Held}
 use Rattle.hz_answer_model.specs.Phases.{Says, Next, FileWord, OpensAll, HasForms}
-use Rattle.hz_answer_model.specs.TableAnswers.{tables_limit, IsTablesOf, WritesTablesOf, HasTables, IsFirstUnwalked, Walks, WalksTrace}
+use Rattle.hz_answer_model.specs.TableAnswers.{IsTablesOf, WritesTablesOf, HasTables, IsFirstUnwalked, Walks, WalksTrace}
 use Rattle.hz_answer_model.proofs.TableLaws.{walked_or_first, unwalked_issue}
 use Rattle.hz_answer_model.proofs.DrillLaws.{some_drill}
 use Rattle.hz_answer_model.specs.DrillAnswers.{Drills}
-use Rattle.hz_answer_model.specs.BlockAnswers.{block_limit, state_text_limit, IsBlock, IsState, HasBlock, HasAtMost, Evaluates, JudgesBlock}
+use Rattle.hz_answer_model.specs.BlockAnswers.{IsBlock, IsState, HasBlock, HasAtMost, Evaluates, JudgesBlock}
 use Rattle.hz_answer_model.specs.ScheduleAnswers.{schedule_text, HasClasses, Starts, TellsSchedule}
 use Rattle.hz_answer_model.specs.TimedAnswers.{TellsTimed}
 use Rattle.hz_answer_model.specs.BoundAnswers.{TellsBound}
@@ -112,26 +116,31 @@ module _ (d : Description) (known : Known) where
       let low : found.0 < length (class_names d) = subst (IsOfClass (length (class_names d))) is (All-get_or (IsOfClass (length (class_names d))) events i (issue 0) within of_class) in
       (get_or (class_names d) found.0 [], issue_named d known (slice_get events i) found.0 (get_or (class_names d) found.0 []) found.1 (slice_get-get_or (class_names d) found.0 [] low))
 
-  replays_one : (lines : List ℕ) (events : List Event) → length lines ≡ length events → All (IsOfClass (length (class_names d))) events → HasOne (Replays (pipeline_with d known) lines events)
+  -- what comes last is told behind the asks
+  told_one : (lines : List ℕ) (events : List Event) (status : ℕ) (text : List ℕ) → HasOne (Tells (held_in d known) (trace_names d) lines events (Says status text))
+  told_one lines events status text =
+      let told = some_told (held_in d known) (trace_names d) (λ before a u. held_or_free (pipeline_with d known) same_unit places_tell before (query_unit d a u)) lines events (Says status text) status text (refl, refl) in (status, told.0, told.1)
+
+  replays_one : (lines : List ℕ) (events : List Event) → length lines ≡ length events → All (IsOfClass (length (class_names d))) events → HasOne (Replays (pipeline_with d known) (held_in d known) (trace_names d) lines events)
   replays_one lines events each of_class = ⊎_elim
-      (λ accepted. wider (Says 0 (accepted_line (issues_of events) (cycles_of events))) _ (λ s t h. inl (accepted, h)) (says_one 0 (accepted_line (issues_of events) (cycles_of events))))
+      (λ accepted. wider (Tells (held_in d known) (trace_names d) lines events (Says 0 (accepted_line (issues_of events) (cycles_of events)))) _ (λ s t h. inl (accepted, h)) (told_one lines events 0 (accepted_line (issues_of events) (cycles_of events))))
       (λ refused.
       let class = refused_class events of_class refused.0 refused.1 in
       let i = refused.0 in
       let within = (refused.1).within in
       let line = get_or lines i 0 in
       let there = slice_get-get_or lines i 0 (omega (arith, within, each)) in
-      wider (Says 1 (refused_line line class.0)) _ (λ s t h. inr (i, line, class.0, refused.1, there, class.1, h)) (says_one 1 (refused_line line class.0)))
+      wider (Tells (held_in d known) (trace_names d) lines (take i events) (Says 1 (refused_line line class.0))) _ (λ s t h. inr (i, line, class.0, refused.1, there, class.1, h)) (told_one lines (take i events) 1 (refused_line line class.0)))
       (accepted_or_first_refused same_unit places_tell (pipeline_with d known) events)
 
   traces_one : (name text : List ℕ) → HasOne (ReplaysTrace name text d known)
   traces_one name text = ⊎_elim
-      (λ (found : (events : List Event) × Trace (class_names d) text events).
-      wider (Replays (pipeline_with d known) (event_lines (class_names d) 1 (lines_of text)) found.0) _ (λ s t h. inl (found.0, found.1, h))
-      (replays_one (event_lines (class_names d) 1 (lines_of text)) found.0 (counted_lines (class_names d) 1 (found.1).lines) (events_known (found.1).lines)))
-      (λ (wrong : (fault : TraceFault) × (line : ℕ) × TraceFaultAt (class_names d) text fault line).
+      (λ (found : (events : List Event) × Trace (trace_names d) text events).
+      wider (Replays (pipeline_with d known) (held_in d known) (trace_names d) (event_lines (trace_names d) 1 (lines_of text)) found.0) _ (λ s t h. inl (found.0, found.1, h))
+      (replays_one (event_lines (trace_names d) 1 (lines_of text)) found.0 (counted_lines (trace_names d) 1 (found.1).lines) (events_of_classes (trace_names d) (found.1).lines)))
+      (λ (wrong : (fault : TraceFault) × (line : ℕ) × TraceFaultAt (trace_names d) text fault line).
       wider (Says 2 (fault_line name wrong.1 (trace_word wrong.0 ∷ []))) _ (λ s t h. inr (wrong.0, wrong.1, wrong.2, h)) (says_one 2 (fault_line name wrong.1 (trace_word wrong.0 ∷ []))))
-      (trace_of_every_text (class_names d) text)
+      (trace_of_every_text (trace_names d) text)
 
 -- All of the first automata keep their limits, or some is the first that does not.
 limits_one : (d : Description) (known : Known) → (n : ℕ) → n ≤ automaton_count d → ((a : ℕ) → a < n → KeepsLimits d known a) ⊎ ((a : ℕ) × IsFirstPastLimit d known a)
@@ -324,9 +333,13 @@ two_blocks_one description described first one second other =
 
 -- Tables.
 
+-- what comes last is told behind the asks
+told_by_one : (m : Machine) (lines : List ℕ) (events : List Event) (status : ℕ) (text : List ℕ) → HasOne (Tells (told_by m) (names_of_machine m) lines events (Says status text))
+told_by_one m lines events status text = let told = some_told (told_by m) (names_of_machine m) (told_or_not m) lines events (Says status text) status text (refl, refl) in (status, told.0, told.1)
+
 walks_one : (m : Machine) → IsMachine m → (lines : List ℕ) (events : List Event) → length lines ≡ length events → All (IsOfClass (length m.classes)) events → HasOne (Walks m lines events)
 walks_one m is lines events each of_class = ⊎_elim
-    (λ (walked : IsSome (machine_walk m events)). wider (Says 0 (accepted_line (issues_of events) (cycles_of events))) _ (λ s t h. inl (walked, h)) (says_one 0 (accepted_line (issues_of events) (cycles_of events))))
+    (λ (walked : IsSome (machine_walk m events)). wider (Tells (told_by m) (names_of_machine m) lines events (Says 0 (accepted_line (issues_of events) (cycles_of events)))) _ (λ s t h. inl (walked, h)) (told_by_one m lines events 0 (accepted_line (issues_of events) (cycles_of events))))
     (λ (found : (i : ℕ) × (i < length events) × IsFirstUnwalked m events i).
     let i = found.0 in
     let within = found.1 in
@@ -336,17 +349,17 @@ walks_one m is lines events each of_class = ⊎_elim
     let class = get_or m.classes issued.0 [] in
     let line = get_or lines i 0 in
     let there = slice_get-get_or lines i 0 (omega (arith, within, each)) in
-    wider (Says 1 (refused_line line class)) _ (λ s t h. inr (i, line, class, found.2, there, (issued.0, issued.1, slice_get-get_or m.classes issued.0 [] low), h)) (says_one 1 (refused_line line class)))
+    wider (Tells (told_by m) (names_of_machine m) lines (take i events) (Says 1 (refused_line line class))) _ (λ s t h. inr (i, line, class, found.2, there, (issued.0, issued.1, slice_get-get_or m.classes issued.0 [] low), h)) (told_by_one m lines (take i events) 1 (refused_line line class)))
     (walked_or_first m events)
 
 machine_traces_one : (m : Machine) → IsMachine m → (name text : List ℕ) → HasOne (WalksTrace name text m)
 machine_traces_one m is name text = ⊎_elim
-    (λ (found : (events : List Event) × Trace m.classes text events).
-    wider (Walks m (event_lines m.classes 1 (lines_of text)) found.0) _ (λ s t h. inl (found.0, found.1, h))
-    (walks_one m is (event_lines m.classes 1 (lines_of text)) found.0 (counted_lines m.classes 1 (found.1).lines) (events_known (found.1).lines)))
-    (λ (wrong : (fault : TraceFault) × (line : ℕ) × TraceFaultAt m.classes text fault line).
+    (λ (found : (events : List Event) × Trace (names_of_machine m) text events).
+    wider (Walks m (event_lines (names_of_machine m) 1 (lines_of text)) found.0) _ (λ s t h. inl (found.0, found.1, h))
+    (walks_one m is (event_lines (names_of_machine m) 1 (lines_of text)) found.0 (counted_lines (names_of_machine m) 1 (found.1).lines) (events_of_classes (names_of_machine m) (found.1).lines)))
+    (λ (wrong : (fault : TraceFault) × (line : ℕ) × TraceFaultAt (names_of_machine m) text fault line).
     wider (Says 2 (fault_line name wrong.1 (trace_word wrong.0 ∷ []))) _ (λ s t h. inr (wrong.0, wrong.1, wrong.2, h)) (says_one 2 (fault_line name wrong.1 (trace_word wrong.0 ∷ []))))
-    (trace_of_every_text m.classes text)
+    (trace_of_every_text (names_of_machine m) text)
 
 walked_one : (tables tabled trace traced : List ℕ) → HasOne (HasTables tables tabled (WalksTrace trace traced))
 walked_one tables tabled trace traced = by_read (tables_in tabled) refl

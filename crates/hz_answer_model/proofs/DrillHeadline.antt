@@ -1,5 +1,5 @@
 -- What `drill` answers with status 0 is of a trace that the description and `replay` accept, and of the tables that `compile` writes.
-use Rattle.std.proofs.Common.{◌≡◌, ℕ, inl, false, List, length, Some, nat_lt, refl, sym, ◌∙◌, subst}
+use Rattle.std.proofs.Common.{◌≡◌, ℕ, inl, false, List, length, Some, nat_lt, refl, sym, ◌∙◌, subst, []}
 use Rattle.std.proofs.lemmas.Bool.{le-ltb}
 use Rattle.std.proofs.lemmas.Option.{same_Some}
 use Rattle.hz_acceptance_model.specs.Accepting.Events.{issues_of, cycles_of}
@@ -15,13 +15,20 @@ use Rattle.hz_answer_model.specs.DrillAnswers.{Drills, IsDrillOf}
 use Rattle.hz_answer_model.specs.Headline.{IsDescribed, WritesDrill, ReplayAcceptsEvents}
 use Rattle.hz_base_model.specs.Names.{Held}
 use Rattle.hz_words_model.specs.Words.{compile, drill}
-use Rattle.hz_answer_model.specs.Phases.{Opens}
+use Rattle.hz_answer_model.specs.Phases.{Opens, Says}
 use Rattle.hz_answer_model.specs.TableAnswers.{IsTablesOf}
 use Rattle.hz_answer_model.specs.Texts.{accepted_line}
 use Rattle.hz_answer_model.proofs.DoneLaws.{IsOpened, opened, IsGiven, given_of, compiled_of}
 use Rattle.hz_answer_model.proofs.DrillLaws.{same_machine, machine_of_tables, drawn_accepted}
 use Rattle.hz_answer_model.proofs.HeadlineLaws.{one_described, opens}
 use Rattle.hz_answer_model.proofs.WalkLaws.{writes_tables}
+use Rattle.hz_acceptance_model.proofs.Traces.DrillLaws.{draws_of_turn}
+use Rattle.hz_acceptance_model.specs.Accepting.Replay.{Accepted}
+use Rattle.hz_acceptance_model.specs.Pipelines.Pipelines.{pipeline_with}
+use Rattle.hz_acceptance_model.specs.Traces.Traces.{event_lines}
+use Rattle.hz_base_model.specs.Lines.{lines_of}
+use Rattle.hz_answer_model.specs.AskAnswers.{trace_names, held_in}
+use Rattle.hz_answer_model.proofs.AskAnswerLaws.{last_told, turns_ask_nothing}
 
 module _ (held : Held) (description : List ℕ) (number turns : ℕ) (text : List ℕ) (h : AnswersOrder held (drill description number turns) 0 text) where
   first : IsOpened (held description) description_limit (λ described. HasDescription description described (DrillsDescription description number turns)) text
@@ -76,5 +83,5 @@ module _ (held : Held) (description : List ℕ) (number turns : ℕ) (text : Lis
         let line = accepted_line (issues_of events) (cycles_of events) in
         opens (other description) description description_limit (λ described. Opens other trace trace_limit (λ traced. Judges description described trace traced)) w.described line (same ∙ w.file) limits.1
         (opens (other trace) trace trace_limit (λ traced. Judges description w.described trace traced) traced line there (le-ltb trace_limit (length traced) short)
-        (inl ((w.is_described).read, (w.is_described).forms, inl (w.d, (w.is_described).says, inl (w.known, (w.is_described).sound, inl (limits.0, inl (events, says, inl (w.accepted, (refl, refl)))))))));
+        (inl ((w.is_described).read, (w.is_described).forms, inl (w.d, (w.is_described).says, inl (w.known, (w.is_described).sound, inl (limits.0, inl (events, says, inl (w.accepted, last_told (held_in w.d w.known) (trace_names w.d) (event_lines (trace_names w.d) 1 (lines_of traced)) events (Says 0 line) (turns_ask_nothing (length (w.d).classes) events (draws_of_turn (Accepted (pipeline_with w.d w.known)) (length (w.d).classes) [] number turns events (w.drill).drawn)) 0 line (refl, refl)))))))));
   }

@@ -1,7 +1,7 @@
 -- What `schedule` answers with status 0 is a schedule that keeps its block, what `timed` does what it reads on an
 -- exposed pipeline, what `bound` does a bound of it, what `duo` does a schedule that keeps both blocks,
 -- and what `modulo` does a kernel whose turns are good.
-use Rattle.std.proofs.Common.{◌≡◌, ℕ, ◌+◌, inl, Bool, false, List, [], length, Option, Some, MatchOption, MatchBool, nat_lt, ◌≤◌, refl, sym, ap, ◌∙◌, subst, arith}
+use Rattle.std.proofs.Common.{◌≡◌, ℕ, ◌+◌, inl, Bool, false, List, [], length, Option, Some, MatchOption, MatchBool, nat_lt, ◌≤◌, refl, sym, ap, ◌∙◌, subst, arith, All}
 use Rattle.std.specs.List.{AllPairs}
 use Rattle.std.proofs.lemmas.Bool.{le-ltb, ltb-false}
 use Rattle.std.proofs.lemmas.Option.{same_Some}
@@ -12,7 +12,7 @@ use Rattle.hz_acceptance_model.specs.Accepting.Events.{issues_of, cycles_of}
 use Rattle.hz_acceptance_model.specs.Accepting.Replay.{Accepted}
 use Rattle.hz_acceptance_model.specs.Pipelines.Pipelines.{pipeline_with}
 use Rattle.hz_automata_model.specs.Compiling.DescriptionLimits.{AllKeepLimits}
-use Rattle.hz_block_model.proofs.Scheduling.TraceLaws.{issues_spelled, cycles_spelled}
+use Rattle.hz_block_model.proofs.Scheduling.TraceLaws.{issues_spelled, cycles_spelled, asks_spelled}
 use Rattle.hz_base_model.specs.Forms.Trees.{Trees}
 use Rattle.hz_description_model.specs.Reading.Descriptions.{Description}
 use Rattle.hz_description_model.specs.Reading.DescriptionForms as description_forms
@@ -30,7 +30,7 @@ use Rattle.hz_block_model.proofs.Scheduled.BlockLaws.{legal_keeps}
 use Rattle.hz_answer_laws.proofs.Schedulable.ScheduleTotal.{short_trace}
 use Rattle.hz_answer_model.specs.Texts.{file_line, limit_line, accepted_line}
 use Rattle.hz_base_model.specs.Names.{Held}
-use Rattle.hz_words_model.specs.Words.{schedule, eval, timed, bound, duo, modulo}
+use Rattle.hz_words_model.specs.Words.{schedule, timed, bound, duo, modulo}
 use Rattle.hz_answer_model.specs.Phases.{Says, Next, Opens}
 use Rattle.hz_answer_model.specs.BlockAnswers.{block_limit, state_text_limit, HasBlock, HasAtMost, IsBlock, IsState, JudgesBlock}
 use Rattle.hz_answer_model.specs.Answers.{HasDescription, Compiles, Judges, AnswersOrder, SchedulesByDescription, TimesByDescription, SchedulesTwoByDescription, OverlapsByDescription}
@@ -48,12 +48,15 @@ use Rattle.hz_block_model.specs.Texts.StateTexts.{IsText}
 use Rattle.std.specs.List.{range_with_len, repeat}
 use Rattle.hz_block_model.specs.Scheduled.BlockGraphs.{IsGraphOf}
 use Rattle.hz_modulo_model.specs.Turns.{turns}
-use Rattle.hz_timed_model.specs.ByDescription.{exposed_in}
 use Rattle.hz_answer_model.proofs.ExposedLaws.{leaves_source}
 use Rattle.hz_bound_model.proofs.BoundLaws.{bound_of_block}
 use Rattle.hz_duo_model.proofs.TwoLaws.{keeps_both}
 use Rattle.hz_duo_model.specs.Joining.{joined}
 use Rattle.hz_answer_model.proofs.DoneLaws.{opened, formed_of, given_of, compiled_of, block_of, state_of, classes_of_block, started_of, few_of}
+use Rattle.hz_acceptance_model.specs.Traces.Traces.{event_lines}
+use Rattle.hz_base_model.specs.Lines.{lines_of}
+use Rattle.hz_answer_model.specs.AskAnswers.{trace_names, held_in}
+use Rattle.hz_answer_model.proofs.AskAnswerLaws.{AsksNothing, last_told, none_of_others}
 
 -- ---- the promise
 
@@ -154,6 +157,10 @@ accepted_slots : (g : Graph) (slots : List Slot) → AllPairs (λ x y. x.cycle �
 accepted_slots g slots rising =
     ap (λ (n : ℕ). accepted_line n (present 0 slots)) (sym (issues_spelled g slots)) ∙ ap (accepted_line (issues_of (spell g slots))) (sym (cycles_spelled g slots rising))
 
+-- slots ask nothing
+slots_ask_nothing : (g : Graph) (slots : List Slot) → All AsksNothing (spell g slots)
+slots_ask_nothing g slots = none_of_others (spell g slots) (asks_spelled g slots)
+
 -- `replay` accepts slots whose trace a description accepts
 replays_slots : (held : Held) (description described : List ℕ) (d : Description) (known : Known) (g : Graph) (slots : List Slot) → held description ≡ Some described → nat_lt description_limit (length described) ≡ false → IsDescribed described d known → AllKeepLimits d known
     → AllPairs (λ x y. x.cycle ≤ y.cycle) slots → Accepted (pipeline_with d known) (spell g slots) → ReplayAccepts held description d g slots
@@ -162,7 +169,7 @@ replays_slots held description described d known g slots file low is kept rising
       let line = accepted_line (length slots) (present 0 slots) in
       opens (other description) description description_limit (λ described. Opens other trace trace_limit (λ traced. Judges description described trace traced)) described line (same ∙ file) low
       (opens (other trace) trace trace_limit (λ traced. Judges description described trace traced) traced line there (le-ltb trace_limit (length traced) short)
-      (inl (is.read, is.forms, inl (d, is.says, inl (known, is.sound, inl (kept, inl (spell g slots, events, inl (accepted, (refl, accepted_slots g slots rising)))))))));
+      (inl (is.read, is.forms, inl (d, is.says, inl (known, is.sound, inl (kept, inl (spell g slots, events, inl (accepted, last_told (held_in d known) (trace_names d) (event_lines (trace_names d) 1 (lines_of traced)) (spell g slots) (Says 0 (accepted_line (issues_of (spell g slots)) (cycles_of (spell g slots)))) (slots_ask_nothing g slots) 0 line (refl, accepted_slots g slots rising)))))))));
 }
 
 -- ---- two blocks

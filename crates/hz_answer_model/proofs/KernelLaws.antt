@@ -24,6 +24,7 @@ use Rattle.hz_modulo_model.proofs.RangeOfClasses.{classes_within}
 use Rattle.hz_modulo_model.proofs.TextLaws.{one_text, some_text}
 use Rattle.hz_modulo_model.specs.KernelTexts.{IsKernelOf}
 use Rattle.hz_modulo_model.specs.Turns.{turns, run_times}
+use Rattle.hz_description_model.proofs.Check.QueryLaws.{asks_nothing}
 
 pub one_kernel_text : (d : Description) (known : Known) (body : List Instruction) (s t : List ℕ) → IsKernelOf d known body s → IsKernelOf d known body t → s ≡ t
 one_kernel_text d known body s t one other =
@@ -33,7 +34,7 @@ pub some_kernel_text : (d : Description) (known : Known) (m : Machine) (reports 
     → (body : List Instruction) (g : Graph) (slots : List Slot) → IsScheduleOf d known body g slots → (text : List ℕ) × IsKernelOf d known body text
 some_kernel_text d known m reports formed sound is compiled body g slots scheduled =
     some_text d known m reports formed sound is compiled
-    (machine_settles d.options (automata_of d) (map (class_parts d known) d.classes) (map (bypass_parts d) d.bypasses) (attributes_of d) (parts_kept d known formed sound) m reports is compiled)
+    (machine_settles d.options (automata_of d) (map (class_parts d known) d.classes) (map (bypass_parts d) d.bypasses) (attributes_of d) (parts_kept d known formed sound) (asks_nothing d known sound) m reports is compiled)
     body g slots scheduled
 
 -- The kernel of a body that is told.

@@ -1,3 +1,6 @@
+pub mod AskAnswerLaws
+pub mod AskPlaceLaws
+pub mod AskedUnits
 pub mod TableLaws
 pub mod OneText
 pub mod ListingTotal

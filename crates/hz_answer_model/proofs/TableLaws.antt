@@ -6,7 +6,7 @@ use Rattle.std.proofs.lemmas.List.{take_more, take_all, take-append-drop, take-t
 use Rattle.std.proofs.lemmas.Option.{same_Some, slice_get-get_or, slice_get_within, get_or_from_slice_get}
 use Rattle.std.proofs.lemmas.List.Elements.{All-get_or}
 use Rattle.hz_acceptance_model.specs.Accepting.Events.{Event, issue, advance, ask}
-use Rattle.hz_automata_model.specs.Tables.Machines.{Machine, IsMachine, IsPart, Part, part_walk, word_of, machine_walk, parts_walk, starts_of}
+use Rattle.hz_automata_model.specs.Tables.Machines.{Machine, IsMachine, IsPart, Part, part_walk, word_of, machine_walk, parts_walk, starts_of, advance_of}
 use Rattle.hz_automata_model.specs.Tables.Tables.{Table, IsTable, walk, entry}
 use Rattle.hz_automata_model.proofs.Tables.TableLaws.{walk-append, walk_stays}
 use Rattle.hz_automata_model.proofs.Tables.MachineLaws.{machine_walk-ask, word_of-append, parts_walk-append, machine_walk-each, machine_walk-part, machine_walk-all}
@@ -17,7 +17,7 @@ module _ (m : Machine) where
   not_both t none some = let bad = subst IsSome none some in absurd (cc)
 
   -- what is walked is walked up to each place
-  prefix_walked : (s t : List Event) → IsSome (machine_walk m (s ++ t)) → IsSome (machine_walk m s)
+  pub prefix_walked : (s t : List Event) → IsSome (machine_walk m (s ++ t)) → IsSome (machine_walk m s)
   prefix_walked s t h = by_states (machine_walk m s) refl
     where
       by_states : (o : Option (List ℕ)) → machine_walk m s ≡ o → IsSome (machine_walk m s)
@@ -78,10 +78,10 @@ module _ (m : Machine) (is : IsMachine m) (t : List Event) (n : ℕ) (h : IsSome
           let within : i < length states = omega (arith, each, slice_get_within m.parts i part there) in
           let here : slice_get states i ≡ Some (get_or states i 0) = slice_get-get_or states i 0 within in
           let walked : part_walk part 0 t ≡ Some (get_or states i 0) = sym (machine_walk-part m t states e i part there) ∙ here in
-          let low = walk_stays part.rows part.columns is_part.table (Some 0) (λ state same. subst (λ (s : ℕ). s < length part.rows) (same_Some 0 state same) (is_part.table).start) (get_or states i 0) (word_of part t) walked in
-          let whole : part_walk part 0 (t ++ advance n ∷ []) ≡ walk part.rows (Some (get_or states i 0)) (replicate n part.columns ++ []) =
-          ap (walk part.rows (Some 0)) (word_of-append part t (advance n ∷ [])) ∙ (walk-append part.rows (Some 0) (word_of part t) (replicate n part.columns ++ []) ∙ ap (λ (o : Option ℕ). walk part.rows o (replicate n part.columns ++ [])) walked) in
-          subst IsSome (sym whole) (advances part.rows part.columns is_part.table n (get_or states i 0) low)
+          let low = walk_stays part.rows (advance_of part) is_part.table (Some 0) (λ state same. subst (λ (s : ℕ). s < length part.rows) (same_Some 0 state same) (is_part.table).start) (get_or states i 0) (word_of part t) walked in
+          let whole : part_walk part 0 (t ++ advance n ∷ []) ≡ walk part.rows (Some (get_or states i 0)) (replicate n (advance_of part) ++ []) =
+          ap (walk part.rows (Some 0)) (word_of-append part t (advance n ∷ [])) ∙ (walk-append part.rows (Some 0) (word_of part t) (replicate n (advance_of part) ++ []) ∙ ap (λ (o : Option ℕ). walk part.rows o (replicate n (advance_of part) ++ [])) walked) in
+          subst IsSome (sym whole) (advances part.rows (advance_of part) is_part.table n (get_or states i 0) low)
 
   machine_advances : IsSome (machine_walk m (t ++ advance n ∷ []))
   machine_advances = machine_walk-all m (t ++ advance n ∷ []) part_advances

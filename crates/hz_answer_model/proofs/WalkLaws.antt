@@ -1,30 +1,30 @@
 -- What `compile` writes is said by the description, and `walk` on it answers as `replay` does.
-use Rattle.std.proofs.lemmas.List.{length-map}
-use Rattle.std.proofs.Common.{◌∷◌, ◌≡◌, ℕ, ◌+◌, ◌<◌, inl, inr, Bool, true, false, List, [], length, map, take, All, Option, Some, None, Ok, IsSome, MatchOption, MatchBool, nat_lt, slice_get, refl, sym, ap, ◌∙◌, subst}
+use Rattle.std.proofs.lemmas.List.{length-map, get_or-map}
+use Rattle.std.proofs.Common.{◌∷◌, ◌≡◌, ℕ, ◌+◌, ◌<◌, inl, inr, Bool, true, false, List, [], length, map, take, All, Option, Some, None, Ok, IsSome, MatchOption, MatchBool, nat_lt, slice_get, refl, sym, ap, ◌∙◌, subst, zero, suc, ◌≤◌, ◌⊎◌, ⊎_elim, ◌++◌, get_or, slice_index_or, arith}
 use Rattle.std.specs.Prelude.{◌↔◌}
 use Rattle.std.specs.Option.{option_map}
-use Rattle.std.proofs.lemmas.Bool.{le-ltb, ltb-false}
-use Rattle.std.proofs.lemmas.List.Elements.{All-take}
+use Rattle.std.proofs.lemmas.Bool.{le-ltb, ltb-false, cases_lt}
+use Rattle.std.proofs.lemmas.List.Elements.{All-take, All-nil, All-cons, All-head, All-tail}
 use Rattle.std.proofs.lemmas.Option.{none-some, same_Some, slice_get-map, slice_get_within}
 use Rattle.hz_base_model.proofs.Forms.FormsLaws.{one_reading, forms_or_fault}
 use Rattle.hz_description_model.proofs.Reading.DescriptionLaws.{one_description, description_or_fault}
 use Rattle.hz_description_model.proofs.Check.CheckLaws.{fault_or_sound}
-use Rattle.hz_acceptance_model.specs.Accepting.Events.{Event, issue, IsOfClass}
+use Rattle.hz_acceptance_model.specs.Accepting.Events.{Event, issue, IsOfClass, ask, issues_of, cycles_of}
 use Rattle.hz_acceptance_model.specs.Accepting.Replay.{Accepted, FirstRefused, Class}
 use Rattle.hz_description_model.specs.Reservations.Automata.{UnitPlace}
 use Rattle.hz_automata_model.specs.Compiling.DescriptionLimits.{AllKeepLimits}
-use Rattle.hz_automata_model.proofs.Compiling.DescriptionLaws.{machine_accepts, unwalked_refused}
+use Rattle.hz_automata_model.proofs.Compiling.DescriptionLaws.{machine_accepts, unwalked_refused, machine_tells, automata_count, queries_there}
 use Rattle.hz_description_model.specs.Reading.Limits.{description_limit}
 use Rattle.hz_acceptance_model.specs.Traces.TraceLimits.{trace_limit}
 use Rattle.hz_base_model.specs.Lines.{lines_of}
-use Rattle.hz_description_model.specs.Check.CheckedParts.{class_parts}
-use Rattle.hz_description_model.specs.Check.CheckFaults.{CheckFaultAt}
+use Rattle.hz_description_model.specs.Check.CheckedParts.{class_parts, AutomatonParts, automata_of, automaton_count, queries_in}
+use Rattle.hz_description_model.specs.Check.CheckFaults.{CheckFaultAt, IsSound}
 use Rattle.hz_description_model.specs.Check.Places.{Known, class_names}
 use Rattle.hz_description_model.specs.Reading.Descriptions.{Description, ClassItem}
 use Rattle.hz_description_model.specs.Reading.DescriptionForms as description_forms
 use Rattle.hz_base_model.specs.Forms.Trees.{Trees}
 use Rattle.hz_acceptance_model.specs.Pipelines.Pipelines.{class_of, pipeline_with}
-use Rattle.hz_automata_model.specs.Tables.Machines.{Machine, machine_walk}
+use Rattle.hz_automata_model.specs.Tables.Machines.{Machine, machine_walk, Part, no_part, states_tell}
 use Rattle.hz_tabtext_model.specs.Judging.{Fault}
 use Rattle.hz_tabtext_model.specs.Reading.{tables_in}
 use Rattle.hz_tabtext_model.specs.Texts.{TableText}
@@ -36,13 +36,23 @@ use Rattle.hz_answer_model.specs.Headline.{IsDescribed, WritesTables, WalkIsRepl
 use Rattle.hz_base_model.specs.Names.{Held}
 use Rattle.hz_words_model.specs.Words.{compile}
 use Rattle.hz_answer_model.specs.Phases.{Says, Next, Opens, Traces}
-use Rattle.hz_answer_model.specs.TableAnswers.{tables_limit, IsTablesOf, WritesTablesOf, HasTables, IsFirstUnwalked, Walks, WalksTrace}
-use Rattle.hz_answer_model.specs.Texts.{file_line, limit_line}
+use Rattle.hz_answer_model.specs.TableAnswers.{tables_limit, IsTablesOf, WritesTablesOf, HasTables, IsFirstUnwalked, WalksTrace, IsIssueIn}
+use Rattle.hz_answer_model.specs.Texts.{file_line, limit_line, accepted_line, refused_line}
 use Rattle.hz_answer_model.proofs.AnswerLaws.{kept_or_past}
 use Rattle.hz_answer_model.proofs.DoneLaws.{IsOpened, opened, IsGiven, given_of, compiled_of}
-use Rattle.hz_answer_model.proofs.EventLaws.{issue_named, events_known}
+use Rattle.hz_answer_model.proofs.EventLaws.{issue_named}
 use Rattle.hz_answer_model.proofs.HeadlineLaws.{one_described}
 use Rattle.hz_answer_model.proofs.ShortLaws.{tables_short}
+use Rattle.hz_acceptance_model.specs.Accepting.Asking.{IsOfQuery}
+use Rattle.hz_acceptance_model.specs.Traces.TraceNames.{TraceNames}
+use Rattle.hz_acceptance_model.proofs.Traces.NameLaws.{events_of_classes, events_of_queries}
+use Rattle.hz_description_model.specs.Check.CheckedShape.{ask_names}
+use Rattle.hz_automata_model.specs.Tables.MachineNames.{names_of_machine}
+use Rattle.hz_automata_model.specs.Compiling.Compiled.{Report, IsCompiled}
+use Rattle.hz_automata_model.specs.Compiling.AutomatonPipelines.{automaton_at, no_automaton}
+use Rattle.hz_answer_model.specs.AskAnswers.{Tells, trace_names, held_in, told_by}
+use Rattle.hz_answer_model.proofs.AskAnswerLaws.{told_alike}
+use Rattle.hz_answer_model.proofs.TableLaws.{prefix_walked}
 
 -- ---- one machine, walked and replayed
 
@@ -50,12 +60,21 @@ pub map_twice : {A B C : Type 0} (f : B → C) (g : A → B) (xs : List A) → m
 map_twice f g [] = refl
 map_twice f g (x ∷ xs) = ap (λ (ys : List _). f (g x) ∷ ys) (map_twice f g xs)
 
--- a trace hands on what follows it
-traces_map : (classes : List (List ℕ)) (name text : List ℕ) (next other : Next (List Event)) (s : ℕ) (t : List ℕ) → ((events : List Event) → Trace classes text events → next events s t → other events s t) → Traces classes name text next s t → Traces classes name text other s t
-traces_map classes name text next other s t f (inl (events, is, h)) = inl (events, is, f events is h)
-traces_map classes name text next other s t f (inr wrong) = inr wrong
+-- what holds of all of two lists holds of the first
+all_front : {X : Type 0} (P : X → Type 0) (xs ys : List X) → All P (xs ++ ys) → All P xs
+all_front P [] ys h = All-nil P
+all_front P (x ∷ xs) ys h = All-cons P x xs (All-head P x (xs ++ ys) h) (all_front P xs ys (All-tail P x (xs ++ ys) h))
 
-module _ (d : Description) (known : Known) (m : Machine) (names : m.classes ≡ class_names d) (walks : (t : List Event) → All (IsOfClass (length d.classes)) t → IsSome (machine_walk m t) ↔ Accepted (pipeline_with d known) t) where
+-- a trace hands on what follows it
+traces_map : (names : TraceNames) (name text : List ℕ) (next other : Next (List Event)) (s : ℕ) (t : List ℕ) → ((events : List Event) → Trace names text events → next events s t → other events s t) → Traces names name text next s t → Traces names name text other s t
+traces_map names name text next other s t f (inl (events, is, h)) = inl (events, is, f events is h)
+traces_map names name text next other s t f (inr wrong) = inr wrong
+
+module _ (d : Description) (known : Known) (m : Machine) (named_alike : names_of_machine m ≡ trace_names d) (walks : (t : List Event) → All (IsOfClass (length d.classes)) t → IsSome (machine_walk m t) ↔ Accepted (pipeline_with d known) t)
+    (holds : (before : List Event) (a u : ℕ) → IsSome (machine_walk m before) → All (IsOfClass (length d.classes)) before → IsOfQuery (trace_names d).queries (ask a u) → told_by m before a u ↔ held_in d known before a u) where
+  names : m.classes ≡ class_names d
+  names = ap (λ (ns : TraceNames). ns.classes) named_alike
+
   -- the class of an issue in the pipeline has its name in the machine
   class_named : (k : ℕ) (c : Class UnitPlace) (class : List ℕ) → slice_get (pipeline_with d known).classes k ≡ Some c → c.name ≡ class → slice_get m.classes k ≡ Some class
   class_named k c class there named = found (slice_get d.classes k) refl
@@ -78,33 +97,78 @@ module _ (d : Description) (known : Known) (m : Machine) (names : m.classes ≡ 
       stops None e = e
       stops (Some states) e = absurd (first.refused ((walks (take (i + 1) events) (All-take (IsOfClass (length d.classes)) (i + 1) events all)).0 (subst IsSome (sym e) refl)))
 
-  walked_replayed : (lines : List ℕ) (events : List Event) → All (IsOfClass (length d.classes)) events → (s : ℕ) (t : List ℕ) → Walks m lines events s t → Replays (pipeline_with d known) lines events s t
-  walked_replayed lines events all s t (inl (some, says)) = inl ((walks events all).0 some, says)
-  walked_replayed lines events all s t (inr (i, line, class, first, there, (k, is_issue, named), says)) =
-      inr (i, line, class, unwalked_is_refused events all i (slice_get_within events i (issue k) is_issue) first, there, issue_named d known (slice_get events i) k class is_issue (subst (λ (cs : List (List ℕ)). slice_get cs k ≡ Some class) names named), says)
+  -- events that are walked, of the description's classes
+  abbrev IsWalkedFront : List Event → Type 0
+  IsWalkedFront t = IsSome (machine_walk m t) × All (IsOfClass (length d.classes)) t
 
-  replayed_walked : (lines : List ℕ) (events : List Event) → All (IsOfClass (length d.classes)) events → (s : ℕ) (t : List ℕ) → Replays (pipeline_with d known) lines events s t → Walks m lines events s t
-  replayed_walked lines events all s t (inl (accepted, says)) = inl ((walks events all).1 accepted, says)
-  replayed_walked lines events all s t (inr (i, line, class, first, there, (k, c, is_issue, has, named), says)) =
-      inr (i, line, class, refused_is_unwalked events all i first, there, (k, is_issue, class_named k c class has named), says)
+  front : (s t : List Event) → IsWalkedFront (s ++ t) → IsWalkedFront s
+  front s t (walked, all) = (prefix_walked m s t walked, all_front (IsOfClass (length d.classes)) s t all)
 
-  -- a trace of the machine's classes is walked as the description's is replayed
+  abbrev AllNamed : List Event → Type 0
+  AllNamed events = All (IsOfClass (length d.classes)) events × All (IsOfQuery (trace_names d).queries) events
+
+  -- the asks of events that are walked are told alike
+  told_both : (lines : List ℕ) (events : List Event) (last : ℕ → List ℕ → Type 0) (s : ℕ) (t : List ℕ) → IsSome (machine_walk m events) → AllNamed events
+      → Tells (told_by m) (trace_names d) lines events last s t ↔ Tells (held_in d known) (trace_names d) lines events last s t
+  told_both lines events last s t walked (all, asked) = (
+    told_alike (told_by m) (held_in d known) (trace_names d) IsWalkedFront front (λ before a u is of_query. holds before a u is.0 is.1 of_query) lines events last s t (walked, all) asked,
+    told_alike (held_in d known) (told_by m) (trace_names d) IsWalkedFront front (λ before a u is of_query. let both = holds before a u is.0 is.1 of_query in (both.1, both.0)) lines events last s t (walked, all) asked,
+  )
+
+  -- the walk of events by the names of the description
+  abbrev WalksNamed : List ℕ → List Event → ℕ → List ℕ → Type 0
+  WalksNamed lines events s t =
+      (IsSome (machine_walk m events) × Tells (told_by m) (trace_names d) lines events (Says 0 (accepted_line (issues_of events) (cycles_of events))) s t)
+      ⊎ ((i line : ℕ) × (class : List ℕ) × IsFirstUnwalked m events i × (slice_get lines i ≡ Some line) × IsIssueIn m (slice_get events i) class × Tells (told_by m) (trace_names d) lines (take i events) (Says 1 (refused_line line class)) s t)
+
+  some_named : (i : ℕ) (events : List Event) → AllNamed events → AllNamed (take i events)
+  some_named i events (all, asked) = (All-take (IsOfClass (length d.classes)) i events all, All-take (IsOfQuery (trace_names d).queries) i events asked)
+
+  walked_replayed : (lines : List ℕ) (events : List Event) → AllNamed events → (s : ℕ) (t : List ℕ) → WalksNamed lines events s t → Replays (pipeline_with d known) (held_in d known) (trace_names d) lines events s t
+  walked_replayed lines events all s t (inl (some, tells)) = inl ((walks events all.0).0 some, (told_both lines events (Says 0 (accepted_line (issues_of events) (cycles_of events))) s t some all).0 tells)
+  walked_replayed lines events all s t (inr (i, line, class, first, there, (k, is_issue, named), tells)) =
+      inr (
+        i,
+        line,
+        class,
+        unwalked_is_refused events all.0 i (slice_get_within events i (issue k) is_issue) first,
+        there,
+        issue_named d known (slice_get events i) k class is_issue (subst (λ (cs : List (List ℕ)). slice_get cs k ≡ Some class) names named),
+        (told_both lines (take i events) (Says 1 (refused_line line class)) s t first.0 (some_named i events all)).0 tells,
+      )
+
+  replayed_walked : (lines : List ℕ) (events : List Event) → AllNamed events → (s : ℕ) (t : List ℕ) → Replays (pipeline_with d known) (held_in d known) (trace_names d) lines events s t → WalksNamed lines events s t
+  replayed_walked lines events all s t (inl (accepted, tells)) = let some = (walks events all.0).1 accepted in inl (some, (told_both lines events (Says 0 (accepted_line (issues_of events) (cycles_of events))) s t some all).1 tells)
+  replayed_walked lines events all s t (inr (i, line, class, first, there, (k, c, is_issue, has, named), tells)) =
+      let unwalked = refused_is_unwalked events all.0 i first in
+      inr (i, line, class, unwalked, there, (k, is_issue, class_named k c class has named), (told_both lines (take i events) (Says 1 (refused_line line class)) s t unwalked.0 (some_named i events all)).1 tells)
+
+  -- the machine's trace, by these names
+  abbrev TracesBy : (trace traced : List ℕ) → TraceNames → ℕ → List ℕ → Type 0
+  TracesBy trace traced ns = Traces ns trace traced (λ events s t.
+      (IsSome (machine_walk m events) × Tells (told_by m) ns (event_lines ns 1 (lines_of traced)) events (Says 0 (accepted_line (issues_of events) (cycles_of events))) s t)
+      ⊎ ((i line : ℕ) × (class : List ℕ) × IsFirstUnwalked m events i × (slice_get (event_lines ns 1 (lines_of traced)) i ≡ Some line) × IsIssueIn m (slice_get events i) class × Tells (told_by m) ns (event_lines ns 1 (lines_of traced)) (take i events) (Says 1 (refused_line line class)) s t))
+
+  -- a trace of the machine's names is walked as the description's is replayed
   pub traced_both : (trace traced : List ℕ) (s : ℕ) (t : List ℕ) → WalksTrace trace traced m s t ↔ ReplaysTrace trace traced d known s t
   traced_both trace traced s t = (
-    λ h. traces_map (class_names d) trace traced (Walks m (lines (class_names d))) (Replays (pipeline_with d known) (lines (class_names d))) s t
-        (λ events says. walked_replayed (lines (class_names d)) events (classes_all events says) s t)
-        (subst (λ (cs : List (List ℕ)). Traces cs trace traced (Walks m (lines cs)) s t) names h),
-    λ h. subst (λ (cs : List (List ℕ)). Traces cs trace traced (Walks m (lines cs)) s t) (sym names)
-        (traces_map (class_names d) trace traced (Replays (pipeline_with d known) (lines (class_names d))) (Walks m (lines (class_names d))) s t
-        (λ events says. replayed_walked (lines (class_names d)) events (classes_all events says) s t)
+    λ h. traces_map (trace_names d) trace traced (WalksNamed lines) (Replays (pipeline_with d known) (held_in d known) (trace_names d) lines) s t
+        (λ events says. walked_replayed lines events (all_named events says) s t)
+        (subst (λ (ns : TraceNames). TracesBy trace traced ns s t) named_alike h),
+    λ h. subst (λ (ns : TraceNames). TracesBy trace traced ns s t) (sym named_alike)
+        (traces_map (trace_names d) trace traced (Replays (pipeline_with d known) (held_in d known) (trace_names d) lines) (WalksNamed lines) s t
+        (λ events says. replayed_walked lines events (all_named events says) s t)
         h),
   )
     where
-      lines : List (List ℕ) → List ℕ
-      lines classes = event_lines classes 1 (lines_of traced)
+      lines : List ℕ
+      lines = event_lines (trace_names d) 1 (lines_of traced)
 
-      classes_all : (events : List Event) → Trace (class_names d) traced events → All (IsOfClass (length d.classes)) events
-      classes_all events says = subst (λ (n : ℕ). All (IsOfClass n) events) (length-map d.classes (λ (c : ClassItem). c.name)) (events_known says.lines)
+      all_named : (events : List Event) → Trace (trace_names d) traced events → AllNamed events
+      all_named events says = (
+        subst (λ (n : ℕ). All (IsOfClass n) events) (length-map d.classes (λ (c : ClassItem). c.name)) (events_of_classes (trace_names d) says.lines),
+        events_of_queries (trace_names d) says.lines,
+      )
 
 -- ---- the phases before
 
@@ -165,6 +229,63 @@ behind_limits name d known next s t kept = (to, λ h. inl (kept, h))
     to (inl (also, h)) = h
     to (inr (a, first, says)) = absurd (kept_or_past d known a (kept a first.there) first.kind first.past)
 
+-- ---- what is compiled of a description
+
+-- past the end of a list there is nothing else
+past_end : {X : Type 0} (xs : List X) (i : ℕ) (other : X) → length xs ≤ i → get_or xs i other ≡ other
+past_end [] i other past = refl
+past_end (x ∷ xs) zero other past = absurd (omega (arith, past))
+past_end (x ∷ xs) (suc i) other past = past_end xs i other (omega (arith, past))
+
+-- the names of a machine's parts are those of the automata
+parts_named : (parts : List Part) (automata : List AutomatonParts) → length parts ≡ length automata → ((a : ℕ) → a < length automata → (get_or parts a no_part).asks ≡ ask_names (automaton_at automata a)) → map (λ (part : Part). part.asks) parts ≡ map ask_names automata
+parts_named [] [] each same = refl
+parts_named [] (automaton ∷ automata) each same = absurd (omega (arith, each))
+parts_named (part ∷ parts) [] each same = absurd (omega (arith, each))
+parts_named (part ∷ parts) (automaton ∷ automata) each same =
+    ap (λ (first : List (List ℕ)). first ∷ map (λ (p : Part). p.asks) parts) (same zero (omega arith))
+    ∙ ap (λ (rest : List (List (List ℕ))). ask_names automaton ∷ rest) (parts_named parts automata (omega (arith, each)) (λ a low. same (suc a) (omega (arith, low))))
+
+module _ (d : Description) (known : Known) (m : Machine) (reports : List Report) (is : IsCompiled d.options (automata_of d) (map (class_parts d known) d.classes) m reports) where
+  pub machine_names : names_of_machine m ≡ trace_names d
+  machine_names =
+      let classes : m.classes ≡ class_names d = is.names ∙ map_twice (λ c. c.name) (class_parts d known) d.classes in
+      let queries = parts_named m.parts (automata_of d) is.each (λ a low. (is.parts a low).asks) in
+      ap (λ (cs : List (List ℕ)). record { classes = cs; queries = map (λ (part : Part). part.asks) m.parts }) classes
+      ∙ ap (λ (qs : List (List (List ℕ))). record { classes = class_names d; queries = qs }) queries
+
+  -- an ask of a query unit is of an automaton, and of one of its query units
+  asked_there : (a u : ℕ) → IsOfQuery (trace_names d).queries (ask a u) → (a < automaton_count d) × (u < length (queries_in d a))
+  asked_there a u low = ⊎_elim
+      (λ (inside : a < length (automata_of d)).
+      let there : get_or (map ask_names (automata_of d)) a [] ≡ ask_names (automaton_at (automata_of d) a) = get_or-map ask_names (automata_of d) a no_automaton [] inside in
+      let count : length (automata_of d) ≡ automaton_count d = automata_count d in
+      let within : a < automaton_count d = omega (arith, inside, count) in
+      let queries : (automaton_at (automata_of d) a).queries ≡ queries_in d a = queries_there d a within in
+      let each = length-map (automaton_at (automata_of d) a).queries (λ n. slice_index_or (automaton_at (automata_of d) a).units n []) in
+      let named : u < length (ask_names (automaton_at (automata_of d) a)) = subst (λ (names : List (List ℕ)). u < length names) there low in
+      let number : length (automaton_at (automata_of d) a).queries ≡ length (queries_in d a) = ap length queries in
+      (within, omega (arith, named, each, number)))
+      (λ (beyond : length (automata_of d) ≤ a).
+      let none : get_or (map ask_names (automata_of d)) a [] ≡ [] = past_end (map ask_names (automata_of d)) a [] (omega (arith, beyond, length-map (automata_of d) ask_names)) in
+      let bad : u < 0 = subst (λ (names : List (List ℕ)). u < length names) none low in
+      absurd (omega (arith, bad)))
+      (cases_lt a (length (automata_of d)))
+
+  pub told_is_held : IsSound d known → (before : List Event) (a u : ℕ) → IsSome (machine_walk m before) → All (IsOfClass (length d.classes)) before → IsOfQuery (trace_names d).queries (ask a u) → told_by m before a u ↔ held_in d known before a u
+  told_is_held sound before a u walked all of_query = by_walk (machine_walk m before) refl
+    where
+      there : (a < automaton_count d) × (u < length (queries_in d a))
+      there = asked_there a u of_query
+
+      by_walk : (o : Option (List ℕ)) → machine_walk m before ≡ o → told_by m before a u ↔ held_in d known before a u
+      by_walk None e = absurd (let bad = subst IsSome e walked in cc)
+      by_walk (Some states) e =
+          let both = machine_tells d known m reports is before all sound states e a u there.0 there.1 in (
+            λ h. let same : h.0 ≡ states = same_Some h.0 states (sym h.1 ∙ e) in both.0 (subst (λ (x : List ℕ). states_tell m x a u ≡ true) same h.2),
+            λ h. (states, e, both.1 h),
+          )
+
 -- ---- the laws
 
 module _ (held : Held) (description text : List ℕ) (h : AnswersOrder held (compile description) 0 text) where
@@ -189,14 +310,14 @@ module _ (held : Held) (description text : List ℕ) (h : AnswersOrder held (com
   is : IsTablesOf d known text
   is = tables.1.1
 
-  names : (is.machine).classes ≡ class_names d
-  names = (is.compiled).names ∙ map_twice (λ c. c.name) (class_parts given.d given.known) given.d.classes
+  named : names_of_machine is.machine ≡ trace_names d
+  named = machine_names d known is.machine is.reports is.compiled
 
   -- the tables are walked as the description is judged
   judged_both : (tables_name trace traced : List ℕ) (s : ℕ) (t : List ℕ) → HasTables tables_name text (WalksTrace trace traced) s t ↔ Judges description first.bytes trace traced s t
   judged_both tables_name trace traced s t =
       let one = behind_tables tables_name text is.machine (WalksTrace trace traced) s t is.stands in
-      let two = traced_both d known is.machine names (λ t all. machine_accepts d known is.machine is.reports is.compiled t all ((given.is).sound)) trace traced s t in
+      let two = traced_both d known is.machine named (λ t all. machine_accepts d known is.machine is.reports is.compiled t all ((given.is).sound)) (told_is_held d known is.machine is.reports is.compiled (given.is).sound) trace traced s t in
       let three = behind_limits description d known (ReplaysTrace trace traced d known) s t tables.0 in
       let four = behind_description description first.bytes d known (ReplaysDescription description trace traced) s t given.is in
       (λ h. four.1 (three.1 (two.0 (one.0 h))), λ h. one.1 (two.1 (three.0 (four.0 h))))

@@ -1,7 +1,7 @@
 -- What the program answers: this profile, docs/FORMATS.md, 'Answers'.
-use Rattle.std.specs.Prelude.{◌≡◌, ℕ, List, [], ◌∷◌, Option, Some, MatchOption, ◌⊎◌, slice_get, slice_index_or}
+use Rattle.std.specs.Prelude.{◌≡◌, ℕ, List, [], ◌∷◌, take, Option, Some, MatchOption, ◌⊎◌, slice_get, slice_index_or}
 use Rattle.hz_description_model.specs.Check.CheckFaults.{CheckFault, CheckFaultAt, IsSound}
-use Rattle.hz_description_model.specs.Check.Places.{Known, class_names}
+use Rattle.hz_description_model.specs.Check.Places.{Known}
 use Rattle.hz_description_model.specs.Reading.DescriptionForms.{DescriptionFault}
 use Rattle.hz_description_model.specs.Reading.DescriptionForms as description_forms
 use Rattle.hz_description_model.specs.Reading.Descriptions.{Description}
@@ -20,6 +20,8 @@ use Rattle.hz_answer_model.specs.Texts.{states_line, accepted_line, refused_line
 use Rattle.hz_base_model.specs.Forms.Trees.{Trees}
 use Rattle.hz_words_model.specs.Words.{Order, compile, replay, walk, schedule, eval, drill, timed, bound, duo, modulo, order_of, usage_line}
 use Rattle.hz_base_model.specs.Names.{Held}
+use Rattle.hz_acceptance_model.specs.Traces.TraceNames.{TraceNames}
+use Rattle.hz_answer_model.specs.AskAnswers.{Reserved, Tells, trace_names, held_in}
 use Rattle.hz_answer_model.specs.Phases.{Says, Next, FileWord, OpensAll, HasForms, Traces}
 use Rattle.hz_answer_model.specs.BlockAnswers.{block_limit, state_text_limit, JudgesBlock}
 use Rattle.hz_answer_model.specs.ScheduleAnswers.{SchedulesBlock}
@@ -62,16 +64,17 @@ Compiles name d known next status text = (AllKeepLimits d known × next status t
 abbrev pub IsIssueOf : {U : Type 0} → Pipeline U → Option Event → List ℕ → Type 0
 IsIssueOf {U} m e name = (k : ℕ) × (c : Class U) × (e ≡ Some (issue k)) × (slice_get m.classes k ≡ Some c) × (c.name ≡ name)
 
--- the replay of events that stand on these lines: accepted, or refused at the first event that does not fit
-abbrev pub Replays : {U : Type 0} → Pipeline U → List ℕ → List Event → ℕ → List ℕ → Type 0
-Replays m lines events status text =
-    (Accepted m events × Says 0 (accepted_line (issues_of events) (cycles_of events)) status text)
-    ⊎ ((i line : ℕ) × (class : List ℕ) × FirstRefused m events i × (slice_get lines i ≡ Some line) × IsIssueOf m (slice_get events i) class × Says 1 (refused_line line class) status text)
+-- The replay of events that stand on these lines of a trace: the asks before the first event that does not fit, or all, are told, and
+-- then that all are accepted, or which is refused.
+abbrev pub Replays : {U : Type 0} → Pipeline U → Reserved → TraceNames → List ℕ → List Event → ℕ → List ℕ → Type 0
+Replays m reserved names lines events status text =
+    (Accepted m events × Tells reserved names lines events (Says 0 (accepted_line (issues_of events) (cycles_of events))) status text)
+    ⊎ ((i line : ℕ) × (class : List ℕ) × FirstRefused m events i × (slice_get lines i ≡ Some line) × IsIssueOf m (slice_get events i) class × Tells reserved names lines (take i events) (Says 1 (refused_line line class)) status text)
 
 -- the trace of a description whose names have these alternatives is judged, and replayed
 abbrev pub ReplaysTrace : List ℕ → List ℕ → Description → Known → ℕ → List ℕ → Type 0
 ReplaysTrace trace traced d known =
-    Traces (class_names d) trace traced (Replays (pipeline_with d known) (event_lines (class_names d) 1 (lines_of traced)))
+    Traces (trace_names d) trace traced (Replays (pipeline_with d known) (held_in d known) (trace_names d) (event_lines (trace_names d) 1 (lines_of traced)))
 
 -- a description without a fault is compiled and replayed
 abbrev pub ReplaysDescription : List ℕ → List ℕ → List ℕ → Description → Known → ℕ → List ℕ → Type 0

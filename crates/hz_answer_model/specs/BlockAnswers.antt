@@ -1,5 +1,5 @@
 -- What a block is, and what `eval` answers: this profile, docs/FORMATS.md, 'Answers'.
-use Rattle.std.specs.Prelude.{◌≡◌, ℕ, List, [], ◌∷◌, length, ◌⊎◌, MatchBool, nat_lt}
+use Rattle.std.specs.Prelude.{◌≡◌, ℕ, List, length, ◌⊎◌, MatchBool, nat_lt}
 use Rattle.std.specs.List.{range_with_len}
 use Rattle.hz_base_model.specs.Forms.Trees.{Trees}
 use Rattle.hz_block_model.specs.Running.Blocks.{Instruction}

@@ -1,5 +1,5 @@
 -- The texts of faults that tell more than a word and a line. This profile, docs/FORMATS.md, 'Answers'.
-use Rattle.std.specs.Prelude.{ℕ, List, [], ◌∷◌, map, Option, Some, None, slice_get, slice_index_or}
+use Rattle.std.specs.Prelude.{ℕ, List, [], map, Option, Some, None, slice_get, slice_index_or}
 use Rattle.hz_description_model.specs.Reading.DescriptionForms.{DescriptionFault, description_word, description_at}
 use Rattle.hz_description_model.specs.Check.CheckFaults.{CheckFault, LimitName, check_word, limit_word, limit_passed}
 use Rattle.hz_description_model.specs.Check.Sites.{Site}

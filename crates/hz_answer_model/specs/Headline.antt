@@ -6,7 +6,7 @@ use Rattle.hz_base_model.specs.Forms.Forms as forms
 use Rattle.hz_description_model.specs.Reading.Descriptions.{Description}
 use Rattle.hz_description_model.specs.Reading.DescriptionForms as description_forms
 use Rattle.hz_description_model.specs.Check.CheckFaults.{IsSound}
-use Rattle.hz_description_model.specs.Check.Places.{Known, class_names}
+use Rattle.hz_description_model.specs.Check.Places.{Known}
 use Rattle.hz_acceptance_model.specs.Traces.TraceLimits.{advance_limit, trace_limit}
 use Rattle.hz_acceptance_model.specs.Accepting.Events.{Event, issues_of, cycles_of}
 use Rattle.hz_acceptance_model.specs.Accepting.Replay.{Accepted}
@@ -23,7 +23,6 @@ use Rattle.hz_tabtext_model.specs.Texts.{TableText}
 use Rattle.hz_block_model.specs.Running.States.{State, run}
 use Rattle.hz_block_model.specs.Texts.StateForms as states
 use Rattle.hz_timed_model.specs.ByDescription.{exposed_in}
-use Rattle.hz_timed_model.specs.Exposed.{Timed}
 use Rattle.hz_timed_model.specs.Texts.{text_of_reads}
 use Rattle.hz_block_model.specs.Texts.StateTexts.{IsText}
 use Rattle.hz_bound_model.specs.Bounds.{Bound, IsBoundOf}
@@ -35,6 +34,7 @@ use Rattle.hz_duo_model.specs.Joining.{joined}
 use Rattle.hz_duo_model.specs.Texts.{text_of_two}
 use Rattle.hz_duo_model.specs.TwoContexts.{IsScheduleOfTwo, KeepsBoth}
 use Rattle.hz_answer_model.specs.Answers.{AnswersOrder}
+use Rattle.hz_answer_model.specs.AskAnswers.{trace_names}
 use Rattle.hz_answer_model.specs.DrillAnswers.{IsDrillOf}
 use Rattle.hz_base_model.specs.Names.{Held}
 use Rattle.hz_words_model.specs.Words.{Order, compile, replay, walk, schedule, eval, drill, timed, bound, duo, modulo}
@@ -93,7 +93,7 @@ pub record WritesSchedule (held : Held) (description block : List ℕ) (text : L
 -- `replay` accepts the trace of slots, by whatever text it is given: where the same description is held, and a text that is not too
 -- long, whose events the slots spell, it answers with status 0 how many issues there are, and the last cycle.
 pub record ReplayAccepts (held : Held) (description : List ℕ) (d : Description) (g : Graph) (slots : List Slot) : Type 0 where
-  pub answers : (other : Held) (trace traced : List ℕ) → other description ≡ held description → other trace ≡ Some traced → length traced ≤ trace_limit → Trace (class_names d) traced (spell g slots)
+  pub answers : (other : Held) (trace traced : List ℕ) → other description ≡ held description → other trace ≡ Some traced → length traced ≤ trace_limit → Trace (trace_names d) traced (spell g slots)
       → AnswersOrder other (replay description trace) 0 (accepted_line (length slots) (present 0 slots))
 
 -- The text says what is compiled of the description that is held, and is within its limit of bytes, unless what each state is is told.
@@ -127,7 +127,7 @@ pub record WritesDrill (held : Held) (description : List ℕ) (number turns : �
 -- `replay` accepts events, by whatever text it is given: where the same description is held, and a text that is not too long, whose
 -- events these are, it answers with status 0 how many issues and how many cycles there are.
 pub record ReplayAcceptsEvents (held : Held) (description : List ℕ) (d : Description) (events : List Event) : Type 0 where
-  pub answers : (other : Held) (trace traced : List ℕ) → other description ≡ held description → other trace ≡ Some traced → length traced ≤ trace_limit → Trace (class_names d) traced events
+  pub answers : (other : Held) (trace traced : List ℕ) → other description ≡ held description → other trace ≡ Some traced → length traced ≤ trace_limit → Trace (trace_names d) traced events
       → AnswersOrder other (replay description trace) 0 (accepted_line (issues_of events) (cycles_of events))
 
 -- what is written is a schedule that keeps its block, and `replay` accepts it

@@ -1,10 +1,11 @@
 -- Phases of an answer: reading files, forms and traces. The first that refuses decides. This profile, docs/FORMATS.md, 'Answers'.
-use Rattle.std.specs.Prelude.{◌≡◌, ℕ, List, [], ◌∷◌, Option, MatchOption, MatchBool, nat_lt, length, ◌⊎◌}
+use Rattle.std.specs.Prelude.{◌≡◌, ℕ, List, [], ◌∷◌, MatchOption, MatchBool, nat_lt, length, ◌⊎◌}
 use Rattle.hz_base_model.specs.Forms.Forms.{form_word}
 use Rattle.hz_base_model.specs.Forms.Forms as forms
 use Rattle.hz_base_model.specs.Forms.Trees.{Trees}
 use Rattle.hz_base_model.specs.Names.{Held}
 use Rattle.hz_acceptance_model.specs.Accepting.Events.{Event}
+use Rattle.hz_acceptance_model.specs.Traces.TraceNames.{TraceNames}
 use Rattle.hz_acceptance_model.specs.Traces.Traces.{Trace, TraceFaultAt, trace_word}
 use Rattle.hz_answer_model.specs.Texts.{file_line, limit_line, fault_line}
 
@@ -42,8 +43,8 @@ HasForms name bytes next status text =
     ((read : Trees) × forms.Reads bytes read × next read status text)
     ⊎ TellsFault form_word (forms.FaultAt bytes) name status text
 
--- the events of a trace of classes with these names, or its first wrong line
-abbrev pub Traces : List (List ℕ) → List ℕ → List ℕ → Next (List Event) → ℕ → List ℕ → Type 0
-Traces classes name bytes next status text =
-    ((events : List Event) × Trace classes bytes events × next events status text)
-    ⊎ TellsFault trace_word (TraceFaultAt classes bytes) name status text
+-- the events of a trace that says these names, or its first wrong line
+abbrev pub Traces : TraceNames → List ℕ → List ℕ → Next (List Event) → ℕ → List ℕ → Type 0
+Traces names name bytes next status text =
+    ((events : List Event) × Trace names bytes events × next events status text)
+    ⊎ TellsFault trace_word (TraceFaultAt names bytes) name status text

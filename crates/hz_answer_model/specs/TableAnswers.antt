@@ -1,5 +1,5 @@
 -- What `compile` and `walk` answer: this profile, docs/FORMATS.md, 'Answers'.
-use Rattle.std.specs.Prelude.{◌≡◌, ℕ, ◌+◌, List, [], ◌∷◌, map, All, take, slice_get, Option, Some, None, IsSome, Err, ◌⊎◌}
+use Rattle.std.specs.Prelude.{◌≡◌, ℕ, ◌+◌, List, map, All, take, slice_get, Option, Some, None, IsSome, Err, ◌⊎◌}
 use Rattle.hz_acceptance_model.specs.Accepting.Events.{Event, issue, issues_of, cycles_of}
 use Rattle.hz_automata_model.specs.Compiling.Compiled.{Report, IsCompiled}
 use Rattle.hz_base_model.specs.Lines.{lines_of}
@@ -13,6 +13,8 @@ use Rattle.hz_tabtext_model.specs.Reading.{tables_in}
 use Rattle.hz_tabtext_model.specs.Said.{tables_said}
 use Rattle.hz_tabtext_model.specs.Texts.{TableText, spelled}
 use Rattle.hz_acceptance_model.specs.Traces.Traces.{event_lines}
+use Rattle.hz_automata_model.specs.Tables.MachineNames.{names_of_machine}
+use Rattle.hz_answer_model.specs.AskAnswers.{Tells, told_by}
 use Rattle.hz_answer_model.specs.Phases.{Says, Next, TellsFault, Traces}
 use Rattle.hz_answer_model.specs.Texts.{accepted_line, refused_line}
 
@@ -52,12 +54,13 @@ IsFirstUnwalked m events i = IsSome (machine_walk m (take i events)) × (machine
 abbrev pub IsIssueIn : Machine → Option Event → List ℕ → Type 0
 IsIssueIn m e name = (class : ℕ) × (e ≡ Some (issue class)) × (slice_get m.classes class ≡ Some name)
 
--- the walk of events that stand on these lines: accepted, or refused at the first event that is not walked
+-- The walk of events that stand on these lines of a trace: the asks before the first event that is not walked, or all, are told, and
+-- then that all are accepted, or which is refused.
 abbrev pub Walks : Machine → List ℕ → List Event → ℕ → List ℕ → Type 0
 Walks m lines events status text =
-    (IsSome (machine_walk m events) × Says 0 (accepted_line (issues_of events) (cycles_of events)) status text)
-    ⊎ ((i line : ℕ) × (class : List ℕ) × IsFirstUnwalked m events i × (slice_get lines i ≡ Some line) × IsIssueIn m (slice_get events i) class × Says 1 (refused_line line class) status text)
+    (IsSome (machine_walk m events) × Tells (told_by m) (names_of_machine m) lines events (Says 0 (accepted_line (issues_of events) (cycles_of events))) status text)
+    ⊎ ((i line : ℕ) × (class : List ℕ) × IsFirstUnwalked m events i × (slice_get lines i ≡ Some line) × IsIssueIn m (slice_get events i) class × Tells (told_by m) (names_of_machine m) lines (take i events) (Says 1 (refused_line line class)) status text)
 
--- the trace of a machine's classes is judged, and walked
+-- the trace of a machine's names is judged, and walked
 abbrev pub WalksTrace : List ℕ → List ℕ → Machine → ℕ → List ℕ → Type 0
-WalksTrace trace traced m = Traces m.classes trace traced (Walks m (event_lines m.classes 1 (lines_of traced)))
+WalksTrace trace traced m = Traces (names_of_machine m) trace traced (Walks m (event_lines (names_of_machine m) 1 (lines_of traced)))

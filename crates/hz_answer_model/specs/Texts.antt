@@ -1,5 +1,5 @@
 -- The texts of answers: this profile, docs/FORMATS.md, 'Answers'.
-use Rattle.std.specs.Prelude.{ℕ, List, [], ◌∷◌, ◌++◌, codes, decimal, Option, Some, None}
+use Rattle.std.specs.Prelude.{ℕ, Bool, List, [], ◌∷◌, ◌++◌, codes, decimal, Option, Some, None, if◌then◌else◌}
 use Rattle.std.specs.List.{concat, flat_map}
 
 -- The texts that the program writes, each one line. A file goes by the word that names it.
@@ -8,6 +8,10 @@ accepted_line issues cycles = concat (codes "accepted " ∷ decimal issues ∷ c
 
 abbrev pub refused_line : ℕ → List ℕ → List ℕ
 refused_line line class = concat (codes "refused line " ∷ decimal line ∷ codes " " ∷ class ∷ codes "\n" ∷ [])
+
+-- what an ask on this line is answered: that the query unit of this name is reserved, or free
+abbrev pub ask_line : ℕ → List ℕ → (reserved : Bool) → List ℕ
+ask_line line unit reserved = concat (codes "ask line " ∷ decimal line ∷ codes " " ∷ unit ∷ (if reserved then codes " reserved\n" else codes " free\n") ∷ [])
 
 -- a slot of a schedule: its cycle, and the number and class of the instruction
 abbrev pub slot_line : ℕ → ℕ → List ℕ → List ℕ

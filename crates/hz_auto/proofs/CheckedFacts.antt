@@ -1,5 +1,5 @@
 -- What every checked description keeps, as compiling asks for it.
-use Rattle.std.proofs.Common.{◌≡◌, ◌≢◌, ℕ, ◌+◌, ◌<◌, ◌≤◌, List, [], ◌∷◌, ◌++◌, length, map, take, get_or, slice_get, Option, Some, None, All, refl, sym, ap, ◌∙◌, subst, arith}
+use Rattle.std.proofs.Common.{◌≡◌, ◌≢◌, ℕ, zero, suc, ◌+◌, ◌<◌, ◌≤◌, List, [], ◌∷◌, ◌++◌, length, map, take, get_or, slice_get, Option, Some, None, All, refl, sym, ap, ◌∙◌, subst, arith, IsTrue}
 use Rattle.std.specs.Prelude.{slice_index_or}
 use Rattle.std.specs.List.{AllPairs}
 use Rattle.std.proofs.lemmas.List.{length-map, get_or-map, take_more, map_push}
@@ -10,6 +10,7 @@ use Rattle.hz_base_model.specs.Pairs.{Pair}
 use Rattle.hz_base_model.specs.Limits.{automaton_limit, class_limit, unit_limit}
 use Rattle.hz_description_model.specs.Reservations.Sets.{Statement}
 use Rattle.hz_description_model.specs.Check.CheckedParts.{AutomatonParts, ClassParts}
+use Rattle.hz_description_model.proofs.Check.QueryPlaces.{names_of_their_own}
 use Rattle.hz_check.specs.declared.checked.Checked.{Checked}
 use Rattle.hz_check.specs.declared.checked.CheckedAutomaton.{CheckedAutomaton}
 use Rattle.hz_check.specs.declared.checked.CheckedClass.{CheckedClass}
@@ -19,7 +20,8 @@ use Rattle.hz_tables.specs.declared.part.Part.{Part}
 use Rattle.hz_tables.specs.Parts.{part_of}
 use Rattle.hz_automata_model.specs.Tables.Machines as model
 use Rattle.hz_automata_model.specs.Tables.Machines.{IsMachine, IsPart}
-use Rattle.hz_automata_model.specs.Compiling.AutomatonPipelines.{automaton_at, lists_at}
+use Rattle.hz_auto.specs.Machines.{AskQueries}
+use Rattle.hz_automata_model.specs.Compiling.AutomatonPipelines.{automaton_at, lists_at, queries_at, no_automaton}
 
 pub map_twice : {A B C : Type 0} (f : B → C) (g : A → B) (xs : List A) → map f (map g xs) ≡ map (λ x. f (g x)) xs
 map_twice f g [] = refl
@@ -47,10 +49,33 @@ in_range a few all k d within =
           omega (arith, below, few);
     }
 
+-- numbers of units of an automaton, in ascending order
+abbrev AreQueries : AutomatonParts → Type 0
+AreQueries p = AllPairs (λ m n. m < n) p.queries × All (λ n. n < length p.units) p.queries
+
+-- ascending numbers below a number are no more
+ascending_few : (ns : List ℕ) (limit : ℕ) → AllPairs (λ m n. m < n) ns → All (λ n. n < limit) ns → length ns ≤ limit
+ascending_few ns limit up below = from_place (length ns) refl
+  where
+    high : (i : ℕ) → i < length ns → i ≤ get_or ns i 0
+    high zero low = omega arith
+    high (suc i) low =
+        let before = high i (omega (arith, low)) in
+        let less = up i (suc i) 0 (omega arith) low in
+        omega (arith, before, less)
+
+    from_place : (n : ℕ) → length ns ≡ n → length ns ≤ limit
+    from_place zero e = omega (arith, e)
+    from_place (suc n) e =
+        let inside : n < length ns = omega (arith, e) in
+        let last = high n inside in
+        let cap = below n 0 inside in
+        omega (arith, e, last, cap)
+
 module _ (checked : Checked) where
   -- the automaton of a number
   pub automaton_there : (a : ℕ) (d : CheckedAutomaton) → a < length checked.automata.items → automaton_at (map automaton_of checked.automata.items) a ≡ automaton_of (get_or checked.automata.items a d)
-  automaton_there a d low = get_or-map automaton_of checked.automata.items a d (record { name = []; units = []; statements = [] }) low
+  automaton_there a d low = get_or-map automaton_of checked.automata.items a d (record { name = []; units = []; queries = []; statements = [] }) low
 
   pub sets_in_range : (a : ℕ) (d : CheckedAutomaton) → a < length checked.automata.items → All IsInRange (get_or checked.automata.items a d).sets.items
   sets_in_range a d low =
@@ -60,6 +85,27 @@ module _ (checked : Checked) where
       in_range (get_or items a d)
       (subst (λ (p : AutomatonParts). length p.units ≤ unit_limit) same (checked.kept.units a (automaton_of d) within))
       (subst (λ (p : AutomatonParts). All (Names (length p.units)) p.statements) same (checked.kept.sets a (automaton_of d) within))
+
+  -- the query units of an automaton are units of it
+  pub queries_below : (a : ℕ) (d : CheckedAutomaton) → a < length checked.automata.items → All (λ unit. unit < length (get_or checked.automata.items a d).units.items) (get_or checked.automata.items a d).queries.items
+  queries_below a d low =
+      let items = checked.automata.items in
+      let within : a < length (map automaton_of items) = omega (arith, low, length-map items automaton_of) in
+      let same : get_or (map automaton_of items) a (automaton_of d) ≡ automaton_of (get_or items a d) = get_or-map automaton_of items a d (automaton_of d) low in
+      (subst AreQueries same (checked.kept.queries a (automaton_of d) within)).1
+
+  -- they are not too many
+  pub queries_few : (a : ℕ) → a < length checked.automata.items → length (queries_at (map automaton_of checked.automata.items) a) ≤ unit_limit
+  queries_few a low =
+      let within : a < length (map automaton_of checked.automata.items) = omega (arith, low, length-map checked.automata.items automaton_of) in
+      let are = checked.kept.queries a no_automaton within in
+      let units = checked.kept.units a no_automaton within in
+      let few = ascending_few (queries_at (map automaton_of checked.automata.items) a) (length (automaton_at (map automaton_of checked.automata.items) a).units) are.0 are.1 in
+      omega (arith, few, units)
+
+  -- and with the option `ndfa` there is none
+  pub no_queries : (a : ℕ) → a < length checked.automata.items → IsTrue checked.options.ndfa → queries_at (map automaton_of checked.automata.items) a ≡ []
+  no_queries a low ndfa = checked.asks ndfa a no_automaton (omega (arith, low, length-map checked.automata.items automaton_of))
 
   -- its classes have different names
   names_apart : AllPairs (λ a b. a ≢ b) (map (λ (c : CheckedClass). c.name) checked.classes.items)
@@ -81,8 +127,8 @@ module _ (checked : Checked) where
       omega (arith, here, low, length-map checked.automata.items automaton_of, length-map (get_or checked.classes.items k other).lists.items (λ list. list.items))
 
   -- what a machine keeps
-  pub machine_kept : (names : List (List ℕ)) (parts : List Part) → names ≡ map (λ (c : CheckedClass). c.name) checked.classes.items → length parts ≡ length checked.automata.items → All (λ part. IsPart (length checked.classes.items) (part_of part)) parts → IsMachine (record { classes = names; parts = map part_of parts })
-  machine_kept names parts named each kept =
+  pub machine_kept : (names : List (List ℕ)) (parts : List Part) → names ≡ map (λ (c : CheckedClass). c.name) checked.classes.items → length parts ≡ length checked.automata.items → All (λ part. IsPart (length checked.classes.items) (part_of part)) parts → AskQueries checked parts → IsMachine (record { classes = names; parts = map part_of parts })
+  machine_kept names parts named each kept asks =
       let some = checked.kept.some in
       let few = checked.kept.few in
       let count = length-map checked.automata.items automaton_of in
@@ -95,6 +141,7 @@ module _ (checked : Checked) where
         parts = λ k d low.
             let within : k < length parts = omega (arith, low, length-map parts part_of) in
             subst (λ n. IsPart n (get_or (map part_of parts) k d)) (sym as_many) (kept_at k d within);
+        ask_names = subst (AllPairs (λ a b. a ≢ b)) (sym asks) (names_of_their_own (map automaton_of checked.automata.items) checked.kept.unit_names checked.kept.queries);
       }
     where
       kept_at : (k : ℕ) (d : model.Part) → k < length parts → IsPart (length checked.classes.items) (get_or (map part_of parts) k d)

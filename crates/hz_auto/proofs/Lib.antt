@@ -1,5 +1,8 @@
 pub mod ColumnLemmas
 pub mod ReportLemmas
+pub mod SameParts
+pub mod AskLemmas
+pub mod SingleLemmas
 pub mod PartLemmas
 pub mod CheckedFacts
 pub mod ExploredLemmas

@@ -1,16 +1,17 @@
 -- The automata of a machine, one after another.
-use Rattle.std.proofs.Common.{◌≡◌, ℕ, ◌+◌, ◌<◌, ◌≤◌, ◌⊎◌, inl, inr, Bool, true, false, refl, List, [], ◌∷◌, ◌++◌, length, map, get_or, sym, ap, ◌∙◌, subst, arith, ⊎_elim}
+use Rattle.std.proofs.Common.{◌≡◌, ℕ, zero, suc, ◌+◌, ◌<◌, ◌≤◌, ◌⊎◌, inl, inr, Bool, true, false, refl, List, [], ◌∷◌, ◌++◌, length, map, get_or, sym, ap, ◌∙◌, subst, arith, ⊎_elim}
 use Rattle.std.proofs.lemmas.Bool.{cases_lt}
 use Rattle.std.proofs.lemmas.List.{length-map, length_push, map_push, get_or_append_left}
 use Rattle.std.proofs.Math.Seq.{get_or-append_seam}
 use Rattle.hz_description_model.specs.Reading.Descriptions.{Options}
 use Rattle.hz_description_model.specs.Check.CheckedParts.{AutomatonParts, ClassParts}
+use Rattle.hz_description_model.specs.Check.CheckedShape.{ask_names}
 use Rattle.hz_check.specs.declared.checked.Checked.{Checked}
 use Rattle.hz_auto.proofs.CheckedFacts.{map_twice}
 use Rattle.hz_check.specs.Shape.{automaton_of, class_of}
 use Rattle.hz_mdread.specs.Shape.{options as options_of}
 use Rattle.std.specs.Prelude.{if◌then◌else◌}
-use Rattle.std.specs.List.{sum_by}
+use Rattle.std.specs.List.{sum_by, flat_map}
 use Rattle.hz_acceptance_model.specs.Accepting.Replay.{Pipeline, first_fit, any_fit}
 use Rattle.hz_automata_model.specs.Reaching.Counts.{Count}
 use Rattle.hz_automata_model.specs.Reaching.Counts as count
@@ -19,8 +20,9 @@ use Rattle.hz_states.specs.declared.fault.StateFault.{StateFault}
 use Rattle.hz_states.specs.declared.fault.StateFault.TheVariants.{GridLimit, SetLimit, MemberLimit, CellLimit, NoMemory}
 use Rattle.hz_tables.specs.declared.part.Part.{Part}
 use Rattle.hz_tables.specs.Parts.{part_of}
-use Rattle.hz_automata_model.specs.Tables.Machines.{Machine, no_part, part_at}
-use Rattle.hz_automata_model.specs.Compiling.AutomatonPipelines.{lists_at, automaton_pipeline}
+use Rattle.hz_automata_model.specs.Tables.Machines as model
+use Rattle.hz_automata_model.specs.Tables.Machines.{Machine, no_part, part_at, names_of}
+use Rattle.hz_automata_model.specs.Compiling.AutomatonPipelines.{automaton_at, lists_at, automaton_pipeline, queries_at}
 use Rattle.hz_automata_model.specs.Compiling.Compiled.{IsCompiledPart, IsCompiled, IsFirstPast, report_at, shows_states}
 use Rattle.hz_automata_model.specs.Compiling.CompiledParts.{cap_of, IsPastLimit}
 use Rattle.hz_acceptance_model.specs.Pipelines.Pipelines.{treatment_of}
@@ -31,20 +33,29 @@ use Rattle.hz_auto.specs.declared.fault.Kind.{Kind}
 use Rattle.hz_auto.specs.declared.fault.Kind.TheVariants.{Grids, States, Members}
 use Rattle.hz_auto.specs.Faults.{count_of}
 use Rattle.hz_auto.specs.declared.report.AutoReport.{AutoReport}
-use Rattle.hz_auto.specs.Machines.{IsFaultAt, IsFaultOf, AreCompiled, reports_of}
+use Rattle.hz_auto.specs.Machines.{IsFaultAt, IsFaultOf, AreCompiled, AskQueries, reports_of}
 use Rattle.hz_auto.specs.Parts.{IsPastAt}
 use Rattle.hz_auto.specs.Reports.{report_of}
 
+-- parts that ask for the query units of their automata have the names of all of them
+same_asks : (parts : List model.Part) (automata : List AutomatonParts) → length parts ≡ length automata → ((a : ℕ) → a < length automata → (get_or parts a no_part).asks ≡ ask_names (automaton_at automata a)) → names_of parts ≡ flat_map ask_names automata
+same_asks [] [] each same = refl
+same_asks [] (automaton ∷ automata) each same = absurd (omega (arith, each))
+same_asks (part ∷ parts) [] each same = absurd (omega (arith, each))
+same_asks (part ∷ parts) (automaton ∷ automata) each same =
+    ap (λ (names : List (List ℕ)). names ++ names_of parts) (same zero (omega arith))
+    ∙ ap (λ (names : List (List ℕ)). ask_names automaton ++ names) (same_asks parts automata (omega (arith, each)) (λ a low. same (suc a) (omega (arith, low))))
+
 -- In the first treatment a count of states or members above its limit is one of grids.
-module _ (shown : Bool) (options : Options) (lists : List (List (List (Pair ℕ)))) (m : Pipeline ℕ) (treated : m.treatment ≡ treatment_of options) where
+module _ (shown : Bool) (options : Options) (lists : List (List (List (Pair ℕ)))) (queries : ℕ) (m : Pipeline ℕ) (treated : m.treatment ≡ treatment_of options) where
   one_fits : options.ndfa ≡ false → m.treatment ≡ first_fit
   one_fits is = treated ∙ ap (λ b. if b then any_fit else first_fit) is
 
-  states_as_grids : IsPastLimit shown lists m count.states → options.ndfa ≡ false → IsPastLimit shown lists m count.grids
+  states_as_grids : IsPastLimit shown lists queries m count.states → options.ndfa ≡ false → IsPastLimit shown lists queries m count.grids
   states_as_grids over is = record {
     columns = over.columns;
     has = over.has;
-    above = grids_above_states m (one_fits is) over.columns (cap_of shown count.states) over.above;
+    above = grids_above_states m (one_fits is) (over.columns + queries) (cap_of shown count.states) over.above;
   }
 
   -- the limit of members is the greater
@@ -52,9 +63,9 @@ module _ (shown : Bool) (options : Options) (lists : List (List (List (Pair ℕ)
   lesser true n h = omega (arith, h)
   lesser false n h = omega (arith, h)
 
-  members_as_grids : IsPastLimit shown lists m count.members → options.ndfa ≡ false → IsPastLimit shown lists m count.grids
+  members_as_grids : IsPastLimit shown lists queries m count.members → options.ndfa ≡ false → IsPastLimit shown lists queries m count.grids
   members_as_grids over is =
-      let g = grids_above_members m (one_fits is) over.columns (cap_of shown count.members) over.above in
+      let g = grids_above_members m (one_fits is) (over.columns + queries) (cap_of shown count.members) over.above in
       record {
         columns = over.columns;
         has = over.has;
@@ -80,7 +91,7 @@ module _ (checked : Checked) where
   fault_told a parts reports are low fault told past is = by_fault fault past is
     where
       Past : Count → Type 0
-      Past kind = IsPastLimit (shows_states options) (lists_at classes a) (automaton_pipeline options automata classes a) kind
+      Past kind = IsPastLimit (shows_states options) (lists_at classes a) (length (queries_at automata a)) (automaton_pipeline options automata classes a) kind
 
       first : (kind : Count) → Past kind → (options.ndfa ≡ false → (kind ≡ count.grids) ⊎ (kind ≡ count.cells)) → IsFirstPast options automata classes a kind
       first kind over named = record {
@@ -97,8 +108,8 @@ module _ (checked : Checked) where
 
       by_fault : (fault : StateFault) → IsPastAt options automata classes a fault → IsFaultAt checked.options.ndfa a fault told → IsFaultOf checked told
       by_fault GridLimit over e = subst (IsFaultOf checked) (sym e) (first count.grids over (λ _. inl refl))
-      by_fault SetLimit over e = by_treatment checked.options.ndfa refl States over (states_as_grids (shows_states options) options (lists_at classes a) (automaton_pipeline options automata classes a) refl over) e
-      by_fault MemberLimit over e = by_treatment checked.options.ndfa refl Members over (members_as_grids (shows_states options) options (lists_at classes a) (automaton_pipeline options automata classes a) refl over) e
+      by_fault SetLimit over e = by_treatment checked.options.ndfa refl States over (states_as_grids (shows_states options) options (lists_at classes a) (length (queries_at automata a)) (automaton_pipeline options automata classes a) refl over) e
+      by_fault MemberLimit over e = by_treatment checked.options.ndfa refl Members over (members_as_grids (shows_states options) options (lists_at classes a) (length (queries_at automata a)) (automaton_pipeline options automata classes a) refl over) e
       by_fault CellLimit over e = subst (IsFaultOf checked) (sym e) (first count.cells over (λ _. inr refl))
       by_fault NoMemory over e = subst (IsFaultOf checked) (sym e) tt
 
@@ -138,6 +149,12 @@ module _ (checked : Checked) where
             (subst (IsCompiledPart options.no_minimization options automata classes a (part_of part)) (sym report_last) here)))
             (cases_lt b a);
       }
+
+  -- what is asked for in all parts
+  pub asks_told : (parts : List Part) (reports : List AutoReport) → AreCompiled checked (length checked.automata.items) parts reports → AskQueries checked parts
+  asks_told parts reports are =
+      let count = length-map checked.automata.items automaton_of in
+      same_asks (map part_of parts) automata (length-map parts part_of ∙ (are.each ∙ sym count)) (λ a low. (are.at a (omega (arith, low, count))).asks)
 
   -- all automata are compiled
   pub compiled_all : (parts : List Part) (reports : List AutoReport) (m : Machine) → AreCompiled checked (length checked.automata.items) parts reports → m ≡ machine_with parts → IsCompiled options automata classes m (reports_of reports)

@@ -1,5 +1,7 @@
 -- The machine of a checked description.
 use Rattle.std.specs.Prelude.{◌≡◌, ℕ, ◌<◌, Bool, if◌then◌else◌, List, map, length}
+use Rattle.std.specs.List.{flat_map}
+use Rattle.hz_description_model.specs.Check.CheckedShape.{ask_names}
 use Rattle.hz_check.specs.declared.checked.Checked.{Checked}
 use Rattle.hz_check.specs.Shape.{automaton_of, class_of}
 use Rattle.hz_mdread.specs.Shape.{options as options_of}
@@ -8,7 +10,7 @@ use Rattle.hz_states.specs.declared.fault.StateFault.TheVariants.{GridLimit, Set
 use Rattle.hz_auto.specs.declared.fault.Kind.TheVariants.{Grids, States, Members, Cells}
 use Rattle.hz_tables.specs.declared.part.Part.{Part}
 use Rattle.hz_tables.specs.Parts.{part_of}
-use Rattle.hz_automata_model.specs.Tables.Machines.{part_at}
+use Rattle.hz_automata_model.specs.Tables.Machines.{part_at, names_of}
 use Rattle.hz_automata_model.specs.Compiling.Compiled.{IsCompiledPart, IsFirstPast, report_at}
 use Rattle.hz_automata_model.specs.Compiling.Compiled as model
 use Rattle.hz_auto.specs.declared.fault.AutoFault.{AutoFault}
@@ -35,6 +37,10 @@ IsFaultAt ndfa a SetLimit fault = fault ≡ Limit a (if ndfa then States else Gr
 IsFaultAt ndfa a MemberLimit fault = fault ≡ Limit a (if ndfa then Members else Grids)
 IsFaultAt ndfa a CellLimit fault = fault ≡ Limit a Cells
 IsFaultAt ndfa a no_memory fault = fault ≡ NoMemory
+
+-- what is asked for in all parts are the query units of all automata
+abbrev pub AskQueries : Checked → List Part → Type 0
+AskQueries checked parts = names_of (map part_of parts) ≡ flat_map ask_names (map automaton_of checked.automata.items)
 
 -- a part and a report for each of the first automata
 pub record AreCompiled (checked : Checked) (done : ℕ) (parts : List Part) (reports : List AutoReport) : Type 0 where

@@ -8,7 +8,7 @@ ghost use Rattle.hz_automata_model.specs.Tables.Machines.{IsPart};
 ghost use Rattle.hz_tables.specs.Machines.{machine_of};
 ghost use Rattle.hz_tables.specs.Parts.{part_of};
 ghost use Rattle.hz_auto.specs.Parts.{IsKept};
-ghost use Rattle.hz_auto.specs.Machines.{IsFaultOf, IsFaultAt, AreCompiled, reports_of};
+ghost use Rattle.hz_auto.specs.Machines.{IsFaultOf, IsFaultAt, AreCompiled, AskQueries, reports_of};
 
 use crate::fault::{AutoFault, kind_of};
 use crate::part::{Automaton, compile_part};
@@ -78,6 +78,7 @@ impl Automata {
 fn compile_parts(alloc: Global, checked: &Checked) -> Result<Automata, AutoFault>
     ensures compiled { IfOk result (λ all. AreCompiled checked.now (length checked.now.automata.items) all.parts.items all.reports.items) }
     ensures kept { IfOk result (λ all. All (λ part. IsPart (length checked.now.classes.items) (part_of part)) all.parts.items) }
+    ensures asks { IfOk result (λ all. AskQueries checked.now all.parts.items) }
     ensures forms { IfOk result (λ all. All (λ part. IsKept checked.now.options.no_comb_vect part.table) all.parts.items) }
     ensures fault { IfErr result (IsFaultOf checked.now) }
 {
@@ -102,6 +103,7 @@ fn compile_parts(alloc: Global, checked: &Checked) -> Result<Automata, AutoFault
 fn machine_on(alloc: Global, checked: &Checked, parts: Vec<Part>) -> Result<Machine, NoMemory>
     requires each { length parts.items ≡ length checked.now.automata.items }
     requires kept { All (λ part. IsPart (length checked.now.classes.items) (part_of part)) parts.items }
+    requires asks { AskQueries checked.now parts.items }
     ensures machine { IfOk result (λ machine. machine_of machine ≡ record { classes = map (λ c. c.name) checked.now.classes.items; parts = map part_of parts.items }) }
     ensures parts { IfOk result (λ machine. machine.parts.items ≡ parts.items) }
 {
@@ -111,7 +113,7 @@ fn machine_on(alloc: Global, checked: &Checked, parts: Vec<Part>) -> Result<Mach
 
 /// The machine of a checked description: for each automaton, in their order, a part that walks just what the automaton
 /// accepts, and the counts of its grids, states and members before minimisation. Classes with equal lists share a column,
-/// numbered by the first class of each. States are apart from one another, or with `no-minimization` what accepted events
+/// numbered by the first class of each; each query unit has a column, which tells where it is held. States are apart from one another, or with `no-minimization` what accepted events
 /// leave, and numbered breadth-first. Tables are packed over cells of the least width, or under `no-comb-vect` kept as rows.
 /// `Limit` exactly where some automaton has a count above its limit; it tells the first such automaton. docs/RULES.md,
 /// 'States and tables'.

@@ -15,7 +15,7 @@ pub enum Kind {
     States,
     /// The grids of all states together.
     Members,
-    /// States times columns, the advance among them.
+    /// States times columns, those of query units and of the advance among them.
     Cells,
 }
 

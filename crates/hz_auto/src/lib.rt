@@ -1,6 +1,7 @@
 //! The machine of a checked description: an automaton for each of its automata, compiled to a table.
 #![tactic(auto)]
 
+mod asks;
 mod columns;
 mod compiled;
 mod fault;

@@ -13,12 +13,14 @@ ghost use Rattle.hz_check.specs.Shape.{automaton_of, class_of};
 ghost use Rattle.hz_mdread.specs.Shape.{options as options_of};
 ghost use Rattle.hz_determ.specs.Explored.{IsCaps, IsBuilt, AreWithin, PassesCap};
 ghost use Rattle.hz_determ.specs.Spaces.{pipeline_of};
-ghost use Rattle.hz_auto.specs.Parts.{IsCapped, IsKept, IsLeast, IsPastAt, IsWhole, found_part_of, shows};
+ghost use Rattle.hz_auto.specs.Asks.{IsAskable, HasRoom, IsAskFault};
+ghost use Rattle.hz_auto.specs.Parts.{IsCapped, HasTable, IsKept, IsLeast, IsPastAt, IsWhole, found_part_of, shows};
 ghost use Rattle.hz_auto.specs.Reports.{report_of};
 
+use crate::asks::{add_asks, ask_names};
 use crate::columns::{Columns, columns_of};
 use crate::report::{AutoReport, report_on};
-use hz_check::Checked;
+use hz_check::{Checked, CheckedAutomaton};
 use hz_determ::{Caps, Explored, StateFault, first, subset};
 use hz_grid::Grid;
 use hz_mdread::Options;
@@ -40,6 +42,7 @@ pub(crate) struct Automaton {
 pub(crate) struct Found {
     pub name: Name,
     pub map: Vec<u32>,
+    pub asks: Vec<Name>,
     pub plain: Plain,
     pub report: AutoReport,
 }
@@ -94,32 +97,37 @@ fn explored(
     }
 }
 
-// An automaton that is explored, and its report.
+// An automaton that is explored, with a column for each of its query units, and its report.
 fn whole(
     alloc: Global,
-    name: &Name,
+    automaton: &CheckedAutomaton,
     shown: bool,
     map: Vec<u32>,
     explored: Explored,
-) -> Result<Found, NoMemory>
+    caps: &Caps,
+) -> Result<Found, StateFault>
     requires members { sum_by (λ set. length set.items) explored.sets.items ≤ member_limit }
     requires numbers { All (λ set. All (λ number. number < length explored.grids.items) set.items) explored.sets.items }
     requires few { length explored.grids.items ≤ grid_limit }
-    ensures { IfOk result (IsWhole name.now shown map.items explored) }
+    requires queries { All (λ unit. unit < length automaton.now.units.items) automaton.now.queries.items }
+    requires askable { IsAskable explored automaton.now.queries.items caps.now }
+    ensures whole { IfOk result (IsWhole (automaton_of automaton.now) shown map.items explored) }
+    ensures within { IfOk result (λ _. HasRoom explored automaton.now.queries.items caps.now.cells) }
+    ensures fault { IfErr result (IsAskFault explored automaton.now.queries.items caps.now.cells) }
 {
     let report = report_on(alloc, shown, &explored)?;
-    let Explored {
-        plain,
-        grids: _,
-        sets: _,
-        parents: _,
-    } = explored;
-    Ok(Found {
-        name: name.copy()?,
-        map,
-        plain,
-        report,
-    })
+    let name = automaton.name.copy()?;
+    let asks = ask_names(alloc, automaton)?;
+    match add_asks(alloc, explored, &automaton.queries, caps) {
+        Ok(plain) => Ok(Found {
+            name,
+            map,
+            asks,
+            plain,
+            report,
+        }),
+        Err(fault) => Err(fault),
+    }
 }
 
 // The automaton of this number with its states as they were found; else a count of it that is above its limit.
@@ -127,34 +135,32 @@ fn found_part(alloc: Global, checked: &Checked, automaton: usize) -> Result<Foun
     requires { automaton < length checked.now.automata.items }
     ensures compiled { IfOk result (λ all. IsCompiledPart true (options_of checked.now.options) (map automaton_of checked.now.automata.items) (map class_of checked.now.classes.items) automaton (found_part_of all) (report_of all.report)) }
     ensures kept { IfOk result (λ all. IsPart (length checked.now.classes.items) (found_part_of all)) }
+    ensures table { IfOk result HasTable }
     ensures fault { IfErr result (IsPastAt (options_of checked.now.options) (map automaton_of checked.now.automata.items) (map class_of checked.now.classes.items) automaton) }
 {
+    let parts = &checked.automata[automaton];
     let columns = columns_of(alloc, &checked.classes, automaton)?;
-    let rules = Rules::build(alloc, &checked.automata[automaton].sets)?;
+    let rules = Rules::build(alloc, &parts.sets)?;
     let shown = shows_states(&checked.options);
     let caps = caps_of(shown);
     let Columns { lists, map } = columns;
     match explored(alloc, checked.options.ndfa, &lists, &rules, &caps) {
-        Ok(explored) => Ok(whole(
-            alloc,
-            &checked.automata[automaton].name,
-            shown,
-            map,
-            explored,
-        )?),
+        Ok(explored) => whole(alloc, parts, shown, map, explored, &caps),
         Err(fault) => Err(fault),
     }
 }
 
 // The automaton with the least table that walks what its table walks.
 fn least(alloc: Global, found: Found) -> Result<Found, NoMemory>
-    requires { IsTable found.plain.rows found.plain.columns }
+    requires { HasTable found }
     ensures part { IfOk result (λ least. IsLeast (found_part_of found) (found_part_of least)) }
+    ensures table { IfOk result HasTable }
     ensures report { IfOk result (λ least. report_of least.report ≡ report_of found.report) }
 {
     let Found {
         name,
         map,
+        asks,
         plain,
         report,
     } = found;
@@ -162,6 +168,7 @@ fn least(alloc: Global, found: Found) -> Result<Found, NoMemory>
     Ok(Found {
         name,
         map,
+        asks,
         plain,
         report,
     })
@@ -183,7 +190,7 @@ fn table_of(alloc: Global, no_comb_vect: bool, plain: Plain) -> Result<Table, No
 
 // The automaton, its table kept as the options ask.
 fn kept(alloc: Global, no_comb_vect: bool, found: Found) -> Result<Automaton, NoMemory>
-    requires { IsTable found.plain.rows found.plain.columns }
+    requires { HasTable found }
     ensures part { IfOk result (λ all. part_of all.part ≡ found_part_of found) }
     ensures report { IfOk result (λ all. report_of all.report ≡ report_of found.report) }
     ensures form { IfOk result (λ all. IsKept no_comb_vect all.part.table) }
@@ -191,11 +198,17 @@ fn kept(alloc: Global, no_comb_vect: bool, found: Found) -> Result<Automaton, No
     let Found {
         name,
         map,
+        asks,
         plain,
         report,
     } = found;
     let table = table_of(alloc, no_comb_vect, plain)?;
-    let part = Part { name, map, table };
+    let part = Part {
+        name,
+        map,
+        asks,
+        table,
+    };
     Ok(Automaton { part, report })
 }
 
@@ -204,6 +217,7 @@ fn minimised(alloc: Global, checked: &Checked, automaton: usize) -> Result<Found
     requires { automaton < length checked.now.automata.items }
     ensures compiled { IfOk result (λ all. IsCompiledPart checked.now.options.no_minimization (options_of checked.now.options) (map automaton_of checked.now.automata.items) (map class_of checked.now.classes.items) automaton (found_part_of all) (report_of all.report)) }
     ensures kept { IfOk result (λ all. IsPart (length checked.now.classes.items) (found_part_of all)) }
+    ensures table { IfOk result HasTable }
     ensures fault { IfErr result (IsPastAt (options_of checked.now.options) (map automaton_of checked.now.automata.items) (map class_of checked.now.classes.items) automaton) }
 {
     let found = match found_part(alloc, checked, automaton) {

@@ -1,6 +1,6 @@
 pub mod Tables
-pub mod Asks
 pub mod Reaching
+pub mod Asks
 pub mod Least
 pub mod Combs
 pub mod Compiling

@@ -8,3 +8,4 @@ pub mod CountLaws
 pub mod SubsetLaws
 pub mod AutomatonLaws
 pub mod LimitLaws
+pub mod HeldLaws

@@ -5,3 +5,4 @@ pub mod Apart
 pub mod Orders
 pub mod AskColumns
 pub mod Machines
+pub mod MachineNames

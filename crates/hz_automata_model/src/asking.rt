@@ -27,11 +27,11 @@ pub fn asks_change_no_walk()
 {}
 
 /// A table that walks the same as a table with asks walks the same beside them, and tells the same at each. If it is a
-/// normal one, an ask leads to no other state.
+/// normal one, and an ask leads to no other state in the first, neither does it there.
 pub fn least_tables_keep_asks()
     ensures walks { (table asked least : Table) (columns asks : ℕ) (marks : ℕ → ℕ → Bool) → IsTable table columns → HasAsks table asked columns asks marks → WalkTheSame asked least → (w : List ℕ) → AreColumns columns w → is_some (walk least (Some 0) (all_beside columns asks w)) ≡ is_some (walk table (Some 0) w) }
     ensures tells { (table asked least : Table) (columns asks : ℕ) (marks : ℕ → ℕ → Bool) → IsTable table columns → HasAsks table asked columns asks marks → WalkTheSame asked least → (w : List ℕ) → AreColumns columns w → (state next ask : ℕ) → walk table (Some 0) w ≡ Some state → walk least (Some 0) (all_beside columns asks w) ≡ Some next → ask < asks → is_some (entry least next (columns + ask)) ≡ marks state ask }
-    ensures stays { (table asked least : Table) (columns asks : ℕ) (marks : ℕ → ℕ → Bool) → IsTable table columns → HasAsks table asked columns asks marks → WalkTheSame asked least → IsNormal least (columns + asks) → AsksStay least columns asks }
+    ensures stays { (first least : Table) (columns asks : ℕ) → IsTable first (columns + asks) → AsksStay first columns asks → WalkTheSame first least → IsNormal least (columns + asks) → AsksStay least columns asks }
 {}
 
 /// Tables that walk the same beside their asks, and tell the same at each, walk the same.

@@ -1,6 +1,6 @@
 //! Rows by hand, of each step by itself.
 
-ghost use Rattle.std.specs.Prelude.{◌≡◌, IfOk};
+ghost use Rattle.std.specs.Prelude.{◌≡◌, ◌≤◌, length, IfOk};
 ghost use Rattle.hz_automata_rows.specs.Examples.{shared};
 ghost use Rattle.hz_tables.specs.Parts.{part_of};
 ghost use Rattle.hz_automata_model.specs.Tables.Machines.{IsPart};
@@ -37,7 +37,8 @@ fn shared(alloc: Global) -> Result<Plain, NoMemory>
 
 // A machine of one class and one part.
 fn one_part(alloc: Global, class: Name, part: Part) -> Result<Machine, NoMemory>
-    requires { IsPart 1 (part_of part) }
+    requires part { IsPart 1 (part_of part) }
+    requires asks { length part.asks.items ≤ 1 }
 {
     let mut classes = Vec::with_capacity(alloc, 1)?;
     classes.push(class)?;
@@ -53,6 +54,7 @@ fn machine_of(alloc: Global, class: Name, name: Name) -> Result<Machine, NoMemor
     let part = Part {
         name,
         map,
+        asks: Vec::new(alloc),
         table: Table::Rows(shared(alloc)?),
     };
     one_part(alloc, class, part)

@@ -7,7 +7,7 @@ use Rattle.std.specs.Prelude.{◌≡◌, ℕ, List, ⊤, Option, Some, None, Mat
 use Rattle.hz_check.specs.declared.fault.LimitName.{LimitName}
 use Rattle.hz_check.specs.declared.fault.LimitName.TheVariants.{Automata, Units, Classes, Alternatives, Cycles, Size}
 use Rattle.hz_check.specs.declared.fault.CheckFault.{CheckFault}
-use Rattle.hz_check.specs.declared.fault.CheckFault.TheVariants.{TwiceDefined, ReservedName, UnknownName, UnknownAutomaton, UnitNeedsAutomaton, CircularReservation, SelfExclusion, SetAcrossAutomata, Limit, AlternationOfTwoAutomata, AlternationOfTwoLengths, BypassTwice, NoMemory}
+use Rattle.hz_check.specs.declared.fault.CheckFault.TheVariants.{TwiceDefined, ReservedName, UnknownName, UnknownAutomaton, UnitNeedsAutomaton, CircularReservation, SelfExclusion, SetAcrossAutomata, Limit, AlternationOfTwoAutomata, AlternationOfTwoLengths, BypassTwice, QueryUnderNdfa, NoMemory}
 use Rattle.hz_check.specs.declared.faults.told.Wrong.{Wrong}
 use Rattle.hz_check.specs.declared.faults.told.Wrong.TheVariants as wrong
 use Rattle.hz_check.specs.declared.faults.told.Told.{Told}
@@ -44,6 +44,7 @@ fault_of (Limit what line name) = Some ((model.limit (limit_of what), line), nam
 fault_of (AlternationOfTwoAutomata line name) = Some ((model.alternation_of_two_automata, line), name)
 fault_of (AlternationOfTwoLengths line name) = Some ((model.alternation_of_two_lengths, line), name)
 fault_of (BypassTwice line name) = Some ((model.bypass_twice, line), name)
+fault_of (QueryUnderNdfa line name) = Some ((model.query_under_ndfa, line), name)
 fault_of NoMemory = None
 
 -- what is said of a fault with its line and its name holds of this one; want of memory says nothing
@@ -68,6 +69,7 @@ wrong_of (wrong.Limit what) = model.limit (limit_of what)
 wrong_of wrong.AlternationOfTwoAutomata = model.alternation_of_two_automata
 wrong_of wrong.AlternationOfTwoLengths = model.alternation_of_two_lengths
 wrong_of wrong.BypassTwice = model.bypass_twice
+wrong_of wrong.QueryUnderNdfa = model.query_under_ndfa
 
 -- what is wrong, with a line and a name
 abbrev pub fault_named : Wrong → ℕ → List ℕ → CheckFault
@@ -83,6 +85,7 @@ fault_named (wrong.Limit what) line name = Limit what line name
 fault_named wrong.AlternationOfTwoAutomata line name = AlternationOfTwoAutomata line name
 fault_named wrong.AlternationOfTwoLengths line name = AlternationOfTwoLengths line name
 fault_named wrong.BypassTwice line name = BypassTwice line name
+fault_named wrong.QueryUnderNdfa line name = QueryUnderNdfa line name
 
 -- what is wrong, with a line and the name that was copied; want of memory stays
 abbrev pub fault_if_copied : {E : Type 0} → Wrong → ℕ → Result (List ℕ) E → CheckFault

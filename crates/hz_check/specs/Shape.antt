@@ -11,7 +11,7 @@ use Rattle.hz_description_model.specs.Check.CheckedParts.{AutomatonParts, ClassP
 
 -- an automaton
 abbrev pub automaton_of : CheckedAutomaton → AutomatonParts
-automaton_of a = record { name = a.name; units = a.units.items; statements = statements_of a.sets.items }
+automaton_of a = record { name = a.name; units = a.units.items; queries = a.queries.items; statements = statements_of a.sets.items }
 
 -- a class
 abbrev pub class_of : CheckedClass → ClassParts

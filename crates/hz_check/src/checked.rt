@@ -2,7 +2,7 @@
 
 ghost use Rattle.std.specs.Prelude.{map};
 ghost use Rattle.hz_check.specs.Shape.{automaton_of, class_of, bypass_of, attribute_of};
-ghost use Rattle.hz_description_model.specs.Check.CheckedShape.{IsKept};
+ghost use Rattle.hz_description_model.specs.Check.CheckedShape.{IsKept, AskNothingUnderNdfa};
 ghost use Rattle.std.proofs.Props.{props};
 
 use hz_grid::Grid;
@@ -25,6 +25,7 @@ pub struct Checked {
     pub defaults: Vec<(Name, Name)>,
     pub options: Options,
     pub ghost kept: { IsKept (map automaton_of automata.items) (map class_of classes.items) (map bypass_of bypasses.items) (map attribute_of attributes.items) } by { Prim.hlevel props },
+    pub ghost asks: { AskNothingUnderNdfa options.ndfa (map automaton_of automata.items) } by { Prim.hlevel props },
 }
 
 /// An automaton.
@@ -33,6 +34,8 @@ pub struct CheckedAutomaton {
     pub name: Name,
     /// At most `UNITS` of `hz_grid`, by their numbers.
     pub units: Vec<Name>,
+    /// The query units among them by their numbers, in order of definition. With the option `ndfa` there are none.
+    pub queries: Vec<u8>,
     /// The sets on its units.
     pub sets: Vec<SetRule>,
 }

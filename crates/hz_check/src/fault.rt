@@ -111,6 +111,11 @@ pub enum CheckFault {
         line: u32,
         name: Name,
     },
+    /// The unit is a query unit, and the option `ndfa` is given.
+    QueryUnderNdfa {
+        line: u32,
+        name: Name,
+    },
     /// Memory ran out.
     NoMemory,
 }
@@ -139,6 +144,7 @@ impl CheckFault {
                 *line,
             )),
             CheckFault::BypassTwice { line, .. } => Some(("BypassTwice", *line)),
+            CheckFault::QueryUnderNdfa { line, .. } => Some(("QueryUnderNdfa", *line)),
             CheckFault::NoMemory => None,
         }
     }
@@ -170,6 +176,7 @@ impl CheckFault {
             CheckFault::AlternationOfTwoAutomata { name, .. } => Some(name),
             CheckFault::AlternationOfTwoLengths { name, .. } => Some(name),
             CheckFault::BypassTwice { name, .. } => Some(name),
+            CheckFault::QueryUnderNdfa { name, .. } => Some(name),
             CheckFault::NoMemory => None,
         }
     }
@@ -189,6 +196,7 @@ impl CheckFault {
             CheckFault::AlternationOfTwoAutomata { .. } => "an alternation of two automata",
             CheckFault::AlternationOfTwoLengths { .. } => "an alternation of two lengths",
             CheckFault::BypassTwice { .. } => "a second number of a bypass",
+            CheckFault::QueryUnderNdfa { .. } => "a query unit under ndfa",
             CheckFault::NoMemory => "out of memory",
         }
     }

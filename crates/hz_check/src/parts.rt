@@ -16,6 +16,7 @@ use crate::fault::CheckFault;
 use crate::faults::alternations::unbroken;
 use crate::faults::bypass_twice::second_number;
 use crate::faults::past_expansions::expanded;
+use crate::faults::query_under_ndfa::query_under_ndfa;
 use crate::faults::steps::{named, ordered, placed};
 use crate::faults::told::{Wrong, refused};
 use crate::names::Names;
@@ -40,7 +41,7 @@ pub(crate) struct Parts {
     pub lists: Vec<Vec<Alt>>,
 }
 
-/// The alternatives of the classes, where no fault that is told of them or of the bypasses stands. The units have these
+/// The alternatives of the classes, where no fault that is told of them, of the bypasses or of query units stands. The units have these
 /// places, and the numbers of the order are places of reservations, and behind them places of classes.
 fn class_lists(
     alloc: Global,
@@ -63,10 +64,13 @@ fn class_lists(
         Ok(lists) => lists,
         Err(fault) => return Err(fault),
     };
-    match second_number(alloc, names)? {
-        Some(site) => Err(refused(Wrong::BypassTwice, site)),
-        None => Ok(lists),
+    if let Some(site) = second_number(alloc, names)? {
+        return Err(refused(Wrong::BypassTwice, site));
     }
+    if let Some(site) = query_under_ndfa(desc) {
+        return Err(refused(Wrong::QueryUnderNdfa, site));
+    }
+    Ok(lists)
 }
 
 /// The automata and the bypasses, with the alternatives of the classes as they are. The units have these places.

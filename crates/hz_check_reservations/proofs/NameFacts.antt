@@ -253,10 +253,10 @@ module _ (d : Description) (told : first_told (faults_of_names d) ≡ None) (for
       let among_reservations = Contains-map reservation_site d.reservations r.0 r.1 in
       let low = unpreceded_form (reservation_sites d) unit_site (reservation_site r.0) (new_units.free unit_site among_units) among_reservations (r.2 ∙ sym u.2) in
       let high = unpreceded_form (unit_sites d) (reservation_site r.0) unit_site (new_reservations.free (reservation_site r.0) among_reservations) among_units (u.2 ∙ sym r.2) in
-      let unit_form = All-contains (λ (i : UnitItem). IsForm formed.kinds i.form define_cpu_unit) d.units u.0 formed.units u.1 in
+      let unit_form = All-contains (λ (i : UnitItem). IsForm formed.kinds i.form (define_cpu_unit i.query)) d.units u.0 formed.units u.1 in
       let reservation_form = (All-contains (IsCheckableReservation formed.kinds) d.reservations r.0 formed.reservations r.1).form in
       let same : (u.0).form ≡ (r.0).form = omega arith in
-      let no : Some define_cpu_unit ≡ Some define_reservation = sym unit_form ∙ (ap (slice_get formed.kinds) same ∙ reservation_form) in
+      let no : Some (define_cpu_unit ((u.0).query)) ≡ Some define_reservation = sym unit_form ∙ (ap (slice_get formed.kinds) same ∙ reservation_form) in
       absurd (cc)
 
   expression_known : (e : Expression) → unknown_in_expression d e ≡ [] → (name : List ℕ) → Contains (names_in e) name → is_reservable d name ≡ true

@@ -5,6 +5,8 @@ pub mod CircleLaws
 pub mod CountingLaws
 pub mod KeptLaws
 pub mod PlaceLaws
+pub mod QueryPlaces
+pub mod QueryLaws
 pub mod CheckTotal
 pub mod ToldLaws
 pub mod OnceLaws

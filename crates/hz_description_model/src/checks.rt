@@ -1,14 +1,14 @@
 //! Laws of what can be wrong with a description.
 
-ghost use Rattle.std.specs.Prelude.{◌≡◌, ◌≢◌, ◌≤◌, ◌↔◌, ◌⊎◌, List, [], ◌∷◌, ◌++◌, length, slice_get, map, All, Contains, Some, None, IsFalse};
-ghost use Rattle.std.specs.List.{AllPairs};
+ghost use Rattle.std.specs.Prelude.{◌≡◌, ◌≢◌, ◌<◌, ◌≤◌, ◌↔◌, ◌⊎◌, ℕ, List, [], ◌∷◌, ◌++◌, length, slice_get, map, All, Contains, Some, None, IsTrue, IsFalse};
+ghost use Rattle.std.specs.List.{AllPairs, flat_map};
 ghost use Rattle.hz_description_model.specs.Reservations.Limits.{size_limit};
-ghost use Rattle.hz_description_model.specs.Check.CheckFaults.{CheckFault, CheckFaultAt, IsSound, IsFirst, IsUnfolded, past_units, second_numbers};
+ghost use Rattle.hz_description_model.specs.Check.CheckFaults.{CheckFault, CheckFaultAt, IsSound, IsFirst, IsUnfolded, past_units, second_numbers, unit_site, queries_under_ndfa};
 ghost use Rattle.hz_description_model.specs.Check.CountingOrder.{Reserving, past_size, reservations_of, classes_of};
 ghost use Rattle.hz_description_model.specs.Check.Places.{automaton_number, unit_places, Known, meaning};
-ghost use Rattle.hz_description_model.specs.Check.ToldPlaces.{ToldBehind, StandsBefore, IsPastUnits, unit_site, units_beside, PassesSize, size_together, TellsSecondNumber};
-ghost use Rattle.hz_description_model.specs.Check.CheckedParts.{automata_of, class_parts, bypass_parts, attributes_of};
-ghost use Rattle.hz_description_model.specs.Check.CheckedShape.{IsKept};
+ghost use Rattle.hz_description_model.specs.Check.ToldPlaces.{ToldBehind, StandsBefore, IsPastUnits, units_beside, PassesSize, size_together, TellsSecondNumber, TellsFirstQuery};
+ghost use Rattle.hz_description_model.specs.Check.CheckedParts.{AutomatonParts, ClassParts, BypassParts, unit_items_in, queries_in, ask_names_in, automaton_parts, automata_of, class_parts, bypass_parts, attributes_of};
+ghost use Rattle.hz_description_model.specs.Check.CheckedShape.{IsKept, ask_names, AskNothingUnderNdfa};
 ghost use Rattle.hz_description_model.specs.Reading.Descriptions.{Description, UnitItem, ClassItem, unguarded};
 ghost use Rattle.hz_description_model.specs.Reading.DescriptionShape.{IsCheckable};
 ghost use Rattle.hz_description_model.specs.Splits.Rules.{is_mixed_class, is_uneven_class};
@@ -79,6 +79,30 @@ pub fn size_is_told_where_it_passes()
 /// an earlier bypass, where bypasses with the guard are left out.
 pub fn second_numbers_are_told()
     ensures { (d : Description) (s : Site) → Contains (second_numbers d) s ↔ TellsSecondNumber (unguarded d.bypasses) s }
+{}
+
+/// A query unit is told under the option `ndfa` exactly where the option is given: the first of the file.
+pub fn first_query_units_are_told()
+    ensures { (d : Description) → IsCheckable d → (s : Site) → earliest (queries_under_ndfa d) ≡ Some s ↔ TellsFirstQuery d s }
+{}
+
+/// The query units of an automaton are those of its units that a form of query units defines, by their numbers, which ascend;
+/// their names are in the same order.
+pub fn query_units_are_units()
+    ensures places { (d : Description) (automaton n : ℕ) → Contains (queries_in d automaton) n ↔ ((u : UnitItem) × (slice_get (unit_items_in d automaton) n ≡ Some u) × IsTrue u.query) }
+    ensures ascending { (d : Description) (automaton : ℕ) → AllPairs (λ m n. m < n) (queries_in d automaton) }
+    ensures names { (d : Description) (automaton : ℕ) (name : List ℕ) → ask_names (automaton_parts d automaton name) ≡ ask_names_in d automaton }
+{}
+
+/// No two query units of all automata have one name.
+pub fn query_units_have_names_of_their_own()
+    ensures { (automata : List AutomatonParts) (classes : List ClassParts) (bypasses : List BypassParts) (attributes : List (List ℕ × List (List ℕ))) → IsKept automata classes bypasses attributes → AllPairs (λ a b. a ≢ b) (flat_map ask_names automata) }
+{}
+
+/// A description without a fault has no query unit where the option `ndfa` is given.
+pub fn query_units_are_without_ndfa()
+    ensures units { (d : Description) (known : Known) → IsSound d known → IsTrue (d.options).ndfa → All (λ u. IsFalse u.query) d.units }
+    ensures automata { (d : Description) (known : Known) → IsSound d known → AskNothingUnderNdfa (d.options).ndfa (automata_of d) }
 {}
 
 /// No class of a description without a fault breaks one of the two rules on units of several automata.

@@ -2,3 +2,4 @@ pub mod DriveLemmas
 pub mod ReadLemmas
 pub mod Writing
 pub mod PieceTexts
+pub mod Adding

@@ -7,6 +7,7 @@ mod mem_files;
 mod mem_sink;
 mod names;
 mod output;
+pub mod page;
 mod pieces;
 mod reading;
 

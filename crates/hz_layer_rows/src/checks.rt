@@ -36,7 +36,8 @@ fn name_in(fault: &CheckFault) -> Option<&Name> {
         | CheckFault::SetAcrossAutomata { line: _, name }
         | CheckFault::AlternationOfTwoAutomata { line: _, name }
         | CheckFault::AlternationOfTwoLengths { line: _, name }
-        | CheckFault::BypassTwice { line: _, name } => Some(name),
+        | CheckFault::BypassTwice { line: _, name }
+        | CheckFault::QueryUnderNdfa { line: _, name } => Some(name),
         CheckFault::Limit {
             what: _,
             line: _,

@@ -52,10 +52,11 @@ fn write_condition(out: &mut String, test: &Condition) -> Result<(), AllocError>
     }
 }
 
-/// Writes a unit, with its automaton if it has one.
+/// Writes a unit, whether it is a query unit, and its automaton if it has one.
 fn write_unit(out: &mut String, item: &UnitItem) -> Result<(), AllocError> {
     let name = text_of(item.name.bytes());
-    write!(out, "; unit {}.{} {name}", item.line, item.form)?;
+    let query = if item.query { "query " } else { "" };
+    write!(out, "; {query}unit {}.{} {name}", item.line, item.form)?;
     match &item.automaton {
         Some(automaton) => write!(out, " of {}", text_of(automaton.bytes())),
         None => Ok(()),

@@ -1,5 +1,5 @@
 -- Operands of another number than a form has.
-use Rattle.std.proofs.Common.{◌≡◌, ℕ, ◌≤◌, false, List, [], ◌∷◌, length, None, Err, refl, arith}
+use Rattle.std.proofs.Common.{Bool, ◌≡◌, ℕ, ◌≤◌, false, List, [], ◌∷◌, length, None, Err, refl, arith}
 use Rattle.hz_sexp.specs.declared.form.Form.{Form}
 use Rattle.hz_sexp.specs.Shape.{trees}
 use Rattle.hz_description_model.specs.Reading.DescriptionForms as model
@@ -34,11 +34,11 @@ module _ (line form : ℕ) where
   no_automata (a ∷ []) h = absurd (h refl)
   no_automata (a ∷ b ∷ operands) h = refl
 
-  pub no_units : (operands : List Form) → (length operands ≡ 1 → ⊥) → (length operands ≡ 2 → ⊥) → model.units_form line form (trees operands) ≡ Err model.bad_shape
-  no_units [] h k = refl
-  no_units (a ∷ []) h k = absurd (h refl)
-  no_units (a ∷ b ∷ []) h k = absurd (k refl)
-  no_units (a ∷ b ∷ c ∷ operands) h k = refl
+  pub no_units : (query : Bool) (operands : List Form) → (length operands ≡ 1 → ⊥) → (length operands ≡ 2 → ⊥) → model.units_form line form query (trees operands) ≡ Err model.bad_shape
+  no_units query [] h k = refl
+  no_units query (a ∷ []) h k = absurd (h refl)
+  no_units query (a ∷ b ∷ []) h k = absurd (k refl)
+  no_units query (a ∷ b ∷ c ∷ operands) h k = refl
 
   pub no_reservation : (read : List ℕ → model.Said) (operands : List Form) → (length operands ≡ 2 → ⊥) → model.reservation_form line form read (trees operands) ≡ Err model.bad_shape
   no_reservation read [] h = refl

@@ -49,7 +49,7 @@ abbrev pub automaton_item : AutomatonItem → model.AutomatonItem
 automaton_item i = record { line = i.line; form = i.form; name = i.name }
 
 abbrev pub unit_item : UnitItem → model.UnitItem
-unit_item i = record { line = i.line; form = i.form; name = i.name; automaton = i.automaton }
+unit_item i = record { line = i.line; form = i.form; name = i.name; automaton = i.automaton; query = i.query }
 
 abbrev pub reservation_item : ReservationItem → model.ReservationItem
 reservation_item i = record { line = i.line; form = i.form; name = i.name; expression = expression i.expr }
@@ -103,7 +103,7 @@ addition (code.Attribute item) = forms.attribute (attribute_item item)
 -- the kind of a form
 abbrev pub kind_in : FormKind → shape.FormKind
 kind_in kinds.DefineAutomaton = shape.define_automaton
-kind_in kinds.DefineCpuUnit = shape.define_cpu_unit
+kind_in (kinds.DefineCpuUnit query) = shape.define_cpu_unit query
 kind_in kinds.DefineReservation = shape.define_reservation
 kind_in kinds.DefineInsnReservation = shape.define_insn_reservation
 kind_in kinds.DefineBypass = shape.define_bypass

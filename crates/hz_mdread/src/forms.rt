@@ -63,14 +63,15 @@ fn copy_of(name: Option<&Name>) -> Result<Option<Name>, NoMemory>
     }
 }
 
-/// The units of these names, each of this automaton.
+/// The units of these names, each of this automaton. All of them are query units, or none is.
 fn unit_items(
     alloc: Global,
     place: Place,
     names: Vec<Name>,
     automaton: Option<&Name>,
+    query: bool,
 ) -> Result<Vec<UnitItem>, NoMemory>
-    ensures { IfOk result (λ items. map unit_item items.items ≡ model.unit_items place.line place.form (option_copied automaton.entry) names.items) }
+    ensures { IfOk result (λ items. map unit_item items.items ≡ model.unit_items place.line place.form query (option_copied automaton.entry) names.items) }
 {
     let mut items = Vec::with_capacity(alloc, names.len())?;
     for name in names {
@@ -79,6 +80,7 @@ fn unit_items(
             form: place.form,
             name,
             automaton: copy_of(automaton)?,
+            query,
         })?;
     }
     Ok(items)
@@ -120,16 +122,21 @@ fn automata_form(alloc: Global, place: Place, operands: &[Form]) -> Result<Addit
     Ok(Addition::Automata(automaton_items(alloc, place, names)?))
 }
 
-/// `(define_cpu_unit "names")` and `(define_cpu_unit "names" "automaton")`
+/// `(define_cpu_unit "names")` and `(define_cpu_unit "names" "automaton")`, and the same of `define_query_cpu_unit`
 #[tactic(auto, using(crate::proofs::OperandLemmas::no_units))]
-fn units_form(alloc: Global, place: Place, operands: &[Form]) -> Result<Addition, Wrong>
-    ensures ok { IfOk result (λ added. model.units_form place.line place.form (trees operands.now) ≡ Ok (addition added)) }
-    ensures err { IfErr result (TellsOf (λ fault. model.units_form place.line place.form (trees operands.now) ≡ Err fault)) }
+fn units_form(
+    alloc: Global,
+    place: Place,
+    query: bool,
+    operands: &[Form],
+) -> Result<Addition, Wrong>
+    ensures ok { IfOk result (λ added. model.units_form place.line place.form query (trees operands.now) ≡ Ok (addition added)) }
+    ensures err { IfErr result (TellsOf (λ fault. model.units_form place.line place.form query (trees operands.now) ≡ Err fault)) }
 {
     if operands.len() == 1 {
         let [names] = operands else { unreachable!() };
         let names = names_at(alloc, names)?;
-        return Ok(Addition::Units(unit_items(alloc, place, names, None)?));
+        return Ok(Addition::Units(unit_items(alloc, place, names, None, query)?));
     }
     if operands.len() != 2 {
         return Err(Wrong::BadShape);
@@ -139,7 +146,8 @@ fn units_form(alloc: Global, place: Place, operands: &[Form]) -> Result<Addition
     };
     let names = names_at(alloc, names)?;
     let automaton = name_at(alloc, automaton)?;
-    Ok(Addition::Units(unit_items(alloc, place, names, Some(&automaton))?))
+    let items = unit_items(alloc, place, names, Some(&automaton), query)?;
+    Ok(Addition::Units(items))
 }
 
 /// `(define_reservation "name" "regexp")`
@@ -401,7 +409,7 @@ fn form_of_kind(
 {
     match kind {
         FormKind::DefineAutomaton => automata_form(alloc, place, operands),
-        FormKind::DefineCpuUnit => units_form(alloc, place, operands),
+        FormKind::DefineCpuUnit { query } => units_form(alloc, place, query, operands),
         FormKind::DefineReservation => reservation_form(alloc, place, operands),
         FormKind::DefineInsnReservation => class_form(alloc, place, operands),
         FormKind::DefineBypass => bypass_form(alloc, place, operands),

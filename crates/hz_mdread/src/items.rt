@@ -12,13 +12,15 @@ pub struct AutomatonItem {
     pub name: Name,
 }
 
-/// `define_cpu_unit`: one item for each name, with its automaton if one is named.
+/// `define_cpu_unit` and `define_query_cpu_unit`: one item for each name, with its automaton if one is named.
 #[derive(Debug, Drop)]
 pub struct UnitItem {
     pub line: u32,
     pub form: u32,
     pub name: Name,
     pub automaton: Option<Name>,
+    /// Whether it is a query unit.
+    pub query: bool,
 }
 
 /// `define_reservation`.

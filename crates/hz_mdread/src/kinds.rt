@@ -11,7 +11,8 @@ use crate::items::SetForm;
 #[derive(Clone, Copy)]
 pub enum FormKind {
     DefineAutomaton,
-    DefineCpuUnit,
+    /// `define_cpu_unit` or, of query units, `define_query_cpu_unit`
+    DefineCpuUnit { query: bool },
     DefineReservation,
     DefineInsnReservation,
     DefineBypass,
@@ -46,7 +47,9 @@ pub fn kind_of(word: &[u8]) -> Option<FormKind>
     if word == b"define_automaton".as_slice() {
         Some(FormKind::DefineAutomaton)
     } else if word == b"define_cpu_unit".as_slice() {
-        Some(FormKind::DefineCpuUnit)
+        Some(FormKind::DefineCpuUnit { query: false })
+    } else if word == b"define_query_cpu_unit".as_slice() {
+        Some(FormKind::DefineCpuUnit { query: true })
     } else if word == b"define_reservation".as_slice() {
         Some(FormKind::DefineReservation)
     } else if word == b"define_insn_reservation".as_slice() {

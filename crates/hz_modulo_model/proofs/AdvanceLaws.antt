@@ -4,7 +4,7 @@ use Rattle.std.specs.Prelude.{slice_get, is_some}
 use Rattle.std.proofs.lemmas.List.Elements.{All-head, All-tail}
 use Rattle.hz_acceptance_model.specs.Accepting.Events.{Event, advance}
 use Rattle.hz_automata_model.specs.Tables.Tables.{Table, entry, walk, IsTable}
-use Rattle.hz_automata_model.specs.Tables.Machines.{Part, Machine, word_of, part_walk, machine_walk, IsWalked, IsPart, IsMachine}
+use Rattle.hz_automata_model.specs.Tables.Machines.{Part, Machine, word_of, part_walk, machine_walk, IsWalked, IsPart, IsMachine, advance_of}
 use Rattle.hz_automata_model.proofs.Tables.TableLaws.{walk-append, walk_stays}
 use Rattle.hz_automata_model.proofs.Tables.MachineLaws.{word_of-append, machine_walk-each, machine_walk-part, machine_walk-all}
 
@@ -21,10 +21,10 @@ part_advances : (classes : ℕ) (part : Part) → IsPart classes part → (t : L
 part_advances classes part is t state n at =
     let table = is.table in
     let start = table.start in
-    let low = walk_stays part.rows part.columns table (Some 0) (λ s e. let same : 0 ≡ s = cc in omega arith) state (word_of part t) at in
-    ap is_some (ap (walk part.rows (Some 0)) (word_of-append part t (advance n ∷ [])) ∙ (walk-append part.rows (Some 0) (word_of part t) (replicate n part.columns ++ [])
-    ∙ ((λ i. walk part.rows (at i) (replicate n part.columns ++ [])) ∙ ap (walk part.rows (Some state)) (append-nil (replicate n part.columns)))))
-    ∙ advances part.rows part.columns table n state low
+    let low = walk_stays part.rows (advance_of part) table (Some 0) (λ s e. let same : 0 ≡ s = cc in omega arith) state (word_of part t) at in
+    ap is_some (ap (walk part.rows (Some 0)) (word_of-append part t (advance n ∷ [])) ∙ (walk-append part.rows (Some 0) (word_of part t) (replicate n (advance_of part) ++ [])
+    ∙ ((λ i. walk part.rows (at i) (replicate n (advance_of part) ++ [])) ∙ ap (walk part.rows (Some state)) (append-nil (replicate n (advance_of part))))))
+    ∙ advances part.rows (advance_of part) table n state low
 
 there_is : (xs : List ℕ) (i : ℕ) → i < length xs → (x : ℕ) × (slice_get xs i ≡ Some x)
 there_is [] i lt = absurd (omega arith)

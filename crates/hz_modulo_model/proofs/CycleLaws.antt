@@ -5,7 +5,7 @@ use Rattle.std.specs.List.{flat_map, range_with_len}
 use Rattle.std.proofs.lemmas.Bool.{ltb-false}
 use Rattle.hz_acceptance_model.specs.Accepting.Events.{Event, issue, advance}
 use Rattle.hz_automata_model.specs.Tables.Tables.{walk}
-use Rattle.hz_automata_model.specs.Tables.Machines.{Part, column_of, word_of, onto_states, parts_walk}
+use Rattle.hz_automata_model.specs.Tables.Machines.{Part, column_of, word_of, onto_states, parts_walk, advance_of}
 use Rattle.hz_automata_model.proofs.Tables.MachineLaws.{word_of-append}
 use Rattle.hz_block_model.specs.Scheduling.Schedules.{Graph, Slot, class_at, present, advance_to, spelled}
 
@@ -29,18 +29,18 @@ slots_from row from n = flat_map (λ c. map (slot_at c) (row c)) (range_with_len
 
 module _ (part : Part) where
   columns : ℕ
-  columns = part.columns
+  columns = (advance_of part)
 
-  pub word_advance : (from gap to : ℕ) → from + gap ≡ to → word_of part (advance_to from to) ≡ replicate gap part.columns
+  pub word_advance : (from gap to : ℕ) → from + gap ≡ to → word_of part (advance_to from to) ≡ replicate gap (advance_of part)
   word_advance from gap to is = go (nat_lt from to) refl
     where
-      go : (b : Bool) → nat_lt from to ≡ b → word_of part (cond b (advance (to - from) ∷ []) []) ≡ replicate gap part.columns
-      go true e = let same : to - from ≡ gap = omega (arith, is) in append-nil (replicate (to - from) part.columns) ∙ ap (λ (n : ℕ). replicate n part.columns) same
-      go false e = let high = ltb-false from to e in let none : zero ≡ gap = omega (arith, is) in ap (λ (n : ℕ). replicate n part.columns) none
+      go : (b : Bool) → nat_lt from to ≡ b → word_of part (cond b (advance (to - from) ∷ []) []) ≡ replicate gap (advance_of part)
+      go true e = let same : to - from ≡ gap = omega (arith, is) in append-nil (replicate (to - from) (advance_of part)) ∙ ap (λ (n : ℕ). replicate n (advance_of part)) same
+      go false e = let high = ltb-false from to e in let none : zero ≡ gap = omega (arith, is) in ap (λ (n : ℕ). replicate n (advance_of part)) none
 
-  replicate-more : (n m : ℕ) → replicate (n + m) part.columns ≡ replicate n part.columns ++ replicate m part.columns
-  replicate-more zero m = let same : 0 + m ≡ m = omega arith in ap (λ (k : ℕ). replicate k part.columns) same
-  replicate-more (suc n) m = let same : suc n + m ≡ suc (n + m) = omega arith in ap (λ (k : ℕ). replicate k part.columns) same ∙ ap (λ (w : List ℕ). part.columns ∷ w) (replicate-more n m)
+  replicate-more : (n m : ℕ) → replicate (n + m) (advance_of part) ≡ replicate n (advance_of part) ++ replicate m (advance_of part)
+  replicate-more zero m = let same : 0 + m ≡ m = omega arith in ap (λ (k : ℕ). replicate k (advance_of part)) same
+  replicate-more (suc n) m = let same : suc n + m ≡ suc (n + m) = omega arith in ap (λ (k : ℕ). replicate k (advance_of part)) same ∙ ap (λ (w : List ℕ). (advance_of part) ∷ w) (replicate-more n m)
 
   module _ (g : Graph) where
     abbrev issued : List ℕ → List ℕ
@@ -48,23 +48,23 @@ module _ (part : Part) where
 
     -- The word of slots and of the advance to a cycle, behind an earlier cycle: first the advances from there.
     abbrev Says : List Slot → ℕ → ℕ → List ℕ → Type 0
-    Says slots begin end w = (cycle gap : ℕ) → cycle + gap ≡ begin → word_of part (spelled g cycle slots ++ advance_to (present cycle slots) end) ≡ replicate gap part.columns ++ w
+    Says slots begin end w = (cycle gap : ℕ) → cycle + gap ≡ begin → word_of part (spelled g cycle slots ++ advance_to (present cycle slots) end) ≡ replicate gap (advance_of part) ++ w
 
     row_says : (places : List ℕ) (from end : ℕ) (rest : List Slot) (w : List ℕ) → Says rest (from + 1) end w → Says (map (slot_at from) places ++ rest) from end (word_of part (events_of (issued places)) ++ w)
     row_says [] from end rest w says cycle gap is =
-        let one : replicate (gap + 1) part.columns ≡ replicate gap part.columns ++ (part.columns ∷ []) = replicate-more gap 1 in
-        says cycle (gap + 1) (omega (arith, is)) ∙ (ap (λ (v : List ℕ). v ++ w) one ∙ append_assoc (replicate gap part.columns) (part.columns ∷ []) w)
+        let one : replicate (gap + 1) (advance_of part) ≡ replicate gap (advance_of part) ++ ((advance_of part) ∷ []) = replicate-more gap 1 in
+        says cycle (gap + 1) (omega (arith, is)) ∙ (ap (λ (v : List ℕ). v ++ w) one ∙ append_assoc (replicate gap (advance_of part)) ((advance_of part) ∷ []) w)
     row_says (place ∷ places) from end rest w says cycle gap is =
         ap (word_of part) (append_assoc (advance_to cycle from) (issue (class_at g place) ∷ spelled g from (map (slot_at from) places ++ rest)) (advance_to (present from (map (slot_at from) places ++ rest)) end))
         ∙ (word_of-append part (advance_to cycle from) (issue (class_at g place) ∷ (spelled g from (map (slot_at from) places ++ rest) ++ advance_to (present from (map (slot_at from) places ++ rest)) end))
         ∙ (ap (λ (v : List ℕ). v ++ (column_of part (class_at g place) ∷ word_of part (spelled g from (map (slot_at from) places ++ rest) ++ advance_to (present from (map (slot_at from) places ++ rest)) end))) (word_advance cycle gap from is)
-        ∙ ap (λ (v : List ℕ). replicate gap part.columns ++ (column_of part (class_at g place) ∷ v)) (row_says places from end rest w says from 0 (omega arith))))
+        ∙ ap (λ (v : List ℕ). replicate gap (advance_of part) ++ (column_of part (class_at g place) ∷ v)) (row_says places from end rest w says from 0 (omega arith))))
 
     all_say : (row : ℕ → List ℕ) (n from end : ℕ) → from + n ≡ end → Says (slots_from row from n) from end (word_of part (by_cycles (λ c. issued (row c)) from n))
-    all_say row zero from end is cycle gap at = word_advance cycle gap end (omega (arith, is, at)) ∙ sym (append-nil (replicate gap part.columns))
+    all_say row zero from end is cycle gap at = word_advance cycle gap end (omega (arith, is, at)) ∙ sym (append-nil (replicate gap (advance_of part)))
     all_say row (suc n) from end is cycle gap at =
         row_says (row from) from end (slots_from row (from + 1) n) (word_of part (by_cycles (λ c. issued (row c)) (from + 1) n)) (all_say row n (from + 1) end (omega (arith, is))) cycle gap at
-        ∙ ap (λ (v : List ℕ). replicate gap part.columns ++ v) (sym (word_of-append part (events_of (issued (row from))) (by_cycles (λ c. issued (row c)) (from + 1) n)))
+        ∙ ap (λ (v : List ℕ). replicate gap (advance_of part) ++ v) (sym (word_of-append part (events_of (issued (row from))) (by_cycles (λ c. issued (row c)) (from + 1) n)))
 
     pub words_by_cycles : (row : ℕ → List ℕ) (n : ℕ) → word_of part (spelled g 0 (slots_from row 0 n) ++ advance_to (present 0 (slots_from row 0 n)) n) ≡ word_of part (by_cycles (λ c. issued (row c)) 0 n)
     words_by_cycles row n = all_say row n 0 n (omega arith) 0 0 (omega arith)

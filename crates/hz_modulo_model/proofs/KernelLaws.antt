@@ -12,7 +12,7 @@ use Rattle.hz_acceptance_model.specs.Accepting.Events.{Event, advance, IsOfClass
 use Rattle.hz_block_model.specs.Running.Blocks.{Instruction}
 use Rattle.hz_block_model.specs.Dependences.Dependences.{depends, Timing, cost}
 use Rattle.hz_block_model.specs.Dependences.Graphs.{edge, IsGraph}
-use Rattle.hz_automata_model.specs.Tables.Machines.{Part, Machine, word_of, onto_states, parts_walk, machine_walk, starts_of, IsWalked, IsMachine}
+use Rattle.hz_automata_model.specs.Tables.Machines.{Part, Machine, word_of, onto_states, parts_walk, machine_walk, starts_of, IsWalked, IsMachine, advance_of}
 use Rattle.hz_automata_model.proofs.Tables.MachineLaws.{word_of-append}
 use Rattle.hz_block_model.specs.Scheduling.Schedules.{Node, Graph, Slot, present, advance_to, spell, Legal}
 use Rattle.hz_block_model.specs.Scheduling.Machines.{Settles}
@@ -32,12 +32,12 @@ cut_advance : (part : Part) (t : List Event) (a b c : ℕ) → a + b ≡ c → w
 cut_advance part t a b c is =
     word_of-append part t (advance c ∷ [])
     ∙ (ap (λ (w : List ℕ). word_of part t ++ w) (
-    append-nil (replicate c part.columns)
-    ∙ (ap (λ (n : ℕ). replicate n part.columns) (sym is)
-    ∙ (sym (replicate-append-replicate a b part.columns)
-    ∙ (λ i. sym (append-nil (replicate a part.columns)) i ++ sym (append-nil (replicate b part.columns)) i))))
-    ∙ (sym (append_assoc (word_of part t) (replicate a part.columns ++ []) (replicate b part.columns ++ []))
-    ∙ (ap (λ (w : List ℕ). w ++ (replicate b part.columns ++ [])) (sym (word_of-append part t (advance a ∷ [])))
+    append-nil (replicate c (advance_of part))
+    ∙ (ap (λ (n : ℕ). replicate n (advance_of part)) (sym is)
+    ∙ (sym (replicate-append-replicate a b (advance_of part))
+    ∙ (λ i. sym (append-nil (replicate a (advance_of part))) i ++ sym (append-nil (replicate b (advance_of part))) i))))
+    ∙ (sym (append_assoc (word_of part t) (replicate a (advance_of part) ++ []) (replicate b (advance_of part) ++ []))
+    ∙ (ap (λ (w : List ℕ). w ++ (replicate b (advance_of part) ++ [])) (sym (word_of-append part t (advance a ∷ [])))
     ∙ sym (word_of-append part (t ++ advance a ∷ []) (advance b ∷ [])))))
 
 module _ (m : Machine) (machine : IsMachine m) (settle : Settles m) where

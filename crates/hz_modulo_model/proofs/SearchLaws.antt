@@ -6,7 +6,7 @@ use Rattle.std.proofs.lemmas.List.{replicate-append-replicate}
 use Rattle.std.proofs.lemmas.List.Elements.{All-nil, All-cons, All-weaker}
 use Rattle.hz_base_model.specs.Limits.{cycle_limit}
 use Rattle.hz_acceptance_model.specs.Accepting.Events.{Event, advance, IsOfClass}
-use Rattle.hz_automata_model.specs.Tables.Machines.{Part, Machine, word_of, onto_states, parts_walk, starts_of, machine_walk, IsWalked, IsMachine}
+use Rattle.hz_automata_model.specs.Tables.Machines.{Part, Machine, word_of, onto_states, parts_walk, starts_of, machine_walk, IsWalked, IsMachine, advance_of}
 use Rattle.hz_automata_model.proofs.Tables.MachineLaws.{parts_walk-append}
 use Rattle.hz_block_model.specs.Scheduling.Schedules.{Graph, Slot, present, advance_to, spell}
 use Rattle.hz_block_model.specs.Scheduling.Machines.{Settles}
@@ -114,7 +114,7 @@ start_stays m machine settle =
 
     turned : (part : Part) → word_of part (advance cycle_limit ∷ advance 1 ∷ []) ≡ word_of part (advance 1 ∷ advance cycle_limit ∷ [])
     turned part =
-        ap (λ (w : List ℕ). replicate cycle_limit part.columns ++ w) (append-nil (replicate 1 part.columns))
-        ∙ (replicate-append-replicate cycle_limit 1 part.columns
-        ∙ (sym (replicate-append-replicate 1 cycle_limit part.columns)
-        ∙ sym (ap (λ (w : List ℕ). replicate 1 part.columns ++ w) (append-nil (replicate cycle_limit part.columns)))))
+        ap (λ (w : List ℕ). replicate cycle_limit (advance_of part) ++ w) (append-nil (replicate 1 (advance_of part)))
+        ∙ (replicate-append-replicate cycle_limit 1 (advance_of part)
+        ∙ (sym (replicate-append-replicate 1 cycle_limit (advance_of part))
+        ∙ sym (ap (λ (w : List ℕ). replicate 1 (advance_of part) ++ w) (append-nil (replicate cycle_limit (advance_of part))))))

@@ -10,7 +10,7 @@ use Rattle.hz_acceptance_model.specs.Accepting.Events as model
 use Rattle.hz_acceptance_model.specs.Accepting.Events.{issues_of, cycles_of}
 use Rattle.hz_acceptance_model.proofs.Accepting.ReplayLaws.{issues_of-append, cycles_of-append}
 use Rattle.hz_automata_model.specs.Tables.Tables.{walk}
-use Rattle.hz_automata_model.specs.Tables.Machines.{Part, Machine, word_of, part_walk, parts_walk, machine_walk, starts_of, onto_states}
+use Rattle.hz_automata_model.specs.Tables.Machines.{Part, Machine, advance_of, word_of, part_walk, parts_walk, machine_walk, starts_of, onto_states}
 use Rattle.hz_automata_model.proofs.Tables.MachineLaws.{parts_walk-append}
 use Rattle.hz_replay.specs.Lines.{event_of}
 use Rattle.hz_replay.specs.Traces.{events_in}
@@ -92,8 +92,15 @@ nothing_walked [] (s ∷ states) each = absurd (omega (arith, each))
 nothing_walked (part ∷ parts) [] each = absurd (omega (arith, each))
 nothing_walked (part ∷ parts) (s ∷ states) each = ap (onto_states (Some s)) (nothing_walked parts states (omega (arith, each)))
 
+-- an ask leaves all where they are
+pub ask_walked : (parts : List Part) (states : List ℕ) (a u : ℕ) → length states ≡ length parts → parts_walk parts states (model.ask a u ∷ []) ≡ Some states
+ask_walked [] [] a u each = refl
+ask_walked [] (s ∷ states) a u each = absurd (omega (arith, each))
+ask_walked (part ∷ parts) [] a u each = absurd (omega (arith, each))
+ask_walked (part ∷ parts) (s ∷ states) a u each = ap (onto_states (Some s)) (ask_walked parts states a u (omega (arith, each)))
+
 word_more : (part : Part) (a : ℕ) → word_of part (model.advance (a + 1) ∷ []) ≡ word_of part (model.advance a ∷ model.advance 1 ∷ [])
-word_more part a = append-nil (replicate (a + 1) part.columns) ∙ replicate_next a part.columns
+word_more part a = append-nil (replicate (a + 1) (advance_of part)) ∙ replicate_next a (advance_of part)
 
 parts_more : (parts : List Part) (states : List ℕ) (a : ℕ) → parts_walk parts states (model.advance (a + 1) ∷ []) ≡ parts_walk parts states (model.advance a ∷ model.advance 1 ∷ [])
 parts_more [] states a = refl

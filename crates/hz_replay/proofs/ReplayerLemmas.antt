@@ -4,7 +4,7 @@ use Rattle.std.specs.Prelude.{All}
 use Rattle.std.proofs.lemmas.List.{length-replicate}
 use Rattle.std.proofs.lemmas.List.Elements.{All-get_or, All-head, All-tail}
 use Rattle.hz_acceptance_model.specs.Accepting.Events.{Event, advance}
-use Rattle.hz_automata_model.specs.Tables.Machines.{Part, Machine, no_part, part_at, part_walk, parts_walk, onto_states, word_of, starts_of, IsPart, IsMachine}
+use Rattle.hz_automata_model.specs.Tables.Machines.{Part, Machine, advance_of, no_part, part_at, part_walk, parts_walk, onto_states, word_of, starts_of, IsPart, IsMachine}
 use Rattle.hz_automata_model.proofs.Tables.TableLaws.{walk_stays}
 use Rattle.hz_automata_model.proofs.Tables.MachineLaws.{advance_alone}
 use Rattle.hz_replay.specs.Replaying.{AreStates}
@@ -30,7 +30,7 @@ Within parts states = (i : ℕ) → i < length parts → get_or states i 0 < len
 
 module _ (classes : ℕ) where
   walk_end : (part : Part) → IsPart classes part → (state next : ℕ) (t : List Event) → state < length part.rows → part_walk part state t ≡ Some next → next < length part.rows
-  walk_end part is state next t low h = walk_stays part.rows part.columns is.table (Some state) (λ s e. let same : state ≡ s = cc in subst (λ n. n < length part.rows) same low) next (word_of part t) h
+  walk_end part is state next t low h = walk_stays part.rows (advance_of part) is.table (Some state) (λ s e. let same : state ≡ s = cc in subst (λ n. n < length part.rows) same low) next (word_of part t) h
 
   pub ends : (parts : List Part) (states next : List ℕ) (t : List Event) → All (IsPart classes) parts → length states ≡ length parts → Within parts states → parts_walk parts states t ≡ Some next → (length next ≡ length parts) × Within parts next
   ends [] states next t all each within h = let same : [] ≡ next = cc in (ap length (sym same), λ i low. absurd (omega (arith, low)))

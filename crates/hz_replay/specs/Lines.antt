@@ -2,11 +2,11 @@
 use Rattle.std.specs.Prelude.{ℕ, ◌+◌, min, nat_le, if◌then◌else◌, Option, Some, None, Result, Ok, Err}
 use Rattle.hz_acceptance_model.specs.Traces.TraceLimits.{advance_limit}
 use Rattle.hz_acceptance_model.specs.Accepting.Events as events
-use Rattle.hz_acceptance_model.specs.Traces.Traces.{TraceFault, bad_line, unknown_class, too_many_advances, Line, skipped, says, wrong}
+use Rattle.hz_acceptance_model.specs.Traces.Traces.{TraceFault, bad_line, unknown_class, too_many_advances, unknown_unit, Line, skipped, says, wrong}
 use Rattle.hz_replay.specs.declared.event.What.{What}
-use Rattle.hz_replay.specs.declared.event.What.TheVariants.{Issue, Advance}
+use Rattle.hz_replay.specs.declared.event.What.TheVariants.{Issue, Advance, Ask}
 use Rattle.hz_replay.specs.declared.words.Wrong.{Wrong as WrongLine}
-use Rattle.hz_replay.specs.declared.words.Wrong.TheVariants.{BadLine, UnknownClass, AdvanceLimit}
+use Rattle.hz_replay.specs.declared.words.Wrong.TheVariants.{BadLine, UnknownClass, AdvanceLimit, UnknownUnit}
 use Rattle.hz_replay.specs.declared.words.Said.{Said}
 use Rattle.hz_replay.specs.declared.words.Said.TheVariants.{Nothing, Event as SaidEvent, Wrong as SaidWrong}
 
@@ -14,12 +14,14 @@ use Rattle.hz_replay.specs.declared.words.Said.TheVariants.{Nothing, Event as Sa
 abbrev pub event_of : What → events.Event
 event_of (Issue class) = events.issue class
 event_of (Advance cycles) = events.advance cycles
+event_of (Ask part ask) = events.ask part ask
 
 -- what is wrong with a line
 abbrev pub fault_of : WrongLine → TraceFault
 fault_of BadLine = bad_line
 fault_of UnknownClass = unknown_class
 fault_of AdvanceLimit = too_many_advances
+fault_of UnknownUnit = unknown_unit
 
 -- what a line says
 abbrev pub said : Said → Line

@@ -37,7 +37,7 @@ IsOutcome m t (Refused event) = FirstUnwalked m t event
 abbrev pub IsIssue : events.Event → Type 0
 IsIssue e = (class : ℕ) × (e ≡ events.issue class)
 
--- 1 for an issue, and 0 for every other event
+-- 1 for an issue, and 0 for advances and asks
 abbrev pub issues_in : events.Event → ℕ
 issues_in (events.issue class) = 1
 issues_in (events.advance cycles) = 0

@@ -1,12 +1,13 @@
 -- A trace as the reader makes it, line after line.
 use Rattle.std.specs.Prelude.{◌≡◌, ℕ, List, [], ◌∷◌, ◌++◌, map, ⊤, Option, Some, None, MatchOption}
 use Rattle.hz_acceptance_model.specs.Accepting.Events as events
-use Rattle.hz_acceptance_model.specs.Traces.Traces.{TraceFault, bad_line, unknown_class, too_many_advances, TraceFaultAt}
+use Rattle.hz_acceptance_model.specs.Traces.TraceNames.{TraceNames}
+use Rattle.hz_acceptance_model.specs.Traces.Traces.{TraceFault, bad_line, unknown_class, too_many_advances, unknown_unit, TraceFaultAt}
 use Rattle.hz_replay.specs.Lines.{event_of, fault_of}
 use Rattle.hz_replay.specs.declared.words.Wrong.{Wrong as WrongLine}
 use Rattle.hz_replay.specs.declared.event.Event.{Event}
 use Rattle.hz_replay.specs.declared.fault.TraceFault.{TraceFault as Fault}
-use Rattle.hz_replay.specs.declared.fault.TraceFault.TheVariants.{BadLine, UnknownClass, AdvanceLimit, NoMemory}
+use Rattle.hz_replay.specs.declared.fault.TraceFault.TheVariants.{BadLine, UnknownClass, AdvanceLimit, UnknownUnit, NoMemory}
 
 -- the events of a trace that is read
 abbrev pub events_in : List Event → List events.Event
@@ -21,11 +22,12 @@ abbrev pub fault_told : Fault → Option (TraceFault × ℕ)
 fault_told (BadLine line) = Some (bad_line, line)
 fault_told (UnknownClass line) = Some (unknown_class, line)
 fault_told (AdvanceLimit line) = Some (too_many_advances, line)
+fault_told (UnknownUnit line) = Some (unknown_unit, line)
 fault_told NoMemory = None
 
--- what is told of a text that is no trace, where the classes have these names; want of memory says nothing
-abbrev pub IsTraceFault : List (List ℕ) → List ℕ → Fault → Type 0
-IsTraceFault classes text fault = MatchOption (fault_told fault) ⊤ (λ told. TraceFaultAt classes text told.0 told.1)
+-- what is told of a text that is no trace, where these are the names; want of memory says nothing
+abbrev pub IsTraceFault : TraceNames → List ℕ → Fault → Type 0
+IsTraceFault names text fault = MatchOption (fault_told fault) ⊤ (λ told. TraceFaultAt names text told.0 told.1)
 
 -- An event with its line, as a pair.
 abbrev pub Placed : Type 0

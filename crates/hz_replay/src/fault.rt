@@ -12,7 +12,7 @@ use thiserror::Error;
 /// The first line of a trace that is wrong, by its number from 1. Source: this profile, docs/FORMATS.md, 'Trace'.
 #[derive(Clone, Copy, Debug, PartialEq, Eq, Error)]
 pub enum TraceFault {
-    /// The line is neither empty, nor a comment, nor an issue, nor an advance.
+    /// The line is neither empty, nor a comment, nor an issue, nor an advance, nor an ask.
     #[error("line {line} is no event")]
     BadLine { line: u32 },
     /// The line issues a name that no class has.
@@ -21,6 +21,9 @@ pub enum TraceFault {
     /// With this line the advances of the trace pass their limit.
     #[error("line {line} advances too far")]
     AdvanceLimit { line: u32 },
+    /// The line asks for a name that no query unit has.
+    #[error("line {line} asks for an unknown unit")]
+    UnknownUnit { line: u32 },
     /// Memory ran out.
     #[error("out of memory")]
     NoMemory,
@@ -35,6 +38,7 @@ impl TraceFault {
             TraceFault::BadLine { line } => Some(("BadLine", *line)),
             TraceFault::UnknownClass { line } => Some(("UnknownClass", *line)),
             TraceFault::AdvanceLimit { line } => Some(("AdvanceLimit", *line)),
+            TraceFault::UnknownUnit { line } => Some(("UnknownUnit", *line)),
             TraceFault::NoMemory => None,
         }
     }

@@ -18,5 +18,5 @@ pub use event::{Event, What};
 pub use fault::TraceFault;
 pub use outcome::Outcome;
 pub use replayer::Replayer;
-pub use replaying::replay;
-pub use trace::{read_events, read_trace};
+pub use replaying::{play, replay};
+pub use trace::read_trace;

@@ -2,16 +2,13 @@
 
 ghost use Rattle.std.specs.Prelude.{◌≡◌, ◌<◌, ◌≤◌, length, IfOk};
 ghost use Rattle.std.specs.List.{slice_range};
-ghost use Rattle.hz_base_model.specs.Limits.{class_limit};
 ghost use Rattle.hz_acceptance_model.specs.Traces.TraceLimits.{advance_limit};
 ghost use Rattle.hz_acceptance_model.specs.Traces.Traces as model;
 ghost use Rattle.hz_replay.specs.Lines.{said, capped_line, judged, judgement};
-ghost use Rattle.hz_replay.specs.Names.{names_in};
-ghost use Rattle.indexmap.specs.IndexSet.{index_set_len};
 
 use super::event::What;
+use super::names::Names;
 use super::words::{ADVANCE_LIMIT, Said, Wrong, line_says};
-use indexmap::IndexSet;
 use std::alloc::{AllocError, Global};
 use std::hash::{FoldHasher, Hasher};
 use std::marker::Model;
@@ -27,27 +24,23 @@ pub(crate) struct Seen {
     said: Said,
 }
 
-/// A text whose lines are read, and the names of the classes. What a line says is remembered at the line's place, until
+/// A text whose lines are read, and the names that they say. What a line says is remembered at the line's place, until
 /// another line has that place.
 #[derive(Drop)]
 pub struct Reading<'t> {
-    classes: &'t IndexSet<Vec<u8>>,
+    names: &'t Names,
     text: &'t [u8],
     seen: Vec<Seen>,
 }
 
 impl<'t> Model for Reading<'t> {
-    ghost use Rattle.std.specs.Prelude.{◌≡◌, ◌≤◌, length, All};
-    ghost use Rattle.hz_base_model.specs.Limits.{class_limit};
-    ghost use Rattle.indexmap.specs.IndexSet.{index_set_len};
-    ghost use Rattle.hz_replay.specs.Names.{names_in};
     ghost use Rattle.hz_replay.specs.Reading.{Source, AreSeen};
 
     ghost Value = { Source };
 
-    ghost view = { λ r. record { classes = names_in r.classes.now.keys; text = r.text.now } };
+    ghost view = { λ r. record { names = r.names.now; text = r.text.now } };
 
-    ghost invariant = { λ r. AreSeen (names_in r.classes.now.keys) r.text.now r.seen.items × (index_set_len r.classes.now ≤ class_limit) };
+    ghost invariant = { λ r. AreSeen r.names.now r.text.now r.seen.items };
 }
 
 /// The place of a line among those that are remembered.
@@ -61,13 +54,8 @@ fn place_of(line: &[u8]) -> usize
 
 impl<'t> Reading<'t> {
     /// A text of which no line is read. Each place remembers that a line without bytes says nothing.
-    pub fn new(
-        alloc: Global,
-        classes: &'t IndexSet<Vec<u8>>,
-        text: &'t [u8],
-    ) -> Result<Reading<'t>, AllocError>
-        requires { index_set_len classes.now ≤ class_limit }
-        ensures { IfOk result (λ reading. reading ≡ record { classes = names_in classes.now.keys; text = text.now }) }
+    pub fn new(alloc: Global, names: &'t Names, text: &'t [u8]) -> Result<Reading<'t>, AllocError>
+        ensures { IfOk result (λ reading. reading ≡ record { names = names.now; text = text.now }) }
     {
         let none = Seen {
             from: 0,
@@ -75,11 +63,7 @@ impl<'t> Reading<'t> {
             said: Said::Nothing,
         };
         let seen = vec![in alloc; none; PLACES]?;
-        Ok(Reading {
-            classes,
-            text,
-            seen,
-        })
+        Ok(Reading { names, text, seen })
     }
 
     /// What the line between two places of the text says, a number above the limit cut to the limit and one more.
@@ -87,7 +71,7 @@ impl<'t> Reading<'t> {
         requires order { from ≤ to }
         requires within { to ≤ length self.old.text }
         ensures source { self.new ≡ self.old }
-        ensures says { said result ≡ capped_line (model.line_says self.old.classes (slice_range self.old.text from to)) }
+        ensures says { said result ≡ capped_line (model.line_says self.old.names (slice_range self.old.text from to)) }
     {
         let text = self.text;
         let line = &text[from..to];
@@ -96,7 +80,7 @@ impl<'t> Reading<'t> {
         if &text[seen.from..seen.to] == line {
             return seen.said;
         }
-        let said = line_says(self.classes, line);
+        let said = line_says(self.names, line);
         self.seen[place] = Seen { from, to, said };
         said
     }
@@ -108,7 +92,7 @@ impl<'t> Reading<'t> {
         requires order { from ≤ to }
         requires within { to ≤ length self.old.text }
         ensures source { self.new ≡ self.old }
-        ensures judged { judgement result ≡ judged advanced (model.line_says self.old.classes (slice_range self.old.text from to)) }
+        ensures judged { judgement result ≡ judged advanced (model.line_says self.old.names (slice_range self.old.text from to)) }
     {
         match self.line_says(from, to) {
             Said::Nothing => Ok(None),
@@ -117,6 +101,7 @@ impl<'t> Reading<'t> {
                 Wrong::AdvanceLimit,
             ),
             Said::Event(What::Advance(cycles)) => Ok(Some(What::Advance(cycles))),
+            Said::Event(What::Ask { part, ask }) => Ok(Some(What::Ask { part, ask })),
             Said::Wrong(wrong) => Err(wrong),
         }
     }

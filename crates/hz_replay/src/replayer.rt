@@ -3,7 +3,7 @@
 ghost use Rattle.std.specs.Prelude.{◌≡◌, ◌+◌, ◌*◌, ◌<◌, ◌≤◌, ◌∷◌, [], length, replicate, IsTrue, IfSome, Some, None};
 ghost use Rattle.std.specs.Bool.{OnTrue, OnFalse};
 ghost use Rattle.std.specs.Option.{option_map, ForSome};
-ghost use Rattle.hz_automata_model.specs.Tables.Machines.{parts_walk, starts_of};
+ghost use Rattle.hz_automata_model.specs.Tables.Machines.{parts_walk, part_at, starts_of, states_tell};
 ghost use Rattle.hz_tables.specs.Machines.{machine_of};
 ghost use Rattle.hz_acceptance_model.specs.Accepting.Events.{issue, advance};
 ghost use Rattle.hz_replay.specs.Replaying.{event_for, AreStates};
@@ -107,6 +107,18 @@ impl<'m> Replayer<'m> {
             unreachable!();
         }
         mem::swap(&mut self.states, &mut self.next);
+    }
+
+    /// Whether a unit that is asked for in a part is reserved in the present cycle. It takes no memory, and at most three
+    /// steps.
+    pub fn ask<L: Ledger>(&self, part: u32, ask: u32, steps: &mut Steps<L>) -> bool
+        requires part { part < length self.now.machine.parts }
+        requires ask { ask < length (part_at self.now.machine part).asks }
+        ensures reserved { result ≡ states_tell self.now.machine self.now.states part ask }
+        ensures cost { steps.new ≤ steps.old + 3 }
+    {
+        self.machine
+            .ask(part, self.states[part as usize], ask, steps)
     }
 
     /// The states, one for each part. It takes no memory.

@@ -4,7 +4,9 @@ ghost use Rattle.std.specs.Prelude.{◌≡◌, ◌+◌, ◌*◌, ◌<◌, ◌≤
 ghost use Rattle.std.specs.Bool.{OnTrue, OnFalse};
 ghost use Rattle.hz_acceptance_model.specs.Traces.TraceLimits.{advance_limit};
 ghost use Rattle.hz_acceptance_model.specs.Accepting.Events.{advance, issues_of, cycles_of, IsOfClass};
+ghost use Rattle.hz_acceptance_model.specs.Accepting.Asking.{IsOfQuery};
 ghost use Rattle.hz_automata_model.specs.Tables.Machines.{parts_walk};
+ghost use Rattle.hz_automata_model.specs.Tables.MachineNames.{names_of_machine};
 ghost use Rattle.hz_tables.specs.Machines.{machine_of};
 ghost use Rattle.hz_replay.specs.Lines.{event_of};
 ghost use Rattle.hz_replay.specs.Traces.{events_in};
@@ -29,13 +31,15 @@ fn advance_by<L: Ledger>(replayer: &mut Replayer<'_>, cycles: u32, steps: &mut S
     }
 }
 
-/// One event: true if it is taken; false, only at an issue, changes nothing.
-fn play<L: Ledger>(replayer: &mut Replayer<'_>, what: What, steps: &mut Steps<L>) -> bool
+/// One event: true if it is taken; false, only at an issue, changes nothing. An ask leaves the states. It takes no memory,
+/// and at most four steps for each part and each issue or cycle.
+pub fn play<L: Ledger>(replayer: &mut Replayer<'_>, what: What, steps: &mut Steps<L>) -> bool
     requires class { IsOfClass (length replayer.old.machine.classes) (event_of what) }
     requires each { length replayer.old.states ≡ length replayer.old.machine.parts }
     ensures machine { replayer.new.machine ≡ replayer.old.machine }
     ensures taken { OnTrue result (parts_walk replayer.old.machine.parts replayer.old.states (event_of what ∷ []) ≡ Some replayer.new.states) }
     ensures refused { OnFalse result (parts_walk replayer.old.machine.parts replayer.old.states (event_of what ∷ []) ≡ None) }
+    ensures stays { OnFalse result (replayer.new ≡ replayer.old) }
     ensures issue { OnFalse result (IsIssue (event_of what)) }
     ensures cost { steps.new ≤ steps.old + 4 * length replayer.old.machine.parts * (issues_in (event_of what) + cycles_of_one (event_of what)) }
 {
@@ -45,16 +49,18 @@ fn play<L: Ledger>(replayer: &mut Replayer<'_>, what: What, steps: &mut Steps<L>
             advance_by(replayer, cycles, steps);
             true
         }
+        What::Ask { part: _, ask: _ } => true,
     }
 }
 
-/// 1 for an issue, and 0 for advances.
+/// 1 for an issue, and 0 for advances and asks.
 fn issues_at(what: What) -> u64
     ensures { result ≡ issues_in (event_of what) }
 {
     match what {
         What::Issue(_) => 1,
         What::Advance(_) => 0,
+        What::Ask { part: _, ask: _ } => 0,
     }
 }
 
@@ -65,11 +71,13 @@ fn cycles_at(what: What) -> u64
     match what {
         What::Issue(_) => 0,
         What::Advance(cycles) => u64::from(cycles),
+        What::Ask { part: _, ask: _ } => 0,
     }
 }
 
 /// Replays events from the start of every part: all are walked, with how many issues and cycle advances there are, or
-/// the first that is not. It takes no memory, and at most four steps for each part and each issue or cycle.
+/// the first that is not. Asks leave the states. It takes no memory, and at most four steps for each part and each issue
+/// or cycle.
 pub fn replay<L: Ledger>(
     alloc: Global,
     machine: &Machine,
@@ -77,6 +85,7 @@ pub fn replay<L: Ledger>(
     steps: &mut Steps<L>,
 ) -> Outcome
     requires classes { All (IsOfClass (length machine.now.classes.items)) (events_in events.now) }
+    requires asks { All (IsOfQuery (names_of_machine (machine_of machine.now)).queries) (events_in events.now) }
     requires short { cycles_of (events_in events.now) ≤ advance_limit }
     requires few { length events.now < 2 ^ 32 }
     ensures outcome { IsOutcome (machine_of machine.now) (events_in events.now) result }

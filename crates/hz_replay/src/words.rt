@@ -1,19 +1,15 @@
 //! What a line says.
 
-ghost use Rattle.std.specs.Prelude.{◌≡◌, ◌≤◌, ◌+◌};
+ghost use Rattle.std.specs.Prelude.{◌≡◌};
 ghost use Rattle.std.specs.Option.{option_map};
-ghost use Rattle.hz_base_model.specs.Limits.{class_limit};
 ghost use Rattle.hz_base_model.specs.Lines.{number_of};
 ghost use Rattle.hz_acceptance_model.specs.Traces.Traces as model;
-ghost use Rattle.hz_replay.specs.Names.{names_in};
 ghost use Rattle.hz_replay.specs.Lines.{capped, said, capped_line};
-ghost use Rattle.indexmap.specs.IndexSet.{index_set_len};
 
 use super::event::What;
 use super::lines::{split_words, without_margin};
-use super::names::place_of;
+use super::names::Names;
 use hz_regexp::is_name;
-use indexmap::IndexSet;
 
 /// The advances of a trace sum to at most this.
 pub const ADVANCE_LIMIT: u32 = 16_777_216;
@@ -24,6 +20,7 @@ pub enum Wrong {
     BadLine,
     UnknownClass,
     AdvanceLimit,
+    UnknownUnit,
 }
 
 /// What a line says by itself.
@@ -52,14 +49,13 @@ fn number(digits: &[u8]) -> Option<u32>
 }
 
 /// `issue NAME`.
-fn says_issue(classes: &IndexSet<Vec<u8>>, name: &[u8]) -> Said
-    requires { index_set_len classes.now ≤ class_limit }
-    ensures { said result ≡ model.says_issue (names_in classes.now.keys) name.now }
+fn says_issue(names: &Names, name: &[u8]) -> Said
+    ensures { said result ≡ model.says_issue names.now.classes name.now }
 {
     if !is_name(name) {
         return Said::Wrong(Wrong::BadLine);
     }
-    match place_of(classes, name) {
+    match names.class(name) {
         Some(class) => Said::Event(What::Issue(class)),
         None => Said::Wrong(Wrong::UnknownClass),
     }
@@ -75,10 +71,22 @@ fn says_advance(digits: &[u8]) -> Said
     }
 }
 
+/// `ask UNIT`.
+fn says_ask(names: &Names, name: &[u8]) -> Said
+    ensures { said result ≡ model.says_ask names.now name.now }
+{
+    if !is_name(name) {
+        return Said::Wrong(Wrong::BadLine);
+    }
+    match names.unit(name) {
+        Some((part, ask)) => Said::Event(What::Ask { part, ask }),
+        None => Said::Wrong(Wrong::UnknownUnit),
+    }
+}
+
 /// What a line says, a number above the limit cut to the limit and one more.
-pub fn line_says(classes: &IndexSet<Vec<u8>>, line: &[u8]) -> Said
-    requires { index_set_len classes.now ≤ class_limit }
-    ensures { said result ≡ capped_line (model.line_says (names_in classes.now.keys) line.now) }
+pub fn line_says(names: &Names, line: &[u8]) -> Said
+    ensures { said result ≡ capped_line (model.line_says names.now line.now) }
 {
     let content = without_margin(line);
     if content.is_empty() || content[0] == b';' {
@@ -86,9 +94,11 @@ pub fn line_says(classes: &IndexSet<Vec<u8>>, line: &[u8]) -> Said
     }
     let (word, operand) = split_words(content);
     if word == b"issue".as_slice() {
-        says_issue(classes, operand)
+        says_issue(names, operand)
     } else if word == b"advance".as_slice() {
         says_advance(operand)
+    } else if word == b"ask".as_slice() {
+        says_ask(names, operand)
     } else {
         Said::Wrong(Wrong::BadLine)
     }

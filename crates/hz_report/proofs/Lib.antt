@@ -1,2 +1,3 @@
 pub mod ScheduleLemmas
 pub mod FaultLines
+pub mod ReplayLemmas

@@ -5,18 +5,19 @@ use Rattle.hz_answer_model.specs.Texts as model
 use Rattle.hz_check.specs.Faults.{limit_of}
 use Rattle.hz_description_model.specs.Check.CheckFaults.{limit_word}
 use Rattle.hz_base_model.specs.Told.{told_in}
+use Rattle.hz_report.specs.Replays.{IsReplay, replay_text}
 use Rattle.hz_report.specs.Schedules.{IsInRange, schedule_by}
 use Rattle.hz_rtl.specs.Listings.{listing}
 use Rattle.hz_sched.specs.Shape.{graph_of, slots_of}
+use Rattle.hz_tables.specs.Machines.{machine_of}
 use Rattle.hz_block_model.specs.Texts.StateTexts.{listing_text}
 use Rattle.hz_words_model.specs.Words.{usage_line}
 use Rattle.hz_report.specs.declared.report.Report.{Report}
-use Rattle.hz_report.specs.declared.report.Report.TheVariants.{Accepted, Refused, Scheduled, After, Drill, Fault, Bytes, Insns, Checked, Automaton, Usage, Memory, File}
+use Rattle.hz_report.specs.declared.report.Report.TheVariants.{Replayed, Scheduled, After, Drill, Fault, Bytes, Insns, Checked, Automaton, Usage, Memory, File}
 
 -- the text of a report
 abbrev pub text_of : Report → List ℕ
-text_of (Accepted issues cycles) = model.accepted_line issues cycles
-text_of (Refused line class) = model.refused_line line class.now
+text_of (Replayed machine events outcome) = replay_text (machine_of machine.now) events.now outcome.now
 text_of (Scheduled machine graph schedule) = schedule_by machine.now.classes.items (map (λ i. i.number) graph.now.insns.items) (graph_of graph.now) (slots_of schedule.now.slots.items)
 text_of (After state) = listing_text (listing state.now)
 text_of (Drill turns issues cycles states) = model.drill_text turns issues cycles states.now
@@ -29,7 +30,8 @@ text_of Usage = usage_line
 text_of Memory = model.memory_line
 text_of (File name) = model.file_line name.now
 
--- what a report names is there to be told: the instructions and the classes of a schedule
+-- what a report names is there to be told: a replay is that of its events, and the instructions and the classes of a schedule are there
 abbrev pub IsTellable : Report → Type 0
+IsTellable (Replayed machine events outcome) = IsReplay machine.now events.now outcome.now
 IsTellable (Scheduled machine graph schedule) = IsInRange machine.now graph.now schedule.now
 IsTellable _ = ⊤

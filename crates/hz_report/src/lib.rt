@@ -5,6 +5,7 @@ mod drilled;
 mod faults;
 mod limits;
 mod outcomes;
+mod replayed;
 mod report;
 mod scheduled;
 mod writing;

@@ -3,6 +3,7 @@
 use hz_check::LimitName;
 use hz_depend::Graph;
 use hz_regexp::Name;
+use hz_replay::{Event, Outcome};
 use hz_rtl::State;
 use hz_sched::Schedule;
 use hz_tables::Machine;
@@ -11,15 +12,12 @@ use hz_tables::Machine;
 /// Source: this profile, docs/FORMATS.md, 'Answers'. The tables of a description are written by `hz_tabfile`.
 #[derive(Clone, Copy)]
 pub enum Report<'a> {
-    /// Every issue of the trace fits: how many issues, and how many cycles were advanced.
-    Accepted {
-        issues: u64,
-        cycles: u64,
-    },
-    /// The first issue that does not fit: its line and its class.
-    Refused {
-        line: u32,
-        class: &'a Name,
+    /// The replay of a trace: the machine has the names of its classes and of its units that are asked for, the events their
+    /// lines. Each ask before the replay ends is answered.
+    Replayed {
+        machine: &'a Machine,
+        events: &'a [Event],
+        outcome: &'a Outcome,
     },
     /// The schedule of a block: the machine has the names of its classes, the graph its instructions.
     Scheduled {

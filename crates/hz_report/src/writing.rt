@@ -7,22 +7,28 @@ ghost use Rattle.hz_report.specs.Reports.{text_of, IsTellable};
 use super::drilled::put_drill;
 use super::faults::put_fault;
 use super::limits::{put_automaton, put_bytes, put_checked, put_insns};
-use super::outcomes::{put_accepted, put_file, put_memory, put_refused, put_usage};
+use super::outcomes::{put_file, put_memory, put_usage};
+use super::replayed::put_replayed;
 use super::report::Report;
 use super::scheduled::put_schedule;
 use hz_io::{Failed, Sink};
 use hz_listing::write_state;
+use std::alloc::Global;
 
 /// Writes the text of a report: all of it, or a front of it if the sink failed, with one more fault. It takes no memory.
-/// The slots of a schedule are of instructions of its graph, and these of classes of its machine.
-pub fn write_report<S: Sink>(report: &Report<'_>, out: &mut S) -> Result<(), Failed>
+/// The outcome of a replay is that of its events over its machine, and they are of its classes and units. The slots of a
+/// schedule are of instructions of its graph, and these of classes of its machine.
+pub fn write_report<S: Sink>(alloc: Global, report: &Report<'_>, out: &mut S) -> Result<(), Failed>
     requires sink { S.faults out.old < 2 ^ 64 - 1 }
     requires range { IsTellable report.now }
     ensures { Writes S.written S.room S.faults out.old out.new (text_of report.now) result }
 {
     match *report {
-        Report::Accepted { issues, cycles } => put_accepted(out, issues, cycles),
-        Report::Refused { line, class } => put_refused(out, line, class),
+        Report::Replayed {
+            machine,
+            events,
+            outcome,
+        } => put_replayed(alloc, out, machine, events, outcome),
         Report::Scheduled {
             machine,
             graph,

@@ -11,7 +11,7 @@ use Rattle.std.proofs.lemmas.List.Elements.{All-get_or, All-contains, All-map, C
 use Rattle.std.proofs.lemmas.Option.{slice_get-get_or}
 use Rattle.hz_base_model.proofs.Elements.{Contains-map}
 use Rattle.hz_acceptance_model.specs.Accepting.Events.{Event, issue, advance}
-use Rattle.hz_automata_model.specs.Tables.Machines.{Part, Machine, no_part, part_at, parts_walk, machine_walk, starts_of, onto_states, word_of, IsPart, IsMachine, IsWalked}
+use Rattle.hz_automata_model.specs.Tables.Machines.{advance_of, Part, Machine, no_part, part_at, parts_walk, machine_walk, starts_of, onto_states, word_of, IsPart, IsMachine, IsWalked}
 use Rattle.hz_automata_model.proofs.Tables.TableLaws.{walk_stays}
 use Rattle.hz_automata_model.proofs.Tables.MachineLaws.{machine_walk-each, machine_walk-part}
 use Rattle.hz_replay.specs.Replaying.{Standing, AreStates}
@@ -53,7 +53,7 @@ walked_states m is t states h = record { each = each; within = within }
         let kept : IsPart (length m.classes) part = All-get_or (IsPart (length m.classes)) m.parts i no_part lt is.parts in
         let here = machine_walk-part m t states h i part (slice_get-get_or m.parts i no_part lt) in
         let there : slice_get states i ≡ Some (get_or states i 0) = slice_get-get_or states i 0 (omega (arith, each)) in
-        walk_stays part.rows part.columns kept.table (Some 0) (λ s e. let same : 0 ≡ s = cc in subst (λ (n : ℕ). n < length part.rows) same (kept.table).start) (get_or states i 0) (word_of part t) (sym here ∙ there)
+        walk_stays part.rows (advance_of part) kept.table (Some 0) (λ s e. let same : 0 ≡ s = cc in subst (λ (n : ℕ). n < length part.rows) same (kept.table).start) (get_or states i 0) (word_of part t) (sym here ∙ there)
 
 nothing_walked : (parts : List Part) → parts_walk parts (replicate (length parts) 0) [] ≡ Some (replicate (length parts) 0)
 nothing_walked [] = refl

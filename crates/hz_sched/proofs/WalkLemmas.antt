@@ -5,7 +5,7 @@ use Rattle.std.proofs.lemmas.Bool.{ltb-false}
 use Rattle.std.proofs.lemmas.List.{replicate-append-replicate, append-nil}
 use Rattle.hz_acceptance_model.specs.Accepting.Events.{Event, advance}
 use Rattle.hz_automata_model.specs.Tables.Tables.{walk}
-use Rattle.hz_automata_model.specs.Tables.Machines.{Part, Machine, word_of, part_walk, parts_walk, machine_walk, starts_of, onto_states}
+use Rattle.hz_automata_model.specs.Tables.Machines.{advance_of, Part, Machine, word_of, part_walk, parts_walk, machine_walk, starts_of, onto_states}
 use Rattle.hz_automata_model.proofs.Tables.MachineLaws.{word_of-append, parts_walk-append}
 use Rattle.hz_block_model.specs.Scheduling.Schedules.{advance_to}
 
@@ -20,17 +20,17 @@ behind t s u same part = word_of-append part t s ∙ (ap (λ (w : List ℕ). wor
 
 pub adds : (n k : ℕ) (u : List Event) → SameWords (advance n ∷ advance k ∷ u) (advance (n + k) ∷ u)
 adds n k u part =
-    sym (append_assoc (replicate n part.columns) (replicate k part.columns) (word_of part u))
-    ∙ ap (λ (w : List ℕ). w ++ word_of part u) (replicate-append-replicate n k part.columns)
+    sym (append_assoc (replicate n (advance_of part)) (replicate k (advance_of part)) (word_of part u))
+    ∙ ap (λ (w : List ℕ). w ++ word_of part u) (replicate-append-replicate n k (advance_of part))
 
 pub advances : (cycle later : ℕ) (u : List Event) → cycle ≤ later → SameWords (advance_to cycle later ++ u) (advance (later - cycle) ∷ u)
 advances cycle later u le part = go (nat_lt cycle later) refl
   where
-    go : (b : Bool) → nat_lt cycle later ≡ b → word_of part (cond b (advance (later - cycle) ∷ []) [] ++ u) ≡ replicate (later - cycle) part.columns ++ word_of part u
+    go : (b : Bool) → nat_lt cycle later ≡ b → word_of part (cond b (advance (later - cycle) ∷ []) [] ++ u) ≡ replicate (later - cycle) (advance_of part) ++ word_of part u
     go true h = refl
     go false h =
         let none : 0 ≡ later - cycle = let above = ltb-false cycle later h in omega arith in
-        ap (λ (n : ℕ). replicate n part.columns ++ word_of part u) none
+        ap (λ (n : ℕ). replicate n (advance_of part) ++ word_of part u) none
 
 parts_same : (parts : List Part) (states : List ℕ) (s t : List Event) → SameWords s t → parts_walk parts states s ≡ parts_walk parts states t
 parts_same [] states s t same = refl

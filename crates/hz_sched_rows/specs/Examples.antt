@@ -9,7 +9,7 @@ stuck = record { columns = 1; rows = (None ∷ Some 0 ∷ []) ∷ [] }
 
 -- an automaton of that table
 abbrev pub stuck_part : List ℕ → Part
-stuck_part name = record { name = name; map = 0 ∷ []; columns = 1; rows = stuck.rows }
+stuck_part name = record { name = name; map = 0 ∷ []; columns = 1; asks = []; rows = stuck.rows }
 
 -- the machine of that automaton alone
 abbrev pub stuck_machine : (class name : List ℕ) → Machine

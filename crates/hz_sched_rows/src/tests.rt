@@ -2,7 +2,9 @@
 
 ghost use Rattle.std.specs.Prelude.{◌≡◌, ◌≤◌, ◌<◌, ◌^◌, length, All};
 ghost use Rattle.hz_acceptance_model.specs.Traces.TraceLimits.{advance_limit};
+ghost use Rattle.hz_acceptance_model.specs.Accepting.Asking.{IsOfQuery};
 ghost use Rattle.hz_acceptance_model.specs.Accepting.Events.{cycles_of, IsOfClass};
+ghost use Rattle.hz_automata_model.specs.Tables.MachineNames.{names_of_machine};
 ghost use Rattle.hz_replay.specs.Traces.{events_in};
 ghost use Rattle.hz_tables.specs.Machines.{machine_of};
 
@@ -55,6 +57,7 @@ fn outcome_of<L: Ledger>(
     requires parts { blank.parts ≡ L.parts }
     requires some { 0 < blank.parts }
     requires classes { All (IsOfClass (length machine.now.classes.items)) (events_in events.now) }
+    requires asks { All (IsOfQuery (names_of_machine (machine_of machine.now)).queries) (events_in events.now) }
     requires short { cycles_of (events_in events.now) ≤ advance_limit }
     requires few { length events.now < 2 ^ 32 }
 {
@@ -88,7 +91,7 @@ fn slots_text(
     Ok(text)
 }
 
-/// Each event: its line, and the class of an issue or the cycles of an advance.
+/// Each event: its line, and the class of an issue, the cycles of an advance or the numbers of a unit that is asked for.
 fn events_text(alloc: Global, machine: &Machine, events: &[Event]) -> Result<String, Fail> {
     let mut text = String::new(alloc);
     for event in events {
@@ -98,6 +101,7 @@ fn events_text(alloc: Global, machine: &Machine, events: &[Event]) -> Result<Str
                 format!(in alloc; "{}:{class} ", event.line)?
             }
             What::Advance(cycles) => format!(in alloc; "{}:+{cycles} ", event.line)?,
+            What::Ask { part, ask } => format!(in alloc; "{}:?{part}.{ask} ", event.line)?,
         };
         text.push_str(one.as_str())?;
     }

@@ -12,7 +12,7 @@ use Rattle.hz_base_model.proofs.Ascending.{AllPairs-append, AllPairs-map, AllPai
 use Rattle.hz_grid.specs.Rows.{has_unit, HasUnit}
 use Rattle.hz_grid.specs.Grids.{Holds, IsGrid}
 use Rattle.hz_tabtext_model.specs.Texts.{pair_field}
-use Rattle.hz_tabfile.specs.Pages.{spaced, unit_text, pairs_text}
+use Rattle.hz_tabfile.specs.Spaced.{spaced, unit_text, pairs_text}
 use Rattle.hz_base_model.proofs.PairOrder.{Precedes_asymmetric, precedes_from, lower_unit, grid_one}
 use Rattle.std.specs.Ordering.{nat_cmp}
 use Rattle.std.specs.FinMap.{nat_cmp-IsAntisymmetric}

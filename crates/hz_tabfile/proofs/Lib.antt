@@ -1,14 +1,15 @@
 pub mod Pieces
 pub mod Numbers
 pub mod Each
+pub mod Asks
 pub mod Told
 pub mod Many
 pub mod Shapes
 pub mod Whole
-pub mod Adding
 pub mod LineTexts
 pub mod GridTexts
 pub mod PartTexts
 pub mod PartsThere
+pub mod Asked
 pub mod Ranges
 pub mod Sayable

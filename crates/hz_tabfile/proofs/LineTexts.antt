@@ -4,8 +4,9 @@ use Rattle.std.specs.List.{flat_map, join_with_byte}
 use Rattle.std.proofs.lemmas.List.{append-nil, append_assoc}
 use Rattle.hz_tabtext_model.specs.Texts.{joined, line_text}
 use Rattle.std.proofs.lemmas.List.Folds.{flat_map-map}
-use Rattle.hz_tabfile.specs.Pages.{spaced, Added, Stopped, Adds}
-use Rattle.hz_tabfile.proofs.Adding.{added_then_stopped, stopped_before, adds_then}
+use Rattle.hz_io.specs.Pages.{Added, Stopped, Adds}
+use Rattle.hz_tabfile.specs.Spaced.{spaced}
+use Rattle.hz_io.proofs.Adding.{added_then_stopped, stopped_before, adds_then}
 
 -- fields, each behind a space
 abbrev pub all_spaced : List (List ℕ) → List ℕ

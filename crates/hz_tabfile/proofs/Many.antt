@@ -25,32 +25,32 @@ told_same fault r s e h = subst (Tells fault) e h
 abbrev pub with_front : {A : Type 0} → List A → Result (List A × Rest) Fault → Result (List A × Rest) Fault
 with_front front found = found >>= λ x. Ok (front ++ x.0, x.1)
 
-module _ {A : Type 0} (read : Rest → Result (A × Rest) Fault) where
+module _ {S A : Type 0} (next : S → A → S) (read : S → Rest → Result (A × Rest) Fault) where
   regroup : (front : List A) (x : A) (found : Result (List A × Rest) Fault) → with_front front (found >>= λ y. Ok (x ∷ y.0, y.1)) ≡ with_front (front ++ x ∷ []) found
   regroup front x (Ok y) = ap (λ (xs : List A). Ok (xs, y.1)) (sym (append_assoc front (x ∷ []) y.0))
   regroup front x (Err fault) = refl
 
-  module _ (front : List A) (count i : ℕ) (rest : Rest) (total : Result (List A × Rest) Fault) (so_far : with_front front (so_many (count - i) read rest) ≡ total) where
-    pub many_goes : (x : A) (after : Rest) → i < count → read rest ≡ Ok (x, after) → with_front (front ++ x ∷ []) (so_many (count - (i + 1)) read after) ≡ total
+  module _ (front : List A) (count i : ℕ) (known : S) (rest : Rest) (total : Result (List A × Rest) Fault) (so_far : with_front front (so_many next read (count - i) known rest) ≡ total) where
+    pub many_goes : (x : A) (after : Rest) (later : S) → i < count → next known x ≡ later → read known rest ≡ Ok (x, after) → with_front (front ++ x ∷ []) (so_many next read (count - (i + 1)) later after) ≡ total
     unfolding so_many
-    many_goes x after lt h =
+    many_goes x after later lt is h =
         let k : count - i ≡ suc (count - (i + 1)) = omega arith in
-        let one : with_front front (so_many (count - i) read rest) ≡ with_front (front ++ x ∷ []) (so_many (count - (i + 1)) read after) = rw (k, h) (regroup front x (so_many (count - (i + 1)) read after)) in
-        sym one ∙ so_far
+        let one : with_front front (so_many next read (count - i) known rest) ≡ with_front (front ++ x ∷ []) (so_many next read (count - (i + 1)) (next known x) after) = rw (k, h) (regroup front x (so_many next read (count - (i + 1)) (next known x) after)) in
+        subst (λ (s : S). with_front (front ++ x ∷ []) (so_many next read (count - (i + 1)) s after) ≡ total) is (sym one ∙ so_far)
 
-    pub many_stops : (fault : TabFault) → i < count → Tells fault (read rest) → Tells fault total
+    pub many_stops : (fault : TabFault) → i < count → Tells fault (read known rest) → Tells fault total
     unfolding so_many
     many_stops fault lt h =
         let k : count - i ≡ suc (count - (i + 1)) = omega arith in
-        let more : A × Rest → Result (List A × Rest) Fault = λ first. so_many (count - (i + 1)) read first.1 >>= λ others. Ok (first.0 ∷ others.0, others.1) in
-        let is : with_front front (so_many (count - i) read rest) ≡ with_front front (read rest >>= more) = rw k refl in
-        told_same fault (with_front front (read rest >>= more)) total (sym is ∙ so_far) (told_first fault (read rest >>= more) (λ x. Ok (front ++ x.0, x.1)) (told_first fault (read rest) more h))
+        let more : A × Rest → Result (List A × Rest) Fault = λ first. so_many next read (count - (i + 1)) (next known first.0) first.1 >>= λ others. Ok (first.0 ∷ others.0, others.1) in
+        let is : with_front front (so_many next read (count - i) known rest) ≡ with_front front (read known rest >>= more) = rw k refl in
+        told_same fault (with_front front (read known rest >>= more)) total (sym is ∙ so_far) (told_first fault (read known rest >>= more) (λ x. Ok (front ++ x.0, x.1)) (told_first fault (read known rest) more h))
 
     pub many_ends : count ≤ i → total ≡ Ok (front, rest)
     unfolding so_many
     many_ends le =
         let k : count - i ≡ 0 = omega arith in
-        let one : with_front front (so_many (count - i) read rest) ≡ Ok (front, rest) = rw k (ap (λ (xs : List A). Ok (xs, rest)) (append-nil front)) in
+        let one : with_front front (so_many next read (count - i) known rest) ≡ Ok (front, rest) = rw k (ap (λ (xs : List A). Ok (xs, rest)) (append-nil front)) in
         sym so_far ∙ one
 
   pub many_starts : (found : Result (List A × Rest) Fault) → with_front [] found ≡ found

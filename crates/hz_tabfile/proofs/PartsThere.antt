@@ -23,7 +23,7 @@ use Rattle.hz_tabfile.specs.Saying.{parts_says, IsSayable, IsWritable, AreWritab
 use Rattle.hz_tabfile.proofs.PartTexts.{made_there, made_length}
 
 no_automaton : AutomatonParts
-no_automaton = record { name = []; units = []; statements = [] }
+no_automaton = record { name = []; units = []; queries = []; statements = [] }
 
 no_report : Report
 no_report = record { grids = 0; states = 0; members = 0; shown = None }
@@ -92,6 +92,7 @@ are_writable all checked can =
           record {
             table = is.table;
             columns = omega (arith, most, few_classes);
+            asks = is.asks;
             few_units = checked.kept.units a no_automaton automaton;
             told = told_some (IsShownOf (automaton_at (map automaton_of automata) a).units (slice_index_or (map part_of parts) a no_part)) (shows_states (options_of all.options)) (report_at (reports_of reports) a).shown (can.shown a automaton);
           };

@@ -6,5 +6,5 @@ pub mod Lines
 pub mod Given
 pub mod Rests
 pub mod Texts
-pub mod Pages
+pub mod Spaced
 pub mod Saying

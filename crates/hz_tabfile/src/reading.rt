@@ -10,6 +10,7 @@ mod numbers;
 mod operands;
 mod pairs;
 mod rest;
+mod size;
 mod text;
 mod told;
 mod wrong;

@@ -10,7 +10,6 @@ ghost use Rattle.hz_tabfile.specs.Saying.{IsSayable, says};
 
 pub mod laws;
 mod lines;
-mod page;
 mod parts;
 mod ranges;
 mod rows;
@@ -18,8 +17,8 @@ mod shown;
 
 use hz_auto::Compiled;
 use hz_check::Checked;
+use hz_io::page::{Page, flush};
 use hz_io::{Failed, Sink};
-use page::{Page, flush};
 use parts::add_tables;
 use ranges::is_in_range;
 

@@ -1,3 +1,5 @@
 pub mod LayLaws
 pub mod PackedLaws
 pub mod RowLaws
+pub mod NameLaws
+mod PartLaws

@@ -8,12 +8,17 @@ use Rattle.hz_automata_model.specs.Tables.StateLimits.{state_limit}
 use Rattle.hz_automata_model.specs.Tables.Tables.{Table, row_of, entry}
 use Rattle.hz_automata_model.specs.Tables.AskColumns.{column_limit}
 use Rattle.hz_automata_model.specs.Combs.Combs.{Comb, place_at, laid, rows_in, entries_of}
-use Rattle.hz_automata_model.proofs.Combs.CombLaws.{rows_in-each, rows_in-entry, rows_in-entries, rows_in-table}
+use Rattle.hz_automata_model.proofs.Combs.CombLaws.{rows_in-each, rows_in-width, rows_in-entry, rows_in-entries, rows_in-table}
 use Rattle.hz_tables.specs.Laying.{IsLaid}
 use Rattle.hz_tables.specs.Packing.{Packing, packing_of, IsPacked}
 
 pub states_kept : (comb : Comb) (seen : Packing) → packing_of comb ≡ seen → length seen.rows ≡ length comb.bases
 states_kept comb seen is = ap (λ p. length p.rows) (sym is) ∙ rows_in-each comb
+
+pub wide_kept : (comb : Comb) (seen : Packing) → packing_of comb ≡ seen → (state : ℕ) → state < length seen.rows → length (row_of seen.rows state) ≡ seen.columns + 1
+wide_kept comb seen is state within =
+    let each = states_kept comb seen is in
+    subst (λ (p : Packing). length (row_of p.rows state) ≡ p.columns + 1) is (rows_in-width comb state (omega (arith, each, within)))
 
 pub place_kept : (comb : Comb) (seen : Packing) → packing_of comb ≡ seen → IsPacked comb → (state column : ℕ) → state < length seen.rows → column ≤ seen.columns
     → (state < length comb.bases) × (place_at comb state column < length comb.owners)

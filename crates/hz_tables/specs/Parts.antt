@@ -1,5 +1,5 @@
 -- What a machine's types are as definitions.
-use Rattle.std.specs.Prelude.{ℕ, ◌<◌, ◌≤◌, length}
+use Rattle.std.specs.Prelude.{ℕ, ◌-◌, ◌<◌, ◌≤◌, length}
 use Rattle.hz_automata_model.specs.Tables.Tables.{Table}
 use Rattle.hz_automata_model.specs.Tables.Machines as model
 use Rattle.hz_tables.specs.declared.table.Table as kept
@@ -34,6 +34,6 @@ IsPlain (forms.One packed) = ⊥
 IsPlain (forms.Two packed) = ⊥
 IsPlain (forms.Four packed) = ⊥
 
--- a part as a definition
+-- A part as a definition. Its table has the columns of its classes, one for each ask, and the advance.
 abbrev pub part_of : declared.Part → model.Part
-part_of part = record { name = part.name; map = part.map.items; columns = columns_of part.table; rows = rows_of part.table }
+part_of part = record { name = part.name; map = part.map.items; columns = columns_of part.table - length part.asks.items; asks = part.asks.items; rows = rows_of part.table }

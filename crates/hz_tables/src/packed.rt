@@ -2,7 +2,7 @@
 
 ghost use Rattle.std.specs.Prelude.{◌≡◌, ℕ, ◌+◌, ◌*◌, ◌<◌, ◌≤◌, ◌^◌, Some, length, IfOk, All, IsTrue};
 ghost use Rattle.hz_automata_model.specs.Tables.StateLimits.{state_limit};
-ghost use Rattle.hz_automata_model.specs.Tables.Tables.{entry};
+ghost use Rattle.hz_automata_model.specs.Tables.Tables.{entry, row_of};
 ghost use Rattle.hz_automata_model.specs.Combs.Combs.{entries_of};
 ghost use Rattle.hz_tables.specs.Packing.{packing_of, IsPacked};
 ghost use Rattle.hz_tables.specs.Widths.{is_width};
@@ -84,6 +84,13 @@ impl<const W: usize> Packed<W> {
         ensures { result ≡ self.now.columns }
     {
         self.columns
+    }
+
+    /// Each row has an entry for each column and the advance. It does nothing.
+    pub(crate) fn wide(&self)
+        ensures { (state : ℕ) → state < length self.now.rows → length (row_of self.now.rows state) ≡ self.now.columns + 1 }
+    {
+        let _bases = &self.bases;
     }
 
     /// How many places the rows take: at least one for each entry that is not none, and at most those of full rows. It takes

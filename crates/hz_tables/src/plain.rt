@@ -1,9 +1,9 @@
 //! A table that is kept row by row.
 
-ghost use Rattle.std.specs.Prelude.{◌≡◌, ◌+◌, ◌*◌, ◌<◌, ◌≤◌, [], ◌∷◌, ◌++◌, length, OnOk, OnErr, vec_len};
+ghost use Rattle.std.specs.Prelude.{◌≡◌, ℕ, ◌+◌, ◌*◌, ◌<◌, ◌≤◌, [], ◌∷◌, ◌++◌, length, OnOk, OnErr, vec_len};
 ghost use Rattle.hz_automata_model.specs.Tables.AskColumns.{column_limit};
 ghost use Rattle.hz_automata_model.specs.Tables.StateLimits.{state_limit};
-ghost use Rattle.hz_automata_model.specs.Tables.Tables.{entry};
+ghost use Rattle.hz_automata_model.specs.Tables.Tables.{entry, row_of};
 ghost use Rattle.hz_tables.specs.Rows.{AreStates, KeepsRows};
 
 /// No memory was left for the answer.
@@ -76,6 +76,13 @@ impl Plain {
     {
         let _cells = &self.cells;
         self.columns
+    }
+
+    /// Each row has an entry for each column and the advance. It does nothing.
+    pub(crate) fn wide(&self)
+        ensures { (state : ℕ) → state < length self.now.rows → length (row_of self.now.rows state) ≡ self.now.columns + 1 }
+    {
+        self.columns();
     }
 
     /// The next state, or none: one read. The column after the others is the advance. It takes no memory.

@@ -2,7 +2,7 @@
 
 ghost use Rattle.std.specs.Prelude.{◌≡◌, ◌+◌, ◌<◌, ◌≤◌, ℕ, Some, length, IfOk};
 ghost use Rattle.hz_automata_model.specs.Tables.StateLimits.{state_limit};
-ghost use Rattle.hz_automata_model.specs.Tables.Tables.{entry};
+ghost use Rattle.hz_automata_model.specs.Tables.Tables.{entry, row_of};
 
 use crate::{NoMemory, Packed, Plain, Steps};
 use std::alloc::Global;
@@ -67,6 +67,13 @@ impl Table {
         ensures { result ≡ columns_of self.now }
     {
         in_form!(self, plain => plain.columns(), packed => packed.columns())
+    }
+
+    /// Each row has an entry for each column and the advance. It does nothing.
+    pub fn wide(&self)
+        ensures { (state : ℕ) → state < length (rows_of self.now) → length (row_of (rows_of self.now) state) ≡ columns_of self.now + 1 }
+    {
+        in_form!(self, plain => plain.wide(), packed => packed.wide())
     }
 
     /// The next state, or none. It takes at most three steps, a step being one read of a cell, and no memory.

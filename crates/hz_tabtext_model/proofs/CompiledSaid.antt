@@ -1,73 +1,31 @@
 -- A machine that is compiled of the parts of a description without a fault can be said.
 use Rattle.std.proofs.Common.{◌≡◌, ℕ, ◌+◌, ◌<◌, ◌≤◌, ⊎_elim, Bool, true, false, List, [], ◌∷◌, map, length, get_or, Contains, Option, Some, None, slice_get, refl, sym, ap, ◌∙◌, subst, arith}
 use Rattle.std.specs.Prelude.{All, MatchBool, IsSomeAnd, slice_index_or}
-use Rattle.std.specs.List.{AllByRecursion}
 use Rattle.std.proofs.lemmas.Bool.{cases_lt}
-use Rattle.std.proofs.lemmas.List.{length-map, get_or-map, get_or_past, get_or_default}
-use Rattle.std.proofs.lemmas.List.Elements.{All-from_recursion, All-contains, All-from_get_or, Contains-get_or, Contains-append_cases}
+use Rattle.std.proofs.lemmas.List.{length-map, get_or-map, get_or_default}
+use Rattle.std.proofs.lemmas.List.Elements.{All-contains, All-from_get_or, Contains-get_or, Contains-append_cases}
 use Rattle.std.proofs.lemmas.Option.{slice_get-get_or, slice_get_past, get_or_from_slice_get}
 use Rattle.hz_base_model.specs.Pairs.{Pair, later, placed}
 use Rattle.hz_base_model.proofs.Elements.{Contains-nil, Contains-from_map}
 use Rattle.hz_description_model.specs.Reservations.Alternatives.{Alternative}
-use Rattle.hz_acceptance_model.specs.Accepting.Events.{Event, issue, advance, ask, IsOfClass}
+use Rattle.hz_acceptance_model.specs.Accepting.Events.{Event, issue, advance, ask}
 use Rattle.hz_acceptance_model.specs.Accepting.Replay.{Class, Pipeline, of_class, alternatives_at, pairs_at, chosen, calendar}
 use Rattle.hz_acceptance_model.specs.Accepting.Restricted.{of_pairs}
 use Rattle.hz_description_model.specs.Reading.Descriptions.{Options}
 use Rattle.hz_description_model.specs.Check.CheckedParts.{AutomatonParts, ClassParts, BypassParts}
 use Rattle.hz_description_model.specs.Check.CheckedShape.{IsKept}
-use Rattle.hz_automata_model.specs.Tables.Tables.{row_of, entry, walk, IsTable, IsReached}
-use Rattle.hz_automata_model.specs.Tables.Machines.{Part, Machine, IsMachine, part_at, no_part, column_of, word_of, part_walk}
+use Rattle.hz_automata_model.specs.Tables.Tables.{walk, IsReached}
+use Rattle.hz_automata_model.specs.Tables.Machines.{Part, Machine, IsMachine, part_at, no_part, part_walk, IsPart}
 use Rattle.hz_automata_model.specs.Reaching.Reach.{Leaves}
 use Rattle.hz_automata_model.specs.Reaching.Columns.{class_of_grids}
-use Rattle.hz_automata_model.specs.Compiling.AutomatonPipelines.{automaton_at, lists_at, automaton_pipeline}
-use Rattle.hz_automata_model.specs.Compiling.ClassColumns.{IsColumns}
+use Rattle.hz_automata_model.specs.Compiling.AutomatonPipelines.{automaton_at, lists_at, automaton_pipeline, no_automaton}
 use Rattle.hz_automata_model.specs.Compiling.Compiled as compiled
 use Rattle.hz_automata_model.specs.Compiling.Compiled.{Report, report_at, shows_states, IsShown, IsCompiledPart, IsCompiled}
 use Rattle.hz_tabtext_model.specs.Said.{IsShownOf, CanBeSaid}
-
--- ---- events that lead to a state
-
-module _ (part : Part) (lists columns : List (List (List (Pair ℕ)))) (table : IsTable part.rows part.columns) (shared : IsColumns lists columns part.map) (number : length columns ≡ part.columns) where
-  -- an entry that is there has a column
-  inside_row : (state column next : ℕ) → state < length part.rows → entry part.rows state column ≡ Some next → column ≤ part.columns
-  inside_row state column next low e =
-      ⊎_elim
-      (λ (lt : column < part.columns + 1). let h : column ≤ part.columns = omega (arith, lt) in h)
-      (λ (past : part.columns + 1 ≤ column).
-      let none : entry part.rows state column ≡ None = get_or_past (row_of part.rows state) column None (omega (arith, past, table.width state low)) in
-      absurd (cc))
-      (cases_lt column (part.columns + 1))
-
-  -- an event that takes a column
-  event_for : (column : ℕ) → column ≤ part.columns → (e : Event) × IsOfClass (length lists) e × ((t : List Event) → word_of part (e ∷ t) ≡ column ∷ word_of part t)
-  event_for column most =
-      ⊎_elim
-      (λ (lt : column < part.columns).
-      let found = shared.first column (omega (arith, lt, number)) in
-      let k : ℕ = found.0 in
-      let inside : k < length part.map = omega (arith, found.1, shared.each) in
-      let same : column_of part k ≡ column = get_or_default part.map k (part.columns + 1) 0 inside ∙ found.2 in
-      (issue k, found.1, λ t. ap (λ (n : ℕ). n ∷ word_of part t) same))
-      (λ (past : part.columns ≤ column).
-      let same : part.columns ≡ column = omega (arith, past, most) in
-      (advance 1, tt, λ t. ap (λ (n : ℕ). n ∷ word_of part t) same))
-      (cases_lt column part.columns)
-
-  -- events from a state
-  abbrev Leads : List ℕ → ℕ → Type 0
-  Leads w to = (from : ℕ) → from < length part.rows → walk part.rows (Some from) w ≡ Some to → (t : List Event) × AllByRecursion (IsOfClass (length lists)) t × (word_of part t ≡ w)
-
-  onward : (w : List ℕ) (to : ℕ) → Leads w to → (column from : ℕ) (next : Option ℕ) → from < length part.rows → entry part.rows from column ≡ next → walk part.rows next w ≡ Some to → (t : List Event) × AllByRecursion (IsOfClass (length lists)) t × (word_of part t ≡ column ∷ w)
-  onward w to leads column from None low is e = absurd (cc)
-  onward w to leads column from (Some next) low is e =
-      let event = event_for column (inside_row from column next low is) in
-      let rest = leads next (table.targets from column next is) e in
-      (event.0 ∷ rest.0, (event.1, rest.1), event.2 rest.0 ∙ ap (λ (u : List ℕ). column ∷ u) rest.2)
-
-  -- events that take the columns of a walk
-  events_from : (w : List ℕ) (to : ℕ) → Leads w to
-  events_from [] to = λ from low e. ([], tt, refl)
-  events_from (column ∷ w) to = λ from low e. onward w to (events_from w to) column from (entry part.rows from column) low refl e
+use Rattle.hz_automata_model.specs.Tables.AskColumns.{row_without_asks}
+use Rattle.hz_automata_model.proofs.Single.WordLaws.{spell}
+use Rattle.hz_automata_model.proofs.Single.PartLaws.{filled_part}
+use Rattle.hz_automata_model.proofs.Asks.BareWords.{bare, bare_columns, bare_walk}
 
 -- ---- units of what is left
 
@@ -156,35 +114,34 @@ module _ (options : Options) (automata : List AutomatonParts) (classes : List Cl
       by_class i d inside =
           let first : (c : ClassParts) × (slice_get classes i ≡ Some c) = item classes i inside in
           let same : get_or (lists_at classes a) i d ≡ slice_index_or (get_or classes i first.0).lists a [] = get_or-map (λ (c : ClassParts). slice_index_or c.lists a []) classes i first.0 d inside in
-          let fits = kept.grids i first.0 inside a (automaton_at automata a) (slice_get-get_or automata a (record { name = []; units = []; statements = [] }) low) in
+          let fits = kept.grids i first.0 inside a (automaton_at automata a) (slice_get-get_or automata a no_automaton low) in
           subst (All (AreBelow (length (automaton_at automata a).units))) (sym same) (λ j e in_list k f in_grid. (fits j e in_list k f in_grid).0)
 
-  shown_is : (a : ℕ) → a < length automata → (part : Part) (report : Report) → IsTable part.rows part.columns → IsCompiledPart options.no_minimization options automata classes a part report → (shown : compiled.Shown) → IsShown (length classes) (automaton_pipeline options automata classes a) part shown → IsShownOf (automaton_at automata a).units part shown
-  shown_is a low part report table is shown h =
+  shown_is : (a : ℕ) → a < length automata → (part : Part) (report : Report) → IsPart (length classes) part → IsCompiledPart options.no_minimization options automata classes a part report → (shown : compiled.Shown) → IsShown (length classes) (automaton_pipeline options automata classes a) part shown → IsShownOf (automaton_at automata a).units part shown
+  shown_is a low part report fits is shown h =
       let pipeline : Pipeline ℕ = automaton_pipeline options automata classes a in
       let n : ℕ = length (automaton_at automata a).units in
-      let lists : List (List (List (Pair ℕ))) = lists_at classes a in
-      let many : length lists ≡ length classes = length-map classes (λ (c : ClassParts). slice_index_or c.lists a []) in
-      let chosen_are : (k i : ℕ) → AreBelow n (chosen pipeline k i) = chosen_below n pipeline (lists_below n lists (units_below a low)) in
+      let chosen_are : (k i : ℕ) → AreBelow n (chosen pipeline k i) = chosen_below n pipeline (lists_below n (lists_at classes a) (units_below a low)) in
+      let filled = filled_part options.no_minimization options automata classes a part report is in
       record {
-        places = h.parents.each;
+        places = h.parents.each ∙ length-map part.rows (row_without_asks part.columns (length part.asks));
         each = h.each;
         within = λ state some inside.
-            let read = h.parents.read state some inside in
+            let rows = length-map part.rows (row_without_asks part.columns (length part.asks)) in
+            let read = h.parents.read state some (omega (arith, inside, rows)) in
             let row = read.row in
             (omega (arith, row, inside), read.column);
         named = λ state d inside j e in_state.
             let here : state < length part.rows = omega (arith, inside, h.each) in
             let reached : IsReached part.rows state = is.numbered.reached state here in
-            let start = table.start in
-            let events = events_from part lists is.columns table is.shared is.number reached.0 state 0 (omega (arith, start)) reached.1 in
-            let of_classes : All (IsOfClass (length classes)) events.0 = subst (λ (k : ℕ). All (IsOfClass k) events.0) many (All-from_recursion (IsOfClass (length lists)) events.0 events.1) in
-            let walked : part_walk part 0 events.0 ≡ Some state = ap (walk part.rows (Some 0)) events.2 ∙ reached.1 in
+            let columns = bare part.columns (length part.asks) reached.0 in
+            let s = spell (length classes) part filled columns (bare_columns part.columns (length part.asks) reached.0) in
+            let walked : part_walk part 0 s.events ≡ Some state = ap (walk part.rows (Some 0)) s.word ∙ bare_walk part.rows part.columns (length part.asks) fits.table fits.stays reached.0 0 state reached.1 in
             let grids : List (List (Pair ℕ)) = slice_index_or shown.states state [] in
             let same : get_or shown.states state d ≡ grids = get_or_default shown.states state d [] inside in
             let low_j : j < length grids = subst (λ (gs : List (List (Pair ℕ))). j < length gs) same in_state in
-            let leaves : Leaves pipeline events.0 (get_or grids j e) = (h.left events.0 state of_classes walked).only (get_or grids j e) (Contains-get_or grids j e low_j) in
-            subst (λ (gs : List (List (Pair ℕ))). AreBelow n (get_or gs j e)) (sym same) (left_below n pipeline chosen_are events.0 (get_or grids j e) leaves);
+            let leaves : Leaves pipeline s.events (get_or grids j e) = (h.left s.events state s.inside walked).only (get_or grids j e) (Contains-get_or grids j e low_j) in
+            subst (λ (gs : List (List (Pair ℕ))). AreBelow n (get_or gs j e)) (sym same) (left_below n pipeline chosen_are s.events (get_or grids j e) leaves);
       }
 
   pub can_be_said : (m : Machine) (reports : List Report) → IsMachine m → IsCompiled options automata classes m reports → CanBeSaid options automata reports m
@@ -196,7 +153,8 @@ module _ (options : Options) (automata : List AutomatonParts) (classes : List Cl
         let inside : a < length m.parts = omega (arith, low, each) in
         let part : Part = part_at m a in
         let report : Report = report_at reports a in
-        let table : IsTable part.rows part.columns = (machine.parts a no_part inside).table in
+        let count : length m.classes ≡ length classes = ap length is.names ∙ length-map classes (λ (c : ClassParts). c.name) in
+        let fits : IsPart (length classes) part = subst (λ (n : ℕ). IsPart n part) count (machine.parts a no_part inside) in
         let told = is.parts a low in
-        told_as (IsShown (length classes) (automaton_pipeline options automata classes a) part) (IsShownOf (automaton_at automata a).units part) (λ s h. shown_is a low part report table told s h) (shows_states options) report.shown told.shown;
+        told_as (IsShown (length classes) (automaton_pipeline options automata classes a) part) (IsShownOf (automaton_at automata a).units part) (λ s h. shown_is a low part report fits told s h) (shows_states options) report.shown told.shown;
   }

@@ -4,10 +4,10 @@ use Rattle.std.proofs.Common.{◌≡◌, ◌≢◌, ℕ, zero, suc, ◌+◌, ◌
 use Rattle.hz_automata_model.specs.Tables.Machines.{Part, Machine}
 use Rattle.hz_tabtext_model.specs.Judging.{Kind, truncated, trailing, Fault, ◌>>=◌}
 use Rattle.hz_tabtext_model.specs.Fields.{is_nil, fields_of, is_headed}
-use Rattle.hz_tabtext_model.specs.Lines.{Nothing, header_in, treatment_in, classes_in, class_in, automata_in, Head, head_in, map_in, counts_in, row_in, origin_in, grid_in, end_in}
-use Rattle.hz_tabtext_model.specs.Reading.{Rest, at_line, judged, first_by, line_by, so_many, classes_at, comes, counts_at, grids_from, shown_at, row_at, part_at, is_over, machine_at}
+use Rattle.hz_tabtext_model.specs.Lines.{Nothing, header_in, treatment_in, classes_in, class_in, automata_in, Head, head_in, map_in, counts_in, row_in, origin_in, grid_in, end_in, asks_in}
+use Rattle.hz_tabtext_model.specs.Reading.{Rest, at_line, judged, first_by, line_by, so_many, classes_at, comes, counts_at, grids_from, shown_at, row_at, part_at, is_over, machine_at, next_row, more_asks, asks_at}
 use Rattle.hz_tabtext_model.specs.Faults.{truncated_at, trailing_at}
-use Rattle.hz_tabtext_model.proofs.FineLines.{IsOfLine, Fine, header_fine, treatment_fine, classes_fine, class_fine, automata_fine, head_fine, map_fine, counts_fine, row_fine, origin_fine, grid_fine, end_fine}
+use Rattle.hz_tabtext_model.proofs.FineLines.{IsOfLine, Fine, header_fine, treatment_fine, classes_fine, class_fine, automata_fine, head_fine, map_fine, counts_fine, row_fine, origin_fine, grid_fine, end_fine, asks_fine}
 
 -- what is left of a text
 abbrev pub rest_at : ℕ → List (List ℕ) → Rest
@@ -34,8 +34,8 @@ left_behind number others x = Ok (x, rest_at number others)
 abbrev dropped : Rest → Result (Nothing × Rest) Fault
 dropped after = Ok (tt, after)
 
-abbrev pub read_part : Head → List ℕ → List (List (Option ℕ)) → Part
-read_part head map rows = record { name = head.name; map = map; columns = head.columns; rows = rows }
+abbrev pub read_part : Head → List ℕ → List (List ℕ) → List (List (Option ℕ)) → Part
+read_part head map asks rows = record { name = head.name; map = map; columns = head.columns; asks = asks; rows = rows }
 
 abbrev pub read_machine : List (List ℕ) → List Part → Machine
 read_machine classes parts = record { classes = classes; parts = parts }
@@ -128,11 +128,11 @@ module _ (last : List ℕ) (more : List (List ℕ)) (some : is_nil more ≡ fals
     along = λ number lines e. subst (λ r. Both r (g (rest_at number (lines ++ last ∷ [])))) (is (rest_at number (lines ++ more))) (subst (λ r. Both (f (rest_at number (lines ++ more))) r) (is (rest_at number (lines ++ last ∷ []))) (h.along number lines e));
   }
 
-  reads_many : {A : Type 0} (n : ℕ) (read : Rest → Result (A × Rest) Fault) → Reads read → Reads (so_many n read)
+  reads_many : {S A : Type 0} (next : S → A → S) (read : S → Rest → Result (A × Rest) Fault) → ((known : S) → Reads (read known)) → (n : ℕ) (known : S) → Reads (so_many next read n known)
   unfolding so_many
-  reads_many zero read h = reads_done []
-  reads_many (suc n) read h =
-      reads_then (λ x rest. so_many n read rest >>= λ others. Ok (x ∷ others.0, others.1)) (λ x. reads_then (λ xs rest. Ok (x ∷ xs, rest)) (λ xs. reads_done (x ∷ xs)) (so_many n read) (reads_many n read h)) read h
+  reads_many next read h zero known = reads_done []
+  reads_many next read h (suc n) known =
+      reads_then (λ x rest. so_many next read n (next known x) rest >>= λ others. Ok (x ∷ others.0, others.1)) (λ x. reads_then (λ xs rest. Ok (x ∷ xs, rest)) (λ xs. reads_done (x ∷ xs)) (so_many next read n (next known x)) (reads_many next read h n (next known x))) (read known) (h known)
 
   -- ---- lines that may come
 
@@ -243,20 +243,33 @@ module _ (last : List ℕ) (more : List (List ℕ)) (some : is_nil more ≡ fals
       told rest true (Err e) = refl
       told rest false r = refl
 
-  reads_row : (columns states : ℕ) → Reads (row_at columns states)
+  reads_row : (columns asks states number : ℕ) → Reads (row_at columns asks states number)
   unfolding row_at
-  reads_row columns states = reads_then (λ row rest. shown_at columns states rest >>= λ after. Ok (row, after)) (λ row. reads_held (shown_at columns states) (λ after. Ok (row, after)) (shown_held columns states) (reads_done row)) (line_by (row_in columns states)) (reads_line (row_in columns states) (row_fine IsOfLine tt tt tt columns states))
+  reads_row columns asks states number = reads_then (λ row rest. shown_at columns states rest >>= λ after. Ok (row, after)) (λ row. reads_held (shown_at columns states) (λ after. Ok (row, after)) (shown_held columns states) (reads_done row))
+      (line_by (row_in columns asks states number)) (reads_line (row_in columns asks states number) (row_fine IsOfLine tt tt tt columns asks states number))
 
-  -- the states of an automaton, behind its two lines
-  reads_states : (head : Head) (map : List ℕ) → Reads (λ rest. counts_at rest >>= λ after. so_many head.states (row_at head.columns head.states) after >>= λ rows. Ok (read_part head map rows.0, rows.1))
-  reads_states head map = reads_held counts_at (λ after. so_many head.states (row_at head.columns head.states) after >>= λ rows. Ok (read_part head map rows.0, rows.1)) counts_held
-      (reads_then (λ rows rest. Ok (read_part head map rows, rest)) (λ rows. reads_done (read_part head map rows)) (so_many head.states (row_at head.columns head.states)) (reads_many head.states (row_at head.columns head.states) (reads_row head.columns head.states)))
+  -- the asks of an automaton, where lines of asks come
+  reads_asks : (asked : Bool) (columns states : ℕ) (before : List (List ℕ)) → Reads (asks_at asked columns states before)
+  unfolding asks_at
+  reads_asks true columns states before = reads_line (asks_in columns states before) (asks_fine IsOfLine tt tt tt columns states before)
+  reads_asks false columns states before = reads_done []
 
-  reads_part : (classes : ℕ) → Reads (part_at classes)
+  -- the states of an automaton, behind its first lines
+  abbrev states_by : Head → List ℕ → List (List ℕ) → Rest → Result (Part × Rest) Fault
+  states_by head map asks rest = counts_at rest >>= λ after. so_many next_row (row_at head.columns (length asks) head.states) head.states 0 after >>= λ rows. Ok (read_part head map asks rows.0, rows.1)
+
+  reads_states : (head : Head) (map : List ℕ) (asks : List (List ℕ)) → Reads (states_by head map asks)
+  reads_states head map asks = reads_held counts_at (λ after. so_many next_row (row_at head.columns (length asks) head.states) head.states 0 after >>= λ rows. Ok (read_part head map asks rows.0, rows.1)) counts_held
+      (reads_then (λ rows rest. Ok (read_part head map asks rows, rest)) (λ rows. reads_done (read_part head map asks rows)) (so_many next_row (row_at head.columns (length asks) head.states) head.states 0)
+      (reads_many next_row (row_at head.columns (length asks) head.states) (reads_row head.columns (length asks) head.states) head.states 0))
+
+  reads_part : (asked : Bool) (classes : ℕ) (before : List (List ℕ)) → Reads (part_at asked classes before)
   unfolding part_at
-  reads_part classes =
-      reads_then (λ head rest. line_by (map_in classes head.columns) rest >>= λ columns. counts_at columns.1 >>= λ after. so_many head.states (row_at head.columns head.states) after >>= λ rows. Ok (read_part head columns.0 rows.0, rows.1))
-      (λ head. reads_then (λ map rest. counts_at rest >>= λ after. so_many head.states (row_at head.columns head.states) after >>= λ rows. Ok (read_part head map rows.0, rows.1)) (reads_states head) (line_by (map_in classes head.columns)) (reads_line (map_in classes head.columns) (map_fine IsOfLine tt tt tt classes head.columns)))
+  reads_part asked classes before =
+      reads_then (λ head rest. line_by (map_in classes head.columns) rest >>= λ columns. asks_at asked head.columns head.states before columns.1 >>= λ asks. states_by head columns.0 asks.0 asks.1)
+      (λ head. reads_then (λ map rest. asks_at asked head.columns head.states before rest >>= λ asks. states_by head map asks.0 asks.1)
+      (λ map. reads_then (λ asks rest. states_by head map asks rest) (λ asks. reads_states head map asks) (asks_at asked head.columns head.states before) (reads_asks asked head.columns head.states before))
+      (line_by (map_in classes head.columns)) (reads_line (map_in classes head.columns) (map_fine IsOfLine tt tt tt classes head.columns)))
       (line_by (head_in classes)) (reads_line (head_in classes) (head_fine IsOfLine tt tt tt classes))
 
   reads_classes : (n : ℕ) (before : List (List ℕ)) → Reads (classes_at n before)
@@ -345,20 +358,20 @@ module _ (last : List ℕ) (more : List (List ℕ)) (some : is_nil more ≡ fals
     closes_end : Closes at_the_end
     closes_end = record { late = λ rest h. end_late rest.number rest.lines h; stuck = refl; along = end_along }
 
-  closes_automata : (classes : List (List ℕ)) (count : ℕ) → Closes (λ rest. line_by automata_in rest >>= λ automata. so_many automata.0 (part_at count) automata.1 >>= λ parts. line_by end_in parts.1 >>= λ last. close (read_machine classes parts.0) last.1.number last.1.lines)
-  closes_automata classes count =
-      closes_then (λ automata rest. so_many automata (part_at count) rest >>= λ parts. line_by end_in parts.1 >>= λ last. close (read_machine classes parts.0) last.1.number last.1.lines)
-      (λ automata. closes_then (λ parts. at_the_end (read_machine classes parts)) (λ parts. closes_end (read_machine classes parts)) (so_many automata (part_at count)) (reads_many automata (part_at count) (reads_part count)))
+  closes_automata : (asked : Bool) (classes : List (List ℕ)) (count : ℕ) → Closes (λ rest. line_by automata_in rest >>= λ automata. so_many more_asks (part_at asked count) automata.0 [] automata.1 >>= λ parts. line_by end_in parts.1 >>= λ last. close (read_machine classes parts.0) last.1.number last.1.lines)
+  closes_automata asked classes count =
+      closes_then (λ automata rest. so_many more_asks (part_at asked count) automata [] rest >>= λ parts. line_by end_in parts.1 >>= λ last. close (read_machine classes parts.0) last.1.number last.1.lines)
+      (λ automata. closes_then (λ parts. at_the_end (read_machine classes parts)) (λ parts. closes_end (read_machine classes parts)) (so_many more_asks (part_at asked count) automata []) (reads_many more_asks (part_at asked count) (reads_part asked count) automata []))
       (line_by automata_in) (reads_line automata_in (automata_fine IsOfLine tt tt tt))
 
-  closes_machine : Closes machine_at
+  closes_machine : (asked : Bool) → Closes (machine_at asked)
   unfolding machine_at
-  closes_machine =
-      closes_then (λ treatment rest. line_by classes_in rest >>= λ count. classes_at count.0 [] count.1 >>= λ classes. line_by automata_in classes.1 >>= λ automata. so_many automata.0 (part_at count.0) automata.1 >>= λ parts. line_by end_in parts.1 >>= λ last. close (read_machine classes.0 parts.0) last.1.number last.1.lines)
-      (λ treatment. closes_then (λ count rest. classes_at count [] rest >>= λ classes. line_by automata_in classes.1 >>= λ automata. so_many automata.0 (part_at count) automata.1 >>= λ parts. line_by end_in parts.1 >>= λ last. close (read_machine classes.0 parts.0) last.1.number last.1.lines)
-      (λ count. closes_then (λ classes rest. line_by automata_in rest >>= λ automata. so_many automata.0 (part_at count) automata.1 >>= λ parts. line_by end_in parts.1 >>= λ last. close (read_machine classes parts.0) last.1.number last.1.lines) (λ classes. closes_automata classes count) (classes_at count []) (reads_classes count []))
+  closes_machine asked =
+      closes_then (λ treatment rest. line_by classes_in rest >>= λ count. classes_at count.0 [] count.1 >>= λ classes. line_by automata_in classes.1 >>= λ automata. so_many more_asks (part_at asked count.0) automata.0 [] automata.1 >>= λ parts. line_by end_in parts.1 >>= λ last. close (read_machine classes.0 parts.0) last.1.number last.1.lines)
+      (λ treatment. closes_then (λ count rest. classes_at count [] rest >>= λ classes. line_by automata_in classes.1 >>= λ automata. so_many more_asks (part_at asked count) automata.0 [] automata.1 >>= λ parts. line_by end_in parts.1 >>= λ last. close (read_machine classes.0 parts.0) last.1.number last.1.lines)
+      (λ count. closes_then (λ classes rest. line_by automata_in rest >>= λ automata. so_many more_asks (part_at asked count) automata.0 [] automata.1 >>= λ parts. line_by end_in parts.1 >>= λ last. close (read_machine classes parts.0) last.1.number last.1.lines) (λ classes. closes_automata asked classes count) (classes_at count []) (reads_classes count []))
       (line_by classes_in) (reads_line classes_in (classes_fine IsOfLine tt tt tt)))
       (line_by treatment_in) (reads_line treatment_in (treatment_fine IsOfLine tt tt tt))
 
-  pub closes_text : Closes (λ rest. line_by header_in rest >>= λ header. machine_at header.1)
-  closes_text = closes_then (λ x. machine_at) (λ x. closes_machine) (line_by header_in) (reads_line header_in header_fine)
+  pub closes_text : Closes (λ rest. line_by header_in rest >>= λ header. machine_at header.0 header.1)
+  closes_text = closes_then (λ asked. machine_at asked) (λ asked. closes_machine asked) (line_by header_in) (reads_line header_in header_fine)

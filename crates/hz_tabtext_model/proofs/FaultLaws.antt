@@ -49,7 +49,7 @@ front_long : (front : List ℕ) (f : Front front) → 1 + length f.ended ≡ las
 front_long front f = let lines = front_lines front f in let long = length-append f.ended (f.last ∷ []) in let same = ap length lines in omega (arith, long, same)
 
 abbrev read_lines : List (List ℕ) → Result Machine Fault
-read_lines lines = line_by header_in (record { number = 1; lines = lines }) >>= λ header. machine_at header.1
+read_lines lines = line_by header_in (record { number = 1; lines = lines }) >>= λ header. machine_at header.0 header.1
 
 -- a text and its front are read alike up to the last line of the front
 read_alike : (front more : List ℕ) (f : Front front) → Ends f.last (lines_in (f.last ++ more)) (some_lines (f.last ++ more)) (last_line front) (tables_in (front ++ more)) (tables_in front)

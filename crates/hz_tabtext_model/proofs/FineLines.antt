@@ -7,8 +7,8 @@ use Rattle.hz_base_model.specs.Names.{is_name}
 use Rattle.hz_base_model.specs.Lines.{number_from}
 use Rattle.hz_base_model.specs.Limits.{automaton_limit, class_limit, cycle_limit}
 use Rattle.hz_tabtext_model.specs.Judging.{Kind, bad_header, bad_line, bad_number, out_of_range, truncated, trailing, ◌>>=◌, each_by}
-use Rattle.hz_tabtext_model.specs.Fields.{is_nil, fields_of, behind, operands, only, three, one_in, three_in, is_decimal, passing, number_in, number_where, number_below, entry_in, advance_in, is_colon, has_unit, cycle_in}
-use Rattle.hz_tabtext_model.specs.Lines.{Nothing, header_in, treatment_in, classes_in, is_new, class_in, automata_in, are_states, head_of, head_in, map_in, counts_of, counts_in, entries_of, row_in, place_of, origin_of, origin_in, grid_in, end_in}
+use Rattle.hz_tabtext_model.specs.Fields.{is_nil, fields_of, behind, operands, only, three, one_in, three_in, is_decimal, passing, number_in, number_where, number_below, entry_in, advance_in, is_colon, has_unit, cycle_in, ask_entry_in}
+use Rattle.hz_tabtext_model.specs.Lines.{header_in, treatment_in, classes_in, is_new, class_in, automata_in, are_states, head_of, head_in, map_in, counts_of, counts_in, entries_of, row_in, place_of, origin_of, origin_in, grid_in, end_in, asks_of, asks_in, are_asks}
 
 -- what can be wrong with a line that is ended
 abbrev pub IsOfLine : Kind → Type 0
@@ -26,11 +26,12 @@ Fine P (Err kind) = P kind
 
 pub header_fine : (line : List ℕ) → Fine IsOfLine (header_in line)
 unfolding header_in
-header_fine line = by_word (bytes_eq line (codes "hazard-tables 1"))
+header_fine line = by_words (bytes_eq line (codes "hazard-tables 2")) (bytes_eq line (codes "hazard-tables 1"))
   where
-    by_word : (b : Bool) → Fine IsOfLine {A = Nothing} (cond b (Ok tt) (Err bad_header))
-    by_word true = tt
-    by_word false = tt
+    by_words : (b c : Bool) → Fine IsOfLine {A = Bool} (cond b (Ok true) (cond c (Ok false) (Err bad_header)))
+    by_words true c = tt
+    by_words false true = tt
+    by_words false false = tt
 
 -- These three are among the kinds: no line but the first has another fault.
 module _ (P : Kind → Type 0) (no_line : P bad_line) (no_number : P bad_number) (no_range : P out_of_range) where
@@ -94,6 +95,11 @@ module _ (P : Kind → Type 0) (no_line : P bad_line) (no_number : P bad_number)
   unfolding entry_in
   entry_fine states field = fine_if (bytes_eq field (codes "-")) (Ok None) (number_below states field >>= λ state. Ok (Some state)) tt (state_fine states field)
 
+  ask_entry_fine : (number : ℕ) (field : List ℕ) → Fine P (ask_entry_in number field)
+  unfolding ask_entry_in
+  ask_entry_fine number field = fine_if (bytes_eq field (codes "-")) (Ok None) (number_where (λ n. n == number) field >>= λ state. Ok (Some state)) tt
+      (fine_then (number_where (λ n. n == number) field) (λ state. Ok (Some state)) (where_fine (λ n. n == number) field) (λ state. tt))
+
   advance_fine : (states : ℕ) (field : List ℕ) → Fine P (advance_in states field)
   unfolding advance_in
   advance_fine states field = state_fine states field
@@ -140,6 +146,18 @@ module _ (P : Kind → Type 0) (no_line : P bad_line) (no_number : P bad_number)
   map_fine classes columns line = fine_then (operands (codes "map") line) (λ fields. cond (length fields == classes) (each_by (number_below columns) fields) (Err bad_line)) (operands_fine (codes "map") line)
       (λ fields. fine_if (length fields == classes) (each_by (number_below columns) fields) (Err bad_line) (each_fine (number_below columns) (below_fine columns) fields) no_line)
 
+  asks_of_fine : (before names : List (List ℕ)) → Fine P (asks_of before names)
+  unfolding asks_of
+  asks_of_fine before [] = tt
+  asks_of_fine before (name ∷ names) = fine_if (is_name name && is_new before name) (asks_of (before ++ name ∷ []) names >>= λ others. Ok (name ∷ others)) (Err bad_line)
+      (fine_then (asks_of (before ++ name ∷ []) names) (λ others. Ok (name ∷ others)) (asks_of_fine (before ++ name ∷ []) names) (λ others. tt)) no_line
+
+  pub asks_fine : (columns states : ℕ) (before : List (List ℕ)) (line : List ℕ) → Fine P (asks_in columns states before line)
+  unfolding asks_in
+  asks_fine columns states before line = fine_then (operands (codes "asks") line) (λ names. asks_of before names >>= λ asks. cond (are_asks columns states (length asks)) (Ok asks) (Err out_of_range)) (operands_fine (codes "asks") line)
+      (λ names. fine_then (asks_of before names) (λ asks. cond (are_asks columns states (length asks)) (Ok asks) (Err out_of_range)) (asks_of_fine before names)
+      (λ asks. fine_if (are_asks columns states (length asks)) (Ok asks) (Err out_of_range) tt no_range))
+
   counts_of_fine : (grids states members : List ℕ) → Fine P (counts_of grids states members)
   counts_of_fine grids states members = fine_then (number_in grids) (λ g. number_in states >>= λ s. number_in members >>= λ m. Ok tt) (number_fine grids)
       (λ g. fine_then (number_in states) (λ s. number_in members >>= λ m. Ok tt) (number_fine states) (λ s. fine_then (number_in members) (λ m. Ok tt) (number_fine members) (λ m. tt)))
@@ -148,14 +166,18 @@ module _ (P : Kind → Type 0) (no_line : P bad_line) (no_number : P bad_number)
   unfolding counts_in
   counts_fine line = three_in_fine (codes "stats") line (λ counts. counts_of counts.0 counts.1 counts.2) (λ counts. counts_of_fine counts.0 counts.1 counts.2)
 
-  entries_of_fine : (columns states : ℕ) (fields : List (List ℕ)) → Fine P (entries_of columns states fields)
-  entries_of_fine columns states fields = fine_then (each_by (entry_in states) (take columns fields)) (λ classes. each_by (advance_in states) (drop columns fields) >>= λ advance. Ok (classes ++ advance)) (each_fine (entry_in states) (entry_fine states) (take columns fields))
-      (λ classes. fine_then (each_by (advance_in states) (drop columns fields)) (λ advance. Ok (classes ++ advance)) (each_fine (advance_in states) (advance_fine states) (drop columns fields)) (λ advance. tt))
+  entries_of_fine : (columns asks states number : ℕ) (fields : List (List ℕ)) → Fine P (entries_of columns asks states number fields)
+  entries_of_fine columns asks states number fields =
+      let rest = drop columns fields in
+      fine_then (each_by (entry_in states) (take columns fields)) (λ classes. each_by (ask_entry_in number) (take asks rest) >>= λ asked. each_by (advance_in states) (drop asks rest) >>= λ advance. Ok (classes ++ (asked ++ advance)))
+      (each_fine (entry_in states) (entry_fine states) (take columns fields))
+      (λ classes. fine_then (each_by (ask_entry_in number) (take asks rest)) (λ asked. each_by (advance_in states) (drop asks rest) >>= λ advance. Ok (classes ++ (asked ++ advance))) (each_fine (ask_entry_in number) (ask_entry_fine number) (take asks rest))
+      (λ asked. fine_then (each_by (advance_in states) (drop asks rest)) (λ advance. Ok (classes ++ (asked ++ advance))) (each_fine (advance_in states) (advance_fine states) (drop asks rest)) (λ advance. tt)))
 
-  pub row_fine : (columns states : ℕ) (line : List ℕ) → Fine P (row_in columns states line)
+  pub row_fine : (columns asks states number : ℕ) (line : List ℕ) → Fine P (row_in columns asks states number line)
   unfolding row_in
-  row_fine columns states line = fine_then (operands (codes "row") line) (λ fields. cond (length fields == columns + 1) (entries_of columns states fields) (Err bad_line)) (operands_fine (codes "row") line)
-      (λ fields. fine_if (length fields == columns + 1) (entries_of columns states fields) (Err bad_line) (entries_of_fine columns states fields) no_line)
+  row_fine columns asks states number line = fine_then (operands (codes "row") line) (λ fields. cond (length fields == columns + asks + 1) (entries_of columns asks states number fields) (Err bad_line)) (operands_fine (codes "row") line)
+      (λ fields. fine_if (length fields == columns + asks + 1) (entries_of columns asks states number fields) (Err bad_line) (entries_of_fine columns asks states number fields) no_line)
 
   place_fine : (columns states : ℕ) (row column : List ℕ) → Fine P (place_of columns states row column)
   place_fine columns states row column = fine_then (number_below states row) (λ r. number_where (λ n. nat_le n columns) column >>= λ c. Ok tt) (below_fine states row)

@@ -1,5 +1,5 @@
 -- What was spelled is judged to be what was said.
-use Rattle.std.proofs.Common.{◌≡◌, ℕ, suc, ◌+◌, ◌*◌, ◌^◌, ◌<◌, ◌≤◌, Bool, true, false, nat_le, List, [], ◌∷◌, ◌++◌, map, length, take, drop, Option, Some, None, Result, Ok, refl, sym, ap, ◌∙◌, subst, arith, decimal, codes}
+use Rattle.std.proofs.Common.{◌≡◌, ℕ, suc, ◌+◌, ◌*◌, ◌^◌, ◌<◌, ◌≤◌, Bool, true, false, nat_le, List, [], ◌∷◌, ◌++◌, map, length, take, drop, Option, Some, None, Result, Ok, refl, sym, ap, ◌∙◌, subst, arith, decimal, codes, IsTrue}
 use Rattle.std.specs.Prelude.{◌==◌, ◌&&◌, not}
 use Rattle.std.specs.Char.{is_ascii_digit}
 use Rattle.std.specs.List.{AllByRecursion, list_all, before_first, after_first, position_or_len}
@@ -8,16 +8,16 @@ use Rattle.std.proofs.lemmas.List.{take_at, drop_at, map-append, length-map, len
 use Rattle.std.proofs.lemmas.List.Folds.{list_all-append}
 use Rattle.std.proofs.lemmas.Fmt.{decimal_nonempty}
 use Rattle.hz_base_model.specs.Names.{is_name}
-use Rattle.hz_base_model.specs.Limits.{automaton_limit, class_limit, cycle_limit}
+use Rattle.hz_base_model.specs.Limits.{automaton_limit, class_limit, cycle_limit, unit_limit}
 use Rattle.hz_automata_model.specs.Tables.StateLimits.{state_limit, cell_limit}
 use Rattle.hz_tabtext_model.specs.Judging.{Kind, each_by}
-use Rattle.hz_tabtext_model.specs.Fields.{is_nil, number_below, entry_in, advance_in, is_colon, has_unit, cycle_in}
-use Rattle.hz_tabtext_model.specs.Lines.{header_in, treatment_in, classes_in, is_new, class_in, automata_in, Head, are_states, head_in, map_in, counts_in, row_in, origin_in, grid_in, end_in}
-use Rattle.hz_tabtext_model.specs.Texts.{Counts, AreCounts, joined, entry_field, entries_line, origin_line, pair_field, grid_line, map_line, treatment_line, class_line, IsEntry, IsPair}
+use Rattle.hz_tabtext_model.specs.Fields.{is_nil, number_below, entry_in, advance_in, is_colon, has_unit, cycle_in, ask_entry_in}
+use Rattle.hz_tabtext_model.specs.Lines.{header_in, treatment_in, classes_in, is_new, class_in, automata_in, Head, are_states, head_in, map_in, counts_in, row_in, origin_in, grid_in, end_in, asks_of, asks_in, are_asks}
+use Rattle.hz_tabtext_model.specs.Texts.{Counts, AreCounts, joined, entry_field, entries_line, origin_line, pair_field, grid_line, map_line, treatment_line, class_line, IsEntry, IsPair, header_line, IsAskEntry}
 use Rattle.hz_tabtext_model.proofs.Steps.{each_again}
-use Rattle.hz_tabtext_model.proofs.Numbers.{number_again, where_again, below_again, entry_again, advance_again, digits_of_decimal}
+use Rattle.hz_tabtext_model.proofs.Numbers.{number_again, where_again, below_again, entry_again, advance_again, digits_of_decimal, ask_entry_again}
 use Rattle.hz_tabtext_model.proofs.FieldLaws.{is_field, is_visible, name_is_field, visible_decimal, append_is_field, operands_again}
-use Rattle.hz_tabtext_model.proofs.LineTakes.{IsHead, AreEntries, IsOrigin}
+use Rattle.hz_tabtext_model.proofs.LineTakes.{IsHead, AreEntries, IsOrigin, AreNew, AreAsks}
 
 -- A line has visible fields, and is judged to be this.
 pub record Spells {A : Type 0} (judge : List ℕ → Result A Kind) (fields : List (List ℕ)) (x : A) : Type 0 where
@@ -31,9 +31,10 @@ field_of_decimal n lt = some (decimal n) (decimal_nonempty n lt) (visible_decima
     some [] none h = absurd (omega arith)
     some (b ∷ bs) one h = h
 
-pub header_again : Spells header_in (codes "hazard-tables" ∷ codes "1" ∷ []) tt
+pub header_again : (asked : Bool) → Spells header_in (header_line asked) asked
 unfolding header_in joined
-header_again = record { seen = refl; again = refl }
+header_again true = record { seen = refl; again = refl }
+header_again false = record { seen = refl; again = refl }
 
 pub end_again : Spells end_in (codes "end" ∷ []) tt
 unfolding end_in joined
@@ -96,6 +97,27 @@ map_again classes columns places small each within =
     let numbers = each_again (number_below columns) decimal (λ column. column < columns) (λ n lt. below_again columns n small lt) places within in
     record { seen = seen; again = rw (operands_again (codes "map") (map decimal places) refl seen, long, numbers) refl }
 
+asks_of_again : (before asks : List (List ℕ)) → AllByRecursion (λ name. IsTrue (is_name name)) asks → AreNew before asks → asks_of before asks ≡ Ok asks
+unfolding asks_of
+asks_of_again before [] named new = refl
+asks_of_again before (name ∷ asks) named new =
+    let both : (is_name name && is_new before name) ≡ true = and_from (is_name name) (is_new before name) named.0 new.0 in
+    rw (both, asks_of_again (before ++ name ∷ []) asks named.1 new.1) refl
+
+-- each name is visible
+pub names_seen : (names : List (List ℕ)) → AllByRecursion (λ name. IsTrue (is_name name)) names → list_all is_field names ≡ true
+names_seen [] named = refl
+names_seen (name ∷ names) named = and_from (is_field name) (list_all is_field names) (name_is_field name named.0) (names_seen names named.1)
+
+pub asks_again : (columns states : ℕ) (before asks : List (List ℕ)) → AreAsks columns states before asks → Spells (asks_in columns states before) (codes "asks" ∷ asks) asks
+unfolding asks_in
+asks_again columns states before asks h =
+    let seen = names_seen asks h.named in
+    let test : are_asks columns states (length asks) ≡ true =
+    and_from (nat_le (length asks) unit_limit) (nat_le (states * (columns + length asks + 1)) cell_limit) (le-leb (length asks) unit_limit h.few) (le-leb (states * (columns + length asks + 1)) cell_limit h.cells) in
+    let again = asks_of_again before asks h.named h.new in
+    record { seen = seen; again = rw (operands_again (codes "asks") asks refl seen, again, test) refl }
+
 pub counts_again : (counts : Counts) → AreCounts counts → Spells counts_in (codes "stats" ∷ decimal counts.grids ∷ decimal counts.states ∷ decimal counts.members ∷ []) tt
 unfolding counts_in
 counts_again counts h =
@@ -118,26 +140,63 @@ last_again : (states advance : ℕ) → states ≤ 2 ^ 32 → advance < states �
 unfolding each_by
 last_again states advance small goes = rw (advance_again states advance small goes) refl
 
-row_of_parts : (columns states : ℕ) (classes : List (Option ℕ)) (advance : ℕ) → states ≤ 2 ^ 32 → length classes ≡ columns → AllByRecursion (IsEntry states) classes → advance < states
-    → Spells (row_in columns states) (entries_line (classes ++ Some advance ∷ [])) (classes ++ Some advance ∷ [])
-unfolding row_in
-row_of_parts columns states classes advance small width targets goes =
-    let fields = map entry_field (classes ++ Some advance ∷ []) in
-    let parts : fields ≡ map entry_field classes ++ decimal advance ∷ [] = map-append entry_field classes (Some advance ∷ []) in
-    let front : length (map entry_field classes) ≡ columns = length-map classes entry_field ∙ width in
-    let lt : advance < 2 ^ 64 = omega arith in
-    let seen : list_all is_field fields ≡ true = ap (list_all is_field) parts ∙ (list_all-append is_field (map entry_field classes) (decimal advance ∷ []) ∙ and_from (list_all is_field (map entry_field classes)) (list_all is_field (decimal advance ∷ [])) (entries_seen states small classes targets) (one_seen (decimal advance) (field_of_decimal advance lt))) in
-    let total : length fields ≡ columns + 1 = ap length parts ∙ omega (arith, length-append (map entry_field classes) (decimal advance ∷ []), front) in
-    let long : (length fields == columns + 1) ≡ true = eq-eqb (length fields) (columns + 1) total in
-    let taken : take columns fields ≡ map entry_field classes = ap (take columns) parts ∙ take_at (map entry_field classes) (decimal advance ∷ []) columns front in
-    let left : drop columns fields ≡ decimal advance ∷ [] = ap (drop columns) parts ∙ drop_at (map entry_field classes) (decimal advance ∷ []) columns front in
-    let first = each_again (entry_in states) entry_field (IsEntry states) (λ e h. entry_again states e small h) classes targets in
-    let judged = operands_again (codes "row") fields refl seen in
-    record { seen = seen; again = rw (judged, long, taken, left, first, last_again states advance small goes) refl }
+ask_entry_seen : (number : ℕ) → number < 2 ^ 32 → (entry : Option ℕ) → IsAskEntry number entry → is_field (entry_field entry) ≡ true
+ask_entry_seen number small None h = refl
+ask_entry_seen number small (Some state) h = field_of_decimal state (omega (arith, h, small))
 
-pub row_again : (columns states : ℕ) (entries : List (Option ℕ)) → states ≤ 2 ^ 32 → AreEntries columns states entries → Spells (row_in columns states) (entries_line entries) entries
-row_again columns states entries small h =
-    subst (λ (es : List (Option ℕ)). Spells (row_in columns states) (entries_line es) es) (sym h.both) (row_of_parts columns states h.classes h.advance small h.width h.targets h.goes)
+ask_entries_seen : (number : ℕ) → number < 2 ^ 32 → (entries : List (Option ℕ)) → AllByRecursion (IsAskEntry number) entries → list_all is_field (map entry_field entries) ≡ true
+ask_entries_seen number small [] h = refl
+ask_entries_seen number small (e ∷ es) h = and_from (is_field (entry_field e)) (list_all is_field (map entry_field es)) (ask_entry_seen number small e h.0) (ask_entries_seen number small es h.1)
+
+-- the entries of asks, and the advance behind them
+module _ (asks states number : ℕ) (asked : List (Option ℕ)) (advance : ℕ) (small : states ≤ 2 ^ 32) (low : number < 2 ^ 32) (width : length asked ≡ asks) (stays : AllByRecursion (IsAskEntry number) asked) (goes : advance < states) where
+  abbrev tail_fields : List (List ℕ)
+  tail_fields = map entry_field (asked ++ Some advance ∷ [])
+
+  tail_parts : tail_fields ≡ map entry_field asked ++ decimal advance ∷ []
+  tail_parts = map-append entry_field asked (Some advance ∷ [])
+
+  tail_width : length (map entry_field asked) ≡ asks
+  tail_width = length-map asked entry_field ∙ width
+
+  tail_long : length tail_fields ≡ asks + 1
+  tail_long = ap length tail_parts ∙ omega (arith, length-append (map entry_field asked) (decimal advance ∷ []), tail_width)
+
+  tail_seen : list_all is_field tail_fields ≡ true
+  tail_seen =
+      ap (list_all is_field) tail_parts
+      ∙ (list_all-append is_field (map entry_field asked) (decimal advance ∷ [])
+      ∙ and_from (list_all is_field (map entry_field asked)) (list_all is_field (decimal advance ∷ [])) (ask_entries_seen number low asked stays) (one_seen (decimal advance) (field_of_decimal advance (omega (arith, small, goes)))))
+
+  tail_taken : take asks tail_fields ≡ map entry_field asked
+  tail_taken = ap (take asks) tail_parts ∙ take_at (map entry_field asked) (decimal advance ∷ []) asks tail_width
+
+  tail_left : drop asks tail_fields ≡ decimal advance ∷ []
+  tail_left = ap (drop asks) tail_parts ∙ drop_at (map entry_field asked) (decimal advance ∷ []) asks tail_width
+
+row_of_parts : (columns asks states number : ℕ) (classes asked : List (Option ℕ)) (advance : ℕ) → states ≤ 2 ^ 32 → number < 2 ^ 32 → length classes ≡ columns → AllByRecursion (IsEntry states) classes → length asked ≡ asks → AllByRecursion (IsAskEntry number) asked → advance < states
+    → Spells (row_in columns asks states number) (entries_line (classes ++ (asked ++ Some advance ∷ []))) (classes ++ (asked ++ Some advance ∷ []))
+unfolding row_in
+row_of_parts columns asks states number classes asked advance small low width targets ask_width stays goes =
+    let fields = map entry_field (classes ++ (asked ++ Some advance ∷ [])) in
+    let tail = map entry_field (asked ++ Some advance ∷ []) in
+    let parts : fields ≡ map entry_field classes ++ tail = map-append entry_field classes (asked ++ Some advance ∷ []) in
+    let front : length (map entry_field classes) ≡ columns = length-map classes entry_field ∙ width in
+    let seen : list_all is_field fields ≡ true = ap (list_all is_field) parts ∙ (list_all-append is_field (map entry_field classes) tail ∙ and_from (list_all is_field (map entry_field classes)) (list_all is_field tail) (entries_seen states small classes targets) (tail_seen asks states number asked advance small low ask_width stays goes)) in
+    let total : length fields ≡ columns + asks + 1 = ap length parts ∙ omega (arith, length-append (map entry_field classes) tail, front, tail_long asks states number asked advance small low ask_width stays goes) in
+    let long : (length fields == columns + asks + 1) ≡ true = eq-eqb (length fields) (columns + asks + 1) total in
+    let taken : take columns fields ≡ map entry_field classes = ap (take columns) parts ∙ take_at (map entry_field classes) tail columns front in
+    let left : drop columns fields ≡ tail = ap (drop columns) parts ∙ drop_at (map entry_field classes) tail columns front in
+    let ask_taken : take asks tail ≡ map entry_field asked = tail_taken asks states number asked advance small low ask_width stays goes in
+    let ask_left : drop asks tail ≡ decimal advance ∷ [] = tail_left asks states number asked advance small low ask_width stays goes in
+    let first = each_again (entry_in states) entry_field (IsEntry states) (λ e h. entry_again states e small h) classes targets in
+    let middle = each_again (ask_entry_in number) entry_field (IsAskEntry number) (λ e h. ask_entry_again number e low h) asked stays in
+    let judged = operands_again (codes "row") fields refl seen in
+    record { seen = seen; again = rw (judged, long, taken, left, ask_taken, ask_left, first, middle, last_again states advance small goes) refl }
+
+pub row_again : (columns asks states number : ℕ) (entries : List (Option ℕ)) → states ≤ 2 ^ 32 → number < 2 ^ 32 → AreEntries columns asks states number entries → Spells (row_in columns asks states number) (entries_line entries) entries
+row_again columns asks states number entries small low h =
+    subst (λ (es : List (Option ℕ)). Spells (row_in columns asks states number) (entries_line es) es) (sym h.both) (row_of_parts columns asks states number h.classes h.asked h.advance small low h.width h.targets h.ask_width h.stays h.goes)
 
 pub origin_again : (columns states : ℕ) (origin : Option (ℕ × ℕ)) → columns < 2 ^ 32 → states ≤ 2 ^ 32 → IsOrigin columns states origin → Spells (origin_in columns states) (origin_line origin) tt
 unfolding origin_in

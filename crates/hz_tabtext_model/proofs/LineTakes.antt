@@ -1,5 +1,5 @@
 -- What a line is that was judged to be right: each is the one spelling of what was found.
-use Rattle.std.proofs.Common.{◌≡◌, ℕ, ◌+◌, ◌*◌, ◌<◌, ◌≤◌, Bool, true, false, cond, nat_le, List, [], ◌∷◌, ◌++◌, map, length, take, drop, Option, Some, None, Result, Ok, Err, refl, sym, ap, ◌∙◌, subst, arith, get_or, inl, inr, ◌⊎◌, decimal, codes}
+use Rattle.std.proofs.Common.{◌≡◌, ℕ, ◌+◌, ◌*◌, ◌<◌, ◌≤◌, Bool, true, false, cond, nat_le, List, [], ◌∷◌, ◌++◌, map, length, take, drop, Option, Some, None, Result, Ok, Err, refl, sym, ap, ◌∙◌, subst, arith, get_or, inl, inr, ◌⊎◌, decimal, codes, IsTrue}
 use Rattle.std.specs.Prelude.{◌==◌, ◌&&◌, IfSome}
 use Rattle.std.specs.List.{AllByRecursion, list_all, before_first, after_first, position_or_len}
 use Rattle.std.specs.Str.{bytes_eq}
@@ -8,22 +8,28 @@ use Rattle.std.proofs.lemmas.List.{take-append-drop, map-append, length-map, len
 use Rattle.std.proofs.lemmas.List.Sums.{split_at_first, passes_at_first}
 use Rattle.std.proofs.lemmas.Slice.Eq.{bytes_eq-Decides}
 use Rattle.hz_base_model.specs.Names.{is_name}
-use Rattle.hz_base_model.specs.Limits.{automaton_limit, class_limit, cycle_limit}
+use Rattle.hz_base_model.specs.Limits.{automaton_limit, class_limit, cycle_limit, unit_limit}
 use Rattle.hz_automata_model.specs.Tables.StateLimits.{state_limit, cell_limit}
-use Rattle.hz_tabtext_model.specs.Judging.{Kind, bad_header, bad_line, ◌>>=◌, each_by}
-use Rattle.hz_tabtext_model.specs.Fields.{operands, only, three, one_in, three_in, number_in, number_where, number_below, entry_in, advance_in, is_colon, has_unit, cycle_in}
-use Rattle.hz_tabtext_model.specs.Lines.{Nothing, header_in, treatment_in, classes_in, is_new, class_in, automata_in, Head, are_states, head_of, head_in, map_in, counts_of, counts_in, entries_of, row_in, origin_of, origin_in, grid_in, end_in}
-use Rattle.hz_tabtext_model.specs.Texts.{Counts, AreCounts, joined, entry_field, entries_line, origin_line, pair_field, grid_line, map_line, treatment_line, class_line, IsEntry, IsPair}
+use Rattle.hz_tabtext_model.specs.Judging.{Kind, bad_header, bad_line, ◌>>=◌, each_by, out_of_range}
+use Rattle.hz_tabtext_model.specs.Fields.{operands, only, three, one_in, three_in, number_in, number_where, number_below, entry_in, advance_in, is_colon, has_unit, cycle_in, ask_entry_in}
+use Rattle.hz_tabtext_model.specs.Lines.{Nothing, header_in, treatment_in, classes_in, is_new, class_in, automata_in, Head, are_states, head_of, head_in, map_in, counts_of, counts_in, entries_of, row_in, origin_of, origin_in, grid_in, end_in, asks_of, asks_in, are_asks}
+use Rattle.hz_tabtext_model.specs.Texts.{Counts, AreCounts, joined, entry_field, entries_line, origin_line, pair_field, grid_line, map_line, treatment_line, class_line, IsEntry, IsPair, header_line, IsAskEntry}
 use Rattle.hz_tabtext_model.proofs.Steps.{bind_ok, guard_ok, ok_is, each_takes}
-use Rattle.hz_tabtext_model.proofs.Numbers.{number_takes, where_takes, below_takes, entry_takes, advance_takes}
+use Rattle.hz_tabtext_model.proofs.Numbers.{number_takes, where_takes, below_takes, entry_takes, advance_takes, ask_entry_takes}
 use Rattle.hz_tabtext_model.proofs.FieldLaws.{operands_take, only_takes}
 
 same_bytes : (a b : List ℕ) → bytes_eq a b ≡ true → a ≡ b
 same_bytes a b = (bytes_eq-Decides a b).0
 
-pub header_takes : (line : List ℕ) (x : Nothing) → header_in line ≡ Ok x → line ≡ codes "hazard-tables 1"
-unfolding header_in
-header_takes line x e = same_bytes line (codes "hazard-tables 1") (guard_ok (bytes_eq line (codes "hazard-tables 1")) (Ok tt) bad_header x e).0
+pub header_takes : (line : List ℕ) (asked : Bool) → header_in line ≡ Ok asked → line ≡ joined (header_line asked)
+unfolding header_in joined
+header_takes line asked e = by_words (bytes_eq line (codes "hazard-tables 2")) refl e
+  where
+    by_words : (b : Bool) → bytes_eq line (codes "hazard-tables 2") ≡ b → cond b (Ok true) (cond (bytes_eq line (codes "hazard-tables 1")) (Ok false) (Err bad_header)) ≡ Ok asked → line ≡ joined (header_line asked)
+    by_words true is h = subst (λ (t : Bool). line ≡ joined (header_line t)) (ok_is {E = Kind} true asked h) (same_bytes line (codes "hazard-tables 2") is)
+    by_words false is h =
+        let g = guard_ok (bytes_eq line (codes "hazard-tables 1")) (Ok false) bad_header asked h in
+        subst (λ (t : Bool). line ≡ joined (header_line t)) (ok_is {E = Kind} false asked g.1) (same_bytes line (codes "hazard-tables 1") g.0)
 
 pub end_takes : (line : List ℕ) (x : Nothing) → end_in line ≡ Ok x → line ≡ codes "end"
 unfolding end_in
@@ -129,6 +135,50 @@ map_takes classes columns line places e =
     let t = each_takes (number_below columns) decimal (λ column. column < columns) (below_takes columns) o.0 places g.1 in
     (operands_take (codes "map") line o.0 o.1 ∙ ap (λ fields. joined (codes "map" ∷ fields)) t.0, sym (length-map places decimal) ∙ (ap length (sym t.0) ∙ eqb-true (length o.0) classes g.0), t.1)
 
+-- none stands among those before it
+abbrev pub AreNew : (before names : List (List ℕ)) → Type 0
+AreNew before [] = Unit {0}
+AreNew before (name ∷ names) = (is_new before name ≡ true) × AreNew (before ++ name ∷ []) names
+
+-- what holds of the asks of an automaton beside others
+pub record AreAsks (columns states : ℕ) (before asks : List (List ℕ)) : Type 0 where
+  pub named : AllByRecursion (λ name. IsTrue (is_name name)) asks
+  pub new : AreNew before asks
+  pub few : length asks ≤ unit_limit
+  pub cells : states * (columns + length asks + 1) ≤ cell_limit
+
+asks_of_take : (before names asks : List (List ℕ)) → asks_of before names ≡ Ok asks → (names ≡ asks) × AllByRecursion (λ name. IsTrue (is_name name)) asks × AreNew before asks
+unfolding asks_of
+asks_of_take before [] asks e = subst (λ (xs : List (List ℕ)). ([] ≡ xs) × AllByRecursion (λ name. IsTrue (is_name name)) xs × AreNew before xs) (ok_is {E = Kind} [] asks e) (refl, tt, tt)
+asks_of_take before (name ∷ names) asks e =
+    let g = guard_ok (is_name name && is_new before name) (asks_of (before ++ name ∷ []) names >>= λ others. Ok (name ∷ others)) bad_line asks e in
+    let b = bind_ok (asks_of (before ++ name ∷ []) names) (λ others. Ok (name ∷ others)) asks g.1 in
+    let parts = and_parts (is_name name) (is_new before name) g.0 in
+    let later = asks_of_take (before ++ name ∷ []) names b.0 b.1 in
+    subst (λ (xs : List (List ℕ)). (name ∷ names ≡ xs) × AllByRecursion (λ name. IsTrue (is_name name)) xs × AreNew before xs) (ok_is {E = Kind} (name ∷ b.0) asks b.2)
+    (ap (λ (ns : List (List ℕ)). name ∷ ns) later.0, (parts.0, later.1), (parts.1, later.2))
+
+pub asks_take : (columns states : ℕ) (before : List (List ℕ)) (line : List ℕ) (asks : List (List ℕ)) → asks_in columns states before line ≡ Ok asks
+    → (line ≡ joined (codes "asks" ∷ asks)) × AreAsks columns states before asks
+unfolding asks_in
+asks_take columns states before line asks e =
+    let o = bind_ok (operands (codes "asks") line) (λ names. asks_of before names >>= λ found. cond (are_asks columns states (length found)) (Ok found) (Err out_of_range)) asks e in
+    let b = bind_ok (asks_of before o.0) (λ found. cond (are_asks columns states (length found)) (Ok found) (Err out_of_range)) asks o.2 in
+    let g = guard_ok {E = Kind} (are_asks columns states (length b.0)) (Ok b.0) out_of_range asks b.2 in
+    let same : b.0 ≡ asks = ok_is {E = Kind} b.0 asks g.1 in
+    let t = asks_of_take before o.0 asks (b.1 ∙ g.1) in
+    let parts = and_parts (nat_le (length b.0) unit_limit) (nat_le (states * (columns + length b.0 + 1)) cell_limit) g.0 in
+    let few = leb-true (length b.0) unit_limit parts.0 in
+    let cells = leb-true (states * (columns + length b.0 + 1)) cell_limit parts.1 in (
+      operands_take (codes "asks") line o.0 o.1 ∙ ap (λ (names : List (List ℕ)). joined (codes "asks" ∷ names)) t.0,
+      record {
+        named = t.1;
+        new = t.2;
+        few = subst (λ (names : List (List ℕ)). length names ≤ unit_limit) same few;
+        cells = subst (λ (names : List (List ℕ)). states * (columns + length names + 1) ≤ cell_limit) same cells;
+      },
+    )
+
 pub counts_take : (line : List ℕ) (x : Nothing) → counts_in line ≡ Ok x
     → (counts : Counts) × AreCounts counts × (line ≡ joined (codes "stats" ∷ decimal counts.grids ∷ decimal counts.states ∷ decimal counts.members ∷ []))
 unfolding counts_in
@@ -148,13 +198,16 @@ counts_take line x e =
     fields_are : {a b c p q r : List ℕ} → a ≡ p → b ≡ q → c ≡ r → joined (codes "stats" ∷ a ∷ b ∷ c ∷ []) ≡ joined (codes "stats" ∷ p ∷ q ∷ r ∷ [])
     fields_are p q r = cc
 
--- an entry for each column, and the advance
-pub record AreEntries (columns states : ℕ) (entries : List (Option ℕ)) : Type 0 where
+-- an entry for each column and for each ask of the row of this number, and the advance
+pub record AreEntries (columns asks states number : ℕ) (entries : List (Option ℕ)) : Type 0 where
   pub classes : List (Option ℕ)
+  pub asked : List (Option ℕ)
   pub advance : ℕ
-  pub both : entries ≡ classes ++ Some advance ∷ []
+  pub both : entries ≡ classes ++ (asked ++ Some advance ∷ [])
   pub width : length classes ≡ columns
   pub targets : AllByRecursion (IsEntry states) classes
+  pub ask_width : length asked ≡ asks
+  pub stays : AllByRecursion (IsAskEntry number) asked
   pub goes : advance < states
 
 -- the one advance
@@ -169,31 +222,47 @@ last_takes states (field ∷ []) entries one e =
     let is : entries ≡ Some t.0 ∷ [] = sym (ok_is {E = Kind} (b.0 ∷ []) entries b.2) ∙ ap (λ (x : Option ℕ). x ∷ []) t.1 in
     (t.0, is, ap (λ (f : List ℕ). f ∷ []) t.2 ∙ sym (ap (map entry_field) is), t.3)
 
-entries_of_take : (columns states : ℕ) (fields : List (List ℕ)) (entries : List (Option ℕ)) → length fields ≡ columns + 1 → entries_of columns states fields ≡ Ok entries
-    → (fields ≡ map entry_field entries) × AreEntries columns states entries
-entries_of_take columns states fields entries long e =
-    let a = bind_ok (each_by (entry_in states) (take columns fields)) (λ classes. each_by (advance_in states) (drop columns fields) >>= λ advance. Ok (classes ++ advance)) entries e in
-    let b = bind_ok (each_by (advance_in states) (drop columns fields)) (λ advance. Ok (a.0 ++ advance)) entries a.2 in
-    let one : length (drop columns fields) ≡ 1 = omega (arith, length-drop columns fields, long) in
+entries_of_take : (columns asks states number : ℕ) (fields : List (List ℕ)) (entries : List (Option ℕ)) → length fields ≡ columns + asks + 1 → entries_of columns asks states number fields ≡ Ok entries
+    → (fields ≡ map entry_field entries) × AreEntries columns asks states number entries
+entries_of_take columns asks states number fields entries long e =
+    let rest = drop columns fields in
+    let a = bind_ok (each_by (entry_in states) (take columns fields)) (λ classes. each_by (ask_entry_in number) (take asks rest) >>= λ asked. each_by (advance_in states) (drop asks rest) >>= λ advance. Ok (classes ++ (asked ++ advance))) entries e in
+    let k = bind_ok (each_by (ask_entry_in number) (take asks rest)) (λ asked. each_by (advance_in states) (drop asks rest) >>= λ advance. Ok (a.0 ++ (asked ++ advance))) entries a.2 in
+    let b = bind_ok (each_by (advance_in states) (drop asks rest)) (λ advance. Ok (a.0 ++ (k.0 ++ advance))) entries k.2 in
+    let after : length rest ≡ asks + 1 = omega (arith, length-drop columns fields, long) in
+    let one : length (drop asks rest) ≡ 1 = omega (arith, length-drop asks rest, after) in
     let first = each_takes (entry_in states) entry_field (IsEntry states) (entry_takes states) (take columns fields) a.0 a.1 in
-    let last = last_takes states (drop columns fields) b.0 one b.1 in
+    let middle = each_takes (ask_entry_in number) entry_field (IsAskEntry number) (ask_entry_takes number) (take asks rest) k.0 k.1 in
+    let last = last_takes states (drop asks rest) b.0 one b.1 in
     let width : length a.0 ≡ columns = sym (length-map a.0 entry_field) ∙ (ap length (sym first.0) ∙ omega (arith, length-take columns fields, long)) in
-    let same = ok_is {E = Kind} (a.0 ++ b.0) entries b.2 in
-    let all : fields ≡ map entry_field (a.0 ++ b.0) = sym (take-append-drop columns fields) ∙ (joins first.0 last.2 ∙ sym (map-append entry_field a.0 b.0)) in (
+    let ask_width : length k.0 ≡ asks = sym (length-map k.0 entry_field) ∙ (ap length (sym middle.0) ∙ omega (arith, length-take asks rest, after)) in
+    let same = ok_is {E = Kind} (a.0 ++ (k.0 ++ b.0)) entries b.2 in
+    let behind : rest ≡ map entry_field (k.0 ++ b.0) = sym (take-append-drop asks rest) ∙ (joins middle.0 last.2 ∙ sym (map-append entry_field k.0 b.0)) in
+    let all : fields ≡ map entry_field (a.0 ++ (k.0 ++ b.0)) = sym (take-append-drop columns fields) ∙ (joins first.0 behind ∙ sym (map-append entry_field a.0 (k.0 ++ b.0))) in (
       all ∙ ap (map entry_field) same,
-      record { classes = a.0; advance = last.0; both = sym same ∙ ap (λ (xs : List (Option ℕ)). a.0 ++ xs) last.1; width = width; targets = first.1; goes = last.3 },
+      record {
+        classes = a.0;
+        asked = k.0;
+        advance = last.0;
+        both = sym same ∙ ap (λ (xs : List (Option ℕ)). a.0 ++ (k.0 ++ xs)) last.1;
+        width = width;
+        targets = first.1;
+        ask_width = ask_width;
+        stays = middle.1;
+        goes = last.3;
+      },
     )
   where
     joins : {xs ys zs ws : List (List ℕ)} → xs ≡ zs → ys ≡ ws → xs ++ ys ≡ zs ++ ws
     joins p q = cc
 
-pub row_takes : (columns states : ℕ) (line : List ℕ) (entries : List (Option ℕ)) → row_in columns states line ≡ Ok entries
-    → (line ≡ joined (entries_line entries)) × AreEntries columns states entries
+pub row_takes : (columns asks states number : ℕ) (line : List ℕ) (entries : List (Option ℕ)) → row_in columns asks states number line ≡ Ok entries
+    → (line ≡ joined (entries_line entries)) × AreEntries columns asks states number entries
 unfolding row_in
-row_takes columns states line entries e =
-    let o = bind_ok (operands (codes "row") line) (λ fields. cond (length fields == columns + 1) (entries_of columns states fields) (Err bad_line)) entries e in
-    let g = guard_ok (length o.0 == columns + 1) (entries_of columns states o.0) bad_line entries o.2 in
-    let t = entries_of_take columns states o.0 entries (eqb-true (length o.0) (columns + 1) g.0) g.1 in
+row_takes columns asks states number line entries e =
+    let o = bind_ok (operands (codes "row") line) (λ fields. cond (length fields == columns + asks + 1) (entries_of columns asks states number fields) (Err bad_line)) entries e in
+    let g = guard_ok (length o.0 == columns + asks + 1) (entries_of columns asks states number o.0) bad_line entries o.2 in
+    let t = entries_of_take columns asks states number o.0 entries (eqb-true (length o.0) (columns + asks + 1) g.0) g.1 in
     (operands_take (codes "row") line o.0 o.1 ∙ ap (λ fields. joined (codes "row" ∷ fields)) t.0, t.1)
 
 -- the origin is a row and a column, or none

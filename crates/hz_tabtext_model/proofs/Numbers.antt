@@ -1,5 +1,5 @@
 -- Numbers of fields: each is the number that `decimal` spells, and the other way round.
-use Rattle.std.proofs.Common.{◌≡◌, ℕ, zero, suc, ◌^◌, ◌<◌, ◌≤◌, Bool, true, false, cond, not, nat_lt, List, [], ◌∷◌, length, get_or, Option, Some, None, Ok, refl, sym, ap, ◌∙◌, subst, arith, rules, decimal, codes, ⊎_elim}
+use Rattle.std.proofs.Common.{◌≡◌, ℕ, zero, suc, ◌^◌, ◌<◌, ◌≤◌, Bool, true, false, cond, not, nat_lt, List, [], ◌∷◌, length, get_or, Option, Some, None, Ok, refl, sym, ap, ◌∙◌, subst, arith, rules, decimal, codes, ⊎_elim, eqb-true, eq-eqb}
 use Rattle.std.specs.Prelude.{◌==◌, ◌||◌}
 use Rattle.std.specs.Char.{is_ascii_digit}
 use Rattle.std.specs.List.{list_all}
@@ -10,8 +10,8 @@ use Rattle.std.proofs.lemmas.Str.Parse.{IsNumeralModel, numerals_by_fold}
 use Rattle.std.proofs.lemmas.Fmt.{decimal-digits_value, digits_decimal, digits_value-decimal, first_decimal, decimal_nonempty, decimal_digit}
 use Rattle.hz_base_model.specs.Lines.{number_from}
 use Rattle.hz_tabtext_model.specs.Judging.{Kind, bad_number, out_of_range, ◌>>=◌}
-use Rattle.hz_tabtext_model.specs.Fields.{is_nil, is_decimal, passing, number_in, number_where, number_below, entry_in, advance_in}
-use Rattle.hz_tabtext_model.specs.Texts.{entry_field, IsEntry}
+use Rattle.hz_tabtext_model.specs.Fields.{is_nil, is_decimal, passing, number_in, number_where, number_below, entry_in, advance_in, ask_entry_in}
+use Rattle.hz_tabtext_model.specs.Texts.{entry_field, IsEntry, IsAskEntry}
 use Rattle.hz_tabtext_model.proofs.Steps.{bind_ok, guard_ok, ok_is}
 
 own : IsNumeralModel (λ ds. list_all is_ascii_digit ds ≡ true) (number_from 0)
@@ -109,6 +109,26 @@ pub entry_again : (states : ℕ) (entry : Option ℕ) → states ≤ 2 ^ 32 → 
 unfolding entry_in
 entry_again states None small h = refl
 entry_again states (Some state) small h = let wide : state < 2 ^ 64 = omega (arith, h) in rw (no_dash state wide, below_again states state small h) refl
+
+-- an entry of an ask is the number of its row
+pub ask_entry_takes : (number : ℕ) (field : List ℕ) (entry : Option ℕ) → ask_entry_in number field ≡ Ok entry → (field ≡ entry_field entry) × IsAskEntry number entry
+unfolding ask_entry_in
+ask_entry_takes number field entry e = by_test (bytes_eq field (codes "-")) refl e
+  where
+    by_test : (b : Bool) → bytes_eq field (codes "-") ≡ b → cond b (Ok None) (number_where (λ n. n == number) field >>= λ state. Ok (Some state)) ≡ Ok entry → (field ≡ entry_field entry) × IsAskEntry number entry
+    by_test true is h = subst (λ (x : Option ℕ). (field ≡ entry_field x) × IsAskEntry number x) (ok_is {E = Kind} None entry h) ((bytes_eq-Decides field (codes "-")).0 is, tt)
+    by_test false is h =
+        let b = bind_ok (number_where (λ n. n == number) field) (λ state. Ok (Some state)) entry h in
+        let t = where_takes (λ n. n == number) field b.0 b.1 in
+        subst (λ (x : Option ℕ). (field ≡ entry_field x) × IsAskEntry number x) (ok_is {E = Kind} (Some b.0) entry b.2) (t.0, eqb-true b.0 number t.2)
+
+pub ask_entry_again : (number : ℕ) (entry : Option ℕ) → number < 2 ^ 32 → IsAskEntry number entry → ask_entry_in number (entry_field entry) ≡ Ok entry
+unfolding ask_entry_in
+ask_entry_again number None small h = refl
+ask_entry_again number (Some state) small h =
+    let wide : state < 2 ^ 64 = omega (arith, h, small) in
+    let same : (state == number) ≡ true = eq-eqb state number h in
+    rw (no_dash state wide, where_again (λ n. n == number) state (omega (arith, h, small)) same) refl
 
 -- the advance is a state
 pub advance_takes : (states : ℕ) (field : List ℕ) (entry : Option ℕ) → advance_in states field ≡ Ok entry → (state : ℕ) × (entry ≡ Some state) × (field ≡ decimal state) × (state < states)

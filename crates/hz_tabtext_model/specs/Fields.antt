@@ -76,6 +76,10 @@ number_below limit field = number_where (λ n. nat_lt n limit) field
 unfoldable pub entry_in : (states : ℕ) (field : List ℕ) → Result (Option ℕ) Kind
 entry_in states field = if bytes_eq field (codes "-") then Ok None else (number_below states field >>= λ state. Ok (Some state))
 
+-- an entry of an ask in the row of this number: that number, or `-`
+unfoldable pub ask_entry_in : (number : ℕ) (field : List ℕ) → Result (Option ℕ) Kind
+ask_entry_in number field = if bytes_eq field (codes "-") then Ok None else (number_where (λ n. n == number) field >>= λ state. Ok (Some state))
+
 -- the advance of a table of so many states: one of them
 unfoldable pub advance_in : (states : ℕ) (field : List ℕ) → Result (Option ℕ) Kind
 advance_in states field = number_below states field >>= λ state. Ok (Some state)

@@ -3,18 +3,18 @@ use Rattle.std.specs.Prelude.{ℕ, ◌+◌, ◌*◌, ◌==◌, ◌&&◌, not, na
 use Rattle.std.specs.List.{list_all, list_any}
 use Rattle.std.specs.Str.{bytes_eq}
 use Rattle.hz_base_model.specs.Names.{is_name}
-use Rattle.hz_base_model.specs.Limits.{automaton_limit, class_limit}
+use Rattle.hz_base_model.specs.Limits.{automaton_limit, class_limit, unit_limit}
 use Rattle.hz_automata_model.specs.Tables.StateLimits.{state_limit, cell_limit}
-use Rattle.hz_tabtext_model.specs.Judging.{Kind, bad_header, bad_line, ◌>>=◌, each_by}
-use Rattle.hz_tabtext_model.specs.Fields.{is_nil, operands, one_in, three_in, number_where, number_below, number_in, entry_in, advance_in, has_unit, cycle_in}
+use Rattle.hz_tabtext_model.specs.Judging.{Kind, bad_header, bad_line, ◌>>=◌, each_by, out_of_range}
+use Rattle.hz_tabtext_model.specs.Fields.{is_nil, operands, one_in, three_in, number_where, number_below, number_in, entry_in, advance_in, has_unit, cycle_in, ask_entry_in}
 
 -- nothing but what is wrong
 abbrev pub Nothing : Type 0
 Nothing = Unit {0}
 
--- `hazard-tables 1`
-unfoldable pub header_in : List ℕ → Result Nothing Kind
-header_in line = if bytes_eq line (codes "hazard-tables 1") then Ok tt else Err bad_header
+-- whether it is `hazard-tables 2`; else `hazard-tables 1`
+unfoldable pub header_in : List ℕ → Result Bool Kind
+header_in line = if bytes_eq line (codes "hazard-tables 2") then Ok true else (if bytes_eq line (codes "hazard-tables 1") then Ok false else Err bad_header)
 
 -- whether it is `treatment ndfa`; else `treatment first`
 unfoldable pub treatment_in : List ℕ → Result Bool Kind
@@ -76,6 +76,25 @@ map_in classes columns line = do
   fields ← operands (codes "map") line
   if length fields == classes then each_by (number_below columns) fields else Err bad_line
 
+-- names that are not among those before, nor among one another
+unfoldable pub asks_of : (before : List (List ℕ)) → List (List ℕ) → Result (List (List ℕ)) Kind
+asks_of before [] = Ok []
+asks_of before (name ∷ names) =
+    if is_name name && is_new before name
+    then (asks_of (before ++ name ∷ []) names >>= λ others. Ok (name ∷ others))
+    else Err bad_line
+
+-- so many names of asks, beside so many columns and states, are not too many, and neither are all entries
+abbrev pub are_asks : (columns states asks : ℕ) → Bool
+are_asks columns states asks = nat_le asks unit_limit && nat_le (states * (columns + asks + 1)) cell_limit
+
+-- `asks NAME ..`, beside other asks
+unfoldable pub asks_in : (columns states : ℕ) (before : List (List ℕ)) (line : List ℕ) → Result (List (List ℕ)) Kind
+asks_in columns states before line = do
+  names ← operands (codes "asks") line
+  asks ← asks_of before names
+  if are_asks columns states (length asks) then Ok asks else Err out_of_range
+
 -- three numbers
 abbrev pub counts_of : List ℕ → List ℕ → List ℕ → Result Nothing Kind
 counts_of grids states members = do
@@ -90,18 +109,19 @@ counts_in line = do
   counts ← three_in (codes "stats") line
   counts_of counts.0 counts.1 counts.2
 
--- the entries of so many columns, and the advance
-abbrev pub entries_of : (columns states : ℕ) → List (List ℕ) → Result (List (Option ℕ)) Kind
-entries_of columns states fields = do
+-- the entries of so many columns and asks in the row of this number, and the advance
+abbrev pub entries_of : (columns asks states number : ℕ) → List (List ℕ) → Result (List (Option ℕ)) Kind
+entries_of columns asks states number fields = do
   classes ← each_by (entry_in states) (take columns fields)
-  advance ← each_by (advance_in states) (drop columns fields)
-  Ok (classes ++ advance)
+  asked ← each_by (ask_entry_in number) (take asks (drop columns fields))
+  advance ← each_by (advance_in states) (drop asks (drop columns fields))
+  Ok (classes ++ (asked ++ advance))
 
--- `row t ..`: an entry for each column, and the advance
-unfoldable pub row_in : (columns states : ℕ) (line : List ℕ) → Result (List (Option ℕ)) Kind
-row_in columns states line = do
+-- `row t ..`: an entry for each column and each ask, and the advance
+unfoldable pub row_in : (columns asks states number : ℕ) (line : List ℕ) → Result (List (Option ℕ)) Kind
+row_in columns asks states number line = do
   fields ← operands (codes "row") line
-  if length fields == columns + 1 then entries_of columns states fields else Err bad_line
+  if length fields == columns + asks + 1 then entries_of columns asks states number fields else Err bad_line
 
 -- a row below the number of states, and a column or the advance
 abbrev pub place_of : (columns states : ℕ) (row column : List ℕ) → Result Nothing Kind

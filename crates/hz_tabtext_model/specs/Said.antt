@@ -1,5 +1,5 @@
 -- What a text says of a machine that was compiled of a description without a fault. This profile, docs/FORMATS.md, 'Tables'.
-use Rattle.std.specs.Prelude.{◌≡◌, ℕ, ◌<◌, ◌≤◌, ◌==◌, Bool, if◌then◌else◌, MatchBool, IsTrue, List, [], Option, Some, None, IsSomeAnd, length, map, All, slice_index_or}
+use Rattle.std.specs.Prelude.{◌≡◌, ℕ, ◌<◌, ◌≤◌, ◌==◌, Bool, if◌then◌else◌, MatchBool, IsTrue, List, [], Option, Some, None, IsSomeAnd, length, map, All, slice_index_or, not}
 use Rattle.std.specs.Option.{option_map, ForSome}
 use Rattle.std.specs.List.{enumerate_from}
 use Rattle.hz_base_model.specs.Limits.{cycle_limit}
@@ -7,13 +7,14 @@ use Rattle.hz_base_model.specs.Names.{is_name}
 use Rattle.hz_base_model.specs.Pairs.{Pair}
 use Rattle.hz_description_model.specs.Reading.Descriptions.{Options}
 use Rattle.hz_description_model.specs.Check.CheckedParts.{AutomatonParts}
-use Rattle.hz_automata_model.specs.Tables.Machines.{Part, Machine, part_at}
+use Rattle.hz_automata_model.specs.Tables.Machines.{Part, Machine, part_at, names_of}
 use Rattle.hz_automata_model.specs.Tables.Orders.{place_of}
 use Rattle.hz_automata_model.specs.Tables.StateLimits.{state_limit}
 use Rattle.hz_automata_model.specs.Compiling.AutomatonPipelines.{automaton_at}
 use Rattle.hz_automata_model.specs.Compiling.Compiled as compiled
 use Rattle.hz_automata_model.specs.Compiling.Compiled.{Report, report_at, shows_states}
 use Rattle.hz_tabtext_model.specs.Texts.{Shown, RowText, Counts, PartText, TablesText, AreCounts}
+use Rattle.hz_tabtext_model.specs.Fields.{is_nil}
 
 -- a grid with the names of these units for their numbers
 abbrev pub named_grid : (units : List (List ℕ)) → List (Pair ℕ) → List (ℕ × List ℕ)
@@ -41,13 +42,16 @@ part_said stats units report part = record {
   name = part.name;
   columns = part.columns;
   map = part.map;
+  asks = part.asks;
   counts = if stats then Some (counts_said report) else None;
   rows = map (row_said units report.shown) (enumerate_from 0 part.rows);
 }
 
--- All that is said of a machine: the treatment is that of the options, and counts are told with the option `stats`.
+-- All that is said of a machine: it has lines of asks exactly where a part has an ask; the treatment is that of the options,
+-- and counts are told with the option `stats`.
 abbrev pub tables_said : Options → List AutomatonParts → List Report → Machine → TablesText
 tables_said options automata reports m = record {
+  asked = not (is_nil (names_of m.parts));
   ndfa = options.ndfa;
   classes = m.classes;
   parts = map (λ part. part_said options.stats (automaton_at automata part.0).units (report_at reports part.0) part.1) (enumerate_from 0 m.parts);
@@ -73,6 +77,7 @@ pub record CanBeSaid (options : Options) (automata : List AutomatonParts) (repor
 pub record IsInRange (automata : List AutomatonParts) (reports : List Report) (m : Machine) : Type 0 where
   pub classes : All (λ name. IsTrue (is_name name)) m.classes
   pub parts : All (λ part. IsTrue (is_name part.name)) m.parts
+  pub asks : All (λ part. All (λ name. IsTrue (is_name name)) part.asks) m.parts
   pub rows : All (λ part. length part.rows ≤ state_limit) m.parts
   pub units : All (λ automaton. All (λ name. IsTrue (is_name name)) automaton.units) automata
   pub counts : All (λ report. AreCounts (counts_said report)) reports

@@ -1,9 +1,9 @@
 -- Tables texts: what a text says, line by line, and the machine that it stands for. This profile, docs/FORMATS.md,
 -- 'Tables'. A line is its fields, with a space between each two, and ends with a line feed.
-use Rattle.std.specs.Prelude.{◌≡◌, ◌≢◌, ℕ, ◌+◌, ◌*◌, ◌^◌, ◌<◌, ◌≤◌, Bool, if◌then◌else◌, List, [], ◌∷◌, ◌++◌, Option, Some, None, IsTrue, IfSome, length, map, codes, decimal}
+use Rattle.std.specs.Prelude.{◌≡◌, ◌≢◌, ℕ, ◌+◌, ◌*◌, ◌^◌, ◌<◌, ◌≤◌, Bool, if◌then◌else◌, List, [], ◌∷◌, ◌++◌, Option, Some, None, IsTrue, IfSome, length, map, codes, decimal, suc, IsFalse}
 use Rattle.std.specs.List.{AllByRecursion, AllPairs, flat_map, join_with_byte}
 use Rattle.hz_base_model.specs.Names.{is_name}
-use Rattle.hz_base_model.specs.Limits.{automaton_limit, class_limit, cycle_limit}
+use Rattle.hz_base_model.specs.Limits.{automaton_limit, class_limit, cycle_limit, unit_limit}
 use Rattle.hz_automata_model.specs.Tables.StateLimits.{state_limit, cell_limit}
 use Rattle.hz_automata_model.specs.Tables.Machines as machines
 
@@ -24,17 +24,20 @@ pub record Counts : Type 0 where
   pub states : ℕ
   pub members : ℕ
 
--- An automaton: its name, how many columns stand before the advance, the column of each class, its counts, if they are
--- told, and its states.
+-- An automaton: its name, how many columns its classes have, the column of each class, the names of the units that are asked
+-- for, its counts, if they are told, and its states.
 pub record PartText : Type 0 where
   pub name : List ℕ
   pub columns : ℕ
   pub map : List ℕ
+  pub asks : List (List ℕ)
   pub counts : Option Counts
   pub rows : List RowText
 
--- All that a text says: the treatment, the names of the classes, and the automata.
+-- All that a text says: whether it has lines of asks, which is version 2; the treatment, the names of the classes, and the
+-- automata.
 pub record TablesText : Type 0 where
+  pub asked : Bool
   pub ndfa : Bool
   pub classes : List (List ℕ)
   pub parts : List PartText
@@ -91,9 +94,17 @@ head_line part = codes "automaton" ∷ part.name ∷ decimal part.columns ∷ de
 abbrev pub map_line : List ℕ → List (List ℕ)
 map_line columns = codes "map" ∷ map decimal columns
 
+-- `asks NAME ..`, in version 2
+abbrev pub asks_lines : (asked : Bool) → List (List ℕ) → List (List (List ℕ))
+asks_lines asked asks = if asked then (codes "asks" ∷ asks) ∷ [] else []
+
 -- the lines of an automaton
-abbrev pub part_lines : PartText → List (List (List ℕ))
-part_lines part = head_line part ∷ map_line part.map ∷ (counts_lines part.counts ++ flat_map row_lines part.rows)
+abbrev pub part_lines : (asked : Bool) → PartText → List (List (List ℕ))
+part_lines asked part = head_line part ∷ map_line part.map ∷ (asks_lines asked part.asks ++ (counts_lines part.counts ++ flat_map row_lines part.rows))
+
+-- `hazard-tables 1`, or `hazard-tables 2`
+abbrev pub header_line : (asked : Bool) → List (List ℕ)
+header_line asked = codes "hazard-tables" ∷ (if asked then codes "2" else codes "1") ∷ []
 
 -- `treatment first`, or `treatment ndfa`
 abbrev pub treatment_line : Bool → List (List ℕ)
@@ -106,9 +117,9 @@ class_line name = codes "class" ∷ name ∷ []
 -- the lines of a text
 abbrev pub tables_lines : TablesText → List (List (List ℕ))
 tables_lines says =
-    (codes "hazard-tables" ∷ codes "1" ∷ []) ∷ treatment_line says.ndfa
+    header_line says.asked ∷ treatment_line says.ndfa
     ∷ (codes "classes" ∷ decimal (length says.classes) ∷ []) ∷ (map class_line says.classes
-    ++ (codes "automata" ∷ decimal (length says.parts) ∷ []) ∷ (flat_map part_lines says.parts
+    ++ (codes "automata" ∷ decimal (length says.parts) ∷ []) ∷ (flat_map (part_lines says.asked) says.parts
     ++ (codes "end" ∷ []) ∷ []))
 
 -- the bytes of a text
@@ -130,15 +141,28 @@ pub record IsShown (columns states : ℕ) (shown : Shown) : Type 0 where
   pub origin : IfSome shown.origin (λ place. (place.0 < states) × (place.1 ≤ columns))
   pub grids : AllByRecursion (AllByRecursion IsPair) shown.grids
 
--- A row of a table of so many columns and states: an entry for each column, and the advance, which is none never.
-pub record IsRow (columns states : ℕ) (row : RowText) : Type 0 where
+-- an entry of an ask is the number of its row, or none
+abbrev pub IsAskEntry : ℕ → Option ℕ → Type 0
+IsAskEntry number entry = IfSome entry (λ state. state ≡ number)
+
+-- The row of this number of a table of so many columns, asks and states: an entry for each column and for each ask, and the
+-- advance, which is none never.
+pub record IsRow (columns asks states number : ℕ) (row : RowText) : Type 0 where
   pub classes : List (Option ℕ)
+  pub asked : List (Option ℕ)
   pub advance : ℕ
-  pub entries : row.entries ≡ classes ++ Some advance ∷ []
+  pub entries : row.entries ≡ classes ++ (asked ++ Some advance ∷ [])
   pub width : length classes ≡ columns
   pub targets : AllByRecursion (IsEntry states) classes
+  pub ask_width : length asked ≡ asks
+  pub stays : AllByRecursion (IsAskEntry number) asked
   pub goes : advance < states
   pub shown : IfSome row.shown (IsShown columns states)
+
+-- the rows of a table from this number on
+abbrev pub AreRows : (columns asks states number : ℕ) → List RowText → Type 0
+AreRows columns asks states number [] = Unit {0}
+AreRows columns asks states number (row ∷ rows) = IsRow columns asks states number row × AreRows columns asks states (suc number) rows
 
 -- counts are below 2 ^ 32
 pub record AreCounts (counts : Counts) : Type 0 where
@@ -152,11 +176,17 @@ pub record IsPartText (classes : ℕ) (part : PartText) : Type 0 where
   pub columns : part.columns ≤ classes
   pub some : 1 ≤ length part.rows
   pub few : length part.rows ≤ state_limit
-  pub cells : length part.rows * (part.columns + 1) ≤ cell_limit
   pub each : length part.map ≡ classes
   pub within : AllByRecursion (λ column. column < part.columns) part.map
+  pub asks : AllByRecursion (λ name. IsTrue (is_name name)) part.asks
+  pub few_asks : length part.asks ≤ unit_limit
+  pub cells : length part.rows * (part.columns + length part.asks + 1) ≤ cell_limit
   pub counts : IfSome part.counts AreCounts
-  pub rows : AllByRecursion (IsRow part.columns (length part.rows)) part.rows
+  pub rows : AreRows part.columns (length part.asks) (length part.rows) 0 part.rows
+
+-- the names of all asks, part by part
+abbrev pub asks_said : List PartText → List (List ℕ)
+asks_said parts = flat_map (λ part. part.asks) parts
 
 -- What a text may say.
 pub record IsTables (says : TablesText) : Type 0 where
@@ -166,10 +196,12 @@ pub record IsTables (says : TablesText) : Type 0 where
   pub some : 1 ≤ length says.parts
   pub few : length says.parts ≤ automaton_limit
   pub parts : AllByRecursion (IsPartText (length says.classes)) says.parts
+  pub asks : AllPairs (λ a b. a ≢ b) (asks_said says.parts)
+  pub version : IsFalse says.asked → asks_said says.parts ≡ []
 
 -- an automaton as a part of a machine: its counts and what is told of its states are dropped
 abbrev pub part_of : PartText → machines.Part
-part_of part = record { name = part.name; map = part.map; columns = part.columns; rows = map (λ row. row.entries) part.rows }
+part_of part = record { name = part.name; map = part.map; columns = part.columns; asks = part.asks; rows = map (λ row. row.entries) part.rows }
 
 -- the machine that is said
 abbrev pub machine_of : TablesText → machines.Machine

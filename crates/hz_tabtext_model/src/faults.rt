@@ -1,8 +1,8 @@
 //! Laws of the faults of tables texts.
 
-ghost use Rattle.std.specs.Prelude.{◌≡◌, ◌≢◌, ◌<◌, ◌≤◌, ℕ, List, [], ◌∷◌, ◌++◌, Err, codes};
+ghost use Rattle.std.specs.Prelude.{◌≡◌, ◌≢◌, ◌<◌, ◌≤◌, ℕ, List, [], ◌∷◌, ◌++◌, Err, codes, Bool};
 ghost use Rattle.hz_automata_model.specs.Tables.Machines.{Machine};
-ghost use Rattle.hz_tabtext_model.specs.Texts.{TableText};
+ghost use Rattle.hz_tabtext_model.specs.Texts.{TableText, joined, header_line};
 ghost use Rattle.hz_tabtext_model.specs.Judging.{Fault, truncated, trailing};
 ghost use Rattle.hz_tabtext_model.specs.Reading.{tables_in};
 ghost use Rattle.hz_tabtext_model.specs.Faults.{last_line, bad_header_at, truncated_at, trailing_at};
@@ -36,8 +36,8 @@ pub fn trailing_texts_begin_with_machines()
     ensures found { (text : List ℕ) (line : ℕ) → tables_in text ≡ Err (trailing_at line) → (front : List ℕ) × (more : List ℕ) × (machine : Machine) × (text ≡ front ++ more) × (more ≢ []) × TableText front machine × (line ≡ last_line front) }
 {}
 
-/// A wrong header is told of line 1, exactly where that line is ended and the text does not begin with the header's line.
+/// A wrong header is told of line 1, exactly where that line is ended and the text begins with the line of neither header.
 pub fn headers_stand_first()
-    ensures told { (text : List ℕ) → 1 < last_line text → ((more : List ℕ) → text ≢ codes "hazard-tables 1" ++ 10 ∷ more) → tables_in text ≡ Err (bad_header_at 1) }
-    ensures found { (text : List ℕ) (line : ℕ) → tables_in text ≡ Err (bad_header_at line) → (line ≡ 1) × (1 < last_line text) × ((more : List ℕ) → text ≢ codes "hazard-tables 1" ++ 10 ∷ more) }
+    ensures told { (text : List ℕ) → 1 < last_line text → ((asked : Bool) (more : List ℕ) → text ≢ joined (header_line asked) ++ 10 ∷ more) → tables_in text ≡ Err (bad_header_at 1) }
+    ensures found { (text : List ℕ) (line : ℕ) → tables_in text ≡ Err (bad_header_at line) → (line ≡ 1) × (1 < last_line text) × ((asked : Bool) (more : List ℕ) → text ≢ joined (header_line asked) ++ 10 ∷ more) }
 {}

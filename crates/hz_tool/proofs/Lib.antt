@@ -9,6 +9,7 @@ pub mod ToldStates
 pub mod MachineLemmas
 pub mod ReadLemmas
 pub mod ReplayLaws
+pub mod ReplayedLemmas
 pub mod RunLemmas
 pub mod SlotLemmas
 pub mod StartLemmas

@@ -1,11 +1,11 @@
 -- The machine of a checked description.
-use Rattle.std.proofs.Common.{◌≡◌, ℕ, suc, List, [], ◌∷◌, length, map, take, Some, None, slice_get, inl, inr, refl, sym, ap, ◌∙◌, subst, add-one}
+use Rattle.std.proofs.Common.{◌≡◌, ℕ, suc, List, [], ◌∷◌, length, map, inl, inr, refl, sym, ap, ◌∙◌, subst}
 use Rattle.std.specs.Prelude.{slice_index_or}
 use Rattle.std.proofs.lemmas.List.{length-map}
-use Rattle.hz_acceptance_model.specs.Accepting.Events.{Event}
+use Rattle.hz_acceptance_model.specs.Traces.TraceNames.{TraceNames}
 use Rattle.hz_answer_model.specs.Answers.{ReplaysTrace, TellsLimit, Compiles}
-use Rattle.hz_answer_model.specs.TableAnswers.{Walks, WalksTrace}
-use Rattle.hz_answer_model.proofs.WalkLaws.{map_twice, traced_both}
+use Rattle.hz_answer_model.specs.TableAnswers.{WalksTrace}
+use Rattle.hz_answer_model.proofs.WalkLaws.{machine_names, map_twice, told_is_held, traced_both}
 use Rattle.hz_answer_model.specs.Texts.{states_line}
 use Rattle.hz_automata_model.specs.Compiling.Compiled.{IsCompiled, IsFirstPast, Report as Told}
 use Rattle.hz_automata_model.proofs.Compiling.DescriptionLaws.{machine_accepts, all_keep, first_past}
@@ -13,33 +13,29 @@ use Rattle.hz_check.specs.declared.checked.Checked.{Checked}
 use Rattle.hz_check.specs.Checked.{IsCheckedOf}
 use Rattle.hz_check.specs.Shape.{automaton_of, class_of}
 use Rattle.hz_description_model.specs.Check.CheckedParts.{AutomatonParts, ClassParts, automaton_names, automata_from, automata_of, class_parts}
-use Rattle.hz_description_model.specs.Check.Places.{Known}
+use Rattle.hz_description_model.specs.Check.Places.{Known, class_names}
 use Rattle.hz_mdread.specs.Shape.{options as options_of}
 use Rattle.hz_description_model.specs.Reading.Descriptions.{Description, Options}
 use Rattle.hz_automata_model.specs.Reaching.Counts.{Count}
-use Rattle.hz_replay.specs.Replaying.{FirstUnwalked}
-use Rattle.hz_automata_model.specs.Tables.Machines.{Machine, machine_walk}
+use Rattle.hz_automata_model.specs.Tables.Machines.{Machine}
 use Rattle.hz_tool.proofs.AnswerLemmas.{agrees_weaker}
 use Rattle.hz_tool.specs.Decisions.{Agrees}
 use Rattle.hz_tool.proofs.ToldStates.{IsStatesTold}
-use Rattle.hz_tool.specs.Machines.{IsMachineFor, Refuses}
+use Rattle.hz_tool.specs.Machines.{IsMachineFor}
 use Rattle.hz_tool.specs.declared.decision.Decision.{Decision}
 use Rattle.hz_tool.specs.declared.decision.Decision.TheVariants.{Automaton, Memory}
 
+-- the names of its classes
+pub classes_named : {d : Description} {known : Known} {m : Machine} → IsMachineFor d known m → m.classes ≡ class_names d
+classes_named is = ap (λ (names : TraceNames). names.classes) is.names
+
 -- as many classes
 pub classes_count : (d : Description) (known : Known) (m : Machine) → IsMachineFor d known m → length m.classes ≡ length d.classes
-classes_count d known m is = ap length is.names ∙ length-map d.classes (λ c. c.name)
-
--- what a machine refuses of its walk is told
-pub refusal : (m : Machine) (lines : List ℕ) (events : List Event) (i line : ℕ) (e : Event) (report : Decision) → FirstUnwalked m events i → slice_get events i ≡ Some e → slice_get lines i ≡ Some line → Agrees (Refuses m line e) report → Agrees (Walks m lines events) report
-refusal m lines events i line e report first there here h =
-    agrees_weaker (Refuses m line e) (Walks m lines events)
-    (λ s t (class, name, issues, named, says). inr (i, line, name, (first.before, subst (λ (n : ℕ). machine_walk m (take n events) ≡ None) (sym (add-one i)) first.stops), here, (class, there ∙ ap Some issues, named), says))
-    report h
+classes_count d known m is = ap length (classes_named is) ∙ length-map d.classes (λ c. c.name)
 
 -- a walk of the machine of a description is a replay by it
 pub walked_on : (d : Description) (known : Known) (m : Machine) → IsMachineFor d known m → (trace traced : List ℕ) (report : Decision) → Agrees (WalksTrace trace traced m) report → Agrees (ReplaysTrace trace traced d known) report
-walked_on d known m is trace traced report h = agrees_weaker (WalksTrace trace traced m) (ReplaysTrace trace traced d known) (λ s t. (traced_both d known m is.names is.walks trace traced s t).0) report h
+walked_on d known m is trace traced report h = agrees_weaker (WalksTrace trace traced m) (ReplaysTrace trace traced d known) (λ s t. (traced_both d known m is.names is.walks is.tells trace traced s t).0) report h
 
 module _ (d : Description) (checked : Checked) (is : IsCheckedOf d checked) where
   abbrev parts : List ClassParts
@@ -64,8 +60,9 @@ module _ (d : Description) (checked : Checked) (is : IsCheckedOf d checked) wher
       let here = compiled_of m reports h in
       record {
         keeps = all_keep d is.known m reports here;
-        names = here.names ∙ map_twice (λ c. c.name) (class_parts d is.known) d.classes;
+        names = machine_names d is.known m reports here;
         walks = λ t all. machine_accepts d is.known m reports here t all is.sound;
+        tells = told_is_held d is.known m reports here is.sound;
       }
 
   names_from : (n : ℕ) (names : List (List ℕ)) → map (λ (p : AutomatonParts). p.name) (automata_from d n names) ≡ names

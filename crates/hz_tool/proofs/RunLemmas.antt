@@ -6,16 +6,24 @@ use Rattle.hz_base_model.specs.Names.{Held}
 use Rattle.hz_answer_model.specs.Phases.{Says}
 use Rattle.hz_answer_model.specs.Texts.{memory_line}
 use Rattle.hz_words_model.specs.Words.{Order, order_of, usage_line}
-use Rattle.hz_tool.specs.Decided.{text_of, status_of}
+use Rattle.hz_replay.specs.declared.outcome.Outcome.{Outcome}
+use Rattle.hz_replay.specs.declared.outcome.Outcome.TheVariants.{Accepted, Refused}
+use Rattle.hz_tool.specs.Decided.{replay_status, text_of, status_of}
 use Rattle.hz_tool.specs.Decisions.{Agrees, CountsDecision, DecidesWords, NamesFile, IsFileWord}
 use Rattle.hz_tool.specs.Endings.{IsAppended, AppendsPromised, SaysFile, Completes, HasAll, HasRoom, MayWrite}
 use Rattle.hz_tool.specs.declared.decision.Decision.{Decision}
-use Rattle.hz_tool.specs.declared.decision.Decision.TheVariants.{Memory, File, Usage}
+use Rattle.hz_tool.specs.declared.decision.Decision.TheVariants.{Memory, File, Replayed, Usage}
 use Rattle.hz_answer_model.proofs.AnswerLaws.{answer_single}
 use Rattle.hz_answer_model.proofs.PromiseLaws.{promised}
 
+-- a replay is accepted or refused
+replay_status_low : (outcome : Outcome) → replay_status outcome ≤ 1
+replay_status_low (Accepted issues cycles) = omega arith
+replay_status_low (Refused event) = omega arith
+
 -- status 6 is that of a file's line
 pub says_file : (words : List (List ℕ)) (decision : Decision) → status_of decision ≡ 6 → NamesFile (IsFileWord words) decision → SaysFile words (text_of decision)
+says_file words (Replayed machine events outcome) e h = absurd (let low = replay_status_low outcome in omega (arith, e, low))
 says_file words (File file) e h = record { name = file.now; word = h; line = refl }
 says_file words _ e h = absurd (omega arith)
 
@@ -61,6 +69,7 @@ appends_promised words held old new steady decision before after same answer zer
 
 -- where all files are held, no file is told
 pub no_file : (words : List (List ℕ)) (held : Held) (decision : Decision) → HasAll words held → NamesFile (IsFileWord words) decision → NamesFile (λ name. held name ≡ None) decision → status_of decision ≡ 6 → ⊥
+no_file words held (Replayed machine events outcome) all word lacks e = absurd (let low = replay_status_low outcome in omega (arith, e, low))
 no_file words held (File name) all word lacks e = all name.now word lacks
 no_file words held _ all word lacks e = absurd (omega arith)
 
@@ -80,4 +89,5 @@ memory_decides (Some order) = tt
 pub no_order : (order : Option Order) (decision : Decision) → DecidesWords order decision → status_of decision ≡ 4 → order ≡ None
 no_order None decision h e = refl
 no_order (Some order) Usage h e = absurd h
+no_order (Some order) (Replayed machine events outcome) h e = absurd (let low = replay_status_low outcome in omega (arith, e, low))
 no_order (Some order) _ h e = absurd (omega arith)

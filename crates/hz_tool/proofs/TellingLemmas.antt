@@ -1,10 +1,9 @@
 -- What is decided of a fault is what a phase may tell.
-use Rattle.std.proofs.Common.{◌≡◌, ℕ, List, map, Option, Some, None, Result, Ok, Err, MatchOption, slice_get, refl, sym, ap, ap₂, ◌∙◌, subst}
+use Rattle.std.proofs.Common.{◌≡◌, ℕ, List, map, Option, Some, None, Result, Ok, Err, MatchOption, refl, sym, ap, ap₂, ◌∙◌, subst}
 use Rattle.std.proofs.lemmas.Option.{same_Some, none-some}
 use Rattle.std.specs.Prelude.{⊤, IfOk, option_and_then}
 use Rattle.std.specs.Borrow.{Bor}
 use Rattle.std.specs.Option.{option_map}
-use Rattle.hz_acceptance_model.specs.Accepting.Events.{Event, issue}
 use Rattle.hz_answer_model.specs.Answers.{TellsDescription, TellsCheck}
 use Rattle.hz_answer_model.specs.FaultTexts.{told_line, status_by}
 use Rattle.hz_answer_model.specs.Phases.{TellsFault}
@@ -15,7 +14,6 @@ use Rattle.hz_auto.specs.declared.fault.AutoFault.{AutoFault}
 use Rattle.hz_auto.specs.declared.fault.AutoFault.TheVariants as auto_fault
 use Rattle.hz_automata_model.specs.Compiling.Compiled.{IsFirstPast}
 use Rattle.hz_automata_model.specs.Reaching.Counts.{Count}
-use Rattle.hz_automata_model.specs.Tables.Machines.{Machine}
 use Rattle.hz_base_model.specs.Forms.Trees.{Trees}
 use Rattle.hz_base_model.specs.Told.{told_by, told_in}
 use Rattle.hz_check.specs.Faults.{IsToldAt, limit_of}
@@ -31,8 +29,7 @@ use Rattle.hz_description_model.specs.Reading.Descriptions.{Description}
 use Rattle.hz_mdread.specs.Shape.{options as options_of}
 use Rattle.hz_tool.specs.Decisions.{Agrees, IsJudged}
 use Rattle.hz_tool.proofs.ToldStates.{IsStatesTold}
-use Rattle.hz_tool.specs.Machines.{Refuses}
-use Rattle.hz_tool.specs.Telling.{decide_fault, decide_check, decide_states, refused_at, limited}
+use Rattle.hz_tool.specs.Telling.{decide_fault, decide_check, decide_states, limited}
 use Rattle.hz_tool.specs.declared.decision.Decision.{Decision}
 
 -- a fault that is told by its word and its line, or memory ran out
@@ -89,16 +86,6 @@ states_told file automaton (Err refused) h = tt
 pub states_judged : {E : Type 0} (file : Bor (List ℕ)) (copied : Result (List ℕ) E) (told : Decision) → told ≡ decide_states file copied → IsJudged told
 states_judged file (Ok name) told is = subst IsJudged (sym is) tt
 states_judged file (Err refused) told is = subst IsJudged (sym is) tt
-
--- a refused issue is told by the name of its class, or memory ran out
-pub refused_told : {E : Type 0} (m : Machine) (line class : ℕ) (e : Event) (name : List ℕ) (copied : Result (List ℕ) E) (told : Decision) → e ≡ issue class → slice_get m.classes class ≡ Some name → IfOk copied (λ n. n ≡ name)
-    → told ≡ refused_at line copied → Agrees (Refuses m line e) told
-refused_told m line class e name (Ok n) told same there named is = subst (Agrees (Refuses m line e)) (sym is) (class, n, same, there ∙ ap Some (sym named), (refl, refl))
-refused_told m line class e name (Err refused) told same there named is = subst (Agrees (Refuses m line e)) (sym is) tt
-
-pub refused_judged : {E : Type 0} (line : ℕ) (copied : Result (List ℕ) E) (told : Decision) → told ≡ refused_at line copied → IsJudged told
-refused_judged line (Ok name) told is = subst IsJudged (sym is) tt
-refused_judged line (Err refused) told is = subst IsJudged (sym is) tt
 
 same_number : (a b : ℕ) → Some a ≡ Some b → a ≡ b
 same_number a b e = cc

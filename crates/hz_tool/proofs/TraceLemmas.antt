@@ -12,6 +12,7 @@ use Rattle.hz_replay.specs.declared.event.Event.{Event as Placed}
 use Rattle.hz_replay.specs.declared.event.What.TheVariants.{Issue}
 use Rattle.hz_replay.specs.Lines.{event_of}
 use Rattle.hz_replay.specs.Traces.{events_in, lines_in}
+use Rattle.hz_acceptance_model.specs.Traces.TraceNames.{TraceNames}
 use Rattle.hz_acceptance_model.specs.Traces.Traces.{Trace, TraceFaultAt, trace_word, Line, line_says, event_lines, numbered}
 use Rattle.hz_acceptance_model.specs.Traces.Traces as trace
 use Rattle.hz_tool.proofs.AnswerLemmas.{agrees_weaker}
@@ -19,12 +20,12 @@ use Rattle.hz_tool.specs.Decisions.{Agrees}
 use Rattle.hz_tool.specs.declared.decision.Decision.{Decision}
 
 -- the first wrong line of a trace is told
-pub trace_refused : (classes : List (List ℕ)) (name text : List ℕ) (next : List Event → ℕ → List ℕ → Type 0) (told : Decision) → Agrees (TellsFault trace_word (TraceFaultAt classes text) name) told → Agrees (Traces classes name text next) told
-trace_refused classes name text next told = agrees_weaker (TellsFault trace_word (TraceFaultAt classes text) name) (Traces classes name text next) (λ s t h. inr h) told
+pub trace_refused : (names : TraceNames) (name text : List ℕ) (next : List Event → ℕ → List ℕ → Type 0) (told : Decision) → Agrees (TellsFault trace_word (TraceFaultAt names text) name) told → Agrees (Traces names name text next) told
+trace_refused names name text next told = agrees_weaker (TellsFault trace_word (TraceFaultAt names text) name) (Traces names name text next) (λ s t h. inr h) told
 
 -- the events of a trace, replayed
-pub trace_replayed : (classes : List (List ℕ)) (name text : List ℕ) (events : List Event) (next : List Event → ℕ → List ℕ → Type 0) (report : Decision) → Trace classes text events → Agrees (next events) report → Agrees (Traces classes name text next) report
-trace_replayed classes name text events next report is h = agrees_weaker (next events) (Traces classes name text next) (λ s t a. inl (events, is, a)) report h
+pub trace_replayed : (names : TraceNames) (name text : List ℕ) (events : List Event) (next : List Event → ℕ → List ℕ → Type 0) (report : Decision) → Trace names text events → Agrees (next events) report → Agrees (Traces names name text next) report
+trace_replayed names name text events next report is h = agrees_weaker (next events) (Traces names name text next) (λ s t a. inl (events, is, a)) report h
 
 -- the line of an event
 pub line_there : (events : List Placed) (i : ℕ) (e : Placed) → i < length events → slice_get (lines_in events) i ≡ Some (get_or events i e).line
@@ -59,11 +60,11 @@ event_few (trace.says event) number n numbers few = omega (arith, few)
 event_few trace.skipped number n numbers few = omega (arith, few)
 event_few (trace.wrong fault) number n numbers few = omega (arith, few)
 
-events_few : (classes lines : List (List ℕ)) (number : ℕ) → length (event_lines classes number lines) ≤ length lines
-events_few classes [] number = omega arith
-events_few classes (line ∷ lines) number = let few = event_few (line_says classes line) number (length lines) (event_lines classes (number + 1) lines) (events_few classes lines (number + 1)) in omega (arith, few)
+events_few : (names : TraceNames) (lines : List (List ℕ)) (number : ℕ) → length (event_lines names number lines) ≤ length lines
+events_few names [] number = omega arith
+events_few names (line ∷ lines) number = let few = event_few (line_says names line) number (length lines) (event_lines names (number + 1) lines) (events_few names lines (number + 1)) in omega (arith, few)
 
-pub trace_few : (classes : List (List ℕ)) (text : List ℕ) (events : List Placed) → lines_in events ≡ event_lines classes 1 (lines_of text) → length events ≤ length text
-trace_few classes text events lines =
-    let few = events_few classes (lines_of text) 1 in
+pub trace_few : (names : TraceNames) (text : List ℕ) (events : List Placed) → lines_in events ≡ event_lines names 1 (lines_of text) → length events ≤ length text
+trace_few names text events lines =
+    let few = events_few names (lines_of text) 1 in
     omega (arith, few, lines_few text, ap length lines, length-map events (λ (e : Placed). e.line))

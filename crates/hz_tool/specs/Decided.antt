@@ -14,22 +14,25 @@ use Rattle.hz_duo.specs.Shape as pairs
 use Rattle.hz_duo_model.specs.Texts.{duo_text}
 use Rattle.hz_description_model.specs.Check.CheckFaults.{limit_word}
 use Rattle.hz_base_model.specs.Told.{told_in}
+use Rattle.hz_replay.specs.declared.outcome.Outcome.{Outcome}
+use Rattle.hz_replay.specs.declared.outcome.Outcome.TheVariants.{Accepted, Refused}
+use Rattle.hz_report.specs.Replays.{IsReplay, replay_text}
 use Rattle.hz_report.specs.Schedules.{IsInRange, schedule_by}
 use Rattle.hz_rtl.specs.Listings.{listing}
 use Rattle.hz_sched.specs.Shape.{graph_of, slots_of}
 use Rattle.hz_timed.specs.Shape.{timed_text}
 use Rattle.hz_timed.specs.Shape as timings
+use Rattle.hz_tables.specs.Machines.{machine_of}
 use Rattle.hz_tabfile.specs.Saying.{says, IsSayable}
 use Rattle.hz_tabtext_model.specs.Texts.{spelled}
 use Rattle.hz_words_model.specs.Words.{usage_line}
 use Rattle.hz_tool.specs.Kernels.{IsKernelInRange}
 use Rattle.hz_tool.specs.declared.decision.Decision.{Decision}
-use Rattle.hz_tool.specs.declared.decision.Decision.TheVariants.{Accepted, Refused, Tables, Scheduled, Timed, Bounded, Paired, Overlapped, Drilled, After, Fault, Limit, Automaton, Bytes, Insns, Usage, Memory, File}
+use Rattle.hz_tool.specs.declared.decision.Decision.TheVariants.{Replayed, Tables, Scheduled, Timed, Bounded, Paired, Overlapped, Drilled, After, Fault, Limit, Automaton, Bytes, Insns, Usage, Memory, File}
 
 -- the text that is written
 abbrev pub text_of : Decision → List ℕ
-text_of (Accepted issues cycles) = model.accepted_line issues cycles
-text_of (Refused line class) = model.refused_line line class
+text_of (Replayed machine events outcome) = replay_text (machine_of machine) events.items outcome
 text_of (Tables compiled checked) = spelled (says compiled checked)
 text_of (Scheduled machine graph schedule) = schedule_by machine.classes.items (map (λ i. i.number) graph.insns.items) (graph_of graph) (slots_of schedule.slots.items)
 text_of (Timed block schedule timed) = timed_text block schedule timed
@@ -47,10 +50,14 @@ text_of Usage = usage_line
 text_of Memory = model.memory_line
 text_of (File name) = model.file_line name.now
 
+-- the status of a replay
+abbrev pub replay_status : Outcome → ℕ
+replay_status (Accepted issues cycles) = 0
+replay_status (Refused event) = 1
+
 -- its status, where the text is written whole
 abbrev pub status_of : Decision → ℕ
-status_of (Accepted issues cycles) = 0
-status_of (Refused line class) = 1
+status_of (Replayed machine events outcome) = replay_status outcome
 status_of (Tables compiled checked) = 0
 status_of (Scheduled machine graph schedule) = 0
 status_of (Timed block schedule timed) = 0
@@ -68,10 +75,11 @@ status_of Usage = 4
 status_of Memory = 5
 status_of (File name) = 6
 
--- what is named is there to be told: what is told of each automaton of tables, the instructions and the classes of a schedule,
+-- what is named is there to be told: a replay is that of its events, what is told of each automaton of tables, the instructions and the classes of a schedule,
 -- the slots and the instructions of what is read, the instructions and the unit of a bound, the instructions and the classes of two blocks,
 -- those of a kernel
 abbrev pub IsTellable : Decision → Type 0
+IsTellable (Replayed machine events outcome) = IsReplay machine events.items outcome
 IsTellable (Tables compiled checked) = IsSayable compiled checked
 IsTellable (Scheduled machine graph schedule) = IsInRange machine graph schedule
 IsTellable (Timed block schedule timed) = timings.IsInRange block schedule timed

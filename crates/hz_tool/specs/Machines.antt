@@ -1,26 +1,21 @@
 -- The machine of a description, and what is told of its replay.
-use Rattle.std.specs.Prelude.{◌≡◌, ◌↔◌, ℕ, ◌<◌, List, Some, IsSome, All, length, slice_get}
-use Rattle.hz_acceptance_model.specs.Accepting.Events.{Event, issue, IsOfClass}
+use Rattle.std.specs.Prelude.{◌≡◌, ◌↔◌, ℕ, List, IsSome, All, length}
+use Rattle.hz_acceptance_model.specs.Accepting.Asking.{IsOfQuery}
+use Rattle.hz_acceptance_model.specs.Accepting.Events.{Event, ask, IsOfClass}
 use Rattle.hz_acceptance_model.specs.Accepting.Replay.{Accepted}
-use Rattle.hz_answer_model.specs.Phases.{Says}
-use Rattle.hz_answer_model.specs.Texts.{refused_line}
-use Rattle.hz_automata_model.specs.Compiling.DescriptionLimits.{AllKeepLimits}
-use Rattle.hz_description_model.specs.Check.Places.{Known, class_names}
-use Rattle.hz_description_model.specs.Reading.Descriptions.{Description}
 use Rattle.hz_acceptance_model.specs.Pipelines.Pipelines.{pipeline_with}
+use Rattle.hz_answer_model.specs.AskAnswers.{held_in, told_by, trace_names}
+use Rattle.hz_automata_model.specs.Compiling.DescriptionLimits.{AllKeepLimits}
+use Rattle.hz_automata_model.specs.Tables.MachineNames.{names_of_machine}
 use Rattle.hz_automata_model.specs.Tables.Machines.{Machine, machine_walk}
+use Rattle.hz_description_model.specs.Check.Places.{Known}
+use Rattle.hz_description_model.specs.Reading.Descriptions.{Description}
 
--- The machine has the classes of the description, whose automata are within their limits of states, and walks just the events that the
--- description accepts.
+-- The machine has the names of the description's classes and query units; its automata are within their limits of states; it walks just
+-- the events that the description accepts, and behind them tells the query units reserved that the description holds.
 pub record IsMachineFor (d : Description) (known : Known) (m : Machine) : Type 0 where
   pub keeps : AllKeepLimits d known
-  pub names : m.classes ≡ class_names d
+  pub names : names_of_machine m ≡ trace_names d
   pub walks : (t : List Event) → All (IsOfClass (length d.classes)) t → IsSome (machine_walk m t) ↔ Accepted (pipeline_with d known) t
-
--- the event is an issue of a class of the machine
-abbrev pub IsIssueIn : Machine → Event → Type 0
-IsIssueIn m e = (class : ℕ) × (e ≡ issue class) × (class < length m.classes)
-
--- the issue of that line is refused, by the name of its class
-abbrev pub Refuses : Machine → ℕ → Event → ℕ → List ℕ → Type 0
-Refuses m line e status text = (class : ℕ) × (name : List ℕ) × (e ≡ issue class) × (slice_get m.classes class ≡ Some name) × Says 1 (refused_line line name) status text
+  pub tells : (before : List Event) (automaton query : ℕ) → IsSome (machine_walk m before) → All (IsOfClass (length d.classes)) before
+      → IsOfQuery (trace_names d).queries (ask automaton query) → told_by m before automaton query ↔ held_in d known before automaton query

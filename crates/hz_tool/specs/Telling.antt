@@ -47,11 +47,6 @@ abbrev pub decide_states : {E : Type 0} → Bor (List ℕ) → Result (List ℕ)
 decide_states file (Ok name) = decision.Automaton file name
 decide_states file (Err refused) = decision.Memory
 
--- an issue that does not fit, by its line and the copy of its class's name
-abbrev pub refused_at : {E : Type 0} → ℕ → Result (List ℕ) E → Decision
-refused_at line (Ok name) = decision.Refused line name
-refused_at line (Err refused) = decision.Memory
-
 -- a fault of an instruction, by its word
 abbrev pub decide_insn : Bor (List ℕ) → Insn → (word : Bor (List ℕ)) → (first second : Option (List ℕ)) → Decision
 decide_insn file insn word first second = decision.Fault file insn.line word (Some insn.number) first second None

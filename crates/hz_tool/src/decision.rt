@@ -2,7 +2,7 @@
 
 ghost use Rattle.std.specs.Prelude.{◌≡◌, ◌≤◌, ◌<◌, ◌^◌, ◌-◌};
 ghost use Rattle.hz_io.specs.Sink.{Writes};
-ghost use Rattle.hz_tool.specs.Decided.{status_of, text_of, IsTellable};
+ghost use Rattle.hz_tool.specs.Decided.{replay_status, status_of, text_of, IsTellable};
 
 use hz_auto::Compiled;
 use hz_bound::{Bound, write_bound};
@@ -12,25 +12,24 @@ use hz_duo::{DuoSlot, write_duo};
 use hz_io::{Failed, Sink};
 use hz_modulo::{Kernel, write_kernel};
 use hz_regexp::Name;
+use hz_replay::{Event, Outcome};
 use hz_report::{Report, write_report};
 use hz_rtl::{Block, State};
 use hz_sched::Schedule;
 use hz_tabfile::write_tables;
 use hz_tables::Machine;
 use hz_timed::{Timed, write_timed};
+use std::alloc::Global;
 
 /// An answer before it is written, which owns what is done. A file goes by the word that names it, lines are counted from 1.
 #[derive(Drop)]
 pub enum Decision<'a> {
-    /// Every issue of the trace fits.
-    Accepted {
-        issues: u64,
-        cycles: u64,
-    },
-    /// The first issue that does not fit: its line and its class.
-    Refused {
-        line: u32,
-        class: Name,
+    /// The replay of a trace: the machine has the names of its classes and of its units that are asked for, the events their
+    /// lines.
+    Replayed {
+        machine: Machine,
+        events: Vec<Event>,
+        outcome: Outcome,
     },
     /// The tables of a description: what is compiled of it, and the description as it was checked.
     Tables {
@@ -123,6 +122,16 @@ pub enum Decision<'a> {
     },
 }
 
+/// The status of a replay: 0 where all is accepted, 1 where an issue is refused.
+fn status_after(outcome: &Outcome) -> u8
+    ensures { result ≡ replay_status outcome.now }
+{
+    match outcome {
+        Outcome::Accepted { .. } => 0,
+        Outcome::Refused { .. } => 1,
+    }
+}
+
 impl Decision<'_> {
     /// The status of the answer, if its text is written whole.
     pub fn status(&self) -> u8
@@ -130,8 +139,8 @@ impl Decision<'_> {
         ensures range { result ≤ 6 }
     {
         match self {
-            Decision::Accepted { .. }
-            | Decision::Tables { .. }
+            Decision::Replayed { outcome, .. } => status_after(outcome),
+            Decision::Tables { .. }
             | Decision::Scheduled { .. }
             | Decision::Timed { .. }
             | Decision::Bounded { .. }
@@ -139,7 +148,6 @@ impl Decision<'_> {
             | Decision::Overlapped { .. }
             | Decision::Drilled { .. }
             | Decision::After { .. } => 0,
-            Decision::Refused { .. } => 1,
             Decision::Fault { .. } => 2,
             Decision::Limit { .. }
             | Decision::Automaton { .. }
@@ -153,28 +161,32 @@ impl Decision<'_> {
 
     /// Writes the text of the answer, which is lent to what writes it: all of it, or a front of it if the sink failed, with one
     /// more fault. It takes no memory.
-    pub fn write<S: Sink>(&self, out: &mut S) -> Result<(), Failed>
+    pub fn write<S: Sink>(&self, alloc: Global, out: &mut S) -> Result<(), Failed>
         requires sink { S.faults out.old < 2 ^ 64 - 1 }
         requires range { IsTellable self.now }
         ensures { Writes S.written S.room S.faults out.old out.new (text_of self.now) result }
     {
         match self {
-            Decision::Accepted { issues, cycles } => write_report(
-                &Report::Accepted {
-                    issues: *issues,
-                    cycles: *cycles,
+            Decision::Replayed {
+                machine,
+                events,
+                outcome,
+            } => write_report(
+                alloc,
+                &Report::Replayed {
+                    machine,
+                    events,
+                    outcome,
                 },
                 out,
             ),
-            Decision::Refused { line, class } => {
-                write_report(&Report::Refused { line: *line, class }, out)
-            }
             Decision::Tables { compiled, checked } => write_tables(compiled, checked, out),
             Decision::Scheduled {
                 machine,
                 graph,
                 schedule,
             } => write_report(
+                alloc,
                 &Report::Scheduled {
                     machine,
                     graph,
@@ -212,6 +224,7 @@ impl Decision<'_> {
                 cycles,
                 states,
             } => write_report(
+                alloc,
                 &Report::Drill {
                     turns: *turns,
                     issues: *issues,
@@ -220,7 +233,7 @@ impl Decision<'_> {
                 },
                 out,
             ),
-            Decision::After { state } => write_report(&Report::After { state }, out),
+            Decision::After { state } => write_report(alloc, &Report::After { state }, out),
             Decision::Fault {
                 file,
                 line,
@@ -230,6 +243,7 @@ impl Decision<'_> {
                 second,
                 at,
             } => write_report(
+                alloc,
                 &Report::Fault {
                     file,
                     line: *line,
@@ -247,6 +261,7 @@ impl Decision<'_> {
                 what,
                 name,
             } => write_report(
+                alloc,
                 &Report::Checked {
                     file,
                     line: *line,
@@ -256,13 +271,13 @@ impl Decision<'_> {
                 out,
             ),
             Decision::Automaton { file, name } => {
-                write_report(&Report::Automaton { file, name }, out)
+                write_report(alloc, &Report::Automaton { file, name }, out)
             }
-            Decision::Bytes { file } => write_report(&Report::Bytes { file }, out),
-            Decision::Insns { file } => write_report(&Report::Insns { file }, out),
-            Decision::Usage => write_report(&Report::Usage, out),
-            Decision::Memory => write_report(&Report::Memory, out),
-            Decision::File { name } => write_report(&Report::File { name }, out),
+            Decision::Bytes { file } => write_report(alloc, &Report::Bytes { file }, out),
+            Decision::Insns { file } => write_report(alloc, &Report::Insns { file }, out),
+            Decision::Usage => write_report(alloc, &Report::Usage, out),
+            Decision::Memory => write_report(alloc, &Report::Memory, out),
+            Decision::File { name } => write_report(alloc, &Report::File { name }, out),
         }
     }
 }

@@ -196,7 +196,7 @@ pub fn run<F: Files, S: Sink>(alloc: Global, words: &[String], files: &mut F, ou
     ensures promised { ForSome (F.held files.old) (λ held. result ≡ 0 → (order : model.Order) → model.order_of (words_in words.now) ≡ Some order → AppendsPromised held order (S.written out.old) (S.written out.new)) }
 {
     let decision = decide(alloc, words, files);
-    match decision.write(out) {
+    match decision.write(alloc, out) {
         Ok(()) => decision.status(),
         Err(_) => 7,
     }

@@ -5,6 +5,7 @@ use Rattle.std.proofs.lemmas.Bool.{eqb-false}
 use Rattle.std.proofs.lemmas.List.{append-nil}
 use Rattle.std.proofs.lemmas.List.Elements.{All-nil, All-cons, All-push}
 use Rattle.hz_acceptance_model.specs.Accepting.Events.{Event, issue, advance, issues_of, cycles_of, IsOfClass}
+use Rattle.hz_acceptance_model.specs.Accepting.Asking.{IsOfQuery}
 use Rattle.hz_acceptance_model.specs.Traces.Drills.{next_number, number_after, upper_from, draw, IsTurn, IsOfTurn, Draws, Drawn}
 
 -- ---- one turn
@@ -68,26 +69,35 @@ some_from accepts decide classes before number (suc turns) =
     let rest = some_from accepts decide classes (before ++ first.0 ∷ []) (next_number number) turns in
     (first.0 ∷ rest.0, (first.1, rest.1))
 
+-- what holds of each event that a turn can have holds of all that are drawn
+draws_all : (P : Event → Type 0) (accepts : List Event → Type 0) (classes : ℕ) → ((e : Event) → IsOne classes e → P e) → (before : List Event) (number turns : ℕ) (t : List Event) → Draws accepts classes before number turns t → All P t
+draws_all P accepts classes each before number zero t h = subst (All P) (sym h) (All-nil P)
+draws_all P accepts classes each before number (suc turns) [] h = absurd h
+draws_all P accepts classes each before number (suc turns) (e ∷ t) (first, h) =
+    All-cons P e t (each e (turn_one accepts classes (next_number number) before e first)) (draws_all P accepts classes each (before ++ e ∷ []) (next_number number) turns t h)
+
 -- the events are of the classes
 of_class : (classes : ℕ) (e : Event) → IsOne classes e → IsOfClass classes e
 of_class classes _ (issued low) = low
 of_class classes _ advanced = tt
 
 pub draws_of_class : (accepts : List Event → Type 0) (classes : ℕ) (before : List Event) (number turns : ℕ) (t : List Event) → Draws accepts classes before number turns t → All (IsOfClass classes) t
-draws_of_class accepts classes before number zero t h = subst (All (IsOfClass classes)) (sym h) (All-nil (IsOfClass classes))
-draws_of_class accepts classes before number (suc turns) [] h = absurd h
-draws_of_class accepts classes before number (suc turns) (e ∷ t) (first, h) =
-    All-cons (IsOfClass classes) e t (of_class classes e (turn_one accepts classes (next_number number) before e first)) (draws_of_class accepts classes (before ++ e ∷ []) (next_number number) turns t h)
+draws_of_class accepts classes = draws_all (IsOfClass classes) accepts classes (of_class classes)
 
 of_turn : (classes : ℕ) (e : Event) → IsOne classes e → IsOfTurn classes e
 of_turn classes _ (issued low) = low
 of_turn classes _ advanced = refl
 
 pub draws_of_turn : (accepts : List Event → Type 0) (classes : ℕ) (before : List Event) (number turns : ℕ) (t : List Event) → Draws accepts classes before number turns t → All (IsOfTurn classes) t
-draws_of_turn accepts classes before number zero t h = subst (All (IsOfTurn classes)) (sym h) (All-nil (IsOfTurn classes))
-draws_of_turn accepts classes before number (suc turns) [] h = absurd h
-draws_of_turn accepts classes before number (suc turns) (e ∷ t) (first, h) =
-    All-cons (IsOfTurn classes) e t (of_turn classes e (turn_one accepts classes (next_number number) before e first)) (draws_of_turn accepts classes (before ++ e ∷ []) (next_number number) turns t h)
+draws_of_turn accepts classes = draws_all (IsOfTurn classes) accepts classes (of_turn classes)
+
+-- none asks
+of_query : (queries : List (List (List ℕ))) (classes : ℕ) (e : Event) → IsOne classes e → IsOfQuery queries e
+of_query queries classes _ (issued low) = tt
+of_query queries classes _ advanced = tt
+
+pub draws_of_query : (accepts : List Event → Type 0) (queries : List (List (List ℕ))) (classes : ℕ) (before : List Event) (number turns : ℕ) (t : List Event) → Draws accepts classes before number turns t → All (IsOfQuery queries) t
+draws_of_query accepts queries classes = draws_all (IsOfQuery queries) accepts classes (of_query queries classes)
 
 pub draws_each : (accepts : List Event → Type 0) (classes : ℕ) (before : List Event) (number turns : ℕ) (t : List Event) → Draws accepts classes before number turns t → length t ≡ turns
 draws_each accepts classes before number zero t h = ap length h

@@ -12,9 +12,9 @@ use Rattle.std.proofs.lemmas.List.Folds.{list_all-append}
 use Rattle.std.proofs.lemmas.Slice.Eq.{bytes_eq-Decides}
 use Rattle.hz_base_model.specs.Names.{is_name, is_name_byte, is_separator}
 use Rattle.hz_base_model.specs.Lines.{number_of, number_from, place_of}
-use Rattle.hz_acceptance_model.specs.Accepting.Events.{Event, issue, advance, ask}
-use Rattle.hz_acceptance_model.specs.Accepting.Asking.{issues_and_advances}
-use Rattle.hz_acceptance_model.specs.Traces.Traces.{Line, skipped, says, wrong, bad_line, unknown_class, is_margin, is_gap, without_margin, first_word, operand, says_issue, says_advance, says_words, says_content, line_says, Say}
+use Rattle.hz_acceptance_model.specs.Accepting.Events.{issue, advance, ask}
+use Rattle.hz_acceptance_model.specs.Traces.TraceNames.{TraceNames, query_place}
+use Rattle.hz_acceptance_model.specs.Traces.Traces.{Line, skipped, says, wrong, bad_line, unknown_class, unknown_unit, is_margin, is_gap, without_margin, first_word, operand, says_issue, says_advance, says_ask, says_words, says_content, line_says}
 use Rattle.hz_acceptance_model.specs.Traces.TraceLines.{IsWords, IsSkipped, is_blank, is_comment}
 
 -- ---- a front of bytes that pass a test
@@ -254,22 +254,24 @@ solid_digits (b ∷ bs) n h = go (list_all is_ascii_digit (b ∷ bs)) refl h
 
 -- ---- what a line says, and what it is made of
 
-module _ (classes : List (List ℕ)) where
+module _ (names : TraceNames) where
   data LineIs (line : List ℕ) : Line → Type 0 where
     an_empty : IsSkipped line → LineIs line skipped
-    an_issue : (name : List ℕ) (class : ℕ) → IsWords line (codes "issue") name → IsTrue (is_name name) → place_of name classes ≡ Some class → LineIs line (says (issue class))
+    an_issue : (name : List ℕ) (class : ℕ) → IsWords line (codes "issue") name → IsTrue (is_name name) → place_of name names.classes ≡ Some class → LineIs line (says (issue class))
     an_advance : (digits : List ℕ) (cycles : ℕ) → IsWords line (codes "advance") digits → number_of digits ≡ Some cycles → LineIs line (says (advance cycles))
-    an_unknown : (name : List ℕ) → IsWords line (codes "issue") name → IsTrue (is_name name) → place_of name classes ≡ None → LineIs line (wrong unknown_class)
+    an_unknown : (name : List ℕ) → IsWords line (codes "issue") name → IsTrue (is_name name) → place_of name names.classes ≡ None → LineIs line (wrong unknown_class)
+    an_ask : (name : List ℕ) (automaton query : ℕ) → IsWords line (codes "ask") name → IsTrue (is_name name) → query_place names name ≡ Some (automaton, query) → LineIs line (says (ask automaton query))
+    no_query : (name : List ℕ) → IsWords line (codes "ask") name → IsTrue (is_name name) → query_place names name ≡ None → LineIs line (wrong unknown_unit)
     a_bad : LineIs line (wrong bad_line)
 
   -- by the word and the operand
-  issue_view : (line name : List ℕ) → (0 < length name → IsWords line (codes "issue") name) → LineIs line (says_issue classes name)
+  issue_view : (line name : List ℕ) → (0 < length name → IsWords line (codes "issue") name) → LineIs line (says_issue names.classes name)
   issue_view line name words = by_name (is_name name) refl
     where
-      by_name : (t : Bool) → is_name name ≡ t → LineIs line (cond t (option_map_or (λ k. says (issue k)) (place_of name classes) (wrong unknown_class)) (wrong bad_line))
-      by_name true e = by_place (place_of name classes) refl
+      by_name : (t : Bool) → is_name name ≡ t → LineIs line (cond t (option_map_or (λ k. says (issue k)) (place_of name names.classes) (wrong unknown_class)) (wrong bad_line))
+      by_name true e = by_place (place_of name names.classes) refl
         where
-          by_place : (o : Option ℕ) → place_of name classes ≡ o → LineIs line (option_map_or (λ k. says (issue k)) o (wrong unknown_class))
+          by_place : (o : Option ℕ) → place_of name names.classes ≡ o → LineIs line (option_map_or (λ k. says (issue k)) o (wrong unknown_class))
           by_place (Some k) p = an_issue name k (words (solid_name name e).some) e p
           by_place None p = an_unknown name (words (solid_name name e).some) e p
       by_name false e = a_bad
@@ -281,13 +283,29 @@ module _ (classes : List (List ℕ)) where
       by_number (Some n) p = an_advance digits n (words (solid_digits digits n p).some) p
       by_number None p = a_bad
 
-  words_view : (line word operand : List ℕ) → (0 < length operand → IsWords line word operand) → LineIs line (says_words classes word operand)
-  words_view line word operand words = by_word (bytes_eq word (codes "issue")) (bytes_eq word (codes "advance")) refl refl
+  ask_view : (line name : List ℕ) → (0 < length name → IsWords line (codes "ask") name) → LineIs line (says_ask names name)
+  ask_view line name words = by_name (is_name name) refl
     where
-      by_word : (s t : Bool) → bytes_eq word (codes "issue") ≡ s → bytes_eq word (codes "advance") ≡ t → LineIs line (cond s (says_issue classes operand) (cond t (says_advance operand) (wrong bad_line)))
-      by_word true t e f = issue_view line operand (λ some. subst (λ (w : List ℕ). IsWords line w operand) ((bytes_eq-Decides word (codes "issue")).0 e) (words some))
-      by_word false true e f = advance_view line operand (λ some. subst (λ (w : List ℕ). IsWords line w operand) ((bytes_eq-Decides word (codes "advance")).0 f) (words some))
-      by_word false false e f = a_bad
+      by_name : (t : Bool) → is_name name ≡ t → LineIs line (cond t (option_map_or (λ (place : ℕ × ℕ). says (ask place.0 place.1)) (query_place names name) (wrong unknown_unit)) (wrong bad_line))
+      by_name true e = by_place (query_place names name) refl
+        where
+          by_place : (o : Option (ℕ × ℕ)) → query_place names name ≡ o → LineIs line (option_map_or (λ (place : ℕ × ℕ). says (ask place.0 place.1)) o (wrong unknown_unit))
+          by_place (Some place) p = an_ask name place.0 place.1 (words (solid_name name e).some) e p
+          by_place None p = no_query name (words (solid_name name e).some) e p
+      by_name false e = a_bad
+
+  words_view : (line word operand : List ℕ) → (0 < length operand → IsWords line word operand) → LineIs line (says_words names word operand)
+  words_view line word operand words = by_word (bytes_eq word (codes "issue")) (bytes_eq word (codes "advance")) (bytes_eq word (codes "ask")) refl refl refl
+    where
+      so : (other : List ℕ) → bytes_eq word other ≡ true → 0 < length operand → IsWords line other operand
+      so other e some = subst (λ (w : List ℕ). IsWords line w operand) ((bytes_eq-Decides word other).0 e) (words some)
+
+      by_word : (s t u : Bool) → bytes_eq word (codes "issue") ≡ s → bytes_eq word (codes "advance") ≡ t → bytes_eq word (codes "ask") ≡ u
+          → LineIs line (cond s (says_issue names.classes operand) (cond t (says_advance operand) (cond u (says_ask names operand) (wrong bad_line))))
+      by_word true t u e f g = issue_view line operand (so (codes "issue") e)
+      by_word false true u e f g = advance_view line operand (so (codes "advance") f)
+      by_word false false true e f g = ask_view line operand (so (codes "ask") g)
+      by_word false false false e f g = a_bad
 
   whole_words : (line content : List ℕ) → Middle line content → 0 < length (operand content) → IsWords line (first_word content) (operand content)
   whole_words line content m some =
@@ -303,20 +321,20 @@ module _ (classes : List (List ℕ)) where
         margin_right = m.margin_right;
       }
 
-  content_view : (line content : List ℕ) → Middle line content → LineIs line (says_content classes content)
+  content_view : (line content : List ℕ) → Middle line content → LineIs line (says_content names content)
   content_view line [] m =
       let all : list_all is_margin line ≡ true = ap (list_all is_margin) m.parts ∙ (list_all-append is_margin m.left m.right ∙ rw (m.margin_left, m.margin_right) refl) in
       an_empty (is_blank line all)
   content_view line (b ∷ bs) m = by_mark (b == 59) refl
     where
-      by_mark : (t : Bool) → (b == 59) ≡ t → LineIs line (cond t skipped (says_words classes (first_word (b ∷ bs)) (operand (b ∷ bs))))
+      by_mark : (t : Bool) → (b == 59) ≡ t → LineIs line (cond t skipped (says_words names (first_word (b ∷ bs)) (operand (b ∷ bs))))
       by_mark true e =
           let mark : b ≡ 59 = eqb-true b 59 e in
           let parts : m.left ++ 59 ∷ (bs ++ m.right) ≡ line = ap (λ (x : ℕ). m.left ++ x ∷ (bs ++ m.right)) (sym mark) ∙ sym m.parts in
           an_empty (subst IsSkipped parts (is_comment m.left (bs ++ m.right) (m.margin_left)))
       by_mark false e = words_view line (first_word (b ∷ bs)) (operand (b ∷ bs)) (whole_words line (b ∷ bs) m)
 
-  line_view : (line : List ℕ) → LineIs line (line_says classes line)
+  line_view : (line : List ℕ) → LineIs line (line_says names line)
   line_view line = content_view line (without_margin line) (middle_of line)
 
   -- where a line is made so, it says so
@@ -345,44 +363,49 @@ module _ (classes : List (List ℕ)) where
                 ap operand whole ∙ operand_is word g gap name no_gap blanks (begins_so is_gap name s.no_gap),
               )
 
-  issue_says : (line name : List ℕ) → IsWords line (codes "issue") name → IsTrue (is_name name) → line_says classes line ≡ says_issue classes name
+  issue_says : (line name : List ℕ) → IsWords line (codes "issue") name → IsTrue (is_name name) → line_says names line ≡ says_issue names.classes name
   issue_says line name w is =
       let made = content_of line (codes "issue") name 105 (codes "ssue") refl refl refl w (solid_name name is) in
-      ap (says_content classes) made.1 ∙ (ap (λ (word : List ℕ). says_words classes word (operand (105 ∷ made.0))) made.2 ∙ ap (says_words classes (codes "issue")) made.3)
+      ap (says_content names) made.1 ∙ (ap (λ (word : List ℕ). says_words names word (operand (105 ∷ made.0))) made.2 ∙ ap (says_words names (codes "issue")) made.3)
 
-  advance_says : (line digits : List ℕ) (n : ℕ) → IsWords line (codes "advance") digits → number_of digits ≡ Some n → line_says classes line ≡ says_advance digits
+  advance_says : (line digits : List ℕ) (n : ℕ) → IsWords line (codes "advance") digits → number_of digits ≡ Some n → line_says names line ≡ says_advance digits
   advance_says line digits n w is =
       let made = content_of line (codes "advance") digits 97 (codes "dvance") refl refl refl w (solid_digits digits n is) in
-      ap (says_content classes) made.1 ∙ (ap (λ (word : List ℕ). says_words classes word (operand (97 ∷ made.0))) made.2 ∙ ap (says_words classes (codes "advance")) made.3)
+      ap (says_content names) made.1 ∙ (ap (λ (word : List ℕ). says_words names word (operand (97 ∷ made.0))) made.2 ∙ ap (says_words names (codes "advance")) made.3)
+
+  ask_says : (line name : List ℕ) → IsWords line (codes "ask") name → IsTrue (is_name name) → line_says names line ≡ says_ask names name
+  ask_says line name w is =
+      let made = content_of line (codes "ask") name 97 (codes "sk") refl refl refl w (solid_name name is) in
+      ap (says_content names) made.1 ∙ (ap (λ (word : List ℕ). says_words names word (operand (97 ∷ made.0))) made.2 ∙ ap (says_words names (codes "ask")) made.3)
 
   -- a line that begins with `;` after its margin
-  marked_content : (rest : List ℕ) → says_content classes (take (length (59 ∷ rest) - suffix_len is_margin (59 ∷ rest)) (59 ∷ rest)) ≡ skipped
+  marked_content : (rest : List ℕ) → says_content names (take (length (59 ∷ rest) - suffix_len is_margin (59 ∷ rest)) (59 ∷ rest)) ≡ skipped
   marked_content rest = by_back (front_of is_margin (reverse (59 ∷ rest)))
     where
-      by_first : (middle right : List ℕ) → 59 ∷ rest ≡ middle ++ right → list_all is_margin right ≡ true → says_content classes middle ≡ skipped
+      by_first : (middle right : List ℕ) → 59 ∷ rest ≡ middle ++ right → list_all is_margin right ≡ true → says_content names middle ≡ skipped
       by_first [] right e all = absurd (let f : list_all is_margin (59 ∷ rest) ≡ true = ap (list_all is_margin) e ∙ all in cc)
       by_first (b ∷ bs) right e all =
           let same : b ≡ 59 = cc in
-          ap (λ (x : ℕ). says_content classes (x ∷ bs)) same
+          ap (λ (x : ℕ). says_content names (x ∷ bs)) same
 
-      by_back : Front is_margin (reverse (59 ∷ rest)) → says_content classes (take (length (59 ∷ rest) - suffix_len is_margin (59 ∷ rest)) (59 ∷ rest)) ≡ skipped
+      by_back : Front is_margin (reverse (59 ∷ rest)) → says_content names (take (length (59 ∷ rest) - suffix_len is_margin (59 ∷ rest)) (59 ∷ rest)) ≡ skipped
       by_back g =
           let whole : 59 ∷ rest ≡ reverse g.rest ++ reverse g.front = sym (reverse-reverse (59 ∷ rest)) ∙ (ap reverse g.parts ∙ reverse-append g.front g.rest) in
           let behind : list_all is_margin (reverse g.front) ≡ true = all_reversed is_margin g.front g.passes in
           let left = behind_dropped is_margin (reverse g.rest) (reverse g.front) (subst (Stops is_margin) (sym (reverse-reverse g.rest)) g.stops) behind in
-          ap (says_content classes) (ap (λ (xs : List ℕ). take (length xs - suffix_len is_margin xs) xs) whole ∙ left) ∙ by_first (reverse g.rest) (reverse g.front) whole behind
+          ap (says_content names) (ap (λ (xs : List ℕ). take (length xs - suffix_len is_margin xs) xs) whole ∙ left) ∙ by_first (reverse g.rest) (reverse g.front) whole behind
 
   -- the laws
-  pub issue_line : (line : List ℕ) (class : ℕ) → (line_says classes line ≡ says (issue class)) ↔ ((name : List ℕ) × IsWords line (codes "issue") name × IsTrue (is_name name) × (place_of name classes ≡ Some class))
+  pub issue_line : (line : List ℕ) (class : ℕ) → (line_says names line ≡ says (issue class)) ↔ ((name : List ℕ) × IsWords line (codes "issue") name × IsTrue (is_name name) × (place_of name names.classes ≡ Some class))
   issue_line line class = (
     λ e. made (subst (LineIs line) e (line_view line)),
     λ h. issue_says line h.0 h.1 h.2 ∙ rw (h.2, h.3) refl,
   )
     where
-      made : LineIs line (says (issue class)) → (name : List ℕ) × IsWords line (codes "issue") name × IsTrue (is_name name) × (place_of name classes ≡ Some class)
+      made : LineIs line (says (issue class)) → (name : List ℕ) × IsWords line (codes "issue") name × IsTrue (is_name name) × (place_of name names.classes ≡ Some class)
       made (an_issue name _ words is place) = (name, words, is, place)
 
-  pub advance_line : (line : List ℕ) (cycles : ℕ) → (line_says classes line ≡ says (advance cycles)) ↔ ((digits : List ℕ) × IsWords line (codes "advance") digits × (number_of digits ≡ Some cycles))
+  pub advance_line : (line : List ℕ) (cycles : ℕ) → (line_says names line ≡ says (advance cycles)) ↔ ((digits : List ℕ) × IsWords line (codes "advance") digits × (number_of digits ≡ Some cycles))
   advance_line line cycles = (
     λ e. made (subst (LineIs line) e (line_view line)),
     λ h. advance_says line h.0 cycles h.1 h.2 ∙ rw h.2 refl,
@@ -391,46 +414,39 @@ module _ (classes : List (List ℕ)) where
       made : LineIs line (says (advance cycles)) → (digits : List ℕ) × IsWords line (codes "advance") digits × (number_of digits ≡ Some cycles)
       made (an_advance digits _ words is) = (digits, words, is)
 
-  pub unknown_line : (line : List ℕ) → (line_says classes line ≡ wrong unknown_class) ↔ ((name : List ℕ) × IsWords line (codes "issue") name × IsTrue (is_name name) × (place_of name classes ≡ None))
+  pub unknown_line : (line : List ℕ) → (line_says names line ≡ wrong unknown_class) ↔ ((name : List ℕ) × IsWords line (codes "issue") name × IsTrue (is_name name) × (place_of name names.classes ≡ None))
   unknown_line line = (
     λ e. made (subst (LineIs line) e (line_view line)),
     λ h. issue_says line h.0 h.1 h.2 ∙ rw (h.2, h.3) refl,
   )
     where
-      made : LineIs line (wrong unknown_class) → (name : List ℕ) × IsWords line (codes "issue") name × IsTrue (is_name name) × (place_of name classes ≡ None)
+      made : LineIs line (wrong unknown_class) → (name : List ℕ) × IsWords line (codes "issue") name × IsTrue (is_name name) × (place_of name names.classes ≡ None)
       made (an_unknown name words is place) = (name, words, is, place)
 
-  pub skipped_line : (line : List ℕ) → (line_says classes line ≡ skipped) ↔ IsSkipped line
+  pub ask_line : (line : List ℕ) (automaton query : ℕ) → (line_says names line ≡ says (ask automaton query)) ↔ ((name : List ℕ) × IsWords line (codes "ask") name × IsTrue (is_name name) × (query_place names name ≡ Some (automaton, query)))
+  ask_line line automaton query = (
+    λ e. made (subst (LineIs line) e (line_view line)),
+    λ h. ask_says line h.0 h.1 h.2 ∙ rw (h.2, h.3) refl,
+  )
+    where
+      made : LineIs line (says (ask automaton query)) → (name : List ℕ) × IsWords line (codes "ask") name × IsTrue (is_name name) × (query_place names name ≡ Some (automaton, query))
+      made (an_ask name _ _ words is at) = (name, words, is, at)
+
+  pub no_query_line : (line : List ℕ) → (line_says names line ≡ wrong unknown_unit) ↔ ((name : List ℕ) × IsWords line (codes "ask") name × IsTrue (is_name name) × (query_place names name ≡ None))
+  no_query_line line = (
+    λ e. made (subst (LineIs line) e (line_view line)),
+    λ h. ask_says line h.0 h.1 h.2 ∙ rw (h.2, h.3) refl,
+  )
+    where
+      made : LineIs line (wrong unknown_unit) → (name : List ℕ) × IsWords line (codes "ask") name × IsTrue (is_name name) × (query_place names name ≡ None)
+      made (no_query name words is at) = (name, words, is, at)
+
+  pub skipped_line : (line : List ℕ) → (line_says names line ≡ skipped) ↔ IsSkipped line
   skipped_line line = (λ e. made (subst (LineIs line) e (line_view line)), comes line)
     where
       made : LineIs line skipped → IsSkipped line
       made (an_empty is) = is
 
-      comes : (line : List ℕ) → IsSkipped line → line_says classes line ≡ skipped
-      comes line (is_blank _ all) = ap (says_content classes) (blank_is line all)
-      comes _ (is_comment left rest all) = ap (says_content classes) (marked_line left rest all) ∙ marked_content rest
-
-  -- no line says an ask
-  abbrev AsksNothing : Line → Type 0
-  AsksNothing skipped = Unit {0}
-  AsksNothing (says (issue k)) = Unit {0}
-  AsksNothing (says (advance n)) = Unit {0}
-  AsksNothing (says (ask a u)) = ⊥
-  AsksNothing (wrong fault) = Unit {0}
-
-  asks_nothing : (line : List ℕ) (l : Line) → LineIs line l → AsksNothing l
-  asks_nothing line _ (an_empty is) = tt
-  asks_nothing line _ (an_issue name class words is place) = tt
-  asks_nothing line _ (an_advance digits cycles words is) = tt
-  asks_nothing line _ (an_unknown name words is place) = tt
-  asks_nothing line _ a_bad = tt
-
-  pub no_ask_line : (line : List ℕ) (automaton query : ℕ) → line_says classes line ≡ says (ask automaton query) → ⊥
-  no_ask_line line automaton query e = subst AsksNothing e (asks_nothing line (line_says classes line) (line_view line))
-
-  pub say_without_asks : {lines : List (List ℕ)} {events : List Event} → Say classes lines events → issues_and_advances events ≡ events
-  say_without_asks Say.nothing = refl
-  say_without_asks (Say.skips is rest) = say_without_asks rest
-  say_without_asks (Say.tells {event = issue k} is rest) = ap (λ (es : List Event). issue k ∷ es) (say_without_asks rest)
-  say_without_asks (Say.tells {event = advance n} is rest) = ap (λ (es : List Event). advance n ∷ es) (say_without_asks rest)
-  say_without_asks (Say.tells {line = line} {event = ask a u} is rest) = absurd (no_ask_line line a u is)
+      comes : (line : List ℕ) → IsSkipped line → line_says names line ≡ skipped
+      comes line (is_blank _ all) = ap (says_content names) (blank_is line all)
+      comes _ (is_comment left rest all) = ap (says_content names) (marked_line left rest all) ∙ marked_content rest

@@ -1,5 +1,5 @@
 -- Each automaton of a description keeps its limits, or has a count above one.
-use Rattle.std.proofs.Common.{◌⊎◌, inl, inr, ⊎_elim, ◌==◌}
+use Rattle.std.proofs.Common.{◌⊎◌, inl, inr, ⊎_elim, ◌==◌, ◌+◌, length}
 use Rattle.hz_acceptance_model.specs.Accepting.Restricted.{restricted}
 use Rattle.hz_acceptance_model.proofs.Accepting.Rows.{numbers_tell}
 use Rattle.hz_automata_model.specs.Compiling.AutomatonPipelines.{class_lists}
@@ -12,6 +12,7 @@ use Rattle.hz_acceptance_model.specs.Pipelines.Pipelines.{pipeline_with}
 use Rattle.hz_automata_model.specs.Reaching.Counts.{Count, grids, states, members, cells, CountIsAbove, CountIsAtMost}
 use Rattle.hz_answer_laws.proofs.Leaving.ColumnLaws.{some_columns}
 use Rattle.hz_answer_laws.proofs.Leaving.CountsTold.{counts_told}
+use Rattle.hz_description_model.specs.Check.CheckedParts.{queries_in}
 
 -- each kind has the one, or some kind the other
 each_kind_or_some : (P Q : Count → Type 0) → ((kind : Count) → P kind ⊎ Q kind) → ((kind : Count) → P kind) ⊎ ((kind : Count) × Q kind)
@@ -35,7 +36,8 @@ are_counted d known a low =
     let m = restricted a (pipeline_with d known) in
     let shown = shows_states d.options in
     let (columns, has) = some_columns (class_lists d known a) in
+    let width = columns + length (queries_in d a) in
     ⊎_elim
     (λ counts. inl (record { columns = columns; has = has; counts = counts }))
     (λ past. inr (past.0, record { columns = columns; has = has; above = past.1 }))
-    (each_kind_or_some (λ kind. CountIsAtMost m columns kind (cap_of shown kind)) (λ kind. CountIsAbove m columns kind (cap_of shown kind)) (λ kind. counts_told ◌==◌ numbers_tell m columns kind (cap_of shown kind)))
+    (each_kind_or_some (λ kind. CountIsAtMost m width kind (cap_of shown kind)) (λ kind. CountIsAbove m width kind (cap_of shown kind)) (λ kind. counts_told ◌==◌ numbers_tell m width kind (cap_of shown kind)))

@@ -10,9 +10,9 @@ use Rattle.std.proofs.lemmas.Option.{none-some, same_Some}
 use Rattle.hz_base_model.proofs.Elements.{Contains-nil, Contains-head, Contains-filter, Contains-from_filter}
 use Rattle.hz_description_model.specs.Reservations.Sets.{SetKind, exclusion, presence, final_presence, absence, final_absence}
 use Rattle.hz_description_model.specs.Reading.Descriptions.{Description, AutomatonItem, UnitItem, SetItem}
-use Rattle.hz_description_model.specs.Check.CheckFaults.{names_of_set, home, same_home, strangers, sets_across_automata, automaton_sites, unit_sites, reservation_sites, class_sites, attribute_sites, sites_of, repeated_values, second_definitions, reserved_names, unknown_automaton_of, unknown_automata, homeless, units_without_automaton, is_exclusion, units_of_patterns, self_excluded, self_exclusions}
+use Rattle.hz_description_model.specs.Check.CheckFaults.{names_of_set, home, same_home, strangers, sets_across_automata, automaton_sites, unit_sites, unit_site, reservation_sites, class_sites, attribute_sites, sites_of, repeated_values, second_definitions, reserved_names, unknown_automaton_of, unknown_automata, homeless, units_without_automaton, is_exclusion, units_of_patterns, self_excluded, self_exclusions}
 use Rattle.hz_description_model.specs.Check.Sites.{Site, is_among, repeated}
-use Rattle.hz_description_model.specs.Check.ToldPlaces.{StandsBefore, unit_site}
+use Rattle.hz_description_model.specs.Check.ToldPlaces.{StandsBefore}
 use Rattle.hz_description_model.proofs.Check.KeptLaws.{among, from_among}
 use Rattle.hz_description_model.proofs.Check.PlaceLaws.{from_filter_map}
 use Rattle.hz_description_model.proofs.Check.ToldLaws.{second_names}

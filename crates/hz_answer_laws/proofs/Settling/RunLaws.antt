@@ -6,7 +6,7 @@ use Rattle.hz_base_model.specs.Limits.{cycle_limit}
 use Rattle.hz_base_model.specs.Pairs.{Pair, later, placed}
 use Rattle.hz_base_model.proofs.Elements.{Contains-nil, Contains-head, Contains-cons_cases, Contains-from_map}
 use Rattle.hz_acceptance_model.specs.Accepting.Events.{Event, issue, advance, ask}
-use Rattle.hz_acceptance_model.specs.Accepting.Replay.{Pipeline, State, Step, Plays, start, chosen, Accepted, left_by}
+use Rattle.hz_acceptance_model.specs.Accepting.Replay.{Pipeline, State, Step, Plays, start, chosen, Accepted, left_by, first_fit}
 use Rattle.hz_acceptance_model.specs.Accepting.Fitting.{IsFuture, IsUnbroken}
 use Rattle.hz_acceptance_model.proofs.Accepting.ReplayLaws.{runs_from_accepted, accepted_from_runs}
 use Rattle.hz_acceptance_model.proofs.Accepting.FittingLaws.{unbroken_empty, unbroken_run}
@@ -14,6 +14,9 @@ use Rattle.hz_automata_model.specs.Reaching.Reach.{Leaves, IsLeft}
 use Rattle.hz_acceptance_model.proofs.Accepting.ReplayLaws.{run_of_choices}
 use Rattle.hz_automata_model.proofs.Reaching.PathLaws.{empty_future}
 use Rattle.hz_automata_model.proofs.Reaching.StepLaws.{step_from_leads, leads_from_step, unbroken_step, one_future}
+use Rattle.hz_acceptance_model.specs.Accepting.Asking.{IsHeld}
+use Rattle.hz_automata_model.proofs.Reaching.HeldLaws.{held_is_present}
+use Rattle.hz_automata_model.proofs.Reaching.LeavingLaws.{leaves_from_plays}
 
 -- the pairs of every alternative stand in cycles below `cycle_limit`
 abbrev pub IsShort : {U : Type 0} → Pipeline U → Type 0
@@ -36,14 +39,15 @@ module _ {U : Type 0} (m : Pipeline U) where
   run_joined [] ys s r q one two = subst (λ (x : State U). Plays m x ys q) one two
   run_joined (e ∷ xs) ys s r q (middle, step, one) two = (middle, step, run_joined xs ys middle r q one two)
 
-  -- what can be run from one state can be run from another with the same future
-  pub run_there : (t : List Event) (grid : List (Pair U)) (s r q : State U) → IsFuture grid s → IsFuture grid r → IsUnbroken m.statements s.reserved → IsUnbroken m.statements r.reserved → Plays m s t q → (o : State U) × Plays m r t o
-  run_there [] grid s r q here there whole sound h = (r, refl)
+  -- what can be run from one state can be run from another with the same future, to one with the same future
+  pub run_there : (t : List Event) (grid : List (Pair U)) (s r q : State U) → IsFuture grid s → IsFuture grid r → IsUnbroken m.statements s.reserved → IsUnbroken m.statements r.reserved → Plays m s t q
+      → (o : State U) × Plays m r t o × (left : List (Pair U)) × IsFuture left q × IsFuture left o
+  run_there [] grid s r q here there whole sound h = (r, refl, grid, subst (IsFuture grid) (sym h) here, there)
   run_there (e ∷ t) grid s r q here there whole sound (middle, step, rest) =
       let (next, leads, after) = leads_from_step m grid s here whole e middle step in
       let (mate, other, behind) = step_from_leads m grid r there sound e next leads in
-      let (o, run) = run_there t next middle mate q after behind (unbroken_step m grid s here whole e middle step) (unbroken_step m grid r there sound e mate other) rest in
-      (o, (mate, other, run))
+      let (o, run, left, one, two) = run_there t next middle mate q after behind (unbroken_step m grid s here whole e middle step) (unbroken_step m grid r there sound e mate other) rest in
+      (o, (mate, other, run), left, one, two)
 
   -- cycles are always accepted
   pub accepted_settled : (t : List Event) → Accepted m t → Accepted m (settled t)
@@ -99,14 +103,24 @@ module _ {U : Type 0} (m : Pipeline U) where
       λ h.
           let (q, run) = runs_from_accepted m (settled t ++ u) h in
           let (s, one, two) = run_cut (settled t) u start q run in
-          let (o, other) = run_there u [] s start q (nothing_stands t s one) empty_future (unbroken_run m (settled t) s one) (unbroken_empty m.statements) two in
+          let (o, other, left, this, that) = run_there u [] s start q (nothing_stands t s one) empty_future (unbroken_run m (settled t) s one) (unbroken_empty m.statements) two in
           accepted_from_runs m u (o, other),
       λ h.
           let (s, one) = runs_from_accepted m (settled t) before in
           let (q, run) = runs_from_accepted m u h in
-          let (o, other) = run_there u [] start s q empty_future (nothing_stands t s one) (unbroken_empty m.statements) (unbroken_run m (settled t) s one) run in
+          let (o, other, left, this, that) = run_there u [] start s q empty_future (nothing_stands t s one) (unbroken_empty m.statements) (unbroken_run m (settled t) s one) run in
           accepted_from_runs m (settled t ++ u) (o, run_joined (settled t) u start s o one other),
     )
+
+    -- and then the same is held
+    pub held_behind : m.treatment ≡ first_fit → (t u : List Event) → Accepted m (settled t ++ u) → (unit : U) → IsHeld m (settled t ++ u) unit ↔ IsHeld m u unit
+    held_behind first t u h unit =
+        let (q, run) = runs_from_accepted m (settled t ++ u) h in
+        let (s, one, two) = run_cut (settled t) u start q run in
+        let (o, other, left, this, that) = run_there u [] s start q (nothing_stands t s one) empty_future (unbroken_run m (settled t) s one) (unbroken_empty m.statements) two in
+        let here = held_is_present m first (settled t ++ u) left (leaves_from_plays m (settled t ++ u) left (q, run, this)) unit in
+        let there = held_is_present m first u left (leaves_from_plays m u left (o, other, that)) unit in
+        (λ held. there.1 (here.0 held), λ held. here.1 (there.0 held))
 
     -- `cycle_limit` cycles leave the empty grid alone
     pub left_settled : (t : List Event) → Accepted m (settled t) → IsLeft m (settled t) ([] ∷ [])

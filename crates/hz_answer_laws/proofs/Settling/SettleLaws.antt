@@ -14,17 +14,21 @@ use Rattle.hz_acceptance_model.specs.Accepting.Replay.{Pipeline, Class, of_class
 use Rattle.hz_acceptance_model.specs.Accepting.Restricted.{of_pairs}
 use Rattle.hz_description_model.specs.Reading.Descriptions.{Options}
 use Rattle.hz_description_model.specs.Check.CheckedParts.{AutomatonParts, ClassParts, BypassParts}
-use Rattle.hz_description_model.specs.Check.CheckedShape.{IsKept}
+use Rattle.hz_description_model.specs.Check.CheckedShape.{IsKept, AskNothingUnderNdfa}
 use Rattle.hz_automata_model.specs.Tables.Apart.{AllApart}
 use Rattle.hz_automata_model.specs.Tables.Machines.{Machine, Part, IsPart, IsMachine, part_at, part_walk, parts_walk, onto_states, machine_walk, starts_of}
 use Rattle.hz_automata_model.proofs.Tables.MachineLaws.{machine_walk-each, machine_walk-part}
 use Rattle.hz_automata_model.specs.Reaching.Columns.{class_of_grids}
-use Rattle.hz_automata_model.specs.Compiling.AutomatonPipelines.{automaton_at, lists_at, automaton_pipeline}
-use Rattle.hz_automata_model.specs.Compiling.Compiled.{Report, IsCompiled}
-use Rattle.hz_automata_model.specs.Compiling.CompiledParts.{WalksAccepted, TellsWhatIsLeft}
+use Rattle.hz_automata_model.specs.Compiling.AutomatonPipelines.{automaton_at, lists_at, automaton_pipeline, queries_at}
+use Rattle.hz_automata_model.specs.Compiling.Compiled.{Report, IsCompiled, report_at}
+use Rattle.hz_automata_model.specs.Compiling.CompiledParts.{WalksAccepted, TellsWhatIsLeft, TellsWhatIsHeld}
 use Rattle.hz_block_model.specs.Scheduling.Machines.{Settles}
 use Rattle.hz_answer_laws.proofs.Settling.RunLaws.{IsShort, settled, accepted_settled}
 use Rattle.hz_answer_laws.proofs.Settling.PartLaws.{settles_at_start}
+use Rattle.hz_answer_laws.proofs.Settling.AlikeStates.{IsTold}
+use Rattle.hz_answer_laws.proofs.Settling.AskedTreatment.{first_where_asked}
+use Rattle.hz_automata_model.proofs.Single.WordLaws.{IsFilled}
+use Rattle.hz_automata_model.proofs.Single.PartLaws.{filled_part}
 
 -- ---- alternatives are short
 
@@ -63,7 +67,7 @@ module _ (options : Options) (automata : List AutomatonParts) (classes : List Cl
 
   -- ---- parts and machines
 
-  module _ (m : Machine) (reports : List Report) (machine : IsMachine m) (compiled : IsCompiled options automata classes m reports) (t : List Event) (all : All (IsOfClass (length m.classes)) t) (states : List ℕ) (walked : machine_walk m t ≡ Some states) where
+  module _ (nothing : AskNothingUnderNdfa options.ndfa automata) (m : Machine) (reports : List Report) (machine : IsMachine m) (compiled : IsCompiled options automata classes m reports) (t : List Event) (all : All (IsOfClass (length m.classes)) t) (states : List ℕ) (walked : machine_walk m t ≡ Some states) where
     as_many : length m.classes ≡ length classes
     as_many = ap length compiled.names ∙ length-map classes (λ c. c.name)
 
@@ -81,7 +85,12 @@ module _ (options : Options) (automata : List AutomatonParts) (classes : List Cl
         let standing : is_some (part_walk part 0 t) ≡ true = ap is_some (sym here) ∙ ap is_some (slice_get-get_or states i 0 (let each = machine_walk-each m t states walked in omega arith)) in
         let settled_classes = All-append (IsOfClass (length (lists_at classes i))) t (advance cycle_limit ∷ []) classes_of (All-cons (IsOfClass (length (lists_at classes i))) (advance cycle_limit) [] tt (All-nil (IsOfClass (length (lists_at classes i))))) in
         let now = (walks.walks (settled t) settled_classes).1 (accepted_settled (automaton_pipeline options automata classes i) t ((walks.walks t classes_of).0 standing)) in
-        settles_at_start (lists_at classes i) is.columns part is.shared is.number kept_part.table (automaton_pipeline options automata classes i) (short_pipeline i there) walks t classes_of now options.no_minimization
+        let held = subst (λ (n : ℕ). TellsWhatIsHeld n (automaton_pipeline options automata classes i) (queries_at automata i) part) (sym count) is.held in
+        let asks : length (queries_at automata i) ≡ length part.asks = sym (ap length is.asks ∙ length-map (queries_at automata i) (λ unit. slice_index_or (automaton_at automata i).units unit [])) in
+        let filled = subst (λ (n : ℕ). IsFilled n part) (sym count) (filled_part options.no_minimization options automata classes i part (report_at reports i) is) in
+        let told : IsTold (length (lists_at classes i)) (automaton_pipeline options automata classes i) (queries_at automata i) part =
+        record { shape = record { table = kept_part.table; stays = kept_part.stays }; filled = filled; walks = walks; held = held; asks = asks; first = first_where_asked options automata classes nothing i there } in
+        settles_at_start (length (lists_at classes i)) (automaton_pipeline options automata classes i) (short_pipeline i there) (queries_at automata i) part told t classes_of now options.no_minimization
         (tells options.no_minimization (automaton_pipeline options automata classes i) part (sym count) is.tells)
       where
         tells : (stay : Bool) (pipeline : Pipeline ℕ) (part : Part) {n o : ℕ} → n ≡ o → MatchBool stay (TellsWhatIsLeft n pipeline part) (AllApart part.rows) → MatchBool stay (TellsWhatIsLeft o pipeline part) (AllApart part.rows)
@@ -96,9 +105,9 @@ module _ (options : Options) (automata : List AutomatonParts) (classes : List Cl
     pub machine_starts : machine_walk m (settled t) ≡ Some (starts_of m)
     machine_starts = starts m.parts (λ i d low. subst (λ (part : Part). part_walk part 0 (settled t) ≡ Some 0) (get_or_default m.parts i _ d low) (part_settles i low))
 
-  pub machine_settles : (m : Machine) (reports : List Report) → IsMachine m → IsCompiled options automata classes m reports → Settles m
-  machine_settles m reports machine compiled = record { settles = λ t all walked. go t all (machine_walk m t) refl walked }
+  pub machine_settles : AskNothingUnderNdfa options.ndfa automata → (m : Machine) (reports : List Report) → IsMachine m → IsCompiled options automata classes m reports → Settles m
+  machine_settles nothing m reports machine compiled = record { settles = λ t all walked. go t all (machine_walk m t) refl walked }
     where
       go : (t : List Event) → All (IsOfClass (length m.classes)) t → (o : Option (List ℕ)) → machine_walk m t ≡ o → is_some o ≡ true → machine_walk m (settled t) ≡ Some (starts_of m)
       go t all None e h = absurd (cc)
-      go t all (Some states) e h = machine_starts m reports machine compiled t all states e
+      go t all (Some states) e h = machine_starts nothing m reports machine compiled t all states e

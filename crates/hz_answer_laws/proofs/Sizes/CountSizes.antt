@@ -1,9 +1,9 @@
 -- The counts that are told of a compiled automaton are small, its rows are few, and where states are not shown nothing is told
 -- of them.
-use Rattle.std.proofs.Common.{◌≡◌, ℕ, ◌+◌, ◌^◌, ◌<◌, ◌≤◌, Bool, true, false, List, length, All, Option, None, ⊎_elim, sym, subst, arith}
-use Rattle.std.specs.Prelude.{MatchBool, IsSomeAnd}
+use Rattle.std.proofs.Common.{◌≡◌, ℕ, ◌+◌, ◌^◌, ◌<◌, ◌≤◌, Bool, true, false, List, length, All, Option, None, ⊎_elim, sym, subst, arith, ap, ◌∙◌, []}
+use Rattle.std.specs.Prelude.{MatchBool, IsSomeAnd, slice_index_or}
 use Rattle.std.proofs.lemmas.Bool.{cases_lt}
-use Rattle.std.proofs.lemmas.List.{get_or_default}
+use Rattle.std.proofs.lemmas.List.{get_or_default, length-map}
 use Rattle.hz_acceptance_model.specs.Accepting.Replay.{Pipeline}
 use Rattle.hz_description_model.specs.Reading.Descriptions.{Options}
 use Rattle.hz_description_model.specs.Check.CheckedParts.{AutomatonParts, ClassParts}
@@ -11,7 +11,7 @@ use Rattle.hz_automata_model.specs.Tables.StateLimits.{state_limit}
 use Rattle.hz_automata_model.specs.Tables.Machines.{Part, Machine, IsMachine, part_at, no_part}
 use Rattle.hz_automata_model.specs.Reaching.Counts.{Count, grids, states, members, CountIsAtMost}
 use Rattle.hz_automata_model.proofs.Reaching.CountLaws.{no_count_both}
-use Rattle.hz_automata_model.specs.Compiling.AutomatonPipelines.{automaton_pipeline}
+use Rattle.hz_automata_model.specs.Compiling.AutomatonPipelines.{automaton_pipeline, queries_at, automaton_at}
 use Rattle.hz_automata_model.specs.Compiling.Counted.{CountIs}
 use Rattle.hz_automata_model.specs.Compiling.CompiledParts.{cap_of}
 use Rattle.hz_automata_model.specs.Compiling.Compiled.{Report, report_at, shows_states, IsShown, IsCompiled}
@@ -21,6 +21,9 @@ use Rattle.hz_automata_model.proofs.Single.PartLaws.{filled_part}
 use Rattle.hz_answer_laws.specs.Sizes.Extents.{unnamed_limit, bytes_of_names}
 use Rattle.hz_answer_laws.proofs.Sizes.RowSizes.{rows_few}
 use Rattle.hz_answer_laws.proofs.Sizes.TextSizes.{TellsCounts, spelled_most}
+use Rattle.hz_answer_laws.proofs.Settling.AlikeStates.{IsTold}
+use Rattle.hz_answer_laws.proofs.Settling.AskedTreatment.{first_where_asked}
+use Rattle.hz_description_model.specs.Check.CheckedShape.{AskNothingUnderNdfa}
 
 -- a count is no greater than what it is at most
 count_most : {U : Type 0} (m : Pipeline U) (columns : ℕ) (kind : Count) (n most : ℕ) → CountIs m columns kind n → CountIsAtMost m columns kind most → n ≤ most
@@ -57,17 +60,25 @@ module _ (options : Options) (automata : List AutomatonParts) (classes : List Cl
         nothing = none_shown (IsShown (length classes) pipeline (part_at m a)) (shows_states options) report.shown hidden part.shown;
       }
 
-  pub rows_low : IsMachine m → All (λ part. length part.rows ≤ state_limit) m.parts
-  rows_low machine a d low =
+  pub rows_low : AskNothingUnderNdfa options.ndfa automata → IsMachine m → All (λ part. length part.rows ≤ state_limit) m.parts
+  rows_low nothing machine a d low =
       let each = is.each in
       let part = is.parts a (omega (arith, low, each)) in
       let shown = shows_states options in
       let within = part.within.counts in
-      let few = rows_few (length classes) (automaton_pipeline options automata classes a) (part_at m a) (machine.parts a no_part low).table
-      (filled_part options.no_minimization options automata classes a (part_at m a) (report_at reports a) part) part.walks options.no_minimization part.tells (within grids) part.numbered.reached (cap_of shown states) (within states) in
+      let fits = machine.parts a no_part low in
+      let told : IsTold (length classes) (automaton_pipeline options automata classes a) (queries_at automata a) (part_at m a) = record {
+        shape = record { table = fits.table; stays = fits.stays };
+        filled = filled_part options.no_minimization options automata classes a (part_at m a) (report_at reports a) part;
+        walks = part.walks;
+        held = part.held;
+        asks = sym (ap length part.asks ∙ length-map (queries_at automata a) (λ unit. slice_index_or (automaton_at automata a).units unit []));
+        first = first_where_asked options automata classes nothing a (omega (arith, low, each));
+      } in
+      let few = rows_few (length classes) (automaton_pipeline options automata classes a) (queries_at automata a) (part_at m a) told options.no_minimization part.tells (within grids) part.numbered.reached (cap_of shown states) (within states) in
       let caps = caps_low shown in
       let here : length (part_at m a).rows ≤ state_limit = omega (arith, few, caps.1) in
       subst (λ (p : Part). length p.rows ≤ state_limit) (sym (get_or_default m.parts a d no_part low)) here
 
-  pub lines_most : IsMachine m → shows_states options ≡ false → length (spelled (tables_said options automata reports m)) ≤ unnamed_limit + bytes_of_names m
-  lines_most machine hidden = spelled_most options automata reports m machine (rows_low machine) (tells_counts hidden)
+  pub lines_most : AskNothingUnderNdfa options.ndfa automata → IsMachine m → shows_states options ≡ false → length (spelled (tables_said options automata reports m)) ≤ unnamed_limit + bytes_of_names m
+  lines_most nothing machine hidden = spelled_most options automata reports m machine (rows_low nothing machine) (tells_counts hidden)

@@ -1,19 +1,17 @@
 -- A compiled part has no more rows than its automaton has states: different rows stand for different states.
-use Rattle.std.proofs.Common.{◌≡◌, ◌≢◌, ⊎_elim, ℕ, zero, suc, ◌+◌, ◌<◌, ◌≤◌, Bool, true, false, List, [], ◌∷◌, ◌++◌, length, Option, Some, None, refl, sym, ap, ◌∙◌, subst, arith}
-use Rattle.std.specs.Prelude.{is_some, IsSome, All, MatchBool}
+use Rattle.std.proofs.Common.{◌≡◌, ◌≢◌, ⊎_elim, ℕ, zero, suc, ◌+◌, ◌<◌, ◌≤◌, Bool, true, false, List, [], ◌∷◌, ◌++◌, length, Some, refl, sym, ap, ◌∙◌, arith}
+use Rattle.std.specs.Prelude.{is_some, All, MatchBool, ◌↔◌}
 use Rattle.std.proofs.lemmas.Bool.{cases_eq, cases_lt}
-use Rattle.std.proofs.lemmas.List.Elements.{All-cons, All-nil, All-append, All-contains}
+use Rattle.std.proofs.lemmas.List.Elements.{All-cons, All-nil, All-contains}
 use Rattle.std.proofs.lemmas.List.Kept.{AllPairs-cons}
 use Rattle.hz_base_model.specs.Pairs.{Pair, SamePairs}
 use Rattle.hz_acceptance_model.specs.Accepting.Events.{Event, IsOfClass}
-use Rattle.hz_acceptance_model.specs.Accepting.Replay.{Pipeline, start, Accepted}
+use Rattle.hz_acceptance_model.specs.Accepting.Replay.{Pipeline, start, Accepted, first_fit}
 use Rattle.hz_acceptance_model.proofs.Accepting.ReplayLaws.{run_split, run_join, runs_from_accepted, accepted_from_runs}
 use Rattle.hz_acceptance_model.proofs.Accepting.FittingLaws.{unbroken_run}
-use Rattle.hz_automata_model.specs.Tables.Tables.{walk, IsTable, IsReached}
+use Rattle.hz_automata_model.specs.Tables.Tables.{walk, IsReached}
 use Rattle.hz_automata_model.specs.Tables.Apart.{AllApart}
-use Rattle.hz_automata_model.specs.Tables.Machines.{Part, word_of, part_walk}
-use Rattle.hz_automata_model.proofs.Tables.TableLaws.{walk-append}
-use Rattle.hz_automata_model.proofs.Tables.MachineLaws.{word_of-append}
+use Rattle.hz_automata_model.specs.Tables.Machines.{Part, part_walk}
 use Rattle.hz_automata_model.specs.Reaching.Reach.{AreDifferent, IsLeft, IsReachedGrid, IsReachedState, HasGrids, SameGrids}
 use Rattle.hz_automata_model.specs.Reaching.Counts.{IsAtMost, states, CountIsAtMost}
 use Rattle.hz_automata_model.proofs.Reaching.LeavingLaws.{plays_from_leaves, leaves_from_plays}
@@ -21,18 +19,12 @@ use Rattle.hz_automata_model.proofs.Reaching.StepLaws.{planned, planned_future, 
 use Rattle.hz_automata_model.proofs.Reaching.CountLaws.{same_pairs_back, same_pairs_then, sum_by_ones, no_count_both}
 use Rattle.hz_automata_model.specs.Compiling.CompiledParts.{WalksAccepted, TellsWhatIsLeft}
 use Rattle.hz_answer_laws.proofs.Settling.RunLaws.{run_there}
-use Rattle.hz_automata_model.proofs.Single.WordLaws.{IsFilled, Spells, spells_walked}
+use Rattle.hz_automata_model.proofs.Single.WordLaws.{Spells, spell}
 use Rattle.hz_automata_model.proofs.Single.LeftLaws.{left_not_none}
-
--- tests of which each holds with the other are equal
-both_ways : (a b : Bool) → (a ≡ true → b ≡ true) → (b ≡ true → a ≡ true) → a ≡ b
-both_ways true b f g = sym (f refl)
-both_ways false true f g = g refl
-both_ways false false f g = refl
-
-some_state : (o : Option ℕ) → IsSome o → (state : ℕ) × (o ≡ Some state)
-some_state None h = absurd (cc)
-some_state (Some state) h = (state, refl)
+use Rattle.hz_automata_model.proofs.Asks.BareWords.{bare, bare_columns, bare_walk}
+use Rattle.hz_answer_laws.proofs.Settling.AlikeStates.{IsTold, IsAlike, walked_alike}
+use Rattle.hz_acceptance_model.specs.Accepting.Asking.{IsHeld}
+use Rattle.hz_automata_model.proofs.Reaching.HeldLaws.{held_is_present}
 
 -- what can be run behind some events can be run behind others that leave the same
 module _ {U : Type 0} (m : Pipeline U) where
@@ -45,10 +37,35 @@ module _ {U : Type 0} (m : Pipeline U) where
       let (other, there', same') = has one there in
       let (s, run', future) = plays_from_leaves m u other (left'.only other there') in
       let own = future_with other grid r (same_pairs_then other one grid (same_pairs_back one other same') same) (planned_future r) in
-      let (o, also) = run_there m v other r s q own future (unbroken_run m t r before) (unbroken_run m u s run') behind in
+      let (o, also, last, this, that) = run_there m v other r s q own future (unbroken_run m t r before) (unbroken_run m u s run') behind in
       accepted_from_runs m (u ++ v) (o, run_join m start s o u v run' also)
 
-module _ {U : Type 0} (classes : ℕ) (m : Pipeline U) (part : Part) (is : IsTable part.rows part.columns) (filled : IsFilled classes part) (walks : WalksAccepted classes m part) where
+  -- and then the same is held
+  held_also : m.treatment ≡ first_fit → (t u v : List Event) (xs ys : List (List (Pair U))) → IsLeft m t xs → IsLeft m u ys → HasGrids xs ys → Accepted m (t ++ v) → (unit : U) → IsHeld m (t ++ v) unit ↔ IsHeld m (u ++ v) unit
+  held_also first t u v xs ys left left' has accepted unit =
+      let (q, run) = runs_from_accepted m (t ++ v) accepted in
+      let (r, before, behind) = run_split m start q t v run in
+      let grid = planned r in
+      let (one, there, same) = left.all grid (leaves_from_plays m t grid (r, before, planned_future r)) in
+      let (other, there', same') = has one there in
+      let (s, run', future) = plays_from_leaves m u other (left'.only other there') in
+      let own = future_with other grid r (same_pairs_then other one grid (same_pairs_back one other same') same) (planned_future r) in
+      let (o, also, last, this, that) = run_there m v other r s q own future (unbroken_run m t r before) (unbroken_run m u s run') behind in
+      let here = held_is_present m first (t ++ v) last (leaves_from_plays m (t ++ v) last (q, run, this)) unit in
+      let later = held_is_present m first (u ++ v) last (leaves_from_plays m (u ++ v) last (o, run_join m start s o u v run' also, that)) unit in
+      (λ h. later.1 (here.0 h), λ h. here.1 (later.0 h))
+
+  -- events that leave the same are alike
+  alike_where_left : (t u : List Event) (xs ys : List (List (Pair U))) → IsLeft m t xs → IsLeft m u ys → SameGrids xs ys → IsAlike m t u
+  alike_where_left t u xs ys left left' same = record {
+    accepted = λ v. (accepted_also t u v xs ys left left' same.there, accepted_also u t v ys xs left' left same.back);
+    held = λ first v h unit. held_also first t u v xs ys left left' same.there h unit;
+  }
+
+module _ {U : Type 0} (classes : ℕ) (m : Pipeline U) (queries : List U) (part : Part) (told : IsTold classes m queries part) where
+  walks : WalksAccepted classes m part
+  walks = told.walks
+
   -- events that lead to a state, and what they leave
   record LeadsTo (state : ℕ) (xs : List (List (Pair U))) : Type 0 where
     events : List Event
@@ -58,21 +75,6 @@ module _ {U : Type 0} (classes : ℕ) (m : Pipeline U) (part : Part) (is : IsTab
 
   accepted : (state : ℕ) (xs : List (List (Pair U))) (t : LeadsTo state xs) → Accepted m t.events
   accepted state xs t = (walks.walks t.events t.inside).0 (ap is_some t.ends)
-
-  -- behind a state the same is walked as behind the events that lead to it
-  walked_on : (state : ℕ) (xs : List (List (Pair U))) (t : LeadsTo state xs) (v : List Event) → part_walk part 0 (t.events ++ v) ≡ walk part.rows (Some state) (word_of part v)
-  walked_on state xs t v = ap (walk part.rows (Some 0)) (word_of-append part t.events v) ∙ (walk-append part.rows (Some 0) (word_of part t.events) (word_of part v) ∙ ap (λ (o : Option ℕ). walk part.rows o (word_of part v)) t.ends)
-
-  -- from states with the same grids the same is walked
-  also_walked : (i j : ℕ) (xs ys : List (List (Pair U))) → LeadsTo i xs → LeadsTo j ys → HasGrids xs ys → (w : List ℕ) → IsSome (walk part.rows (Some i) w) → IsSome (walk part.rows (Some j) w)
-  also_walked i j xs ys t u has w some =
-      let (end, e) = some_state (walk part.rows (Some i) w) some in
-      let s : Spells classes part w = spells_walked classes part is filled w (Some i) end e in
-      let one = walked_on i xs t s.events ∙ ap (walk part.rows (Some i)) s.word in
-      let other = walked_on j ys u s.events ∙ ap (walk part.rows (Some j)) s.word in
-      let may = (walks.walks (t.events ++ s.events) (All-append (IsOfClass classes) t.events s.events t.inside s.inside)).0 (subst IsSome (sym one) some) in
-      let also = accepted_also m t.events u.events s.events xs ys t.left u.left has may in
-      subst IsSome other ((walks.walks (u.events ++ s.events) (All-append (IsOfClass classes) u.events s.events u.inside s.inside)).1 also)
 
   -- states with the same grids are one
   same_state : (stay : Bool) → MatchBool stay (TellsWhatIsLeft classes m part) (AllApart part.rows) → (i j : ℕ) → i < length part.rows → j < length part.rows → (xs ys : List (List (Pair U))) → LeadsTo i xs → LeadsTo j ys → SameGrids xs ys → i ≡ j
@@ -84,9 +86,7 @@ module _ {U : Type 0} (classes : ℕ) (m : Pipeline U) (part : Part) (is : IsTab
       (λ (e : i ≡ j). e)
       (λ (differ : i ≢ j).
       let tell = apart.apart i j low low' differ in
-      absurd (tell.once (both_ways (is_some (walk part.rows (Some i) tell.word)) (is_some (walk part.rows (Some j) tell.word))
-      (also_walked i j xs ys t u same.there tell.word)
-      (also_walked j i ys xs u t same.back tell.word))))
+      absurd (tell.once (walked_alike classes m queries part told t.events u.events t.inside u.inside (alike_where_left m t.events u.events xs ys t.left u.left same) tell.word i j t.ends u.ends)))
       (cases_eq i j)
 
   -- lists of grids to which events lead at the states from this one on
@@ -99,10 +99,12 @@ module _ {U : Type 0} (classes : ℕ) (m : Pipeline U) (part : Part) (is : IsTab
   leads_not_none most reached zero state low none = none [] refl tt
   leads_not_none {weight} {n} most reached (suc count) state low none =
       let (w, e) = reached state (omega (arith, low)) in
-      let s : Spells classes part w = spells_walked classes part is filled w (Some 0) state e in
+      let columns = bare part.columns (length part.asks) w in
+      let s : Spells classes part columns = spell classes part told.filled columns (bare_columns part.columns (length part.asks) w) in
+      let ends = ap (walk part.rows (Some 0)) s.word ∙ bare_walk part.rows part.columns (length part.asks) told.shape.table told.shape.stays w 0 state e in
       left_not_none m weight n most s.events (λ xs left.
       leads_not_none most reached count (suc state) (omega (arith, low)) (λ items long lead.
-      none (xs ∷ items) (ap suc long) (record { events = s.events; inside = s.inside; ends = ap (walk part.rows (Some 0)) s.word ∙ e; left = left }, lead)))
+      none (xs ∷ items) (ap suc long) (record { events = s.events; inside = s.inside; ends = ends; left = left }, lead)))
 
   reached_all : (state : ℕ) (items : List (List (List (Pair U)))) → LeadFrom state items → All (IsReachedState m) items
   reached_all state [] lead = All-nil (IsReachedState m)

@@ -1,24 +1,25 @@
 -- How long the text of a machine is, beside its names, where nothing is told of its states.
-use Rattle.std.proofs.Common.{◌≡◌, ℕ, zero, suc, ◌+◌, ◌*◌, ◌^◌, ◌<◌, ◌≤◌, Bool, true, false, List, [], ◌∷◌, ◌++◌, map, length, get_or, All, Option, Some, None, if◌then◌else◌, refl, sym, ◌∙◌, subst, arith, decimal, codes}
+use Rattle.std.proofs.Common.{◌≡◌, ℕ, zero, suc, ◌+◌, ◌*◌, ◌^◌, ◌<◌, ◌≤◌, Bool, true, false, List, [], ◌∷◌, ◌++◌, map, length, get_or, All, Option, Some, None, if◌then◌else◌, refl, sym, ◌∙◌, subst, arith, decimal, codes, not}
 use Rattle.std.specs.List.{sum_by, flat_map, enumerate_from}
 use Rattle.std.proofs.lemmas.Fmt.{length-decimal-le}
 use Rattle.std.proofs.lemmas.List.{length-map, get_or_default}
 use Rattle.std.proofs.lemmas.List.FromFn.{length-enumerate_from}
 use Rattle.std.proofs.lemmas.List.Elements.{All-map, All-weaker}
-use Rattle.std.proofs.lemmas.List.Sums.{sum_by-cons}
-use Rattle.hz_base_model.specs.Limits.{class_limit}
+use Rattle.std.proofs.lemmas.List.Sums.{sum_by-cons, sum_by-append}
+use Rattle.hz_base_model.specs.Limits.{class_limit, unit_limit}
 use Rattle.hz_description_model.specs.Reading.Descriptions.{Options}
 use Rattle.hz_description_model.specs.Check.CheckedParts.{AutomatonParts}
 use Rattle.hz_automata_model.specs.Tables.StateLimits.{state_limit, cell_limit}
 use Rattle.hz_automata_model.specs.Tables.Tables.{Table, row_of, entry, IsTable}
-use Rattle.hz_automata_model.specs.Tables.Machines.{Part, Machine, IsPart, IsMachine, no_part}
+use Rattle.hz_automata_model.specs.Tables.Machines.{Part, Machine, IsPart, IsMachine, no_part, names_of, advance_of}
 use Rattle.hz_automata_model.specs.Compiling.AutomatonPipelines.{automaton_at}
 use Rattle.hz_automata_model.specs.Compiling.Compiled as compiled
 use Rattle.hz_automata_model.specs.Compiling.Compiled.{Report, report_at}
-use Rattle.hz_tabtext_model.specs.Texts.{PartText, AreCounts, entry_field, entries_line, row_lines, counts_lines, head_line, map_line, part_lines, treatment_line, class_line, spelled}
+use Rattle.hz_tabtext_model.specs.Texts.{PartText, AreCounts, entry_field, entries_line, row_lines, counts_lines, head_line, map_line, part_lines, treatment_line, class_line, spelled, asks_lines, header_line}
 use Rattle.hz_tabtext_model.specs.Said.{row_said, counts_said, part_said, tables_said}
 use Rattle.hz_answer_laws.specs.Sizes.Extents.{unnamed_limit, bytes_of_names}
 use Rattle.hz_answer_laws.proofs.Sizes.LineSizes.{line_bytes, text_bytes, line_is, line_most, text_more, text_append}
+use Rattle.hz_tabtext_model.specs.Fields.{is_nil}
 
 -- ---- rows
 
@@ -85,10 +86,19 @@ head_most name columns states few few' =
 
 -- the bytes of a part without its name, at most
 abbrev part_limit : ℕ
-part_limit = cell_limit * 6 + state_limit * 4 + class_limit * 5 + 65
+part_limit = cell_limit * 6 + state_limit * 4 + class_limit * 5 + unit_limit + 70
 
-part_most : (classes : ℕ) (stats : Bool) (units : List (List ℕ)) (report : Report) (part : Part) → classes ≤ class_limit → IsPart classes part → length part.rows ≤ state_limit → AreCounts (counts_said report) → report.shown ≡ None → text_bytes (part_lines (part_said stats units report part)) ≤ length part.name + part_limit
-part_most classes stats units report part few is rows counts none =
+-- a line of asks, where there is one
+asks_most : (asked : Bool) (asks : List (List ℕ)) → length asks ≤ unit_limit → text_bytes (asks_lines asked asks) ≤ sum_by length asks + unit_limit + 5
+asks_most false asks few = omega arith
+asks_most true asks few = omega (arith, text_more (codes "asks" ∷ asks) [], line_is (codes "asks") asks, one_more_each asks, few)
+  where
+    one_more_each : (names : List (List ℕ)) → sum_by (λ f. length f + 1) names ≡ sum_by length names + length names
+    one_more_each [] = omega arith
+    one_more_each (name ∷ names) = omega (arith, one_more_each names, sum_by-cons (λ f. length f + 1) name names, sum_by-cons length name names)
+
+part_most : (asked : Bool) (classes : ℕ) (stats : Bool) (units : List (List ℕ)) (report : Report) (part : Part) → classes ≤ class_limit → IsPart classes part → length part.rows ≤ state_limit → AreCounts (counts_said report) → report.shown ≡ None → text_bytes (part_lines asked (part_said stats units report part)) ≤ length part.name + sum_by length part.asks + part_limit
+part_most asked classes stats units report part few is rows counts none =
     let says = part_said stats units report part in
     let rest = flat_map row_lines says.rows in
     let long : length says.rows ≡ length part.rows = length-map (enumerate_from 0 part.rows) (row_said units report.shown) ∙ length-enumerate_from 0 part.rows in
@@ -97,7 +107,7 @@ part_most classes stats units report part few is rows counts none =
     let head = head_most part.name part.columns (length says.rows) (omega (arith, columns, few)) (omega (arith, long, rows)) in
     let maps = map_most classes part.columns part.map (omega (arith, columns, few)) is.each is.within in
     let counts = counts_most stats report counts in
-    let table : text_bytes rest ≤ length part.rows * (4 + (part.columns + 1) * 6) = subst (λ (o : Option compiled.Shown). text_bytes (flat_map row_lines (map (row_said units o) (enumerate_from 0 part.rows))) ≤ length part.rows * (4 + (part.columns + 1) * 6)) (sym none) (rows_most part.columns units 0 part.rows (rows_short part.rows part.columns is.table rows)) in
+    let table : text_bytes rest ≤ length part.rows * (4 + (part.columns + length part.asks + 1) * 6) = subst (λ (o : Option compiled.Shown). text_bytes (flat_map row_lines (map (row_said units o) (enumerate_from 0 part.rows))) ≤ length part.rows * (4 + (part.columns + length part.asks + 1) * 6)) (sym none) (rows_most (advance_of part) units 0 part.rows (rows_short part.rows (advance_of part) is.table rows)) in
     omega (
       arith,
       head,
@@ -107,18 +117,32 @@ part_most classes stats units report part few is rows counts none =
       cells,
       rows,
       few,
-      text_more (head_line says) (map_line says.map ∷ (counts_lines says.counts ++ rest)),
-      text_more (map_line says.map) (counts_lines says.counts ++ rest),
+      asks_most asked part.asks is.asks,
+      text_more (head_line says) (map_line says.map ∷ (asks_lines asked part.asks ++ (counts_lines says.counts ++ rest))),
+      text_more (map_line says.map) (asks_lines asked part.asks ++ (counts_lines says.counts ++ rest)),
+      text_append (asks_lines asked part.asks) (counts_lines says.counts ++ rest),
       text_append (counts_lines says.counts) rest,
     )
 
-parts_most : (make : ℕ × Part → PartText) (n : ℕ) (parts : List Part) → ((i : ℕ) → i < length parts → text_bytes (part_lines (make (n + i, get_or parts i no_part))) ≤ length (get_or parts i no_part).name + part_limit) → text_bytes (flat_map part_lines (map make (enumerate_from n parts))) ≤ length parts * part_limit + sum_by (λ part. length part.name) parts
-parts_most make n [] short = omega arith
-parts_most make n (part ∷ parts) short =
+-- the bytes of the names of a part
+abbrev name_bytes : Part → ℕ
+name_bytes part = length part.name + sum_by length part.asks
+
+parts_most : (asked : Bool) (make : ℕ × Part → PartText) (n : ℕ) (parts : List Part) → ((i : ℕ) → i < length parts → text_bytes (part_lines asked (make (n + i, get_or parts i no_part))) ≤ name_bytes (get_or parts i no_part) + part_limit)
+    → text_bytes (flat_map (part_lines asked) (map make (enumerate_from n parts))) ≤ length parts * part_limit + sum_by (λ part. length part.name) parts + sum_by length (names_of parts)
+parts_most asked make n [] short = omega arith
+parts_most asked make n (part ∷ parts) short =
     let at : n + 0 ≡ n = omega arith in
-    let here : text_bytes (part_lines (make (n, part))) ≤ length part.name + part_limit = subst (λ (k : ℕ). text_bytes (part_lines (make (k, part))) ≤ length part.name + part_limit) at (short zero (omega arith)) in
-    let later = parts_most make (n + 1) parts (λ i low. let there : n + suc i ≡ (n + 1) + i = omega arith in subst (λ (k : ℕ). text_bytes (part_lines (make (k, get_or parts i no_part))) ≤ length (get_or parts i no_part).name + part_limit) there (short (suc i) (omega (arith, low)))) in
-    omega (arith, here, later, text_append (part_lines (make (n, part))) (flat_map part_lines (map make (enumerate_from (n + 1) parts))), sum_by-cons (λ p. length p.name) part parts)
+    let here : text_bytes (part_lines asked (make (n, part))) ≤ name_bytes part + part_limit = subst (λ (k : ℕ). text_bytes (part_lines asked (make (k, part))) ≤ name_bytes part + part_limit) at (short zero (omega arith)) in
+    let later = parts_most asked make (n + 1) parts (λ i low. let there : n + suc i ≡ (n + 1) + i = omega arith in subst (λ (k : ℕ). text_bytes (part_lines asked (make (k, get_or parts i no_part))) ≤ name_bytes (get_or parts i no_part) + part_limit) there (short (suc i) (omega (arith, low)))) in
+    omega (
+      arith,
+      here,
+      later,
+      text_append (part_lines asked (make (n, part))) (flat_map (part_lines asked) (map make (enumerate_from (n + 1) parts))),
+      sum_by-cons (λ p. length p.name) part parts,
+      sum_by-append length part.asks (names_of parts),
+    )
 
 -- ---- texts
 
@@ -134,6 +158,10 @@ number_most : (word : List ℕ) (n : ℕ) → n ≤ 9999 → line_bytes (word �
 number_most word n few =
     let short = length-decimal-le 4 n (omega arith) (omega (arith, few)) (omega (arith, few)) in
     omega (arith, line_is word (decimal n ∷ []), sum_by-cons (λ f. length f + 1) (decimal n) [], short)
+
+header_most : (asked : Bool) → line_bytes (header_line asked) ≤ 16
+header_most true = omega (arith, line_is (codes "hazard-tables") (codes "2" ∷ []), sum_by-cons (λ f. length f + 1) (codes "2") [])
+header_most false = omega (arith, line_is (codes "hazard-tables") (codes "1" ∷ []), sum_by-cons (λ f. length f + 1) (codes "1") [])
 
 treatment_most : (ndfa : Bool) → line_bytes (treatment_line ndfa) ≤ 16
 treatment_most true = omega (arith, line_is (codes "treatment") (codes "ndfa" ∷ []), sum_by-cons (λ f. length f + 1) (codes "ndfa") [])
@@ -153,17 +181,18 @@ module _ (options : Options) (automata : List AutomatonParts) (reports : List Re
   spelled_most is rows tells =
       let few = is.few in
       let class_count = is.class_count in
+      let asked = not (is_nil (names_of m.parts)) in
       let says = map said_at (enumerate_from 0 m.parts) in
       let long : length says ≡ length m.parts = length-map (enumerate_from 0 m.parts) said_at ∙ length-enumerate_from 0 m.parts in
-      let parts : text_bytes (flat_map part_lines says) ≤ length m.parts * part_limit + sum_by (λ part. length part.name) m.parts = parts_most said_at 0 m.parts (λ a low.
+      let parts : text_bytes (flat_map (part_lines asked) says) ≤ length m.parts * part_limit + sum_by (λ part. length part.name) m.parts + sum_by length (names_of m.parts) = parts_most asked said_at 0 m.parts (λ a low.
       let at : 0 + a ≡ a = omega arith in
       let told = tells a low in
-      subst (λ (k : ℕ). text_bytes (part_lines (said_at (k, get_or m.parts a no_part))) ≤ length (get_or m.parts a no_part).name + part_limit) (sym at)
-      (part_most (length m.classes) options.stats (automaton_at automata a).units (report_at reports a) (get_or m.parts a no_part) class_count (is.parts a no_part low) (rows a no_part low) told.counts told.nothing)) in
-      let title = codes "hazard-tables" ∷ codes "1" ∷ [] in
+      subst (λ (k : ℕ). text_bytes (part_lines asked (said_at (k, get_or m.parts a no_part))) ≤ name_bytes (get_or m.parts a no_part) + part_limit) (sym at)
+      (part_most asked (length m.classes) options.stats (automaton_at automata a).units (report_at reports a) (get_or m.parts a no_part) class_count (is.parts a no_part low) (rows a no_part low) told.counts told.nothing)) in
+      let title = header_line asked in
       let classes = codes "classes" ∷ decimal (length m.classes) ∷ [] in
       let automata_line = codes "automata" ∷ decimal (length says) ∷ [] in
-      let behind = flat_map part_lines says ++ (codes "end" ∷ []) ∷ [] in
+      let behind = flat_map (part_lines asked) says ++ (codes "end" ∷ []) ∷ [] in
       let after = map class_line m.classes ++ automata_line ∷ behind in
       omega (
         arith,
@@ -172,8 +201,7 @@ module _ (options : Options) (automata : List AutomatonParts) (reports : List Re
         long,
         parts,
         text_more title (treatment_line options.ndfa ∷ classes ∷ after),
-        line_is (codes "hazard-tables") (codes "1" ∷ []),
-        sum_by-cons (λ f. length f + 1) (codes "1") [],
+        header_most asked,
         text_more (treatment_line options.ndfa) (classes ∷ after),
         treatment_most options.ndfa,
         text_more classes after,
@@ -182,7 +210,7 @@ module _ (options : Options) (automata : List AutomatonParts) (reports : List Re
         classes_most m.classes,
         text_more automata_line behind,
         number_most (codes "automata") (length says) (omega (arith, few, long)),
-        text_append (flat_map part_lines says) ((codes "end" ∷ []) ∷ []),
+        text_append (flat_map (part_lines asked) says) ((codes "end" ∷ []) ∷ []),
         text_more (codes "end" ∷ []) [],
         line_is (codes "end") [],
       )

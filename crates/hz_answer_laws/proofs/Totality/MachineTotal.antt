@@ -1,5 +1,5 @@
 -- Every description without a fault whose automata are within their limits has a machine that is compiled of it.
-use Rattle.std.proofs.Common.{◌==◌, ◌≡◌, ℕ, suc, ◌<◌, ◌≤◌, ⊎_elim, Bool, true, false, List, [], ◌∷◌, length, map, filter, get_or, All, None, Contains, refl, sym, ap, ◌∙◌, subst, arith}
+use Rattle.std.proofs.Common.{◌==◌, ◌≡◌, ℕ, suc, ◌<◌, ◌≤◌, ⊎_elim, Bool, true, false, List, [], ◌∷◌, length, map, filter, get_or, All, None, Contains, refl, sym, ap, ◌∙◌, subst, arith, ◌+◌, ◌++◌, ◌≢◌, zero}
 use Rattle.std.specs.Prelude.{IsTrue, codes, slice_index_or, if◌then◌else◌}
 use Rattle.std.specs.Option.{ForSome}
 use Rattle.std.proofs.lemmas.List.{length-map, get_or-map, get_or_default}
@@ -17,27 +17,31 @@ use Rattle.hz_description_model.specs.Reading.Descriptions.{Description, matches
 use Rattle.hz_description_model.specs.Reading.DescriptionShape.{IsWellFormed, IsAutomaton, IsUnit, IsClass}
 use Rattle.hz_description_model.proofs.Reading.CheckableLaws.{can_be_checked}
 use Rattle.hz_description_model.specs.Check.CheckFaults.{IsSound}
-use Rattle.hz_description_model.specs.Check.CheckedParts.{AutomatonParts, ClassParts, automaton_names, automaton_count, automaton_parts, automata_from, automata_of, units_in, class_parts, bypass_parts, attributes_of}
-use Rattle.hz_description_model.specs.Check.CheckedShape.{IsKept}
+use Rattle.hz_description_model.specs.Check.CheckedParts.{AutomatonParts, ClassParts, automaton_names, automaton_count, automaton_parts, automata_from, automata_of, units_in, class_parts, bypass_parts, attributes_of, queries_in}
+use Rattle.hz_description_model.specs.Check.CheckedShape.{IsKept, ask_names}
 use Rattle.hz_description_model.specs.Check.Places.{Known, automaton_number}
 use Rattle.hz_description_model.proofs.Check.KeptLaws.{parts_kept}
 use Rattle.hz_acceptance_model.specs.Pipelines.Pipelines.{pipeline_with}
-use Rattle.hz_automata_model.specs.Tables.Machines.{Machine, Part, IsMachine, IsPart, no_part}
+use Rattle.hz_automata_model.specs.Tables.Machines.{Machine, Part, IsMachine, IsPart, no_part, names_of}
 use Rattle.hz_automata_model.specs.Tables.StateLimits.{state_limit}
 use Rattle.hz_automata_model.proofs.Reaching.CountLaws.{no_count_both}
-use Rattle.hz_automata_model.specs.Compiling.AutomatonPipelines.{automaton_at, lists_at, class_lists, automaton_pipeline}
+use Rattle.hz_automata_model.specs.Compiling.AutomatonPipelines.{automaton_at, lists_at, class_lists, automaton_pipeline, queries_at, no_automaton}
 use Rattle.hz_automata_model.specs.Compiling.Compiled.{Report, report_at, shows_states, IsCompiledPart, IsCompiled}
 use Rattle.hz_automata_model.specs.Compiling.CompiledParts.{HasColumns, cap_of, IsWithinLimits}
 use Rattle.hz_automata_model.specs.Compiling.DescriptionLimits.{AllKeepLimits}
 use Rattle.hz_automata_model.proofs.Compiling.CompiledLaws.{above_alike}
-use Rattle.hz_automata_model.proofs.Compiling.DescriptionLaws.{automata_count}
+use Rattle.hz_automata_model.proofs.Compiling.DescriptionLaws.{automata_count, queries_there}
 use Rattle.hz_automata_model.proofs.Compiling.PipelineLaws.{list_there, restricted_moved}
 use Rattle.hz_answer_laws.proofs.Leaving.CountsTold.{counts_told}
 use Rattle.hz_automata_model.specs.Single.Told.{ListsAscending}
 use Rattle.hz_tabtext_model.specs.Said.{IsInRange, counts_said}
 use Rattle.hz_tabtext_model.specs.Texts.{AreCounts}
-use Rattle.hz_answer_laws.proofs.Totality.PartTotal.{AreLow, HasPart, some_part}
+use Rattle.hz_answer_laws.proofs.Totality.PartTotal.{AreLow, HasPart, some_part, AreQueries}
 use Rattle.hz_answer_laws.proofs.Totality.NumberedTables.{listed_values}
+use Rattle.hz_description_model.proofs.Check.QueryLaws.{asks_nothing}
+use Rattle.hz_description_model.proofs.Check.QueryPlaces.{names_of_their_own}
+use Rattle.hz_automata_model.specs.Reaching.Counts.{CountIsAtMost}
+use Rattle.std.specs.List.{flat_map, AllPairs}
 
 -- ---- names
 
@@ -96,6 +100,40 @@ module _ (d : Description) (formed : IsWellFormed d) where
   unfolding AreNamed
   all_units_named = by_items (λ (a : AutomatonParts). AreNames a.units) (automata_of d) (λ a h. (from_named 0 (automaton_names d) automaton_named a h).1)
 
+-- ---- query units
+
+-- the names of query units are those of units
+asks_named : (a : AutomatonParts) → AreNames a.units → All (λ n. n < length a.units) a.queries → AreNames (ask_names a)
+asks_named a units queries = All-map (λ name. IsTrue (is_name name)) (λ n. slice_index_or a.units n []) a.queries (λ k e low. units (get_or a.queries k e) [] (queries k e low))
+
+-- ascending numbers below a number are no more
+ascending_few : (ns : List ℕ) (limit : ℕ) → AllPairs (λ m n. m < n) ns → All (λ n. n < limit) ns → length ns ≤ limit
+ascending_few ns limit up below = from_place (length ns) refl
+  where
+    high : (i : ℕ) → i < length ns → i ≤ get_or ns i 0
+    high zero low = omega arith
+    high (suc i) low =
+        let before = high i (omega (arith, low)) in
+        let less = up i (suc i) 0 (omega arith) low in
+        omega (arith, before, less)
+
+    from_place : (n : ℕ) → length ns ≡ n → length ns ≤ limit
+    from_place zero e = omega (arith, e)
+    from_place (suc n) e =
+        let inside : n < length ns = omega (arith, e) in
+        let last = high n inside in
+        let cap = below n 0 inside in
+        omega (arith, e, last, cap)
+
+-- parts that ask for the query units of their automata have the names of all of them
+pub same_asks : (parts : List Part) (automata : List AutomatonParts) → length parts ≡ length automata → ((a : ℕ) → a < length automata → (get_or parts a no_part).asks ≡ ask_names (automaton_at automata a)) → names_of parts ≡ flat_map ask_names automata
+same_asks [] [] each same = refl
+same_asks [] (automaton ∷ automata) each same = absurd (omega (arith, each))
+same_asks (part ∷ parts) [] each same = absurd (omega (arith, each))
+same_asks (part ∷ parts) (automaton ∷ automata) each same =
+    ap (λ (names : List (List ℕ)). names ++ names_of parts) (same zero (omega arith))
+    ∙ ap (λ (names : List (List ℕ)). ask_names automaton ++ names) (same_asks parts automata (omega (arith, each)) (λ a low. same (suc a) (omega (arith, low))))
+
 -- ---- the machine
 
 -- A part of an automaton and its report, and what holds of both.
@@ -139,24 +177,34 @@ module _ (d : Description) (known : Known) (formed : IsWellFormed d) (sound : Is
           ap (λ (l : List (List (Pair ℕ))). l ∷ map (λ (p : ClassParts). slice_index_or p.lists a []) (map (class_parts d known) items)) (list_there d known a low c)
           ∙ ap (λ (ls : List (List (List (Pair ℕ)))). list_in a (alternatives_of known c.expression) ∷ ls) (of_items items)
 
-  within : (a : ℕ) → a < automaton_count d → IsWithinLimits (shows_states d.options) (lists_at classes a) (pipeline_of a)
+  within : (a : ℕ) → a < automaton_count d → IsWithinLimits (shows_states d.options) (lists_at classes a) (length (queries_at automata a)) (pipeline_of a)
   within a low =
       let keeps = keep a low in
-      let shown = shows_states d.options in record {
+      let shown = shows_states d.options in
+      let width = keeps.columns + length (queries_at automata a) in
+      let same : keeps.columns + length (queries_in d a) ≡ width = ap (λ queries. keeps.columns + length queries) (sym (queries_there d a low)) in record {
         columns = keeps.columns;
         has = subst (λ ls. HasColumns ls keeps.columns) (sym (lists_same a low)) keeps.has;
         counts = λ kind. ⊎_elim
             (λ few. few)
-            (λ many. absurd (no_count_both (restricted a (pipeline_with d known)) keeps.columns (cap_of shown kind) kind
-            (above_alike (restricted a (pipeline_with d known)) (pipeline_of a) (restricted_moved d known a low) keeps.columns (cap_of shown kind) kind many)
-            (keeps.counts kind)))
-            (counts_told ◌==◌ numbers_tell (pipeline_of a) keeps.columns kind (cap_of shown kind));
+            (λ many. absurd (no_count_both (restricted a (pipeline_with d known)) width (cap_of shown kind) kind
+            (above_alike (restricted a (pipeline_with d known)) (pipeline_of a) (restricted_moved d known a low) width (cap_of shown kind) kind many)
+            (subst (λ n. CountIsAtMost (restricted a (pipeline_with d known)) n kind (cap_of shown kind)) same (keeps.counts kind))))
+            (counts_told ◌==◌ numbers_tell (pipeline_of a) width kind (cap_of shown kind));
       }
+
+  -- the query units of an automaton are not too many, and there is none with the option `ndfa`
+  are_queries : (a : ℕ) → a < length automata → AreQueries d.options automata a
+  are_queries a low =
+      let queries = kept.queries a no_automaton low in
+      let units = kept.units a no_automaton low in
+      let few = ascending_few (queries_at automata a) (length (automaton_at automata a).units) queries.0 queries.1 in
+      record { few = omega (arith, few, units); none = λ ndfa. asks_nothing d known sound ndfa a no_automaton low }
 
   lists_low : (a : ℕ) → a < length automata → All (All AreLow) (lists_at classes a)
   lists_low a low i e inside =
       let many : i < length classes = omega (arith, inside, length-map classes (λ (c : ClassParts). slice_index_or c.lists a [])) in
-      let fits = kept.grids i none many a (automaton_at automata a) (slice_get-get_or automata a (record { name = []; units = []; statements = [] }) low) in
+      let fits = kept.grids i none many a (automaton_at automata a) (slice_get-get_or automata a no_automaton low) in
       subst (All AreLow) (sym (get_or-map (λ (c : ClassParts). slice_index_or c.lists a []) classes i none e many)) (λ j f in_list k g in_grid. (fits j f in_list k g in_grid).1)
     where
       none : ClassParts
@@ -167,7 +215,7 @@ module _ (d : Description) (known : Known) (formed : IsWellFormed d) (sound : Is
 
   part_there : (a : ℕ) → a < length automata → (both : Part × Report) × IsOf a both
   part_there a low =
-      let has : HasPart d.options.no_minimization d.options automata classes a = some_part d.options automata classes a (lists_low a low) (within a (omega (arith, low, automata_count d))) in
+      let has : HasPart d.options.no_minimization d.options automata classes a = some_part d.options automata classes a (lists_low a low) (are_queries a low) (within a (omega (arith, low, automata_count d))) in
       ((has.part, has.report), record { compiled = has.compiled; kept = has.kept; rows = has.rows; counts = has.counts; ascending = has.ascending; cycles = has.cycles })
 
   abbrev no_report : Report
@@ -209,6 +257,9 @@ module _ (d : Description) (known : Known) (formed : IsWellFormed d) (sound : Is
     names_count : length machine.classes ≡ length classes
     names_count = length-map classes (λ c. c.name)
 
+    asked : names_of parts ≡ flat_map ask_names automata
+    asked = same_asks parts automata (length-map all (λ both. both.0) ∙ count) (λ a low. ((compiled.parts) a low).asks)
+
     is_machine : IsMachine machine
     is_machine = record {
       some = let some = kept.some in omega (arith, some, count, length-map all (λ (both : Part × Report). both.0));
@@ -216,12 +267,14 @@ module _ (d : Description) (known : Known) (formed : IsWellFormed d) (sound : Is
       class_count = let few = kept.class_count in omega (arith, few, names_count);
       class_names = kept.class_names;
       parts = subst (λ n. All (IsPart n) parts) (sym names_count) (each_part (IsPart (length classes)) (λ a low both is. is.kept));
+      ask_names = subst (λ names. AllPairs (λ a b. a ≢ b) names) (sym asked) (names_of_their_own automata kept.unit_names kept.queries);
     }
 
     is_in_range : IsInRange automata reports machine
     is_in_range = record {
       classes = class_named d formed known;
       parts = each_part (λ (p : Part). IsTrue (is_name p.name)) (λ a low both is. subst (λ n. IsTrue (is_name n)) (sym is.compiled.name) (name_at d formed a low));
+      asks = each_part (λ (p : Part). AreNames p.asks) (λ a low both is. subst AreNames (sym is.compiled.asks) (asks_named (automaton_at automata a) (all_units_named d formed a no_automaton low) (kept.queries a no_automaton low).1));
       rows = each_part (λ (p : Part). length p.rows ≤ state_limit) (λ a low both is. is.rows);
       units = all_units_named d formed;
       counts = each_report (λ (r : Report). AreCounts (counts_said r)) (λ a low both is. is.counts);

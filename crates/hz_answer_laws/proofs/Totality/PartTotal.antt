@@ -1,6 +1,6 @@
 -- Every automaton whose counts are within their limits has a part that is compiled, and a report.
-use Rattle.std.proofs.Common.{◌==◌, ◌≡◌, ℕ, ◌+◌, ◌*◌, ◌<◌, ◌≤◌, ⊎_elim, Bool, true, false, List, [], ◌∷◌, ◌++◌, length, map, get_or, slice_get, replicate, All, Option, Some, None, Contains, refl, sym, ap, ◌∙◌, subst, arith}
-use Rattle.std.specs.Prelude.{is_some, MatchBool, IsSomeAnd, IsSorted, slice_index_or, ◌&&◌}
+use Rattle.std.proofs.Common.{◌==◌, ◌≡◌, ℕ, ◌+◌, ◌*◌, ◌<◌, ◌≤◌, ⊎_elim, Bool, true, false, List, [], ◌∷◌, ◌++◌, length, map, get_or, slice_get, replicate, All, Option, Some, None, Contains, refl, sym, ap, ◌∙◌, subst, arith, subst₂, if◌then◌else◌, IsTrue}
+use Rattle.std.specs.Prelude.{is_some, MatchBool, IsSomeAnd, IsSorted, slice_index_or, ◌&&◌, ◌↔◌}
 use Rattle.std.specs.List.{AllPairs, sum_by}
 use Rattle.std.specs.Option.{ForSome}
 use Rattle.std.proofs.Math.Nat.{mul-le-mul_left}
@@ -9,7 +9,7 @@ use Rattle.std.proofs.lemmas.List.{length-map, get_or-map, get_or_default}
 use Rattle.std.proofs.lemmas.List.Elements.{All-contains, Contains-get_or, Contains-append_cases}
 use Rattle.std.proofs.lemmas.List.Kept.{AllPairs-from_increasing}
 use Rattle.std.proofs.lemmas.Option.{none-some, slice_get_within, get_or_from_slice_get}
-use Rattle.hz_base_model.specs.Limits.{cycle_limit}
+use Rattle.hz_base_model.specs.Limits.{cycle_limit, unit_limit}
 use Rattle.hz_base_model.specs.Pairs.{Pair, later, placed, grid_cmp, IsAscendingBy}
 use Rattle.hz_base_model.proofs.Ascending.{AllPairs-map}
 use Rattle.hz_base_model.proofs.Elements.{Contains-nil, Contains-from_map}
@@ -17,15 +17,15 @@ use Rattle.hz_description_model.specs.Reservations.Sets.{Statement}
 use Rattle.hz_description_model.specs.Reservations.Alternatives.{Alternative}
 use Rattle.hz_acceptance_model.specs.Accepting.Events.{Event, issue, advance, ask, cycles_of, IsOfClass}
 use Rattle.hz_acceptance_model.specs.Accepting.Fitting.{AskTheSame}
-use Rattle.hz_acceptance_model.specs.Accepting.Replay.{Pipeline, Treatment, Class, chosen, calendar, alternatives_at, of_class, pairs_at}
+use Rattle.hz_acceptance_model.specs.Accepting.Replay.{Pipeline, Treatment, Class, chosen, calendar, alternatives_at, of_class, pairs_at, first_fit, any_fit}
 use Rattle.hz_acceptance_model.specs.Accepting.Restricted.{of_pairs}
 use Rattle.hz_acceptance_model.proofs.Accepting.Rows.{numbers_tell}
 use Rattle.hz_description_model.specs.Reading.Descriptions.{Options}
 use Rattle.hz_description_model.specs.Check.CheckedParts.{AutomatonParts, ClassParts}
 use Rattle.hz_acceptance_model.specs.Pipelines.Pipelines.{treatment_of}
-use Rattle.hz_automata_model.specs.Tables.Tables.{Table, walk}
+use Rattle.hz_automata_model.specs.Tables.Tables.{Table, walk, entry}
 use Rattle.hz_automata_model.specs.Tables.Apart.{WalkTheSame}
-use Rattle.hz_automata_model.specs.Tables.Machines.{Part, IsPart, part_walk, word_of}
+use Rattle.hz_automata_model.specs.Tables.Machines.{Part, IsPart, part_walk, word_of, advance_of, tells_reserved}
 use Rattle.hz_automata_model.specs.Tables.StateLimits.{grid_limit, state_limit, member_limit, cell_limit}
 use Rattle.hz_automata_model.proofs.Tables.TableLaws.{breadth_first_reached}
 use Rattle.hz_automata_model.specs.Least.Normal.{IsNormal}
@@ -35,13 +35,13 @@ use Rattle.hz_automata_model.specs.Reaching.Columns.{class_of_grids, pipeline_on
 use Rattle.hz_automata_model.specs.Reaching.Counts.{Count, CountIsAbove, CountIsAtMost}
 use Rattle.hz_automata_model.specs.Reaching.Counts as count
 use Rattle.hz_automata_model.proofs.Reaching.CountLaws.{no_count_both}
-use Rattle.hz_automata_model.specs.Compiling.AutomatonPipelines.{automaton_at, lists_at, automaton_pipeline}
+use Rattle.hz_automata_model.specs.Compiling.AutomatonPipelines.{automaton_at, lists_at, automaton_pipeline, queries_at}
 use Rattle.hz_automata_model.specs.Compiling.ClassColumns.{IsColumns}
 use Rattle.hz_automata_model.specs.Compiling.Compiled.{Shown, Report, shows_states, IsShown, IsCompiledPart}
-use Rattle.hz_automata_model.specs.Compiling.CompiledParts.{cap_of, IsWithinLimits, WalksAccepted, TellsWhatIsLeft}
+use Rattle.hz_automata_model.specs.Compiling.CompiledParts.{cap_of, IsWithinLimits, WalksAccepted, TellsWhatIsLeft, TellsWhatIsHeld}
 use Rattle.hz_automata_model.specs.Compiling.Counted.{CountIs}
 use Rattle.hz_automata_model.proofs.Compiling.ColumnLaws.{nothing_past}
-use Rattle.hz_automata_model.proofs.Compiling.CompiledLaws.{walks_accepted, tells_left, numbered, stands, low, counts_above, counts_most}
+use Rattle.hz_automata_model.proofs.Compiling.CompiledLaws.{walks_accepted, tells_left, numbered, stands, low, counts_above, counts_most, tells_held}
 use Rattle.hz_automata_model.proofs.Compiling.ReportLaws.{states_of, grid_count, state_count, cell_count, member_count}
 use Rattle.hz_answer_laws.proofs.Leaving.CountsTold.{counts_told}
 use Rattle.hz_automata_model.specs.Single.Told.{ListsAscending}
@@ -53,6 +53,16 @@ use Rattle.hz_answer_laws.proofs.Totality.NumberingLaws.{some_is}
 use Rattle.hz_answer_laws.proofs.Totality.LeastTables.{least_table}
 use Rattle.hz_answer_laws.proofs.Totality.AutomatonTotal.{HasAutomaton, some_automaton}
 use Rattle.std.specs.Ordering.{nat_cmp}
+use Rattle.hz_description_model.specs.Check.CheckedShape.{ask_names}
+use Rattle.hz_automata_model.specs.Tables.AskColumns.{HasAsks, AsksStay}
+use Rattle.hz_automata_model.proofs.Asks.AskLaws.{asked_table, asks_stay, least_stays, walk_one, walk_end}
+use Rattle.hz_automata_model.proofs.Asks.BareLaws.{without}
+use Rattle.hz_automata_model.proofs.Asks.PresentLaws.{marks_present}
+use Rattle.hz_automata_model.specs.Reaching.Present.{marks_of}
+use Rattle.hz_answer_laws.proofs.Totality.AskedRows.{asked_rows, rows_have_asks}
+use Rattle.hz_acceptance_model.specs.Accepting.Asking.{IsHeld}
+use Rattle.hz_automata_model.specs.Tables.Orders.{IsBreadthFirst}
+use Rattle.hz_automata_model.proofs.Single.PartLaws.{some_of}
 
 -- ---- cycles of what is left
 
@@ -157,7 +167,12 @@ pub record HasPart (stay : Bool) (options : Options) (automata : List AutomatonP
   pub ascending : ListsAscending report
   pub cycles : ForSome report.shown (λ shown. All (All AreLow) shown.states)
 
-module _ (options : Options) (automata : List AutomatonParts) (classes : List ClassParts) (a : ℕ) (are_low : All (All AreLow) (lists_at classes a)) where
+-- What holds of the query units of an automaton: they are not too many, and there is none with the option `ndfa`.
+pub record AreQueries (options : Options) (automata : List AutomatonParts) (a : ℕ) : Type 0 where
+  pub few : length (queries_at automata a) ≤ unit_limit
+  pub none : IsTrue options.ndfa → queries_at automata a ≡ []
+
+module _ (options : Options) (automata : List AutomatonParts) (classes : List ClassParts) (a : ℕ) (are_low : All (All AreLow) (lists_at classes a)) (are_queries : AreQueries options automata a) where
   abbrev m : Pipeline ℕ
   m = automaton_pipeline options automata classes a
 
@@ -167,38 +182,50 @@ module _ (options : Options) (automata : List AutomatonParts) (classes : List Cl
   abbrev lists : ClassLists
   lists = lists_at classes a
 
+  abbrev queries : List ℕ
+  queries = queries_at automata a
+
+  abbrev asks : List (List ℕ)
+  asks = ask_names (automaton_at automata a)
+
+  asks_count : length asks ≡ length queries
+  asks_count = length-map queries (λ unit. slice_index_or (automaton_at automata a).units unit [])
+
   lists_count : length lists ≡ length classes
   lists_count = length-map classes (λ c. slice_index_or c.lists a [])
 
-  asks : AskTheSame statements statements
-  asks source pairs now = (λ h. h, λ h. h)
+  same_asked : AskTheSame statements statements
+  same_asked source pairs now = (λ h. h, λ h. h)
 
-  module _ (n : ℕ) (columns : ClassLists) (maps : List ℕ) (is : IsColumns lists columns maps) (number : length columns ≡ n) (counts : (kind : Count) → CountIsAtMost m n kind (cap_of (shows_states options) kind)) where
+  module _ (n : ℕ) (columns : ClassLists) (maps : List ℕ) (is : IsColumns lists columns maps) (number : length columns ≡ n) (counts : (kind : Count) → CountIsAtMost m (n + length queries) kind (cap_of (shows_states options) kind)) where
     abbrev by_column : Pipeline ℕ
     by_column = pipeline_on (treatment_of options) statements columns
 
     none_past : (k : ℕ) → n ≤ k → alternatives_at by_column k ≡ []
     none_past k high = nothing_past (treatment_of options) statements columns k (omega (arith, high, number))
 
-    above : (kind : Count) (k : ℕ) → CountIsAbove by_column n kind k → CountIsAbove m n kind k
-    above kind k h = counts_above (treatment_of options) statements statements asks lists columns maps is n k kind h
+    above : (width : ℕ) (kind : Count) (k : ℕ) → CountIsAbove by_column width kind k → CountIsAbove m width kind k
+    above width kind k h = counts_above (treatment_of options) statements statements same_asked lists columns maps is width k kind h
 
-    most : (kind : Count) (k : ℕ) → CountIsAtMost by_column n kind k → CountIsAtMost m n kind k
-    most kind k h = counts_most (treatment_of options) statements statements asks lists columns maps is n k kind h
+    most : (width : ℕ) (kind : Count) (k : ℕ) → CountIsAtMost by_column width kind k → CountIsAtMost m width kind k
+    most width kind k h = counts_most (treatment_of options) statements statements same_asked lists columns maps is width k kind h
 
-    count_there : (kind : Count) (k : ℕ) → CountIs by_column n kind k → CountIs m n kind k
-    count_there kind k h = record { most = most kind k h.most; least = λ j less. above kind j (h.least j less) }
+    count_there : (width : ℕ) (kind : Count) (k : ℕ) → CountIs by_column width kind k → CountIs m width kind k
+    count_there width kind k h = record { most = most width kind k h.most; least = λ j less. above width kind j (h.least j less) }
 
     -- by columns there are no more states than by classes
     most_states : CountIsAtMost by_column n count.states (cap_of (shows_states options) count.states)
     most_states = ⊎_elim
         (λ few. few)
-        (λ many. absurd (no_count_both m n (cap_of (shows_states options) count.states) count.states (above count.states (cap_of (shows_states options) count.states) many) (counts count.states)))
+        (λ many. absurd (no_count_both m n (cap_of (shows_states options) count.states) count.states (above n count.states (cap_of (shows_states options) count.states) many) (counts count.states)))
         (counts_told ◌==◌ numbers_tell by_column n count.states (cap_of (shows_states options) count.states))
 
     module _ (has : HasAutomaton by_column n) where
+      abbrev marks : ℕ → ℕ → Bool
+      marks = marks_of has.grids has.sets queries
+
       abbrev part : Part
-      part = record { name = (automaton_at automata a).name; map = maps; columns = n; rows = has.table }
+      part = record { name = (automaton_at automata a).name; map = maps; columns = n; asks = asks; rows = asked_rows n (length asks) marks 0 has.table }
 
       abbrev states : List (List (List (Pair ℕ)))
       states = map (map (grid_at has.grids)) has.sets
@@ -243,14 +270,17 @@ module _ (options : Options) (automata : List AutomatonParts) (classes : List Cl
           let inside : k < length has.table = omega (arith, within, each, length-map has.sets (map (grid_at has.grids))) in
           subst P (get_or_default states k [] d within) (subst P (sym (state_is k inside)) (each_is k inside))
 
+      asked : HasAsks has.table part.rows n (length asks) marks
+      asked = rows_have_asks n (length asks) marks has.table has.is.shape
+
       is_shown : IsShown (length classes) m part shown
       is_shown = record {
-        parents = has.is.breadth_first;
-        each = let each = has.is.each in omega (arith, each, length-map has.sets (map (grid_at has.grids)));
+        parents = subst (λ table. IsBreadthFirst table n has.parents) (sym (without has.table part.rows n (length asks) marks has.is.shape asked)) has.is.breadth_first;
+        each = let each = has.is.each in let rows = asked.each in omega (arith, each, rows, length-map has.sets (map (grid_at has.grids)));
         left = λ t state all h.
-            let inside = low (treatment_of options) statements statements asks lists columns part is number has.grids has.sets has.parents has.is t state h in
+            let inside = low (treatment_of options) statements statements same_asked lists columns part is number has.table marks asked has.grids has.sets has.parents has.is t state h in
             subst (IsLeft m t) (sym (state_is state inside))
-            (stands (treatment_of options) statements statements asks lists columns part is number has.grids has.sets has.parents has.is t state (subst (λ k. All (IsOfClass k) t) (sym lists_count) all) h);
+            (stands (treatment_of options) statements statements same_asked lists columns part is number has.table marks asked has.grids has.sets has.parents has.is t state (subst (λ k. All (IsOfClass k) t) (sym lists_count) all) h);
         ascending = all_states (IsSorted grid_cmp) (λ state inside. sorted_below (state_at has.grids has.sets state) (state_below state inside));
       }
 
@@ -266,16 +296,26 @@ module _ (options : Options) (automata : List AutomatonParts) (classes : List Cl
       auto = has.is
 
       grids_are : CountIs m n count.grids (length has.grids)
-      grids_are = count_there count.grids (length has.grids) (grid_count by_column n none_past has.table has.grids has.sets has.parents auto)
+      grids_are = count_there n count.grids (length has.grids) (grid_count by_column n none_past has.table has.grids has.sets has.parents auto)
 
       states_are : CountIs m n count.states (length has.table)
-      states_are = count_there count.states (length has.table) (state_count by_column n none_past has.table has.grids has.sets has.parents auto)
+      states_are = count_there n count.states (length has.table) (state_count by_column n none_past has.table has.grids has.sets has.parents auto)
 
       members_are : CountIs m n count.members report.members
-      members_are = count_there count.members report.members (member_count by_column n none_past has.table has.grids has.sets has.parents auto)
+      members_are = count_there n count.members report.members (member_count by_column n none_past has.table has.grids has.sets has.parents auto)
 
-      cells_are : CountIs m n count.cells (length has.table * (n + 1))
-      cells_are = count_there count.cells (length has.table * (n + 1)) (cell_count by_column n none_past has.table has.grids has.sets has.parents auto)
+      cells_are : CountIs m (n + length queries) count.cells (length has.table * (n + length queries + 1))
+      cells_are = count_there (n + length queries) count.cells (length has.table * (n + length queries + 1)) (cell_count by_column n none_past has.table has.grids has.sets has.parents auto (n + length queries))
+
+      -- without `ndfa` the marks tell what is held, and with it there is no query
+      held : TellsWhatIsHeld (length lists) m queries part
+      held = by_option options.ndfa refl
+        where
+          by_option : (b : Bool) → options.ndfa ≡ b → TellsWhatIsHeld (length lists) m queries part
+          by_option true e = record { held = λ t state query unit all ends at. absurd (none-some unit (sym (ap (λ qs. slice_get qs query) (are_queries.none e)) ∙ at)) }
+          by_option false e =
+              tells_held (treatment_of options) statements statements same_asked lists columns part is number has.table marks asked has.grids has.sets has.parents auto
+              (ap (λ b. if b then any_fit else first_fit) e) queries (sym asks_count) (marks_present has.grids has.sets queries)
 
       compiled : IsCompiledPart true options automata classes a part report
       compiled = record {
@@ -283,9 +323,11 @@ module _ (options : Options) (automata : List AutomatonParts) (classes : List Cl
         columns = columns;
         shared = is;
         number = number;
-        walks = subst (λ k. WalksAccepted k m part) lists_count (walks_accepted (treatment_of options) statements statements asks lists columns part is number has.grids has.sets has.parents auto);
-        tells = subst (λ k. TellsWhatIsLeft k m part) lists_count (tells_left (treatment_of options) statements statements asks lists columns part is number has.grids has.sets has.parents auto);
-        numbered = numbered (treatment_of options) statements statements asks lists columns part is number has.grids has.sets has.parents auto;
+        asks = refl;
+        held = subst (λ k. TellsWhatIsHeld k m queries part) lists_count held;
+        walks = subst (λ k. WalksAccepted k m part) lists_count (walks_accepted (treatment_of options) statements statements same_asked lists columns part is number has.table marks asked has.grids has.sets has.parents auto);
+        tells = subst (λ k. TellsWhatIsLeft k m part) lists_count (tells_left (treatment_of options) statements statements same_asked lists columns part is number has.table marks asked has.grids has.sets has.parents auto);
+        numbered = numbered (treatment_of options) statements statements same_asked lists columns part is number has.table marks asked has.grids has.sets has.parents auto;
         within = record { columns = n; has = (columns, maps, is, number); counts = counts };
         grids = grids_are;
         states = states_are;
@@ -301,8 +343,12 @@ module _ (options : Options) (automata : List AutomatonParts) (classes : List Cl
         each = is.each ∙ lists_count;
         within = λ k d inside. subst (λ c. c < n) (get_or_default maps k 0 d inside) (let below = column_within lists columns maps is k inside in omega (arith, below, number));
         columns = let few = few_columns lists columns maps is in omega (arith, few, number, lists_count);
-        table = auto.shape;
-        cells = count_few m n count.cells (length has.table * (n + 1)) cell_limit cells_are (counts count.cells);
+        asks = let few = are_queries.few in omega (arith, few, asks_count);
+        table = asked_table has.table part.rows n (length asks) marks auto.shape asked;
+        stays = asks_stay has.table part.rows n (length asks) marks auto.shape asked;
+        cells =
+            let few = count_few m (n + length queries) count.cells (length has.table * (n + length queries + 1)) cell_limit cells_are (counts count.cells) in
+            subst₂ (λ rows many. rows * (n + many + 1) ≤ cell_limit) (sym asked.each) (sym asks_count) few;
       }
 
       counts_low : AreCounts (counts_said report)
@@ -328,14 +374,14 @@ module _ (options : Options) (automata : List AutomatonParts) (classes : List Cl
         report = report;
         compiled = compiled;
         kept = is_part;
-        rows = few_rows;
+        rows = let each = asked.each in omega (arith, few_rows, each);
         counts = counts_low;
         ascending = for_shown (λ (s : Shown). All (λ grids. All (IsAscendingBy nat_cmp) grids) s.states) (all_states (All (IsAscendingBy nat_cmp)) (of_states (IsAscendingBy nat_cmp) has.ascending)) (shows_states options);
         cycles = for_shown (λ (s : Shown). All (All AreLow) s.states) (all_states (All AreLow) (of_states AreLow cycles_low)) (shows_states options);
       }
 
   -- the part as its states are found
-  stays : IsWithinLimits (shows_states options) lists m → HasPart true options automata classes a
+  stays : IsWithinLimits (shows_states options) lists (length queries) m → HasPart true options automata classes a
   stays within =
       let (columns, maps, is, number) = within.has in
       part_stays within.columns columns maps is number within.counts
@@ -345,16 +391,16 @@ module _ (options : Options) (automata : List AutomatonParts) (classes : List Cl
       (most_states within.columns columns maps is number within.counts))
 
   -- the part whose states are minimised
-  module _ (found : HasPart true options automata classes a) (lessened : options.no_minimization ≡ false) (rows : Table) (normal : IsNormal rows (found.part).columns) (walks : WalkTheSame (found.part).rows rows) (fewer : length rows ≤ length (found.part).rows) where
+  module _ (found : HasPart true options automata classes a) (lessened : options.no_minimization ≡ false) (rows : Table) (normal : IsNormal rows (advance_of found.part)) (walks : WalkTheSame (found.part).rows rows) (fewer : length rows ≤ length (found.part).rows) where
     abbrev least : Part
-    least = record { name = (found.part).name; map = (found.part).map; columns = (found.part).columns; rows = rows }
+    least = record { name = (found.part).name; map = (found.part).map; columns = (found.part).columns; asks = (found.part).asks; rows = rows }
 
     -- events take the same columns
     words_same : (t : List Event) → word_of least t ≡ word_of found.part t
     words_same [] = refl
-    words_same (issue k ∷ t) = ap (λ (w : List ℕ). slice_index_or (found.part).map k ((found.part).columns + 1) ∷ w) (words_same t)
+    words_same (issue k ∷ t) = ap (λ (w : List ℕ). slice_index_or (found.part).map k (advance_of found.part + 1) ∷ w) (words_same t)
     words_same (ask b u ∷ t) = words_same t
-    words_same (advance k ∷ t) = ap (λ (w : List ℕ). replicate k (found.part).columns ++ w) (words_same t)
+    words_same (advance k ∷ t) = ap (λ (w : List ℕ). replicate k (advance_of found.part) ++ w) (words_same t)
 
     walked : (t : List Event) → is_some (part_walk least 0 t) ≡ is_some (part_walk found.part 0 t)
     walked t = ap (λ (w : List ℕ). is_some (walk rows (Some 0) w)) (words_same t) ∙ sym (walks.same (word_of found.part t))
@@ -371,6 +417,25 @@ module _ (options : Options) (automata : List AutomatonParts) (classes : List Cl
     hidden false e o h = h
     hidden true e o h = absurd (cc)
 
+    -- a least part tells what the part tells
+    same_tells : (t : List Event) (state mate query : ℕ) → part_walk least 0 t ≡ Some state → part_walk found.part 0 t ≡ Some mate → tells_reserved least state query ≡ tells_reserved found.part mate query
+    same_tells t state mate query ends led =
+        let column = (found.part).columns + query in
+        let w = word_of found.part t in
+        let here : is_some (walk rows (Some 0) (w ++ column ∷ [])) ≡ is_some (entry rows state column) = ap is_some (walk_one rows (Some 0) state column w [] (sym (ap (walk rows (Some 0)) (words_same t)) ∙ ends) ∙ walk_end rows (entry rows state column)) in
+        let there : is_some (walk (found.part).rows (Some 0) (w ++ column ∷ [])) ≡ is_some (entry (found.part).rows mate column) = ap is_some (walk_one (found.part).rows (Some 0) mate column w [] led ∙ walk_end (found.part).rows (entry (found.part).rows mate column)) in
+        sym here ∙ (sym (walks.same (w ++ column ∷ [])) ∙ there)
+
+    least_held : (t : List Event) (state query unit : ℕ) → All (IsOfClass (length classes)) t → part_walk least 0 t ≡ Some state → slice_get queries query ≡ Some unit → (tells_reserved least state query ≡ true) ↔ IsHeld m t unit
+    least_held t state query unit all ends at =
+        let mate = some_of (part_walk found.part 0 t) (sym (walked t) ∙ ap is_some ends) in
+        let same = same_tells t state mate.0 query ends mate.1 in
+        let held = (found.compiled).held.held t mate.0 query unit all mate.1 at in
+        (λ h. held.0 (sym same ∙ h), λ h. same ∙ held.1 h)
+
+    asks_stay_least : AsksStay rows (found.part).columns (length (found.part).asks)
+    asks_stay_least = least_stays (found.part).rows rows (found.part).columns (length (found.part).asks) (found.kept).table (found.kept).stays walks normal
+
     least_compiled : IsCompiledPart options.no_minimization options automata classes a least found.report
     least_compiled =
         let compiled = found.compiled in
@@ -379,13 +444,15 @@ module _ (options : Options) (automata : List AutomatonParts) (classes : List Cl
           columns = compiled.columns;
           shared = compiled.shared;
           number = compiled.number;
+          asks = compiled.asks;
+          held = record { held = λ t state query unit all ends at. least_held t state query unit all ends at };
           walks = record {
             walks = λ t all.
                 let before = compiled.walks.walks t all in
                 (λ h. before.0 (sym (walked t) ∙ h), λ h. walked t ∙ before.1 h);
           };
           tells = normal.apart;
-          numbered = record { reached = breadth_first_reached rows (found.part).columns normal.parents normal.order; parents = normal.parents; breadth_first = normal.order };
+          numbered = record { reached = breadth_first_reached rows (advance_of found.part) normal.parents normal.order; parents = normal.parents; breadth_first = normal.order };
           within = compiled.within;
           grids = compiled.grids;
           states = compiled.states;
@@ -399,10 +466,12 @@ module _ (options : Options) (automata : List AutomatonParts) (classes : List Cl
           each = kept.each;
           within = kept.within;
           columns = kept.columns;
+          asks = kept.asks;
           table = normal.is;
+          stays = asks_stay_least;
           cells =
               let cells = kept.cells in
-              let less = mul-le-mul_left {m = length rows} {n = length (found.part).rows} ((found.part).columns + 1) fewer in
+              let less = mul-le-mul_left {m = length rows} {n = length (found.part).rows} (advance_of found.part + 1) fewer in
               omega (arith, less, cells);
         }
 
@@ -418,12 +487,12 @@ module _ (options : Options) (automata : List AutomatonParts) (classes : List Cl
       cycles = found.cycles;
     }
 
-  pub some_part : IsWithinLimits (shows_states options) lists m → HasPart options.no_minimization options automata classes a
+  pub some_part : IsWithinLimits (shows_states options) lists (length queries) m → HasPart options.no_minimization options automata classes a
   some_part within = by_option options.no_minimization refl
     where
       by_option : (b : Bool) → options.no_minimization ≡ b → HasPart options.no_minimization options automata classes a
       by_option true e = subst (λ (b : Bool). HasPart b options automata classes a) (sym e) (stays within)
       by_option false e =
           let found = stays within in
-          let (rows, normal, walks, fewer) = least_table (found.part).rows (found.part).columns (found.kept).table in
+          let (rows, normal, walks, fewer) = least_table (found.part).rows (advance_of found.part) (found.kept).table in
           lessened_part found e rows normal walks fewer

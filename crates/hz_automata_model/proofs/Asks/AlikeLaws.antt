@@ -9,7 +9,7 @@ use Rattle.hz_automata_model.proofs.Tables.TableLaws.{walk_stays}
 use Rattle.hz_automata_model.proofs.Asks.AskLaws.{starts, walk_one, walk_end, by_column, class_beside, advance_beside, no_entry}
 
 -- what is walked after a front, of two tables, where the front leads to states of both or of neither
-both_from : (first second : Table) (a b : Option ℕ) → is_some a ≡ is_some b → (w : List ℕ)
+pub both_from : (first second : Table) (a b : Option ℕ) → is_some a ≡ is_some b → (w : List ℕ)
     → ((p q : ℕ) → a ≡ Some p → b ≡ Some q → is_some (walk first (Some p) w) ≡ is_some (walk second (Some q) w))
     → is_some (walk first a w) ≡ is_some (walk second b w)
 both_from first second None None e w both = refl

@@ -26,7 +26,7 @@ some_of : (o : Option ℕ) → is_some o ≡ true → (r : ℕ) × (o ≡ Some r
 some_of (Some r) e = (r, refl)
 some_of None e = cc
 
-marked_some : (b : Bool) (state : ℕ) → is_some (if b then Some state else None) ≡ b
+pub marked_some : (b : Bool) (state : ℕ) → is_some (if b then Some state else None) ≡ b
 marked_some true state = refl
 marked_some false state = refl
 
@@ -140,51 +140,49 @@ module _ (table asked : Table) (columns asks : ℕ) (marks : ℕ → ℕ → Boo
         ∙ ap is_some (walk_one asked (Some 0) state column up [] in_asked ∙ walk_end asked (entry asked state column) ∙ has.marked state ask within lt)
         ∙ marked_some (marks state ask) state
 
-    module _ (normal : IsNormal least (columns + asks)) where
-      -- what is walked from a state is what is walked after a list of columns that leads to it
-      module _ (state ask next : ℕ) (within : state < length least) (lt : ask < asks) (there : entry least state (columns + ask) ≡ Some next) where
-        abbrev column : ℕ
-        column = columns + ask
+-- A normal table that walks the same as one in which an ask leads to no other state.
+module _ (first least : Table) (columns asks : ℕ) (whole : IsTable first (columns + asks)) (stay : AsksStay first columns asks) (same : WalkTheSame first least) (normal : IsNormal least (columns + asks)) where
+  -- what is walked from a state is what is walked after a list of columns that leads to it
+  module _ (state ask next : ℕ) (within : state < length least) (lt : ask < asks) (there : entry least state (columns + ask) ≡ Some next) where
+    abbrev column : ℕ
+    column = columns + ask
 
-        abbrev reached : IsReached least state
-        reached = breadth_first_reached least (columns + asks) normal.parents normal.order state within
+    abbrev reached : IsReached least state
+    reached = breadth_first_reached least (columns + asks) normal.parents normal.order state within
 
-        behind : (v : List ℕ) → is_some (walk least (Some state) v) ≡ is_some (walk asked (walk asked (Some 0) (reached.0)) v)
-        behind v = ap is_some (ap (λ (o : Option ℕ). walk least o v) (sym reached.1) ∙ sym (walk-append least (Some 0) reached.0 v)) ∙ sym (same.same (reached.0 ++ v)) ∙ ap is_some (walk-append asked (Some 0) reached.0 v)
+    behind : (v : List ℕ) → is_some (walk least (Some state) v) ≡ is_some (walk first (walk first (Some 0) (reached.0)) v)
+    behind v = ap is_some (ap (λ (o : Option ℕ). walk least o v) (sym reached.1) ∙ sym (walk-append least (Some 0) reached.0 v)) ∙ sym (same.same (reached.0 ++ v)) ∙ ap is_some (walk-append first (Some 0) reached.0 v)
 
-        origin : (r : ℕ) × (walk asked (Some 0) reached.0 ≡ Some r)
-        origin = some_of (walk asked (Some 0) reached.0) (same.same reached.0 ∙ ap is_some reached.1)
+    origin : (r : ℕ) × (walk first (Some 0) reached.0 ≡ Some r)
+    origin = some_of (walk first (Some 0) reached.0) (same.same reached.0 ∙ ap is_some reached.1)
 
-        origin_within : origin.0 < length table
-        origin_within = let low = walk_stays asked (columns + asks) asked_table (Some 0) (starts asked asked_table.start) origin.0 reached.0 origin.1 in let each = has.each in omega arith
+    from_origin : (v : List ℕ) → is_some (walk least (Some state) v) ≡ is_some (walk first (Some origin.0) v)
+    from_origin v = behind v ∙ ap (λ (o : Option ℕ). is_some (walk first o v)) origin.1
 
-        from_origin : (v : List ℕ) → is_some (walk least (Some state) v) ≡ is_some (walk asked (Some origin.0) v)
-        from_origin v = behind v ∙ ap (λ (o : Option ℕ). is_some (walk asked o v)) origin.1
+    asked_there : entry first origin.0 column ≡ Some origin.0
+    asked_there =
+        let some : is_some (entry first origin.0 column) ≡ true =
+        ap is_some (sym (walk_end first (entry first origin.0 column))) ∙ sym (from_origin (column ∷ [])) ∙ ap (λ (o : Option ℕ). is_some (walk least o [])) there in
+        let found = some_of (entry first origin.0 column) some in
+        found.1 ∙ ap Some (stay.stays origin.0 ask found.0 lt found.1)
 
-        marked_there : entry asked origin.0 column ≡ Some origin.0
-        marked_there =
-            let mark = has.marked origin.0 ask origin_within lt in
-            let some : is_some (entry asked origin.0 column) ≡ true =
-            ap is_some (sym (walk_end asked (entry asked origin.0 column))) ∙ sym (from_origin (column ∷ [])) ∙ ap (λ (o : Option ℕ). is_some (walk least o [])) there in
-            mark ∙ marked_self (marks origin.0 ask) origin.0 (ap is_some (sym mark) ∙ some)
+    same_behind : (v : List ℕ) → is_some (walk least (Some next) v) ≡ is_some (walk least (Some state) v)
+    same_behind v =
+        ap (λ (o : Option ℕ). is_some (walk least o v)) (sym there) ∙ from_origin (column ∷ v) ∙ ap (λ (o : Option ℕ). is_some (walk first o v)) asked_there ∙ sym (from_origin v)
 
-        same_behind : (v : List ℕ) → is_some (walk least (Some next) v) ≡ is_some (walk least (Some state) v)
-        same_behind v =
-            ap (λ (o : Option ℕ). is_some (walk least o v)) (sym there) ∙ from_origin (column ∷ v) ∙ ap (λ (o : Option ℕ). is_some (walk asked o v)) marked_there ∙ sym (from_origin v)
+    stays_there : next ≡ state
+    stays_there =
+        ⊎_elim
+        (λ (e : next ≡ state). e)
+        (λ (other : next ≢ state).
+        let apart = normal.apart.apart next state (normal.is.targets state column next there) within other in
+        absurd (apart.once (same_behind apart.word)))
+        (cases_eq next state)
 
-        pub stays_there : next ≡ state
-        stays_there =
-            ⊎_elim
-            (λ (e : next ≡ state). e)
-            (λ (other : next ≢ state).
-            let apart = normal.apart.apart next state (normal.is.targets state column next there) within other in
-            absurd (apart.once (same_behind apart.word)))
-            (cases_eq next state)
-
-      pub least_stays : AsksStay least columns asks
-      least_stays = record {
-        stays = λ state ask next lt there. ⊎_elim
-            (λ within. stays_there state ask next within lt there)
-            (λ past. none_is_some (entry least state (columns + ask)) next (no_row least state (columns + ask) past) there)
-            (cases_lt state (length least));
-      }
+  pub least_stays : AsksStay least columns asks
+  least_stays = record {
+    stays = λ state ask next lt there. ⊎_elim
+        (λ within. stays_there state ask next within lt there)
+        (λ past. none_is_some (entry least state (columns + ask)) next (no_row least state (columns + ask) past) there)
+        (cases_lt state (length least));
+  }

@@ -32,20 +32,20 @@ module _ (treatment : Treatment) (statements : List (Statement ℕ)) where
   pub nothing_past : (lists : List (List (List (Pair ℕ)))) (k : ℕ) → length lists ≤ k → alternatives_at (pipeline_on treatment statements lists) k ≡ []
   nothing_past lists k high = list_at lists k ∙ ap (λ o. of_class (option_map class_of_grids o)) (past_end lists k high)
 
-  module _ (lists columns : List (List (List (Pair ℕ)))) (maps : List ℕ) (is : IsColumns lists columns maps) where
-    -- the column of a class, past all columns where there is no such class
+  module _ (lists columns : List (List (List (Pair ℕ)))) (maps : List ℕ) (is : IsColumns lists columns maps) (asks : ℕ) where
+    -- the column of a class, past all columns and so many asks where there is no such class
     abbrev pub to_column : ℕ → ℕ
-    to_column k = slice_index_or maps k (length columns + 1)
+    to_column k = slice_index_or maps k (length columns + asks + 1)
 
     pub column_there : (k : ℕ) → k < length lists → (to_column k < length columns) × (slice_get columns (to_column k) ≡ slice_get lists k)
     column_there k low =
         let each = is.each in
-        let index : to_column k ≡ slice_index maps k = get_or_default maps k (length columns + 1) 0 (omega (arith, low, each)) in
+        let index : to_column k ≡ slice_index maps k = get_or_default maps k (length columns + asks + 1) 0 (omega (arith, low, each)) in
         let there = ap (slice_get columns) index ∙ is.there k low in
         (slice_get_within columns (to_column k) _ there, there ∙ sym (slice_get-get_or lists k [] low))
 
-    column_past : (k : ℕ) → length lists ≤ k → to_column k ≡ length columns + 1
-    column_past k high = let each = is.each in get_or_past maps k (length columns + 1) (omega (arith, high, each))
+    column_past : (k : ℕ) → length lists ≤ k → to_column k ≡ length columns + asks + 1
+    column_past k high = let each = is.each in get_or_past maps k (length columns + asks + 1) (omega (arith, high, each))
 
     pub columns_moved : IsMoved to_column (pipeline_on treatment statements lists) (pipeline_on treatment statements columns)
     columns_moved = record {
@@ -72,7 +72,7 @@ module _ (treatment : Treatment) (statements : List (Statement ℕ)) where
         let each = is.each in
         let rest = unmoved t inside.1 in
         let low = class.1 in
-        let column : to_column class.0 ≡ c = get_or_default maps class.0 (length columns + 1) 0 (omega (arith, low, each)) ∙ class.2 in
+        let column : to_column class.0 ≡ c = get_or_default maps class.0 (length columns + asks + 1) 0 (omega (arith, low, each)) ∙ class.2 in
         (issue class.0 ∷ rest.0, ap (λ n. issue n ∷ moved to_column rest.0) column ∙ ap (λ es. issue c ∷ es) rest.1)
     unmoved (ask a u ∷ t) inside = let rest = unmoved t inside in (ask a u ∷ rest.0, ap (λ es. ask a u ∷ es) rest.1)
     unmoved (advance n ∷ t) inside = let rest = unmoved t inside in (advance n ∷ rest.0, ap (λ es. advance n ∷ es) rest.1)

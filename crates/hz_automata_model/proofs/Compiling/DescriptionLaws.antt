@@ -1,6 +1,6 @@
 -- The machine that is compiled of a description.
-use Rattle.std.proofs.Common.{◌≡◌, ℕ, suc, ◌+◌, ◌<◌, List, [], ◌∷◌, length, map, take, Option, Some, None, slice_get, refl, sym, ap, ◌∙◌, subst, arith}
-use Rattle.std.specs.Prelude.{◌↔◌, All, IsSome, slice_index_or}
+use Rattle.std.proofs.Common.{◌≡◌, ℕ, suc, ◌+◌, ◌<◌, List, [], ◌∷◌, length, map, take, Option, Some, None, slice_get, refl, sym, ap, ◌∙◌, subst, arith, Bool, true, false, if◌then◌else◌, zero-add, add-zero, zero}
+use Rattle.std.specs.Prelude.{◌↔◌, All, IsSome, slice_index_or, is_some}
 use Rattle.std.proofs.lemmas.List.{length-map}
 use Rattle.std.proofs.lemmas.List.Elements.{All-take}
 use Rattle.std.proofs.lemmas.Option.{slice_get-get_or, slice_get_within, get_or_from_slice_get}
@@ -8,23 +8,27 @@ use Rattle.hz_base_model.specs.Pairs.{Pair}
 use Rattle.hz_description_model.specs.Reservations.Alternatives.{alternatives_of}
 use Rattle.hz_description_model.specs.Reservations.Automata.{list_in}
 use Rattle.hz_acceptance_model.specs.Accepting.Events.{Event, IsOfClass}
-use Rattle.hz_acceptance_model.specs.Accepting.Replay.{Pipeline, Accepted, FirstRefused}
+use Rattle.hz_acceptance_model.specs.Accepting.Replay.{Pipeline, Accepted, FirstRefused, first_fit, any_fit}
 use Rattle.hz_acceptance_model.specs.Accepting.Restricted.{restricted}
 use Rattle.hz_description_model.specs.Reading.Descriptions.{Description, ClassItem}
 use Rattle.hz_description_model.specs.Check.CheckFaults.{IsSound}
 use Rattle.hz_description_model.specs.Check.Places.{Known}
-use Rattle.hz_description_model.specs.Check.CheckedParts.{ClassParts, automaton_names, automaton_count, automata_from, automata_of, class_parts}
+use Rattle.hz_description_model.specs.Check.CheckedParts.{ClassParts, automaton_names, automaton_count, automata_from, automata_of, class_parts, queries_in}
 use Rattle.hz_acceptance_model.specs.Pipelines.Pipelines.{pipeline_with}
-use Rattle.hz_automata_model.specs.Tables.Machines.{Machine, no_part, part_at, part_walk, machine_walk}
+use Rattle.hz_automata_model.specs.Tables.Machines.{Machine, no_part, part_at, part_walk, machine_walk, states_tell}
 use Rattle.hz_automata_model.proofs.Tables.MachineLaws.{machine_walk-each, machine_walk-part, machine_walk-all}
-use Rattle.hz_automata_model.specs.Reaching.Counts.{Count}
-use Rattle.hz_automata_model.specs.Compiling.AutomatonPipelines.{lists_at, class_lists, automaton_pipeline}
+use Rattle.hz_automata_model.specs.Reaching.Counts.{Count, CountIsAtMost, CountIsAbove}
+use Rattle.hz_automata_model.specs.Compiling.AutomatonPipelines.{lists_at, class_lists, automaton_pipeline, queries_at, query_unit, no_automaton}
 use Rattle.hz_automata_model.specs.Compiling.Compiled.{IsCompiled, IsFirstPast, shows_states, Report}
-use Rattle.hz_automata_model.specs.Compiling.CompiledParts.{HasColumns, IsWithinLimits, IsPastLimit}
+use Rattle.hz_automata_model.specs.Compiling.CompiledParts.{HasColumns, IsWithinLimits, IsPastLimit, cap_of}
 use Rattle.hz_automata_model.specs.Compiling.DescriptionLimits.{KeepsLimits, PassesLimit, AllKeepLimits, IsFirstPastLimit}
-use Rattle.hz_automata_model.proofs.Compiling.CompiledLaws.{above_alike, most_alike}
+use Rattle.hz_automata_model.proofs.Compiling.CompiledLaws.{above_alike, most_alike, held_alike, accepted_alike}
 use Rattle.hz_automata_model.proofs.Compiling.FactoredLaws.{accepted_in_automata}
 use Rattle.hz_automata_model.proofs.Compiling.PipelineLaws.{restricted_moved, list_there}
+use Rattle.hz_description_model.proofs.Check.QueryLaws.{asks_nothing}
+use Rattle.hz_acceptance_model.proofs.Pipelines.JointLaws.{joint}
+use Rattle.hz_acceptance_model.proofs.Pipelines.RunLaws.{held_in_one}
+use Rattle.hz_acceptance_model.specs.Accepting.Asking.{IsHeld}
 
 some_of : {A : Type 0} (o : Option A) → IsSome o → (x : A) × (o ≡ Some x)
 some_of None h = absurd (cc)
@@ -51,6 +55,15 @@ module _ (d : Description) where
   pub automata_count : length (automata_of d) ≡ automaton_count d
   automata_count = parts_count 0 (automaton_names d)
 
+  -- the query units of an automaton
+  queries_from : (n : ℕ) (names : List (List ℕ)) (a : ℕ) → a < length names → queries_at (automata_from d n names) a ≡ queries_in d (n + a)
+  queries_from n [] a low = absurd (omega (arith, low))
+  queries_from n (name ∷ names) zero low = ap (queries_in d) (sym (add-zero n))
+  queries_from n (name ∷ names) (suc a) low = let next : suc n + a ≡ n + suc a = omega arith in queries_from (suc n) names a (omega (arith, low)) ∙ ap (queries_in d) next
+
+  pub queries_there : (a : ℕ) → a < automaton_count d → queries_at (automata_of d) a ≡ queries_in d a
+  queries_there a low = queries_from 0 (automaton_names d) a low ∙ ap (queries_in d) (zero-add a)
+
   module _ (known : Known) where
     abbrev parts : List ClassParts
     parts = map (class_parts d known) d.classes
@@ -69,18 +82,22 @@ module _ (d : Description) where
             ∙ ap (λ (ls : List (List (List (Pair ℕ)))). list_in a (alternatives_of known c.expression) ∷ ls) (of_items items)
 
     -- limits of the automata are those of the description
-    kept_there : (a : ℕ) → a < automaton_count d → IsWithinLimits (shows_states d.options) (lists_at parts a) (pipeline_of a) → KeepsLimits d known a
+    kept_there : (a : ℕ) → a < automaton_count d → IsWithinLimits (shows_states d.options) (lists_at parts a) (length (queries_at (automata_of d) a)) (pipeline_of a) → KeepsLimits d known a
     kept_there a low h = record {
       columns = h.columns;
       has = subst (λ ls. HasColumns ls h.columns) (lists_same a low) h.has;
-      counts = λ kind. most_alike (restricted a (pipeline_with d known)) (pipeline_of a) (restricted_moved d known a low) h.columns _ kind (h.counts kind);
+      counts = λ kind.
+          subst (λ queries. CountIsAtMost (restricted a (pipeline_with d known)) (h.columns + length queries) kind (cap_of (shows_states d.options) kind)) (queries_there a low)
+          (most_alike (restricted a (pipeline_with d known)) (pipeline_of a) (restricted_moved d known a low) (h.columns + length (queries_at (automata_of d) a)) _ kind (h.counts kind));
     }
 
-    past_there : (a : ℕ) (kind : Count) → a < automaton_count d → IsPastLimit (shows_states d.options) (lists_at parts a) (pipeline_of a) kind → PassesLimit d known a kind
+    past_there : (a : ℕ) (kind : Count) → a < automaton_count d → IsPastLimit (shows_states d.options) (lists_at parts a) (length (queries_at (automata_of d) a)) (pipeline_of a) kind → PassesLimit d known a kind
     past_there a kind low h = record {
       columns = h.columns;
       has = subst (λ ls. HasColumns ls h.columns) (lists_same a low) h.has;
-      above = above_alike (restricted a (pipeline_with d known)) (pipeline_of a) (restricted_moved d known a low) h.columns _ kind h.above;
+      above =
+          subst (λ queries. CountIsAbove (restricted a (pipeline_with d known)) (h.columns + length queries) kind (cap_of (shows_states d.options) kind)) (queries_there a low)
+          (above_alike (restricted a (pipeline_with d known)) (pipeline_of a) (restricted_moved d known a low) (h.columns + length (queries_at (automata_of d) a)) _ kind h.above);
     }
 
     pub first_past : (a : ℕ) (kind : Count) → IsFirstPast d.options (automata_of d) parts a kind → IsFirstPastLimit d known a
@@ -128,3 +145,37 @@ module _ (d : Description) where
         machine_accepts sound =
             let both = accepted_in_automata d known sound t in
             (λ h. both.1 (each_part h), λ accepted. every_part (both.0 accepted))
+
+        -- a query unit is told to be reserved where the description holds it
+        module _ (sound : IsSound d known) (states : List ℕ) (walked : machine_walk m t ≡ Some states) (a query : ℕ) (low : a < automaton_count d) (asked : query < length (queries_in d a)) where
+          abbrev unit : ℕ
+          unit = slice_index_or (queries_in d a) query 0
+
+          part_state : part_walk (part_at m a) 0 t ≡ Some (slice_index_or states a 0)
+          part_state =
+              let each = machine_walk-each m t states walked in
+              sym (machine_walk-part m t states walked a (part_at m a) (part_there a low)) ∙ slice_get-get_or states a 0 (omega (arith, low, each, parts_number))
+
+          told : (states_tell m states a query ≡ true) ↔ IsHeld (pipeline_of a) t unit
+          told = ((is.parts a (omega (arith, low, automata_count))).held).held t (slice_index_or states a 0) query unit (subst (λ n. All (IsOfClass n) t) (sym classes_number) all) part_state
+              (ap (λ queries. slice_get queries query) (queries_there a low) ∙ slice_get-get_or (queries_in d a) query 0 asked)
+
+          without_ndfa : d.options.ndfa ≡ false
+          without_ndfa = by_option (d.options.ndfa) refl
+            where
+              by_option : (b : Bool) → d.options.ndfa ≡ b → d.options.ndfa ≡ false
+              by_option false e = e
+              by_option true e =
+                  let nothing = asks_nothing d known sound e a no_automaton (omega (arith, low, automata_count)) in
+                  let none = sym (queries_there a low) ∙ nothing in
+                  absurd (omega (arith, asked, ap length none))
+
+          accepted : Accepted (pipeline_with d known) t
+          accepted = (machine_accepts sound).0 (ap is_some walked)
+
+          pub machine_tells : (states_tell m states a query ≡ true) ↔ IsHeld (pipeline_with d known) t (query_unit d a query)
+          machine_tells =
+              let first = ap (λ b. if b then any_fit else first_fit) without_ndfa in
+              let own = held_alike (restricted a (pipeline_with d known)) (pipeline_of a) (restricted_moved d known a low) first t ((accepted_alike (restricted a (pipeline_with d known)) (pipeline_of a) (restricted_moved d known a low) t).1 ((accepted_in_automata d known sound t).0 accepted a low)) unit in
+              let together = held_in_one (automaton_count d) (pipeline_with d known) (joint d known sound) a low first t accepted unit in
+              (λ h. together.1 (own.1 (told.0 h)), λ h. told.1 (own.0 (together.0 h)))

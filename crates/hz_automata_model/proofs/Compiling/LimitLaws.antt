@@ -1,5 +1,5 @@
 -- An automaton is within its limits or past one, and not both.
-use Rattle.std.proofs.Common.{◌≡◌, ℕ, ◌≤◌, List, [], length, slice_get, sym, ap, ◌∙◌, subst, arith}
+use Rattle.std.proofs.Common.{◌≡◌, ℕ, ◌≤◌, List, [], length, slice_get, sym, ap, ◌∙◌, subst, arith, ◌+◌}
 use Rattle.std.specs.Prelude.{Contains, slice_index, slice_index_or}
 use Rattle.std.specs.List.{sum_by}
 use Rattle.std.proofs.lemmas.Option.{slice_get_within, get_or_from_slice_get}
@@ -36,7 +36,7 @@ module _ (lists : List (List (List (Pair ℕ)))) where
       let two = columns_fewer others columns marks maps also is in
       omega (arith, one, two, count, other)
 
-  pub within_or_past : {U : Type 0} (shown : _) (m : Pipeline U) (kind : Count) → IsWithinLimits shown lists m → IsPastLimit shown lists m kind → ⊥
-  within_or_past shown m kind within past =
+  pub within_or_past : {U : Type 0} (shown : _) (queries : ℕ) (m : Pipeline U) (kind : Count) → IsWithinLimits shown lists queries m → IsPastLimit shown lists queries m kind → ⊥
+  within_or_past shown queries m kind within past =
       let same = columns_same within.columns past.columns within.has past.has in
-      no_count_both m within.columns (cap_of shown kind) kind (subst (λ n. CountIsAbove m n kind (cap_of shown kind)) (sym same) past.above) (within.counts kind)
+      no_count_both m (within.columns + queries) (cap_of shown kind) kind (subst (λ n. CountIsAbove m (n + queries) kind (cap_of shown kind)) (sym same) past.above) (within.counts kind)

@@ -11,6 +11,8 @@ use Rattle.hz_automata_model.specs.Reaching.Reach.{Leaves, IsLeft}
 use Rattle.hz_automata_model.proofs.Reaching.LeavingLaws.{plays_from_leaves, leaves_from_plays}
 use Rattle.hz_automata_model.specs.Compiling.Moved.{IsMoved}
 use Rattle.hz_automata_model.proofs.Compiling.MovedEvents.{moved, moved_event}
+use Rattle.hz_acceptance_model.specs.Accepting.Asking.{IsHeld}
+use Rattle.hz_acceptance_model.proofs.Accepting.AskLaws.{held_by_run}
 
 module _ {U : Type 0} (statements : List (Statement U)) (treatment : Treatment) (s : State U) where
   -- an alternative of a list fits, and may be taken
@@ -74,3 +76,11 @@ module _ {U : Type 0} (f : ℕ → ℕ) (m o : Pipeline U) (same : IsMoved f m o
 
   pub left_back : (t : List Event) (grids : List (List (Pair U))) → IsLeft o (moved f t) grids → IsLeft m t grids
   left_back t grids h = record { different = h.different; all = λ g l. h.all g (leaves_there t g l); only = λ g c. leaves_back t g (h.only g c) }
+
+  -- what is held is the same
+  pub held_moved : m.treatment ≡ first_fit → (t : List Event) → Accepted m t → (unit : U) → IsHeld m t unit ↔ IsHeld o (moved f t) unit
+  held_moved first t accepted unit =
+      let run = runs_from_accepted m t accepted in
+      let here = held_by_run m first t run.0 run.1 unit in
+      let there = held_by_run o (sym same.treatment ∙ first) (moved f t) run.0 (run_there start t run.0 run.1) unit in
+      (λ h. there.1 (here.0 h), λ h. here.1 (there.0 h))

@@ -1,10 +1,10 @@
 -- A part whose table is the automaton of the columns walks what the pipeline of the classes accepts.
-use Rattle.std.proofs.Common.{◌≡◌, ℕ, ◌≤◌, List, [], ◌∷◌, ◌++◌, Some, replicate, refl, sym, ap, ◌∙◌, subst}
+use Rattle.std.proofs.Common.{◌≡◌, ℕ, ◌≤◌, List, [], ◌∷◌, ◌++◌, Some, replicate, refl, sym, ap, ◌∙◌, subst, ◌+◌, zero, suc, Bool, length}
 use Rattle.std.specs.Prelude.{◌↔◌, IsSome}
 use Rattle.hz_base_model.specs.Pairs.{Pair}
 use Rattle.hz_acceptance_model.specs.Accepting.Events.{Event, issue, advance, ask}
 use Rattle.hz_acceptance_model.specs.Accepting.Replay.{Pipeline, Accepted, alternatives_at}
-use Rattle.hz_automata_model.specs.Tables.Tables.{walk}
+use Rattle.hz_automata_model.specs.Tables.Tables.{walk, Table}
 use Rattle.hz_automata_model.specs.Tables.Machines.{Part, column_of, word_of, part_walk}
 use Rattle.hz_automata_model.specs.Reaching.Reach.{Leaves, IsLeft, IsReachedGrid, IsReachedState}
 use Rattle.hz_automata_model.specs.Reaching.Counts.{Count, IsAbove, IsAtMost, CountIsAbove, CountIsAtMost}
@@ -17,17 +17,25 @@ use Rattle.hz_automata_model.proofs.Reaching.WordLaws.{IsInside, spelled_columns
 use Rattle.hz_automata_model.specs.Compiling.Moved.{IsMoved}
 use Rattle.hz_automata_model.proofs.Compiling.MovedEvents.{moved}
 use Rattle.hz_automata_model.proofs.Compiling.MovedLaws.{accepted_moved, leaves_there, leaves_back, left_there, left_back}
+use Rattle.hz_automata_model.specs.Tables.AskColumns.{HasAsks, all_beside}
+use Rattle.hz_automata_model.proofs.Asks.AskLaws.{same_walk}
+use Rattle.hz_automata_model.proofs.Asks.AskLaws.{class_beside, advance_beside}
 
--- the word of a part is what its events are spelled by, by their columns
-pub word_spelled : (part : Part) (t : List Event) → word_of part t ≡ spelled part.columns (moved (column_of part) t)
-word_spelled part [] = refl
-word_spelled part (issue k ∷ t) = ap (λ (w : List ℕ). column_of part k ∷ w) (word_spelled part t)
-word_spelled part (ask a u ∷ t) = word_spelled part t
-word_spelled part (advance n ∷ t) = ap (λ (w : List ℕ). replicate n part.columns ++ w) (word_spelled part t)
+-- the advance again and again, beside asks
+beside_advances : (columns asks n : ℕ) (w v : List ℕ) → w ≡ all_beside columns asks v → replicate n (columns + asks) ++ w ≡ all_beside columns asks (replicate n columns ++ v)
+beside_advances columns asks zero w v e = e
+beside_advances columns asks (suc n) w v e = λ i. sym (advance_beside columns asks) i ∷ beside_advances columns asks n w v e i
 
--- A pipeline m, whose classes have the columns of the part in the pipeline c.
-module _ {U : Type 0} (part : Part) (m c : Pipeline U) (grids : List (List (Pair U))) (sets : List (List ℕ)) (parents : List (ℕ × ℕ))
-    (same : IsMoved (column_of part) m c) (none : (k : ℕ) → part.columns ≤ k → alternatives_at c k ≡ []) (auto : IsAutomaton c part.columns part.rows grids sets parents) where
+-- the word of a part is what its events are spelled by, by their columns, beside its asks
+pub word_spelled : (part : Part) (t : List Event) → IsInside part.columns (moved (column_of part) t) → word_of part t ≡ all_beside part.columns (length part.asks) (spelled part.columns (moved (column_of part) t))
+word_spelled part [] inside = refl
+word_spelled part (issue k ∷ t) inside = λ i. sym (class_beside part.columns (length part.asks) (column_of part k) inside.0) i ∷ word_spelled part t inside.1 i
+word_spelled part (ask a u ∷ t) inside = word_spelled part t inside
+word_spelled part (advance n ∷ t) inside = beside_advances part.columns (length part.asks) n (word_of part t) (spelled part.columns (moved (column_of part) t)) (word_spelled part t inside)
+
+-- A pipeline m, whose classes have the columns of the part in the pipeline c. The table is that of the part without its asks.
+module _ {U : Type 0} (part : Part) (table : Table) (marks : ℕ → ℕ → Bool) (has : HasAsks table part.rows part.columns (length part.asks) marks) (m c : Pipeline U) (grids : List (List (Pair U))) (sets : List (List ℕ)) (parents : List (ℕ × ℕ))
+    (same : IsMoved (column_of part) m c) (none : (k : ℕ) → part.columns ≤ k → alternatives_at c k ≡ []) (auto : IsAutomaton c part.columns table grids sets parents) where
   abbrev word : List Event → List ℕ
   word t = spelled part.columns (moved (column_of part) t)
 
@@ -46,13 +54,15 @@ module _ {U : Type 0} (part : Part) (m c : Pipeline U) (grids : List (List (Pair
       let left = leaves_of_accepted c (events_at part.columns (word t)) h in
       (accepted_moved (column_of part) m c same t).1 (accepted_of_leaves c (moved (column_of part) t) left.0 (leaves_from_spelled c part.columns none (moved (column_of part) t) left.0 inside left.1))
 
-  walked : (t : List Event) → part_walk part 0 t ≡ walk part.rows (Some 0) (word t)
-  walked t = ap (walk part.rows (Some 0)) (word_spelled part t)
+  pub walked : (t : List Event) → Inside t → part_walk part 0 t ≡ walk table (Some 0) (word t)
+  walked t inside =
+      ap (walk part.rows (Some 0)) (word_spelled part t inside)
+      ∙ same_walk table part.rows part.columns (length part.asks) marks auto.shape has 0 (auto.shape).start (word t) (spelled_columns part.columns (moved (column_of part) t) inside)
 
   pub part_accepts : (t : List Event) → Inside t → IsSome (part_walk part 0 t) ↔ Accepted m t
   part_accepts t inside =
       let both = auto.walks (word t) (spelled_columns part.columns (moved (column_of part) t) inside) in
-      (λ h. from_columns t inside (both.0 (subst IsSome (walked t) h)), λ h. subst IsSome (sym (walked t)) (both.1 (by_columns t h)))
+      (λ h. from_columns t inside (both.0 (subst IsSome (walked t inside) h)), λ h. subst IsSome (sym (walked t inside)) (both.1 (by_columns t h)))
 
   -- the same is left
   left_of_columns : (t : List Event) (xs : List (List (Pair U))) → Inside t → IsLeft c (events_at part.columns (word t)) xs → IsLeft m t xs
@@ -63,7 +73,7 @@ module _ {U : Type 0} (part : Part) (m c : Pipeline U) (grids : List (List (Pair
   })
 
   pub part_stands : (t : List Event) (state : ℕ) → Inside t → part_walk part 0 t ≡ Some state → IsLeft m t (state_at grids sets state)
-  part_stands t state inside h = left_of_columns t (state_at grids sets state) inside (auto.stands (word t) state (spelled_columns part.columns (moved (column_of part) t) inside) (sym (walked t) ∙ h))
+  part_stands t state inside h = left_of_columns t (state_at grids sets state) inside (auto.stands (word t) state (spelled_columns part.columns (moved (column_of part) t) inside) (sym (walked t inside) ∙ h))
 
 -- Counts of one pipeline are those of another where they reach the same.
 module _ {U : Type 0} (m o : Pipeline U) (grid_there : (g : List (Pair U)) → IsReachedGrid m g → IsReachedGrid o g) (state_there : (s : List (List (Pair U))) → IsReachedState m s → IsReachedState o s) where

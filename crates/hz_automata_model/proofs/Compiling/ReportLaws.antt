@@ -118,12 +118,13 @@ module _ {U : Type 0} (m : Pipeline U) (columns : ℕ) (none : (k : ℕ) → col
     least = λ k low. exact (IsReachedState m) SameGrids (λ _. 1) states_of states_reached states_different k (omega (arith, low, sum_by_ones states_of, states_count));
   }
 
-  pub cell_count : CountIs m columns count.cells (length table * (columns + 1))
-  cell_count =
-      let sum = sum_by_alike (columns + 1) states_of ∙ ap (λ n. n * (columns + 1)) states_count in
+  -- of so many entries a row
+  pub cell_count : (width : ℕ) → CountIs m width count.cells (length table * (width + 1))
+  cell_count width =
+      let sum = sum_by_alike (width + 1) states_of ∙ ap (λ n. n * (width + 1)) states_count in
       record {
         most = record { items = states_of; all = states_all; most = omega (arith, sum) };
-        least = λ k low. exact (IsReachedState m) SameGrids (λ _. columns + 1) states_of states_reached states_different k (omega (arith, low, sum));
+        least = λ k low. exact (IsReachedState m) SameGrids (λ _. width + 1) states_of states_reached states_different k (omega (arith, low, sum));
       }
 
   pub member_count : CountIs m columns count.members (sum_by length states_of)

@@ -3,11 +3,10 @@ use Rattle.std.proofs.Common.{◌≡◌, ℕ, ◌<◌, List, length, All, None, 
 use Rattle.std.proofs.lemmas.List.{ext_get_or}
 use Rattle.hz_description_model.specs.Reading.Descriptions.{Options}
 use Rattle.hz_description_model.specs.Check.CheckedParts.{AutomatonParts, ClassParts}
-use Rattle.hz_automata_model.specs.Tables.Tables.{IsTable}
 use Rattle.hz_automata_model.specs.Tables.Machines.{Machine, Part, part_at, no_part, IsPart, IsMachine}
 use Rattle.hz_automata_model.specs.Compiling.Compiled.{Report, IsCompiledPart, IsCompiled, report_at}
 use Rattle.hz_automata_model.specs.Single.Told.{TellTheSame, AllTellTheSame, ListsAscending}
-use Rattle.hz_automata_model.proofs.Single.PartLaws.{one_part}
+use Rattle.hz_automata_model.proofs.Single.PartLaws.{one_part, IsShaped}
 use Rattle.hz_automata_model.proofs.Single.ReportLaws.{tell_the_same, one_report}
 
 -- what is told where no automaton is
@@ -16,11 +15,11 @@ nothing_told = record { grids = 0; states = 0; members = 0; shown = None }
 
 module _ (options : Options) (automata : List AutomatonParts) (classes : List ClassParts) (m m' : Machine) (reports reports' : List Report) (machine : IsMachine m) (machine' : IsMachine m') (is : IsCompiled options automata classes m reports) (is' : IsCompiled options automata classes m' reports') where
   -- a fact of two compiled parts holds of those of each number
-  of_each : (Both : Part → Part → Report → Report → Type 0) → ((a : ℕ) (part other : Part) (report report' : Report) → IsTable part.rows part.columns → IsTable other.rows other.columns → IsCompiledPart options.no_minimization options automata classes a part report → IsCompiledPart options.no_minimization options automata classes a other report' → Both part other report report') → (a : ℕ) → a < length automata → Both (part_at m a) (part_at m' a) (report_at reports a) (report_at reports' a)
+  of_each : (Both : Part → Part → Report → Report → Type 0) → ((a : ℕ) (part other : Part) (report report' : Report) → IsShaped part → IsShaped other → IsCompiledPart options.no_minimization options automata classes a part report → IsCompiledPart options.no_minimization options automata classes a other report' → Both part other report report') → (a : ℕ) → a < length automata → Both (part_at m a) (part_at m' a) (report_at reports a) (report_at reports' a)
   of_each Both both a low =
       let one : IsPart (length m.classes) (part_at m a) = machine.parts a no_part (omega (arith, low, is.each)) in
       let other : IsPart (length m'.classes) (part_at m' a) = machine'.parts a no_part (omega (arith, low, is'.each)) in
-      both a (part_at m a) (part_at m' a) (report_at reports a) (report_at reports' a) one.table other.table (is.parts a low) (is'.parts a low)
+      both a (part_at m a) (part_at m' a) (report_at reports a) (report_at reports' a) (record { table = one.table; stays = one.stays }) (record { table = other.table; stays = other.stays }) (is.parts a low) (is'.parts a low)
 
   parts_same : m.parts ≡ m'.parts
   parts_same = ext_get_or no_part m.parts m'.parts (is.each ∙ sym is'.each)

@@ -6,7 +6,6 @@ use Rattle.std.proofs.lemmas.Bool.{cases_order}
 use Rattle.hz_acceptance_model.specs.Accepting.Replay.{Pipeline}
 use Rattle.hz_description_model.specs.Reading.Descriptions.{Options}
 use Rattle.hz_description_model.specs.Check.CheckedParts.{AutomatonParts, ClassParts}
-use Rattle.hz_automata_model.specs.Tables.Tables.{IsTable}
 use Rattle.hz_automata_model.specs.Tables.Machines.{Part}
 use Rattle.hz_automata_model.specs.Reaching.Counts.{Count}
 use Rattle.hz_automata_model.specs.Reaching.Counts as count
@@ -15,7 +14,7 @@ use Rattle.hz_automata_model.specs.Compiling.AutomatonPipelines.{automaton_pipel
 use Rattle.hz_automata_model.specs.Compiling.Counted.{CountIs}
 use Rattle.hz_automata_model.specs.Compiling.Compiled.{Shown, IsShown, Report, shows_states, IsCompiledPart}
 use Rattle.hz_automata_model.specs.Single.Told.{ShowTheSame, TellTheSame, ListsAscending}
-use Rattle.hz_automata_model.proofs.Single.PartLaws.{one_part, filled_part}
+use Rattle.hz_automata_model.proofs.Single.PartLaws.{one_part, filled_part, IsShaped}
 use Rattle.hz_automata_model.proofs.Single.WordLaws.{IsFilled}
 use Rattle.hz_automata_model.proofs.Single.ShownLaws.{show_the_same, shown_one}
 use Rattle.hz_base_model.specs.Pairs.{IsAscendingBy}
@@ -49,7 +48,7 @@ told_one Q (Some one) (Some other) h k same = ap Some (same (h one refl) (k othe
 abbrev Ascends : Shown → Type 0
 Ascends shown = All (λ grids. All (IsAscendingBy nat_cmp) grids) shown.states
 
-module _ (stay : Bool) (options : Options) (automata : List AutomatonParts) (classes : List ClassParts) (a : ℕ) (part other : Part) (report report' : Report) (is : IsTable part.rows part.columns) (is' : IsTable other.rows other.columns) (p : IsCompiledPart stay options automata classes a part report) (q : IsCompiledPart stay options automata classes a other report') where
+module _ (stay : Bool) (options : Options) (automata : List AutomatonParts) (classes : List ClassParts) (a : ℕ) (part other : Part) (report report' : Report) (is : IsShaped part) (is' : IsShaped other) (p : IsCompiledPart stay options automata classes a part report) (q : IsCompiledPart stay options automata classes a other report') where
   abbrev m : Pipeline ℕ
   m = automaton_pipeline options automata classes a
 

@@ -8,7 +8,7 @@ use Rattle.std.proofs.lemmas.List.{ext_get_or}
 use Rattle.std.proofs.lemmas.List.Elements.{All-contains}
 use Rattle.hz_base_model.specs.Pairs.{Pair, SamePairs, IsAscendingBy, grid_cmp}
 use Rattle.hz_acceptance_model.specs.Accepting.Replay.{Pipeline}
-use Rattle.hz_automata_model.specs.Tables.Tables.{Table, walk, IsTable, IsReached}
+use Rattle.hz_automata_model.specs.Tables.Tables.{Table, walk, IsReached}
 use Rattle.hz_automata_model.specs.Tables.Orders.{IsFirstRead, place_of, IsBreadthFirst}
 use Rattle.hz_automata_model.specs.Tables.Machines.{Part}
 use Rattle.hz_automata_model.specs.Reaching.Reach.{AreDifferent, IsLeft, SameGrids, HasGrids}
@@ -18,8 +18,11 @@ use Rattle.hz_automata_model.specs.Compiling.Compiled.{Shown, IsShown}
 use Rattle.hz_automata_model.proofs.Compiling.CompiledLaws.{left_same}
 use Rattle.hz_automata_model.specs.Single.Told.{ShowTheSame}
 use Rattle.hz_automata_model.proofs.Single.OrderLaws.{sorted_one}
-use Rattle.hz_automata_model.proofs.Single.WordLaws.{IsFilled, spells_walked}
+use Rattle.hz_automata_model.proofs.Single.WordLaws.{IsFilled, spell}
 use Rattle.hz_base_model.proofs.PairOrder.{grid_one, grid_total, grid_exact}
+use Rattle.hz_automata_model.proofs.Asks.BareWords.{bare, bare_columns, bare_walk}
+use Rattle.hz_automata_model.proofs.Single.PartLaws.{IsShaped}
+use Rattle.hz_automata_model.specs.Tables.AskColumns.{without_asks}
 
 -- ---- where states are read first
 
@@ -59,18 +62,19 @@ module _ (xs ys : List (List (Pair ℕ))) (up : All (IsAscendingBy nat_cmp) xs) 
 
 -- ---- what is shown
 
-module _ (classes : ℕ) (m : Pipeline ℕ) (part : Part) (is : IsTable part.rows part.columns) (filled : IsFilled classes part) (reached : (state : ℕ) → state < length part.rows → IsReached part.rows state) (one other : Shown) (shows : IsShown classes m part one) (shows' : IsShown classes m part other) where
+module _ (classes : ℕ) (m : Pipeline ℕ) (part : Part) (is : IsShaped part) (filled : IsFilled classes part) (reached : (state : ℕ) → state < length part.rows → IsReached part.rows state) (one other : Shown) (shows : IsShown classes m part one) (shows' : IsShown classes m part other) where
   -- some events lead to a state, and leave its grids
   both_left : (state : ℕ) → state < length part.rows → (t : _) × IsLeft m t (slice_index_or one.states state []) × IsLeft m t (slice_index_or other.states state [])
   both_left state low =
       let found = reached state low in
-      let s = spells_walked classes part is filled found.0 (Some 0) state found.1 in
-      let ends = ap (walk part.rows (Some 0)) s.word ∙ found.1 in
+      let columns = bare part.columns (length part.asks) found.0 in
+      let s = spell classes part filled columns (bare_columns part.columns (length part.asks) found.0) in
+      let ends = ap (walk part.rows (Some 0)) s.word ∙ bare_walk part.rows part.columns (length part.asks) is.table is.stays found.0 0 state found.1 in
       (s.events, shows.left s.events state s.inside ends, shows'.left s.events state s.inside ends)
 
   pub show_the_same : ShowTheSame one other
   show_the_same = record {
-    parents = parents_one part.rows part.columns one.parents other.parents shows.parents shows'.parents;
+    parents = parents_one (without_asks part.columns (length part.asks) part.rows) part.columns one.parents other.parents shows.parents shows'.parents;
     each = shows.each ∙ sym shows'.each;
     states = λ state low.
         let both = both_left state (omega (arith, low, shows.each)) in

@@ -3,25 +3,27 @@ use Rattle.std.proofs.Common.{◌≡◌, ℕ, ◌+◌, ◌<◌, ◌≤◌, List,
 use Rattle.std.specs.Prelude.{slice_index_or}
 use Rattle.std.proofs.lemmas.Bool.{cases_lt}
 use Rattle.std.proofs.lemmas.List.{get_or_past}
-use Rattle.std.proofs.lemmas.List.Elements.{All-cons, All-nil}
+use Rattle.std.proofs.lemmas.List.Elements.{All-cons, All-nil, All-head, All-tail}
 use Rattle.std.proofs.lemmas.Option.{none-some}
 use Rattle.hz_acceptance_model.specs.Accepting.Events.{Event, issue, advance, ask, IsOfClass}
-use Rattle.hz_automata_model.specs.Tables.Tables.{Table, row_of, entry, walk, IsTable}
-use Rattle.hz_automata_model.specs.Tables.Machines.{Part, column_of, word_of}
-use Rattle.hz_automata_model.proofs.Tables.TableLaws.{walk-none}
+use Rattle.hz_automata_model.specs.Tables.Tables.{Table, row_of, entry, IsTable}
+use Rattle.hz_automata_model.specs.Tables.Machines.{Part, column_of, word_of, advance_of}
+use Rattle.hz_automata_model.specs.Tables.AskColumns.{beside_asks, all_beside}
+use Rattle.hz_automata_model.specs.Reaching.Columns.{AreColumns}
+use Rattle.hz_automata_model.proofs.Asks.AskLaws.{class_beside, advance_beside}
 
 -- each column is that of a class
 abbrev pub IsFilled : ℕ → Part → Type 0
 IsFilled classes part = (column : ℕ) → column < part.columns → (k : ℕ) × (k < classes) × (column_of part k ≡ column)
 
--- Events of classes that take these columns.
+-- Events of classes that take these columns, beside the asks of the part.
 pub record Spells (classes : ℕ) (part : Part) (w : List ℕ) : Type 0 where
   pub events : List Event
   pub inside : All (IsOfClass classes) events
-  pub word : word_of part events ≡ w
+  pub word : word_of part events ≡ all_beside part.columns (length part.asks) w
 
 -- an entry that is there stands in a column
-entry_low : (table : Table) (columns : ℕ) → IsTable table columns → (state column next : ℕ) → entry table state column ≡ Some next → column ≤ columns
+pub entry_low : (table : Table) (columns : ℕ) → IsTable table columns → (state column next : ℕ) → entry table state column ≡ Some next → column ≤ columns
 entry_low table columns is state column next e = ⊎_elim
     (λ (here : state < length table). ⊎_elim
     (λ (low : column < columns + 1). omega (arith, low))
@@ -30,40 +32,35 @@ entry_low table columns is state column next e = ⊎_elim
     (λ (past : length table ≤ state). absurd (none-some next (sym (ap (λ (row : List (Option ℕ)). slice_index_or row column None) (get_or_past table state [] past)) ∙ e)))
     (cases_lt state (length table))
 
-module _ (classes : ℕ) (part : Part) (is : IsTable part.rows part.columns) (filled : IsFilled classes part) where
-  -- one column in front
-  spells_more : (column : ℕ) (w : List ℕ) → column ≤ part.columns → Spells classes part w → Spells classes part (column ∷ w)
-  spells_more column w low rest = ⊎_elim
-      (λ (below : column < part.columns).
-      let class = filled column below in
-      record {
-        events = issue class.0 ∷ rest.events;
-        inside = All-cons (IsOfClass classes) (issue class.0) rest.events class.1 rest.inside;
-        word = ap (λ (c : ℕ). c ∷ word_of part rest.events) class.2 ∙ ap (λ (v : List ℕ). column ∷ v) rest.word;
-      })
-      (λ (last : part.columns ≤ column).
-      let same : part.columns ≡ column = omega (arith, last, low) in
-      record {
-        events = advance 1 ∷ rest.events;
-        inside = All-cons (IsOfClass classes) (advance 1) rest.events tt rest.inside;
-        word = ap (λ (c : ℕ). c ∷ word_of part rest.events) same ∙ ap (λ (v : List ℕ). column ∷ v) rest.word;
-      })
-      (cases_lt column part.columns)
-
-  -- what is walked is spelled
-  pub spells_walked : (w : List ℕ) (from : Option ℕ) (end : ℕ) → walk part.rows from w ≡ Some end → Spells classes part w
-  spells_walked [] from end e = record { events = []; inside = All-nil (IsOfClass classes); word = refl }
-  spells_walked (column ∷ w) None end e = absurd (none-some end e)
-  spells_walked (column ∷ w) (Some state) end e =
-      spells_more column w (first (entry part.rows state column) refl e) (spells_walked w (entry part.rows state column) end e)
+module _ (classes : ℕ) (part : Part) (filled : IsFilled classes part) where
+  -- columns of classes and advances are spelled
+  pub spell : (w : List ℕ) → AreColumns part.columns w → Spells classes part w
+  spell [] are = record { events = []; inside = All-nil (IsOfClass classes); word = refl }
+  spell (column ∷ w) are = more (spell w (All-tail (λ (c : ℕ). c ≤ part.columns) column w are)) (All-head (λ (c : ℕ). c ≤ part.columns) column w are)
     where
-      first : (next : Option ℕ) → entry part.rows state column ≡ next → walk part.rows next w ≡ Some end → column ≤ part.columns
-      first None at h = absurd (none-some end (sym (walk-none part.rows w) ∙ h))
-      first (Some next) at h = entry_low part.rows part.columns is state column next at
+      more : Spells classes part w → column ≤ part.columns → Spells classes part (column ∷ w)
+      more rest low = ⊎_elim
+          (λ (below : column < part.columns).
+          let class = filled column below in
+          let same = class.2 ∙ sym (class_beside part.columns (length part.asks) column below) in
+          record {
+            events = issue class.0 ∷ rest.events;
+            inside = All-cons (IsOfClass classes) (issue class.0) rest.events class.1 rest.inside;
+            word = λ i. same i ∷ rest.word i;
+          })
+          (λ (last : part.columns ≤ column).
+          let here : part.columns ≡ column = omega (arith, last, low) in
+          let same : advance_of part ≡ beside_asks part.columns (length part.asks) column = sym (advance_beside part.columns (length part.asks)) ∙ ap (beside_asks part.columns (length part.asks)) here in
+          record {
+            events = advance 1 ∷ rest.events;
+            inside = All-cons (IsOfClass classes) (advance 1) rest.events tt rest.inside;
+            word = λ i. same i ∷ rest.word i;
+          })
+          (cases_lt column part.columns)
 
--- events take the same columns in parts with one map
-pub same_word : (part other : Part) → part.map ≡ other.map → part.columns ≡ other.columns → (t : List Event) → word_of part t ≡ word_of other t
-same_word part other maps columns [] = refl
-same_word part other maps columns (issue k ∷ t) = λ i. slice_index_or (maps i) k (columns i + 1) ∷ same_word part other maps columns t i
-same_word part other maps columns (ask a u ∷ t) = same_word part other maps columns t
-same_word part other maps columns (advance n ∷ t) = λ i. replicate n (columns i) ++ same_word part other maps columns t i
+-- events take the same columns in parts with one map and as many columns and asks
+pub same_word : (part other : Part) → part.map ≡ other.map → advance_of part ≡ advance_of other → (t : List Event) → word_of part t ≡ word_of other t
+same_word part other maps advances [] = refl
+same_word part other maps advances (issue k ∷ t) = λ i. slice_index_or (maps i) k (advances i + 1) ∷ same_word part other maps advances t i
+same_word part other maps advances (ask a u ∷ t) = same_word part other maps advances t
+same_word part other maps advances (advance n ∷ t) = λ i. replicate n (advances i) ++ same_word part other maps advances t i

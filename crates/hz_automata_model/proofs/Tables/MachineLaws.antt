@@ -5,7 +5,7 @@ use Rattle.hz_acceptance_model.specs.Accepting.Events.{Event, issue, advance, as
 use Rattle.hz_acceptance_model.specs.Accepting.Asking.{issues_and_advances}
 use Rattle.hz_acceptance_model.proofs.Accepting.AskLaws.{without-append}
 use Rattle.hz_automata_model.specs.Tables.Tables.{Table, entry, walk}
-use Rattle.hz_automata_model.specs.Tables.Machines.{Part, Machine, column_of, next_of, word_of, part_walk, onto_states, parts_walk, machine_walk}
+use Rattle.hz_automata_model.specs.Tables.Machines.{Part, Machine, column_of, next_of, word_of, part_walk, onto_states, parts_walk, machine_walk, advance_of}
 use Rattle.hz_automata_model.proofs.Tables.TableLaws.{walk-append}
 
 pub word_of-append : (part : Part) (s t : List Event) → word_of part (s ++ t) ≡ word_of part s ++ word_of part t
@@ -13,12 +13,12 @@ word_of-append part [] t = refl
 word_of-append part (issue class ∷ s) t = ap (λ w. column_of part class ∷ w) (word_of-append part s t)
 word_of-append part (ask a u ∷ s) t = word_of-append part s t
 word_of-append part (advance n ∷ s) t =
-    ap (λ w. replicate n part.columns ++ w) (word_of-append part s t) ∙ sym (append_assoc (replicate n part.columns) (word_of part s) (word_of part t))
+    ap (λ w. replicate n (advance_of part) ++ w) (word_of-append part s t) ∙ sym (append_assoc (replicate n (advance_of part)) (word_of part s) (word_of part t))
 
 pub word_of-asked : (part : Part) (t : List Event) → word_of part (issues_and_advances t) ≡ word_of part t
 word_of-asked part [] = refl
 word_of-asked part (issue class ∷ t) = ap (λ w. column_of part class ∷ w) (word_of-asked part t)
-word_of-asked part (advance n ∷ t) = ap (λ w. replicate n part.columns ++ w) (word_of-asked part t)
+word_of-asked part (advance n ∷ t) = ap (λ w. replicate n (advance_of part) ++ w) (word_of-asked part t)
 word_of-asked part (ask a u ∷ t) = word_of-asked part t
 
 -- ---- one event
@@ -31,7 +31,7 @@ pub issue_alone : (part : Part) (state class : ℕ) → part_walk part state (is
 issue_alone part state class = entry_alone part.rows (entry part.rows state (column_of part class))
 
 pub advance_alone : (part : Part) (state : ℕ) → part_walk part state (advance 1 ∷ []) ≡ next_of part state None
-advance_alone part state = entry_alone part.rows (entry part.rows state part.columns)
+advance_alone part state = entry_alone part.rows (entry part.rows state (advance_of part))
 
 pub ask_alone : (part : Part) (state automaton query : ℕ) → part_walk part state (ask automaton query ∷ []) ≡ Some state
 ask_alone part state automaton query = refl

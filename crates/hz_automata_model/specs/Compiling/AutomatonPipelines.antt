@@ -3,16 +3,28 @@ use Rattle.std.specs.Prelude.{ℕ, List, [], map, slice_index_or}
 use Rattle.hz_base_model.specs.Pairs.{Pair}
 use Rattle.hz_acceptance_model.specs.Accepting.Replay.{Pipeline}
 use Rattle.hz_description_model.specs.Reservations.Alternatives.{alternatives_of}
-use Rattle.hz_description_model.specs.Reservations.Automata.{list_in}
+use Rattle.hz_description_model.specs.Reservations.Automata.{list_in, UnitPlace}
 use Rattle.hz_description_model.specs.Check.Places.{Known}
 use Rattle.hz_description_model.specs.Reading.Descriptions.{Description, Options}
-use Rattle.hz_description_model.specs.Check.CheckedParts.{AutomatonParts, ClassParts}
+use Rattle.hz_description_model.specs.Check.CheckedParts.{AutomatonParts, ClassParts, queries_in}
 use Rattle.hz_acceptance_model.specs.Pipelines.Pipelines.{treatment_of}
 use Rattle.hz_automata_model.specs.Reaching.Columns.{pipeline_on}
 
+-- an automaton without units
+abbrev pub no_automaton : AutomatonParts
+no_automaton = record { name = []; units = []; queries = []; statements = [] }
+
 -- the automaton of this number, one without units where there is none
 abbrev pub automaton_at : List AutomatonParts → ℕ → AutomatonParts
-automaton_at automata a = slice_index_or automata a (record { name = []; units = []; statements = [] })
+automaton_at automata a = slice_index_or automata a no_automaton
+
+-- the query units of the automaton of this number
+abbrev pub queries_at : List AutomatonParts → ℕ → List ℕ
+queries_at automata a = (automaton_at automata a).queries
+
+-- the query unit of this number in an automaton of a description
+abbrev pub query_unit : Description → (automaton query : ℕ) → UnitPlace
+query_unit d automaton query = record { automaton = automaton; unit = slice_index_or (queries_in d automaton) query 0 }
 
 -- the lists of the classes in the automaton of this number
 abbrev pub lists_at : List ClassParts → ℕ → List (List (List (Pair ℕ)))

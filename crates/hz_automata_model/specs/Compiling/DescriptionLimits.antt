@@ -1,9 +1,9 @@
 -- The limits on the states of a description's automata, each taken by itself. This profile, docs/RULES.md, 'Limits'.
-use Rattle.std.specs.Prelude.{ℕ, ◌<◌, ◌⊎◌}
+use Rattle.std.specs.Prelude.{ℕ, ◌<◌, ◌⊎◌, length}
 use Rattle.hz_acceptance_model.specs.Accepting.Restricted.{restricted}
 use Rattle.hz_description_model.specs.Reading.Descriptions.{Description}
 use Rattle.hz_description_model.specs.Check.Places.{Known}
-use Rattle.hz_description_model.specs.Check.CheckedParts.{automaton_count}
+use Rattle.hz_description_model.specs.Check.CheckedParts.{automaton_count, queries_in}
 use Rattle.hz_acceptance_model.specs.Pipelines.Pipelines.{pipeline_with}
 use Rattle.hz_automata_model.specs.Reaching.Counts.{Count}
 use Rattle.hz_automata_model.specs.Compiling.AutomatonPipelines.{class_lists}
@@ -12,11 +12,11 @@ use Rattle.hz_automata_model.specs.Compiling.CompiledParts.{IsWithinLimits, IsPa
 
 -- every count of the automaton of this number is within its limit
 abbrev pub KeepsLimits : Description → Known → ℕ → Type 0
-KeepsLimits d known a = IsWithinLimits (shows_states d.options) (class_lists d known a) (restricted a (pipeline_with d known))
+KeepsLimits d known a = IsWithinLimits (shows_states d.options) (class_lists d known a) (length (queries_in d a)) (restricted a (pipeline_with d known))
 
 -- its count of this kind is above its limit
 abbrev pub PassesLimit : Description → Known → ℕ → Count → Type 0
-PassesLimit d known a kind = IsPastLimit (shows_states d.options) (class_lists d known a) (restricted a (pipeline_with d known)) kind
+PassesLimit d known a kind = IsPastLimit (shows_states d.options) (class_lists d known a) (length (queries_in d a)) (restricted a (pipeline_with d known)) kind
 
 -- every automaton keeps its limits
 abbrev pub AllKeepLimits : Description → Known → Type 0

@@ -3,7 +3,7 @@
 use Rattle.std.specs.Prelude.{◌≡◌, ◌≢◌, ℕ, ◌<◌, List, Some, is_some, length}
 use Rattle.hz_automata_model.specs.Tables.Tables.{Table, walk}
 
--- Some list of columns, the advance among them, is walked to its end from exactly one of two states.
+-- Some list of columns, those of asks and the advance among them, is walked to its end from exactly one of two states.
 -- A number that is no column is walked from neither.
 pub record Apart (table : Table) (one other : ℕ) : Type 0 where
   pub word : List ℕ

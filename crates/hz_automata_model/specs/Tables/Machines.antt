@@ -1,17 +1,20 @@
 -- Machines of tables: a table for each automaton, stepped side by side. Bala and Rubin, 'Efficient Instruction
 -- Scheduling Using Finite State Automata', MICRO-28; what is kept of a machine is this profile's, docs/RULES.md.
-use Rattle.std.specs.Prelude.{◌≡◌, ◌≢◌, ℕ, ◌+◌, ◌*◌, ◌<◌, ◌≤◌, List, [], ◌∷◌, ◌++◌, Option, Some, None, length, replicate, slice_index_or, All, IsSome}
-use Rattle.std.specs.List.{AllPairs}
-use Rattle.hz_base_model.specs.Limits.{automaton_limit, class_limit}
+use Rattle.std.specs.Prelude.{◌≡◌, ◌≢◌, ℕ, ◌+◌, ◌*◌, ◌<◌, ◌≤◌, List, [], ◌∷◌, ◌++◌, Bool, Option, Some, None, is_some, length, replicate, slice_index_or, All, IsSome}
+use Rattle.std.specs.List.{AllPairs, flat_map}
+use Rattle.hz_base_model.specs.Limits.{automaton_limit, class_limit, unit_limit}
 use Rattle.hz_acceptance_model.specs.Accepting.Events.{Event, issue, advance, ask}
 use Rattle.hz_automata_model.specs.Tables.StateLimits.{cell_limit}
+use Rattle.hz_automata_model.specs.Tables.AskColumns.{AsksStay}
 use Rattle.hz_automata_model.specs.Tables.Tables.{Table, entry, walk, IsTable}
 
--- One automaton: its name, the column of each class, how many columns stand before the advance, and its table.
+-- One automaton: its name, the column of each class, how many columns the classes have, the names of the units that are asked
+-- for, each with a column after those, and its table.
 pub record Part : Type 0 where
   pub name : List ℕ
   pub map : List ℕ
   pub columns : ℕ
+  pub asks : List (List ℕ)
   pub rows : Table
 
 -- The names of the classes, and a part for each automaton.
@@ -21,27 +24,35 @@ pub record Machine : Type 0 where
 
 -- a part without classes, columns or states: what a machine has where it has no part
 abbrev pub no_part : Part
-no_part = record { name = []; map = []; columns = 0; rows = [] }
+no_part = record { name = []; map = []; columns = 0; asks = []; rows = [] }
 
 -- the part of this number
 abbrev pub part_at : Machine → ℕ → Part
 part_at m part = slice_index_or m.parts part no_part
 
+-- the column of the advance: after those of the classes and those of the asks
+abbrev pub advance_of : Part → ℕ
+advance_of part = part.columns + length part.asks
+
 -- the column of a class; a class that isn't there has a column that no row has
 abbrev pub column_of : Part → ℕ → ℕ
-column_of part class = slice_index_or part.map class (part.columns + 1)
+column_of part class = slice_index_or part.map class (advance_of part + 1)
 
 -- The next state: for a class by its column, and for none by the advance; none where the entry is.
 abbrev pub next_of : Part → ℕ → Option ℕ → Option ℕ
 next_of part state (Some class) = entry part.rows state (column_of part class)
-next_of part state None = entry part.rows state part.columns
+next_of part state None = entry part.rows state (advance_of part)
+
+-- whether the unit of this number, among those that are asked for, is reserved in a state: its entry is there
+abbrev pub tells_reserved : Part → ℕ → ℕ → Bool
+tells_reserved part state query = is_some (entry part.rows state (part.columns + query))
 
 -- The columns that events take in a part: an issue takes that of its class, an advance of n cycles the advance n times, and an
 -- ask none, so that it leaves the state.
 abbrev pub word_of : Part → List Event → List ℕ
 word_of part [] = []
 word_of part (issue class ∷ t) = column_of part class ∷ word_of part t
-word_of part (advance n ∷ t) = replicate n part.columns ++ word_of part t
+word_of part (advance n ∷ t) = replicate n (advance_of part) ++ word_of part t
 word_of part (ask a u ∷ t) = word_of part t
 
 -- the state of a part after events, none as soon as an entry is none
@@ -72,19 +83,32 @@ machine_walk m t = parts_walk m.parts (starts_of m) t
 abbrev pub IsWalked : Machine → List Event → Type 0
 IsWalked m t = IsSome (machine_walk m t)
 
--- What holds of a part, of a machine with so many classes: each class has a column before the advance, there are at most
--- as many columns as classes, and the entries are not too many.
+-- whether that unit of a part is reserved in the states of a machine, one for each part
+abbrev pub states_tell : Machine → List ℕ → (part query : ℕ) → Bool
+states_tell m states part query = tells_reserved (part_at m part) (slice_index_or states part 0) query
+
+-- What holds of a part, of a machine with so many classes: each class has a column before those of the asks, there are at most
+-- as many columns of classes as classes, not too many are asked for, an ask leads to no other state, and the entries are not
+-- too many.
 pub record IsPart (classes : ℕ) (part : Part) : Type 0 where
   pub each : length part.map ≡ classes
   pub within : All (λ column. column < part.columns) part.map
   pub columns : part.columns ≤ classes
-  pub table : IsTable part.rows part.columns
-  pub cells : length part.rows * (part.columns + 1) ≤ cell_limit
+  pub asks : length part.asks ≤ unit_limit
+  pub table : IsTable part.rows (advance_of part)
+  pub stays : AsksStay part.rows part.columns (length part.asks)
+  pub cells : length part.rows * (advance_of part + 1) ≤ cell_limit
 
--- What holds of a machine: it has a part, and not too many; its classes are not too many and have different names.
+-- the names of all that is asked for, part by part
+abbrev pub names_of : List Part → List (List ℕ)
+names_of parts = flat_map (λ part. part.asks) parts
+
+-- What holds of a machine: it has a part, and not too many; its classes are not too many and have different names, and
+-- all that is asked for has different names.
 pub record IsMachine (m : Machine) : Type 0 where
   pub some : 1 ≤ length m.parts
   pub few : length m.parts ≤ automaton_limit
   pub class_count : length m.classes ≤ class_limit
   pub class_names : AllPairs (λ a b. a ≢ b) m.classes
   pub parts : All (IsPart (length m.classes)) m.parts
+  pub ask_names : AllPairs (λ a b. a ≢ b) (names_of m.parts)

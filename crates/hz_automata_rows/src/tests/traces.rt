@@ -3,6 +3,9 @@
 ghost use Rattle.std.specs.Prelude.{◌≡◌, ◌≤◌, ◌<◌, ◌^◌, length, All};
 ghost use Rattle.hz_acceptance_model.specs.Traces.TraceLimits.{advance_limit};
 ghost use Rattle.hz_acceptance_model.specs.Accepting.Events.{cycles_of, IsOfClass};
+ghost use Rattle.hz_acceptance_model.specs.Accepting.Asking.{IsOfQuery};
+ghost use Rattle.hz_automata_model.specs.Tables.MachineNames.{names_of_machine};
+ghost use Rattle.hz_tables.specs.Machines.{machine_of};
 ghost use Rattle.hz_replay.specs.Traces.{events_in};
 
 use super::machine;
@@ -74,7 +77,7 @@ fn traces_are_read_up_to_the_first_wrong_line(rt: HostRuntime) -> Result<(), Fai
 }
 
 /// Faults and their texts.
-const TEXTS: [(TraceFault, &str); 4] = [
+const TEXTS: [(TraceFault, &str); 5] = [
     (TraceFault::BadLine { line: 1 }, "line 1 is no event"),
     (
         TraceFault::UnknownClass { line: 2 },
@@ -83,6 +86,10 @@ const TEXTS: [(TraceFault, &str); 4] = [
     (
         TraceFault::AdvanceLimit { line: 3 },
         "line 3 advances too far",
+    ),
+    (
+        TraceFault::UnknownUnit { line: 4 },
+        "line 4 asks for an unknown unit",
     ),
     (TraceFault::NoMemory, "out of memory"),
 ];
@@ -102,6 +109,7 @@ fn counted<L: Ledger>(alloc: Global, machine: &Machine, events: &[Event], blank:
     requires parts { blank.parts ≡ L.parts }
     requires some { 0 < blank.parts }
     requires classes { All (IsOfClass (length machine.now.classes.items)) (events_in events.now) }
+    requires asks { All (IsOfQuery (names_of_machine (machine_of machine.now)).queries) (events_in events.now) }
     requires short { cycles_of (events_in events.now) ≤ advance_limit }
     requires few { length events.now < 2 ^ 32 }
 {
@@ -112,6 +120,7 @@ fn counted<L: Ledger>(alloc: Global, machine: &Machine, events: &[Event], blank:
 // The outcome of events over a machine.
 fn outcome_of(alloc: Global, machine: &Machine, events: &[Event]) -> Outcome
     requires classes { All (IsOfClass (length machine.now.classes.items)) (events_in events.now) }
+    requires asks { All (IsOfQuery (names_of_machine (machine_of machine.now)).queries) (events_in events.now) }
     requires short { cycles_of (events_in events.now) ≤ advance_limit }
     requires few { length events.now < 2 ^ 32 }
 {

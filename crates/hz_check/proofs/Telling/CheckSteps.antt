@@ -15,7 +15,7 @@ use Rattle.hz_check_reservations.specs.declared.listing.unexpanded.Unexpanded.{U
 use Rattle.hz_check_reservations.specs.declared.listing.unexpanded.Unexpanded.TheVariants as unexpanded
 use Rattle.hz_check_reservations.proofs.Unwinding.{unfolded}
 use Rattle.hz_description_model.specs.Check.CheckFaults as model
-use Rattle.hz_description_model.specs.Check.CheckFaults.{faults_of_meanings, faults_of_names, CheckFaultAt, of_meanings, of_names, of_circle, IsFirst, IsCircular, limit, alternatives, cycles, size, past_limit, second_numbers, automaton_sites, class_sites}
+use Rattle.hz_description_model.specs.Check.CheckFaults.{faults_of_meanings, faults_of_names, CheckFaultAt, of_meanings, of_names, of_circle, IsFirst, IsCircular, limit, alternatives, cycles, size, past_limit, second_numbers, queries_under_ndfa, automaton_sites, class_sites}
 use Rattle.hz_description_model.specs.Check.CountingOrder.{Reserving, reservation_site}
 use Rattle.hz_description_model.specs.Check.FirstTold.{Standing, Told, first_told, told_at}
 use Rattle.hz_mdread.specs.declared.description.Description.{Description as StoredDescription}
@@ -72,6 +72,7 @@ named_there told line name at called = go told.wrong refl
     go wrong.AlternationOfTwoAutomata is = here wrong.AlternationOfTwoAutomata is
     go wrong.AlternationOfTwoLengths is = here wrong.AlternationOfTwoLengths is
     go wrong.BypassTwice is = here wrong.BypassTwice is
+    go wrong.QueryUnderNdfa is = here wrong.QueryUnderNdfa is
 
 -- a fault with the line of its site and the name that was copied there is told there
 pub copied_there : {E : Type 0} (told : Stored) (copied : Result (List ℕ) E) → IfOk copied (λ name. name ≡ told.site.name.now) → Tells (IsToldHere (told_of told)) (fault_if_copied told.wrong told.site.line copied)
@@ -140,6 +141,7 @@ last_faults d known order = record { fault = limit alternatives; sites = past_li
     ∷ record { fault = model.alternation_of_two_automata; sites = mixed_classes d known }
     ∷ record { fault = model.alternation_of_two_lengths; sites = uneven_classes d known }
     ∷ record { fault = model.bypass_twice; sites = second_numbers d }
+    ∷ record { fault = model.query_under_ndfa; sites = queries_under_ndfa d }
     ∷ []
 
 pub behind : (d : Description) (known : Known) (order : List Reserving) → AreWithin d → {o : Option (Told model.CheckFault)} → TellsFirst (last_faults d known order) o → TellsFirst (faults_of_meanings d known order) o

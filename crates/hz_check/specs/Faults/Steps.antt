@@ -1,6 +1,6 @@
 -- What is known between the steps of the check.
 use Rattle.std.specs.Prelude.{◌≡◌, ℕ, List, None, drop}
-use Rattle.hz_description_model.specs.Check.CheckFaults.{faults_of_names, self_exclusions, sets_across_automata, second_numbers, automaton_sites, class_sites, past_units}
+use Rattle.hz_description_model.specs.Check.CheckFaults.{faults_of_names, self_exclusions, sets_across_automata, second_numbers, queries_under_ndfa, automaton_sites, class_sites, past_units}
 use Rattle.hz_description_model.specs.Check.FirstTold.{first_told}
 use Rattle.hz_description_model.specs.Reading.DescriptionShape.{IsCheckable}
 use Rattle.hz_description_model.specs.Reading.Descriptions.{Description}
@@ -40,3 +40,4 @@ pub record AreLists (d : Description) (order : List ℕ) (lists : List (Vec Alt 
   pub extents : AreWithinExtents d (reservings d order)
   pub rules : AreUnbroken d
   pub once : earliest (second_numbers d) ≡ None
+  pub queries : earliest (queries_under_ndfa d) ≡ None

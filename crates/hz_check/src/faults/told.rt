@@ -25,6 +25,7 @@ pub(crate) enum Wrong {
     AlternationOfTwoAutomata,
     AlternationOfTwoLengths,
     BypassTwice,
+    QueryUnderNdfa,
 }
 
 /// What is wrong, and where.
@@ -61,6 +62,7 @@ fn with_name(wrong: Wrong, line: u32, name: Name) -> CheckFault
         Wrong::AlternationOfTwoAutomata => CheckFault::AlternationOfTwoAutomata { line, name },
         Wrong::AlternationOfTwoLengths => CheckFault::AlternationOfTwoLengths { line, name },
         Wrong::BypassTwice => CheckFault::BypassTwice { line, name },
+        Wrong::QueryUnderNdfa => CheckFault::QueryUnderNdfa { line, name },
     }
 }
 

@@ -1,10 +1,10 @@
 //! What a description without a fault gives, put together.
 
-ghost use Rattle.std.specs.Prelude.{◌≡◌, ◌<◌, ◌≤◌, All, IfOk, codes, length, map};
+ghost use Rattle.std.specs.Prelude.{◌≡◌, ◌<◌, ◌≤◌, ℕ, All, IfOk, codes, length, map};
 ghost use Rattle.hz_mdread.specs.Shape.{description, bypass_item};
 ghost use Rattle.hz_check.specs.Parts.Assembly.{placed_statement, IsPlaced};
 ghost use Rattle.hz_check.specs.Shape.{automaton_of, bypass_of, attribute_of};
-ghost use Rattle.hz_description_model.specs.Check.CheckedParts.{units_in, automaton_parts, automata_from, automata_of, bypass_parts, class_numbers};
+ghost use Rattle.hz_description_model.specs.Check.CheckedParts.{units_in, queries_in, automaton_parts, automata_from, automata_of, bypass_parts, class_numbers};
 ghost use Rattle.hz_base_model.specs.Limits as limits;
 ghost use Rattle.hz_description_model.specs.Check.Places.{statement_of};
 
@@ -31,6 +31,25 @@ fn units_in<'a>(alloc: Global, names: &Names<'a>, automaton: usize) -> Result<Ve
     Ok(units)
 }
 
+/// The query units of an automaton by their numbers in it, in the order of the file.
+fn queries_in<'a>(alloc: Global, names: &Names<'a>, automaton: usize) -> Result<Vec<u8>, NoMemory>
+    requires { length (units_in (description names.now.desc.now) automaton) ≤ limits.unit_limit }
+    ensures { IfOk result (λ queries. queries.items ≡ queries_in (description names.now.desc.now) automaton) }
+{
+    let desc = names.desc;
+    let mut queries = Vec::new(alloc);
+    let mut number = 0usize;
+    for unit in &desc.units {
+        if names.automaton_number(unit) == automaton {
+            if unit.query {
+                queries.push(number as u8)?;
+            }
+            number += 1;
+        }
+    }
+    Ok(queries)
+}
+
 /// The automaton of a number and its name.
 fn automaton<'a>(
     alloc: Global,
@@ -40,13 +59,20 @@ fn automaton<'a>(
     name: Name,
 ) -> Result<CheckedAutomaton, NoMemory>
     requires few { number < limits.automaton_limit }
+    requires small { (n : ℕ) → length (units_in (description names.now.desc.now) n) ≤ limits.unit_limit }
     requires sets { map placed_statement sets.now ≡ map (statement_of (description names.now.desc.now)) (description names.now.desc.now).sets }
     requires placed { All IsPlaced sets.now }
     ensures { IfOk result (λ a. automaton_of a ≡ automaton_parts (description names.now.desc.now) number name) }
 {
     let units = units_in(alloc, names, number)?;
+    let queries = queries_in(alloc, names, number)?;
     let sets = rules(alloc, sets, number as u32)?;
-    Ok(CheckedAutomaton { name, units, sets })
+    Ok(CheckedAutomaton {
+        name,
+        units,
+        queries,
+        sets,
+    })
 }
 
 /// The name of the nameless automaton.
@@ -66,6 +92,7 @@ fn defined_automata<'a>(
     sets: &[PlacedSet],
 ) -> Result<Vec<CheckedAutomaton>, NoMemory>
     requires few { length (description names.now.desc.now).automata ≤ limits.automaton_limit }
+    requires small { (n : ℕ) → length (units_in (description names.now.desc.now) n) ≤ limits.unit_limit }
     requires sets { map placed_statement sets.now ≡ map (statement_of (description names.now.desc.now)) (description names.now.desc.now).sets }
     requires placed { All IsPlaced sets.now }
     ensures { IfOk result (λ automata. map automaton_of automata.items ≡ automata_from (description names.now.desc.now) 0 (map (λ a. a.name) (description names.now.desc.now).automata)) }
@@ -87,6 +114,7 @@ pub(crate) fn automata<'a>(
     sets: &[PlacedSet],
 ) -> Result<Vec<CheckedAutomaton>, NoMemory>
     requires few { length (description names.now.desc.now).automata ≤ limits.automaton_limit }
+    requires small { (n : ℕ) → length (units_in (description names.now.desc.now) n) ≤ limits.unit_limit }
     requires sets { map placed_statement sets.now ≡ map (statement_of (description names.now.desc.now)) (description names.now.desc.now).sets }
     requires placed { All IsPlaced sets.now }
     ensures { IfOk result (λ automata. map automaton_of automata.items ≡ automata_of (description names.now.desc.now)) }

@@ -1,5 +1,5 @@
 -- Every description that can be read has a fault or is sound.
-use Rattle.std.proofs.Common.{◌≡◌, ℕ, suc, ◌<◌, ◌⊎◌, inl, inr, ⊎_elim, true, List, [], ◌∷◌, ◌++◌, length, map, drop, Contains, All, Option, Some, None, refl, sym, ap, ◌∙◌, subst, arith, slice_get}
+use Rattle.std.proofs.Common.{◌≡◌, ℕ, suc, ◌<◌, ◌⊎◌, inl, inr, ⊎_elim, Bool, true, List, [], ◌∷◌, ◌++◌, length, map, drop, Contains, All, Option, Some, None, refl, sym, ap, ◌∙◌, subst, arith, slice_get}
 use Rattle.std.specs.Prelude.{nat_lt, ◌&&◌, ◌||◌}
 use Rattle.std.specs.List.{flat_map}
 use Rattle.std.specs.Str.{bytes_eq}
@@ -10,7 +10,7 @@ use Rattle.std.proofs.lemmas.Option.{none-some}
 use Rattle.std.proofs.lemmas.Slice.Eq.{bytes_eq-Decides}
 use Rattle.hz_description_model.specs.Reservations.Alternatives.{Expression}
 use Rattle.hz_description_model.specs.Reservations.Automata.{UnitPlace}
-use Rattle.hz_description_model.specs.Check.CheckFaults.{CheckFault, twice_defined, circular_reservation, CheckFaultAt, IsSound, IsUnfolded, IsFirst, IsCircular, faults_of_names, faults_of_meanings, automaton_sites, unit_sites, reservation_sites, class_sites, attribute_sites, repeated_values, second_definitions}
+use Rattle.hz_description_model.specs.Check.CheckFaults.{CheckFault, unit_site, twice_defined, circular_reservation, CheckFaultAt, IsSound, IsUnfolded, IsFirst, IsCircular, faults_of_names, faults_of_meanings, automaton_sites, unit_sites, reservation_sites, class_sites, attribute_sites, repeated_values, second_definitions}
 use Rattle.hz_description_model.specs.Check.CountingOrder.{IsCountingOrder, Reserving, reservation_site}
 use Rattle.hz_description_model.specs.Check.FirstTold.{Told, Standing, first_told, told_at}
 use Rattle.hz_description_model.specs.Reading.Descriptions.{Description, UnitItem, ReservationItem}
@@ -84,12 +84,9 @@ parts_empty a b c e f g h =
 first_empty : (s : Standing CheckFault) (others : List (Standing CheckFault)) → first_told (s ∷ others) ≡ None → s.sites ≡ []
 first_empty s others e = no_site s.sites (first_standing s.fault (earliest s.sites) (first_told others) e)
 
-abbrev unit_site : UnitItem → Site
-unit_site u = record { line = u.line; form = u.form; name = u.name }
-
 -- two kinds are not of one form
-one_kind : (kinds : List FormKind) (m n : ℕ) → m ≡ n → slice_get kinds m ≡ Some define_cpu_unit → slice_get kinds n ≡ Some define_reservation → ⊥
-one_kind kinds m n e a b = let c = ap (slice_get kinds) e in cc
+one_kind : (kinds : List FormKind) (query : Bool) (m n : ℕ) → m ≡ n → slice_get kinds m ≡ Some (define_cpu_unit query) → slice_get kinds n ≡ Some define_reservation → ⊥
+one_kind kinds query m n e a b = let c = ap (slice_get kinds) e in cc
 
 named_reservation : (u : Option UnitPlace) (o : Option ReservationItem) (e : Expression) → unit_or_reservation u o ≡ Some (reservation e) → (r : ReservationItem) × (o ≡ Some r)
 named_reservation (Some u) o e is = absurd (cc)
@@ -119,12 +116,12 @@ module _ (d : Description) where
     not_both : (u : UnitItem) (r : ReservationItem) → Contains d.units u → Contains d.reservations r → u.name ≡ r.name → ⊥
     not_both u r a b same =
         let kinds = formed.kinds in
-        let u_form = All-contains (λ (i : UnitItem). IsForm kinds i.form define_cpu_unit) d.units u formed.units a in
+        let u_form = All-contains (λ (i : UnitItem). IsForm kinds i.form (define_cpu_unit i.query)) d.units u formed.units a in
         let r_form = (All-contains (IsCheckableReservation kinds) d.reservations r formed.reservations b).form in
         let u_there = Contains-map unit_site d.units u a in
         let r_there = Contains-map reservation_site d.reservations r b in
         ⊎_elim
-        (λ e. one_kind kinds u.form r.form e u_form r_form)
+        (λ e. one_kind kinds u.query u.form r.form e u_form r_form)
         (⊎_elim
         (λ low. not_preceded (unit_sites d) [] (reservation_sites d) no_second.1 (reservation_site r) r_there (preceded (unit_sites d) (unit_site u) (reservation_site r) u_there same low))
         (λ low. not_preceded (reservation_sites d) [] (unit_sites d) no_second.0 (unit_site u) u_there (preceded (reservation_sites d) (reservation_site r) (unit_site u) r_there (sym same) low)))

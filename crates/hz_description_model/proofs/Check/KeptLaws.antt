@@ -18,7 +18,7 @@ use Rattle.std.proofs.lemmas.Simd.{map-map}
 use Rattle.std.proofs.lemmas.Slice.Eq.{bytes_eq-Decides}
 use Rattle.hz_description_model.specs.Reservations.Alternatives.{Alternative, idle, followed_by, beside, taking, Expression, alternatives_of}
 use Rattle.hz_description_model.specs.Reservations.Automata.{cut, ascending, is_of, inside, without_repeats, UnitPlace, list_in}
-use Rattle.hz_description_model.specs.Check.CheckFaults.{names_of_set, has_too_long, is_unit, is_reservable, unknown_in_expression, unknown_in_condition, is_class, names_of_bypass, has_too_many, CheckFault, IsSound, faults_of_names, faults_of_meanings, automaton_sites, unit_sites, reservation_sites, class_sites, attribute_sites, repeated_values, past_units, differs, renumbered, renumbered_behind, sites_of}
+use Rattle.hz_description_model.specs.Check.CheckFaults.{names_of_set, has_too_long, is_unit, is_reservable, unknown_in_expression, unknown_in_condition, is_class, names_of_bypass, has_too_many, CheckFault, unit_site, IsSound, faults_of_names, faults_of_meanings, automaton_sites, unit_sites, reservation_sites, class_sites, attribute_sites, repeated_values, past_units, differs, renumbered, renumbered_behind, sites_of}
 use Rattle.hz_description_model.specs.Check.CountingOrder.{reserving_class, classes_of, reservations_of, reservation_site, Reserving}
 use Rattle.hz_description_model.specs.Check.FirstTold.{Told, Standing, first_told, told_at}
 use Rattle.hz_description_model.specs.Reservations.NamesIn.{names_in}
@@ -45,6 +45,7 @@ use Rattle.hz_base_model.proofs.Elements.{Contains-nil, Contains-head, Contains-
 use Rattle.hz_description_model.proofs.Reservations.ExpressionLaws.{some_alternatives}
 use Rattle.hz_description_model.proofs.Reservations.ListInLaws.{Contains-from_list_in, some_in_list}
 use Rattle.hz_description_model.proofs.Check.PlaceLaws.{from_filter_map, at_name_in}
+use Rattle.hz_description_model.proofs.Check.QueryPlaces.{queries_ascend, queries_low}
 use Rattle.hz_description_model.proofs.Reservations.UnitLaws.{AreAll, AreAllOf, all_alternatives}
 use Rattle.hz_description_model.proofs.Reservations.MeaningLaws.{some_assigned}
 use Rattle.hz_description_model.proofs.Reservations.MentionLaws.{listed_from_mentions}
@@ -115,9 +116,6 @@ automaton_site a = record { line = a.line; form = a.form; name = a.name }
 
 abbrev class_site : ClassItem → Site
 class_site c = record { line = c.line; form = c.form; name = c.name }
-
-abbrev unit_site : UnitItem → Site
-unit_site u = record { line = u.line; form = u.form; name = u.name }
 
 -- the parts are empty
 parts_empty : (a b c e f g : List Site) → a ++ b ++ c ++ e ++ f ++ g ≡ [] → (a ≡ []) × (e ≡ []) × (f ≡ []) × (b ≡ [])
@@ -350,7 +348,7 @@ module _ (d : Description) where
       (λ _. omega arith)
       (λ _. let long = length-map d.automata (λ (a : AutomatonItem). a.name) in omega arith)
 
-  few_units : (automaton : ℕ) (before units : List UnitItem) → length (filter (is_in automaton) before) ≤ unit_limit → past_units units (places_behind d before units) ≡ []
+  pub few_units : (automaton : ℕ) (before units : List UnitItem) → length (filter (is_in automaton) before) ≤ unit_limit → past_units units (places_behind d before units) ≡ []
       → length (filter (is_in automaton) before) + length (filter (is_in automaton) units) ≤ unit_limit
   few_units automaton before [] few free = omega arith
   few_units automaton before (u ∷ units) few free =
@@ -664,6 +662,8 @@ module _ (d : Description) where
       one_number = subst (λ (bs : List BypassParts). AllPairs SameNumber bs) (sym (kept_map (bypass_parts d) (λ b. not b.guard) d.bypasses))
           (pairs_map SameNumber (bypass_parts d) (unguarded d.bypasses)
           (λ i j e low within. same_number d (get_or (unguarded d.bypasses) i e) (get_or (unguarded d.bypasses) j e) ((agreed [] (unguarded d.bypasses) (no_meanings 10 none (omega arith))).1 i j e low within)));
+      queries = all_automata (λ a. AllPairs (λ m n. m < n) a.queries × All (λ n. n < length a.units) a.queries)
+          (λ automaton name. (queries_ascend d automaton, queries_low d automaton)) 0 (automaton_names d);
       unit_names = units_apart (unit_items_apart) 0 (automaton_names d);
       sets = all_automata (λ a. All (λ s. All (λ u. u < length a.units) s.units × All (λ pattern. All (λ u. u < length a.units) pattern) s.patterns) a.statements)
           (λ n name. sets_low n) 0 (automaton_names d);

@@ -16,9 +16,9 @@ use Rattle.hz_description_model.specs.Reservations.Automata.{total_size}
 use Rattle.hz_description_model.specs.Reading.Descriptions.{Description, UnitItem, BypassItem, unguarded}
 use Rattle.hz_description_model.specs.Check.Sites.{Site, is_among, is_preceded, repeated}
 use Rattle.hz_description_model.specs.Check.Places.{automaton_number, place_behind, places_behind, unit_places, Known}
-use Rattle.hz_description_model.specs.Check.CheckFaults.{past_units, differs, renumbered, renumbered_behind, second_numbers}
+use Rattle.hz_description_model.specs.Check.CheckFaults.{past_units, differs, renumbered, renumbered_behind, second_numbers, unit_site}
 use Rattle.hz_description_model.specs.Check.CountingOrder.{Reserving, alternatives_in, past_size}
-use Rattle.hz_description_model.specs.Check.ToldPlaces.{ToldBehind, ends, tells, passes, StandsBefore, units_beside, IsPastUnits, unit_site, size_together, PassesSize, IsRenumbered, TellsSecondNumber}
+use Rattle.hz_description_model.specs.Check.ToldPlaces.{ToldBehind, ends, tells, passes, StandsBefore, units_beside, IsPastUnits, size_together, PassesSize, IsRenumbered, TellsSecondNumber}
 use Rattle.hz_description_model.proofs.Check.KeptLaws.{among, from_among, number_of}
 
 and_first : (a b : Bool) → (a && b) ≡ true → a ≡ true

@@ -9,7 +9,7 @@ pub can_be_checked : (d : Description) → IsWellFormed d → IsCheckable d
 can_be_checked d is = record {
   kinds = is.kinds;
   automata = All-weaker (IsAutomaton is.kinds) (λ i. IsForm is.kinds i.form define_automaton) (λ i h. h.form) d.automata is.automata;
-  units = All-weaker (IsUnit is.kinds) (λ i. IsForm is.kinds i.form define_cpu_unit) (λ i h. h.form) d.units is.units;
+  units = All-weaker (IsUnit is.kinds) (λ i. IsForm is.kinds i.form (define_cpu_unit i.query)) (λ i h. h.form) d.units is.units;
   reservations = All-weaker (IsReservation is.kinds) (IsCheckableReservation is.kinds) (λ i h. record { form = h.form; expression = h.expression }) d.reservations is.reservations;
   classes = All-weaker (IsClass is.kinds) (IsCheckableClass is.kinds) (λ i h. record { form = h.form; latency = h.latency; expression = h.expression }) d.classes is.classes;
   bypasses = All-weaker (IsBypass is.kinds) (IsCheckableBypass is.kinds) (λ i h. record { form = h.form; number = h.number }) d.bypasses is.bypasses;

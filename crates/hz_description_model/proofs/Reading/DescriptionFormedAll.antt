@@ -1,5 +1,5 @@
 -- What forms say is well formed: each form by itself, and then all of them.
-use Rattle.std.proofs.Common.{◌≡◌, ℕ, zero, suc, ◌+◌, ◌<◌, ◌≤◌, true, List, [], ◌∷◌, ◌++◌, length, map, All, Option, Some, None, Result, Ok, Err, refl, sym, ◌∙◌, subst, arith, length-append, append_assoc, zero-add}
+use Rattle.std.proofs.Common.{Bool, ◌≡◌, ℕ, zero, suc, ◌+◌, ◌<◌, ◌≤◌, true, List, [], ◌∷◌, ◌++◌, length, map, All, Option, Some, None, Result, Ok, Err, refl, sym, ◌∙◌, subst, arith, length-append, append_assoc, zero-add}
 use Rattle.std.proofs.lemmas.List.{append-nil}
 use Rattle.std.specs.List.{AllPairs}
 use Rattle.std.specs.Option.{option_map_or, ok_or}
@@ -44,24 +44,24 @@ module _ (kinds : List FormKind) (n : ℕ) where
       rw (← same) (made_of (λ (i : AutomatonItem). (i.form ≡ n) × IsAutomaton kinds i) _ found (names_formed names found (or_ok (names_in names) bad_shape found is)) (λ name named. (refl, record { form = form; name = named })))
   automata_formed line _ added form h = absurd (cc)
 
-  some_units : (line : ℕ) (automaton : Option (List ℕ)) (found : List (List ℕ)) → IsForm kinds n define_cpu_unit → option_map_or is_name automaton true ≡ true → are_names found ≡ true → IsAddition (units (unit_items line n automaton found))
-  some_units line automaton found form named are = (
+  some_units : (line : ℕ) (query : Bool) (automaton : Option (List ℕ)) (found : List (List ℕ)) → IsForm kinds n (define_cpu_unit query) → option_map_or is_name automaton true ≡ true → are_names found ≡ true → IsAddition (units (unit_items line n query automaton found))
+  some_units line query automaton found form named are = (
     automaton,
     made_of (λ (i : UnitItem). (i.form ≡ n) × IsUnit kinds i) _ found are (λ name is. (refl, record { form = form; name = is; automaton = named })),
     made_of (λ (i : UnitItem). (i.form ≡ n) × (i.automaton ≡ automaton)) _ found are (λ name is. (refl, refl)),
   )
 
-  units_formed : (line : ℕ) (operands : Trees) (added : Addition) → IsForm kinds n define_cpu_unit → units_form line n operands ≡ Ok added → IsAddition added
-  units_formed line (more names none) added form h =
+  units_formed : (line : ℕ) (query : Bool) (operands : Trees) (added : Addition) → IsForm kinds n (define_cpu_unit query) → units_form line n query operands ≡ Ok added → IsAddition added
+  units_formed line query (more names none) added form h =
       let (found, is, made) = then_ok (shaped (names_in names)) _ added h in
-      let same : units (unit_items line n None found) ≡ added = cc in
-      rw (← same) (some_units line None found form refl (names_formed names found (or_ok (names_in names) bad_shape found is)))
-  units_formed line (more names (more automaton none)) added form h =
+      let same : units (unit_items line n query None found) ≡ added = cc in
+      rw (← same) (some_units line query None found form refl (names_formed names found (or_ok (names_in names) bad_shape found is)))
+  units_formed line query (more names (more automaton none)) added form h =
       let (found, is, k) = then_ok (shaped (names_in names)) _ added h in
       let (name, named, made) = then_ok (shaped (name_in automaton)) _ added k in
-      let same : units (unit_items line n (Some name) found) ≡ added = cc in
-      rw (← same) (some_units line (Some name) found form (name_formed automaton name (or_ok (name_in automaton) bad_shape name named)) (names_formed names found (or_ok (names_in names) bad_shape found is)))
-  units_formed line _ added form h = absurd (cc)
+      let same : units (unit_items line n query (Some name) found) ≡ added = cc in
+      rw (← same) (some_units line query (Some name) found form (name_formed automaton name (or_ok (name_in automaton) bad_shape name named)) (names_formed names found (or_ok (names_in names) bad_shape found is)))
+  units_formed line query _ added form h = absurd (cc)
 
   reservation_formed : (line : ℕ) (read : List ℕ → Said) (operands : Trees) (added : Addition) → IsReading read → IsForm kinds n define_reservation → reservation_form line n read operands ≡ Ok added → IsAddition added
   reservation_formed line read (more name (more regexp none)) added reading form h =
@@ -149,7 +149,7 @@ module _ (kinds : List FormKind) (n : ℕ) where
 
   kind_formed : (line : ℕ) (read : List ℕ → Said) (kind : FormKind) (operands : Trees) (added : Addition) → IsReading read → IsForm kinds n kind → form_of_kind line n read kind operands ≡ Ok added → IsAddition added
   kind_formed line read define_automaton operands added reading form h = automata_formed line operands added form h
-  kind_formed line read define_cpu_unit operands added reading form h = units_formed line operands added form h
+  kind_formed line read (define_cpu_unit query) operands added reading form h = units_formed line query operands added form h
   kind_formed line read define_reservation operands added reading form h = reservation_formed line read operands added reading form h
   kind_formed line read define_insn_reservation operands added reading form h = class_formed line read operands added reading form h
   kind_formed line read define_bypass operands added reading form h = bypass_formed line operands added form h
@@ -252,7 +252,7 @@ module _ (kinds : List FormKind) (kind : FormKind) where
   automaton_stay = record { stay = λ i is. record { form = form_stays kinds kind i.form define_automaton is.form; name = is.name }; below = λ i is. form_within kinds i.form define_automaton is.form }
 
   unit_stay : Stay (λ i. i.form) (IsUnit kinds) (IsUnit after) (length kinds)
-  unit_stay = record { stay = λ i is. record { form = form_stays kinds kind i.form define_cpu_unit is.form; name = is.name; automaton = is.automaton }; below = λ i is. form_within kinds i.form define_cpu_unit is.form }
+  unit_stay = record { stay = λ i is. record { form = form_stays kinds kind i.form (define_cpu_unit i.query) is.form; name = is.name; automaton = is.automaton }; below = λ i is. form_within kinds i.form (define_cpu_unit i.query) is.form }
 
   reservation_stay : Stay (λ i. i.form) (IsReservation kinds) (IsReservation after) (length kinds)
   reservation_stay = record { stay = λ i is. record { form = form_stays kinds kind i.form define_reservation is.form; name = is.name; expression = is.expression }; below = λ i is. form_within kinds i.form define_reservation is.form }

@@ -115,12 +115,12 @@ module _ (line n : ℕ) (read : List ℕ → Said) where
   other_kind : (kind : FormKind) (operands : Trees) (a : Addition) → (kind ≡ automata_option → ⊥) → form_of_kind line n read kind operands ≡ Ok a → IsNotOptions a
   other_kind define_automaton (more names none) a not h = let (found, is, made) = then_ok (shaped (names_in names)) _ a h in adds_other _ a tt made
   other_kind define_automaton _ a not h = absurd (cc)
-  other_kind define_cpu_unit (more names none) a not h = let (found, is, made) = then_ok (shaped (names_in names)) _ a h in adds_other _ a tt made
-  other_kind define_cpu_unit (more names (more automaton none)) a not h =
+  other_kind (define_cpu_unit query) (more names none) a not h = let (found, is, made) = then_ok (shaped (names_in names)) _ a h in adds_other _ a tt made
+  other_kind (define_cpu_unit query) (more names (more automaton none)) a not h =
       let (found, is, k) = then_ok (shaped (names_in names)) _ a h in
       let (name, named, made) = then_ok (shaped (name_in automaton)) _ a k in
       adds_other _ a tt made
-  other_kind define_cpu_unit _ a not h = absurd (cc)
+  other_kind (define_cpu_unit query) _ a not h = absurd (cc)
   other_kind define_reservation (more name (more regexp none)) a not h =
       let (bytes, is, k) = then_ok (shaped (name_in name)) _ a h in
       let (value, reads, made) = then_ok (expression_in read regexp) _ a k in
@@ -159,18 +159,19 @@ is_option_kind _ = false
 not_option : (k : Option FormKind) → is_option_kind k ≡ false → k ≡ Some automata_option → ⊥
 not_option k e h = let same : false ≡ true = sym e ∙ ap is_option_kind h in absurd (cc)
 
-option_by : (a u r c b o t : Bool) (sets : Option SetKind) → cond a (Some define_automaton) (cond u (Some define_cpu_unit) (cond r (Some define_reservation) (cond c (Some define_insn_reservation) (cond b (Some define_bypass) (cond o (Some automata_option) (cond t (Some define_attr) (option_map set_form sets))))))) ≡ Some automata_option → o ≡ true
-option_by true u r c b o t sets h = absurd (not_option _ refl h)
-option_by false true r c b o t sets h = absurd (not_option _ refl h)
-option_by false false true c b o t sets h = absurd (not_option _ refl h)
-option_by false false false true b o t sets h = absurd (not_option _ refl h)
-option_by false false false false true o t sets h = absurd (not_option _ refl h)
-option_by false false false false false true t sets h = refl
-option_by false false false false false false true sets h = absurd (not_option _ refl h)
-option_by false false false false false false false sets h = absurd (no_kind_of_sets sets h)
+option_by : (a u q r c b o t : Bool) (sets : Option SetKind) → cond a (Some define_automaton) (cond u (Some (define_cpu_unit false)) (cond q (Some (define_cpu_unit true)) (cond r (Some define_reservation) (cond c (Some define_insn_reservation) (cond b (Some define_bypass) (cond o (Some automata_option) (cond t (Some define_attr) (option_map set_form sets)))))))) ≡ Some automata_option → o ≡ true
+option_by true u q r c b o t sets h = absurd (not_option _ refl h)
+option_by false true q r c b o t sets h = absurd (not_option _ refl h)
+option_by false false true r c b o t sets h = absurd (not_option _ refl h)
+option_by false false false true c b o t sets h = absurd (not_option _ refl h)
+option_by false false false false true b o t sets h = absurd (not_option _ refl h)
+option_by false false false false false true o t sets h = absurd (not_option _ refl h)
+option_by false false false false false false true t sets h = refl
+option_by false false false false false false false true sets h = absurd (not_option _ refl h)
+option_by false false false false false false false false sets h = absurd (no_kind_of_sets sets h)
 
 option_word : (word : List ℕ) → kind_of word ≡ Some automata_option → word ≡ codes "automata_option"
-option_word word h = (bytes_eq-Decides word (codes "automata_option")).0 (option_by (bytes_eq word (codes "define_automaton")) (bytes_eq word (codes "define_cpu_unit")) (bytes_eq word (codes "define_reservation")) (bytes_eq word (codes "define_insn_reservation")) (bytes_eq word (codes "define_bypass")) (bytes_eq word (codes "automata_option")) (bytes_eq word (codes "define_attr")) (set_of word) h)
+option_word word h = (bytes_eq-Decides word (codes "automata_option")).0 (option_by (bytes_eq word (codes "define_automaton")) (bytes_eq word (codes "define_cpu_unit")) (bytes_eq word (codes "define_query_cpu_unit")) (bytes_eq word (codes "define_reservation")) (bytes_eq word (codes "define_insn_reservation")) (bytes_eq word (codes "define_bypass")) (bytes_eq word (codes "automata_option")) (bytes_eq word (codes "define_attr")) (set_of word) h)
 
 -- a list that begins with a word
 record Heads (form : Tree) (word : List ℕ) (operands : Trees) : Type 0 where
@@ -225,7 +226,7 @@ adds_options read n form o h =
         let says = says_options parts.1 o made in
         record { line = begins.line; head = begins.head; string = says.line; bytes = says.bytes; is = begins.is ∙ (ap (λ w. list begins.line (more (atom begins.head w) parts.1)) word ∙ ap (λ x. list begins.line (more (atom begins.head (codes "automata_option")) x)) says.is); all = says.all }
     by_kind parts begins define_automaton of made = absurd (other_kind (line_of form) n read define_automaton parts.1 (options o) (λ e. absurd (cc)) made)
-    by_kind parts begins define_cpu_unit of made = absurd (other_kind (line_of form) n read define_cpu_unit parts.1 (options o) (λ e. absurd (cc)) made)
+    by_kind parts begins (define_cpu_unit query) of made = absurd (other_kind (line_of form) n read (define_cpu_unit query) parts.1 (options o) (λ e. absurd (cc)) made)
     by_kind parts begins define_reservation of made = absurd (other_kind (line_of form) n read define_reservation parts.1 (options o) (λ e. absurd (cc)) made)
     by_kind parts begins define_insn_reservation of made = absurd (other_kind (line_of form) n read define_insn_reservation parts.1 (options o) (λ e. absurd (cc)) made)
     by_kind parts begins define_bypass of made = absurd (other_kind (line_of form) n read define_bypass parts.1 (options o) (λ e. absurd (cc)) made)

@@ -35,7 +35,7 @@ limit_word size = codes "Size"
 pub data CheckFault : Type 0 where
   twice_defined reserved_name unknown_name unknown_automaton unit_needs_automaton circular_reservation self_exclusion set_across_automata : CheckFault
   limit : (what : LimitName) → CheckFault
-  alternation_of_two_automata alternation_of_two_lengths bypass_twice : CheckFault
+  alternation_of_two_automata alternation_of_two_lengths bypass_twice query_under_ndfa : CheckFault
 
 -- the word by which a fault is told: docs/FORMATS.md, 'Answers'
 abbrev pub check_word : CheckFault → List ℕ
@@ -51,6 +51,7 @@ check_word (limit what) = limit_word what
 check_word alternation_of_two_automata = codes "AlternationOfTwoAutomata"
 check_word alternation_of_two_lengths = codes "AlternationOfTwoLengths"
 check_word bypass_twice = codes "BypassTwice"
+check_word query_under_ndfa = codes "QueryUnderNdfa"
 
 -- the limit that is passed; of any other fault none
 abbrev pub limit_passed : CheckFault → Option LimitName
@@ -62,8 +63,11 @@ limit_passed _ = None
 abbrev pub automaton_sites : Description → List Site
 automaton_sites d = map (λ a. record { line = a.line; form = a.form; name = a.name }) d.automata
 
+abbrev pub unit_site : UnitItem → Site
+unit_site u = record { line = u.line; form = u.form; name = u.name }
+
 abbrev pub unit_sites : Description → List Site
-unit_sites d = map (λ u. record { line = u.line; form = u.form; name = u.name }) d.units
+unit_sites d = map unit_site d.units
 
 abbrev pub reservation_sites : Description → List Site
 reservation_sites d = map reservation_site d.reservations
@@ -269,6 +273,15 @@ renumbered_behind before (b ∷ bypasses) = renumbered before b ++ renumbered_be
 abbrev pub second_numbers : Description → List Site
 second_numbers d = renumbered_behind [] (unguarded d.bypasses)
 
+-- Query under ndfa: a query unit is defined, and the option `ndfa` is given.
+
+-- the query units
+abbrev pub query_units : Description → List UnitItem
+query_units d = filter (λ u. u.query) d.units
+
+abbrev pub queries_under_ndfa : Description → List Site
+queries_under_ndfa d = if (d.options).ndfa then map unit_site (query_units d) else []
+
 -- the faults of names, in their order
 abbrev pub faults_of_names : Description → List (Standing CheckFault)
 faults_of_names d = record { fault = twice_defined; sites = second_definitions d }
@@ -293,7 +306,7 @@ faults_of_classes d known = record { fault = alternation_of_two_automata; sites 
 abbrev pub faults_of_meanings : Description → Known → List Reserving → List (Standing CheckFault)
 faults_of_meanings d known order = record { fault = self_exclusion; sites = self_exclusions d }
     ∷ record { fault = set_across_automata; sites = sets_across_automata d }
-    ∷ (faults_of_limits d known order ++ faults_of_classes d known ++ record { fault = bypass_twice; sites = second_numbers d } ∷ [])
+    ∷ (faults_of_limits d known order ++ faults_of_classes d known ++ record { fault = bypass_twice; sites = second_numbers d } ∷ record { fault = query_under_ndfa; sites = queries_under_ndfa d } ∷ [])
 
 -- The names are right: each has its alternatives, and there is a counting order.
 pub record IsUnfolded (d : Description) (known : Known) (order : List Reserving) : Type 0 where

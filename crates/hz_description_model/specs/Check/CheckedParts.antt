@@ -6,14 +6,15 @@ use Rattle.hz_base_model.specs.Pairs.{Pair}
 use Rattle.hz_description_model.specs.Reservations.Alternatives.{alternatives_of}
 use Rattle.hz_description_model.specs.Reservations.Automata.{list_in}
 use Rattle.hz_description_model.specs.Reservations.Sets.{Statement}
-use Rattle.hz_description_model.specs.Reading.Descriptions.{Description, Condition, ClassItem, BypassItem}
+use Rattle.hz_description_model.specs.Reading.Descriptions.{Description, UnitItem, Condition, ClassItem, BypassItem}
 use Rattle.hz_description_model.specs.Check.Places.{class_names, automaton_number, statement_of, Known}
 use Rattle.hz_description_model.specs.Reservations.Inside.{inside_statement, is_inside}
 
--- an automaton: its name, its units by their numbers, and its set statements on them
+-- an automaton: its name, its units by their numbers, the numbers of its query units, and its set statements on its units
 pub record AutomatonParts : Type 0 where
   pub name : List ℕ
   pub units : List (List ℕ)
+  pub queries : List ℕ
   pub statements : List (Statement ℕ)
 
 -- a class, with its list for each automaton
@@ -39,9 +40,26 @@ automaton_names d = if length d.automata == 0 then codes "-" ∷ [] else map (λ
 abbrev pub automaton_count : Description → ℕ
 automaton_count d = length (automaton_names d)
 
+-- an automaton's units, in the order of the file
+abbrev pub unit_items_in : Description → ℕ → List UnitItem
+unit_items_in d automaton = filter (λ u. automaton_number d u.automaton == automaton) d.units
+
 -- the names of an automaton's units, in the order of the file
 abbrev pub units_in : Description → ℕ → List (List ℕ)
-units_in d automaton = map (λ u. u.name) (filter (λ u. automaton_number d u.automaton == automaton) d.units)
+units_in d automaton = map (λ u. u.name) (unit_items_in d automaton)
+
+-- the places of the items that pass a test, where the first item has this place
+abbrev pub places_where : {A : Type 0} → (A → Bool) → ℕ → List A → List ℕ
+places_where test n [] = []
+places_where test n (item ∷ items) = if test item then n ∷ places_where test (suc n) items else places_where test (suc n) items
+
+-- the query units of an automaton by their numbers in it, in the order of the file
+abbrev pub queries_in : Description → ℕ → List ℕ
+queries_in d automaton = places_where (λ u. u.query) 0 (unit_items_in d automaton)
+
+-- their names
+abbrev pub ask_names_in : Description → ℕ → List (List ℕ)
+ask_names_in d automaton = map (λ u. u.name) (filter (λ u. u.query) (unit_items_in d automaton))
 
 -- the statements on an automaton's units, in the order of the file
 abbrev pub statements_in : Description → ℕ → List (Statement ℕ)
@@ -49,7 +67,7 @@ statements_in d automaton = map inside_statement (filter (is_inside automaton) (
 
 -- the automaton of a number and its name
 abbrev pub automaton_parts : Description → ℕ → List ℕ → AutomatonParts
-automaton_parts d automaton name = record { name = name; units = units_in d automaton; statements = statements_in d automaton }
+automaton_parts d automaton name = record { name = name; units = units_in d automaton; queries = queries_in d automaton; statements = statements_in d automaton }
 
 -- automata of these names, of which the first has this number
 abbrev pub automata_from : Description → ℕ → List (List ℕ) → List AutomatonParts

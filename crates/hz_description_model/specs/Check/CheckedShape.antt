@@ -1,10 +1,19 @@
--- What holds of the parts of every description without a fault. Law: `parts_are_kept`.
-use Rattle.std.specs.Prelude.{◌≡◌, ◌≢◌, ℕ, ◌<◌, ◌≤◌, List, [], Some, slice_get, slice_index_or, length, map, filter, not, All}
+-- What holds of the parts of every description without a fault. Laws: `parts_are_kept`, `query_units_are_units`,
+-- `query_units_have_names_of_their_own`, `query_units_are_without_ndfa`.
+use Rattle.std.specs.Prelude.{◌≡◌, ◌≢◌, ℕ, ◌<◌, ◌≤◌, Bool, List, [], Some, slice_get, slice_index_or, length, map, filter, not, All, IsTrue}
 use Rattle.std.specs.List.{Contains, flat_map, AllPairs}
 use Rattle.hz_description_model.specs.Check.CheckedParts.{AutomatonParts, ClassParts, BypassParts}
 use Rattle.hz_base_model.specs.Limits.{automaton_limit, unit_limit, class_limit, cycle_limit}
 use Rattle.hz_description_model.specs.Reservations.Limits.{alternative_limit}
 use Rattle.hz_description_model.specs.Reading.Limits.{latency_limit}
+
+-- the names of an automaton's query units
+abbrev pub ask_names : AutomatonParts → List (List ℕ)
+ask_names a = map (λ n. slice_index_or a.units n []) a.queries
+
+-- with the option `ndfa` no automaton has a query unit
+abbrev pub AskNothingUnderNdfa : Bool → List AutomatonParts → Type 0
+AskNothingUnderNdfa ndfa automata = IsTrue ndfa → All (λ a. a.queries ≡ []) automata
 
 pub record IsKept (automata : List AutomatonParts) (classes : List ClassParts) (bypasses : List BypassParts) (attributes : List (List ℕ × List (List ℕ))) : Type 0 where
   -- there is an automaton
@@ -15,6 +24,8 @@ pub record IsKept (automata : List AutomatonParts) (classes : List ClassParts) (
   pub units : All (λ a. length a.units ≤ unit_limit) automata
   -- no two units of all automata have one name
   pub unit_names : AllPairs (λ a b. a ≢ b) (flat_map (λ a. a.units) automata)
+  -- the query units of an automaton are units of it by their numbers, which ascend
+  pub queries : All (λ a. AllPairs (λ m n. m < n) a.queries × All (λ n. n < length a.units) a.queries) automata
   -- the statements of an automaton name units of it by their numbers
   pub sets : All (λ a. All (λ s. All (λ u. u < length a.units) s.units × All (λ pattern. All (λ u. u < length a.units) pattern) s.patterns) a.statements) automata
   -- the classes are not too many

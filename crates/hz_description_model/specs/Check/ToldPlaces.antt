@@ -1,11 +1,13 @@
 -- Where a fault is told that depends on what stands before, in the words of the rules. Laws: `second_names_are_told`,
--- `units_past_their_limit_are_told`, `places_count_units_before`, `size_is_told_where_it_passes`, `second_numbers_are_told`.
-use Rattle.std.specs.Prelude.{◌≡◌, ◌≢◌, ◌⊎◌, ◌<◌, ◌≤◌, ◌==◌, ℕ, List, [], ◌∷◌, ◌++◌, filter, length}
+-- `units_past_their_limit_are_told`, `places_count_units_before`, `size_is_told_where_it_passes`, `second_numbers_are_told`,
+-- `first_query_units_are_told`.
+use Rattle.std.specs.Prelude.{◌≡◌, ◌≢◌, ◌⊎◌, ◌<◌, ◌≤◌, ◌==◌, ℕ, List, [], ◌∷◌, ◌++◌, filter, length, IsTrue}
 use Rattle.std.specs.List.{Contains, sum_by}
 use Rattle.hz_base_model.specs.Limits.{unit_limit}
 use Rattle.hz_description_model.specs.Reservations.Limits.{size_limit}
 use Rattle.hz_description_model.specs.Reservations.Automata.{total_size}
 use Rattle.hz_description_model.specs.Reading.Descriptions.{Description, UnitItem, BypassItem}
+use Rattle.hz_description_model.specs.Check.CheckFaults.{IsFirst, unit_site}
 use Rattle.hz_description_model.specs.Check.Sites.{Site}
 use Rattle.hz_description_model.specs.Check.Places.{automaton_number, Known}
 use Rattle.hz_description_model.specs.Check.CountingOrder.{Reserving, alternatives_in}
@@ -27,9 +29,6 @@ units_beside d units u = length (filter (λ v. automaton_number d v.automaton ==
 -- so many units of its automaton stand before the unit as may be in all
 abbrev pub IsPastUnits : Description → List UnitItem → UnitItem → Type 0
 IsPastUnits d before u = unit_limit ≤ units_beside d before u
-
-abbrev pub unit_site : UnitItem → Site
-unit_site u = record { line = u.line; form = u.form; name = u.name }
 
 -- the size of reservations and classes together: the cycles and the pairs of all their alternatives
 abbrev pub size_together : Known → List Reserving → ℕ
@@ -65,3 +64,10 @@ pub record TellsSecondNumber (bypasses : List BypassItem) (s : Site) : Type 0 wh
   pub pair : IsRenumbered before b s.name
   pub line : s.line ≡ b.line
   pub form : s.form ≡ b.form
+
+-- The site is that of the first query unit, and the option `ndfa` is given.
+pub record TellsFirstQuery (d : Description) (s : Site) : Type 0 where
+  pub ndfa : IsTrue (d.options).ndfa
+  pub u : UnitItem
+  pub first : IsFirst (λ u. IsTrue u.query) d.units u
+  pub is : s ≡ unit_site u

@@ -256,7 +256,8 @@ set_of word =
 abbrev pub kind_of : List ℕ → Option FormKind
 kind_of word =
     if bytes_eq word (codes "define_automaton") then Some define_automaton
-    else if bytes_eq word (codes "define_cpu_unit") then Some define_cpu_unit
+    else if bytes_eq word (codes "define_cpu_unit") then Some (define_cpu_unit false)
+    else if bytes_eq word (codes "define_query_cpu_unit") then Some (define_cpu_unit true)
     else if bytes_eq word (codes "define_reservation") then Some define_reservation
     else if bytes_eq word (codes "define_insn_reservation") then Some define_insn_reservation
     else if bytes_eq word (codes "define_bypass") then Some define_bypass
@@ -289,9 +290,9 @@ module _ (line form : ℕ) where
   abbrev pub automaton_items : List (List ℕ) → List AutomatonItem
   automaton_items names = map (λ name. record { line = line; form = form; name = name }) names
 
-  -- units of these names, each with this automaton or with none
-  abbrev pub unit_items : Option (List ℕ) → List (List ℕ) → List UnitItem
-  unit_items automaton names = map (λ name. record { line = line; form = form; name = name; automaton = automaton }) names
+  -- units of these names, each with this automaton or with none; all of them are query units, or none is
+  abbrev pub unit_items : (query : Bool) → Option (List ℕ) → List (List ℕ) → List UnitItem
+  unit_items query automaton names = map (λ name. record { line = line; form = form; name = name; automaton = automaton; query = query }) names
 
   -- `(define_automaton "names")`
   abbrev pub automata_form : Trees → Result Addition DescriptionFault
@@ -300,16 +301,16 @@ module _ (line form : ℕ) where
       Ok (automata (automaton_items names)))
   automata_form _ = Err bad_shape
 
-  -- `(define_cpu_unit "names")` and `(define_cpu_unit "names" "automaton")`
-  abbrev pub units_form : Trees → Result Addition DescriptionFault
-  units_form (more names none) =
+  -- `(define_cpu_unit "names")` and `(define_cpu_unit "names" "automaton")`, and the same of `define_query_cpu_unit`
+  abbrev pub units_form : (query : Bool) → Trees → Result Addition DescriptionFault
+  units_form query (more names none) =
       and_then (shaped (names_in names)) (λ names.
-      Ok (units (unit_items None names)))
-  units_form (more names (more automaton none)) =
+      Ok (units (unit_items query None names)))
+  units_form query (more names (more automaton none)) =
       and_then (shaped (names_in names)) (λ names.
       and_then (shaped (name_in automaton)) (λ automaton.
-      Ok (units (unit_items (Some automaton) names))))
-  units_form _ = Err bad_shape
+      Ok (units (unit_items query (Some automaton) names))))
+  units_form query _ = Err bad_shape
 
   -- `(define_reservation "name" "regexp")`
   abbrev pub reservation_form : (List ℕ → Said) → Trees → Result Addition DescriptionFault
@@ -369,7 +370,7 @@ module _ (line form : ℕ) where
   -- what operands of a form of this kind say
   abbrev pub form_of_kind : (List ℕ → Said) → FormKind → Trees → Result Addition DescriptionFault
   form_of_kind read define_automaton operands = automata_form operands
-  form_of_kind read define_cpu_unit operands = units_form operands
+  form_of_kind read (define_cpu_unit query) operands = units_form query operands
   form_of_kind read define_reservation operands = reservation_form read operands
   form_of_kind read define_insn_reservation operands = class_form read operands
   form_of_kind read define_bypass operands = bypass_form operands

@@ -9,9 +9,11 @@ use Rattle.hz_base_model.specs.Names.{is_name}
 use Rattle.hz_description_model.specs.Reservations.Sets.{SetKind}
 use Rattle.hz_description_model.specs.Reading.Descriptions.{Condition, Conditions, constant, matches, negation, conjunction, disjunction, none, more, AutomatonItem, UnitItem, ReservationItem, ClassItem, BypassItem, SetItem, AttributeItem, Description}
 
--- The kinds of forms, by the words that they begin with; the five set forms go by their statements.
+-- The kinds of forms, by the words that they begin with; the two forms of units go by whether these are query units, the five set
+-- forms by their statements.
 pub data FormKind : Type 0 where
-  define_automaton define_cpu_unit define_reservation define_insn_reservation define_bypass automata_option define_attr : FormKind
+  define_automaton define_reservation define_insn_reservation define_bypass automata_option define_attr : FormKind
+  define_cpu_unit : (query : Bool) → FormKind
   set_form : (kind : SetKind) → FormKind
 
 -- one name or more
@@ -54,7 +56,7 @@ module _ (kinds : List FormKind) where
     pub name : IsTrue (is_name item.name)
 
   pub record IsUnit (item : UnitItem) : Type 0 where
-    pub form : IsForm item.form define_cpu_unit
+    pub form : IsForm item.form (define_cpu_unit item.query)
     pub name : IsTrue (is_name item.name)
     pub automaton : IsTrue (option_map_or is_name item.automaton true)
 
@@ -132,7 +134,7 @@ module _ (kinds : List FormKind) where
 pub record IsCheckable (d : Description) : Type 0 where
   pub kinds : List FormKind
   pub automata : All (λ i. IsForm kinds i.form define_automaton) d.automata
-  pub units : All (λ i. IsForm kinds i.form define_cpu_unit) d.units
+  pub units : All (λ i. IsForm kinds i.form (define_cpu_unit i.query)) d.units
   pub reservations : All (IsCheckableReservation kinds) d.reservations
   pub classes : All (IsCheckableClass kinds) d.classes
   pub bypasses : All (IsCheckableBypass kinds) d.bypasses

@@ -26,12 +26,13 @@ pub record AutomatonItem : Type 0 where
   pub form : ℕ
   pub name : List ℕ
 
--- `define_cpu_unit`, one item for each name
+-- `define_cpu_unit` and `define_query_cpu_unit`, one item for each name; `query` tells whether it is a query unit
 pub record UnitItem : Type 0 where
   pub line : ℕ
   pub form : ℕ
   pub name : List ℕ
   pub automaton : Option (List ℕ)
+  pub query : Bool
 
 -- `define_reservation`
 pub record ReservationItem : Type 0 where

@@ -1,6 +1,6 @@
 //! What is told of a class that can't be issued, on a machine by hand.
 
-ghost use Rattle.std.specs.Prelude.{◌≡◌, ◌∷◌, [], length, IfOk};
+ghost use Rattle.std.specs.Prelude.{◌≡◌, ◌≤◌, ◌∷◌, [], length, IfOk};
 ghost use Rattle.hz_depend.specs.GraphShape.{IsSchedulable};
 ghost use Rattle.hz_automata_model.specs.Tables.Machines.{IsPart};
 ghost use Rattle.hz_tables.specs.Machines.{machine_of};
@@ -33,13 +33,15 @@ fn stuck_part(alloc: Global, name: Name) -> Result<Part, NoMemory>
     Ok(Part {
         name,
         map,
+        asks: Vec::new(alloc),
         table: Table::Rows(stuck(alloc)?),
     })
 }
 
 // A machine of one class and one part.
 fn one_part(alloc: Global, class: Name, part: Part) -> Result<Machine, NoMemory>
-    requires { IsPart 1 (part_of part) }
+    requires part { IsPart 1 (part_of part) }
+    requires asks { length part.asks.items ≤ 1 }
     ensures { IfOk result (λ machine. machine_of machine ≡ record { classes = class ∷ []; parts = part_of part ∷ [] }) }
 {
     let mut classes = Vec::with_capacity(alloc, 1)?;

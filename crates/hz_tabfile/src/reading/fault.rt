@@ -12,10 +12,11 @@ use thiserror::Error;
 /// The first line of a tables text that is wrong, by its number from 1. Source: this profile, docs/FORMATS.md, 'Tables'.
 #[derive(Clone, Copy, Debug, PartialEq, Eq, Error)]
 pub enum TabFault {
-    /// The first line is another than `hazard-tables 1`.
+    /// The first line is another than `hazard-tables 1` and `hazard-tables 2`.
     #[error("line {line} is no header")]
     BadHeader { line: u32 },
-    /// The line is no line of its place: another word, another number of fields, an empty field, or no name.
+    /// The line is no line of its place: another word, another number of fields, an empty field, no name, or one that came
+    /// before.
     #[error("line {line} is out of place")]
     BadLine { line: u32 },
     /// A field is no number.

@@ -6,7 +6,7 @@ use hz_regexp::Name;
 #[derive(Drop)]
 pub struct Head {
     pub name: Name,
-    /// How many columns stand before the advance.
+    /// How many columns the classes have.
     pub columns: u32,
     pub states: u32,
 }

@@ -1,7 +1,7 @@
 //! What each line says at its place.
 
-ghost use Rattle.std.specs.Prelude.{◌≡◌, ◌≤◌, IfOk};
-ghost use Rattle.hz_base_model.specs.Limits.{class_limit};
+ghost use Rattle.std.specs.Prelude.{◌≡◌, ◌≤◌, ◌++◌, IfOk, length};
+ghost use Rattle.hz_base_model.specs.Limits.{class_limit, unit_limit};
 ghost use Rattle.hz_automata_model.specs.Tables.StateLimits.{state_limit};
 ghost use Rattle.hz_tabtext_model.specs.Lines as model;
 ghost use Rattle.hz_tabfile.specs.Judged.{Judges};
@@ -9,11 +9,13 @@ ghost use Rattle.hz_tabfile.specs.Heads.{head_said};
 ghost use Rattle.hz_tabfile.specs.Lines.{class_onto};
 
 use super::cutting::{cut, is_word};
-use super::each::{cells, cycles, have_units, numbers_below};
+use super::each::{cells, cycles, have_units, new_names, numbers_below};
 use super::head::Head;
 use super::numbers::{number, number_below};
 use super::operands::{next_field, one, operands, three};
+use super::size::Size;
 use super::wrong::Wrong;
+use hz_grid::UNITS;
 use hz_regexp::{Name, is_name};
 use indexmap::IndexSet;
 use std::alloc::Global;
@@ -129,6 +131,38 @@ pub fn map(alloc: Global, line: &[u8], classes: u32, columns: u32) -> Result<Vec
     numbers_below(alloc, fields.left, columns)
 }
 
+/// Whether so many asks, beside so many columns and states, are not too many, and neither are all entries.
+fn are_asks(columns: u32, states: u32, asks: usize) -> bool
+    requires columns { columns ≤ class_limit }
+    requires states { states ≤ state_limit }
+    ensures { result ≡ model.are_asks columns states asks }
+{
+    asks <= UNITS && states * (columns + asks as u32 + 1) <= CELLS
+}
+
+/// The names of asks, which join those of the asks before them: `asks NAME ..`.
+#[tactic(auto, unfolding(hz_tabtext_model::specs::Lines::asks_in))]
+pub fn asks(
+    alloc: Global,
+    line: &[u8],
+    columns: u32,
+    states: u32,
+    known: &mut IndexSet<Name>,
+) -> Result<Vec<Name>, Wrong>
+    requires columns { columns ≤ class_limit }
+    requires states { states ≤ state_limit }
+    ensures judged { Judges (λ names. names.items) result (model.asks_in columns states known.old.keys line.now) }
+    ensures known { IfOk result (λ names. known.new.keys ≡ known.old.keys ++ names.items) }
+    ensures few { IfOk result (λ names. length names.items ≤ unit_limit) }
+{
+    let fields = operands(line, b"asks")?;
+    let names = new_names(alloc, fields.left, known)?;
+    if !are_asks(columns, states, names.len()) {
+        return Err(Wrong::OutOfRange);
+    }
+    Ok(names)
+}
+
 /// Three numbers, which are dropped: `stats GRIDS STATES MEMBERS`.
 #[tactic(auto, unfolding(hz_tabtext_model::specs::Lines::counts_in))]
 pub fn counts(line: &[u8]) -> Result<(), Wrong>
@@ -141,17 +175,18 @@ pub fn counts(line: &[u8]) -> Result<(), Wrong>
     Ok(())
 }
 
-/// The entries of a state, of which there are so many before the advance, in place of those in `row`: `row t ..`.
+/// The entries of the state of this number, in place of those in `row`: `row t ..`.
 #[tactic(auto, unfolding(hz_tabtext_model::specs::Lines::row_in))]
-pub fn row(line: &[u8], columns: u32, states: u32, row: &mut Vec<Option<u32>>) -> Result<(), Wrong>
-    requires { columns ≤ class_limit }
-    ensures { Judges (λ _. row.new.items) result (model.row_in columns states line.now) }
+pub fn row(line: &[u8], size: Size, number: u32, row: &mut Vec<Option<u32>>) -> Result<(), Wrong>
+    requires columns { size.columns ≤ class_limit }
+    requires asks { size.asks ≤ unit_limit }
+    ensures { Judges (λ _. row.new.items) result (model.row_in size.columns size.asks size.states number line.now) }
 {
     let fields = operands(line, b"row")?;
-    if fields.count != columns as usize + 1 {
+    if fields.count != size.columns as usize + size.asks as usize + 1 {
         return Err(Wrong::BadLine);
     }
-    cells(fields.left, columns, states, row)
+    cells(fields.left, size, number, row)
 }
 
 /// A row and a column, which are dropped: `from P C`.

@@ -75,6 +75,21 @@ pub fn entry(field: &[u8], states: u32) -> Result<Option<u32>, Wrong>
     Ok(Some(state))
 }
 
+/// An entry of an ask in the row of this number: that number, or none for `-`.
+#[tactic(auto, unfolding(hz_tabtext_model::specs::Fields::ask_entry_in))]
+pub fn ask_entry(field: &[u8], row: u32) -> Result<Option<u32>, Wrong>
+    ensures { Judges (λ e. e) result (model.ask_entry_in row field.now) }
+{
+    if is_word(field, b"-") {
+        return Ok(None);
+    }
+    if number(field)? == row {
+        Ok(Some(row))
+    } else {
+        Err(Wrong::OutOfRange)
+    }
+}
+
 /// The advance of a table of so many states: one of them.
 #[tactic(auto, unfolding(hz_tabtext_model::specs::Fields::advance_in))]
 pub fn advance(field: &[u8], states: u32) -> Result<Option<u32>, Wrong>

@@ -1,7 +1,7 @@
 //! Lines of a text, each judged at its number.
 
-ghost use Rattle.std.specs.Prelude.{◌≡◌, ◌≤◌, ◌<◌, length, IfOk};
-ghost use Rattle.hz_base_model.specs.Limits.{class_limit};
+ghost use Rattle.std.specs.Prelude.{◌≡◌, ◌≤◌, ◌<◌, ◌++◌, length, IfOk};
+ghost use Rattle.hz_base_model.specs.Limits.{class_limit, unit_limit};
 ghost use Rattle.hz_automata_model.specs.Tables.StateLimits.{state_limit};
 ghost use Rattle.hz_tabtext_model.specs.Reading.{line_by};
 ghost use Rattle.hz_tabtext_model.specs.Lines as model;
@@ -13,9 +13,10 @@ ghost use Rattle.hz_tabfile.specs.Texts.{class_read};
 use super::fault::TabFault;
 use super::head::Head;
 use super::lines::{
-    automata, class, classes, counts, end, grid, head, map, origin, row, treatment,
+    asks, automata, class, classes, counts, end, grid, head, map, origin, row, treatment,
 };
 use super::rest::Rest;
+use super::size::Size;
 use hz_regexp::Name;
 use indexmap::IndexSet;
 use std::alloc::Global;
@@ -90,6 +91,28 @@ pub fn map_at(
     }
 }
 
+/// The names of the asks of an automaton, which join those of the asks before them.
+#[tactic(auto, using(crate::proofs::Told::judged_line))]
+pub fn asked_at<'a>(
+    alloc: Global,
+    rest: Rest<'a>,
+    columns: u32,
+    states: u32,
+    known: &mut IndexSet<Name>,
+) -> Result<(Vec<Name>, Rest<'a>), TabFault>
+    requires columns { columns ≤ class_limit }
+    requires states { states ≤ state_limit }
+    ensures judged { Gives (λ x. (x.0.items, left_of x.1)) result (line_by (model.asks_in columns states known.old.keys) (left_of rest.entry)) }
+    ensures known { IfOk result (λ x. known.new.keys ≡ known.old.keys ++ x.0.items) }
+    ensures few { IfOk result (λ x. length x.0.items ≤ unit_limit) }
+{
+    let (line, after) = rest.line()?;
+    match asks(alloc, line, columns, states, known) {
+        Ok(asks) => Ok((asks, after)),
+        Err(wrong) => Err(wrong.at(rest.number)),
+    }
+}
+
 /// The counts of an automaton, which are dropped.
 #[tactic(auto, using(crate::proofs::Told::judged_line))]
 pub fn stats_at(rest: Rest) -> Result<Rest, TabFault>
@@ -102,19 +125,20 @@ pub fn stats_at(rest: Rest) -> Result<Rest, TabFault>
     }
 }
 
-/// The entries of a state, in place of those in `entries`.
+/// The entries of the state of this number, in place of those in `entries`.
 #[tactic(auto, using(crate::proofs::Told::judged_line))]
 pub fn entries_at<'a>(
     rest: Rest<'a>,
-    columns: u32,
-    states: u32,
+    size: Size,
+    number: u32,
     entries: &mut Vec<Option<u32>>,
 ) -> Result<Rest<'a>, TabFault>
-    requires { columns ≤ class_limit }
-    ensures { Gives (λ after. (entries.new.items, left_of after)) result (line_by (model.row_in columns states) (left_of rest.entry)) }
+    requires columns { size.columns ≤ class_limit }
+    requires asks { size.asks ≤ unit_limit }
+    ensures { Gives (λ after. (entries.new.items, left_of after)) result (line_by (model.row_in size.columns size.asks size.states number) (left_of rest.entry)) }
 {
     let (line, after) = rest.line()?;
-    match row(line, columns, states, entries) {
+    match row(line, size, number, entries) {
         Ok(()) => Ok(after),
         Err(wrong) => Err(wrong.at(rest.number)),
     }

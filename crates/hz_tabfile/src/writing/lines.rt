@@ -2,13 +2,14 @@
 
 ghost use Rattle.std.specs.Prelude.{◌-◌, ◌^◌, ◌<◌, [], ◌∷◌, if◌then◌else◌, decimal, codes};
 ghost use Rattle.std.specs.List.{flat_map};
-ghost use Rattle.hz_tabtext_model.specs.Texts.{entry_field, line_text, map_line, counts_lines, class_line};
+ghost use Rattle.hz_tabtext_model.specs.Texts.{entry_field, line_text, map_line, asks_lines, counts_lines, class_line};
 ghost use Rattle.hz_tabtext_model.specs.Said.{counts_said};
 ghost use Rattle.hz_auto.specs.Reports.{report_of};
-ghost use Rattle.hz_tabfile.specs.Pages.{Adds, spaced};
+ghost use Rattle.hz_io.specs.Pages.{Adds};
+ghost use Rattle.hz_tabfile.specs.Spaced.{spaced};
 
-use crate::writing::page::{Page, add, add_all, end_line};
 use hz_auto::AutoReport;
+use hz_io::page::{Page, add, add_all, end_line};
 use hz_io::{Failed, Sink};
 use hz_regexp::Name;
 use itoa::Buffer;
@@ -109,6 +110,55 @@ pub fn add_map<S: Sink>(out: &mut S, page: &mut Page, columns: &[u32]) -> Result
     add(out, page, b"map")?;
     add_numbers(out, page, columns)?;
     end_line(out, page)
+}
+
+/// Adds a name behind a space.
+fn add_name<S: Sink>(out: &mut S, page: &mut Page, name: &Name) -> Result<(), Failed>
+    requires { S.faults out.old < 2 ^ 64 - 1 }
+    ensures { Adds S.written S.room S.faults out.old out.new page.old.items page.new.items (spaced name.now) result }
+{
+    add_all(out, page, &[b" ", name.bytes()])
+}
+
+/// Adds names, each behind a space.
+fn add_names<S: Sink>(out: &mut S, page: &mut Page, names: &[Name]) -> Result<(), Failed>
+    requires { S.faults out.old < 2 ^ 64 - 1 }
+    ensures { Adds S.written S.room S.faults out.old out.new page.old.items page.new.items (flat_map spaced names.now) result }
+{
+    for name in names {
+        match add_name(out, page, name) {
+            Ok(()) => {}
+            Err(failed) => return Err(failed),
+        }
+    }
+    Ok(())
+}
+
+/// Adds the line of the names of asks.
+fn add_asked<S: Sink>(out: &mut S, page: &mut Page, asks: &[Name]) -> Result<(), Failed>
+    requires { S.faults out.old < 2 ^ 64 - 1 }
+    ensures { Adds S.written S.room S.faults out.old out.new page.old.items page.new.items (line_text (codes "asks" ∷ asks.now)) result }
+{
+    add(out, page, b"asks")?;
+    add_names(out, page, asks)?;
+    end_line(out, page)
+}
+
+/// Adds the line of asks, where the text has such lines.
+pub fn add_asks<S: Sink>(
+    out: &mut S,
+    page: &mut Page,
+    asked: bool,
+    asks: &[Name],
+) -> Result<(), Failed>
+    requires { S.faults out.old < 2 ^ 64 - 1 }
+    ensures { Adds S.written S.room S.faults out.old out.new page.old.items page.new.items (flat_map line_text (asks_lines asked asks.now)) result }
+{
+    if asked {
+        add_asked(out, page, asks)
+    } else {
+        Ok(())
+    }
 }
 
 /// Adds the line of counts.

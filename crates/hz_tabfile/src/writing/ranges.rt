@@ -45,6 +45,15 @@ fn is_table(table: &Table)
     let _states = table.states();
 }
 
+/// Asks have names.
+fn are_asked(parts: &[Part])
+    ensures { All (λ part. All (λ name. IsTrue (is_name name)) part.asks.items) parts.now }
+{
+    for part in parts {
+        are_names(&part.asks);
+    }
+}
+
 /// Parts have names.
 fn are_named(parts: &[Part])
     ensures { All (λ part. IsTrue (is_name part.name)) parts.now }
@@ -123,6 +132,7 @@ pub fn is_in_range(compiled: &Compiled, checked: &Checked)
 {
     are_names(&compiled.machine.classes);
     are_named(&compiled.machine.parts);
+    are_asked(&compiled.machine.parts);
     are_tables(&compiled.machine.parts);
     are_units(&checked.automata);
     are_counted(&compiled.reports);

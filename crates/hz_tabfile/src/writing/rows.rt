@@ -3,19 +3,21 @@
 ghost use Rattle.std.specs.Prelude.{◌≡◌, ◌-◌, ◌^◌, ◌<◌, ◌≤◌, map, length};
 ghost use Rattle.std.specs.List.{flat_map, enumerate_from};
 ghost use Rattle.std.specs.Option.{option_map};
-ghost use Rattle.hz_base_model.specs.Limits.{class_limit};
+ghost use Rattle.hz_automata_model.specs.Tables.AskColumns.{column_limit};
 ghost use Rattle.hz_automata_model.specs.Tables.Tables.{IsTable, row_of};
+ghost use Rattle.hz_automata_model.specs.Tables.Machines.{advance_of};
 ghost use Rattle.hz_tables.specs.Parts.{rows_of, columns_of, part_of};
 ghost use Rattle.hz_tabtext_model.specs.Texts.{line_text, entry_field, entries_line, row_lines};
 ghost use Rattle.hz_tabtext_model.specs.Said.{row_said};
 ghost use Rattle.hz_auto.specs.Reports.{shown_of};
-ghost use Rattle.hz_tabfile.specs.Pages.{Adds, spaced};
+ghost use Rattle.hz_io.specs.Pages.{Adds};
+ghost use Rattle.hz_tabfile.specs.Spaced.{spaced};
 ghost use Rattle.hz_tabfile.specs.Saying.{IsWritable};
 
 use crate::writing::lines::add_entry;
-use crate::writing::page::{Page, add, end_line};
 use crate::writing::shown::add_shown;
 use hz_auto::AutoReport;
+use hz_io::page::{Page, add, end_line};
 use hz_io::{Failed, Sink};
 use hz_regexp::Name;
 use hz_tables::{Part, Steps, Table};
@@ -35,7 +37,7 @@ fn add_entries<S: Sink, L: Ledger>(
     requires parts { blank.parts ≡ L.parts }
     requires some { 0 < blank.parts }
     requires table { IsTable (rows_of table.now) (columns_of table.now) }
-    requires columns { columns_of table.now ≤ class_limit }
+    requires columns { columns_of table.now ≤ column_limit }
     requires state { state < length (rows_of table.now) }
     ensures { Adds S.written S.room S.faults out.old out.new page.old.items page.new.items (flat_map (λ entry. spaced (entry_field entry)) (row_of (rows_of table.now) state)) result }
 {
@@ -53,13 +55,21 @@ fn add_entries<S: Sink, L: Ledger>(
 fn add_row<S: Sink>(out: &mut S, page: &mut Page, table: &Table, state: u32) -> Result<(), Failed>
     requires faults { S.faults out.old < 2 ^ 64 - 1 }
     requires table { IsTable (rows_of table.now) (columns_of table.now) }
-    requires columns { columns_of table.now ≤ class_limit }
+    requires columns { columns_of table.now ≤ column_limit }
     requires state { state < length (rows_of table.now) }
     ensures { Adds S.written S.room S.faults out.old out.new page.old.items page.new.items (line_text (entries_line (row_of (rows_of table.now) state))) result }
 {
     add(out, page, b"row")?;
     add_entries::<S, Brand>(out, page, table, state, Blank::new(1))?;
     end_line(out, page)
+}
+
+/// The columns of a table are those of the classes of its part and those of the asks. It does nothing.
+pub fn all_columns(part: &Part)
+    requires { IsTable (part_of part.now).rows (advance_of (part_of part.now)) }
+    ensures { advance_of (part_of part.now) ≡ columns_of part.now.table }
+{
+    part.table.wide();
 }
 
 /// Adds the lines of a state.
@@ -76,6 +86,7 @@ fn add_state<S: Sink>(
     requires state { state < length (rows_of part.now.table) }
     ensures { Adds S.written S.room S.faults out.old out.new page.old.items page.new.items (flat_map line_text (row_lines (row_said units.now (option_map shown_of report.now.shown) (state, row_of (rows_of part.now.table) state)))) result }
 {
+    all_columns(part);
     add_row(out, page, &part.table, state)?;
     match &report.shown {
         Some(shown) => add_shown(out, page, state, shown, units),

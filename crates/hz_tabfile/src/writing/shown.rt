@@ -7,11 +7,12 @@ ghost use Rattle.hz_grid.specs.Rows.{has_unit};
 ghost use Rattle.hz_tabtext_model.specs.Texts.{line_text, origin_line, pair_field, grid_line, shown_lines};
 ghost use Rattle.hz_tabtext_model.specs.Said.{named_grid, origin_said, shown_said};
 ghost use Rattle.hz_auto.specs.Reports.{shown_of};
-ghost use Rattle.hz_tabfile.specs.Pages.{Adds, spaced, unit_text, pairs_text};
+ghost use Rattle.hz_io.specs.Pages.{Adds};
+ghost use Rattle.hz_tabfile.specs.Spaced.{spaced, unit_text, pairs_text};
 
-use crate::writing::page::{Page, add, add_all, end_line};
 use hz_auto::Shown;
 use hz_grid::{Grid, Row};
+use hz_io::page::{Page, add, add_all, end_line};
 use hz_io::{Failed, Sink};
 use hz_regexp::Name;
 use itoa::Buffer;

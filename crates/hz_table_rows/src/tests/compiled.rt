@@ -3,6 +3,7 @@
 ghost use Rattle.std.specs.Prelude.{◌<◌, ◌^◌, length};
 
 use super::checked_of;
+use super::reading::is_part;
 use hz_auto::{AutoFault, Compiled, Kind, compile};
 use hz_tables::Table;
 use std::alloc::Global;
@@ -20,14 +21,20 @@ fn compiled_of(rt: &impl Abort, alloc: Global, text: &[u8]) -> Option<Compiled> 
 const LATE: &str =
     "(define_cpu_unit \"a\")(define_insn_reservation \"x\" 1 (const_int 1) \"nothing,a\")";
 
+/// The same unit, asked for: states that differ in it alone stay apart.
+const ASKED: &str =
+    "(define_query_cpu_unit \"a\")(define_insn_reservation \"x\" 1 (const_int 1) \"nothing,a\")";
+
 /// A class of one of two units, and one of the first alone.
 const EITHER: &str =
     "(define_cpu_unit \"a,b\")(define_insn_reservation \"x\" 1 (const_int 1) \"a|b\")(define_insn_reservation \"y\" 1 (const_int 1) \"a\")";
 
 /// Descriptions with options: the states of the table, and what is told of grids, states and members.
-const ROWS: [(&str, &str, u32, (u32, u32, u32)); 6] = [
+const ROWS: [(&str, &str, u32, (u32, u32, u32)); 8] = [
     (LATE, "v", 2, (4, 4, 4)),
     (LATE, "no-minimization", 4, (4, 4, 4)),
+    (ASKED, "v", 4, (4, 4, 4)),
+    (ASKED, "no-minimization", 4, (4, 4, 4)),
     (EITHER, "stats", 3, (3, 3, 3)),
     (EITHER, "ndfa", 4, (4, 4, 5)),
     (EITHER, "v,no-minimization", 3, (3, 3, 3)),
@@ -48,6 +55,27 @@ fn tables_are_minimised_and_counts_are_not(rt: HostRuntime) -> Result<(), Fail> 
             }
             None => assert!(rt; false),
         }
+    }
+    Ok(())
+}
+
+#[test]
+fn query_units_have_columns(rt: HostRuntime) -> Result<(), Fail> {
+    let alloc = rt.alloc();
+    let rows: [&[Option<u32>]; 4] = [
+        &[Some(1), None, Some(0)],
+        &[None, None, Some(2)],
+        &[Some(3), Some(2), Some(0)],
+        &[None, Some(3), Some(2)],
+    ];
+    match compiled_of(&rt, alloc, ASKED.as_bytes()) {
+        Some(all) => {
+            assert!(rt; all.machine.parts.len() == 1);
+            let part = &all.machine.parts[0];
+            assert!(rt; part.asks.len() == 1 && part.asks[0].bytes() == "a".as_bytes());
+            assert!(rt; is_part(part, &[0], &rows));
+        }
+        None => assert!(rt; false),
     }
     Ok(())
 }
@@ -200,6 +228,16 @@ fn two_automata(alloc: Global, units: u32) -> Result<String, Fail> {
     Ok(text)
 }
 
+/// So many query units that no class takes.
+fn queries(alloc: Global, count: u32) -> Result<String, Fail> {
+    let mut text = String::from_str(alloc, "(define_query_cpu_unit \"q\")")?;
+    for unit in 1..count {
+        let form = format!(in alloc; "(define_query_cpu_unit \"q{unit}\")")?;
+        text.push_str(&form)?;
+    }
+    Ok(text)
+}
+
 /// Why a text has no machine, if it describes one and has none.
 fn fault_of(rt: &impl Abort, alloc: Global, text: &[u8]) -> Result<Option<AutoFault>, Fail> {
     assert!(rt; text.len() < 100_000);
@@ -228,6 +266,12 @@ fn the_first_automaton_past_a_limit_is_told(rt: HostRuntime) -> Result<(), Fail>
         (
             format!(in alloc; "{SHOWN_SETS}{FOURS}")?,
             past(0, Kind::Members),
+        ),
+        // 4,096 states of twelve classes, and 16,384 of fourteen: a column for each query unit, and one for the advance
+        (calendar(alloc, &queries(alloc, 241)?, 12)?, None),
+        (
+            calendar(alloc, &queries(alloc, 242)?, 14)?,
+            past(0, Kind::Cells),
         ),
         (two_automata(alloc, 12)?, None),
         (two_automata(alloc, 13)?, past(1, Kind::Grids)),

@@ -1,5 +1,6 @@
 ghost use Rattle.std.specs.Prelude.{◌≡◌, ◌<◌};
 
+use hz_regexp::Name;
 use hz_tabfile::{TabFault, read_tables};
 use hz_tables::{Machine, Part, Steps, Table};
 use std::alloc::{AllocError, Global};
@@ -76,6 +77,55 @@ const K4: [&str; 21] = [
     "end",
 ];
 
+const K5: [&str; 13] = [
+    "hazard-tables 2",
+    "treatment first",
+    "classes 1",
+    "class x",
+    "automata 1",
+    "automaton - 1 4",
+    "map 0",
+    "asks a",
+    "row 1 - 0",
+    "row - - 2",
+    "row 3 2 0",
+    "row - 3 2",
+    "end",
+];
+
+// Version 2 with no name that is asked for.
+const NO_ASKS: [&str; 11] = [
+    "hazard-tables 2",
+    "treatment first",
+    "classes 1",
+    "class x",
+    "automata 1",
+    "automaton - 1 2",
+    "map 0",
+    "asks",
+    "row 1 0",
+    "row - 0",
+    "end",
+];
+
+// Version 2 with two automata.
+const TWO: [&str; 14] = [
+    "hazard-tables 2",
+    "treatment first",
+    "classes 0",
+    "automata 2",
+    "automaton p 0 1",
+    "map",
+    "asks a b",
+    "row - 0 0",
+    "automaton q 0 1",
+    "map",
+    "asks c",
+    "stats 1 1 1",
+    "row 0 0",
+    "end",
+];
+
 // The text of lines, each with its line feed, of which the one of this number is another.
 fn with_line(
     alloc: Global,
@@ -136,21 +186,36 @@ fn has_rows<L: Ledger>(table: &Table, rows: &[&[Option<u32>]], blank: Blank) -> 
 }
 
 // Whether a part has this map and these rows.
-fn is_part(part: &Part, map: &[u32], rows: &[&[Option<u32>]]) -> bool {
+pub(super) fn is_part(part: &Part, map: &[u32], rows: &[&[Option<u32>]]) -> bool {
     part.map.as_slice() == map && has_rows::<Brand>(&part.table, rows, Blank::new(1))
 }
 
-// Whether a machine has these classes and one nameless part, with this map and these rows.
-fn is_machine(machine: &Machine, classes: &[&str], map: &[u32], rows: &[&[Option<u32>]]) -> bool {
-    if machine.classes.len() != classes.len() || machine.parts.len() != 1 {
+// Whether names are these.
+fn are_names(names: &[Name], wanted: &[&str]) -> bool {
+    if names.len() != wanted.len() {
         return false;
     }
-    for (class, name) in machine.classes.iter().zip(classes) {
-        if class.bytes() != name.as_bytes() {
+    for (name, word) in names.iter().zip(wanted) {
+        if name.bytes() != word.as_bytes() {
             return false;
         }
     }
-    machine.parts[0].name.bytes() == "-".as_bytes() && is_part(&machine.parts[0], map, rows)
+    true
+}
+
+// Whether a machine has these classes and one nameless part, with this map, these asks and these rows.
+fn is_machine(
+    machine: &Machine,
+    classes: &[&str],
+    map: &[u32],
+    asks: &[&str],
+    rows: &[&[Option<u32>]],
+) -> bool {
+    machine.parts.len() == 1
+        && are_names(&machine.classes, classes)
+        && machine.parts[0].name.bytes() == "-".as_bytes()
+        && are_names(&machine.parts[0].asks, asks)
+        && is_part(&machine.parts[0], map, rows)
 }
 
 // Whether lines are read as such a machine.
@@ -159,6 +224,7 @@ fn is_read(
     lines: &[&str],
     classes: &[&str],
     map: &[u32],
+    asks: &[&str],
     rows: &[&[Option<u32>]],
 ) -> Result<bool, AllocError> {
     let text = text_of(alloc, lines)?;
@@ -166,7 +232,7 @@ fn is_read(
         return Ok(false);
     }
     match read_tables(alloc, &text) {
-        Ok(machine) => Ok(is_machine(&machine, classes, map, rows)),
+        Ok(machine) => Ok(is_machine(&machine, classes, map, asks, rows)),
         Err(_) => Ok(false),
     }
 }
@@ -192,10 +258,18 @@ fn worked_tables_are_read(rt: HostRuntime) -> Result<(), Fail> {
         &[Some(3), Some(0)],
         &[None, Some(2)],
     ];
-    assert!(rt; is_read(alloc, &K1, &["x", "y"], &[0, 1], &first)?);
-    assert!(rt; is_read(alloc, &K2, &["x", "y"], &[0, 1], &ndfa)?);
-    assert!(rt; is_read(alloc, &K3, &["x"], &[0], &least)?);
-    assert!(rt; is_read(alloc, &K4, &["x"], &[0], &shown)?);
+    let asked: [&[Option<u32>]; 4] = [
+        &[Some(1), None, Some(0)],
+        &[None, None, Some(2)],
+        &[Some(3), Some(2), Some(0)],
+        &[None, Some(3), Some(2)],
+    ];
+    assert!(rt; is_read(alloc, &K1, &["x", "y"], &[0, 1], &[], &first)?);
+    assert!(rt; is_read(alloc, &K2, &["x", "y"], &[0, 1], &[], &ndfa)?);
+    assert!(rt; is_read(alloc, &K3, &["x"], &[0], &[], &least)?);
+    assert!(rt; is_read(alloc, &K4, &["x"], &[0], &[], &shown)?);
+    assert!(rt; is_read(alloc, &K5, &["x"], &[0], &["a"], &asked)?);
+    assert!(rt; is_read(alloc, &NO_ASKS, &["x"], &[0], &[], &least)?);
     Ok(())
 }
 
@@ -347,6 +421,56 @@ const K4_LINES: [Row; 33] = [
     (21, "grid 0:a", Some(TabFault::Truncated { line: 22 })),
 ];
 
+const K5_LINES: [Row; 29] = [
+    (1, "hazard-tables 1", Some(TabFault::BadLine { line: 8 })),
+    (1, "hazard-tables 3", Some(TabFault::BadHeader { line: 1 })),
+    (1, "hazard-tables 2 ", Some(TabFault::BadHeader { line: 1 })),
+    (
+        6,
+        "automaton - 1 3",
+        Some(TabFault::OutOfRange { line: 11 }),
+    ),
+    (7, "asks a", Some(TabFault::BadLine { line: 7 })),
+    (8, "asks", Some(TabFault::BadLine { line: 9 })),
+    (8, "asks a b", Some(TabFault::BadLine { line: 9 })),
+    (8, "asks a a", Some(TabFault::BadLine { line: 8 })),
+    (8, "asks a,b", Some(TabFault::BadLine { line: 8 })),
+    (8, "asks a ", Some(TabFault::BadLine { line: 8 })),
+    (8, "asks  a", Some(TabFault::BadLine { line: 8 })),
+    (8, "ask a", Some(TabFault::BadLine { line: 8 })),
+    (8, "row 1 - 0", Some(TabFault::BadLine { line: 8 })),
+    (8, "asks x", None),
+    (8, "asks a\nstats 4 4 4", None),
+    (
+        8,
+        "stats 4 4 4\nasks a",
+        Some(TabFault::BadLine { line: 8 }),
+    ),
+    (9, "row 1 0 0", None),
+    (9, "row 1 1 0", Some(TabFault::OutOfRange { line: 9 })),
+    (9, "row 1 4 0", Some(TabFault::OutOfRange { line: 9 })),
+    (9, "row 1 00 0", Some(TabFault::BadNumber { line: 9 })),
+    (9, "row 1 x 0", Some(TabFault::BadNumber { line: 9 })),
+    (9, "row 4 x 0", Some(TabFault::OutOfRange { line: 9 })),
+    (9, "row 1 1 -", Some(TabFault::OutOfRange { line: 9 })),
+    (9, "row 1 0 -", Some(TabFault::BadNumber { line: 9 })),
+    (9, "row 1 0", Some(TabFault::BadLine { line: 9 })),
+    (9, "row 1 - - 0", Some(TabFault::BadLine { line: 9 })),
+    (12, "row - - 3", None),
+    (12, "row - 2 2", Some(TabFault::OutOfRange { line: 12 })),
+    (13, "end\n", Some(TabFault::Trailing { line: 14 })),
+];
+
+const TWO_LINES: [Row; 7] = [
+    (7, "asks a b", None),
+    (7, "asks a c", Some(TabFault::BadLine { line: 11 })),
+    (11, "asks b", Some(TabFault::BadLine { line: 11 })),
+    (11, "asks", Some(TabFault::BadLine { line: 13 })),
+    (11, "stats 1 1 1", Some(TabFault::BadLine { line: 11 })),
+    (11, "asks p", None),
+    (1, "hazard-tables 1", Some(TabFault::BadLine { line: 7 })),
+];
+
 // Each row of a table holds.
 fn rows_hold(
     rt: &impl Abort,
@@ -366,6 +490,8 @@ fn each_fault_stands_at_its_line(rt: HostRuntime) -> Result<(), Fail> {
     let alloc = rt.alloc();
     rows_hold(&rt, alloc, &K1, &K1_LINES)?;
     rows_hold(&rt, alloc, &K4, &K4_LINES)?;
+    rows_hold(&rt, alloc, &K5, &K5_LINES)?;
+    rows_hold(&rt, alloc, &TWO, &TWO_LINES)?;
     Ok(())
 }
 
@@ -416,6 +542,39 @@ fn cells_have_a_limit(rt: HostRuntime) -> Result<(), Fail> {
     assert!(rt; fault_of(alloc, &many) == Some(TabFault::OutOfRange { line: 1029 }));
     let one = front_of(alloc, 0, 0, 1)?;
     assert!(rt; fault_of(alloc, &one) == Some(TabFault::Truncated { line: 7 }));
+    Ok(())
+}
+
+// A text of so many states and no class up to the line of so many asks, and then this name.
+fn asks_of(alloc: Global, states: u32, asks: u32, last: &str) -> Result<Vec<u8>, Fail> {
+    let mut text = Vec::new(alloc);
+    text.extend_from_slice(format!(in alloc;
+        "hazard-tables 2\ntreatment first\nclasses 0\nautomata 1\nautomaton a 0 {states}\nmap\nasks"
+    )?.as_bytes())?;
+    for ask in 0..asks {
+        text.extend_from_slice(format!(in alloc; " u{ask}")?.as_bytes())?;
+    }
+    text.extend_from_slice(format!(in alloc; " {last}\n")?.as_bytes())?;
+    Ok(text)
+}
+
+#[test]
+fn asks_have_a_limit(rt: HostRuntime) -> Result<(), Fail> {
+    let alloc = rt.alloc();
+    let most = asks_of(alloc, 1, 255, "v")?;
+    assert!(rt; fault_of(alloc, &most) == Some(TabFault::Truncated { line: 8 }));
+    let wrong = asks_of(alloc, 1, 255, "u0")?;
+    assert!(rt; fault_of(alloc, &wrong) == Some(TabFault::BadLine { line: 7 }));
+    let more = asks_of(alloc, 1, 256, "v")?;
+    assert!(rt; fault_of(alloc, &more) == Some(TabFault::OutOfRange { line: 7 }));
+    let more = asks_of(alloc, 1, 256, "u0")?;
+    assert!(rt; fault_of(alloc, &more) == Some(TabFault::BadLine { line: 7 }));
+    let full = asks_of(alloc, 65_536, 62, "v")?;
+    assert!(rt; fault_of(alloc, &full) == Some(TabFault::Truncated { line: 8 }));
+    let over = asks_of(alloc, 65_536, 63, "v")?;
+    assert!(rt; fault_of(alloc, &over) == Some(TabFault::OutOfRange { line: 7 }));
+    let over = asks_of(alloc, 65_536, 63, "(")?;
+    assert!(rt; fault_of(alloc, &over) == Some(TabFault::BadLine { line: 7 }));
     Ok(())
 }
 

@@ -60,12 +60,16 @@ fn text_of(
 const LATE: &str =
     "(define_cpu_unit \"a\")(define_insn_reservation \"x\" 1 (const_int 1) \"nothing,a\")";
 
+/// The same, of a query unit.
+const ASKED: &str =
+    "(define_query_cpu_unit \"a\")(define_insn_reservation \"x\" 1 (const_int 1) \"nothing,a\")";
+
 /// A class of one of two units, and one of the first alone.
 const EITHER: &str =
     "(define_cpu_unit \"a,b\")(define_insn_reservation \"x\" 1 (const_int 1) \"a|b\")(define_insn_reservation \"y\" 1 (const_int 1) \"a\")";
 
 /// Descriptions with options, and their texts.
-const ROWS: [(&str, &str, &str); 4] = [
+const ROWS: [(&str, &str, &str); 6] = [
     (
         EITHER,
         "w",
@@ -85,6 +89,16 @@ const ROWS: [(&str, &str, &str); 4] = [
         LATE,
         "stats,v,no-minimization",
         "hazard-tables 1\ntreatment first\nclasses 1\nclass x\nautomata 1\nautomaton - 1 4\nmap 0\nstats 4 4 4\nrow 1 0\nfrom -\ngrid\nrow - 2\nfrom 0 0\ngrid 1:a\nrow 3 0\nfrom 1 1\ngrid 0:a\nrow - 2\nfrom 2 0\ngrid 0:a 1:a\nend\n",
+    ),
+    (
+        ASKED,
+        "w",
+        "hazard-tables 2\ntreatment first\nclasses 1\nclass x\nautomata 1\nautomaton - 1 4\nmap 0\nasks a\nrow 1 - 0\nrow - - 2\nrow 3 2 0\nrow - 3 2\nend\n",
+    ),
+    (
+        ASKED,
+        "stats,v,no-minimization",
+        "hazard-tables 2\ntreatment first\nclasses 1\nclass x\nautomata 1\nautomaton - 1 4\nmap 0\nasks a\nstats 4 4 4\nrow 1 - 0\nfrom -\ngrid\nrow - - 2\nfrom 0 0\ngrid 1:a\nrow 3 2 0\nfrom 1 1\ngrid 0:a\nrow - 3 2\nfrom 2 0\ngrid 0:a 1:a\nend\n",
     ),
 ];
 

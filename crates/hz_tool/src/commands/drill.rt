@@ -62,13 +62,13 @@ fn drilled_on<L: Ledger>(
     Ok(Drilled { events, states })
 }
 
-/// 1 for an issue, and 0 for an advance.
+/// 1 for an issue, and 0 for advances and asks.
 fn issues_at(what: What) -> u64
     ensures { result ≡ issues_in (event_of what) }
 {
     match what {
         What::Issue(_) => 1,
-        What::Advance(_) => 0,
+        What::Advance(_) | What::Ask { .. } => 0,
     }
 }
 

@@ -42,7 +42,7 @@ pub fn judge_walk<'a>(
     ensures answer { Agrees (HasTables order.now.tables.now tabled.now (WalksTrace order.now.trace.now trace.now)) result }
 {
     match judge_tables(alloc, order.tables, tabled) {
-        Ok(machine) => decide_trace(alloc, order.trace, &machine, trace),
+        Ok(machine) => decide_trace(alloc, order.trace, machine, trace),
         Err(decision) => decision,
     }
 }

@@ -19,6 +19,8 @@ ghost use Rattle.hz_answer_model.specs.Phases.{TellsFault};
 ghost use Rattle.hz_base_model.specs.Forms.Forms.{form_word};
 ghost use Rattle.hz_block_model.specs.Texts.Operands.{rtl_word};
 ghost use Rattle.hz_acceptance_model.specs.Traces.Traces.{TraceFaultAt, trace_word};
+ghost use Rattle.hz_automata_model.specs.Tables.MachineNames.{names_of_machine};
+ghost use Rattle.hz_tables.specs.Machines.{machine_of};
 ghost use Rattle.hz_tool.specs.Decisions.{Agrees, IsJudged};
 ghost use Rattle.hz_replay.specs.Traces.{events_in, lines_in};
 ghost use Rattle.hz_block_model.specs.Running.Limits.{instruction_limit};
@@ -108,7 +110,7 @@ pub fn judge_state<'a>(alloc: Global, file: &'a str, read: &[Form]) -> Result<St
     }
 }
 
-/// The events of a trace over the classes of a machine, or what is decided of its first wrong line.
+/// The events of a trace over the names of a machine, or what is decided of its first wrong line.
 pub fn judge_trace<'a>(
     alloc: Global,
     file: &'a str,
@@ -116,10 +118,10 @@ pub fn judge_trace<'a>(
     text: &[u8],
 ) -> Result<Vec<Event>, Decision<'a>>
     requires { length text.now < 2 ^ 32 }
-    ensures ok { IfOk result (λ events. Trace machine.now.classes.items text.now (events_in events.items)) }
-    ensures lines { IfOk result (λ events. lines_in events.items ≡ event_lines machine.now.classes.items 1 (lines_of text.now)) }
+    ensures ok { IfOk result (λ events. Trace (names_of_machine (machine_of machine.now)) text.now (events_in events.items)) }
+    ensures lines { IfOk result (λ events. lines_in events.items ≡ event_lines (names_of_machine (machine_of machine.now)) 1 (lines_of text.now)) }
     ensures kind { IfErr result IsJudged }
-    ensures err { IfErr result (Agrees (TellsFault trace_word (TraceFaultAt machine.now.classes.items text.now) file.entry.now)) }
+    ensures err { IfErr result (Agrees (TellsFault trace_word (TraceFaultAt (names_of_machine (machine_of machine.now)) text.now) file.entry.now)) }
 {
     match read_trace(alloc, text, machine) {
         Ok(events) => Ok(events),

@@ -148,13 +148,3 @@ pub fn decide_states<'a>(file: &'a str, copied: Result<Name, NoMemory>) -> Decis
         Err(_) => Decision::Memory,
     }
 }
-
-/// What is decided of an issue that does not fit, by its line and the copy of its class's name.
-pub fn refused_at<'a>(line: u32, copied: Result<Name, NoMemory>) -> Decision<'a>
-    ensures { result ≡ telling.refused_at line copied }
-{
-    match copied {
-        Ok(class) => Decision::Refused { line, class },
-        Err(_) => Decision::Memory,
-    }
-}

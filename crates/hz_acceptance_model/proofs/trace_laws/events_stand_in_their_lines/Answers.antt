@@ -6,4 +6,4 @@ pub returns-clause-says : goal.returns-clause-says
 returns-clause-says c = event_in_line
 
 pub returns-clause-ascend : goal.returns-clause-ascend
-returns-clause-ascend c = λ classes text. lines_ascend classes 1 (lines_of text)
+returns-clause-ascend c = λ names text. lines_ascend names 1 (lines_of text)

@@ -5,4 +5,4 @@ pub returns-clause-events : goal.returns-clause-events
 returns-clause-events c = one_trace
 
 pub returns-clause-lines : goal.returns-clause-lines
-returns-clause-lines c = λ classes text events h. counted_lines classes 1 h.lines
+returns-clause-lines c = λ names text events h. counted_lines names 1 h.lines

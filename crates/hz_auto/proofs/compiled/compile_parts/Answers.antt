@@ -1,9 +1,9 @@
-use Rattle.std.proofs.Common.{All, length, sym, subst, arith}
+use Rattle.std.proofs.Common.{rules, All, length, sym, subst, arith}
 use Rattle.std.proofs.lemmas.List.Elements.{All-push}
 use Rattle.hz_automata_model.specs.Tables.Machines.{IsPart}
 use Rattle.hz_tables.specs.Parts.{part_of}
 use Rattle.hz_auto.specs.Parts.{IsKept}
-use Rattle.hz_auto.proofs.MachineLemmas.{fault_told, compiled_more}
+use Rattle.hz_auto.proofs.MachineLemmas.{fault_told, compiled_more, asks_told}
 use Rattle.hz_auto.proofs.compiled.compile_parts.Goals as goal
 
 pub returns-in-Err-clause-fault : goal.returns-in-Err-clause-fault
@@ -15,3 +15,6 @@ loop-automaton-preserved c = record {
   kept = subst (All (λ part. IsPart (length c.args.checked.now.classes.items) (part_of part))) (sym c.in-Ok-add.ensures.parts) (All-push (λ part. IsPart (length c.args.checked.now.classes.items) (part_of part)) c.loop-automaton.all.parts.items c.in-Ok.compiled.part c.loop-automaton.invariant.kept c.in-Ok.ensures.kept);
   forms = subst (All (λ part. IsKept c.args.checked.now.options.no_comb_vect part.table)) (sym c.in-Ok-add.ensures.parts) (All-push (λ part. IsKept c.args.checked.now.options.no_comb_vect part.table) c.loop-automaton.all.parts.items c.in-Ok.compiled.part c.loop-automaton.invariant.forms c.in-Ok.ensures.form);
 }
+
+pub returns-clause-asks : goal.returns-clause-asks
+returns-clause-asks c = asks_told c.args.checked.now c.loop-automaton.all.parts.items c.loop-automaton.all.reports.items (search rules)

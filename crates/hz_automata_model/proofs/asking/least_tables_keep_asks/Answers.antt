@@ -8,4 +8,4 @@ pub returns-clause-tells : goal.returns-clause-tells
 returns-clause-tells c table asked least columns asks marks is has same = tells_marks table asked columns asks marks is has least same
 
 pub returns-clause-stays : goal.returns-clause-stays
-returns-clause-stays c table asked least columns asks marks is has same normal = least_stays table asked columns asks marks is has least same normal
+returns-clause-stays c first least columns asks whole stay same normal = least_stays first least columns asks whole stay same normal

@@ -14,19 +14,19 @@ pub duo-requires-clause-settles : goal.duo-requires-clause-settles
 duo-requires-clause-settles c =
     let checked = c.args.checked.now in
     let all = c.in_ok-compiled.compiled in
-    machine_settles (options_of checked.options) (map automaton_of checked.automata.items) (map class_of checked.classes.items) (map bypass_of checked.bypasses.items) (map attribute_of checked.attributes.items) checked.kept (machine_of all.machine) (reports_of all.reports.items) all.machine.kept c.in_ok-compiled.ensures.compiled
+    machine_settles (options_of checked.options) (map automaton_of checked.automata.items) (map class_of checked.classes.items) (map bypass_of checked.bypasses.items) (map attribute_of checked.attributes.items) checked.kept checked.asks (machine_of all.machine) (reports_of all.reports.items) all.machine.kept c.in_ok-compiled.ensures.compiled
 
 pub schedule-requires-clause-settles : goal.schedule-requires-clause-settles
 schedule-requires-clause-settles c =
     let checked = c.args.checked.now in
     let all = c.in_ok-compiled.compiled in
-    machine_settles (options_of checked.options) (map automaton_of checked.automata.items) (map class_of checked.classes.items) (map bypass_of checked.bypasses.items) (map attribute_of checked.attributes.items) checked.kept (machine_of all.machine) (reports_of all.reports.items) all.machine.kept c.in_ok-compiled.ensures.compiled
+    machine_settles (options_of checked.options) (map automaton_of checked.automata.items) (map class_of checked.classes.items) (map bypass_of checked.bypasses.items) (map attribute_of checked.attributes.items) checked.kept checked.asks (machine_of all.machine) (reports_of all.reports.items) all.machine.kept c.in_ok-compiled.ensures.compiled
 
 pub schedule-requires-2-clause-settles : goal.schedule-requires-2-clause-settles
 schedule-requires-2-clause-settles c =
     let checked = c.args.checked.now in
     let all = c.in_ok-compiled.compiled in
-    machine_settles (options_of checked.options) (map automaton_of checked.automata.items) (map class_of checked.classes.items) (map bypass_of checked.bypasses.items) (map attribute_of checked.attributes.items) checked.kept (machine_of all.machine) (reports_of all.reports.items) all.machine.kept c.in_ok-compiled.ensures.compiled
+    machine_settles (options_of checked.options) (map automaton_of checked.automata.items) (map class_of checked.classes.items) (map bypass_of checked.bypasses.items) (map attribute_of checked.attributes.items) checked.kept checked.asks (machine_of all.machine) (reports_of all.reports.items) all.machine.kept c.in_ok-compiled.ensures.compiled
 
 pub write_duo-requires-clause-range : goal.write_duo-requires-clause-range
 write_duo-requires-clause-range c =

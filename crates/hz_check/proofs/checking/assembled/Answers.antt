@@ -1,4 +1,4 @@
-use Rattle.std.proofs.Common.{◌≡◌, length, map, refl, sym, ap, ◌∙◌, arith}
+use Rattle.std.proofs.Common.{◌≡◌, length, map, refl, sym, ap, ◌∙◌, subst, arith}
 use Rattle.std.proofs.lemmas.List.{length-map}
 use Rattle.hz_altern.specs.Shapes.{alternatives}
 use Rattle.hz_mdread.specs.Shape.{description, class_item, attribute_item}
@@ -6,6 +6,8 @@ use Rattle.hz_check.specs.Shape.{automaton_of}
 use Rattle.hz_check.proofs.Lists.Next.{map-map}
 use Rattle.hz_check.proofs.Built.PartSteps.{length-automata, kept_of}
 use Rattle.hz_description_model.proofs.Check.KeptLaws.{parts_kept}
+use Rattle.hz_description_model.proofs.Check.QueryLaws.{asks_nothing}
+use Rattle.hz_description_model.specs.Check.CheckedShape.{AskNothingUnderNdfa}
 use Rattle.hz_description_model.specs.Reservations.Alternatives.{alternatives_of}
 use Rattle.hz_description_model.specs.Reservations.Automata.{listed}
 use Rattle.hz_description_model.specs.Check.CheckedParts.{automaton_count}
@@ -44,6 +46,7 @@ invariant_of-result c =
       kept = kept_of d known (parts_kept d known c.requires.formed c.requires.parts.sound) _ _ _ _ c.requires.parts.automata
           (c.in_ok-classes.ensures d known counted (ap (map (λ list. alternatives list.items)) c.deref.ensures.value ∙ c.requires.parts.lists))
           c.requires.parts.bypasses (c.in_ok-attributes.ensures.values ∙ sym (map-map (λ a. (a.name, a.values)) attribute_item c.args.desc.attributes.items));
+      asks = subst (AskNothingUnderNdfa c.args.desc.options.ndfa) (sym c.requires.parts.automata) (asks_nothing d known c.requires.parts.sound);
     }
 
 pub returns : goal.returns

@@ -24,7 +24,7 @@ returns-clause-ok c =
         unfolded = all.1;
         free = (behind d all.0 (reservings d c.args.order.now) c.in-Ok.ensures.within
             (skip (lists.extents.few all.0 right) (skip (lists.extents.short all.0 right) (skip (lists.expanded.within all.0 right)
-            (skip (lists.rules.mixed all.0 right) (skip (lists.rules.uneven all.0 right) (skip lists.once (record { is = refl })))))))).is;
+            (skip (lists.rules.mixed all.0 right) (skip (lists.rules.uneven all.0 right) (skip lists.once (skip lists.queries (record { is = refl }))))))))).is;
       };
       automata = c.in_ok-assemble.ensures.automata;
       bypasses = c.in_ok-assemble.ensures.bypasses;

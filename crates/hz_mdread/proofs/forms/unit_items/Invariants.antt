@@ -5,4 +5,4 @@ use Rattle.hz_mdread.specs.Shape.{unit_item}
 use Rattle.hz_mdread.proofs.forms.unit_items.Given as goal
 
 abbrev pub invariant-loop-name : goal.invariant-loop-name
-invariant-loop-name l = map unit_item l.items.items ≡ model.unit_items l.place.line l.place.form (option_copied l.automaton) l.yielded
+invariant-loop-name l = map unit_item l.items.items ≡ model.unit_items l.place.line l.place.form l.query (option_copied l.automaton) l.yielded

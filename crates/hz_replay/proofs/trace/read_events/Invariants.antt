@@ -1,7 +1,6 @@
 use Rattle.std.proofs.Common.{◌≡◌, ◌+◌, ◌-◌, ◌≤◌, [], length, drop}
 use Rattle.hz_acceptance_model.specs.Traces.TraceLimits.{advance_limit}
 use Rattle.hz_base_model.specs.Lines.{lines_of}
-use Rattle.hz_replay.specs.Names.{names_in}
 use Rattle.hz_replay.specs.Traces.{placed_in}
 use Rattle.hz_replay.proofs.TraceLemmas.{trace_from}
 use Rattle.hz_replay.proofs.trace.read_events.Given as goal
@@ -9,8 +8,8 @@ use Rattle.hz_replay.proofs.trace.read_events.Given as goal
 -- the events so far, with those of the rest, are those of the text
 abbrev pub invariant-loop-at : goal.invariant-loop-at
 invariant-loop-at l = record {
-  told : trace_from (names_in l.classes.keys) (placed_in l.events.items) l.advanced (l.number + 1) (lines_of (drop l.at l.text)) ≡ trace_from (names_in l.classes.keys) [] 0 1 (lines_of l.text);
-  source : l.reading ≡ record { classes = names_in l.classes.keys; text = l.text };
+  told : trace_from l.names (placed_in l.events.items) l.advanced (l.number + 1) (lines_of (drop l.at l.text)) ≡ trace_from l.names [] 0 1 (lines_of l.text);
+  source : l.reading ≡ record { names = l.names; text = l.text };
   low : l.advanced ≤ advance_limit;
   counted : l.number ≤ l.at;
   within : l.at ≤ length l.text + 1;

@@ -15,13 +15,16 @@ use Rattle.hz_sched.proofs.TraceLemmas.{spelled_classes, spelled_short}
 use Rattle.hz_replay.specs.declared.event.Event as trace
 use Rattle.hz_replay.specs.Lines.{event_of}
 use Rattle.hz_replay.specs.Traces.{events_in}
+use Rattle.hz_acceptance_model.specs.Accepting.Asking.{IsOfQuery}
+use Rattle.hz_automata_model.specs.Tables.MachineNames.{names_of_machine}
+use Rattle.hz_sched_rows.proofs.AskLemmas.{spelled_queries}
 use Rattle.hz_sched_rows.proofs.tests.scheduled.Goals as goal
 
 pub schedule-requires-clause-settles : goal.schedule-requires-clause-settles
 schedule-requires-clause-settles c =
     let checked = c.args.checked.now in
     let all = c.in_ok-compiled.compiled in
-    machine_settles (options_of checked.options) (map automaton_of checked.automata.items) (map class_of checked.classes.items) (map bypass_of checked.bypasses.items) (map attribute_of checked.attributes.items) checked.kept (machine_of all.machine) (reports_of all.reports.items) all.machine.kept c.in_ok-compiled.ensures.compiled
+    machine_settles (options_of checked.options) (map automaton_of checked.automata.items) (map class_of checked.classes.items) (map bypass_of checked.bypasses.items) (map attribute_of checked.attributes.items) checked.kept checked.asks (machine_of all.machine) (reports_of all.reports.items) all.machine.kept c.in_ok-compiled.ensures.compiled
 
 -- the events are those of the trace
 pub outcome_of-outcome-requires-clause-classes : goal.outcome_of-outcome-requires-clause-classes
@@ -33,6 +36,12 @@ outcome_of-outcome-requires-clause-classes c =
     let count : classes ≡ length checked.classes.items = ap length (c.in_ok-compiled.ensures.compiled).names ∙ (length-map parts (λ (k : ClassParts). k.name) ∙ length-map checked.classes.items class_of) in
     let schedulable = subst (λ (n : ℕ). IsSchedulable n c.in_ok-graph.graph) (sym count) c.in_ok-graph.ensures.schedulable in
     subst (λ (t : List Event). All (IsOfClass classes) t) (sym (ap events_in c.deref.ensures.value ∙ c.in_ok-events.ensures.spelled)) (spelled_classes classes c.in_ok-graph.graph made.slots.items schedulable c.in-Ok.ensures.places)
+
+pub outcome_of-outcome-requires-clause-asks : goal.outcome_of-outcome-requires-clause-asks
+outcome_of-outcome-requires-clause-asks c =
+    let made = c.in-Ok.made in
+    let queries = (names_of_machine (machine_of c.in_ok-compiled.compiled.machine)).queries in
+    subst (λ (t : List Event). All (IsOfQuery queries) t) (sym (ap events_in c.deref.ensures.value ∙ c.in_ok-events.ensures.spelled)) (spelled_queries queries (graph_of c.in_ok-graph.graph) (slots_of made.slots.items))
 
 pub outcome_of-outcome-requires-clause-short : goal.outcome_of-outcome-requires-clause-short
 outcome_of-outcome-requires-clause-short c =

@@ -1,8 +1,8 @@
 use Rattle.std.proofs.Common.{ℕ, List, subst}
 use Rattle.hz_tabtext_model.specs.Texts.{spelled}
-use Rattle.hz_tabfile.specs.Pages.{Added, Stopped}
+use Rattle.hz_io.specs.Pages.{Added, Stopped}
 use Rattle.hz_tabfile.specs.Saying.{says}
-use Rattle.hz_tabfile.proofs.Adding.{writes_all, none_stopped}
+use Rattle.hz_io.proofs.Adding.{writes_all, none_stopped}
 use Rattle.hz_tabfile.proofs.writing.write_tables.Goals as goal
 
 pub returns-in-Ok-clause-written : goal.returns-in-Ok-clause-written

@@ -5,4 +5,4 @@ use Rattle.hz_tabfile.specs.Rests.{left_of}
 use Rattle.hz_tabfile.proofs.reading.machine.machine_behind.Goals as goal
 
 pub invariant_of-result : goal.invariant_of-result
-invariant_of-result c = record { kept = machine_read (left_of c.args.rest) (record { classes = c.in_ok-classes.classes.items; parts = map part_of c.in_ok-classes.parts.items }) c.in_ok-classes.ensures.read }
+invariant_of-result c = record { kept = machine_read c.args.asked (left_of c.args.rest) (record { classes = c.in_ok-classes.classes.items; parts = map part_of c.in_ok-classes.parts.items }) c.in_ok-classes.ensures.read }

@@ -1,5 +1,5 @@
 use Rattle.std.proofs.Common.{ℕ, List, decimal, subst, ◌∙◌}
-use Rattle.hz_tabfile.specs.Pages.{Adds}
+use Rattle.hz_io.specs.Pages.{Adds}
 use Rattle.hz_tabfile.proofs.LineTexts.{line_one}
 use Rattle.hz_tabfile.proofs.writing.lines.add_count.Goals as goal
 

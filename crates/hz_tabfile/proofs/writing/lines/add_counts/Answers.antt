@@ -1,6 +1,6 @@
 use Rattle.std.proofs.Common.{ℕ, List, Bool, [], ◌∷◌, codes, decimal, sym, subst}
 use Rattle.std.specs.List.{flat_map}
-use Rattle.hz_tabfile.specs.Pages.{Adds}
+use Rattle.hz_io.specs.Pages.{Adds}
 use Rattle.std.specs.Prelude.{Some, None, if◌then◌else◌}
 use Rattle.std.proofs.lemmas.List.{append-nil}
 use Rattle.hz_tabtext_model.specs.Texts.{line_text, counts_lines}

@@ -1,6 +1,6 @@
 use Rattle.std.proofs.Common.{codes, decimal}
 use Rattle.std.proofs.Common.{rules}
-use Rattle.hz_tabfile.proofs.Adding.{adds_failed}
+use Rattle.hz_io.proofs.Adding.{adds_failed}
 use Rattle.hz_tabfile.proofs.LineTexts.{line_word_stopped, line_fields_stopped, line_added}
 use Rattle.hz_tabfile.proofs.writing.lines.add_map.Goals as goal
 

@@ -1,6 +1,6 @@
 use Rattle.std.proofs.Common.{ℕ, decimal, arith}
-use Rattle.hz_tabfile.specs.Pages.{spaced}
-use Rattle.hz_tabfile.proofs.Adding.{each_added, each_stopped, each_done}
+use Rattle.hz_tabfile.specs.Spaced.{spaced}
+use Rattle.hz_io.proofs.Adding.{each_added, each_stopped, each_done}
 use Rattle.hz_tabfile.proofs.writing.lines.add_numbers.Goals as goal
 
 pub loop-number-preserved : goal.loop-number-preserved

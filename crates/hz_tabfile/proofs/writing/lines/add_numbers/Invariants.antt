@@ -1,6 +1,7 @@
 use Rattle.std.proofs.Common.{take, decimal}
 use Rattle.std.specs.List.{flat_map}
-use Rattle.hz_tabfile.specs.Pages.{Added, spaced}
+use Rattle.hz_io.specs.Pages.{Added}
+use Rattle.hz_tabfile.specs.Spaced.{spaced}
 use Rattle.hz_tabfile.proofs.writing.lines.add_numbers.Given as goal
 
 abbrev pub invariant-loop-number : goal.invariant-loop-number

@@ -1,7 +1,7 @@
 use Rattle.std.proofs.Common.{◌<◌, ℕ, List, [], length, ap, sym, ◌∙◌, arith}
 use Rattle.hz_tabtext_model.specs.Texts.{line_text, class_line}
 use Rattle.std.proofs.lemmas.List.{get_or_default}
-use Rattle.hz_tabfile.proofs.Adding.{each_added_as, each_stopped_as, each_done}
+use Rattle.hz_io.proofs.Adding.{each_added_as, each_stopped_as, each_done}
 use Rattle.hz_tabfile.proofs.writing.parts.add_classes.Goals as goal
 
 pub loop-class-preserved : goal.loop-class-preserved

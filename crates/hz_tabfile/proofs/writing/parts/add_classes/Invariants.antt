@@ -1,7 +1,7 @@
 use Rattle.std.proofs.Common.{take}
 use Rattle.std.specs.List.{flat_map}
 use Rattle.hz_tabtext_model.specs.Texts.{line_text, class_line}
-use Rattle.hz_tabfile.specs.Pages.{Added}
+use Rattle.hz_io.specs.Pages.{Added}
 use Rattle.hz_tabfile.proofs.writing.parts.add_classes.Given as goal
 
 abbrev pub invariant-loop-class : goal.invariant-loop-class

@@ -1,6 +1,6 @@
 use Rattle.std.proofs.Common.{◌<◌, length, sym, ap, ◌∙◌, arith}
 use Rattle.std.specs.List.{flat_map}
-use Rattle.hz_tabfile.proofs.Adding.{each_added_as, each_stopped_as, each_done}
+use Rattle.hz_io.proofs.Adding.{each_added_as, each_stopped_as, each_done}
 use Rattle.hz_check.specs.declared.checked.CheckedAutomaton.{CheckedAutomaton}
 use Rattle.hz_tabtext_model.specs.Texts.{PartText, line_text, part_lines}
 use Rattle.hz_tabfile.specs.Saying.{parts_says}
@@ -15,7 +15,7 @@ loop-number-preserved g c =
     let some_a : c.loop-number.number < length c.args.automata.now = omega (arith, low, each) in
     let some_r : c.loop-number.number < length c.args.reports.now = omega (arith, low, told) in
     let inside : c.loop-number.number < length (parts_says c.args.stats c.args.automata.now c.args.reports.now c.args.parts.now) = omega (arith, low, says_length c.args.stats c.args.automata.now c.args.reports.now c.args.parts.now) in
-    each_added_as (λ (part : PartText). flat_map line_text (part_lines part)) (parts_says c.args.stats c.args.automata.now c.args.reports.now c.args.parts.now) c.loop-number.number _ _ inside (ap (λ (part : PartText). flat_map line_text (part_lines part)) (said_there c.args.stats c.args.automata.now c.args.reports.now c.args.parts.now c.loop-number.number c.index-automata-number.result c.index-reports-number.result c.index-parts-number.result c.deref.result.now some_a some_r low c.index-automata-number.is c.index-reports-number.is c.index-parts-number.is (c.deref.ensures.value ∙ ap (λ (a : CheckedAutomaton). a.units.items) (sym c.index-automata-number.is)))) c.loop-number.invariant c.in-Ok.ensures
+    each_added_as (λ (part : PartText). flat_map line_text (part_lines c.args.asked part)) (parts_says c.args.stats c.args.automata.now c.args.reports.now c.args.parts.now) c.loop-number.number _ _ inside (ap (λ (part : PartText). flat_map line_text (part_lines c.args.asked part)) (said_there c.args.stats c.args.automata.now c.args.reports.now c.args.parts.now c.loop-number.number c.index-automata-number.result c.index-reports-number.result c.index-parts-number.result c.deref.result.now some_a some_r low c.index-automata-number.is c.index-reports-number.is c.index-parts-number.is (c.deref.ensures.value ∙ ap (λ (a : CheckedAutomaton). a.units.items) (sym c.index-automata-number.is)))) c.loop-number.invariant c.in-Ok.ensures
 
 pub returns-in-Err : goal.returns-in-Err
 returns-in-Err g c =
@@ -25,10 +25,10 @@ returns-in-Err g c =
     let some_a : c.loop-number.number < length c.args.automata.now = omega (arith, low, each) in
     let some_r : c.loop-number.number < length c.args.reports.now = omega (arith, low, told) in
     let inside : c.loop-number.number < length (parts_says c.args.stats c.args.automata.now c.args.reports.now c.args.parts.now) = omega (arith, low, says_length c.args.stats c.args.automata.now c.args.reports.now c.args.parts.now) in
-    each_stopped_as (λ (part : PartText). flat_map line_text (part_lines part)) (parts_says c.args.stats c.args.automata.now c.args.reports.now c.args.parts.now) c.loop-number.number _ _ inside (ap (λ (part : PartText). flat_map line_text (part_lines part)) (said_there c.args.stats c.args.automata.now c.args.reports.now c.args.parts.now c.loop-number.number c.index-automata-number.result c.index-reports-number.result c.index-parts-number.result c.deref.result.now some_a some_r low c.index-automata-number.is c.index-reports-number.is c.index-parts-number.is (c.deref.ensures.value ∙ ap (λ (a : CheckedAutomaton). a.units.items) (sym c.index-automata-number.is)))) c.loop-number.invariant c.in-Err.ensures
+    each_stopped_as (λ (part : PartText). flat_map line_text (part_lines c.args.asked part)) (parts_says c.args.stats c.args.automata.now c.args.reports.now c.args.parts.now) c.loop-number.number _ _ inside (ap (λ (part : PartText). flat_map line_text (part_lines c.args.asked part)) (said_there c.args.stats c.args.automata.now c.args.reports.now c.args.parts.now c.loop-number.number c.index-automata-number.result c.index-reports-number.result c.index-parts-number.result c.deref.result.now some_a some_r low c.index-automata-number.is c.index-reports-number.is c.index-parts-number.is (c.deref.ensures.value ∙ ap (λ (a : CheckedAutomaton). a.units.items) (sym c.index-automata-number.is)))) c.loop-number.invariant c.in-Err.ensures
 
 pub returns : goal.returns
-returns g c = each_done (λ (part : PartText). flat_map line_text (part_lines part)) (parts_says c.args.stats c.args.automata.now c.args.reports.now c.args.parts.now) c.loop-number.number (omega (arith, c.loop-number-test.false, says_length c.args.stats c.args.automata.now c.args.reports.now c.args.parts.now)) c.loop-number.invariant
+returns g c = each_done (λ (part : PartText). flat_map line_text (part_lines c.args.asked part)) (parts_says c.args.stats c.args.automata.now c.args.reports.now c.args.parts.now) c.loop-number.number (omega (arith, c.loop-number-test.false, says_length c.args.stats c.args.automata.now c.args.reports.now c.args.parts.now)) c.loop-number.invariant
 
 pub add_part-requires-clause-faults : goal.add_part-requires-clause-faults
 add_part-requires-clause-faults g c = let same = c.loop-number.invariant.wrote.counted in omega (arith, same, c.requires.faults)

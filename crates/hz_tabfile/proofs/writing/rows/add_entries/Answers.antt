@@ -3,8 +3,8 @@ use Rattle.std.specs.Prelude.{None}
 use Rattle.hz_automata_model.specs.Tables.Tables.{row_of}
 use Rattle.hz_tables.specs.Parts.{rows_of}
 use Rattle.hz_tabtext_model.specs.Texts.{entry_field}
-use Rattle.hz_tabfile.specs.Pages.{spaced}
-use Rattle.hz_tabfile.proofs.Adding.{each_added_as, each_stopped_as, each_done}
+use Rattle.hz_tabfile.specs.Spaced.{spaced}
+use Rattle.hz_io.proofs.Adding.{each_added_as, each_stopped_as, each_done}
 use Rattle.hz_tabfile.proofs.writing.rows.add_entries.Goals as goal
 
 pub loop-column-preserved : goal.loop-column-preserved

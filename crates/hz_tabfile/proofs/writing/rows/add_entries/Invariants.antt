@@ -3,8 +3,8 @@ use Rattle.std.specs.List.{flat_map}
 use Rattle.hz_automata_model.specs.Tables.Tables.{row_of}
 use Rattle.hz_tables.specs.Parts.{rows_of}
 use Rattle.hz_tabtext_model.specs.Texts.{entry_field}
-use Rattle.hz_tabfile.specs.Pages.{spaced}
-use Rattle.hz_tabfile.specs.Pages.{Added}
+use Rattle.hz_tabfile.specs.Spaced.{spaced}
+use Rattle.hz_io.specs.Pages.{Added}
 use Rattle.hz_tabfile.proofs.writing.rows.add_entries.Given as goal
 
 abbrev pub invariant-loop-column : goal.invariant-loop-column

@@ -3,7 +3,7 @@ use Rattle.hz_automata_model.specs.Tables.Tables.{row_of}
 use Rattle.hz_tables.specs.Parts.{rows_of}
 use Rattle.hz_tabtext_model.specs.Texts.{entry_field}
 use Rattle.std.proofs.Common.{rules}
-use Rattle.hz_tabfile.proofs.Adding.{adds_failed}
+use Rattle.hz_io.proofs.Adding.{adds_failed}
 use Rattle.hz_tabfile.proofs.LineTexts.{line_word_stopped, line_fields_stopped, line_added}
 use Rattle.hz_tabfile.proofs.writing.rows.add_row.Goals as goal
 

@@ -1,7 +1,7 @@
 use Rattle.std.proofs.Common.{◌<◌, [], length, map, ap, arith}
 use Rattle.std.specs.List.{flat_map, enumerate_from}
 use Rattle.std.specs.Option.{option_map}
-use Rattle.hz_tabfile.proofs.Adding.{each_added_as, each_stopped_as, each_done}
+use Rattle.hz_io.proofs.Adding.{each_added_as, each_stopped_as, each_done}
 use Rattle.hz_tables.specs.Parts.{rows_of}
 use Rattle.hz_auto.specs.Reports.{shown_of}
 use Rattle.hz_tabtext_model.specs.Texts.{RowText, line_text, row_lines}

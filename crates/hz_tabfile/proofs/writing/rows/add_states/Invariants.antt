@@ -5,7 +5,7 @@ use Rattle.hz_tables.specs.Parts.{rows_of}
 use Rattle.hz_auto.specs.Reports.{shown_of}
 use Rattle.hz_tabtext_model.specs.Texts.{line_text, row_lines}
 use Rattle.hz_tabtext_model.specs.Said.{row_said}
-use Rattle.hz_tabfile.specs.Pages.{Added}
+use Rattle.hz_io.specs.Pages.{Added}
 use Rattle.hz_tabfile.proofs.writing.rows.add_states.Given as goal
 
 abbrev pub invariant-loop-state : goal.invariant-loop-state

@@ -5,8 +5,8 @@ use Rattle.std.proofs.lemmas.List.FromFn.{get_or-range_with_len, length-range_wi
 use Rattle.std.specs.Prelude.{if◌then◌else◌}
 use Rattle.hz_grid.specs.Rows.{has_unit}
 use Rattle.hz_tabtext_model.specs.Texts.{pair_field}
-use Rattle.hz_tabfile.specs.Pages.{spaced, unit_text}
-use Rattle.hz_tabfile.proofs.Adding.{each_added_as, each_stopped_as, each_done}
+use Rattle.hz_tabfile.specs.Spaced.{spaced, unit_text}
+use Rattle.hz_io.proofs.Adding.{each_added_as, each_stopped_as, each_done}
 use Rattle.hz_tabfile.proofs.writing.shown.add_cycle.Goals as goal
 
 pub loop-number-preserved : goal.loop-number-preserved

@@ -1,8 +1,8 @@
 use Rattle.std.proofs.Common.{take, length}
 use Rattle.std.specs.List.{flat_map}
 use Rattle.std.specs.List.{range_with_len}
-use Rattle.hz_tabfile.specs.Pages.{unit_text}
-use Rattle.hz_tabfile.specs.Pages.{Added}
+use Rattle.hz_tabfile.specs.Spaced.{unit_text}
+use Rattle.hz_io.specs.Pages.{Added}
 use Rattle.hz_tabfile.proofs.writing.shown.add_cycle.Given as goal
 
 abbrev pub invariant-loop-number : goal.invariant-loop-number

@@ -2,7 +2,7 @@ use Rattle.std.proofs.Common.{codes}
 use Rattle.hz_tabtext_model.specs.Texts.{pair_field}
 use Rattle.hz_tabtext_model.specs.Said.{named_grid}
 use Rattle.std.proofs.Common.{rules}
-use Rattle.hz_tabfile.proofs.Adding.{adds_failed}
+use Rattle.hz_io.proofs.Adding.{adds_failed}
 use Rattle.hz_tabfile.proofs.LineTexts.{line_word_stopped, line_fields_stopped, line_added}
 use Rattle.hz_tabfile.proofs.writing.shown.add_grid.Goals as goal
 

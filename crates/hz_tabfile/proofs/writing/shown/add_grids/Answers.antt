@@ -6,8 +6,8 @@ use Rattle.std.proofs.lemmas.List.Folds.{flat_map-map}
 use Rattle.hz_base_model.specs.Pairs.{Pair}
 use Rattle.hz_tabtext_model.specs.Texts.{line_text, grid_line}
 use Rattle.hz_tabtext_model.specs.Said.{named_grid}
-use Rattle.hz_tabfile.specs.Pages.{Added, Stopped}
-use Rattle.hz_tabfile.proofs.Adding.{each_added_as, each_stopped_as, each_done}
+use Rattle.hz_io.specs.Pages.{Added, Stopped}
+use Rattle.hz_io.proofs.Adding.{each_added_as, each_stopped_as, each_done}
 use Rattle.hz_tabfile.proofs.writing.shown.add_grids.Goals as goal
 
 -- the text of grids, line by line

@@ -2,7 +2,7 @@ use Rattle.std.proofs.Common.{take}
 use Rattle.std.specs.List.{flat_map}
 use Rattle.hz_tabtext_model.specs.Texts.{line_text, grid_line}
 use Rattle.hz_tabtext_model.specs.Said.{named_grid}
-use Rattle.hz_tabfile.specs.Pages.{Added}
+use Rattle.hz_io.specs.Pages.{Added}
 use Rattle.hz_tabfile.proofs.writing.shown.add_grids.Given as goal
 
 abbrev pub invariant-loop-grid : goal.invariant-loop-grid

@@ -1,5 +1,5 @@
 use Rattle.std.proofs.Common.{ℕ, List, Option, codes, sym, subst, refl}
-use Rattle.hz_tabfile.specs.Pages.{Adds}
+use Rattle.hz_io.specs.Pages.{Adds}
 use Rattle.hz_tabtext_model.specs.Texts.{line_text, origin_line}
 use Rattle.hz_tabfile.proofs.LineTexts.{line_one}
 use Rattle.hz_tabfile.proofs.writing.shown.add_origin.Goals as goal

@@ -1,6 +1,7 @@
 use Rattle.std.proofs.Common.{take}
 use Rattle.std.specs.List.{flat_map, range_with_len}
-use Rattle.hz_tabfile.specs.Pages.{Added, pairs_text}
+use Rattle.hz_io.specs.Pages.{Added}
+use Rattle.hz_tabfile.specs.Spaced.{pairs_text}
 use Rattle.hz_tabfile.proofs.GridTexts.{in_cycle}
 use Rattle.hz_tabfile.proofs.writing.shown.add_pairs.Given as goal
 

@@ -1,7 +1,7 @@
 use Rattle.std.proofs.Common.{ℕ, List, Option, [], map, subst, rules}
 use Rattle.std.specs.List.{flat_map}
-use Rattle.hz_tabfile.specs.Pages.{Adds, Added, Stopped}
-use Rattle.hz_tabfile.proofs.Adding.{stopped_before, adds_then, adds_failed}
+use Rattle.hz_io.specs.Pages.{Adds, Added, Stopped}
+use Rattle.hz_io.proofs.Adding.{stopped_before, adds_then, adds_failed}
 use Rattle.std.specs.Prelude.{slice_index_or}
 use Rattle.hz_base_model.specs.Pairs.{Pair}
 use Rattle.hz_tabtext_model.specs.Texts.{line_text, origin_line, grid_line}

@@ -7,7 +7,7 @@ use Rattle.hz_sched.specs.Shape.{graph_of}
 use Rattle.hz_tables.specs.Machines.{machine_of}
 use Rattle.hz_tool.proofs.BlockLemmas.{is_graph}
 use Rattle.hz_tool.proofs.JudgeLemmas.{classes_on, classes_refused, text_on, text_refused}
-use Rattle.hz_tool.proofs.MachineLemmas.{compiled_on, limit_refused}
+use Rattle.hz_tool.proofs.MachineLemmas.{classes_named, compiled_on, limit_refused}
 use Rattle.hz_tool.proofs.commands.bound.decide_described.Goals as goal
 
 pub returns-in-Err-clause-answer : goal.returns-in-Err-clause-answer
@@ -48,4 +48,4 @@ returns-clause-answer c = λ d is.
     let machine = c.in-Ok.ensures.ok d is in
     compiled_on order.description.now d is.known (machine_of c.in-Ok.machine) machine (BoundsBlock block text d is.known) told
     (text_on block text insns (λ insns. HasClasses block d insns (Bounds block d is.known insns)) told c.in-Ok-judge_block_text.ensures.ok
-    (classes_refused block d insns (Bounds block d is.known insns) told (c.in-Err-judge_graph.ensures.err d is machine.names)))
+    (classes_refused block d insns (Bounds block d is.known insns) told (c.in-Err-judge_graph.ensures.err d is (classes_named machine))))

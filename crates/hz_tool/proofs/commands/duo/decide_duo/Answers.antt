@@ -6,7 +6,7 @@ use Rattle.hz_rtl.specs.Shape.{instructions}
 use Rattle.hz_sched.specs.Shape.{graph_of, node_of}
 use Rattle.hz_tables.specs.Machines.{machine_of}
 use Rattle.hz_tool.proofs.DuoLemmas.{none_told, pair_is, pair_refused, pair_told, pair_within}
-use Rattle.hz_tool.proofs.MachineLemmas.{classes_count}
+use Rattle.hz_tool.proofs.MachineLemmas.{classes_count, classes_named}
 use Rattle.hz_tool.proofs.SlotLemmas.{nodes_below, schedule_is}
 use Rattle.hz_tool.proofs.StartLemmas.{each_starts}
 use Rattle.hz_tool.proofs.commands.duo.decide_duo.Goals as goal
@@ -62,7 +62,7 @@ returns-in-Ok-cycles_alone-2-clause-answer c = λ d known machine first second n
           pair_is d known m machine one other g h both.all first second mine yours both.legal both.greedy,
           schedule_is d known m one g alone.slots machine first mine alone.legal alone.greedy,
           schedule_is d known m other h late.slots machine second yours late.legal late.greedy,
-          (refl, pair_told d m.classes c.args.one.now c.args.other.now c.args.first c.args.second c.in-Ok.slots.items both.all alone.slots late.slots c.in-Ok-cycles_alone.mine c.in-Ok-cycles_alone-2.yours machine.names numbers more both.same (as_many d one g first) alone.last late.last),
+          (refl, pair_told d m.classes c.args.one.now c.args.other.now c.args.first c.args.second c.in-Ok.slots.items both.all alone.slots late.slots c.in-Ok-cycles_alone.mine c.in-Ok-cycles_alone-2.yours (classes_named machine) numbers more both.same (as_many d one g first) alone.last late.last),
         ),
       ),
     )

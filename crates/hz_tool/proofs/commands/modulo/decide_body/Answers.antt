@@ -9,6 +9,7 @@ use Rattle.hz_modulo_model.specs.Repeats.{body_limit}
 use Rattle.hz_rtl.specs.Shape.{instruction, instructions}
 use Rattle.hz_rtl.specs.declared.block.Block.{Block}
 use Rattle.hz_sched.specs.Shape.{graph_of}
+use Rattle.hz_tool.proofs.MachineLemmas.{classes_named}
 use Rattle.hz_tool.proofs.BlockLemmas.{is_graph}
 use Rattle.hz_tool.proofs.DuoLemmas.{few_on, many_told}
 use Rattle.hz_tool.proofs.JudgeLemmas.{classes_on, classes_refused}
@@ -40,4 +41,4 @@ returns-clause-answer c = λ d is reports machine kept compiled.
     let insns = instructions c.args.block.now in
     let told = c.in-Err.decision in
     few_on body_limit (length insns) c.args.file.now (HasClasses c.args.file.now d insns (Overlaps c.args.file.now d is.known insns)) told (counted c.args.block.now false c.if-is_long.ensures)
-    (classes_refused c.args.file.now d insns (Overlaps c.args.file.now d is.known insns) told (c.in-Err.ensures.err d is machine.names))
+    (classes_refused c.args.file.now d insns (Overlaps c.args.file.now d is.known insns) told (c.in-Err.ensures.err d is (classes_named machine)))

@@ -9,7 +9,7 @@ use Rattle.hz_turns.specs.Walking.{kernel_slot_of}
 use Rattle.hz_tool.proofs.BlockLemmas.{graph_size, is_graph}
 use Rattle.hz_tool.proofs.BlockTelling.{stuck_within, stuck_told}
 use Rattle.hz_tool.proofs.KernelLemmas.{kernel_is, kernel_told}
-use Rattle.hz_tool.proofs.MachineLemmas.{classes_count}
+use Rattle.hz_tool.proofs.MachineLemmas.{classes_count, classes_named}
 use Rattle.hz_tool.proofs.SlotLemmas.{nodes_below, schedule_is}
 use Rattle.hz_tool.proofs.StartLemmas.{each_starts, first_stuck}
 use Rattle.hz_tool.proofs.commands.modulo.decide_kernel.Goals as goal
@@ -47,7 +47,7 @@ returns-in-Ok-kernel-clause-answer c = λ d is reports machine kept compiled.
           first = k.first_edge;
           second = k.second_edge;
           kernel = kernel_is d checked is c.args.block.now c.args.graph m slots k.interval k.first_edge k.second_edge found.least;
-          tells = kernel_told d checked is c.args.block.now c.args.graph m.classes slots (map kernel_slot_of k.slots.items) k.interval k.stages k.first_edge k.second_edge machine.names c.requires.made.numbers found.slots_are found.stages_are;
+          tells = kernel_told d checked is c.args.block.now c.args.graph m.classes slots (map kernel_slot_of k.slots.items) k.interval k.stages k.first_edge k.second_edge (classes_named machine) c.requires.made.numbers found.slots_are found.stages_are;
         },
       ),
     )

@@ -6,7 +6,7 @@ use Rattle.hz_sched.specs.Shape.{graph_of, node_of, slots_of}
 use Rattle.hz_block_model.proofs.Scheduling.StuckLaws.{first_stuck as stuck_first}
 use Rattle.hz_tables.specs.Machines.{machine_of}
 use Rattle.hz_tool.proofs.BlockTelling.{stuck_within, stuck_told}
-use Rattle.hz_tool.proofs.MachineLemmas.{classes_count}
+use Rattle.hz_tool.proofs.MachineLemmas.{classes_count, classes_named}
 use Rattle.hz_tool.proofs.SlotLemmas.{nodes_below, schedule_is, text_told}
 use Rattle.hz_tool.proofs.StartLemmas.{each_starts, first_stuck}
 use Rattle.hz_tool.proofs.commands.schedule.decide_schedule.Goals as goal
@@ -30,7 +30,7 @@ returns-in-Ok-clause-answer c = λ d known machine graph numbers.
         g,
         slots,
         schedule_is d known m block g slots machine graph ranges c.in-Ok.ensures.legal c.in-Ok.ensures.greedy,
-        (refl, text_told d m.classes c.args.block.now c.args.graph slots machine.names numbers),
+        (refl, text_told d m.classes c.args.block.now c.args.graph slots (classes_named machine) numbers),
       ),
     )
 

@@ -4,6 +4,7 @@ use Rattle.hz_block_model.specs.Scheduled.BlockGraphs.{classes_of}
 use Rattle.hz_rtl.specs.Shape.{instructions}
 use Rattle.hz_rtl.specs.States.{words}
 use Rattle.hz_sched.specs.Shape.{graph_of}
+use Rattle.hz_tool.proofs.MachineLemmas.{classes_named}
 use Rattle.hz_tool.proofs.BlockLemmas.{is_graph}
 use Rattle.hz_tool.proofs.JudgeLemmas.{classes_on, classes_refused}
 use Rattle.hz_tool.proofs.commands.timed.decide_block.Goals as goal
@@ -18,4 +19,4 @@ returns-in-Ok-clause-answer c = λ d is machine.
 pub returns-clause-answer : goal.returns-clause-answer
 returns-clause-answer c = λ d is machine.
     let insns = instructions c.args.block in
-    classes_refused c.args.file.now d insns (Times c.args.file.now d is.known insns (words c.args.state.now)) c.in-Err.decision (c.in-Err.ensures.err d is machine.names)
+    classes_refused c.args.file.now d insns (Times c.args.file.now d is.known insns (words c.args.state.now)) c.in-Err.decision (c.in-Err.ensures.err d is (classes_named machine))

@@ -21,7 +21,7 @@ returns-in-Paired g c =
     let at = c.in-Paired in
     subst (λ (d : Decision). Writes g.S.Sink.written g.S.Sink.room g.S.Sink.faults c.args.out.now c.write_duo.new.out (text_of d) c.write_duo.result) (sym at.is)
     (subst (λ (slots : List DuoSlot). Writes g.S.Sink.written g.S.Sink.room g.S.Sink.faults c.args.out.now c.write_duo.new.out (duo_text at.machine.classes.items (map (λ i. i.number) at.first.insns.items) (map (λ i. i.number) at.second.insns.items) (graph_of at.first) (graph_of at.second) (map context_slot slots) at.alone.0 at.alone.1) c.write_duo.result)
-    c.deref.ensures.value c.write_duo.ensures)
+    c.deref-in-Paired.ensures.value c.write_duo.ensures)
 
 pub returns-in-Timed : goal.returns-in-Timed
 returns-in-Timed g c =

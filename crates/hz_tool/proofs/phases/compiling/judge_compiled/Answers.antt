@@ -10,5 +10,5 @@ pub returns-in-Ok-clause-settles : goal.returns-in-Ok-clause-settles
 returns-in-Ok-clause-settles c =
     let checked = c.args.checked.now in
     let machine = c.in-Ok.compiled.machine in
-    machine_settles (options checked.options) (map automaton_of checked.automata.items) (map class_of checked.classes.items) (map bypass_of checked.bypasses.items) (map attribute_of checked.attributes.items) checked.kept
+    machine_settles (options checked.options) (map automaton_of checked.automata.items) (map class_of checked.classes.items) (map bypass_of checked.bypasses.items) (map attribute_of checked.attributes.items) checked.kept checked.asks
     (machine_of machine) (reports_of c.in-Ok.compiled.reports.items) machine.kept c.in-Ok.ensures.compiled

@@ -1,0 +1,224 @@
+//! Writing a replay, for which its events are walked once more.
+
+ghost use Rattle.std.specs.Prelude.{◌≡◌, ℕ, ◌-◌, ◌^◌, ◌<◌, ◌≤◌, All, length, drop, codes, if◌then◌else◌};
+ghost use Rattle.std.specs.Bool.{OnFalse};
+ghost use Rattle.hz_acceptance_model.specs.Accepting.Asking.{IsOfQuery};
+ghost use Rattle.hz_acceptance_model.specs.Accepting.Events.{issue, IsOfClass};
+ghost use Rattle.hz_answer_model.specs.AskAnswers.{query_name};
+ghost use Rattle.hz_answer_model.specs.Texts as model;
+ghost use Rattle.hz_automata_model.specs.Tables.MachineNames.{names_of_machine};
+ghost use Rattle.hz_automata_model.specs.Tables.Machines.{part_at, starts_of};
+ghost use Rattle.hz_io.specs.Pages.{Adds};
+ghost use Rattle.hz_io.specs.Sink.{Writes};
+ghost use Rattle.hz_replay.specs.Lines.{event_of};
+ghost use Rattle.hz_replay.specs.Traces.{events_in};
+ghost use Rattle.hz_replay.specs.declared.outcome.Outcome.TheVariants.{Refused};
+ghost use Rattle.hz_report.specs.Replays.{AsksNothing, asks_from, end_line, line_of, refused_by, replay_text, taken, IsReplay};
+ghost use Rattle.hz_tables.specs.Machines.{machine_of};
+
+use super::outcomes::{put_accepted, put_refused};
+use hz_io::page::{Page, add_all, flush};
+use hz_io::{Failed, Sink};
+use hz_regexp::Name;
+use hz_replay::{Event, Outcome, Replayer, What, play};
+use hz_tables::{Machine, Steps};
+use itoa::Buffer;
+use std::alloc::Global;
+use std::marker::Brand;
+use std::sync::ledger::{Blank, Ledger};
+
+/// The end of the line of an ask.
+fn told<'a>(reserved: bool) -> &'a [u8]
+    ensures { result.now ≡ if reserved then codes " reserved\n" else codes " free\n" }
+{
+    if reserved { b" reserved\n" } else { b" free\n" }
+}
+
+/// Adds the line of an ask.
+fn add_answer<S: Sink>(
+    out: &mut S,
+    page: &mut Page,
+    line: u32,
+    unit: &Name,
+    reserved: bool,
+) -> Result<(), Failed>
+    requires { S.faults out.old < 2 ^ 64 - 1 }
+    ensures { Adds S.written S.room S.faults out.old out.new page.old.items page.new.items (model.ask_line line unit.now reserved) result }
+{
+    let mut digits = Buffer::new();
+    add_all(
+        out,
+        page,
+        &[
+            b"ask line ",
+            digits.format(line).as_bytes(),
+            b" ",
+            unit.bytes(),
+            told(reserved),
+        ],
+    )
+}
+
+/// The name of a unit that is asked for.
+fn unit_of(machine: &Machine, part: u32, ask: u32) -> &Name
+    requires part { part < length machine.now.parts.items }
+    requires ask { ask < length (part_at (machine_of machine.now) part).asks }
+    ensures { result.now ≡ query_name (names_of_machine (machine_of machine.now)) part ask }
+{
+    &machine.parts[part as usize].asks[ask as usize]
+}
+
+/// Adds what is told of an event in the states of a replayer: the line of an ask.
+fn add_event<S: Sink, L: Ledger>(
+    out: &mut S,
+    page: &mut Page,
+    machine: &Machine,
+    replayer: &Replayer<'_>,
+    event: &Event,
+    steps: &mut Steps<L>,
+) -> Result<(), Failed>
+    requires sink { S.faults out.old < 2 ^ 64 - 1 }
+    requires same { replayer.now.machine ≡ machine_of machine.now }
+    requires asks { IsOfQuery (names_of_machine (machine_of machine.now)).queries (event_of event.now.what) }
+    ensures { Adds S.written S.room S.faults out.old out.new page.old.items page.new.items (line_of (machine_of machine.now) replayer.now.states event.now) result }
+{
+    match event.what {
+        What::Ask { part, ask } => {
+            let reserved = replayer.ask(part, ask, steps);
+            add_answer(out, page, event.line, unit_of(machine, part, ask), reserved)
+        }
+        What::Issue(_) | What::Advance(_) => Ok(()),
+    }
+}
+
+/// Adds the lines of the asks among events, which are walked from the start of every part.
+fn add_asks<S: Sink, L: Ledger>(
+    alloc: Global,
+    out: &mut S,
+    page: &mut Page,
+    machine: &Machine,
+    events: &[Event],
+    blank: Blank,
+) -> Result<(), Failed>
+    requires name { blank.name ≡ L.name }
+    requires parts { blank.parts ≡ L.parts }
+    requires some { 0 < blank.parts }
+    requires sink { S.faults out.old < 2 ^ 64 - 1 }
+    requires classes { All (IsOfClass (length machine.now.classes.items)) (events_in events.now) }
+    requires asks { All (IsOfQuery (names_of_machine (machine_of machine.now)).queries) (events_in events.now) }
+    ensures { Adds S.written S.room S.faults out.old out.new page.old.items page.new.items (asks_from (machine_of machine.now) (starts_of (machine_of machine.now)) events.now) result }
+{
+    let mut steps = Steps::<L>::new(blank);
+    let mut replayer = Replayer::start(alloc, machine);
+    for event in events {
+        match add_event(out, page, machine, &replayer, event, &mut steps) {
+            Ok(()) => {}
+            Err(failed) => return Err(failed),
+        }
+        play(&mut replayer, event.what, &mut steps);
+    }
+    Ok(())
+}
+
+/// Writes the lines of the asks among events.
+fn put_asks<S: Sink>(
+    alloc: Global,
+    out: &mut S,
+    machine: &Machine,
+    events: &[Event],
+) -> Result<(), Failed>
+    requires sink { S.faults out.old < 2 ^ 64 - 1 }
+    requires classes { All (IsOfClass (length machine.now.classes.items)) (events_in events.now) }
+    requires asks { All (IsOfQuery (names_of_machine (machine_of machine.now)).queries) (events_in events.now) }
+    ensures { Writes S.written S.room S.faults out.old out.new (asks_from (machine_of machine.now) (starts_of (machine_of machine.now)) events.now) result }
+{
+    let mut page = Page::new();
+    match add_asks::<S, Brand>(alloc, out, &mut page, machine, events, Blank::new(1)) {
+        Ok(()) => flush(out, &mut page),
+        Err(failed) => Err(failed),
+    }
+}
+
+/// The events before the one that is refused, or all.
+fn taken_of<'a>(events: &'a [Event], outcome: &Outcome) -> &'a [Event]
+    requires { (event : ℕ) → outcome.now ≡ Refused event → event < length events.now }
+    ensures { result.now ≡ taken outcome.now events.entry.now }
+{
+    match outcome {
+        Outcome::Accepted { .. } => events,
+        Outcome::Refused { event } => &events[..*event as usize],
+    }
+}
+
+/// Whether an event is an ask.
+fn is_ask(what: What) -> bool
+    ensures { OnFalse result (AsksNothing (event_of what)) }
+{
+    match what {
+        What::Ask { .. } => true,
+        What::Issue(_) | What::Advance(_) => false,
+    }
+}
+
+/// How many events there are up to the last ask.
+fn up_to_last_ask(events: &[Event]) -> usize
+    ensures within { result ≤ length events.now }
+    ensures none { All (λ event. AsksNothing (event_of event.what)) (drop result events.now) }
+{
+    let mut asked = 0;
+    for (place, event) in events.iter().enumerate() {
+        if is_ask(event.what) {
+            asked = place + 1;
+        }
+    }
+    asked
+}
+
+/// Writes the line of an event that is refused, an issue.
+fn put_refusal<S: Sink>(out: &mut S, machine: &Machine, event: &Event) -> Result<(), Failed>
+    requires sink { S.faults out.old < 2 ^ 64 - 1 }
+    requires issue { (class : ℕ) × (event_of event.now.what ≡ issue class) × (class < length machine.now.classes.items) }
+    ensures { Writes S.written S.room S.faults out.old out.new (refused_by machine.now.classes.items event.now) result }
+{
+    match event.what {
+        What::Issue(class) => put_refused(out, event.line, &machine.classes[class as usize]),
+        What::Advance(_) | What::Ask { .. } => unreachable!(),
+    }
+}
+
+/// Writes how a replay ends.
+fn put_end<S: Sink>(
+    out: &mut S,
+    machine: &Machine,
+    events: &[Event],
+    outcome: &Outcome,
+) -> Result<(), Failed>
+    requires sink { S.faults out.old < 2 ^ 64 - 1 }
+    requires replay { IsReplay machine.now events.now outcome.now }
+    ensures { Writes S.written S.room S.faults out.old out.new (end_line machine.now.classes.items events.now outcome.now) result }
+{
+    match outcome {
+        Outcome::Accepted { issues, cycles } => put_accepted(out, *issues, *cycles),
+        Outcome::Refused { event } => put_refusal(out, machine, &events[*event as usize]),
+    }
+}
+
+/// Writes the text of a replay. Its events are walked once more up to the last ask, and not at all if there is none.
+pub fn put_replayed<S: Sink>(
+    alloc: Global,
+    out: &mut S,
+    machine: &Machine,
+    events: &[Event],
+    outcome: &Outcome,
+) -> Result<(), Failed>
+    requires sink { S.faults out.old < 2 ^ 64 - 1 }
+    requires replay { IsReplay machine.now events.now outcome.now }
+    ensures { Writes S.written S.room S.faults out.old out.new (replay_text (machine_of machine.now) events.now outcome.now) result }
+{
+    let before = taken_of(events, outcome);
+    let asked = &before[..up_to_last_ask(before)];
+    match put_asks(alloc, out, machine, asked) {
+        Ok(()) => put_end(out, machine, events, outcome),
+        Err(failed) => Err(failed),
+    }
+}
