@@ -11,7 +11,7 @@ rt() {
     command rt "$@"
 }
 
-build_program minimising bench/minim/minimising.rt.in 'hz_automata_model hz_tables hz_minim' 'chain 4 1' \
+build_program minimising bench/minim/minimising.rt.in 'hz_pipeline_model hz_tables hz_minim' 'chain 4 1' \
     $(below hz_minim)
 minimising=$room/crates/minimising/out/minimising
 

@@ -13,7 +13,7 @@ rt() {
     command rt "$@"
 }
 
-build_program packing bench/tables/packing.rt.in 'hz_automata_model hz_tables' 'full 4 1 pack' $(below hz_tables)
+build_program packing bench/tables/packing.rt.in 'hz_pipeline_model hz_tables' 'full 4 1 pack' $(below hz_tables)
 packing=$room/crates/packing/out/packing
 
 echo "kind states columns places entries ratio ms peak_kb"

@@ -15,7 +15,7 @@ rt() {
 }
 
 build_program writing bench/tables/writing.rt.in \
-    'hz_base_model hz_description_model hz_automata_model hz_tabtext_model hz_io hz_sexp hz_mdread hz_check hz_auto hz_tabfile' '1 4 1' $(below hz_tabfile)
+    'hz_base_model hz_description_model hz_pipeline_model hz_tabtext_model hz_io hz_sexp hz_mdread hz_check hz_auto hz_tabfile' '1 4 1' $(below hz_tabfile)
 writing=$room/crates/writing/out/writing
 
 echo "automata classes rounds bytes ms MB_a_second doubling peak_kB"

@@ -7,9 +7,9 @@ use Rattle.std.proofs.lemmas.List.{length-map, map-append}
 use Rattle.hz_base_model.specs.Pairs.{Pair, placed}
 use Rattle.hz_description_model.specs.Reservations.Alternatives.{Alternative}
 use Rattle.hz_description_model.specs.Reservations.Sets.{Holds, Fits}
-use Rattle.hz_acceptance_model.specs.Accepting.Events.{Event, issue, advance, ask, issues_of, cycles_of}
-use Rattle.hz_acceptance_model.specs.Accepting.Replay.{first_fit, ChoiceFirst, Class, Pipeline, State, FitsAt, MayTake, IsChoice, Accepted, FirstRefused, alternatives_at, of_class, chosen, pairs_at, calendar, left_by}
-use Rattle.hz_acceptance_model.specs.Accepting.Asking.{IsHeld}
+use Rattle.hz_pipeline_model.specs.Accepting.Events.{Event, issue, advance, ask, issues_of, cycles_of}
+use Rattle.hz_pipeline_model.specs.Accepting.Replay.{first_fit, ChoiceFirst, Class, Pipeline, State, FitsAt, MayTake, IsChoice, Accepted, FirstRefused, alternatives_at, of_class, chosen, pairs_at, calendar, left_by}
+use Rattle.hz_pipeline_model.specs.Accepting.Asking.{IsHeld}
 use Rattle.hz_align_model.specs.Moving.{IsHeldLater, moved_pair, moved_pairs, moved_alternative, moved_class, moved, IsLate, MayMove}
 use Rattle.hz_align_model.proofs.FitLaws.{holds_moved, late_nil, late_append, late_placed, moved_placed, fits_moved}
 

@@ -3,7 +3,7 @@ use Rattle.std.proofs.Common.{◌≡◌, ℕ, zero, suc, ◌≤◌, [], ◌∷�
 use Rattle.hz_base_model.specs.Pairs.{Pair}
 use Rattle.hz_base_model.proofs.Elements.{Contains-nil, Contains-head, Contains-cons_cases}
 use Rattle.hz_description_model.specs.Reservations.Sets.{Statement}
-use Rattle.hz_acceptance_model.specs.Accepting.Replay.{chosen}
+use Rattle.hz_pipeline_model.specs.Accepting.Replay.{chosen}
 use Rattle.hz_align_model.specs.Moving.{IsLate, IsTied, MayMove}
 use Rattle.hz_align_model.specs.Examples.{together, apart, excluded, present, both_later, one_later, one_needed, at_once}
 

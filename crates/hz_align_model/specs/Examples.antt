@@ -2,8 +2,8 @@
 use Rattle.std.specs.Prelude.{ℕ, zero, suc, List, [], ◌∷◌, codes}
 use Rattle.hz_description_model.specs.Reservations.Alternatives.{Expression, named, nothing, sequence, repeat}
 use Rattle.hz_description_model.specs.Reservations.Sets.{Statement, excludes, presence}
-use Rattle.hz_acceptance_model.specs.Accepting.Replay.{Pipeline, first_fit}
-use Rattle.hz_acceptance_model.specs.Accepting.Examples.{two, class, choice_units}
+use Rattle.hz_pipeline_model.specs.Accepting.Replay.{Pipeline, first_fit}
+use Rattle.hz_pipeline_model.specs.Accepting.Examples.{two, class, choice_units}
 
 -- the units, in their only cycle
 abbrev pub a : Expression

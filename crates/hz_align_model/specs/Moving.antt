@@ -5,8 +5,8 @@ use Rattle.std.specs.List.{Contains}
 use Rattle.hz_base_model.specs.Pairs.{Pair}
 use Rattle.hz_description_model.specs.Reservations.Alternatives.{Alternative}
 use Rattle.hz_description_model.specs.Reservations.Sets.{Statement}
-use Rattle.hz_acceptance_model.specs.Accepting.Events.{Event, cycles_of}
-use Rattle.hz_acceptance_model.specs.Accepting.Replay.{Class, Pipeline, ChoiceFirst, chosen, calendar}
+use Rattle.hz_pipeline_model.specs.Accepting.Events.{Event, cycles_of}
+use Rattle.hz_pipeline_model.specs.Accepting.Replay.{Class, Pipeline, ChoiceFirst, chosen, calendar}
 
 -- the pair, by so many cycles earlier as are said of its unit
 abbrev pub moved_pair : {U : Type 0} → (earlier : U → ℕ) → Pair U → Pair U

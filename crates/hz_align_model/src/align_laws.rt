@@ -1,9 +1,9 @@
 //! Laws of pipelines whose units are moved, for both treatments and any units.
 
 ghost use Rattle.std.specs.Prelude.{◌≡◌, ◌↔◌, ℕ, List};
-ghost use Rattle.hz_acceptance_model.specs.Accepting.Events.{Event};
-ghost use Rattle.hz_acceptance_model.specs.Accepting.Replay.{Pipeline, IsChoice, Accepted, FirstRefused};
-ghost use Rattle.hz_acceptance_model.specs.Accepting.Asking.{IsHeld};
+ghost use Rattle.hz_pipeline_model.specs.Accepting.Events.{Event};
+ghost use Rattle.hz_pipeline_model.specs.Accepting.Replay.{Pipeline, IsChoice, Accepted, FirstRefused};
+ghost use Rattle.hz_pipeline_model.specs.Accepting.Asking.{IsHeld};
 ghost use Rattle.hz_align_model.specs.Moving.{moved, MayMove, IsHeldLater};
 
 /// A pipeline whose units are taken earlier, where no pair leaves its issue and each statement names units that move by one

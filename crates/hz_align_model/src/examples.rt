@@ -1,8 +1,8 @@
 //! Worked examples of units that are moved, computed on the definitions: what each premise of the law is for.
 
 ghost use Rattle.std.specs.Prelude.{[], ◌∷◌};
-ghost use Rattle.hz_acceptance_model.specs.Accepting.Events.{issue, advance};
-ghost use Rattle.hz_acceptance_model.specs.Accepting.Replay.{Accepted, FirstRefused};
+ghost use Rattle.hz_pipeline_model.specs.Accepting.Events.{issue, advance};
+ghost use Rattle.hz_pipeline_model.specs.Accepting.Replay.{Accepted, FirstRefused};
 ghost use Rattle.hz_align_model.specs.Moving.{moved, MayMove};
 ghost use Rattle.hz_align_model.specs.Examples.{together, apart, both_later, one_later, one_needed, at_once};
 

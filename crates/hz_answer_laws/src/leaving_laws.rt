@@ -4,14 +4,14 @@
 ghost use Rattle.std.specs.Prelude.{◌⊎◌, ℕ, Bool, List};
 ghost use Rattle.hz_base_model.specs.Pairs.{Pair};
 ghost use Rattle.hz_description_model.specs.Reservations.Automata.{UnitPlace};
-ghost use Rattle.hz_acceptance_model.specs.Accepting.Events.{Event};
-ghost use Rattle.hz_acceptance_model.specs.Accepting.Plays.{Tells};
-ghost use Rattle.hz_acceptance_model.specs.Accepting.Replay.{Pipeline};
+ghost use Rattle.hz_pipeline_model.specs.Accepting.Events.{Event};
+ghost use Rattle.hz_pipeline_model.specs.Accepting.Plays.{Tells};
+ghost use Rattle.hz_pipeline_model.specs.Accepting.Replay.{Pipeline};
 ghost use Rattle.hz_description_model.specs.Reading.Descriptions.{Description};
 ghost use Rattle.hz_description_model.specs.Check.Places.{Known};
-ghost use Rattle.hz_automata_model.specs.Reaching.Reach.{IsLeft};
-ghost use Rattle.hz_automata_model.specs.Reaching.Counts.{Count, CountIsAbove, CountIsAtMost};
-ghost use Rattle.hz_automata_model.specs.Compiling.DescriptionLimits.{AreCounted};
+ghost use Rattle.hz_pipeline_model.specs.Reaching.Reach.{IsLeft};
+ghost use Rattle.hz_pipeline_model.specs.Reaching.Counts.{Count, CountIsAbove, CountIsAtMost};
+ghost use Rattle.hz_pipeline_model.specs.Compiling.DescriptionLimits.{AreCounted};
 
 /// Where a test tells units apart, there is for every pipeline and every list of events, accepted or not, a list of all grids
 /// that the events leave, each once as a set of pairs.

@@ -3,7 +3,5 @@
 
 pub mod leaving_laws;
 pub mod name_laws;
-pub mod schedulable_laws;
-pub mod settling_laws;
 pub mod size_laws;
 pub mod totality_laws;

@@ -9,9 +9,9 @@ ghost use Rattle.hz_description_model.specs.Reading.Descriptions.{Options, Descr
 ghost use Rattle.hz_description_model.specs.Reading.DescriptionForms.{Reads};
 ghost use Rattle.hz_description_model.specs.Check.Places.{Known, class_names};
 ghost use Rattle.hz_description_model.specs.Check.CheckedParts.{AutomatonParts, ClassParts, automaton_names, automata_of, class_parts};
-ghost use Rattle.hz_automata_model.specs.Tables.StateLimits.{state_limit};
-ghost use Rattle.hz_automata_model.specs.Tables.Machines.{Machine, IsMachine};
-ghost use Rattle.hz_automata_model.specs.Compiling.Compiled.{Report, IsCompiled, shows_states};
+ghost use Rattle.hz_pipeline_model.specs.Tables.StateLimits.{state_limit};
+ghost use Rattle.hz_pipeline_model.specs.Tables.Machines.{Machine, IsMachine};
+ghost use Rattle.hz_pipeline_model.specs.Compiling.Compiled.{Report, IsCompiled, shows_states};
 ghost use Rattle.hz_tabtext_model.specs.Texts.{spelled};
 ghost use Rattle.hz_tabtext_model.specs.Said.{tables_said};
 ghost use Rattle.hz_answer_laws.specs.Sizes.Extents.{bytes_of_strings, bytes_of_names, unnamed_limit};

@@ -3,21 +3,21 @@
 
 ghost use Rattle.std.specs.Prelude.{◌≡◌, ℕ, ◌≤◌, List, [], All, map, length};
 ghost use Rattle.hz_base_model.specs.Pairs.{Pair};
-ghost use Rattle.hz_acceptance_model.specs.Accepting.Replay.{Pipeline, alternatives_at};
+ghost use Rattle.hz_pipeline_model.specs.Accepting.Replay.{Pipeline, alternatives_at};
 ghost use Rattle.hz_description_model.specs.Reading.DescriptionShape.{IsWellFormed};
 ghost use Rattle.hz_description_model.specs.Reading.Descriptions.{Description};
 ghost use Rattle.hz_description_model.specs.Check.CheckFaults.{IsSound};
 ghost use Rattle.hz_description_model.specs.Check.CheckedParts.{automata_of, class_parts};
 ghost use Rattle.hz_description_model.specs.Check.Places.{Known};
-ghost use Rattle.hz_automata_model.specs.Tables.Apart.{WalkTheSame};
-ghost use Rattle.hz_automata_model.specs.Tables.Machines.{Machine, IsMachine};
-ghost use Rattle.hz_automata_model.specs.Tables.Tables.{IsTable, Table};
-ghost use Rattle.hz_automata_model.specs.Least.Normal.{IsNormal};
-ghost use Rattle.hz_automata_model.specs.Reaching.Built.{IsAutomaton};
-ghost use Rattle.hz_automata_model.specs.Reaching.Counts.{CountIsAtMost, states};
-ghost use Rattle.hz_automata_model.specs.Compiling.Compiled.{IsCompiled, Report};
-ghost use Rattle.hz_automata_model.specs.Compiling.DescriptionLimits.{AllKeepLimits};
-ghost use Rattle.hz_automata_model.specs.Single.Told.{ListsAscending};
+ghost use Rattle.hz_pipeline_model.specs.Tables.Apart.{WalkTheSame};
+ghost use Rattle.hz_pipeline_model.specs.Tables.Machines.{Machine, IsMachine};
+ghost use Rattle.hz_pipeline_model.specs.Tables.Tables.{IsTable, Table};
+ghost use Rattle.hz_pipeline_model.specs.Least.Normal.{IsNormal};
+ghost use Rattle.hz_pipeline_model.specs.Reaching.Built.{IsAutomaton};
+ghost use Rattle.hz_pipeline_model.specs.Reaching.Counts.{CountIsAtMost, states};
+ghost use Rattle.hz_pipeline_model.specs.Compiling.Compiled.{IsCompiled, Report};
+ghost use Rattle.hz_pipeline_model.specs.Compiling.DescriptionLimits.{AllKeepLimits};
+ghost use Rattle.hz_pipeline_model.specs.Single.Told.{ListsAscending};
 ghost use Rattle.hz_tabtext_model.specs.Said.{IsInRange};
 
 /// Every pipeline whose reached states are at most some number has an automaton: a table that walks just what it accepts, whose rows

@@ -5,39 +5,39 @@ use Rattle.std.proofs.lemmas.Option.{same_Some}
 use Rattle.hz_base_model.proofs.Forms.FormsLaws.{one_reading, one_fault, forms_or_fault}
 use Rattle.hz_description_model.proofs.Reading.DescriptionLaws.{one_description, one_fault_of_descriptions, description_or_fault}
 use Rattle.hz_description_model.proofs.Check.CheckLaws.{fault_one, fault_or_sound, sound_one}
-use Rattle.hz_acceptance_model.proofs.Accepting.AcceptanceLaws.{one_refused, accepted_or_refused}
+use Rattle.hz_pipeline_model.proofs.Accepting.AcceptanceLaws.{one_refused, accepted_or_refused}
 use Rattle.hz_answer_model.specs.Answers.{Describes, Checks, HasDescription, Compiles, CompilesDescription, DrillsDescription, Replays, ReplaysTrace, ReplaysDescription, Judges, TimesByDescription, SchedulesTwoByDescription, OverlapsByDescription, IsIssueOf, files_of, JudgesOrder, AnswersOrder, Answer}
 use Rattle.hz_description_model.specs.Check.CheckFaults.{CheckFault}
 use Rattle.hz_description_model.specs.Check.Places.{Known, class_names}
 use Rattle.hz_description_model.specs.Reading.DescriptionForms.{DescriptionFault}
 use Rattle.hz_description_model.specs.Reading.Descriptions.{Description}
 use Rattle.hz_base_model.specs.Forms.Forms.{form_word}
-use Rattle.hz_acceptance_model.specs.Traces.Traces.{trace_word}
+use Rattle.hz_pipeline_model.specs.Traces.Traces.{trace_word}
 use Rattle.hz_block_model.specs.Texts.Operands.{rtl_word}
 use Rattle.hz_tabtext_model.specs.Judging.{tables_word}
 use Rattle.hz_answer_model.specs.FaultTexts.{description_line, check_line, check_status, class_line, stuck_line}
 use Rattle.hz_base_model.specs.Forms.Forms.{FormFault}
 use Rattle.hz_base_model.specs.Lines.{lines_of}
-use Rattle.hz_acceptance_model.specs.Traces.Traces.{TraceFault, event_lines}
-use Rattle.hz_acceptance_model.proofs.Traces.TraceLaws.{one_trace, one_trace_fault, trace_or_fault}
+use Rattle.hz_pipeline_model.specs.Traces.Traces.{TraceFault, event_lines}
+use Rattle.hz_pipeline_model.proofs.Traces.TraceLaws.{one_trace, one_trace_fault, trace_or_fault}
 use Rattle.hz_description_model.specs.Check.CheckedParts.{automaton_names, queries_in}
-use Rattle.hz_acceptance_model.specs.Pipelines.Pipelines.{pipeline_with}
-use Rattle.hz_acceptance_model.specs.Accepting.Restricted.{restricted}
-use Rattle.hz_automata_model.specs.Reaching.Counts.{Count}
-use Rattle.hz_automata_model.specs.Compiling.AutomatonPipelines.{class_lists}
-use Rattle.hz_automata_model.specs.Compiling.Compiled.{shows_states}
-use Rattle.hz_automata_model.specs.Compiling.DescriptionLimits.{KeepsLimits, PassesLimit, IsFirstPastLimit}
-use Rattle.hz_automata_model.proofs.Compiling.LimitLaws.{within_or_past}
-use Rattle.hz_acceptance_model.specs.Accepting.Replay.{Pipeline, Class}
-use Rattle.hz_acceptance_model.specs.Accepting.Events.{Event, issue}
+use Rattle.hz_pipeline_model.specs.Pipelines.Pipelines.{pipeline_with}
+use Rattle.hz_pipeline_model.specs.Accepting.Restricted.{restricted}
+use Rattle.hz_pipeline_model.specs.Reaching.Counts.{Count}
+use Rattle.hz_pipeline_model.specs.Compiling.AutomatonPipelines.{class_lists}
+use Rattle.hz_pipeline_model.specs.Compiling.Compiled.{shows_states}
+use Rattle.hz_pipeline_model.specs.Compiling.DescriptionLimits.{KeepsLimits, PassesLimit, IsFirstPastLimit}
+use Rattle.hz_pipeline_model.proofs.Compiling.LimitLaws.{within_or_past}
+use Rattle.hz_pipeline_model.specs.Accepting.Replay.{Pipeline, Class}
+use Rattle.hz_pipeline_model.specs.Accepting.Events.{Event, issue}
 use Rattle.hz_answer_model.specs.Texts.{file_line, limit_line, fault_line, states_line, refused_line, slot_line, scheduled_line, insns_line}
 use Rattle.hz_base_model.specs.Forms.Trees.{Trees}
 use Rattle.hz_words_model.specs.Words.{Order, compile, replay, walk, schedule, eval, drill, timed, bound, duo, modulo, order_of, usage_line}
 use Rattle.hz_base_model.specs.Names.{Held}
 use Rattle.hz_answer_model.specs.Phases.{Says, Next, FileWord, OpensAll, HasForms, Traces}
 use Rattle.hz_answer_model.specs.TableAnswers.{WritesTablesOf, HasTables, IsIssueIn, Walks, WalksTrace}
-use Rattle.hz_acceptance_model.specs.Traces.TraceNames.{TraceNames}
-use Rattle.hz_automata_model.specs.Tables.MachineNames.{names_of_machine}
+use Rattle.hz_pipeline_model.specs.Traces.TraceNames.{TraceNames}
+use Rattle.hz_pipeline_model.specs.Tables.MachineNames.{names_of_machine}
 use Rattle.hz_answer_model.specs.AskAnswers.{Reserved, Tells, trace_names, held_in, told_by}
 use Rattle.hz_answer_model.proofs.AskAnswerLaws.{one_told}
 use Rattle.hz_answer_model.proofs.TableLaws.{one_unwalked, walked_or_not, one_issue_in}
@@ -50,19 +50,19 @@ use Rattle.hz_answer_model.specs.TimedAnswers.{TellsTimed}
 use Rattle.hz_answer_model.specs.BoundAnswers.{TellsBound}
 use Rattle.hz_answer_model.specs.DuoAnswers.{TellsTwo}
 use Rattle.hz_answer_model.specs.ModuloAnswers.{TellsKernel}
-use Rattle.hz_modulo_model.specs.Repeats.{body_limit}
+use Rattle.hz_measure_model.specs.Kernels.Repeats.{body_limit}
 use Rattle.hz_answer_model.proofs.KernelLaws.{one_kernel_text}
 use Rattle.hz_block_model.specs.Scheduled.BlockGraphs.{classes_of, timing_in}
 use Rattle.hz_block_model.specs.Texts.StateTexts.{IsText}
-use Rattle.hz_timed_model.specs.ByDescription.{exposed_in}
-use Rattle.hz_timed_model.specs.Exposed.{Timed, exposed}
-use Rattle.hz_timed_model.specs.Texts.{text_of_reads}
-use Rattle.hz_bound_model.specs.Bounds.{Bound}
-use Rattle.hz_bound_model.specs.Texts.{text_of_bound}
-use Rattle.hz_bound_model.proofs.BlockBounds.{one_bound_of_a_block}
-use Rattle.hz_duo_model.proofs.OneOfTwo.{one_of_two}
-use Rattle.hz_duo_model.specs.Joining.{in_contexts}
-use Rattle.hz_duo_model.specs.Texts.{issue_line, together_line, alone_line, last_cycle, text_of_two}
+use Rattle.hz_measure_model.specs.Exposed.ByDescription.{exposed_in}
+use Rattle.hz_measure_model.specs.Exposed.Exposed.{Timed, exposed}
+use Rattle.hz_measure_model.specs.Exposed.Texts.{text_of_reads}
+use Rattle.hz_measure_model.specs.Bounds.Bounds.{Bound}
+use Rattle.hz_measure_model.specs.Bounds.Texts.{text_of_bound}
+use Rattle.hz_measure_model.proofs.Bounds.BlockBounds.{one_bound_of_a_block}
+use Rattle.hz_measure_model.proofs.TwoContexts.OneOfTwo.{one_of_two}
+use Rattle.hz_measure_model.specs.TwoContexts.Joining.{in_contexts}
+use Rattle.hz_measure_model.specs.TwoContexts.Texts.{issue_line, together_line, alone_line, last_cycle, text_of_two}
 use Rattle.hz_block_model.specs.Scheduling.Schedules.{Graph, Slot, present}
 use Rattle.hz_block_model.proofs.Scheduled.BlockLaws.{one_of_a_block}
 use Rattle.hz_block_model.proofs.Scheduled.FaultLaws.{one_wrong_class, wrong_class_or_all, one_stuck, stuck_or_all}
@@ -73,7 +73,7 @@ use Rattle.hz_block_model.specs.Texts.Operands.{RtlFault, Judged}
 use Rattle.hz_block_model.specs.Texts.BlockForms as blocks
 use Rattle.hz_block_model.specs.Texts.StateForms as states
 use Rattle.hz_block_model.proofs.Texts.Listings.{same_text}
-use Rattle.hz_automata_model.specs.Tables.Machines.{Machine}
+use Rattle.hz_pipeline_model.specs.Tables.Machines.{Machine}
 use Rattle.hz_tabtext_model.specs.Judging.{Fault}
 use Rattle.hz_tabtext_model.proofs.TextAgain.{tables_again}
 use Rattle.hz_tabtext_model.proofs.Steps.{ok_is}

@@ -4,10 +4,10 @@ use Rattle.std.proofs.lemmas.Bool.{cases_lt}
 use Rattle.std.proofs.lemmas.List.Elements.{All-get_or}
 use Rattle.std.proofs.lemmas.Option.{slice_get-get_or, slice_get_within, get_or_from_slice_get}
 use Rattle.hz_answer_model.proofs.AnswerLaws.{ForTexts}
-use Rattle.hz_acceptance_model.proofs.Accepting.AskLaws.{held_or_free}
-use Rattle.hz_acceptance_model.proofs.Traces.NameLaws.{events_of_classes}
-use Rattle.hz_automata_model.specs.Compiling.AutomatonPipelines.{query_unit}
-use Rattle.hz_automata_model.specs.Tables.MachineNames.{names_of_machine}
+use Rattle.hz_pipeline_model.proofs.Accepting.AskLaws.{held_or_free}
+use Rattle.hz_pipeline_model.proofs.Traces.NameLaws.{events_of_classes}
+use Rattle.hz_pipeline_model.specs.Compiling.AutomatonPipelines.{query_unit}
+use Rattle.hz_pipeline_model.specs.Tables.MachineNames.{names_of_machine}
 use Rattle.hz_answer_model.specs.AskAnswers.{Tells, trace_names, held_in, told_by}
 use Rattle.hz_answer_model.proofs.AskAnswerLaws.{some_told, told_or_not}
 use Rattle.hz_answer_model.proofs.EventLaws.{issue_named}
@@ -16,9 +16,9 @@ use Rattle.hz_description_model.proofs.Reading.DescriptionLaws.{every_list}
 use Rattle.hz_description_model.proofs.Reading.DescriptionFormedAll.{well_formed}
 use Rattle.hz_description_model.proofs.Reading.CheckableLaws.{can_be_checked}
 use Rattle.hz_description_model.proofs.Check.CheckTotal.{sound_or_fault}
-use Rattle.hz_acceptance_model.proofs.Accepting.AcceptanceLaws.{refused_issue}
-use Rattle.hz_acceptance_model.proofs.Accepting.PlayLaws.{accepted_or_first_refused}
-use Rattle.hz_acceptance_model.proofs.Accepting.Rows.{same_unit, places_tell}
+use Rattle.hz_pipeline_model.proofs.Accepting.AcceptanceLaws.{refused_issue}
+use Rattle.hz_pipeline_model.proofs.Accepting.PlayLaws.{accepted_or_first_refused}
+use Rattle.hz_pipeline_model.proofs.Accepting.Rows.{same_unit, places_tell}
 use Rattle.hz_answer_model.specs.Answers.{Describes, Checks, HasDescription, Compiles, CompilesDescription, DrillsDescription, TimesByDescription, SchedulesTwoByDescription, OverlapsByDescription, Replays, ReplaysTrace, ReplaysDescription, Judges, IsIssueOf, files_of, JudgesOrder, AnswersOrder, Answer}
 use Rattle.hz_description_model.specs.Check.CheckFaults.{CheckFault, CheckFaultAt, IsSound}
 use Rattle.hz_description_model.specs.Check.Places.{Known, class_names}
@@ -26,7 +26,7 @@ use Rattle.hz_description_model.specs.Reading.DescriptionForms as description_fo
 use Rattle.hz_description_model.specs.Reading.DescriptionShape.{IsWellFormed, IsCheckable}
 use Rattle.hz_description_model.specs.Reading.Descriptions.{Description}
 use Rattle.hz_base_model.specs.Forms.Forms.{form_word}
-use Rattle.hz_acceptance_model.specs.Traces.Traces.{trace_word}
+use Rattle.hz_pipeline_model.specs.Traces.Traces.{trace_word}
 use Rattle.hz_block_model.specs.Texts.Operands.{rtl_word}
 use Rattle.hz_tabtext_model.specs.Judging.{tables_word}
 use Rattle.hz_answer_model.specs.FaultTexts.{description_line, check_line, check_status, class_line, stuck_line}
@@ -34,13 +34,13 @@ use Rattle.hz_base_model.specs.Lines.{lines_of}
 use Rattle.hz_base_model.specs.Forms.Forms as forms
 use Rattle.hz_description_model.specs.Check.CheckedParts.{automaton_names, automaton_count, automata_of, class_parts, bypass_parts, attributes_of}
 use Rattle.hz_description_model.proofs.Check.KeptLaws.{parts_kept}
-use Rattle.hz_acceptance_model.specs.Pipelines.Pipelines.{pipeline_with}
-use Rattle.hz_automata_model.specs.Reaching.Counts.{Count}
-use Rattle.hz_automata_model.specs.Compiling.DescriptionLimits.{KeepsLimits, AllKeepLimits, PassesLimit, IsFirstPastLimit}
-use Rattle.hz_acceptance_model.specs.Accepting.Replay.{FirstRefused}
-use Rattle.hz_acceptance_model.specs.Accepting.Events.{Event, issue, cycles_of, issues_of, IsOfClass}
-use Rattle.hz_acceptance_model.specs.Traces.Traces.{Trace, TraceFault, TraceFaultAt, event_lines}
-use Rattle.hz_acceptance_model.proofs.Traces.TraceLaws.{trace_of_every_text, counted_lines}
+use Rattle.hz_pipeline_model.specs.Pipelines.Pipelines.{pipeline_with}
+use Rattle.hz_pipeline_model.specs.Reaching.Counts.{Count}
+use Rattle.hz_pipeline_model.specs.Compiling.DescriptionLimits.{KeepsLimits, AllKeepLimits, PassesLimit, IsFirstPastLimit}
+use Rattle.hz_pipeline_model.specs.Accepting.Replay.{FirstRefused}
+use Rattle.hz_pipeline_model.specs.Accepting.Events.{Event, issue, cycles_of, issues_of, IsOfClass}
+use Rattle.hz_pipeline_model.specs.Traces.Traces.{Trace, TraceFault, TraceFaultAt, event_lines}
+use Rattle.hz_pipeline_model.proofs.Traces.TraceLaws.{trace_of_every_text, counted_lines}
 use Rattle.hz_answer_model.specs.Texts.{file_line, limit_line, fault_line, refused_line, accepted_line, states_line, insns_line}
 use Rattle.hz_base_model.specs.Forms.Trees.{Trees}
 use Rattle.hz_words_model.specs.Words.{Order, compile, replay, walk, schedule, eval, drill, timed, bound, duo, modulo, order_of, usage_line}
@@ -55,25 +55,25 @@ use Rattle.hz_answer_model.specs.ScheduleAnswers.{schedule_text, HasClasses, Sta
 use Rattle.hz_answer_model.specs.TimedAnswers.{TellsTimed}
 use Rattle.hz_answer_model.specs.BoundAnswers.{TellsBound}
 use Rattle.hz_answer_model.proofs.ExposedLaws.{leaves_source}
-use Rattle.hz_timed_model.specs.ByDescription.{exposed_in}
-use Rattle.hz_timed_model.specs.Texts.{text_of_reads}
+use Rattle.hz_measure_model.specs.Exposed.ByDescription.{exposed_in}
+use Rattle.hz_measure_model.specs.Exposed.Texts.{text_of_reads}
 use Rattle.hz_block_model.specs.Texts.StateTexts.{IsText}
 use Rattle.hz_answer_model.specs.DuoAnswers.{TellsTwo}
 use Rattle.hz_answer_model.specs.ModuloAnswers.{TellsKernel}
-use Rattle.hz_modulo_model.specs.Repeats.{body_limit}
+use Rattle.hz_measure_model.specs.Kernels.Repeats.{body_limit}
 use Rattle.hz_answer_model.proofs.KernelLaws.{some_kernel_text}
-use Rattle.hz_bound_model.specs.Texts.{text_of_bound}
-use Rattle.hz_bound_model.proofs.BlockBounds.{some_bound_of_a_block}
-use Rattle.hz_duo_model.proofs.OneOfTwo.{some_of_two}
-use Rattle.hz_duo_model.specs.Texts.{text_of_two}
+use Rattle.hz_measure_model.specs.Bounds.Texts.{text_of_bound}
+use Rattle.hz_measure_model.proofs.Bounds.BlockBounds.{some_bound_of_a_block}
+use Rattle.hz_measure_model.proofs.TwoContexts.OneOfTwo.{some_of_two}
+use Rattle.hz_measure_model.specs.TwoContexts.Texts.{text_of_two}
 use Rattle.hz_block_model.specs.Dependences.Classes.{ClassFault}
 use Rattle.hz_block_model.specs.Scheduled.BlockGraphs.{IsGraphOf, IsFirstClassFault}
 use Rattle.hz_block_model.specs.Scheduled.BlockSchedules.{StartsAlone, IsFirstStuck, IsScheduleOf}
 use Rattle.hz_block_model.specs.Scheduling.Schedules.{Graph, Slot}
 use Rattle.hz_block_model.proofs.Scheduling.AlikeGraphs.{legal_there, greedy_there}
-use Rattle.hz_acceptance_model.specs.Accepting.Replay.{Accepted}
+use Rattle.hz_pipeline_model.specs.Accepting.Replay.{Accepted}
 use Rattle.hz_answer_laws.proofs.Leaving.LimitsTold.{are_counted}
-use Rattle.hz_answer_laws.proofs.Schedulable.ScheduleTotal.{some_schedule_of}
+use Rattle.hz_block_model.proofs.Schedulable.ScheduleTotal.{some_schedule_of}
 use Rattle.hz_block_model.proofs.Scheduled.GraphLaws.{HasClass, graphs_alike}
 use Rattle.hz_block_model.proofs.Scheduled.FaultLaws.{classes_or_fault, starts_or_stuck}
 use Rattle.hz_answer_model.proofs.ListingTotal.{IsFinite, finite_given, finite_run, has_text}
@@ -83,7 +83,7 @@ use Rattle.hz_block_model.specs.Running.States.{State, Store, run, all_stored}
 use Rattle.hz_block_model.specs.Texts.Operands.{Judged}
 use Rattle.hz_block_model.specs.Texts.BlockForms as blocks
 use Rattle.hz_block_model.specs.Texts.StateForms as states
-use Rattle.hz_automata_model.specs.Tables.Machines.{Machine, IsMachine, machine_walk}
+use Rattle.hz_pipeline_model.specs.Tables.Machines.{Machine, IsMachine, machine_walk}
 use Rattle.hz_tabtext_model.specs.Judging.{Fault}
 use Rattle.hz_tabtext_model.specs.Reading.{tables_in}
 use Rattle.hz_tabtext_model.proofs.MachineLaws.{text_machine}

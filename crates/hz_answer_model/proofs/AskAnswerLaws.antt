@@ -3,11 +3,11 @@ use Rattle.std.proofs.Common.{◌≡◌, ℕ, ◌⊎◌, inl, inr, ⊎_elim, Boo
 use Rattle.std.specs.Prelude.{◌↔◌}
 use Rattle.std.proofs.lemmas.Option.{none-some, same_Some}
 use Rattle.std.proofs.lemmas.List.Elements.{All-nil, All-cons, All-head, All-tail}
-use Rattle.hz_acceptance_model.specs.Accepting.Asking.{IsOfQuery, issues_and_advances}
-use Rattle.hz_acceptance_model.specs.Accepting.Events.{Event, issue, advance, ask}
-use Rattle.hz_acceptance_model.specs.Traces.Drills.{IsOfTurn}
-use Rattle.hz_acceptance_model.specs.Traces.TraceNames.{TraceNames}
-use Rattle.hz_automata_model.specs.Tables.Machines.{Machine, machine_walk, states_tell}
+use Rattle.hz_pipeline_model.specs.Accepting.Asking.{IsOfQuery, issues_and_advances}
+use Rattle.hz_pipeline_model.specs.Accepting.Events.{Event, issue, advance, ask}
+use Rattle.hz_pipeline_model.specs.Traces.Drills.{IsOfTurn}
+use Rattle.hz_pipeline_model.specs.Traces.TraceNames.{TraceNames}
+use Rattle.hz_pipeline_model.specs.Tables.Machines.{Machine, machine_walk, states_tell}
 use Rattle.hz_answer_model.specs.AskAnswers.{Reserved, told_by, AskSays, AsksSay, Tells, query_name}
 use Rattle.hz_answer_model.specs.Texts.{ask_line}
 

@@ -20,10 +20,10 @@ use Rattle.hz_description_model.specs.Check.Places.{Known, at_name, automaton_nu
 use Rattle.hz_description_model.specs.Check.ToldPlaces.{units_beside}
 use Rattle.hz_description_model.proofs.Check.QueryPlaces as query_places
 use Rattle.hz_description_model.proofs.Check.ToldLaws.{places_count}
-use Rattle.hz_acceptance_model.specs.Traces.TraceNames.{query_place}
-use Rattle.hz_acceptance_model.proofs.Pipelines.JointLaws.{some_there}
-use Rattle.hz_acceptance_model.proofs.Traces.NameLaws.{query_named, no_query_placed}
-use Rattle.hz_automata_model.specs.Compiling.AutomatonPipelines.{query_unit}
+use Rattle.hz_pipeline_model.specs.Traces.TraceNames.{query_place}
+use Rattle.hz_pipeline_model.proofs.Pipelines.JointLaws.{some_there}
+use Rattle.hz_pipeline_model.proofs.Traces.NameLaws.{query_named, no_query_placed}
+use Rattle.hz_pipeline_model.specs.Compiling.AutomatonPipelines.{query_unit}
 use Rattle.hz_answer_laws.specs.Names.NameFaults.{IsNameSpace}
 use Rattle.hz_answer_laws.proofs.Names.SoundLaws.{no_second_name}
 use Rattle.hz_answer_model.specs.AskAnswers.{trace_names}

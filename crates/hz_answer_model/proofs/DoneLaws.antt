@@ -1,6 +1,6 @@
 -- What status 0 tells of each phase of an answer.
 use Rattle.std.proofs.Common.{◌≡◌, ℕ, inl, inr, Bool, true, false, List, length, Option, Some, None, MatchOption, MatchBool, nat_lt, refl, arith}
-use Rattle.hz_automata_model.specs.Compiling.DescriptionLimits.{AllKeepLimits}
+use Rattle.hz_pipeline_model.specs.Compiling.DescriptionLimits.{AllKeepLimits}
 use Rattle.hz_base_model.specs.Forms.Trees.{Trees}
 use Rattle.hz_base_model.specs.Forms.Forms as forms
 use Rattle.hz_description_model.specs.Reading.Descriptions.{Description}

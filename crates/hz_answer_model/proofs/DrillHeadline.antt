@@ -2,13 +2,13 @@
 use Rattle.std.proofs.Common.{◌≡◌, ℕ, inl, false, List, length, Some, nat_lt, refl, sym, ◌∙◌, subst, []}
 use Rattle.std.proofs.lemmas.Bool.{le-ltb}
 use Rattle.std.proofs.lemmas.Option.{same_Some}
-use Rattle.hz_acceptance_model.specs.Accepting.Events.{issues_of, cycles_of}
-use Rattle.hz_automata_model.specs.Compiling.DescriptionLimits.{AllKeepLimits}
+use Rattle.hz_pipeline_model.specs.Accepting.Events.{issues_of, cycles_of}
+use Rattle.hz_pipeline_model.specs.Compiling.DescriptionLimits.{AllKeepLimits}
 use Rattle.hz_description_model.specs.Reading.Limits.{description_limit}
-use Rattle.hz_acceptance_model.specs.Traces.TraceLimits.{trace_limit}
+use Rattle.hz_pipeline_model.specs.Traces.TraceLimits.{trace_limit}
 use Rattle.hz_description_model.specs.Check.Places.{Known}
 use Rattle.hz_description_model.specs.Reading.Descriptions.{Description}
-use Rattle.hz_automata_model.specs.Tables.Machines.{Machine}
+use Rattle.hz_pipeline_model.specs.Tables.Machines.{Machine}
 use Rattle.hz_tabtext_model.specs.Texts.{TableText}
 use Rattle.hz_answer_model.specs.Answers.{HasDescription, Judges, DrillsDescription, AnswersOrder}
 use Rattle.hz_answer_model.specs.DrillAnswers.{Drills, IsDrillOf}
@@ -22,10 +22,10 @@ use Rattle.hz_answer_model.proofs.DoneLaws.{IsOpened, opened, IsGiven, given_of,
 use Rattle.hz_answer_model.proofs.DrillLaws.{same_machine, machine_of_tables, drawn_accepted}
 use Rattle.hz_answer_model.proofs.HeadlineLaws.{one_described, opens}
 use Rattle.hz_answer_model.proofs.WalkLaws.{writes_tables}
-use Rattle.hz_acceptance_model.proofs.Traces.DrillLaws.{draws_of_turn}
-use Rattle.hz_acceptance_model.specs.Accepting.Replay.{Accepted}
-use Rattle.hz_acceptance_model.specs.Pipelines.Pipelines.{pipeline_with}
-use Rattle.hz_acceptance_model.specs.Traces.Traces.{event_lines}
+use Rattle.hz_pipeline_model.proofs.Traces.DrillLaws.{draws_of_turn}
+use Rattle.hz_pipeline_model.specs.Accepting.Replay.{Accepted}
+use Rattle.hz_pipeline_model.specs.Pipelines.Pipelines.{pipeline_with}
+use Rattle.hz_pipeline_model.specs.Traces.Traces.{event_lines}
 use Rattle.hz_base_model.specs.Lines.{lines_of}
 use Rattle.hz_answer_model.specs.AskAnswers.{trace_names, held_in}
 use Rattle.hz_answer_model.proofs.AskAnswerLaws.{last_told, turns_ask_nothing}

@@ -2,22 +2,22 @@
 use Rattle.std.proofs.Common.{◌≡◌, ◌⊎◌, ⊎_elim, inl, inr, ℕ, List, [], map, length, Option, Some, None, refl, sym, ap, ◌∙◌, subst}
 use Rattle.std.specs.Prelude.{IsSome}
 use Rattle.std.proofs.lemmas.Option.{same_Some}
-use Rattle.hz_acceptance_model.specs.Accepting.Events.{Event, issues_of, cycles_of}
-use Rattle.hz_acceptance_model.specs.Accepting.Replay.{Accepted, start}
-use Rattle.hz_acceptance_model.proofs.Accepting.AcceptanceLaws.{accepted_or_refused, advance_accepted}
-use Rattle.hz_acceptance_model.proofs.Accepting.PlayLaws.{accepted_or_first_refused}
-use Rattle.hz_acceptance_model.proofs.Accepting.ReplayLaws.{accepted_from_runs}
-use Rattle.hz_acceptance_model.proofs.Accepting.Rows.{same_unit, places_tell}
-use Rattle.hz_automata_model.proofs.Compiling.DescriptionLaws.{machine_accepts}
+use Rattle.hz_pipeline_model.specs.Accepting.Events.{Event, issues_of, cycles_of}
+use Rattle.hz_pipeline_model.specs.Accepting.Replay.{Accepted, start}
+use Rattle.hz_pipeline_model.proofs.Accepting.AcceptanceLaws.{accepted_or_refused, advance_accepted}
+use Rattle.hz_pipeline_model.proofs.Accepting.PlayLaws.{accepted_or_first_refused}
+use Rattle.hz_pipeline_model.proofs.Accepting.ReplayLaws.{accepted_from_runs}
+use Rattle.hz_pipeline_model.proofs.Accepting.Rows.{same_unit, places_tell}
+use Rattle.hz_pipeline_model.proofs.Compiling.DescriptionLaws.{machine_accepts}
 use Rattle.hz_description_model.specs.Check.CheckFaults.{IsSound}
 use Rattle.hz_description_model.specs.Check.CheckedParts.{automata_of, class_parts}
 use Rattle.hz_description_model.specs.Check.Places.{Known}
-use Rattle.hz_acceptance_model.specs.Traces.Drills.{Drawn}
-use Rattle.hz_acceptance_model.proofs.Traces.DrillLaws.{one_drawn, some_from, draws_accepted, draws_of_class}
+use Rattle.hz_pipeline_model.specs.Traces.Drills.{Drawn}
+use Rattle.hz_pipeline_model.proofs.Traces.DrillLaws.{one_drawn, some_from, draws_accepted, draws_of_class}
 use Rattle.hz_description_model.specs.Reading.Descriptions.{Description}
-use Rattle.hz_acceptance_model.specs.Pipelines.Pipelines.{pipeline_with}
-use Rattle.hz_automata_model.proofs.Single.MachineLaws.{one_machine}
-use Rattle.hz_automata_model.specs.Tables.Machines.{Machine, machine_walk}
+use Rattle.hz_pipeline_model.specs.Pipelines.Pipelines.{pipeline_with}
+use Rattle.hz_pipeline_model.proofs.Single.MachineLaws.{one_machine}
+use Rattle.hz_pipeline_model.specs.Tables.Machines.{Machine, machine_walk}
 use Rattle.hz_tabtext_model.proofs.MachineLaws.{text_machine}
 use Rattle.hz_answer_model.specs.DrillAnswers.{IsMachineOf, IsDrillOf}
 use Rattle.hz_answer_model.specs.TableAnswers.{IsTablesOf}

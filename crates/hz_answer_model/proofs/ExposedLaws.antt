@@ -10,8 +10,8 @@ use Rattle.hz_block_model.specs.Scheduling.Schedules.{Graph, Slot, places}
 use Rattle.hz_block_model.specs.Scheduled.BlockGraphs.{timing_in, classes_of}
 use Rattle.hz_block_model.specs.Scheduled.BlockSchedules.{IsScheduleOf}
 use Rattle.hz_block_model.proofs.Scheduled.GraphLaws.{as_many}
-use Rattle.hz_timed_model.proofs.TimedLaws.{exposed_is_source}
-use Rattle.hz_timed_model.specs.ByDescription.{exposed_in}
+use Rattle.hz_measure_model.proofs.Exposed.TimedLaws.{exposed_is_source}
+use Rattle.hz_measure_model.specs.Exposed.ByDescription.{exposed_in}
 
 pub leaves_source : (d : Description) (known : Known) (block : List Instruction) (g : Graph) (slots : List Slot) (start : State) → IsScheduleOf d known block g slots → (exposed_in d block g slots start).state ≡ run block (range_with_len 0 (length block)) start
 leaves_source d known block g slots start is =

@@ -8,10 +8,10 @@ use Rattle.std.proofs.lemmas.Option.{same_Some}
 use Rattle.hz_base_model.proofs.Forms.FormsLaws.{one_reading}
 use Rattle.hz_description_model.proofs.Reading.DescriptionLaws.{one_description}
 use Rattle.hz_description_model.proofs.Check.CheckLaws.{sound_one}
-use Rattle.hz_acceptance_model.specs.Accepting.Events.{issues_of, cycles_of}
-use Rattle.hz_acceptance_model.specs.Accepting.Replay.{Accepted}
-use Rattle.hz_acceptance_model.specs.Pipelines.Pipelines.{pipeline_with}
-use Rattle.hz_automata_model.specs.Compiling.DescriptionLimits.{AllKeepLimits}
+use Rattle.hz_pipeline_model.specs.Accepting.Events.{issues_of, cycles_of}
+use Rattle.hz_pipeline_model.specs.Accepting.Replay.{Accepted}
+use Rattle.hz_pipeline_model.specs.Pipelines.Pipelines.{pipeline_with}
+use Rattle.hz_pipeline_model.specs.Compiling.DescriptionLimits.{AllKeepLimits}
 use Rattle.hz_block_model.proofs.Scheduling.TraceLaws.{issues_spelled, cycles_spelled, asks_spelled}
 use Rattle.hz_base_model.specs.Forms.Trees.{Trees}
 use Rattle.hz_description_model.specs.Reading.Descriptions.{Description}
@@ -19,7 +19,7 @@ use Rattle.hz_description_model.specs.Reading.DescriptionForms as description_fo
 use Rattle.hz_description_model.proofs.Reading.CheckableLaws.{can_be_checked}
 use Rattle.hz_description_model.proofs.Reading.DescriptionFormedAll.{well_formed}
 use Rattle.hz_description_model.specs.Reading.Limits.{description_limit}
-use Rattle.hz_acceptance_model.specs.Traces.TraceLimits.{trace_limit}
+use Rattle.hz_pipeline_model.specs.Traces.TraceLimits.{trace_limit}
 use Rattle.hz_description_model.specs.Check.CheckFaults.{IsSound}
 use Rattle.hz_description_model.specs.Check.Places.{Known}
 use Rattle.hz_block_model.proofs.Texts.Numbers.{all_few}
@@ -27,7 +27,7 @@ use Rattle.hz_block_model.specs.Running.Blocks.{Instruction}
 use Rattle.hz_block_model.specs.Running.Limits.{instruction_limit}
 use Rattle.hz_block_model.specs.Scheduling.Schedules.{Graph, Slot, present, spell}
 use Rattle.hz_block_model.proofs.Scheduled.BlockLaws.{legal_keeps}
-use Rattle.hz_answer_laws.proofs.Schedulable.ScheduleTotal.{short_trace}
+use Rattle.hz_block_model.proofs.Schedulable.ScheduleTotal.{short_trace}
 use Rattle.hz_answer_model.specs.Texts.{file_line, limit_line, accepted_line}
 use Rattle.hz_base_model.specs.Names.{Held}
 use Rattle.hz_words_model.specs.Words.{schedule, timed, bound, duo, modulo}
@@ -39,21 +39,21 @@ use Rattle.hz_answer_model.specs.TimedAnswers.{TellsTimed, Times, TimesFrom, Tim
 use Rattle.hz_answer_model.specs.BoundAnswers.{TellsBound}
 use Rattle.hz_answer_model.specs.DuoAnswers.{TellsTwo, StartsTwo, SchedulesTwo, SchedulesBlocks}
 use Rattle.hz_answer_model.specs.ModuloAnswers.{TellsKernel, Overlaps, OverlapsBody, OverlapsBlock}
-use Rattle.hz_modulo_model.specs.Repeats.{body_limit}
+use Rattle.hz_measure_model.specs.Kernels.Repeats.{body_limit}
 use Rattle.hz_answer_model.proofs.KernelLaws.{turns_legal, turns_leave_times}
-use Rattle.hz_modulo_model.specs.KernelTexts.{IsKernelOf}
+use Rattle.hz_measure_model.specs.Kernels.KernelTexts.{IsKernelOf}
 use Rattle.hz_answer_model.specs.Headline.{IsDescribed, IsBlockIn, HoldBlock, WritesSchedule, ReplayAccepts, IsStateIn, IsAsEval, KeepsTimed, KeepsBound, KeepsTwo, KeepsTurns, KeepsKernel}
 use Rattle.hz_block_model.specs.Running.States.{State, run}
 use Rattle.hz_block_model.specs.Texts.StateTexts.{IsText}
 use Rattle.std.specs.List.{range_with_len, repeat}
 use Rattle.hz_block_model.specs.Scheduled.BlockGraphs.{IsGraphOf}
-use Rattle.hz_modulo_model.specs.Turns.{turns}
+use Rattle.hz_measure_model.specs.Kernels.Turns.{turns}
 use Rattle.hz_answer_model.proofs.ExposedLaws.{leaves_source}
-use Rattle.hz_bound_model.proofs.BoundLaws.{bound_of_block}
-use Rattle.hz_duo_model.proofs.TwoLaws.{keeps_both}
-use Rattle.hz_duo_model.specs.Joining.{joined}
+use Rattle.hz_measure_model.proofs.Bounds.BoundLaws.{bound_of_block}
+use Rattle.hz_measure_model.proofs.TwoContexts.TwoLaws.{keeps_both}
+use Rattle.hz_measure_model.specs.TwoContexts.Joining.{joined}
 use Rattle.hz_answer_model.proofs.DoneLaws.{opened, formed_of, given_of, compiled_of, block_of, state_of, classes_of_block, started_of, few_of}
-use Rattle.hz_acceptance_model.specs.Traces.Traces.{event_lines}
+use Rattle.hz_pipeline_model.specs.Traces.Traces.{event_lines}
 use Rattle.hz_base_model.specs.Lines.{lines_of}
 use Rattle.hz_answer_model.specs.AskAnswers.{trace_names, held_in}
 use Rattle.hz_answer_model.proofs.AskAnswerLaws.{AsksNothing, last_told, none_of_others}

@@ -7,23 +7,23 @@ use Rattle.hz_description_model.proofs.Check.KeptLaws.{parts_kept}
 use Rattle.hz_description_model.specs.Check.Places.{Known}
 use Rattle.hz_description_model.specs.Reading.Descriptions.{Description}
 use Rattle.hz_description_model.specs.Reading.DescriptionShape.{IsCheckable}
-use Rattle.hz_acceptance_model.specs.Accepting.Replay.{Accepted}
-use Rattle.hz_acceptance_model.specs.Pipelines.Pipelines.{pipeline_with}
-use Rattle.hz_automata_model.specs.Compiling.Compiled.{Report, IsCompiled}
-use Rattle.hz_automata_model.specs.Tables.Machines.{Machine, IsMachine, IsWalked}
-use Rattle.hz_automata_model.proofs.Single.MachineLaws.{one_machine}
+use Rattle.hz_pipeline_model.specs.Accepting.Replay.{Accepted}
+use Rattle.hz_pipeline_model.specs.Pipelines.Pipelines.{pipeline_with}
+use Rattle.hz_pipeline_model.specs.Compiling.Compiled.{Report, IsCompiled}
+use Rattle.hz_pipeline_model.specs.Tables.Machines.{Machine, IsMachine, IsWalked}
+use Rattle.hz_pipeline_model.proofs.Single.MachineLaws.{one_machine}
 use Rattle.hz_block_model.specs.Running.Blocks.{Instruction}
 use Rattle.hz_block_model.specs.Running.States.{State, run}
 use Rattle.hz_block_model.specs.Scheduling.Schedules.{Graph, Slot, Legal, places}
 use Rattle.hz_block_model.specs.Scheduled.BlockGraphs.{IsGraphOf}
 use Rattle.hz_block_model.specs.Scheduled.BlockSchedules.{IsScheduleOf}
-use Rattle.hz_answer_laws.proofs.Settling.DescribedLaws.{legal_as_described}
-use Rattle.hz_answer_laws.proofs.Settling.SettleLaws.{machine_settles}
-use Rattle.hz_modulo_model.proofs.DescribedLaws.{accepted_legal, turns_leave}
-use Rattle.hz_modulo_model.proofs.RangeOfClasses.{classes_within}
-use Rattle.hz_modulo_model.proofs.TextLaws.{one_text, some_text}
-use Rattle.hz_modulo_model.specs.KernelTexts.{IsKernelOf}
-use Rattle.hz_modulo_model.specs.Turns.{turns, run_times}
+use Rattle.hz_block_model.proofs.Settling.DescribedLaws.{legal_as_described}
+use Rattle.hz_block_model.proofs.Settling.SettleLaws.{machine_settles}
+use Rattle.hz_measure_model.proofs.Kernels.DescribedLaws.{accepted_legal, turns_leave}
+use Rattle.hz_measure_model.proofs.Kernels.RangeOfClasses.{classes_within}
+use Rattle.hz_measure_model.proofs.Kernels.TextLaws.{one_text, some_text}
+use Rattle.hz_measure_model.specs.Kernels.KernelTexts.{IsKernelOf}
+use Rattle.hz_measure_model.specs.Kernels.Turns.{turns, run_times}
 use Rattle.hz_description_model.proofs.Check.QueryLaws.{asks_nothing}
 
 pub one_kernel_text : (d : Description) (known : Known) (body : List Instruction) (s t : List ℕ) → IsKernelOf d known body s → IsKernelOf d known body t → s ≡ t

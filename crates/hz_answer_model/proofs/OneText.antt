@@ -1,11 +1,11 @@
 -- The text of the tables of a description is one.
 use Rattle.std.proofs.Common.{◌≡◌, ℕ, List, map, sym, ap, ◌∙◌}
-use Rattle.hz_automata_model.specs.Compiling.Compiled.{Report}
+use Rattle.hz_pipeline_model.specs.Compiling.Compiled.{Report}
 use Rattle.hz_description_model.specs.Check.CheckedParts.{automata_of, class_parts}
 use Rattle.hz_description_model.specs.Check.Places.{Known}
 use Rattle.hz_description_model.specs.Reading.Descriptions.{Description}
-use Rattle.hz_automata_model.proofs.Single.MachineLaws.{one_machine, one_told}
-use Rattle.hz_automata_model.specs.Tables.Machines.{Machine}
+use Rattle.hz_pipeline_model.proofs.Single.MachineLaws.{one_machine, one_told}
+use Rattle.hz_pipeline_model.specs.Tables.Machines.{Machine}
 use Rattle.hz_tabtext_model.specs.Said.{tables_said}
 use Rattle.hz_tabtext_model.specs.Texts.{spelled}
 use Rattle.hz_tabtext_model.proofs.MachineLaws.{text_machine}

@@ -1,6 +1,6 @@
 -- The text of the tables of a description is within its limit of bytes, where nothing is told of states.
 use Rattle.std.proofs.Common.{◌≡◌, ℕ, ◌≤◌, false, List, length, sym, subst, arith}
-use Rattle.hz_automata_model.specs.Compiling.Compiled.{shows_states}
+use Rattle.hz_pipeline_model.specs.Compiling.Compiled.{shows_states}
 use Rattle.hz_description_model.specs.Reading.Limits.{description_limit}
 use Rattle.hz_description_model.specs.Check.Places.{Known}
 use Rattle.hz_answer_laws.proofs.Sizes.TablesSizes.{tables_most}

@@ -5,11 +5,11 @@ use Rattle.std.proofs.lemmas.Bool.{cases_lt}
 use Rattle.std.proofs.lemmas.List.{take_more, take_all, take-append-drop, take-take}
 use Rattle.std.proofs.lemmas.Option.{same_Some, slice_get-get_or, slice_get_within, get_or_from_slice_get}
 use Rattle.std.proofs.lemmas.List.Elements.{All-get_or}
-use Rattle.hz_acceptance_model.specs.Accepting.Events.{Event, issue, advance, ask}
-use Rattle.hz_automata_model.specs.Tables.Machines.{Machine, IsMachine, IsPart, Part, part_walk, word_of, machine_walk, parts_walk, starts_of, advance_of}
-use Rattle.hz_automata_model.specs.Tables.Tables.{Table, IsTable, walk, entry}
-use Rattle.hz_automata_model.proofs.Tables.TableLaws.{walk-append, walk_stays}
-use Rattle.hz_automata_model.proofs.Tables.MachineLaws.{machine_walk-ask, word_of-append, parts_walk-append, machine_walk-each, machine_walk-part, machine_walk-all}
+use Rattle.hz_pipeline_model.specs.Accepting.Events.{Event, issue, advance, ask}
+use Rattle.hz_pipeline_model.specs.Tables.Machines.{Machine, IsMachine, IsPart, Part, part_walk, word_of, machine_walk, parts_walk, starts_of, advance_of}
+use Rattle.hz_pipeline_model.specs.Tables.Tables.{Table, IsTable, walk, entry}
+use Rattle.hz_pipeline_model.proofs.Tables.TableLaws.{walk-append, walk_stays}
+use Rattle.hz_pipeline_model.proofs.Tables.MachineLaws.{machine_walk-ask, word_of-append, parts_walk-append, machine_walk-each, machine_walk-part, machine_walk-all}
 use Rattle.hz_answer_model.specs.TableAnswers.{IsFirstUnwalked, IsIssueIn}
 
 module _ (m : Machine) where

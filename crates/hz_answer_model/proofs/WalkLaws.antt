@@ -9,13 +9,13 @@ use Rattle.std.proofs.lemmas.Option.{none-some, same_Some, slice_get-map, slice_
 use Rattle.hz_base_model.proofs.Forms.FormsLaws.{one_reading, forms_or_fault}
 use Rattle.hz_description_model.proofs.Reading.DescriptionLaws.{one_description, description_or_fault}
 use Rattle.hz_description_model.proofs.Check.CheckLaws.{fault_or_sound}
-use Rattle.hz_acceptance_model.specs.Accepting.Events.{Event, issue, IsOfClass, ask, issues_of, cycles_of}
-use Rattle.hz_acceptance_model.specs.Accepting.Replay.{Accepted, FirstRefused, Class}
+use Rattle.hz_pipeline_model.specs.Accepting.Events.{Event, issue, IsOfClass, ask, issues_of, cycles_of}
+use Rattle.hz_pipeline_model.specs.Accepting.Replay.{Accepted, FirstRefused, Class}
 use Rattle.hz_description_model.specs.Reservations.Automata.{UnitPlace}
-use Rattle.hz_automata_model.specs.Compiling.DescriptionLimits.{AllKeepLimits}
-use Rattle.hz_automata_model.proofs.Compiling.DescriptionLaws.{machine_accepts, unwalked_refused, machine_tells, automata_count, queries_there}
+use Rattle.hz_pipeline_model.specs.Compiling.DescriptionLimits.{AllKeepLimits}
+use Rattle.hz_pipeline_model.proofs.Compiling.DescriptionLaws.{machine_accepts, unwalked_refused, machine_tells, automata_count, queries_there}
 use Rattle.hz_description_model.specs.Reading.Limits.{description_limit}
-use Rattle.hz_acceptance_model.specs.Traces.TraceLimits.{trace_limit}
+use Rattle.hz_pipeline_model.specs.Traces.TraceLimits.{trace_limit}
 use Rattle.hz_base_model.specs.Lines.{lines_of}
 use Rattle.hz_description_model.specs.Check.CheckedParts.{class_parts, AutomatonParts, automata_of, automaton_count, queries_in}
 use Rattle.hz_description_model.specs.Check.CheckFaults.{CheckFaultAt, IsSound}
@@ -23,14 +23,14 @@ use Rattle.hz_description_model.specs.Check.Places.{Known, class_names}
 use Rattle.hz_description_model.specs.Reading.Descriptions.{Description, ClassItem}
 use Rattle.hz_description_model.specs.Reading.DescriptionForms as description_forms
 use Rattle.hz_base_model.specs.Forms.Trees.{Trees}
-use Rattle.hz_acceptance_model.specs.Pipelines.Pipelines.{class_of, pipeline_with}
-use Rattle.hz_automata_model.specs.Tables.Machines.{Machine, machine_walk, Part, no_part, states_tell}
+use Rattle.hz_pipeline_model.specs.Pipelines.Pipelines.{class_of, pipeline_with}
+use Rattle.hz_pipeline_model.specs.Tables.Machines.{Machine, machine_walk, Part, no_part, states_tell}
 use Rattle.hz_tabtext_model.specs.Judging.{Fault}
 use Rattle.hz_tabtext_model.specs.Reading.{tables_in}
 use Rattle.hz_tabtext_model.specs.Texts.{TableText}
 use Rattle.hz_tabtext_model.proofs.TextAgain.{tables_again}
 use Rattle.hz_tabtext_model.proofs.Steps.{ok_is}
-use Rattle.hz_acceptance_model.specs.Traces.Traces.{Trace, event_lines}
+use Rattle.hz_pipeline_model.specs.Traces.Traces.{Trace, event_lines}
 use Rattle.hz_answer_model.specs.Answers.{HasDescription, Compiles, Replays, ReplaysTrace, ReplaysDescription, Judges, CompilesDescription, AnswersOrder}
 use Rattle.hz_answer_model.specs.Headline.{IsDescribed, WritesTables, WalkIsReplay}
 use Rattle.hz_base_model.specs.Names.{Held}
@@ -43,13 +43,13 @@ use Rattle.hz_answer_model.proofs.DoneLaws.{IsOpened, opened, IsGiven, given_of,
 use Rattle.hz_answer_model.proofs.EventLaws.{issue_named}
 use Rattle.hz_answer_model.proofs.HeadlineLaws.{one_described}
 use Rattle.hz_answer_model.proofs.ShortLaws.{tables_short}
-use Rattle.hz_acceptance_model.specs.Accepting.Asking.{IsOfQuery}
-use Rattle.hz_acceptance_model.specs.Traces.TraceNames.{TraceNames}
-use Rattle.hz_acceptance_model.proofs.Traces.NameLaws.{events_of_classes, events_of_queries}
+use Rattle.hz_pipeline_model.specs.Accepting.Asking.{IsOfQuery}
+use Rattle.hz_pipeline_model.specs.Traces.TraceNames.{TraceNames}
+use Rattle.hz_pipeline_model.proofs.Traces.NameLaws.{events_of_classes, events_of_queries}
 use Rattle.hz_description_model.specs.Check.CheckedShape.{ask_names}
-use Rattle.hz_automata_model.specs.Tables.MachineNames.{names_of_machine}
-use Rattle.hz_automata_model.specs.Compiling.Compiled.{Report, IsCompiled}
-use Rattle.hz_automata_model.specs.Compiling.AutomatonPipelines.{automaton_at, no_automaton}
+use Rattle.hz_pipeline_model.specs.Tables.MachineNames.{names_of_machine}
+use Rattle.hz_pipeline_model.specs.Compiling.Compiled.{Report, IsCompiled}
+use Rattle.hz_pipeline_model.specs.Compiling.AutomatonPipelines.{automaton_at, no_automaton}
 use Rattle.hz_answer_model.specs.AskAnswers.{Tells, trace_names, held_in, told_by}
 use Rattle.hz_answer_model.proofs.AskAnswerLaws.{told_alike}
 use Rattle.hz_answer_model.proofs.TableLaws.{prefix_walked}

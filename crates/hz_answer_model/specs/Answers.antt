@@ -7,20 +7,20 @@ use Rattle.hz_description_model.specs.Reading.DescriptionForms as description_fo
 use Rattle.hz_description_model.specs.Reading.Descriptions.{Description}
 use Rattle.hz_answer_model.specs.FaultTexts.{description_line, check_line, check_status}
 use Rattle.hz_description_model.specs.Reading.Limits.{description_limit}
-use Rattle.hz_acceptance_model.specs.Traces.TraceLimits.{trace_limit}
+use Rattle.hz_pipeline_model.specs.Traces.TraceLimits.{trace_limit}
 use Rattle.hz_description_model.specs.Check.CheckedParts.{automaton_names}
-use Rattle.hz_acceptance_model.specs.Pipelines.Pipelines.{pipeline_with}
-use Rattle.hz_automata_model.specs.Compiling.DescriptionLimits.{AllKeepLimits, IsFirstPastLimit}
-use Rattle.hz_acceptance_model.specs.Accepting.Events.{Event, issue, issues_of, cycles_of}
-use Rattle.hz_acceptance_model.specs.Accepting.Replay.{Pipeline, Class, Accepted, FirstRefused}
+use Rattle.hz_pipeline_model.specs.Pipelines.Pipelines.{pipeline_with}
+use Rattle.hz_pipeline_model.specs.Compiling.DescriptionLimits.{AllKeepLimits, IsFirstPastLimit}
+use Rattle.hz_pipeline_model.specs.Accepting.Events.{Event, issue, issues_of, cycles_of}
+use Rattle.hz_pipeline_model.specs.Accepting.Replay.{Pipeline, Class, Accepted, FirstRefused}
 use Rattle.hz_description_model.specs.Check.Sites.{Site}
 use Rattle.hz_base_model.specs.Lines.{lines_of}
-use Rattle.hz_acceptance_model.specs.Traces.Traces.{event_lines}
+use Rattle.hz_pipeline_model.specs.Traces.Traces.{event_lines}
 use Rattle.hz_answer_model.specs.Texts.{states_line, accepted_line, refused_line}
 use Rattle.hz_base_model.specs.Forms.Trees.{Trees}
 use Rattle.hz_words_model.specs.Words.{Order, compile, replay, walk, schedule, eval, drill, timed, bound, duo, modulo, order_of, usage_line}
 use Rattle.hz_base_model.specs.Names.{Held}
-use Rattle.hz_acceptance_model.specs.Traces.TraceNames.{TraceNames}
+use Rattle.hz_pipeline_model.specs.Traces.TraceNames.{TraceNames}
 use Rattle.hz_answer_model.specs.AskAnswers.{Reserved, Tells, trace_names, held_in}
 use Rattle.hz_answer_model.specs.Phases.{Says, Next, FileWord, OpensAll, HasForms, Traces}
 use Rattle.hz_answer_model.specs.BlockAnswers.{block_limit, state_text_limit, JudgesBlock}

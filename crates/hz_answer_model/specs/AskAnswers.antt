@@ -1,11 +1,11 @@
 -- What `replay` and `walk` tell at the asks of a trace, before how it ends: this profile, docs/FORMATS.md, 'Answers'.
 use Rattle.std.specs.Prelude.{◌≡◌, ◌⊎◌, ℕ, true, false, List, [], ◌∷◌, ◌++◌, map, drop, slice_index_or, Some}
-use Rattle.hz_acceptance_model.specs.Accepting.Asking.{IsHeld}
-use Rattle.hz_acceptance_model.specs.Accepting.Events.{Event, issue, advance, ask}
-use Rattle.hz_acceptance_model.specs.Pipelines.Pipelines.{pipeline_with}
-use Rattle.hz_acceptance_model.specs.Traces.TraceNames.{TraceNames}
-use Rattle.hz_automata_model.specs.Compiling.AutomatonPipelines.{query_unit}
-use Rattle.hz_automata_model.specs.Tables.Machines.{Machine, machine_walk, states_tell}
+use Rattle.hz_pipeline_model.specs.Accepting.Asking.{IsHeld}
+use Rattle.hz_pipeline_model.specs.Accepting.Events.{Event, issue, advance, ask}
+use Rattle.hz_pipeline_model.specs.Pipelines.Pipelines.{pipeline_with}
+use Rattle.hz_pipeline_model.specs.Traces.TraceNames.{TraceNames}
+use Rattle.hz_pipeline_model.specs.Compiling.AutomatonPipelines.{query_unit}
+use Rattle.hz_pipeline_model.specs.Tables.Machines.{Machine, machine_walk, states_tell}
 use Rattle.hz_description_model.specs.Check.CheckedParts.{automata_of}
 use Rattle.hz_description_model.specs.Check.CheckedShape.{ask_names}
 use Rattle.hz_description_model.specs.Check.Places.{Known, class_names}

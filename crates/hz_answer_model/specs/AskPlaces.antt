@@ -1,11 +1,11 @@
 -- What is told at the asks of a trace, place by place of its events: this profile, docs/FORMATS.md, 'Answers'. Law: `asks_are_told_at_their_places`.
 use Rattle.std.specs.Prelude.{◌≡◌, ◌⊎◌, ℕ, true, false, List, [], length, take, slice_get, slice_index_or, Some}
 use Rattle.std.specs.List.{concat}
-use Rattle.hz_acceptance_model.specs.Accepting.Asking.{Asked}
-use Rattle.hz_acceptance_model.specs.Accepting.Events.{Event, issue, advance, ask}
-use Rattle.hz_acceptance_model.specs.Pipelines.Pipelines.{pipeline_with}
-use Rattle.hz_acceptance_model.specs.Traces.TraceNames.{TraceNames}
-use Rattle.hz_automata_model.specs.Compiling.AutomatonPipelines.{query_unit}
+use Rattle.hz_pipeline_model.specs.Accepting.Asking.{Asked}
+use Rattle.hz_pipeline_model.specs.Accepting.Events.{Event, issue, advance, ask}
+use Rattle.hz_pipeline_model.specs.Pipelines.Pipelines.{pipeline_with}
+use Rattle.hz_pipeline_model.specs.Traces.TraceNames.{TraceNames}
+use Rattle.hz_pipeline_model.specs.Compiling.AutomatonPipelines.{query_unit}
 use Rattle.hz_description_model.specs.Check.Places.{Known}
 use Rattle.hz_description_model.specs.Reading.Descriptions.{Description}
 use Rattle.hz_answer_model.specs.AskAnswers.{Reserved, AskSays, query_name}

@@ -5,8 +5,8 @@ use Rattle.hz_description_model.specs.Check.Places.{Known}
 use Rattle.hz_block_model.specs.Running.Blocks.{Instruction}
 use Rattle.hz_block_model.specs.Scheduling.Schedules.{Graph, Slot}
 use Rattle.hz_block_model.specs.Scheduled.BlockSchedules.{IsScheduleOf}
-use Rattle.hz_bound_model.specs.Bounds.{Bound, IsBoundOf}
-use Rattle.hz_bound_model.specs.Texts.{text_of_bound}
+use Rattle.hz_measure_model.specs.Bounds.Bounds.{Bound, IsBoundOf}
+use Rattle.hz_measure_model.specs.Bounds.Texts.{text_of_bound}
 use Rattle.hz_answer_model.specs.BlockAnswers.{HasBlock}
 use Rattle.hz_answer_model.specs.Phases.{Says}
 use Rattle.hz_answer_model.specs.ScheduleAnswers.{HasClasses, Starts}

@@ -1,14 +1,14 @@
 -- What `drill` answers: this profile, docs/FORMATS.md, 'Answers'.
 use Rattle.std.specs.Prelude.{◌≡◌, ℕ, List, map, length, Some}
-use Rattle.hz_acceptance_model.specs.Accepting.Events.{Event, issues_of, cycles_of}
-use Rattle.hz_acceptance_model.specs.Accepting.Replay.{Accepted}
-use Rattle.hz_automata_model.specs.Compiling.Compiled.{Report, IsCompiled}
+use Rattle.hz_pipeline_model.specs.Accepting.Events.{Event, issues_of, cycles_of}
+use Rattle.hz_pipeline_model.specs.Accepting.Replay.{Accepted}
+use Rattle.hz_pipeline_model.specs.Compiling.Compiled.{Report, IsCompiled}
 use Rattle.hz_description_model.specs.Check.CheckedParts.{automata_of, class_parts}
 use Rattle.hz_description_model.specs.Check.Places.{Known}
-use Rattle.hz_acceptance_model.specs.Traces.Drills.{Drawn}
+use Rattle.hz_pipeline_model.specs.Traces.Drills.{Drawn}
 use Rattle.hz_description_model.specs.Reading.Descriptions.{Description}
-use Rattle.hz_acceptance_model.specs.Pipelines.Pipelines.{pipeline_with}
-use Rattle.hz_automata_model.specs.Tables.Machines.{Machine, IsMachine, machine_walk}
+use Rattle.hz_pipeline_model.specs.Pipelines.Pipelines.{pipeline_with}
+use Rattle.hz_pipeline_model.specs.Tables.Machines.{Machine, IsMachine, machine_walk}
 use Rattle.hz_answer_model.specs.Texts.{drill_text}
 
 -- The machine is what is compiled of a description.

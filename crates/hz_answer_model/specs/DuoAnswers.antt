@@ -6,8 +6,8 @@ use Rattle.hz_block_model.specs.Running.Blocks.{Instruction}
 use Rattle.hz_block_model.specs.Running.Limits.{instruction_limit}
 use Rattle.hz_block_model.specs.Scheduling.Schedules.{Graph, Slot}
 use Rattle.hz_block_model.specs.Scheduled.BlockSchedules.{IsScheduleOf}
-use Rattle.hz_duo_model.specs.Texts.{text_of_two}
-use Rattle.hz_duo_model.specs.TwoContexts.{IsScheduleOfTwo}
+use Rattle.hz_measure_model.specs.TwoContexts.Texts.{text_of_two}
+use Rattle.hz_measure_model.specs.TwoContexts.TwoContexts.{IsScheduleOfTwo}
 use Rattle.hz_answer_model.specs.BlockAnswers.{HasBlock, HasAtMost}
 use Rattle.hz_answer_model.specs.Phases.{Says}
 use Rattle.hz_answer_model.specs.ScheduleAnswers.{HasClasses, Starts}

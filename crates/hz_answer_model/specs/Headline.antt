@@ -7,32 +7,32 @@ use Rattle.hz_description_model.specs.Reading.Descriptions.{Description}
 use Rattle.hz_description_model.specs.Reading.DescriptionForms as description_forms
 use Rattle.hz_description_model.specs.Check.CheckFaults.{IsSound}
 use Rattle.hz_description_model.specs.Check.Places.{Known}
-use Rattle.hz_acceptance_model.specs.Traces.TraceLimits.{advance_limit, trace_limit}
-use Rattle.hz_acceptance_model.specs.Accepting.Events.{Event, issues_of, cycles_of}
-use Rattle.hz_acceptance_model.specs.Accepting.Replay.{Accepted}
-use Rattle.hz_automata_model.specs.Compiling.Compiled.{shows_states}
-use Rattle.hz_acceptance_model.specs.Pipelines.Pipelines.{pipeline_with}
+use Rattle.hz_pipeline_model.specs.Traces.TraceLimits.{advance_limit, trace_limit}
+use Rattle.hz_pipeline_model.specs.Accepting.Events.{Event, issues_of, cycles_of}
+use Rattle.hz_pipeline_model.specs.Accepting.Replay.{Accepted}
+use Rattle.hz_pipeline_model.specs.Compiling.Compiled.{shows_states}
+use Rattle.hz_pipeline_model.specs.Pipelines.Pipelines.{pipeline_with}
 use Rattle.hz_block_model.specs.Running.Blocks.{Instruction}
 use Rattle.hz_block_model.specs.Running.Limits.{instruction_limit}
 use Rattle.hz_block_model.specs.Texts.BlockForms as blocks
 use Rattle.hz_block_model.specs.Scheduling.Schedules.{Graph, Slot, Legal, places, present, spell}
 use Rattle.hz_block_model.specs.Scheduled.BlockGraphs.{IsGraphOf}
 use Rattle.hz_block_model.specs.Scheduled.BlockSchedules.{IsScheduleOf, KeepsBlock}
-use Rattle.hz_acceptance_model.specs.Traces.Traces.{Trace}
+use Rattle.hz_pipeline_model.specs.Traces.Traces.{Trace}
 use Rattle.hz_tabtext_model.specs.Texts.{TableText}
 use Rattle.hz_block_model.specs.Running.States.{State, run}
 use Rattle.hz_block_model.specs.Texts.StateForms as states
-use Rattle.hz_timed_model.specs.ByDescription.{exposed_in}
-use Rattle.hz_timed_model.specs.Texts.{text_of_reads}
+use Rattle.hz_measure_model.specs.Exposed.ByDescription.{exposed_in}
+use Rattle.hz_measure_model.specs.Exposed.Texts.{text_of_reads}
 use Rattle.hz_block_model.specs.Texts.StateTexts.{IsText}
-use Rattle.hz_bound_model.specs.Bounds.{Bound, IsBoundOf}
-use Rattle.hz_bound_model.specs.Texts.{text_of_bound}
-use Rattle.hz_modulo_model.specs.KernelTexts.{IsKernelOf}
-use Rattle.hz_modulo_model.specs.Turns.{turns, run_times}
-use Rattle.hz_modulo_model.specs.Repeats.{body_limit}
-use Rattle.hz_duo_model.specs.Joining.{joined}
-use Rattle.hz_duo_model.specs.Texts.{text_of_two}
-use Rattle.hz_duo_model.specs.TwoContexts.{IsScheduleOfTwo, KeepsBoth}
+use Rattle.hz_measure_model.specs.Bounds.Bounds.{Bound, IsBoundOf}
+use Rattle.hz_measure_model.specs.Bounds.Texts.{text_of_bound}
+use Rattle.hz_measure_model.specs.Kernels.KernelTexts.{IsKernelOf}
+use Rattle.hz_measure_model.specs.Kernels.Turns.{turns, run_times}
+use Rattle.hz_measure_model.specs.Kernels.Repeats.{body_limit}
+use Rattle.hz_measure_model.specs.TwoContexts.Joining.{joined}
+use Rattle.hz_measure_model.specs.TwoContexts.Texts.{text_of_two}
+use Rattle.hz_measure_model.specs.TwoContexts.TwoContexts.{IsScheduleOfTwo, KeepsBoth}
 use Rattle.hz_answer_model.specs.Answers.{AnswersOrder}
 use Rattle.hz_answer_model.specs.AskAnswers.{trace_names}
 use Rattle.hz_answer_model.specs.DrillAnswers.{IsDrillOf}

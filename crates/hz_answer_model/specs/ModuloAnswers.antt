@@ -3,8 +3,8 @@ use Rattle.std.specs.Prelude.{◌≡◌, ℕ, List, length}
 use Rattle.hz_description_model.specs.Reading.Descriptions.{Description}
 use Rattle.hz_description_model.specs.Check.Places.{Known}
 use Rattle.hz_block_model.specs.Running.Blocks.{Instruction}
-use Rattle.hz_modulo_model.specs.KernelTexts.{IsKernelOf}
-use Rattle.hz_modulo_model.specs.Repeats.{body_limit}
+use Rattle.hz_measure_model.specs.Kernels.KernelTexts.{IsKernelOf}
+use Rattle.hz_measure_model.specs.Kernels.Repeats.{body_limit}
 use Rattle.hz_answer_model.specs.BlockAnswers.{HasBlock, HasAtMost}
 use Rattle.hz_answer_model.specs.ScheduleAnswers.{HasClasses, Starts}
 

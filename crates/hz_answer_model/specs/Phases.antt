@@ -4,9 +4,9 @@ use Rattle.hz_base_model.specs.Forms.Forms.{form_word}
 use Rattle.hz_base_model.specs.Forms.Forms as forms
 use Rattle.hz_base_model.specs.Forms.Trees.{Trees}
 use Rattle.hz_base_model.specs.Names.{Held}
-use Rattle.hz_acceptance_model.specs.Accepting.Events.{Event}
-use Rattle.hz_acceptance_model.specs.Traces.TraceNames.{TraceNames}
-use Rattle.hz_acceptance_model.specs.Traces.Traces.{Trace, TraceFaultAt, trace_word}
+use Rattle.hz_pipeline_model.specs.Accepting.Events.{Event}
+use Rattle.hz_pipeline_model.specs.Traces.TraceNames.{TraceNames}
+use Rattle.hz_pipeline_model.specs.Traces.Traces.{Trace, TraceFaultAt, trace_word}
 use Rattle.hz_answer_model.specs.Texts.{file_line, limit_line, fault_line}
 
 -- the status and the text

@@ -1,19 +1,19 @@
 -- What `compile` and `walk` answer: this profile, docs/FORMATS.md, 'Answers'.
 use Rattle.std.specs.Prelude.{◌≡◌, ℕ, ◌+◌, List, map, All, take, slice_get, Option, Some, None, IsSome, Err, ◌⊎◌}
-use Rattle.hz_acceptance_model.specs.Accepting.Events.{Event, issue, issues_of, cycles_of}
-use Rattle.hz_automata_model.specs.Compiling.Compiled.{Report, IsCompiled}
+use Rattle.hz_pipeline_model.specs.Accepting.Events.{Event, issue, issues_of, cycles_of}
+use Rattle.hz_pipeline_model.specs.Compiling.Compiled.{Report, IsCompiled}
 use Rattle.hz_base_model.specs.Lines.{lines_of}
 use Rattle.hz_description_model.specs.Check.CheckedParts.{automata_of, class_parts}
 use Rattle.hz_description_model.specs.Check.Places.{Known}
 use Rattle.hz_description_model.specs.Reading.Descriptions.{Description}
-use Rattle.hz_automata_model.specs.Single.Told.{ListsAscending}
-use Rattle.hz_automata_model.specs.Tables.Machines.{Machine, machine_walk}
+use Rattle.hz_pipeline_model.specs.Single.Told.{ListsAscending}
+use Rattle.hz_pipeline_model.specs.Tables.Machines.{Machine, machine_walk}
 use Rattle.hz_tabtext_model.specs.Judging.{Kind, tables_word}
 use Rattle.hz_tabtext_model.specs.Reading.{tables_in}
 use Rattle.hz_tabtext_model.specs.Said.{tables_said}
 use Rattle.hz_tabtext_model.specs.Texts.{TableText, spelled}
-use Rattle.hz_acceptance_model.specs.Traces.Traces.{event_lines}
-use Rattle.hz_automata_model.specs.Tables.MachineNames.{names_of_machine}
+use Rattle.hz_pipeline_model.specs.Traces.Traces.{event_lines}
+use Rattle.hz_pipeline_model.specs.Tables.MachineNames.{names_of_machine}
 use Rattle.hz_answer_model.specs.AskAnswers.{Tells, told_by}
 use Rattle.hz_answer_model.specs.Phases.{Says, Next, TellsFault, Traces}
 use Rattle.hz_answer_model.specs.Texts.{accepted_line, refused_line}

@@ -6,8 +6,8 @@ use Rattle.hz_block_model.specs.Running.Blocks.{Instruction}
 use Rattle.hz_block_model.specs.Running.States.{State}
 use Rattle.hz_block_model.specs.Scheduling.Schedules.{Graph, Slot}
 use Rattle.hz_block_model.specs.Scheduled.BlockSchedules.{IsScheduleOf}
-use Rattle.hz_timed_model.specs.ByDescription.{exposed_in}
-use Rattle.hz_timed_model.specs.Texts.{IsTimedText}
+use Rattle.hz_measure_model.specs.Exposed.ByDescription.{exposed_in}
+use Rattle.hz_measure_model.specs.Exposed.Texts.{IsTimedText}
 use Rattle.hz_answer_model.specs.BlockAnswers.{HasBlock, HasState}
 use Rattle.hz_answer_model.specs.ScheduleAnswers.{HasClasses, Starts}
 

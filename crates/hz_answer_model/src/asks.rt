@@ -1,12 +1,12 @@
 //! Laws of asks: what is told, and of which units.
 
 ghost use Rattle.std.specs.Prelude.{◌≡◌, ◌↔◌, ℕ, List, [], Contains, Some, IsTrue, slice_get, slice_index_or};
-ghost use Rattle.hz_acceptance_model.specs.Accepting.Events.{Event, ask};
-ghost use Rattle.hz_acceptance_model.specs.Traces.TraceNames.{TraceNames, query_place};
+ghost use Rattle.hz_pipeline_model.specs.Accepting.Events.{Event, ask};
+ghost use Rattle.hz_pipeline_model.specs.Traces.TraceNames.{TraceNames, query_place};
 ghost use Rattle.hz_answer_model.specs.AskAnswers.{AsksSay, held_in, told_by, trace_names};
 ghost use Rattle.hz_answer_model.specs.AskPlaces.{IsToldByPlaces, AskedSays};
-ghost use Rattle.hz_automata_model.specs.Compiling.AutomatonPipelines.{query_unit};
-ghost use Rattle.hz_automata_model.specs.Tables.Machines.{Machine};
+ghost use Rattle.hz_pipeline_model.specs.Compiling.AutomatonPipelines.{query_unit};
+ghost use Rattle.hz_pipeline_model.specs.Tables.Machines.{Machine};
 ghost use Rattle.hz_description_model.specs.Check.Places.{Known, unit_place};
 ghost use Rattle.hz_description_model.specs.Check.CheckFaults.{IsSound};
 ghost use Rattle.hz_description_model.specs.Reading.Descriptions.{Description, UnitItem};

@@ -4,7 +4,7 @@ use Rattle.std.specs.Prelude.{◌↔◌, IfOk, IfErr}
 use Rattle.std.proofs.lemmas.Bool.{cases_lt}
 use Rattle.std.proofs.lemmas.Bool.Decides.{nat_tests}
 use Rattle.hz_base_model.specs.Limits.{class_limit}
-use Rattle.hz_automata_model.specs.Tables.Tables.{entry, IsTable}
+use Rattle.hz_pipeline_model.specs.Tables.Tables.{entry, IsTable}
 use Rattle.hz_tables.specs.Rows.{Rows, KeepsRows}
 use Rattle.hz_states.specs.declared.fault.StateFault.{StateFault}
 use Rattle.hz_states.specs.declared.fault.StateFault.TheVariants.{CellLimit, NoMemory}

@@ -18,10 +18,10 @@ use Rattle.hz_check.specs.Shape.{automaton_of, class_of}
 use Rattle.hz_unitsets.specs.SetRules.{statement_of, statements_of, IsInRange}
 use Rattle.hz_tables.specs.declared.part.Part.{Part}
 use Rattle.hz_tables.specs.Parts.{part_of}
-use Rattle.hz_automata_model.specs.Tables.Machines as model
-use Rattle.hz_automata_model.specs.Tables.Machines.{IsMachine, IsPart}
+use Rattle.hz_pipeline_model.specs.Tables.Machines as model
+use Rattle.hz_pipeline_model.specs.Tables.Machines.{IsMachine, IsPart}
 use Rattle.hz_auto.specs.Machines.{AskQueries}
-use Rattle.hz_automata_model.specs.Compiling.AutomatonPipelines.{automaton_at, lists_at, queries_at, no_automaton}
+use Rattle.hz_pipeline_model.specs.Compiling.AutomatonPipelines.{automaton_at, lists_at, queries_at, no_automaton}
 
 pub map_twice : {A B C : Type 0} (f : B → C) (g : A → B) (xs : List A) → map f (map g xs) ≡ map (λ x. f (g x)) xs
 map_twice f g [] = refl

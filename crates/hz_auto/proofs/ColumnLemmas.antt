@@ -11,10 +11,10 @@ use Rattle.std.proofs.Math.Seq.{get_or-append_seam}
 use Rattle.std.proofs.lemmas.List.Elements.{Contains-get_or}
 use Rattle.std.proofs.lemmas.Option.{slice_get_within, slice_get-get_or, get_or_from_slice_get}
 use Rattle.hz_base_model.specs.Pairs.{Pair}
-use Rattle.hz_automata_model.proofs.Reaching.CountLaws.{weighs, sum_by_ones}
+use Rattle.hz_pipeline_model.proofs.Reaching.CountLaws.{weighs, sum_by_ones}
 use Rattle.hz_states.specs.Interned.{IsAdded}
 use Rattle.hz_states.proofs.Adding.{different_added}
-use Rattle.hz_automata_model.specs.Compiling.ClassColumns.{IsColumns}
+use Rattle.hz_pipeline_model.specs.Compiling.ClassColumns.{IsColumns}
 
 abbrev Lists : Type 0
 Lists = List (List (List (Pair ℕ)))

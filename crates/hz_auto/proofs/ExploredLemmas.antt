@@ -9,8 +9,8 @@ use Rattle.std.proofs.lemmas.List.{length-map, get_or-map}
 use Rattle.hz_base_model.specs.Limits.{class_limit, unit_limit}
 use Rattle.hz_base_model.specs.Pairs.{Pair}
 use Rattle.hz_description_model.specs.Reservations.Sets.{Statement}
-use Rattle.hz_acceptance_model.specs.Accepting.Fitting.{AskTheSame}
-use Rattle.hz_acceptance_model.specs.Accepting.Replay.{first_fit, any_fit}
+use Rattle.hz_pipeline_model.specs.Accepting.Fitting.{AskTheSame}
+use Rattle.hz_pipeline_model.specs.Accepting.Replay.{first_fit, any_fit}
 use Rattle.hz_description_model.specs.Reading.Descriptions as model
 use Rattle.hz_description_model.specs.Check.CheckedParts.{AutomatonParts, ClassParts}
 use Rattle.hz_description_model.specs.Check.CheckedShape.{ask_names}
@@ -21,12 +21,12 @@ use Rattle.hz_mdread.specs.Shape.{options as options_of}
 use Rattle.hz_check.specs.declared.checked.CheckedClass.{CheckedClass}
 use Rattle.hz_unitsets.specs.declared.set_rules.SetRule.{SetRule}
 use Rattle.hz_unitsets.specs.SetRules.{statements_of}
-use Rattle.hz_automata_model.specs.Tables.Tables.{IsTable}
-use Rattle.hz_automata_model.specs.Tables.AskColumns.{HasAsks}
-use Rattle.hz_automata_model.specs.Tables.Machines.{Part, IsPart}
-use Rattle.hz_automata_model.specs.Reaching.Present.{MarksPresent}
-use Rattle.hz_automata_model.proofs.Asks.AskLaws.{asked_table}
-use Rattle.hz_automata_model.specs.Tables.StateLimits.{member_limit, grid_limit}
+use Rattle.hz_pipeline_model.specs.Tables.Tables.{IsTable}
+use Rattle.hz_pipeline_model.specs.Tables.AskColumns.{HasAsks}
+use Rattle.hz_pipeline_model.specs.Tables.Machines.{Part, IsPart}
+use Rattle.hz_pipeline_model.specs.Reaching.Present.{MarksPresent}
+use Rattle.hz_pipeline_model.proofs.Asks.AskLaws.{asked_table}
+use Rattle.hz_pipeline_model.specs.Tables.StateLimits.{member_limit, grid_limit}
 use Rattle.hz_determ.specs.declared.build.Caps.{Caps}
 use Rattle.hz_determ.specs.declared.build.Explored.{Explored}
 use Rattle.hz_determ.specs.Explored.{IsCaps, IsBuilt, AreWithin, PassesCap}
@@ -34,9 +34,9 @@ use Rattle.hz_determ.specs.Asking.{IsSingle}
 use Rattle.hz_determ.specs.Spaces.{pipeline_of, lists_of}
 use Rattle.hz_states.specs.declared.fault.StateFault.{StateFault}
 use Rattle.hz_states.specs.declared.fault.StateFault.TheVariants.{CellLimit, NoMemory}
-use Rattle.hz_automata_model.specs.Compiling.AutomatonPipelines.{automaton_at, lists_at, queries_at}
-use Rattle.hz_automata_model.specs.Compiling.ClassColumns.{IsColumns}
-use Rattle.hz_automata_model.specs.Compiling.Compiled.{IsCompiledPart}
+use Rattle.hz_pipeline_model.specs.Compiling.AutomatonPipelines.{automaton_at, lists_at, queries_at}
+use Rattle.hz_pipeline_model.specs.Compiling.ClassColumns.{IsColumns}
+use Rattle.hz_pipeline_model.specs.Compiling.Compiled.{IsCompiledPart}
 use Rattle.hz_auto.specs.declared.part.Found.{Found}
 use Rattle.hz_auto.specs.declared.report.Shown.{Shown}
 use Rattle.hz_auto.specs.Parts.{HasTable, IsCapped, IsPastAt, IsWhole, found_part_of, shows}

@@ -2,20 +2,20 @@
 use Rattle.std.proofs.Common.{◌≡◌, ℕ, ◌+◌, ◌≤◌, Bool, true, false, List, [], ◌∷◌, ◌++◌, length, replicate, slice_get, All, Option, Some, None, refl, sym, ap, ◌∙◌, subst, arith}
 use Rattle.std.specs.Prelude.{is_some, MatchBool, IsSomeAnd, slice_index_or, ◌&&◌, ◌↔◌}
 use Rattle.std.proofs.Math.Nat.{mul-le-mul_left}
-use Rattle.hz_acceptance_model.specs.Accepting.Events.{Event, issue, advance, ask, IsOfClass}
-use Rattle.hz_acceptance_model.specs.Accepting.Replay.{Pipeline}
-use Rattle.hz_acceptance_model.specs.Accepting.Asking.{IsHeld}
+use Rattle.hz_pipeline_model.specs.Accepting.Events.{Event, issue, advance, ask, IsOfClass}
+use Rattle.hz_pipeline_model.specs.Accepting.Replay.{Pipeline}
+use Rattle.hz_pipeline_model.specs.Accepting.Asking.{IsHeld}
 use Rattle.hz_description_model.specs.Reading.Descriptions.{Options}
 use Rattle.hz_description_model.specs.Check.CheckedParts.{AutomatonParts, ClassParts}
-use Rattle.hz_automata_model.specs.Tables.Tables.{Table, entry, walk}
-use Rattle.hz_automata_model.specs.Tables.Apart.{WalkTheSame}
-use Rattle.hz_automata_model.specs.Tables.Machines.{Part, IsPart, part_walk, word_of, advance_of, tells_reserved}
-use Rattle.hz_automata_model.proofs.Tables.TableLaws.{breadth_first_reached}
-use Rattle.hz_automata_model.specs.Least.Normal.{IsNormal}
-use Rattle.hz_automata_model.proofs.Asks.AskLaws.{least_stays, walk_one, walk_end}
-use Rattle.hz_automata_model.proofs.Single.PartLaws.{some_of}
-use Rattle.hz_automata_model.specs.Compiling.AutomatonPipelines.{automaton_pipeline, queries_at}
-use Rattle.hz_automata_model.specs.Compiling.Compiled.{shows_states, IsCompiledPart, IsShown, Shown, Report}
+use Rattle.hz_pipeline_model.specs.Tables.Tables.{Table, entry, walk}
+use Rattle.hz_pipeline_model.specs.Tables.Apart.{WalkTheSame}
+use Rattle.hz_pipeline_model.specs.Tables.Machines.{Part, IsPart, part_walk, word_of, advance_of, tells_reserved}
+use Rattle.hz_pipeline_model.proofs.Tables.TableLaws.{breadth_first_reached}
+use Rattle.hz_pipeline_model.specs.Least.Normal.{IsNormal}
+use Rattle.hz_pipeline_model.proofs.Asks.AskLaws.{least_stays, walk_one, walk_end}
+use Rattle.hz_pipeline_model.proofs.Single.PartLaws.{some_of}
+use Rattle.hz_pipeline_model.specs.Compiling.AutomatonPipelines.{automaton_pipeline, queries_at}
+use Rattle.hz_pipeline_model.specs.Compiling.Compiled.{shows_states, IsCompiledPart, IsShown, Shown, Report}
 use Rattle.hz_auto.specs.Parts.{IsLeast}
 use Rattle.hz_auto.proofs.SameParts.{same_part}
 

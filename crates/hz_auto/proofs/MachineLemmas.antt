@@ -12,20 +12,20 @@ use Rattle.hz_check.specs.Shape.{automaton_of, class_of}
 use Rattle.hz_mdread.specs.Shape.{options as options_of}
 use Rattle.std.specs.Prelude.{if◌then◌else◌}
 use Rattle.std.specs.List.{sum_by, flat_map}
-use Rattle.hz_acceptance_model.specs.Accepting.Replay.{Pipeline, first_fit, any_fit}
-use Rattle.hz_automata_model.specs.Reaching.Counts.{Count}
-use Rattle.hz_automata_model.specs.Reaching.Counts as count
-use Rattle.hz_automata_model.proofs.Reaching.LimitLaws.{grids_above_states, grids_above_members}
+use Rattle.hz_pipeline_model.specs.Accepting.Replay.{Pipeline, first_fit, any_fit}
+use Rattle.hz_pipeline_model.specs.Reaching.Counts.{Count}
+use Rattle.hz_pipeline_model.specs.Reaching.Counts as count
+use Rattle.hz_pipeline_model.proofs.Reaching.LimitLaws.{grids_above_states, grids_above_members}
 use Rattle.hz_states.specs.declared.fault.StateFault.{StateFault}
 use Rattle.hz_states.specs.declared.fault.StateFault.TheVariants.{GridLimit, SetLimit, MemberLimit, CellLimit, NoMemory}
 use Rattle.hz_tables.specs.declared.part.Part.{Part}
 use Rattle.hz_tables.specs.Parts.{part_of}
-use Rattle.hz_automata_model.specs.Tables.Machines as model
-use Rattle.hz_automata_model.specs.Tables.Machines.{Machine, no_part, part_at, names_of}
-use Rattle.hz_automata_model.specs.Compiling.AutomatonPipelines.{automaton_at, lists_at, automaton_pipeline, queries_at}
-use Rattle.hz_automata_model.specs.Compiling.Compiled.{IsCompiledPart, IsCompiled, IsFirstPast, report_at, shows_states}
-use Rattle.hz_automata_model.specs.Compiling.CompiledParts.{cap_of, IsPastLimit}
-use Rattle.hz_acceptance_model.specs.Pipelines.Pipelines.{treatment_of}
+use Rattle.hz_pipeline_model.specs.Tables.Machines as model
+use Rattle.hz_pipeline_model.specs.Tables.Machines.{Machine, no_part, part_at, names_of}
+use Rattle.hz_pipeline_model.specs.Compiling.AutomatonPipelines.{automaton_at, lists_at, automaton_pipeline, queries_at}
+use Rattle.hz_pipeline_model.specs.Compiling.Compiled.{IsCompiledPart, IsCompiled, IsFirstPast, report_at, shows_states}
+use Rattle.hz_pipeline_model.specs.Compiling.CompiledParts.{cap_of, IsPastLimit}
+use Rattle.hz_pipeline_model.specs.Pipelines.Pipelines.{treatment_of}
 use Rattle.hz_base_model.specs.Pairs.{Pair}
 use Rattle.hz_auto.specs.declared.fault.AutoFault.{AutoFault}
 use Rattle.hz_auto.specs.declared.fault.AutoFault.TheVariants.{Limit}

@@ -9,39 +9,39 @@ use Rattle.std.proofs.lemmas.List.{length-map, get_or_default}
 use Rattle.hz_base_model.specs.Limits.{unit_limit}
 use Rattle.hz_base_model.specs.Pairs.{Pair, grid_cmp}
 use Rattle.hz_description_model.specs.Reservations.Sets.{Statement}
-use Rattle.hz_acceptance_model.specs.Accepting.Events.{Event, IsOfClass}
-use Rattle.hz_acceptance_model.specs.Accepting.Fitting.{AskTheSame}
-use Rattle.hz_acceptance_model.specs.Accepting.Replay.{Pipeline, alternatives_at, first_fit, any_fit}
+use Rattle.hz_pipeline_model.specs.Accepting.Events.{Event, IsOfClass}
+use Rattle.hz_pipeline_model.specs.Accepting.Fitting.{AskTheSame}
+use Rattle.hz_pipeline_model.specs.Accepting.Replay.{Pipeline, alternatives_at, first_fit, any_fit}
 use Rattle.hz_description_model.specs.Reading.Descriptions.{Options}
 use Rattle.hz_description_model.specs.Check.CheckedParts.{AutomatonParts, ClassParts}
 use Rattle.hz_description_model.specs.Check.CheckedShape.{ask_names}
-use Rattle.hz_acceptance_model.specs.Pipelines.Pipelines.{treatment_of}
-use Rattle.hz_automata_model.specs.Tables.Tables.{Table}
-use Rattle.hz_automata_model.specs.Tables.AskColumns.{HasAsks}
-use Rattle.hz_automata_model.proofs.Asks.AskLaws.{asked_table, asks_stay}
-use Rattle.hz_automata_model.proofs.Asks.BareLaws.{without}
-use Rattle.hz_automata_model.specs.Tables.Machines.{Part, IsPart, part_walk}
-use Rattle.hz_automata_model.specs.Tables.Orders.{IsBreadthFirst}
-use Rattle.hz_automata_model.specs.Tables.StateLimits.{cell_limit, member_limit, grid_limit}
-use Rattle.hz_automata_model.specs.Reaching.Reach.{IsLeft, IsReachedState, SameGrids}
-use Rattle.hz_automata_model.specs.Reaching.Present.{MarksPresent}
-use Rattle.hz_automata_model.specs.Reaching.Columns.{pipeline_on}
-use Rattle.hz_automata_model.specs.Reaching.Counts.{Count, IsAbove, IsAtMost, CountIsAbove, CountIsAtMost}
-use Rattle.hz_automata_model.specs.Reaching.Counts as count
-use Rattle.hz_automata_model.specs.Reaching.Built.{IsAutomaton}
-use Rattle.hz_automata_model.proofs.Reaching.CountLaws.{no_count_both, sum_by_alike}
+use Rattle.hz_pipeline_model.specs.Pipelines.Pipelines.{treatment_of}
+use Rattle.hz_pipeline_model.specs.Tables.Tables.{Table}
+use Rattle.hz_pipeline_model.specs.Tables.AskColumns.{HasAsks}
+use Rattle.hz_pipeline_model.proofs.Asks.AskLaws.{asked_table, asks_stay}
+use Rattle.hz_pipeline_model.proofs.Asks.BareLaws.{without}
+use Rattle.hz_pipeline_model.specs.Tables.Machines.{Part, IsPart, part_walk}
+use Rattle.hz_pipeline_model.specs.Tables.Orders.{IsBreadthFirst}
+use Rattle.hz_pipeline_model.specs.Tables.StateLimits.{cell_limit, member_limit, grid_limit}
+use Rattle.hz_pipeline_model.specs.Reaching.Reach.{IsLeft, IsReachedState, SameGrids}
+use Rattle.hz_pipeline_model.specs.Reaching.Present.{MarksPresent}
+use Rattle.hz_pipeline_model.specs.Reaching.Columns.{pipeline_on}
+use Rattle.hz_pipeline_model.specs.Reaching.Counts.{Count, IsAbove, IsAtMost, CountIsAbove, CountIsAtMost}
+use Rattle.hz_pipeline_model.specs.Reaching.Counts as count
+use Rattle.hz_pipeline_model.specs.Reaching.Built.{IsAutomaton}
+use Rattle.hz_pipeline_model.proofs.Reaching.CountLaws.{no_count_both, sum_by_alike}
 use Rattle.hz_states.specs.declared.fault.StateFault.{StateFault}
 use Rattle.hz_states.specs.declared.fault.StateFault.TheVariants.{GridLimit, SetLimit, MemberLimit, CellLimit, NoMemory}
 use Rattle.hz_determ.specs.declared.build.Caps.{Caps}
 use Rattle.hz_determ.specs.Explored.{AreWithin, PassesCap}
-use Rattle.hz_automata_model.specs.Compiling.AutomatonPipelines.{automaton_at, lists_at, automaton_pipeline, queries_at}
-use Rattle.hz_automata_model.specs.Compiling.ClassColumns.{IsColumns}
-use Rattle.hz_automata_model.specs.Compiling.Compiled.{shows_states, IsCompiledPart, IsShown, Shown, Report}
-use Rattle.hz_automata_model.specs.Compiling.CompiledParts.{cap_of, IsWithinLimits, IsPastLimit, WalksAccepted, TellsWhatIsLeft, TellsWhatIsHeld}
-use Rattle.hz_automata_model.specs.Compiling.Counted.{CountIs}
-use Rattle.hz_automata_model.proofs.Compiling.ColumnLaws.{nothing_past}
-use Rattle.hz_automata_model.proofs.Compiling.CompiledLaws.{walks_accepted, tells_left, numbered, stands, low, counts_above, counts_most, tells_held}
-use Rattle.hz_automata_model.proofs.Compiling.ReportLaws.{grid_count, state_count, cell_count, member_count}
+use Rattle.hz_pipeline_model.specs.Compiling.AutomatonPipelines.{automaton_at, lists_at, automaton_pipeline, queries_at}
+use Rattle.hz_pipeline_model.specs.Compiling.ClassColumns.{IsColumns}
+use Rattle.hz_pipeline_model.specs.Compiling.Compiled.{shows_states, IsCompiledPart, IsShown, Shown, Report}
+use Rattle.hz_pipeline_model.specs.Compiling.CompiledParts.{cap_of, IsWithinLimits, IsPastLimit, WalksAccepted, TellsWhatIsLeft, TellsWhatIsHeld}
+use Rattle.hz_pipeline_model.specs.Compiling.Counted.{CountIs}
+use Rattle.hz_pipeline_model.proofs.Compiling.ColumnLaws.{nothing_past}
+use Rattle.hz_pipeline_model.proofs.Compiling.CompiledLaws.{walks_accepted, tells_left, numbered, stands, low, counts_above, counts_most, tells_held}
+use Rattle.hz_pipeline_model.proofs.Compiling.ReportLaws.{grid_count, state_count, cell_count, member_count}
 use Rattle.hz_auto.specs.Parts.{IsCapped, IsPastAt}
 use Rattle.hz_auto.specs.Reports.{AreArranged}
 use Rattle.hz_auto.proofs.ColumnLemmas.{few_columns, columns_within}

@@ -13,11 +13,11 @@ use Rattle.std.proofs.lemmas.List.Sums.{sum_by-cons}
 use Rattle.std.proofs.lemmas.Map.Keys.{IsDistinct-IsPermutation}
 use Rattle.std.proofs.lemmas.Map.Made.{AllPairs-from_IsDistinct, IsDistinct-from_AllPairs}
 use Rattle.hz_base_model.specs.Pairs.{Pair, SamePairs, grid_eq}
-use Rattle.hz_acceptance_model.specs.Accepting.Events.{Event}
-use Rattle.hz_acceptance_model.specs.Accepting.Replay.{Pipeline}
-use Rattle.hz_automata_model.specs.Reaching.Reach.{AreDifferent, IsLeft}
-use Rattle.hz_automata_model.specs.Reaching.Built.{grid_at, state_at}
-use Rattle.hz_automata_model.proofs.Reaching.CountLaws.{same_pairs_itself}
+use Rattle.hz_pipeline_model.specs.Accepting.Events.{Event}
+use Rattle.hz_pipeline_model.specs.Accepting.Replay.{Pipeline}
+use Rattle.hz_pipeline_model.specs.Reaching.Reach.{AreDifferent, IsLeft}
+use Rattle.hz_pipeline_model.specs.Reaching.Built.{grid_at, state_at}
+use Rattle.hz_pipeline_model.proofs.Reaching.CountLaws.{same_pairs_itself}
 use Rattle.hz_grid.specs.Grids.{IsGrid, grid_eq-laws}
 use Rattle.hz_grid.specs.Hashes.{grid_eq-Decides}
 use Rattle.hz_grid.proofs.Pairs.{same_grids}

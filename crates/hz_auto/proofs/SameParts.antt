@@ -1,6 +1,6 @@
 -- Parts of the same fields are the same.
 use Rattle.std.proofs.Common.{◌≡◌, ap, ◌∙◌}
-use Rattle.hz_automata_model.specs.Tables.Machines.{Part}
+use Rattle.hz_pipeline_model.specs.Tables.Machines.{Part}
 
 pub same_part : (p q : Part) → p.name ≡ q.name → p.map ≡ q.map → p.columns ≡ q.columns → p.asks ≡ q.asks → p.rows ≡ q.rows → p ≡ q
 same_part p q named mapped columns asks rows =

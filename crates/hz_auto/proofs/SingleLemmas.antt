@@ -6,16 +6,16 @@ use Rattle.std.proofs.lemmas.List.Elements.{All-nil, All-cons}
 use Rattle.std.proofs.lemmas.Option.{none-some}
 use Rattle.hz_base_model.specs.Pairs.{Pair}
 use Rattle.hz_base_model.proofs.Elements.{Contains-nil, Contains-head, Contains-tail}
-use Rattle.hz_acceptance_model.specs.Accepting.Events.{Event}
-use Rattle.hz_acceptance_model.specs.Accepting.Replay.{Pipeline, Accepted, first_fit}
-use Rattle.hz_automata_model.specs.Tables.Tables.{Table, IsTable, entry, walk}
-use Rattle.hz_automata_model.proofs.Tables.TableLaws.{walk-none}
-use Rattle.hz_automata_model.proofs.Single.WordLaws.{entry_low}
-use Rattle.hz_automata_model.specs.Reaching.Reach.{IsLeft}
-use Rattle.hz_automata_model.specs.Reaching.Columns.{AreColumns, events_at}
-use Rattle.hz_automata_model.specs.Reaching.Built.{IsAutomaton, grid_at, set_at, state_at}
-use Rattle.hz_automata_model.proofs.Reaching.AutomatonLaws.{leaves_of_accepted}
-use Rattle.hz_automata_model.proofs.Reaching.LimitLaws.{one_left}
+use Rattle.hz_pipeline_model.specs.Accepting.Events.{Event}
+use Rattle.hz_pipeline_model.specs.Accepting.Replay.{Pipeline, Accepted, first_fit}
+use Rattle.hz_pipeline_model.specs.Tables.Tables.{Table, IsTable, entry, walk}
+use Rattle.hz_pipeline_model.proofs.Tables.TableLaws.{walk-none}
+use Rattle.hz_pipeline_model.proofs.Single.WordLaws.{entry_low}
+use Rattle.hz_pipeline_model.specs.Reaching.Reach.{IsLeft}
+use Rattle.hz_pipeline_model.specs.Reaching.Columns.{AreColumns, events_at}
+use Rattle.hz_pipeline_model.specs.Reaching.Built.{IsAutomaton, grid_at, set_at, state_at}
+use Rattle.hz_pipeline_model.proofs.Reaching.AutomatonLaws.{leaves_of_accepted}
+use Rattle.hz_pipeline_model.proofs.Reaching.LimitLaws.{one_left}
 use Rattle.hz_determ.specs.Asking.{IsSingle}
 
 -- what is walked to its end is columns

@@ -1,7 +1,7 @@
 -- The table of an automaton with a column for each of its query units.
 use Rattle.std.specs.Prelude.{◌≡◌, ◌⊎◌, ℕ, ◌+◌, ◌*◌, ◌<◌, ◌≤◌, List, length, All}
 use Rattle.hz_base_model.specs.Limits.{class_limit, unit_limit}
-use Rattle.hz_automata_model.specs.Tables.Tables.{IsTable}
+use Rattle.hz_pipeline_model.specs.Tables.Tables.{IsTable}
 use Rattle.hz_states.specs.declared.fault.StateFault.{StateFault}
 use Rattle.hz_states.specs.declared.fault.StateFault.TheVariants.{CellLimit, NoMemory}
 use Rattle.hz_determ.specs.declared.build.Caps.{Caps}

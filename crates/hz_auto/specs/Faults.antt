@@ -1,7 +1,7 @@
 -- The count that a fault names.
 use Rattle.std.specs.Prelude.{◌≡◌, Bool, if◌then◌else◌, Option, Some, None}
-use Rattle.hz_automata_model.specs.Reaching.Counts.{Count}
-use Rattle.hz_automata_model.specs.Reaching.Counts as count
+use Rattle.hz_pipeline_model.specs.Reaching.Counts.{Count}
+use Rattle.hz_pipeline_model.specs.Reaching.Counts as count
 use Rattle.hz_states.specs.declared.fault.StateFault.{StateFault}
 use Rattle.hz_states.specs.declared.fault.StateFault.TheVariants.{GridLimit, SetLimit, MemberLimit, CellLimit, NoMemory}
 use Rattle.hz_auto.specs.declared.fault.Kind.{Kind}

@@ -10,9 +10,9 @@ use Rattle.hz_states.specs.declared.fault.StateFault.TheVariants.{GridLimit, Set
 use Rattle.hz_auto.specs.declared.fault.Kind.TheVariants.{Grids, States, Members, Cells}
 use Rattle.hz_tables.specs.declared.part.Part.{Part}
 use Rattle.hz_tables.specs.Parts.{part_of}
-use Rattle.hz_automata_model.specs.Tables.Machines.{part_at, names_of}
-use Rattle.hz_automata_model.specs.Compiling.Compiled.{IsCompiledPart, IsFirstPast, report_at}
-use Rattle.hz_automata_model.specs.Compiling.Compiled as model
+use Rattle.hz_pipeline_model.specs.Tables.Machines.{part_at, names_of}
+use Rattle.hz_pipeline_model.specs.Compiling.Compiled.{IsCompiledPart, IsFirstPast, report_at}
+use Rattle.hz_pipeline_model.specs.Compiling.Compiled as model
 use Rattle.hz_auto.specs.declared.fault.AutoFault.{AutoFault}
 use Rattle.hz_auto.specs.declared.fault.AutoFault.TheVariants.{Limit, NoMemory}
 use Rattle.hz_auto.specs.declared.report.AutoReport.{AutoReport}

@@ -4,20 +4,20 @@ use Rattle.hz_mdread.specs.declared.options.Options.{Options}
 use Rattle.hz_description_model.specs.Reading.Descriptions as model
 use Rattle.hz_description_model.specs.Check.CheckedParts.{AutomatonParts, ClassParts}
 use Rattle.hz_description_model.specs.Check.CheckedShape.{ask_names}
-use Rattle.hz_automata_model.specs.Reaching.Counts.{Count}
-use Rattle.hz_automata_model.specs.Reaching.Counts as count
+use Rattle.hz_pipeline_model.specs.Reaching.Counts.{Count}
+use Rattle.hz_pipeline_model.specs.Reaching.Counts as count
 use Rattle.hz_states.specs.declared.fault.StateFault.{StateFault}
 use Rattle.hz_states.specs.declared.fault.StateFault.TheVariants.{GridLimit, SetLimit, MemberLimit, CellLimit, NoMemory}
-use Rattle.hz_automata_model.specs.Tables.Machines.{Part, advance_of}
+use Rattle.hz_pipeline_model.specs.Tables.Machines.{Part, advance_of}
 use Rattle.hz_determ.specs.declared.build.Caps.{Caps}
 use Rattle.hz_determ.specs.declared.build.Explored.{Explored}
 use Rattle.hz_determ.specs.Asking.{IsAsked}
-use Rattle.hz_automata_model.specs.Compiling.AutomatonPipelines.{lists_at, automaton_pipeline, queries_at}
-use Rattle.hz_automata_model.specs.Compiling.Compiled.{shows_states}
-use Rattle.hz_automata_model.specs.Compiling.CompiledParts.{cap_of, IsPastLimit}
-use Rattle.hz_automata_model.specs.Tables.Tables.{IsTable}
-use Rattle.hz_automata_model.specs.Tables.Apart.{WalkTheSame}
-use Rattle.hz_automata_model.specs.Least.Normal.{IsNormal}
+use Rattle.hz_pipeline_model.specs.Compiling.AutomatonPipelines.{lists_at, automaton_pipeline, queries_at}
+use Rattle.hz_pipeline_model.specs.Compiling.Compiled.{shows_states}
+use Rattle.hz_pipeline_model.specs.Compiling.CompiledParts.{cap_of, IsPastLimit}
+use Rattle.hz_pipeline_model.specs.Tables.Tables.{IsTable}
+use Rattle.hz_pipeline_model.specs.Tables.Apart.{WalkTheSame}
+use Rattle.hz_pipeline_model.specs.Least.Normal.{IsNormal}
 use Rattle.hz_tables.specs.declared.table.Table.{Table}
 use Rattle.hz_tables.specs.Parts.{IsPlain, IsLeastWidth}
 use Rattle.hz_auto.specs.declared.part.Found.{Found}

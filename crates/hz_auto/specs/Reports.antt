@@ -3,11 +3,11 @@ use Rattle.std.specs.Prelude.{◌≡◌, ℕ, ◌<◌, Bool, List, [], map, leng
 use Rattle.std.specs.Option.{option_map}
 use Rattle.std.specs.List.{sum_by}
 use Rattle.hz_base_model.specs.Pairs.{Pair, grid_cmp}
-use Rattle.hz_automata_model.specs.Reaching.Built.{grid_at}
+use Rattle.hz_pipeline_model.specs.Reaching.Built.{grid_at}
 use Rattle.hz_tables.specs.Rows.{KeepsRows}
 use Rattle.hz_grid.specs.Grids.{IsGrid}
 use Rattle.hz_determ.specs.declared.build.Explored.{Explored}
-use Rattle.hz_automata_model.specs.Compiling.Compiled as model
+use Rattle.hz_pipeline_model.specs.Compiling.Compiled as model
 use Rattle.hz_auto.specs.declared.report.AutoReport.{AutoReport}
 use Rattle.hz_auto.specs.declared.report.Shown.{Shown}
 

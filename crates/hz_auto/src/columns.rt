@@ -2,8 +2,8 @@
 
 ghost use Rattle.std.specs.Prelude.{◌≡◌, ◌<◌, ◌≤◌, ℕ, length, map, All, IfOk, OnOk};
 ghost use Rattle.hz_base_model.specs.Limits.{class_limit};
-ghost use Rattle.hz_automata_model.specs.Compiling.AutomatonPipelines.{lists_at};
-ghost use Rattle.hz_automata_model.specs.Compiling.ClassColumns.{IsColumns};
+ghost use Rattle.hz_pipeline_model.specs.Compiling.AutomatonPipelines.{lists_at};
+ghost use Rattle.hz_pipeline_model.specs.Compiling.ClassColumns.{IsColumns};
 ghost use Rattle.hz_check.specs.Shape.{class_of};
 ghost use Rattle.hz_determ.specs.Spaces.{lists_of};
 ghost use Rattle.hz_states.specs.Interned.{IsAdded};

@@ -1,10 +1,10 @@
 //! The machine of a checked description.
 
 ghost use Rattle.std.specs.Prelude.{◌≡◌, ◌<◌, ◌≤◌, ◌^◌, ◌++◌, ◌∷◌, [], length, map, All, IfOk, IfErr, OnOk};
-ghost use Rattle.hz_automata_model.specs.Compiling.Compiled.{IsCompiled};
+ghost use Rattle.hz_pipeline_model.specs.Compiling.Compiled.{IsCompiled};
 ghost use Rattle.hz_check.specs.Shape.{automaton_of, class_of};
 ghost use Rattle.hz_mdread.specs.Shape.{options as options_of};
-ghost use Rattle.hz_automata_model.specs.Tables.Machines.{IsPart};
+ghost use Rattle.hz_pipeline_model.specs.Tables.Machines.{IsPart};
 ghost use Rattle.hz_tables.specs.Machines.{machine_of};
 ghost use Rattle.hz_tables.specs.Parts.{part_of};
 ghost use Rattle.hz_auto.specs.Parts.{IsKept};

@@ -2,13 +2,13 @@
 
 ghost use Rattle.std.specs.Prelude.{◌≡◌, ◌<◌, ◌≤◌, ◌&&◌, length, map, All, IfOk, IfErr, if◌then◌else◌, true};
 ghost use Rattle.std.specs.List.{sum_by};
-ghost use Rattle.hz_acceptance_model.specs.Accepting.Replay.{first_fit, any_fit};
+ghost use Rattle.hz_pipeline_model.specs.Accepting.Replay.{first_fit, any_fit};
 ghost use Rattle.hz_base_model.specs.Limits.{class_limit};
-ghost use Rattle.hz_automata_model.specs.Tables.Machines.{IsPart};
-ghost use Rattle.hz_automata_model.specs.Tables.Tables.{IsTable};
-ghost use Rattle.hz_automata_model.specs.Tables.StateLimits.{grid_limit, member_limit};
+ghost use Rattle.hz_pipeline_model.specs.Tables.Machines.{IsPart};
+ghost use Rattle.hz_pipeline_model.specs.Tables.Tables.{IsTable};
+ghost use Rattle.hz_pipeline_model.specs.Tables.StateLimits.{grid_limit, member_limit};
 ghost use Rattle.hz_tables.specs.Parts.{part_of, rows_of, columns_of};
-ghost use Rattle.hz_automata_model.specs.Compiling.Compiled.{IsCompiledPart};
+ghost use Rattle.hz_pipeline_model.specs.Compiling.Compiled.{IsCompiledPart};
 ghost use Rattle.hz_check.specs.Shape.{automaton_of, class_of};
 ghost use Rattle.hz_mdread.specs.Shape.{options as options_of};
 ghost use Rattle.hz_determ.specs.Explored.{IsCaps, IsBuilt, AreWithin, PassesCap};

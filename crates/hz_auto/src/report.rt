@@ -2,7 +2,7 @@
 
 ghost use Rattle.std.specs.Prelude.{◌≡◌, ◌<◌, ◌≤◌, length, map, All, IfOk};
 ghost use Rattle.std.specs.List.{sum_by};
-ghost use Rattle.hz_automata_model.specs.Tables.StateLimits.{grid_limit, member_limit};
+ghost use Rattle.hz_pipeline_model.specs.Tables.StateLimits.{grid_limit, member_limit};
 ghost use Rattle.hz_auto.specs.Reports.{AreArranged, IsArranged, IsShownOf, IsReportOf};
 
 use hz_determ::Explored;

@@ -2,7 +2,7 @@
 use Rattle.std.proofs.Common.{◌≡◌, ℕ, ◌<◌, ◌≤◌, Some, None, length, get_or, List, [], Option, sym, ap, ◌∙◌, arith, ⊎_elim}
 use Rattle.std.proofs.lemmas.Bool.{cases_lt}
 use Rattle.std.proofs.lemmas.List.{get_or_past}
-use Rattle.hz_automata_model.specs.Tables.Tables.{row_of, IsTable}
+use Rattle.hz_pipeline_model.specs.Tables.Tables.{row_of, IsTable}
 use Rattle.hz_tables.specs.Rows.{Rows, KeepsRows}
 use Rattle.hz_automata_rows.proofs.LeadingRows.{AreRows}
 

@@ -1,6 +1,6 @@
 -- The first entries of a state, and the first rows of a table.
 use Rattle.std.specs.Prelude.{◌≡◌, ℕ, ◌<◌, Some, length}
-use Rattle.hz_automata_model.specs.Tables.Tables.{Table, entry}
+use Rattle.hz_pipeline_model.specs.Tables.Tables.{Table, entry}
 use Rattle.hz_automata_rows.specs.Leading.{IsRow}
 
 -- the entries of a state in the first k columns are states

@@ -1,6 +1,6 @@
 -- Tables whose entries are looked at one by one.
 use Rattle.std.specs.Prelude.{◌≡◌, ◌≢◌, ℕ, ◌<◌, ◌≤◌, Some, None, length}
-use Rattle.hz_automata_model.specs.Tables.Tables.{Table, entry}
+use Rattle.hz_pipeline_model.specs.Tables.Tables.{Table, entry}
 
 -- the entries of a state are, and its advance is one
 pub record IsRow (table : Table) (columns state : ℕ) : Type 0 where

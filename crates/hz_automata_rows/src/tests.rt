@@ -3,7 +3,7 @@
 ghost use Rattle.std.specs.Prelude.{◌≡◌, ◌≤◌, length, IfOk};
 ghost use Rattle.hz_automata_rows.specs.Examples.{shared};
 ghost use Rattle.hz_tables.specs.Parts.{part_of};
-ghost use Rattle.hz_automata_model.specs.Tables.Machines.{IsPart};
+ghost use Rattle.hz_pipeline_model.specs.Tables.Machines.{IsPart};
 
 mod alternatives;
 mod asking;

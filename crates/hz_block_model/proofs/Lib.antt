@@ -3,3 +3,5 @@ pub mod Texts
 pub mod Dependences
 pub mod Scheduling
 pub mod Scheduled
+pub mod Settling
+pub mod Schedulable

@@ -1,10 +1,10 @@
 //! Laws of the schedules of a block.
 
 ghost use Rattle.std.specs.Prelude.{◌≡◌, ℕ, List, All};
-ghost use Rattle.hz_acceptance_model.specs.Accepting.Replay.{Accepted};
+ghost use Rattle.hz_pipeline_model.specs.Accepting.Replay.{Accepted};
 ghost use Rattle.hz_description_model.specs.Check.Places.{Known};
 ghost use Rattle.hz_description_model.specs.Reading.Descriptions.{Description};
-ghost use Rattle.hz_acceptance_model.specs.Pipelines.Pipelines.{pipeline_with};
+ghost use Rattle.hz_pipeline_model.specs.Pipelines.Pipelines.{pipeline_with};
 ghost use Rattle.hz_block_model.specs.Running.Blocks.{Instruction};
 ghost use Rattle.hz_block_model.specs.Dependences.Classes.{ClassFault};
 ghost use Rattle.hz_block_model.specs.Scheduling.Schedules.{Graph, Slot, Legal};

@@ -7,5 +7,7 @@ pub mod examples;
 pub mod grammar_laws;
 pub mod kept_laws;
 pub mod operator_laws;
+pub mod schedulable_laws;
 pub mod schedule_laws;
+pub mod settling_laws;
 pub mod text_laws;

@@ -2,10 +2,10 @@
 
 ghost use Rattle.std.specs.Prelude.{◌≡◌, ◌↔◌, ◌<◌, ◌≤◌, ◌*◌, ℕ, List, length, All};
 ghost use Rattle.std.specs.List.{AllPairs};
-ghost use Rattle.hz_acceptance_model.specs.Accepting.Asking.{issues_and_advances};
-ghost use Rattle.hz_acceptance_model.specs.Accepting.Events.{Event, IsOfClass, issues_of, cycles_of};
-ghost use Rattle.hz_acceptance_model.specs.Accepting.Replay.{Pipeline, Accepted};
-ghost use Rattle.hz_automata_model.specs.Tables.Machines.{Machine, IsWalked};
+ghost use Rattle.hz_pipeline_model.specs.Accepting.Asking.{issues_and_advances};
+ghost use Rattle.hz_pipeline_model.specs.Accepting.Events.{Event, IsOfClass, issues_of, cycles_of};
+ghost use Rattle.hz_pipeline_model.specs.Accepting.Replay.{Pipeline, Accepted};
+ghost use Rattle.hz_pipeline_model.specs.Tables.Machines.{Machine, IsWalked};
 ghost use Rattle.hz_block_model.specs.Scheduling.Schedules.{Graph, Slot, present, spell, Legal, Greedy};
 
 /// Which traces are accepted, whatever tells it: a machine that walks them, or the pipeline of a description.

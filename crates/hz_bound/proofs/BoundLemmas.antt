@@ -18,9 +18,9 @@ use Rattle.hz_depend.specs.declared.parts.GraphInsn.{GraphInsn}
 use Rattle.hz_depend.specs.GraphShape.{edge_of, IsSchedulable}
 use Rattle.hz_check.specs.declared.checked.Checked.{Checked}
 use Rattle.hz_sched.specs.Shape.{node_of, graph_of}
-use Rattle.hz_bound_model.specs.Paths.{greatest, GoesOn, IsChain}
-use Rattle.hz_bound_model.specs.Loads.{Load as ModelLoad, ways_by, load_of as load_by}
-use Rattle.hz_bound_model.specs.Bounds.{units_of, units_from, UnitLoad, loads_of, heavier, heaviest, IsBoundBy}
+use Rattle.hz_measure_model.specs.Bounds.Paths.{greatest, GoesOn, IsChain}
+use Rattle.hz_measure_model.specs.Bounds.Loads.{Load as ModelLoad, ways_by, load_of as load_by}
+use Rattle.hz_measure_model.specs.Bounds.Bounds.{units_of, units_from, UnitLoad, loads_of, heavier, heaviest, IsBoundBy}
 use Rattle.hz_bound.specs.declared.parts.Load.{Load}
 use Rattle.hz_bound.specs.declared.parts.Bound.{Bound}
 use Rattle.hz_bound.specs.Rows.{IsPathOf}

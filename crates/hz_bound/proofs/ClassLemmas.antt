@@ -7,8 +7,8 @@ use Rattle.std.proofs.lemmas.List.{get_or-map, length-map, length-set, map_more,
 use Rattle.std.proofs.lemmas.List.Elements.{All-contains, Contains-get_or}
 use Rattle.hz_base_model.specs.Pairs.{Pair}
 use Rattle.hz_base_model.proofs.Elements.{Contains-from_map}
-use Rattle.hz_bound_model.specs.Loads.{Load, least, ways_in, ways_by, load_of}
-use Rattle.hz_bound_model.specs.Bounds.{UnitLoad}
+use Rattle.hz_measure_model.specs.Bounds.Loads.{Load, least, ways_in, ways_by, load_of}
+use Rattle.hz_measure_model.specs.Bounds.Bounds.{UnitLoad}
 use Rattle.hz_block_model.specs.Running.Limits.{instruction_limit}
 use Rattle.hz_check.specs.declared.checked.CheckedClass.{CheckedClass}
 use Rattle.hz_check.specs.Shape.{class_of}

@@ -16,7 +16,7 @@ use Rattle.std.proofs.lemmas.List.Filters.{length-filter_both}
 use Rattle.std.proofs.lemmas.List.FromFn.{length-range_with_len}
 use Rattle.hz_grid.specs.Grids.{IsGrid}
 use Rattle.hz_grid.specs.declared.grid_of.TheConstants.{CYCLES}
-use Rattle.hz_bound_model.specs.Loads.{cycles_at}
+use Rattle.hz_measure_model.specs.Bounds.Loads.{cycles_at}
 use Rattle.hz_bound.specs.declared.cycles.Range.{Range}
 use Rattle.hz_bound.specs.Ranges.{has, range_of, joined}
 

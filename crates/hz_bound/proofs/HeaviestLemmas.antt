@@ -12,9 +12,9 @@ use Rattle.hz_description_model.specs.Check.CheckedParts.{AutomatonParts}
 use Rattle.hz_check.specs.declared.checked.Checked.{Checked}
 use Rattle.hz_check.specs.declared.checked.CheckedAutomaton.{CheckedAutomaton}
 use Rattle.hz_check.specs.Shape.{automaton_of}
-use Rattle.hz_bound_model.specs.Paths.{greatest}
-use Rattle.hz_bound_model.specs.Loads.{load_of}
-use Rattle.hz_bound_model.specs.Bounds.{units_of, units_from, UnitLoad, loads_of, heavier, heaviest}
+use Rattle.hz_measure_model.specs.Bounds.Paths.{greatest}
+use Rattle.hz_measure_model.specs.Bounds.Loads.{load_of}
+use Rattle.hz_measure_model.specs.Bounds.Bounds.{units_of, units_from, UnitLoad, loads_of, heavier, heaviest}
 use Rattle.hz_bound.specs.Shape.{names_of}
 
 -- ---- the heavier of loads

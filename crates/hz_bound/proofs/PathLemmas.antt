@@ -7,9 +7,9 @@ use Rattle.hz_description_model.specs.Reading.Limits.{latency_limit}
 use Rattle.std.proofs.lemmas.Bool.{eqb-true, eq-eqb}
 use Rattle.hz_base_model.proofs.Elements.{Contains-nil, Contains-map, Contains-from_map, Contains-filter, Contains-from_filter}
 use Rattle.hz_block_model.specs.Dependences.Graphs as depend
-use Rattle.hz_bound_model.specs.Paths.{greatest, AreTails, CarriesOn, GoesOn, IsChain}
-use Rattle.hz_bound_model.proofs.Numbers.{greatest_above}
-use Rattle.hz_bound_model.proofs.WayLaws.{greatest_held}
+use Rattle.hz_measure_model.specs.Bounds.Paths.{greatest, AreTails, CarriesOn, GoesOn, IsChain}
+use Rattle.hz_measure_model.proofs.Bounds.Numbers.{greatest_above}
+use Rattle.hz_measure_model.proofs.Bounds.WayLaws.{greatest_held}
 use Rattle.hz_depend.specs.declared.parts.Edge.{Edge}
 use Rattle.hz_depend.specs.declared.parts.Graph.{Graph}
 use Rattle.std.specs.declared.alloc.Global.{Global}

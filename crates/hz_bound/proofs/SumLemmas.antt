@@ -11,12 +11,12 @@ use Rattle.std.proofs.lemmas.List.Sums.{sum_by-cons}
 use Rattle.std.proofs.lemmas.List.Elements.{Contains-append_cases, Contains-append_left, Contains-append_right, filter-append}
 use Rattle.std.proofs.lemmas.Grind.{flat_map-append}
 use Rattle.hz_base_model.proofs.Elements.{Contains-nil, Contains-head, Contains-tail, Contains-cons_cases, Contains-from_filter, Contains-filter}
-use Rattle.hz_bound_model.specs.Paths.{greatest}
-use Rattle.hz_bound_model.specs.Loads.{least, ways_in, ways_by, force, users, cycles_of_users, count, span, asked_load, load_of}
-use Rattle.hz_bound_model.specs.Loads as model
-use Rattle.hz_bound_model.proofs.Numbers.{least_below}
-use Rattle.hz_bound_model.proofs.WayLaws.{SameItems, same_least, same_greatest}
-use Rattle.hz_answer_laws.proofs.Names.Listing.{in_flat_map, from_flat_map}
+use Rattle.hz_measure_model.specs.Bounds.Paths.{greatest}
+use Rattle.hz_measure_model.specs.Bounds.Loads.{least, ways_in, ways_by, force, users, cycles_of_users, count, span, asked_load, load_of}
+use Rattle.hz_measure_model.specs.Bounds.Loads as model
+use Rattle.hz_measure_model.proofs.Bounds.Numbers.{least_below}
+use Rattle.hz_measure_model.proofs.Bounds.WayLaws.{SameItems, same_least, same_greatest}
+use Rattle.hz_pipeline_model.proofs.Decidable.FlatLists.{in_flat_map, from_flat_map}
 use Rattle.hz_base_model.specs.Pairs.{Pair}
 use Rattle.hz_block_model.specs.Running.Limits.{instruction_limit}
 use Rattle.hz_bound.specs.declared.cycles.Range.{Range}

@@ -9,8 +9,8 @@ use Rattle.std.specs.Option.{option_map_or}
 use Rattle.std.proofs.lemmas.Bool.{eqb-true, eq-eqb, cases_lt, ltb-false}
 use Rattle.std.proofs.lemmas.List.{length-set, get_or-set_same, get_or-set_other, get_or_default, append-nil}
 use Rattle.hz_base_model.proofs.Elements.{Contains-nil, Contains-head, Contains-tail, Contains-cons_cases, Contains-from_map}
-use Rattle.hz_bound_model.specs.Paths.{greatest, IsLeast}
-use Rattle.hz_bound_model.proofs.WayLaws.{greatest_held}
+use Rattle.hz_measure_model.specs.Bounds.Paths.{greatest, IsLeast}
+use Rattle.hz_measure_model.proofs.Bounds.WayLaws.{greatest_held}
 use Rattle.hz_depend.specs.declared.parts.Edge.{Edge}
 use Rattle.hz_description_model.specs.Reading.Limits.{latency_limit}
 use Rattle.hz_block_model.specs.Running.Limits.{instruction_limit}

@@ -8,7 +8,7 @@ use Rattle.std.proofs.lemmas.Grind.{flat_map-append}
 use Rattle.hz_base_model.specs.Pairs.{Pair}
 use Rattle.hz_grid.specs.Grids.{IsGrid, Holds}
 use Rattle.hz_grid.specs.Rows.{HasUnit, RowsMeet}
-use Rattle.hz_bound_model.specs.Loads.{least, cycles_at, ways_in}
+use Rattle.hz_measure_model.specs.Bounds.Loads.{least, cycles_at, ways_in}
 use Rattle.hz_bound.specs.declared.cycles.Range.{Range}
 use Rattle.hz_bound.specs.declared.tallies.Tally.{Tally}
 use Rattle.hz_bound.specs.Ranges.{has, range_of, joined, all_cycles}

@@ -2,8 +2,8 @@
 use Rattle.std.specs.Prelude.{ℕ, ◌==◌, Bool, min, max, List, [], ◌∷◌, Option, Some, None}
 use Rattle.std.specs.List.{flat_map, list_any}
 use Rattle.hz_base_model.specs.Pairs.{Pair}
-use Rattle.hz_bound_model.specs.Paths.{greatest}
-use Rattle.hz_bound_model.specs.Loads.{least, cycles_at}
+use Rattle.hz_measure_model.specs.Bounds.Paths.{greatest}
+use Rattle.hz_measure_model.specs.Bounds.Loads.{least, cycles_at}
 use Rattle.hz_bound.specs.declared.cycles.Range.{Range}
 
 -- whether a grid takes the unit in a cycle

@@ -4,7 +4,7 @@ use Rattle.std.specs.Option.{option_map_or}
 use Rattle.std.specs.List.{Contains}
 use Rattle.hz_description_model.specs.Reading.Limits.{latency_limit}
 use Rattle.hz_block_model.specs.Scheduling.Schedules.{Graph}
-use Rattle.hz_bound_model.specs.Paths.{greatest, AreTails, IsLeast, IsChain}
+use Rattle.hz_measure_model.specs.Bounds.Paths.{greatest, AreTails, IsLeast, IsChain}
 use Rattle.hz_depend.specs.declared.parts.Edge.{Edge}
 
 -- the cost of an edge and the tail where it leads

@@ -6,8 +6,8 @@ use Rattle.hz_check.specs.declared.checked.Checked.{Checked}
 use Rattle.hz_check.specs.declared.checked.CheckedClass.{CheckedClass}
 use Rattle.hz_check.specs.Shape.{automaton_of, class_of}
 use Rattle.hz_depend.specs.declared.parts.Graph.{Graph}
-use Rattle.hz_bound_model.specs.Bounds.{UnitLoad}
-use Rattle.hz_bound_model.specs.Bounds as model
+use Rattle.hz_measure_model.specs.Bounds.Bounds.{UnitLoad}
+use Rattle.hz_measure_model.specs.Bounds.Bounds as model
 use Rattle.hz_bound.specs.declared.parts.Load.{Load}
 use Rattle.hz_bound.specs.declared.parts.Bound.{Bound}
 

@@ -2,8 +2,8 @@
 use Rattle.std.specs.Prelude.{◌≡◌, ℕ, zero, suc, ◌+◌, ◌-◌, ◌*◌, ◌<◌, ◌≤◌, ◌==◌, ◌&&◌, nat_lt, min, cond, List, [], ◌∷◌, ◌++◌, map, length, Option, None, slice_index_or}
 use Rattle.std.specs.Option.{option_map}
 use Rattle.hz_base_model.specs.Pairs.{Pair}
-use Rattle.hz_bound_model.specs.Loads as model
-use Rattle.hz_bound_model.specs.Loads.{ways_in, ways_by, least, force, cycles_of_users}
+use Rattle.hz_measure_model.specs.Bounds.Loads as model
+use Rattle.hz_measure_model.specs.Bounds.Loads.{ways_in, ways_by, least, force, cycles_of_users}
 use Rattle.hz_bound.specs.declared.cycles.Range.{Range}
 use Rattle.hz_bound.specs.declared.loads.Total.{Total}
 use Rattle.hz_bound.specs.declared.loads.Counted.{Counted}

@@ -2,7 +2,7 @@
 use Rattle.std.specs.Prelude.{◌≡◌, ℕ, ◌+◌, ◌-◌, ◌<◌, ◌≤◌, ◌*◌, ◌==◌, min, cond, List, [], ◌∷◌, length, map, Some, None, slice_index_or}
 use Rattle.hz_base_model.specs.Pairs.{Pair}
 use Rattle.hz_grid.specs.Rows.{HasUnit}
-use Rattle.hz_bound_model.specs.Loads.{cycles_at, ways_in}
+use Rattle.hz_measure_model.specs.Bounds.Loads.{cycles_at, ways_in}
 use Rattle.hz_bound.specs.declared.tallies.Tally.{Tally}
 use Rattle.hz_bound.specs.Ranges.{has, range_of, joined, all_cycles}
 

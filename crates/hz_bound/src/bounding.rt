@@ -5,8 +5,8 @@ ghost use Rattle.hz_description_model.specs.Reading.Limits.{latency_limit};
 ghost use Rattle.hz_block_model.specs.Running.Limits.{instruction_limit};
 ghost use Rattle.hz_depend.specs.GraphShape.{IsSchedulable};
 ghost use Rattle.hz_sched.specs.Shape.{graph_of};
-ghost use Rattle.hz_bound_model.specs.Bounds.{IsBoundBy};
-ghost use Rattle.hz_bound_model.specs.Loads.{ways_by};
+ghost use Rattle.hz_measure_model.specs.Bounds.Bounds.{IsBoundBy};
+ghost use Rattle.hz_measure_model.specs.Bounds.Loads.{ways_by};
 ghost use Rattle.hz_bound.specs.Rows.{IsPathOf};
 ghost use Rattle.hz_bound.specs.Shape.{names_of, lists_in, bound_of, IsInRange};
 

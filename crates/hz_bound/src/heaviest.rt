@@ -3,8 +3,8 @@
 ghost use Rattle.std.specs.Prelude.{◌≡◌, ◌<◌, ◌≤◌, length, map, All, IfOk, slice_index_or, []};
 ghost use Rattle.std.specs.Option.{option_map, option_map_or};
 ghost use Rattle.hz_block_model.specs.Running.Limits.{instruction_limit};
-ghost use Rattle.hz_bound_model.specs.Bounds as model;
-ghost use Rattle.hz_bound_model.specs.Loads.{ways_by};
+ghost use Rattle.hz_measure_model.specs.Bounds.Bounds as model;
+ghost use Rattle.hz_measure_model.specs.Bounds.Loads.{ways_by};
 ghost use Rattle.hz_bound.specs.Shape.{names_of, lists_in, load_of};
 ghost use Rattle.hz_bound.specs.Tallies.{AreMasks};
 ghost use Rattle.hz_bound.specs.Sums.{AreTimes, load_by, shown};

@@ -7,7 +7,7 @@
 ghost use Rattle.std.specs.Prelude.{◌≡◌, ◌≤◌, ◌<◌, ◌*◌, ◌+◌, ◌↔◌, ◌==◌, ℕ, min, cond, length, map, Some, All, IfOk};
 ghost use Rattle.hz_grid.specs.Rows.{HasUnit};
 ghost use Rattle.hz_grid.specs.Grids.{Holds};
-ghost use Rattle.hz_bound_model.specs.Loads.{cycles_at, ways_in, least};
+ghost use Rattle.hz_measure_model.specs.Bounds.Loads.{cycles_at, ways_in, least};
 ghost use Rattle.hz_bound.specs.Ranges.{has, range_of, all_cycles};
 ghost use Rattle.hz_bound.specs.Tallies as model;
 ghost use Rattle.hz_bound.specs.Tallies.{Says, IsStepped, IsAdded, AreTallies, AreNone, IsMask, AreMasks, no_tally, forced};

@@ -6,7 +6,7 @@ ghost use Rattle.std.specs.Option.{option_map};
 ghost use Rattle.hz_io.specs.Sink.{Writes};
 ghost use Rattle.hz_sched.specs.Shape.{slots_of};
 ghost use Rattle.hz_block_model.specs.Scheduling.Schedules.{present};
-ghost use Rattle.hz_bound_model.specs.Texts as model;
+ghost use Rattle.hz_measure_model.specs.Bounds.Texts as model;
 ghost use Rattle.hz_bound.specs.Shape.{names_of, load_of, bound_of, IsAmong, IsInRange};
 
 use crate::parts::{Bound, Load};

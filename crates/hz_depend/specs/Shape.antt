@@ -1,16 +1,16 @@
 -- What the code holds, as what the definitions speak of.
 use Rattle.std.specs.Prelude.{ℕ, List, map, Result}
-use Rattle.hz_mdread.specs.Shape.{condition}
 use Rattle.hz_description_model.specs.Reading.Descriptions.{Condition}
 use Rattle.hz_check.specs.declared.checked.Checked.{Checked}
 use Rattle.hz_check.specs.declared.checked.CheckedClass.{CheckedClass}
+use Rattle.hz_check.specs.Shape as parts
 use Rattle.hz_check.specs.Shape.{attribute_of}
 use Rattle.hz_rtl.specs.declared.block.Insn.{Insn}
 use Rattle.hz_block_model.specs.Dependences.Classes.{ClassFault, class_of}
 
 -- the conditions of classes
 abbrev pub conditions_of : List CheckedClass → List Condition
-conditions_of classes = map (λ c. condition c.condition) classes
+conditions_of classes = map (λ c. (parts.class_of c).condition) classes
 
 -- the class of an instruction in a description
 abbrev pub class_for : Checked → Insn → Result ℕ ClassFault

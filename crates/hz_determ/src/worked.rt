@@ -1,6 +1,6 @@
 //! A worked example: what the counts of an automaton mean, computed on the definitions.
 
-ghost use Rattle.hz_automata_model.specs.Reaching.Counts.{grids, states, CountIsAbove, CountIsAtMost};
+ghost use Rattle.hz_pipeline_model.specs.Reaching.Counts.{grids, states, CountIsAbove, CountIsAtMost};
 ghost use Rattle.hz_determ.specs.Worked.{late};
 
 /// A class of `nothing, a` leaves four grids: none, `a` in the next cycle, `a` now, and both. Each is a state, so there are

@@ -12,7 +12,7 @@ use Rattle.hz_depend.specs.declared.parts.Graph.{Graph}
 use Rattle.hz_depend.specs.declared.parts.GraphInsn.{GraphInsn}
 use Rattle.hz_depend.specs.GraphShape.{edge_of, IsSchedulable}
 use Rattle.hz_sched.specs.Shape.{node_of, graph_of}
-use Rattle.hz_duo_model.specs.Joining as model
+use Rattle.hz_measure_model.specs.TwoContexts.Joining as model
 
 -- the instructions and the edges of both make the joined graph
 pub is_joined : (first second made : Graph) (count : ℕ) → count ≡ length first.insns.items → made.insns.items ≡ first.insns.items ++ second.insns.items → map edge_of made.edges.items ≡ map edge_of first.edges.items ++ map (model.raised count) (map edge_of second.edges.items) → graph_of made ≡ model.joined (graph_of first) (graph_of second)

@@ -2,12 +2,12 @@
 use Rattle.std.proofs.Common.{◌≡◌, ℕ, ◌+◌, ◌-◌, ◌<◌, ◌≤◌, ⊎_elim, inl, inr, Bool, cond, List, length, get_or, All, sym, ap, ◌∙◌, subst, arith}
 use Rattle.std.proofs.lemmas.Bool.{lt-ltb, le-ltb, cases_lt}
 use Rattle.std.proofs.lemmas.List.{length-map, get_or-map}
-use Rattle.hz_automata_model.specs.Tables.Machines.{Machine, IsWalked}
+use Rattle.hz_pipeline_model.specs.Tables.Machines.{Machine, IsWalked}
 use Rattle.hz_block_model.specs.Scheduling.Schedules.{Graph, Slot, Legal, Greedy}
 use Rattle.hz_depend.specs.declared.parts.Graph as depend
 use Rattle.hz_sched.specs.declared.parts.Slot as made
 use Rattle.hz_sched.specs.Shape.{node_of, graph_of, slot_of, slots_of}
-use Rattle.hz_duo_model.specs.Joining.{ContextSlot, joined, in_context, in_contexts}
+use Rattle.hz_measure_model.specs.TwoContexts.Joining.{ContextSlot, joined, in_context, in_contexts}
 use Rattle.hz_duo.specs.declared.parts.DuoSlot.{DuoSlot}
 use Rattle.hz_duo.specs.Shape.{context_slot, IsPaired, IsDuoOf, IsOfEither, AreInRange}
 

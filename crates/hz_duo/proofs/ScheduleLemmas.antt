@@ -9,8 +9,8 @@ use Rattle.hz_sched.specs.Shape.{graph_of, node_of}
 use Rattle.hz_block_model.specs.Scheduling.Schedules.{Node, class_at}
 use Rattle.hz_block_model.specs.Scheduling.Schedules as schedules
 use Rattle.hz_block_model.proofs.Scheduling.SameSchedules.{class_below}
-use Rattle.hz_duo_model.specs.Joining.{ContextSlot}
-use Rattle.hz_duo_model.specs.Texts.{line_of_own, line_of_either}
+use Rattle.hz_measure_model.specs.TwoContexts.Joining.{ContextSlot}
+use Rattle.hz_measure_model.specs.TwoContexts.Texts.{line_of_own, line_of_either}
 use Rattle.hz_duo.specs.declared.parts.DuoSlot.{DuoSlot}
 use Rattle.hz_duo.specs.Shape.{IsOfEither}
 

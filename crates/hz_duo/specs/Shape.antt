@@ -2,11 +2,11 @@
 use Rattle.std.specs.Prelude.{◌≡◌, ◌⊎◌, ℕ, ◌<◌, List, map, length, All, Option, Some, None, Result, Ok, Err}
 use Rattle.std.specs.declared.alloc.Global.{Global}
 use Rattle.std.specs.declared.vec.Vec.{Vec}
-use Rattle.hz_automata_model.specs.Tables.Machines.{Machine, IsWalked}
+use Rattle.hz_pipeline_model.specs.Tables.Machines.{Machine, IsWalked}
 use Rattle.hz_block_model.specs.Scheduling.Schedules.{Graph, Slot, Legal, Greedy}
 use Rattle.hz_depend.specs.declared.parts.Graph as depend
 use Rattle.hz_tables.specs.declared.machine.Machine as tables
-use Rattle.hz_duo_model.specs.Joining.{ContextSlot, joined, in_contexts}
+use Rattle.hz_measure_model.specs.TwoContexts.Joining.{ContextSlot, joined, in_contexts}
 use Rattle.hz_duo.specs.declared.parts.DuoSlot.{DuoSlot}
 use Rattle.hz_duo.specs.declared.fault.DuoFault.{DuoFault}
 use Rattle.hz_duo.specs.declared.fault.DuoFault.TheVariants.{CannotStartAlone, NoMemory}

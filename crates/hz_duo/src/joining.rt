@@ -4,7 +4,7 @@ ghost use Rattle.std.specs.Prelude.{◌≡◌, ◌<◌, ◌≤◌, ◌+◌, ◌+
 ghost use Rattle.hz_block_model.specs.Running.Limits.{instruction_limit};
 ghost use Rattle.hz_depend.specs.GraphShape.{edge_of};
 ghost use Rattle.hz_sched.specs.Shape.{graph_of};
-ghost use Rattle.hz_duo_model.specs.Joining as model;
+ghost use Rattle.hz_measure_model.specs.TwoContexts.Joining as model;
 
 use hz_depend::{Edge, Graph, GraphInsn};
 use hz_regexp::NoMemory;

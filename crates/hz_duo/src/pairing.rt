@@ -6,8 +6,8 @@ ghost use Rattle.hz_block_model.specs.Scheduling.Machines.{Settles};
 ghost use Rattle.hz_depend.specs.GraphShape.{IsSchedulable};
 ghost use Rattle.hz_sched.specs.Shape.{graph_of, slot_of, slots_of};
 ghost use Rattle.hz_tables.specs.Machines.{machine_of};
-ghost use Rattle.hz_duo_model.specs.Joining as model;
-ghost use Rattle.hz_duo_model.specs.Stuck.{stuck_of_two};
+ghost use Rattle.hz_measure_model.specs.TwoContexts.Joining as model;
+ghost use Rattle.hz_measure_model.specs.TwoContexts.Stuck.{stuck_of_two};
 ghost use Rattle.hz_duo.specs.Shape.{context_slot, stuck_in, IsDuoOf, IsPaired, AreInRange};
 
 use crate::fault::DuoFault;

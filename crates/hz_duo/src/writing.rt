@@ -5,7 +5,7 @@ ghost use Rattle.std.specs.List.{flat_map};
 ghost use Rattle.hz_io.specs.Sink.{Writes};
 ghost use Rattle.hz_block_model.specs.Scheduling.Schedules.{class_at};
 ghost use Rattle.hz_sched.specs.Shape.{graph_of};
-ghost use Rattle.hz_duo_model.specs.Texts as model;
+ghost use Rattle.hz_measure_model.specs.TwoContexts.Texts as model;
 ghost use Rattle.hz_duo.specs.Shape.{context_slot, IsOfEither, AreInRange, IsInRange};
 
 use crate::parts::DuoSlot;

@@ -1,9 +1,9 @@
 -- Blocks of states that are apart.
 use Rattle.std.proofs.Common.{◌≡◌, ◌≢◌, ℕ, ◌<◌, ◌≤◌, ⊎_elim, List, length, Some, None, All, Contains, sym, ap, ◌∙◌, arith}
 use Rattle.std.proofs.lemmas.List.Elements.{All-from_get_or}
-use Rattle.hz_automata_model.specs.Tables.Tables.{Table, entry, IsTable}
-use Rattle.hz_automata_model.specs.Tables.Apart.{Apart}
-use Rattle.hz_automata_model.specs.Least.Blocks.{KeepsApart, block_of}
+use Rattle.hz_pipeline_model.specs.Tables.Tables.{Table, entry, IsTable}
+use Rattle.hz_pipeline_model.specs.Tables.Apart.{Apart}
+use Rattle.hz_pipeline_model.specs.Least.Blocks.{KeepsApart, block_of}
 use Rattle.hz_tables.specs.Rows.{Rows}
 use Rattle.hz_minim.specs.declared.arrows.Arrow.{Arrow}
 use Rattle.hz_minim.specs.Arrows.{AreArrows, arrow_from}

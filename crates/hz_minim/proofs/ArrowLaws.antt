@@ -1,7 +1,7 @@
 -- The entries of a table, read one after the other.
 use Rattle.std.proofs.Common.{◌≡◌, ◌≢◌, ℕ, ◌+◌, ◌<◌, ◌≤◌, inl, inr, ⊎_elim, List, length, Some, None, Contains, sym, ap, ◌∙◌, subst, arith}
 use Rattle.std.proofs.lemmas.Bool.{cases_eq}
-use Rattle.hz_automata_model.specs.Tables.Tables.{Table, entry, IsTable}
+use Rattle.hz_pipeline_model.specs.Tables.Tables.{Table, entry, IsTable}
 use Rattle.hz_tables.specs.Rows.{Rows}
 use Rattle.hz_minim.specs.declared.arrows.Arrow.{Arrow}
 use Rattle.hz_minim.specs.Lists.{list_at, added}

@@ -2,7 +2,7 @@
 use Rattle.std.proofs.Common.{◌≡◌, ◌≢◌, ℕ, ◌+◌, ◌<◌, ◌⊎◌, inl, inr, ⊎_elim, List, [], ◌∷◌, ◌++◌, length, get_or, take, Contains, sym, ap, ◌∙◌, subst}
 use Rattle.std.proofs.lemmas.List.{take_more}
 use Rattle.std.proofs.lemmas.List.Elements.{Contains-append_left, Contains-push, Contains-push_cases}
-use Rattle.hz_automata_model.specs.Least.Blocks.{block_of}
+use Rattle.hz_pipeline_model.specs.Least.Blocks.{block_of}
 use Rattle.hz_minim.specs.declared.arrows.Arrow.{Arrow}
 use Rattle.hz_minim.specs.Arrows.{arrow_from}
 use Rattle.hz_minim.specs.Buckets.{AddsArrows, AreBuckets}

@@ -1,6 +1,6 @@
 -- The leaders of the first states.
 use Rattle.std.specs.Prelude.{◌≡◌, ℕ, zero, suc, ◌+◌, ◌<◌, ◌==◌, List, Option, Some, None, if◌then◌else◌, All, length, slice_index_or}
-use Rattle.hz_automata_model.specs.Least.Blocks.{block_of}
+use Rattle.hz_pipeline_model.specs.Least.Blocks.{block_of}
 use Rattle.hz_minim.specs.Leading.{leader_of}
 
 -- how many of the first k states another one leads

@@ -6,7 +6,7 @@ use Rattle.std.proofs.lemmas.List.{take_more, get_or-replicate, length-replicate
 use Rattle.std.proofs.lemmas.List.Elements.{Contains-append_left, Contains-push, Contains-push_cases}
 use Rattle.std.specs.List.{range_with_len}
 use Rattle.hz_base_model.proofs.Elements.{Contains-range, Contains-from_range}
-use Rattle.hz_automata_model.specs.Least.Blocks.{block_of}
+use Rattle.hz_pipeline_model.specs.Least.Blocks.{block_of}
 use Rattle.hz_minim.specs.declared.marks.Mark.{Mark}
 use Rattle.hz_minim.specs.Lists.{list_at, added}
 use Rattle.hz_minim.specs.Moves.{IsListed, IsMoved, goes_to}

@@ -3,8 +3,8 @@ use Rattle.std.proofs.Common.{◌≡◌, ◌≢◌, inl, inr, ℕ, zero, suc, �
 use Rattle.std.specs.Prelude.{is_some}
 use Rattle.std.proofs.lemmas.Bool.{cases_lt, cases_eq, eq-eqb, ne_eqb}
 use Rattle.std.proofs.lemmas.List.{length_push, get_or_append_left, get_or_push}
-use Rattle.hz_automata_model.specs.Tables.Tables.{Table, entry, walk, IsTable}
-use Rattle.hz_automata_model.specs.Tables.Apart.{Apart}
+use Rattle.hz_pipeline_model.specs.Tables.Tables.{Table, entry, walk, IsTable}
+use Rattle.hz_pipeline_model.specs.Tables.Apart.{Apart}
 use Rattle.hz_minim.specs.Leading.{leader_of, led, led_entry, IsCoarse, Strays, GoesAlong, IsPartedTo, IsParted}
 use Rattle.hz_minim.proofs.LedStates.{led_below}
 

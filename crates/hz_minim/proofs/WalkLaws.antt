@@ -3,9 +3,9 @@ use Rattle.std.proofs.Common.{◌≡◌, ◌≢◌, ℕ, ◌+◌, ◌<◌, ◌�
 use Rattle.std.specs.Prelude.{is_some}
 use Rattle.std.proofs.lemmas.Bool.{cases_lt}
 use Rattle.std.proofs.lemmas.List.{get_or_past}
-use Rattle.hz_automata_model.specs.Tables.Tables.{Table, row_of, entry, walk, IsTable}
-use Rattle.hz_automata_model.specs.Tables.Apart.{Apart, AllApart, WalkTheSame}
-use Rattle.hz_automata_model.specs.Least.Normal.{IsNormal}
+use Rattle.hz_pipeline_model.specs.Tables.Tables.{Table, row_of, entry, walk, IsTable}
+use Rattle.hz_pipeline_model.specs.Tables.Apart.{Apart, AllApart, WalkTheSame}
+use Rattle.hz_pipeline_model.specs.Least.Normal.{IsNormal}
 use Rattle.hz_tables.specs.Rows.{Rows}
 use Rattle.hz_minim.specs.Leading.{leader_of, led, led_entry, IsSettled}
 use Rattle.hz_minim.specs.Folding.{numbered, IsNumber, IsFolded}

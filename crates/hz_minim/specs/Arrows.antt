@@ -1,8 +1,8 @@
 -- The entries of a table by the state to which they lead.
 use Rattle.std.specs.Prelude.{◌≡◌, ℕ, ◌<◌, List, Some, length}
 use Rattle.std.specs.List.{Contains}
-use Rattle.hz_automata_model.specs.Tables.Tables.{Table, entry}
-use Rattle.hz_automata_model.specs.Tables.Orders.{IsReadBefore}
+use Rattle.hz_pipeline_model.specs.Tables.Tables.{Table, entry}
+use Rattle.hz_pipeline_model.specs.Tables.Orders.{IsReadBefore}
 use Rattle.hz_tables.specs.Rows.{Rows}
 use Rattle.hz_minim.specs.declared.arrows.Arrow.{Arrow}
 use Rattle.hz_minim.specs.Lists.{list_at}

@@ -1,7 +1,7 @@
 -- What leads to a block, by columns.
 use Rattle.std.specs.Prelude.{◌≡◌, ◌⊎◌, ℕ, ◌<◌, List, length}
 use Rattle.std.specs.List.{Contains}
-use Rattle.hz_automata_model.specs.Least.Blocks.{block_of}
+use Rattle.hz_pipeline_model.specs.Least.Blocks.{block_of}
 use Rattle.hz_minim.specs.declared.arrows.Arrow.{Arrow}
 use Rattle.hz_minim.specs.Arrows.{arrow_from}
 use Rattle.hz_minim.specs.Lists.{list_at}

@@ -1,8 +1,8 @@
 -- What is kept of blocks from turn to turn.
 use Rattle.std.specs.Prelude.{◌≡◌, ℕ, ◌<◌, ◌≤◌, List, length, vec_len}
 use Rattle.std.specs.List.{Contains}
-use Rattle.hz_automata_model.specs.Tables.Tables.{Table}
-use Rattle.hz_automata_model.specs.Least.Blocks.{KeepsApart, block_limit}
+use Rattle.hz_pipeline_model.specs.Tables.Tables.{Table}
+use Rattle.hz_pipeline_model.specs.Least.Blocks.{KeepsApart, block_limit}
 use Rattle.hz_minim.specs.declared.marks.Marks.{Marks}
 use Rattle.hz_minim.specs.declared.partition.Partition.{Partition}
 use Rattle.hz_minim.specs.Lists.{list_at, lists_of}

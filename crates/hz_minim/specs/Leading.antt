@@ -1,8 +1,8 @@
 -- Leaders: for each state one that stands for it.
 use Rattle.std.specs.Prelude.{◌≡◌, ◌≢◌, ◌⊎◌, ℕ, ◌+◌, ◌<◌, ◌≤◌, List, Option, Some, None, length, slice_index_or, slice_set}
-use Rattle.hz_automata_model.specs.Tables.Tables.{Table, entry}
-use Rattle.hz_automata_model.specs.Tables.Apart.{Apart}
-use Rattle.hz_automata_model.specs.Least.Blocks.{block_of}
+use Rattle.hz_pipeline_model.specs.Tables.Tables.{Table, entry}
+use Rattle.hz_pipeline_model.specs.Tables.Apart.{Apart}
+use Rattle.hz_pipeline_model.specs.Least.Blocks.{block_of}
 
 -- the leader of a state
 abbrev pub leader_of : List ℕ → ℕ → ℕ

@@ -2,9 +2,9 @@
 -- 1971.
 use Rattle.std.specs.Prelude.{◌≡◌, ◌⊎◌, ℕ, ◌<◌, false, ◌&&◌, nat_lt, nat_le, List, length, slice_index_or, if◌then◌else◌}
 use Rattle.std.specs.List.{Contains}
-use Rattle.hz_automata_model.specs.Tables.Tables.{Table}
-use Rattle.hz_automata_model.specs.Tables.Apart.{Apart}
-use Rattle.hz_automata_model.specs.Least.Blocks.{block_of}
+use Rattle.hz_pipeline_model.specs.Tables.Tables.{Table}
+use Rattle.hz_pipeline_model.specs.Tables.Apart.{Apart}
+use Rattle.hz_pipeline_model.specs.Least.Blocks.{block_of}
 use Rattle.hz_minim.specs.declared.marks.Mark.{Mark}
 use Rattle.hz_minim.specs.Lists.{list_at}
 

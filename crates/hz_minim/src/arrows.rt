@@ -1,7 +1,7 @@
 //! The entries of a table by the state to which they lead.
 
 ghost use Rattle.std.specs.Prelude.{◌≡◌, ◌+◌, ◌<◌, IfOk, OnOk, length};
-ghost use Rattle.hz_automata_model.specs.Tables.Tables.{IsTable};
+ghost use Rattle.hz_pipeline_model.specs.Tables.Tables.{IsTable};
 ghost use Rattle.hz_minim.specs.Lists.{lists_of};
 ghost use Rattle.hz_minim.specs.Arrows.{AreArrows, HasRead};
 

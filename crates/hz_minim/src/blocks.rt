@@ -2,8 +2,8 @@
 //! apart.
 
 ghost use Rattle.std.specs.Prelude.{◌<◌, IfOk, All};
-ghost use Rattle.hz_automata_model.specs.Tables.Tables.{IsTable};
-ghost use Rattle.hz_automata_model.specs.Least.Blocks.{KeepsApart, block_limit};
+ghost use Rattle.hz_pipeline_model.specs.Tables.Tables.{IsTable};
+ghost use Rattle.hz_pipeline_model.specs.Least.Blocks.{KeepsApart, block_limit};
 
 use crate::arrows::arrows_of;
 use crate::lists::empty_lists;

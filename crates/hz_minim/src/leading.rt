@@ -1,7 +1,7 @@
 //! Leaders: the first state of each block stands for the block.
 
 ghost use Rattle.std.specs.Prelude.{◌≡◌, ◌+◌, ◌<◌, ◌≤◌, All, IfOk, length};
-ghost use Rattle.hz_automata_model.specs.Tables.StateLimits.{state_limit};
+ghost use Rattle.hz_pipeline_model.specs.Tables.StateLimits.{state_limit};
 ghost use Rattle.hz_minim.specs.Leading.{HasFirst, IsLed};
 
 use hz_tables::NoMemory;

@@ -2,9 +2,9 @@
 #![tactic(auto)]
 
 ghost use Rattle.std.specs.Prelude.{◌≡◌, ◌≤◌, IfOk, length};
-ghost use Rattle.hz_automata_model.specs.Tables.Tables.{IsTable};
-ghost use Rattle.hz_automata_model.specs.Tables.Apart.{WalkTheSame};
-ghost use Rattle.hz_automata_model.specs.Least.Normal.{IsNormal};
+ghost use Rattle.hz_pipeline_model.specs.Tables.Tables.{IsTable};
+ghost use Rattle.hz_pipeline_model.specs.Tables.Apart.{WalkTheSame};
+ghost use Rattle.hz_pipeline_model.specs.Least.Normal.{IsNormal};
 
 mod arrows;
 mod blocks;

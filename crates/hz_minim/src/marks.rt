@@ -3,7 +3,7 @@
 
 ghost use Rattle.std.specs.Prelude.{◌≡◌, ◌<◌, ◌≤◌, ℕ, IfOk, OnOk, length, vec_len};
 ghost use Rattle.std.specs.List.{Contains};
-ghost use Rattle.hz_automata_model.specs.Least.Blocks.{block_limit};
+ghost use Rattle.hz_pipeline_model.specs.Least.Blocks.{block_limit};
 
 use hz_tables::NoMemory;
 use std::alloc::Global;

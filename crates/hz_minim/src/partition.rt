@@ -2,7 +2,7 @@
 
 ghost use Rattle.std.specs.Prelude.{◌≡◌, ◌<◌, ℕ, IfOk, OnOk, length, replicate, slice_set, vec_len};
 ghost use Rattle.std.specs.List.{Contains, range_with_len};
-ghost use Rattle.hz_automata_model.specs.Least.Blocks.{block_of};
+ghost use Rattle.hz_pipeline_model.specs.Least.Blocks.{block_of};
 ghost use Rattle.hz_minim.specs.Lists.{lists_of};
 ghost use Rattle.hz_minim.specs.Moves.{IsListed, IsMoved, goes_to};
 

@@ -1,7 +1,7 @@
 //! Leaders that every state follows: a state that does not becomes a leader itself.
 
 ghost use Rattle.std.specs.Prelude.{◌≡◌, ◌+◌, ◌<◌, ◌≤◌, MatchOption, IfOk, length};
-ghost use Rattle.hz_automata_model.specs.Tables.Tables.{IsTable};
+ghost use Rattle.hz_pipeline_model.specs.Tables.Tables.{IsTable};
 ghost use Rattle.hz_minim.specs.Leading.{leader_of, led_entry, IsCoarse, Strays, Follows, AllFollow, IsSettled, IsPartedTo, IsParted};
 
 use hz_tables::{NoMemory, Plain};

@@ -1,8 +1,8 @@
 //! Splitting of blocks by what leads to a block.
 
 ghost use Rattle.std.specs.Prelude.{◌≡◌, ℕ, OnOk, length, vec_len};
-ghost use Rattle.hz_automata_model.specs.Tables.Tables.{IsTable};
-ghost use Rattle.hz_automata_model.specs.Least.Blocks.{KeepsApart};
+ghost use Rattle.hz_pipeline_model.specs.Tables.Tables.{IsTable};
+ghost use Rattle.hz_pipeline_model.specs.Least.Blocks.{KeepsApart};
 ghost use Rattle.hz_tables.specs.Rows.{Rows};
 ghost use Rattle.hz_minim.specs.Arrows.{AreArrows, AreWithin};
 ghost use Rattle.hz_minim.specs.Kept.{AreBelow, IsKept, StayApart, StaysApart};

@@ -7,7 +7,7 @@ use Rattle.hz_depend.specs.declared.parts.GraphInsn.{GraphInsn}
 use Rattle.hz_sched.specs.Shape.{graph_of, node_of}
 use Rattle.hz_block_model.specs.Scheduling.Schedules.{Node, class_at}
 use Rattle.hz_block_model.proofs.Scheduling.SameSchedules.{class_below}
-use Rattle.hz_turns.specs.declared.parts.KernelSlot.{KernelSlot}
+use Rattle.hz_modulo.specs.declared.parts.KernelSlot.{KernelSlot}
 
 -- a slot, read where there is none
 abbrev pub some_slot : KernelSlot

@@ -6,7 +6,7 @@ use Rattle.std.proofs.lemmas.List.{length-map}
 use Rattle.std.proofs.lemmas.List.Elements.{All-head, All-tail, All-weaker, All-map, All-contains, All-contains_itself}
 use Rattle.hz_base_model.proofs.Elements.{Contains-map}
 use Rattle.hz_description_model.specs.Reading.Limits.{latency_limit}
-use Rattle.hz_automata_model.specs.Tables.Machines.{IsWalked}
+use Rattle.hz_pipeline_model.specs.Tables.Machines.{IsWalked}
 use Rattle.hz_block_model.specs.Dependences.Dependences.{depends, cost, Timing}
 use Rattle.hz_block_model.specs.Dependences.Graphs as graphs
 use Rattle.hz_block_model.specs.Dependences.Orders.{IsOrder}
@@ -15,15 +15,15 @@ use Rattle.hz_block_model.specs.Scheduling.Machines.{Settles, most_wait}
 use Rattle.hz_block_model.specs.Scheduling.Schedules as model
 use Rattle.hz_block_model.specs.Scheduling.Schedules.{places, present, Legal}
 use Rattle.hz_block_model.specs.Scheduled.BlockGraphs.{classes_of}
-use Rattle.hz_modulo_model.specs.Turns.{stages}
-use Rattle.hz_modulo_model.specs.Repeats.{KeepsCosts, stage_limit, Repeats}
-use Rattle.hz_modulo_model.proofs.CostLaws as costs
-use Rattle.hz_modulo_model.proofs.DepLaws.{IsOfCopies}
-use Rattle.hz_modulo_model.proofs.DescribedLaws.{copies_are_timed}
-use Rattle.hz_modulo_model.proofs.FoundLaws.{fit_exactly, found_kernel}
-use Rattle.hz_modulo_model.proofs.KernelLaws.{long_repeats}
-use Rattle.hz_modulo_model.proofs.LegalLaws.{in_body, by_place, in_time}
-use Rattle.hz_modulo_model.proofs.SameGraphs.{repeats_there}
+use Rattle.hz_measure_model.specs.Kernels.Turns.{stages}
+use Rattle.hz_measure_model.specs.Kernels.Repeats.{KeepsCosts, stage_limit, Repeats}
+use Rattle.hz_measure_model.proofs.Kernels.CostLaws as costs
+use Rattle.hz_measure_model.proofs.Kernels.DepLaws.{IsOfCopies}
+use Rattle.hz_measure_model.proofs.Kernels.DescribedLaws.{copies_are_timed}
+use Rattle.hz_measure_model.proofs.Kernels.FoundLaws.{fit_exactly, found_kernel}
+use Rattle.hz_measure_model.proofs.Kernels.KernelLaws.{long_repeats}
+use Rattle.hz_measure_model.proofs.Kernels.LegalLaws.{in_body, by_place, in_time}
+use Rattle.hz_measure_model.proofs.Kernels.SameGraphs.{repeats_there}
 use Rattle.hz_tables.specs.declared.machine.Machine.{Machine}
 use Rattle.hz_tables.specs.Machines.{machine_of}
 use Rattle.hz_check.specs.declared.checked.Checked.{Checked}
@@ -37,8 +37,8 @@ use Rattle.hz_depend.specs.declared.parts.Edge.{Edge}
 use Rattle.hz_depend.specs.GraphShape.{edge_of, latencies_of, timing_in, IsGraphOf, IsSchedulable}
 use Rattle.hz_sched.specs.declared.parts.Slot.{Slot}
 use Rattle.hz_sched.specs.Shape.{node_of, graph_of, slot_of, slots_of}
-use Rattle.hz_turns.specs.Walking as turns
-use Rattle.hz_turns.proofs.RepeatLemmas.{repeats_as_defined, repeats_by_kernel}
+use Rattle.hz_modulo.specs.Walking as turns
+use Rattle.hz_modulo.proofs.RepeatLemmas.{repeats_as_defined, repeats_by_kernel}
 use Rattle.hz_modulo.specs.Costs.{timing_of_copies, AreTurnEdges, least_for, least_of, first_interval}
 use Rattle.hz_modulo.specs.Kernels.{RepeatsIn, IsFirstFrom, IsKernelOf}
 use Rattle.hz_modulo.specs.declared.parts.Kernel.{Kernel}

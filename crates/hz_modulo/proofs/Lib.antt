@@ -4,3 +4,9 @@ mod EdgeLemmas
 mod SortLemmas
 mod SearchLemmas
 mod KernelLemmas
+mod WalkingLemmas
+mod AdvanceLemmas
+mod ScanLemmas
+mod KeptStates
+mod HeldLemmas
+pub mod RepeatLemmas

@@ -13,16 +13,16 @@ use Rattle.std.proofs.lemmas.List.Elements.{All-nil, All-cons, All-head, All-tai
 use Rattle.std.proofs.lemmas.List.Sorted.{All-permutation}
 use Rattle.hz_block_model.specs.Scheduling.Schedules as model
 use Rattle.hz_block_model.specs.Scheduling.Schedules.{present}
-use Rattle.hz_modulo_model.specs.Turns.{stages}
-use Rattle.hz_modulo_model.specs.Kernels as kernels
-use Rattle.hz_modulo_model.specs.Kernels.{kernel_of, kernel_slots}
-use Rattle.hz_modulo_model.proofs.DepLaws.{more_copies}
-use Rattle.hz_modulo_model.proofs.RangeLaws.{filter_none}
-use Rattle.hz_modulo_model.proofs.SortLaws.{GoesFirst, sorted_kernel}
+use Rattle.hz_measure_model.specs.Kernels.Turns.{stages}
+use Rattle.hz_measure_model.specs.Kernels.Kernels as kernels
+use Rattle.hz_measure_model.specs.Kernels.Kernels.{kernel_of, kernel_slots}
+use Rattle.hz_measure_model.proofs.Kernels.DepLaws.{more_copies}
+use Rattle.hz_measure_model.proofs.Kernels.RangeLaws.{filter_none}
+use Rattle.hz_measure_model.proofs.Kernels.SortLaws.{GoesFirst, sorted_kernel}
 use Rattle.hz_sched.specs.declared.parts.Slot.{Slot}
 use Rattle.hz_sched.specs.Shape.{slot_of, slots_of}
-use Rattle.hz_turns.specs.declared.parts.KernelSlot.{KernelSlot}
-use Rattle.hz_turns.specs.Walking.{kernel_slot_of}
+use Rattle.hz_modulo.specs.declared.parts.KernelSlot.{KernelSlot}
+use Rattle.hz_modulo.specs.Walking.{kernel_slot_of}
 use Rattle.hz_modulo.specs.Ranks.{rank_of}
 
 -- ---- what is said of slots is said of those of the kernel

@@ -3,7 +3,7 @@ use Rattle.std.specs.Prelude.{ℕ, ◌+◌, ◌*◌, ◌-◌, ◌/◌, ◌%◌, 
 use Rattle.std.specs.List.{repeat}
 use Rattle.hz_description_model.specs.Reading.Limits.{latency_limit}
 use Rattle.hz_block_model.specs.Dependences.Graphs as model
-use Rattle.hz_modulo_model.specs.Repeats.{stage_limit}
+use Rattle.hz_measure_model.specs.Kernels.Repeats.{stage_limit}
 use Rattle.hz_rtl.specs.declared.block.Block.{Block}
 use Rattle.hz_rtl.specs.Shape.{instructions}
 use Rattle.hz_check.specs.declared.checked.Checked.{Checked}

@@ -1,10 +1,10 @@
 -- What is answered: the kernel of a block, by its graph and its schedule.
 use Rattle.std.specs.Prelude.{◌≡◌, ℕ, suc, ◌<◌, ◌≤◌, List, map, length, All}
-use Rattle.hz_automata_model.specs.Tables.Machines as model
+use Rattle.hz_pipeline_model.specs.Tables.Machines as model
 use Rattle.hz_block_model.specs.Scheduling.Schedules as model_of
-use Rattle.hz_modulo_model.specs.Kernels.{kernel_slots}
-use Rattle.hz_modulo_model.specs.Repeats.{IsKernel}
-use Rattle.hz_modulo_model.specs.Turns.{stages}
+use Rattle.hz_measure_model.specs.Kernels.Kernels.{kernel_slots}
+use Rattle.hz_measure_model.specs.Kernels.Repeats.{IsKernel}
+use Rattle.hz_measure_model.specs.Kernels.Turns.{stages}
 use Rattle.hz_tables.specs.declared.machine.Machine.{Machine}
 use Rattle.hz_tables.specs.Machines.{machine_of}
 use Rattle.hz_check.specs.declared.checked.Checked.{Checked}
@@ -13,8 +13,8 @@ use Rattle.hz_rtl.specs.Shape.{instructions}
 use Rattle.hz_depend.specs.declared.parts.Graph.{Graph}
 use Rattle.hz_sched.specs.declared.parts.Slot.{Slot}
 use Rattle.hz_sched.specs.Shape.{graph_of, slots_of}
-use Rattle.hz_turns.specs.Walking.{kernel_slot_of}
-use Rattle.hz_turns.specs.Repeating.{RepeatsBy}
+use Rattle.hz_modulo.specs.Walking.{kernel_slot_of}
+use Rattle.hz_modulo.specs.Repeating.{RepeatsBy}
 use Rattle.hz_modulo.specs.Costs.{timing_of_copies}
 use Rattle.hz_modulo.specs.declared.parts.Kernel.{Kernel}
 

@@ -1,3 +1,5 @@
 pub mod Costs
 pub mod Ranks
+pub mod Walking
+pub mod Repeating
 pub mod Kernels

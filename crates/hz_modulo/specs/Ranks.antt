@@ -1,6 +1,6 @@
 -- The order of the slots of a kernel.
 use Rattle.std.specs.Prelude.{ℕ, ◌+◌, ◌*◌, ◌-◌, ◌^◌}
-use Rattle.hz_turns.specs.declared.parts.KernelSlot.{KernelSlot}
+use Rattle.hz_modulo.specs.declared.parts.KernelSlot.{KernelSlot}
 
 -- a number that rises with the offset, and in one offset as the stage falls
 abbrev pub rank_of : KernelSlot → ℕ

@@ -5,7 +5,7 @@ ghost use Rattle.hz_description_model.specs.Reading.Limits.{latency_limit};
 ghost use Rattle.hz_depend.specs.GraphShape.{edge_of};
 ghost use Rattle.hz_modulo.specs.Costs as model;
 ghost use Rattle.hz_modulo.specs.Costs.{least_of};
-ghost use Rattle.hz_modulo_model.specs.Repeats.{body_limit};
+ghost use Rattle.hz_measure_model.specs.Kernels.Repeats.{body_limit};
 
 use hz_depend::Edge;
 

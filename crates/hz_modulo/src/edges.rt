@@ -3,7 +3,7 @@
 ghost use Rattle.std.specs.Prelude.{◌≡◌, ◌≤◌, length, IfOk};
 ghost use Rattle.hz_depend.specs.GraphShape.{IsGraphOf};
 ghost use Rattle.hz_modulo.specs.Costs.{AreTurnEdges};
-ghost use Rattle.hz_modulo_model.specs.Repeats.{body_limit};
+ghost use Rattle.hz_measure_model.specs.Kernels.Repeats.{body_limit};
 
 use crate::copies::three_times;
 use hz_check::Checked;

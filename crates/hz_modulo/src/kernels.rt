@@ -1,13 +1,13 @@
 //! The kernel of a loop.
 
 ghost use Rattle.std.specs.Prelude.{◌≡◌, ◌≤◌, ◌<◌, ◌*◌, length, map, All, IfOk};
-ghost use Rattle.hz_automata_model.specs.Tables.Machines.{IsWalked};
+ghost use Rattle.hz_pipeline_model.specs.Tables.Machines.{IsWalked};
 ghost use Rattle.hz_block_model.specs.Scheduling.Machines.{Settles, most_wait};
 ghost use Rattle.hz_block_model.specs.Scheduling.Schedules.{Legal, present};
 ghost use Rattle.hz_depend.specs.GraphShape.{IsGraphOf, IsSchedulable};
 ghost use Rattle.hz_sched.specs.Shape.{graph_of, slots_of};
 ghost use Rattle.hz_tables.specs.Machines.{machine_of};
-ghost use Rattle.hz_modulo_model.specs.Repeats.{body_limit};
+ghost use Rattle.hz_measure_model.specs.Kernels.Repeats.{body_limit};
 ghost use Rattle.hz_modulo.specs.Kernels.{IsKernelOf, IsInRange};
 
 use crate::costs::first_interval;

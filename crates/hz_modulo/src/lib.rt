@@ -1,4 +1,4 @@
-//! The kernel of a loop: the least interval at which its turns repeat, and its text.
+//! The kernel of a loop: its turns are walked on a machine until they repeat, at the least interval at which they do, and its text.
 #![tactic(auto)]
 
 mod copies;
@@ -7,11 +7,13 @@ mod cycles;
 mod edges;
 mod kernels;
 mod parts;
+mod repeating;
 mod searching;
 mod sorting;
+pub mod turn_laws;
+mod walking;
 mod writing;
 
-pub use hz_turns::KernelSlot;
 pub use kernels::kernel;
-pub use parts::Kernel;
+pub use parts::{Kernel, KernelSlot};
 pub use writing::write_kernel;

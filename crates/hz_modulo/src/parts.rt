@@ -1,7 +1,5 @@
 //! What is answered.
 
-use hz_turns::KernelSlot;
-
 /// The kernel of a loop: one interval of its turns, when all of them overlap.
 #[derive(Debug, PartialEq, Eq, Drop)]
 pub struct Kernel {
@@ -16,4 +14,19 @@ pub struct Kernel {
     pub first_edge: u32,
     /// That other turn.
     pub second_edge: u32,
+}
+
+/// An instruction of a kernel: its cycle in the interval, its stage from 0, and its place in the block, counted from 0.
+#[derive(Clone, Copy, Debug, PartialEq, Eq)]
+pub struct KernelSlot {
+    pub offset: u32,
+    pub stage: u32,
+    pub place: u32,
+}
+
+/// Two starts of turns at which a machine is in the same states.
+#[derive(Clone, Copy, Debug, PartialEq, Eq)]
+pub struct Repeat {
+    pub first: u32,
+    pub second: u32,
 }

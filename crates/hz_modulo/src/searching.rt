@@ -3,19 +3,19 @@
 ghost use Rattle.std.specs.Prelude.{◌≡◌, ◌<◌, ◌≤◌, ◌+◌, ◌^◌, ℕ, length, All, IfOk, IfSome, IfNone};
 ghost use Rattle.hz_block_model.specs.Scheduling.Machines.{Settles};
 ghost use Rattle.hz_block_model.specs.Scheduling.Schedules.{present};
-ghost use Rattle.hz_modulo_model.specs.Repeats.{stage_limit};
-ghost use Rattle.hz_modulo_model.specs.Turns.{stages};
+ghost use Rattle.hz_measure_model.specs.Kernels.Repeats.{stage_limit};
+ghost use Rattle.hz_measure_model.specs.Kernels.Turns.{stages};
 ghost use Rattle.hz_sched.specs.Shape.{slots_of};
 ghost use Rattle.hz_tables.specs.Machines.{machine_of};
-ghost use Rattle.hz_turns.specs.Walking.{graph_of};
+ghost use Rattle.hz_modulo.specs.Walking.{graph_of};
 ghost use Rattle.hz_modulo.specs.Kernels.{RepeatsIn, IsKernelAt, IsFirstFrom};
 
 use crate::parts::Kernel;
+use crate::repeating::first_repeat;
 use crate::sorting::kernel_slots;
 use hz_regexp::NoMemory;
 use hz_sched::Slot;
 use hz_tables::Machine;
-use hz_turns::first_repeat;
 use std::alloc::Global;
 
 /// So many cycles after the last of the schedule each wait is over, and the machine is in its start again.

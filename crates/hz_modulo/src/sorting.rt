@@ -2,14 +2,14 @@
 
 ghost use Rattle.std.specs.Prelude.{◌≡◌, ◌<◌, ◌≤◌, ◌^◌, ℕ, map, All, IfOk};
 ghost use Rattle.hz_block_model.specs.Scheduling.Schedules.{present};
-ghost use Rattle.hz_modulo_model.specs.Kernels as model;
+ghost use Rattle.hz_measure_model.specs.Kernels.Kernels as model;
 ghost use Rattle.hz_sched.specs.Shape.{slot_of, slots_of};
-ghost use Rattle.hz_turns.specs.Walking.{kernel_slot_of};
+ghost use Rattle.hz_modulo.specs.Walking.{kernel_slot_of};
 ghost use Rattle.hz_modulo.specs.Ranks.{rank_of};
 
+use crate::parts::KernelSlot;
 use hz_regexp::NoMemory;
 use hz_sched::Slot;
-use hz_turns::KernelSlot;
 use std::alloc::Global;
 
 /// What a slot of the schedule is in the kernel.

@@ -4,19 +4,18 @@ ghost use Rattle.std.specs.Prelude.{◌≡◌, ◌-◌, ◌^◌, ◌<◌, ◌++�
 ghost use Rattle.std.specs.List.{flat_map};
 ghost use Rattle.hz_io.specs.Sink.{Writes};
 ghost use Rattle.hz_block_model.specs.Scheduling.Schedules.{class_at, present};
-ghost use Rattle.hz_modulo_model.specs.KernelTexts as model;
+ghost use Rattle.hz_measure_model.specs.Kernels.KernelTexts as model;
 ghost use Rattle.hz_sched.specs.Shape.{graph_of, slots_of};
-ghost use Rattle.hz_turns.specs.Walking.{kernel_slot_of};
+ghost use Rattle.hz_modulo.specs.Walking.{kernel_slot_of};
 ghost use Rattle.hz_modulo.specs.Kernels.{IsInRange};
 
 use crate::kernels::last_cycle;
-use crate::parts::Kernel;
+use crate::parts::{Kernel, KernelSlot};
 use hz_depend::Graph;
 use hz_io::{Failed, Sink, put_all};
 use hz_regexp::Name;
 use hz_sched::Schedule;
 use hz_tables::Machine;
-use hz_turns::KernelSlot;
 use itoa::Buffer;
 
 /// The number of the instruction at a place.

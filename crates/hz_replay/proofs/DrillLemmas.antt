@@ -3,10 +3,10 @@ use Rattle.std.proofs.Common.{◌≡◌, ℕ, zero, suc, add-one, ◌+◌, List,
 use Rattle.std.specs.Prelude.{IsSome, option_and_then}
 use Rattle.std.specs.List.{range_with_len}
 use Rattle.std.proofs.lemmas.List.{map-append}
-use Rattle.hz_acceptance_model.specs.Accepting.Events as model
-use Rattle.hz_acceptance_model.specs.Traces.Drills.{IsTurn}
-use Rattle.hz_automata_model.specs.Tables.Machines.{Machine, parts_walk}
-use Rattle.hz_automata_model.proofs.Tables.MachineLaws.{parts_walk-append}
+use Rattle.hz_pipeline_model.specs.Accepting.Events as model
+use Rattle.hz_pipeline_model.specs.Traces.Drills.{IsTurn}
+use Rattle.hz_pipeline_model.specs.Tables.Machines.{Machine, parts_walk}
+use Rattle.hz_pipeline_model.proofs.Tables.MachineLaws.{parts_walk-append}
 use Rattle.hz_replay.specs.Drilling.{WalksFrom}
 use Rattle.hz_replay.specs.Lines.{event_of}
 use Rattle.hz_replay.specs.Replaying.{Standing}

@@ -6,12 +6,12 @@ use Rattle.std.proofs.lemmas.List.{map_more, length-map, take-append-drop, map-a
 use Rattle.std.proofs.lemmas.Grind.{replicate_next}
 use Rattle.std.proofs.lemmas.Option.{slice_get-get_or, slice_get-map}
 use Rattle.std.specs.Option.{option_map}
-use Rattle.hz_acceptance_model.specs.Accepting.Events as model
-use Rattle.hz_acceptance_model.specs.Accepting.Events.{issues_of, cycles_of}
-use Rattle.hz_acceptance_model.proofs.Accepting.ReplayLaws.{issues_of-append, cycles_of-append}
-use Rattle.hz_automata_model.specs.Tables.Tables.{walk}
-use Rattle.hz_automata_model.specs.Tables.Machines.{Part, Machine, advance_of, word_of, part_walk, parts_walk, machine_walk, starts_of, onto_states}
-use Rattle.hz_automata_model.proofs.Tables.MachineLaws.{parts_walk-append}
+use Rattle.hz_pipeline_model.specs.Accepting.Events as model
+use Rattle.hz_pipeline_model.specs.Accepting.Events.{issues_of, cycles_of}
+use Rattle.hz_pipeline_model.proofs.Accepting.ReplayLaws.{issues_of-append, cycles_of-append}
+use Rattle.hz_pipeline_model.specs.Tables.Tables.{walk}
+use Rattle.hz_pipeline_model.specs.Tables.Machines.{Part, Machine, advance_of, word_of, part_walk, parts_walk, machine_walk, starts_of, onto_states}
+use Rattle.hz_pipeline_model.proofs.Tables.MachineLaws.{parts_walk-append}
 use Rattle.hz_replay.specs.Lines.{event_of}
 use Rattle.hz_replay.specs.Traces.{events_in}
 use Rattle.hz_replay.specs.Replaying.{FirstUnwalked, IsIssue, issues_in, cycles_of_one}

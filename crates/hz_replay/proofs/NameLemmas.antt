@@ -6,7 +6,7 @@ use Rattle.std.proofs.lemmas.List.Elements.{All-get_or}
 use Rattle.std.specs.List.{AllPairs, flat_map}
 use Rattle.indexmap.specs.IndexSet.{IndexSet, index_set_len}
 use Rattle.hz_base_model.specs.Limits.{class_limit, automaton_limit, unit_limit}
-use Rattle.hz_automata_model.specs.Tables.Machines.{Part, no_part, IsPart, IsMachine}
+use Rattle.hz_pipeline_model.specs.Tables.Machines.{Part, no_part, IsPart, IsMachine}
 use Rattle.hz_tables.specs.declared.machine.Machine as kept
 use Rattle.hz_tables.specs.declared.part.Part as declared
 use Rattle.hz_tables.specs.Machines.{machine_of}

@@ -1,12 +1,16 @@
 -- The states of a machine's parts, part by part.
-use Rattle.std.proofs.Common.{◌≡◌, ℕ, zero, suc, ◌<◌, List, [], ◌∷◌, length, get_or, Option, Some, None, replicate, refl, sym, ap, ◌∙◌, subst, arith}
+use Rattle.std.proofs.Common.{◌≡◌, ◌==◌, ℕ, zero, suc, ◌<◌, Bool, true, false, List, [], ◌∷◌, ◌++◌, length, take, drop, get_or, Option, Some, None, replicate, refl, sym, ap, ◌∙◌, subst, arith}
 use Rattle.std.specs.Prelude.{All}
+use Rattle.std.specs.List.{list_all, refill}
+use Rattle.std.specs.Bool.{OnTrue, OnFalse}
+use Rattle.std.proofs.Math.Seq.{take-append_seam}
 use Rattle.std.proofs.lemmas.List.{length-replicate}
+use Rattle.std.proofs.lemmas.Bool.{OnTrue_at, OnFalse_at, and_parts, eqb-true}
 use Rattle.std.proofs.lemmas.List.Elements.{All-get_or, All-head, All-tail}
-use Rattle.hz_acceptance_model.specs.Accepting.Events.{Event, advance}
-use Rattle.hz_automata_model.specs.Tables.Machines.{Part, Machine, advance_of, no_part, part_at, part_walk, parts_walk, onto_states, word_of, starts_of, IsPart, IsMachine}
-use Rattle.hz_automata_model.proofs.Tables.TableLaws.{walk_stays}
-use Rattle.hz_automata_model.proofs.Tables.MachineLaws.{advance_alone}
+use Rattle.hz_pipeline_model.specs.Accepting.Events.{Event, advance}
+use Rattle.hz_pipeline_model.specs.Tables.Machines.{Part, Machine, advance_of, no_part, part_at, part_walk, parts_walk, onto_states, word_of, starts_of, IsPart, IsMachine}
+use Rattle.hz_pipeline_model.proofs.Tables.TableLaws.{walk_stays}
+use Rattle.hz_pipeline_model.proofs.Tables.MachineLaws.{advance_alone}
 use Rattle.hz_replay.specs.Replaying.{AreStates}
 
 pub zeros : (n : ℕ) → length {A = ℕ} (replicate n 0) ≡ n
@@ -69,3 +73,32 @@ states_stay m is states next t stand h =
 
 pub always_advances : (m : Machine) → IsMachine m → (states : List ℕ) → AreStates m states → parts_walk m.parts states (advance 1 ∷ []) ≡ None → ⊥
 always_advances m is states stand h = advances_some (length m.classes) m.parts states is.parts stand.each stand.within h
+
+-- what is written over a list of the same length is all that stands there
+pub refilled : (states next : List ℕ) → length next ≡ length states → refill (length states) states next ≡ next
+refilled states next same = subst (λ (n : ℕ). take n (next ++ drop (length next) states) ≡ next) same (take-append_seam next (drop (length next) states))
+
+-- what is walked has a state for each part, as what it is walked from
+pub as_many : (m : Machine) → IsMachine m → (states next : List ℕ) (t : List Event) → AreStates m states → parts_walk m.parts states t ≡ Some next → length next ≡ length states
+as_many m is states next t stand h = (ends (length m.classes) m.parts states next t is.parts stand.each stand.within h).0 ∙ sym stand.each
+
+-- each part has its state behind an issue, whether it is taken or not
+pub stand_behind : (m : Machine) → IsMachine m → (states next : List ℕ) (t : List Event) (taken : Bool) → AreStates m states
+    → OnTrue taken (parts_walk m.parts states t ≡ Some next) → OnFalse taken (next ≡ states) → AreStates m (refill (length states) states next)
+stand_behind m is states next t true stand told same =
+    let walked = OnTrue_at refl told in
+    subst (AreStates m) (sym (refilled states next (as_many m is states next t stand walked))) (states_stay m is states next t stand walked)
+stand_behind m is states next t false stand told same =
+    let stays = OnFalse_at refl same in
+    subst (AreStates m) (sym (refilled states next (ap length stays) ∙ stays)) stand
+
+-- states that are all 0 are those of the start
+pub all_zero : (states : List ℕ) → list_all (λ state. state == 0) states ≡ true → states ≡ replicate (length states) 0
+all_zero [] e = refl
+all_zero (state ∷ states) e =
+    let (here, rest) = and_parts (state == 0) (list_all (λ s. s == 0) states) e in
+    λ i. eqb-true state 0 here i ∷ all_zero states rest i
+
+pub zeros_all : (n : ℕ) → list_all (λ state. state == 0) (replicate n 0) ≡ true
+zeros_all zero = refl
+zeros_all (suc n) = zeros_all n

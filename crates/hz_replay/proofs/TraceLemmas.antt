@@ -3,11 +3,11 @@ use Rattle.std.proofs.Common.{◌≡◌, ℕ, ◌+◌, ◌≤◌, Bool, true, fa
 use Rattle.std.specs.Prelude.{⊤, MatchOption}
 use Rattle.std.proofs.lemmas.List.{append-nil, map-append}
 use Rattle.std.proofs.lemmas.Bool.{leb-true, leb-false}
-use Rattle.hz_acceptance_model.specs.Traces.TraceLimits.{advance_limit}
+use Rattle.hz_pipeline_model.specs.Traces.TraceLimits.{advance_limit}
 use Rattle.hz_base_model.specs.Lines.{lines_of}
-use Rattle.hz_acceptance_model.specs.Accepting.Events.{Event, issue, advance, ask, cycles_of}
-use Rattle.hz_acceptance_model.specs.Traces.TraceNames.{TraceNames}
-use Rattle.hz_acceptance_model.specs.Traces.Traces.{Trace, TraceFault, too_many_advances, TraceFaultAt, Line, skipped, says, wrong, line_says, Say, nothing, skips, tells, WrongAfter, line_alone, advances, event_lines, numbered}
+use Rattle.hz_pipeline_model.specs.Accepting.Events.{Event, issue, advance, ask, cycles_of}
+use Rattle.hz_pipeline_model.specs.Traces.TraceNames.{TraceNames}
+use Rattle.hz_pipeline_model.specs.Traces.Traces.{Trace, TraceFault, too_many_advances, TraceFaultAt, Line, skipped, says, wrong, line_says, Say, nothing, skips, tells, WrongAfter, line_alone, advances, event_lines, numbered}
 use Rattle.std.specs.Option.{option_map}
 use Rattle.hz_replay.specs.declared.event.What.{What}
 use Rattle.hz_replay.specs.Lines.{event_of, judged, judgement}

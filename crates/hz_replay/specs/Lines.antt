@@ -1,8 +1,8 @@
 -- What the reader finds on a line, in the words of the grammar of traces.
 use Rattle.std.specs.Prelude.{ℕ, ◌+◌, min, nat_le, if◌then◌else◌, Option, Some, None, Result, Ok, Err}
-use Rattle.hz_acceptance_model.specs.Traces.TraceLimits.{advance_limit}
-use Rattle.hz_acceptance_model.specs.Accepting.Events as events
-use Rattle.hz_acceptance_model.specs.Traces.Traces.{TraceFault, bad_line, unknown_class, too_many_advances, unknown_unit, Line, skipped, says, wrong}
+use Rattle.hz_pipeline_model.specs.Traces.TraceLimits.{advance_limit}
+use Rattle.hz_pipeline_model.specs.Accepting.Events as events
+use Rattle.hz_pipeline_model.specs.Traces.Traces.{TraceFault, bad_line, unknown_class, too_many_advances, unknown_unit, Line, skipped, says, wrong}
 use Rattle.hz_replay.specs.declared.event.What.{What}
 use Rattle.hz_replay.specs.declared.event.What.TheVariants.{Issue, Advance, Ask}
 use Rattle.hz_replay.specs.declared.words.Wrong.{Wrong as WrongLine}

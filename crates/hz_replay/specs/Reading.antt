@@ -1,8 +1,8 @@
 -- A text whose lines are read, and what is remembered of them.
 use Rattle.std.specs.Prelude.{◌≡◌, ℕ, ◌≤◌, List, length, All}
 use Rattle.std.specs.List.{slice_range}
-use Rattle.hz_acceptance_model.specs.Traces.TraceNames.{TraceNames}
-use Rattle.hz_acceptance_model.specs.Traces.Traces.{line_says}
+use Rattle.hz_pipeline_model.specs.Traces.TraceNames.{TraceNames}
+use Rattle.hz_pipeline_model.specs.Traces.Traces.{line_says}
 use Rattle.hz_replay.specs.Lines.{said, capped_line}
 use Rattle.hz_replay.specs.declared.reading.Seen.{Seen}
 

@@ -1,7 +1,7 @@
 -- Replaying over tables: the states of a machine's parts, and what a replay answers.
 use Rattle.std.specs.Prelude.{◌≡◌, ◌<◌, ℕ, suc, List, Option, Some, None, length, take, slice_get, slice_index, IsSome}
-use Rattle.hz_acceptance_model.specs.Accepting.Events as events
-use Rattle.hz_automata_model.specs.Tables.Machines.{Machine, part_at, machine_walk}
+use Rattle.hz_pipeline_model.specs.Accepting.Events as events
+use Rattle.hz_pipeline_model.specs.Tables.Machines.{Machine, part_at, machine_walk}
 use Rattle.hz_replay.specs.declared.outcome.Outcome.{Outcome}
 use Rattle.hz_replay.specs.declared.outcome.Outcome.TheVariants.{Accepted, Refused}
 

@@ -1,8 +1,8 @@
 -- A trace as the reader makes it, line after line.
 use Rattle.std.specs.Prelude.{◌≡◌, ℕ, List, [], ◌∷◌, ◌++◌, map, ⊤, Option, Some, None, MatchOption}
-use Rattle.hz_acceptance_model.specs.Accepting.Events as events
-use Rattle.hz_acceptance_model.specs.Traces.TraceNames.{TraceNames}
-use Rattle.hz_acceptance_model.specs.Traces.Traces.{TraceFault, bad_line, unknown_class, too_many_advances, unknown_unit, TraceFaultAt}
+use Rattle.hz_pipeline_model.specs.Accepting.Events as events
+use Rattle.hz_pipeline_model.specs.Traces.TraceNames.{TraceNames}
+use Rattle.hz_pipeline_model.specs.Traces.Traces.{TraceFault, bad_line, unknown_class, too_many_advances, unknown_unit, TraceFaultAt}
 use Rattle.hz_replay.specs.Lines.{event_of, fault_of}
 use Rattle.hz_replay.specs.declared.words.Wrong.{Wrong as WrongLine}
 use Rattle.hz_replay.specs.declared.event.Event.{Event}

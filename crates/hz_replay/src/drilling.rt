@@ -3,13 +3,13 @@
 ghost use Rattle.std.specs.Prelude.{◌≡◌, ◌+◌, ◌*◌, ◌<◌, ◌≤◌, ◌∷◌, [], length, IfOk, Some};
 ghost use Rattle.std.specs.List.{range_with_len};
 ghost use Rattle.std.specs.Option.{ForSome};
-ghost use Rattle.hz_acceptance_model.specs.Traces.Drills as model;
-ghost use Rattle.hz_acceptance_model.specs.Traces.Drills.{IsTurn, Drawn};
+ghost use Rattle.hz_pipeline_model.specs.Traces.Drills as model;
+ghost use Rattle.hz_pipeline_model.specs.Traces.Drills.{IsTurn, Drawn};
 ghost use Rattle.hz_replay.specs.Drilling.{WalksFrom};
 ghost use Rattle.hz_replay.specs.Lines.{event_of};
 ghost use Rattle.hz_replay.specs.Traces.{events_in, lines_in};
 ghost use Rattle.hz_tables.specs.Machines.{machine_of};
-ghost use Rattle.hz_automata_model.specs.Tables.Machines.{parts_walk, IsWalked};
+ghost use Rattle.hz_pipeline_model.specs.Tables.Machines.{parts_walk, IsWalked};
 
 use super::event::{Event, What};
 use super::replayer::Replayer;

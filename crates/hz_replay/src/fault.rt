@@ -1,7 +1,7 @@
 //! Why a text is no trace.
 
 ghost use Rattle.std.specs.Prelude.{◌≡◌};
-ghost use Rattle.hz_acceptance_model.specs.Traces.Traces.{trace_word};
+ghost use Rattle.hz_pipeline_model.specs.Traces.Traces.{trace_word};
 ghost use Rattle.hz_base_model.specs.Told.{told_by, told_in};
 ghost use Rattle.hz_replay.specs.Traces.{fault_told};
 ghost use Rattle.hz_replay.specs.declared.fault.TraceFault.TheVariants.{NoMemory as no_memory};

@@ -3,7 +3,7 @@
 ghost use Rattle.std.specs.Prelude.{◌≡◌, ◌<◌, ◌≤◌, ◌∷◌, ◌+◌, ◌-◌, length, drop, position, ◌==◌};
 ghost use Rattle.std.specs.List.{prefix_len, suffix_len, position_or_len, slice_range};
 ghost use Rattle.hz_base_model.specs.Lines.{lines_of};
-ghost use Rattle.hz_acceptance_model.specs.Traces.Traces as model;
+ghost use Rattle.hz_pipeline_model.specs.Traces.Traces as model;
 
 /// The place of the first line feed.
 fn line_feed(text: &[u8]) -> Option<usize>

@@ -4,8 +4,8 @@ ghost use Rattle.std.specs.Prelude.{◌≡◌, ◌≢◌, ◌≤◌, ◌<◌, �
 ghost use Rattle.std.specs.List.{AllPairs};
 ghost use Rattle.hz_base_model.specs.Limits.{class_limit};
 ghost use Rattle.hz_base_model.specs.Lines as model;
-ghost use Rattle.hz_acceptance_model.specs.Traces.TraceNames.{query_place};
-ghost use Rattle.hz_automata_model.specs.Tables.MachineNames.{names_of_machine};
+ghost use Rattle.hz_pipeline_model.specs.Traces.TraceNames.{query_place};
+ghost use Rattle.hz_pipeline_model.specs.Tables.MachineNames.{names_of_machine};
 ghost use Rattle.hz_tables.specs.Machines.{machine_of};
 ghost use Rattle.hz_replay.specs.Names.{names_in, all_names_in};
 ghost use Rattle.indexmap.specs.IndexSet.{index_set_len};
@@ -73,7 +73,7 @@ impl Model for Names {
     ghost use Rattle.std.specs.Prelude.{◌≤◌, length, All};
     ghost use Rattle.hz_base_model.specs.Limits.{class_limit, automaton_limit};
     ghost use Rattle.indexmap.specs.IndexSet.{index_set_len};
-    ghost use Rattle.hz_acceptance_model.specs.Traces.TraceNames.{TraceNames};
+    ghost use Rattle.hz_pipeline_model.specs.Traces.TraceNames.{TraceNames};
     ghost use Rattle.hz_replay.specs.Names.{names_in, all_names_in};
 
     ghost Value = { TraceNames };

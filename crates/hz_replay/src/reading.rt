@@ -2,8 +2,8 @@
 
 ghost use Rattle.std.specs.Prelude.{◌≡◌, ◌<◌, ◌≤◌, length, IfOk};
 ghost use Rattle.std.specs.List.{slice_range};
-ghost use Rattle.hz_acceptance_model.specs.Traces.TraceLimits.{advance_limit};
-ghost use Rattle.hz_acceptance_model.specs.Traces.Traces as model;
+ghost use Rattle.hz_pipeline_model.specs.Traces.TraceLimits.{advance_limit};
+ghost use Rattle.hz_pipeline_model.specs.Traces.Traces as model;
 ghost use Rattle.hz_replay.specs.Lines.{said, capped_line, judged, judgement};
 
 use super::event::What;

@@ -1,45 +1,61 @@
 //! Replaying over a machine of tables: a state for each part, stepped event by event.
 
-ghost use Rattle.std.specs.Prelude.{◌≡◌, ◌+◌, ◌*◌, ◌<◌, ◌≤◌, ◌∷◌, [], length, replicate, IsTrue, IfSome, Some, None};
+ghost use Rattle.std.specs.Prelude.{◌≡◌, ◌↔◌, ◌==◌, ◌+◌, ◌*◌, ◌<◌, ◌≤◌, ◌∷◌, [], length, replicate, IsTrue, IfSome, Some, None};
 ghost use Rattle.std.specs.Bool.{OnTrue, OnFalse};
+ghost use Rattle.std.specs.List.{list_all};
 ghost use Rattle.std.specs.Option.{option_map, ForSome};
-ghost use Rattle.hz_automata_model.specs.Tables.Machines.{parts_walk, part_at, starts_of, states_tell};
+ghost use Rattle.hz_pipeline_model.specs.Tables.Machines.{IsMachine, parts_walk, part_at, starts_of, states_tell};
 ghost use Rattle.hz_tables.specs.Machines.{machine_of};
-ghost use Rattle.hz_acceptance_model.specs.Accepting.Events.{issue, advance};
+ghost use Rattle.hz_pipeline_model.specs.Accepting.Events.{issue, advance};
 ghost use Rattle.hz_replay.specs.Replaying.{event_for, AreStates};
 
 use hz_tables::{Machine, Steps};
 use smallvec::SmallVec;
 use std::alloc::Global;
 use std::marker::Model;
-use std::mem;
 use std::sync::ledger::Ledger;
 
-/// Puts the next states of a machine's parts in the place of `next`: at an issue of a class, or at the advance of one cycle
-/// where there is no class. False where some part has no next state. At most four steps for each part.
+/// Takes each part to its next state, in place: at an issue of a class, or at the advance of one cycle where there is no class. False
+/// where some part has no next state; then the states are as they were. `before` is for the states of the parts that are taken on. At most
+/// four steps for each part.
 fn walk<L: Ledger>(
     machine: &Machine,
-    states: &[u32],
+    states: &mut [u32],
     class: Option<u32>,
-    next: &mut SmallVec<u32, 16>,
+    before: &mut SmallVec<u32, 16>,
     steps: &mut Steps<L>,
 ) -> bool
-    requires states { AreStates (machine_of machine.now) states.now }
+    requires states { AreStates (machine_of machine.now) states.old }
     requires class { ForSome class (λ class. class < length machine.now.classes.items) }
-    requires room { next.old.capacity ≡ 16 }
-    ensures next { OnTrue result (parts_walk (machine_of machine.now).parts states.now (event_for class ∷ []) ≡ Some next.new.items) }
-    ensures none { OnFalse result (parts_walk (machine_of machine.now).parts states.now (event_for class ∷ []) ≡ None) }
-    ensures room { next.new.capacity ≡ 16 }
+    requires room { before.old.capacity ≡ 16 }
+    ensures next { OnTrue result (parts_walk (machine_of machine.now).parts states.old (event_for class ∷ []) ≡ Some states.new) }
+    ensures none { OnFalse result (parts_walk (machine_of machine.now).parts states.old (event_for class ∷ []) ≡ None) }
+    ensures stays { OnFalse result (states.new ≡ states.old) }
+    ensures room { before.new.capacity ≡ 16 }
     ensures cost { steps.new ≤ steps.old + 4 * length machine.now.parts.items }
 {
-    next.clear();
+    before.clear();
     for part in 0..machine.parts.len() {
-        match machine.step(part as u32, states[part], class, steps) {
-            Some(state) => next.push_reserved(state),
-            None => return false,
+        let state = states[part];
+        match machine.step(part as u32, state, class, steps) {
+            Some(next) => {
+                before.push_reserved(state);
+                states[part] = next;
+            }
+            None => {
+                states[..part].copy_from_slice(before.as_slice());
+                return false;
+            }
         }
     }
     true
+}
+
+/// Whether all these are the start of their part.
+fn are_starts(states: &[u32]) -> bool
+    ensures { result ≡ list_all (λ state. state == 0) states.now }
+{
+    states.iter().all(|state| *state == 0)
 }
 
 /// A state for each part of a machine. It takes no memory: it has room for as many parts as a machine may have.
@@ -47,7 +63,7 @@ fn walk<L: Ledger>(
 pub struct Replayer<'m> {
     machine: &'m Machine,
     states: SmallVec<u32, 16>,
-    next: SmallVec<u32, 16>,
+    before: SmallVec<u32, 16>,
 }
 
 impl<'m> Model for Replayer<'m> {
@@ -59,7 +75,7 @@ impl<'m> Model for Replayer<'m> {
 
     ghost view = { λ r. record { machine = machine_of r.machine.now; states = r.states.items } };
 
-    ghost invariant = { λ r. AreStates (machine_of r.machine.now) r.states.items × (r.states.capacity ≡ 16) × (r.next.capacity ≡ 16) };
+    ghost invariant = { λ r. AreStates (machine_of r.machine.now) r.states.items × (r.states.capacity ≡ 16) × (r.before.capacity ≡ 16) };
 }
 
 impl<'m> Replayer<'m> {
@@ -74,7 +90,7 @@ impl<'m> Replayer<'m> {
         Replayer {
             machine,
             states,
-            next: SmallVec::new(alloc),
+            before: SmallVec::new(alloc),
         }
     }
 
@@ -88,12 +104,8 @@ impl<'m> Replayer<'m> {
         ensures stays { OnFalse result (self.new ≡ self.old) }
         ensures cost { steps.new ≤ steps.old + 4 * length self.old.machine.parts }
     {
-        let stands = self.states.as_slice();
-        let walks = walk(self.machine, stands, Some(class), &mut self.next, steps);
-        if walks {
-            mem::swap(&mut self.states, &mut self.next);
-        }
-        walks
+        let states = self.states.as_mut_slice();
+        walk(self.machine, states, Some(class), &mut self.before, steps)
     }
 
     /// One cycle: each part takes its next state. It takes no memory, and at most four steps for each part.
@@ -102,11 +114,10 @@ impl<'m> Replayer<'m> {
         ensures taken { parts_walk self.old.machine.parts self.old.states (advance 1 ∷ []) ≡ Some self.new.states }
         ensures cost { steps.new ≤ steps.old + 4 * length self.old.machine.parts }
     {
-        let stands = self.states.as_slice();
-        if !walk(self.machine, stands, None, &mut self.next, steps) {
+        let states = self.states.as_mut_slice();
+        if !walk(self.machine, states, None, &mut self.before, steps) {
             unreachable!();
         }
-        mem::swap(&mut self.states, &mut self.next);
     }
 
     /// Whether a unit that is asked for in a part is reserved in the present cycle. It takes no memory, and at most three
@@ -119,6 +130,28 @@ impl<'m> Replayer<'m> {
     {
         self.machine
             .ask(part, self.states[part as usize], ask, steps)
+    }
+
+    /// The same machine and states once more. It takes no memory.
+    pub fn copy(&self, alloc: Global) -> Replayer<'m>
+        ensures { result ≡ self.now }
+    {
+        let Ok(states) = SmallVec::from_slice(alloc, self.states.as_slice()) else {
+            unreachable!()
+        };
+        Replayer {
+            machine: self.machine,
+            states,
+            before: SmallVec::new(alloc),
+        }
+    }
+
+    /// Whether each part is in its start. It takes no memory.
+    pub fn is_at_start(&self) -> bool
+        ensures start { IsTrue result ↔ (self.now.states ≡ starts_of self.now.machine) }
+        ensures machine { IsMachine self.now.machine }
+    {
+        are_starts(self.states.as_slice())
     }
 
     /// The states, one for each part. It takes no memory.

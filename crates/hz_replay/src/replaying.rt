@@ -2,11 +2,11 @@
 
 ghost use Rattle.std.specs.Prelude.{◌≡◌, ◌+◌, ◌*◌, ◌<◌, ◌≤◌, ◌^◌, ◌∷◌, [], length, All, Some, None};
 ghost use Rattle.std.specs.Bool.{OnTrue, OnFalse};
-ghost use Rattle.hz_acceptance_model.specs.Traces.TraceLimits.{advance_limit};
-ghost use Rattle.hz_acceptance_model.specs.Accepting.Events.{advance, issues_of, cycles_of, IsOfClass};
-ghost use Rattle.hz_acceptance_model.specs.Accepting.Asking.{IsOfQuery};
-ghost use Rattle.hz_automata_model.specs.Tables.Machines.{parts_walk};
-ghost use Rattle.hz_automata_model.specs.Tables.MachineNames.{names_of_machine};
+ghost use Rattle.hz_pipeline_model.specs.Traces.TraceLimits.{advance_limit};
+ghost use Rattle.hz_pipeline_model.specs.Accepting.Events.{advance, issues_of, cycles_of, IsOfClass};
+ghost use Rattle.hz_pipeline_model.specs.Accepting.Asking.{IsOfQuery};
+ghost use Rattle.hz_pipeline_model.specs.Tables.Machines.{parts_walk};
+ghost use Rattle.hz_pipeline_model.specs.Tables.MachineNames.{names_of_machine};
 ghost use Rattle.hz_tables.specs.Machines.{machine_of};
 ghost use Rattle.hz_replay.specs.Lines.{event_of};
 ghost use Rattle.hz_replay.specs.Traces.{events_in};

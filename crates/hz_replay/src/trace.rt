@@ -3,8 +3,8 @@
 ghost use Rattle.std.specs.Prelude.{◌≡◌, ◌<◌, ◌^◌, length, IfOk, OnOk, IfErr};
 ghost use Rattle.std.specs.Option.{option_map};
 ghost use Rattle.hz_base_model.specs.Lines.{lines_of};
-ghost use Rattle.hz_acceptance_model.specs.Traces.Traces.{Trace, event_lines};
-ghost use Rattle.hz_automata_model.specs.Tables.MachineNames.{names_of_machine};
+ghost use Rattle.hz_pipeline_model.specs.Traces.Traces.{Trace, event_lines};
+ghost use Rattle.hz_pipeline_model.specs.Tables.MachineNames.{names_of_machine};
 ghost use Rattle.hz_tables.specs.Machines.{machine_of};
 ghost use Rattle.hz_replay.specs.Lines.{event_of};
 ghost use Rattle.hz_replay.specs.Traces.{events_in, lines_in, IsTraceFault, IsFaultOfLine, placed_in, noted, cycles_in};

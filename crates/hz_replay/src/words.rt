@@ -3,7 +3,7 @@
 ghost use Rattle.std.specs.Prelude.{◌≡◌};
 ghost use Rattle.std.specs.Option.{option_map};
 ghost use Rattle.hz_base_model.specs.Lines.{number_of};
-ghost use Rattle.hz_acceptance_model.specs.Traces.Traces as model;
+ghost use Rattle.hz_pipeline_model.specs.Traces.Traces as model;
 ghost use Rattle.hz_replay.specs.Lines.{capped, said, capped_line};
 
 use super::event::What;

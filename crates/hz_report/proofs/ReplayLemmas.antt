@@ -2,10 +2,10 @@
 use Rattle.std.proofs.Common.{◌≡◌, ℕ, Bool, true, false, Option, Some, None, ap₂, ◌+◌, ◌<◌, List, [], ◌∷◌, ◌++◌, length, ◌≤◌, get_or, take, drop, All, refl, sym, ap, ◌∙◌, append_assoc, subst, arith}
 use Rattle.std.proofs.lemmas.List.{append-nil, drop_all, drop-append-le, get_or-map, length-map, length-take, take-map, take_more, take-append-drop}
 use Rattle.std.proofs.lemmas.List.Elements.{All-append, All-get_or, All-take, All-cons, All-head, All-nil, All-tail}
-use Rattle.hz_acceptance_model.specs.Accepting.Events as accepting
+use Rattle.hz_pipeline_model.specs.Accepting.Events as accepting
 use Rattle.std.specs.Bool.{OnFalse, OnTrue}
 use Rattle.std.specs.Option.{unwrap_or}
-use Rattle.hz_automata_model.specs.Tables.Machines.{Machine, parts_walk}
+use Rattle.hz_pipeline_model.specs.Tables.Machines.{Machine, parts_walk}
 use Rattle.hz_replay.specs.Lines.{event_of}
 use Rattle.hz_replay.specs.Replaying.{Standing}
 use Rattle.hz_replay.specs.Traces.{events_in}

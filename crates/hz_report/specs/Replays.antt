@@ -1,13 +1,13 @@
 -- The text of a replay: a line for each ask before it ends, and how it ends.
 use Rattle.std.specs.Prelude.{⊤, ℕ, List, [], ◌∷◌, ◌++◌, All, length, take, slice_index_or}
 use Rattle.std.specs.Option.{unwrap_or}
-use Rattle.hz_acceptance_model.specs.Accepting.Asking.{IsOfQuery}
-use Rattle.hz_acceptance_model.specs.Accepting.Events as accepting
-use Rattle.hz_acceptance_model.specs.Accepting.Events.{IsOfClass}
+use Rattle.hz_pipeline_model.specs.Accepting.Asking.{IsOfQuery}
+use Rattle.hz_pipeline_model.specs.Accepting.Events as accepting
+use Rattle.hz_pipeline_model.specs.Accepting.Events.{IsOfClass}
 use Rattle.hz_answer_model.specs.AskAnswers.{query_name}
 use Rattle.hz_answer_model.specs.Texts.{accepted_line, ask_line, refused_line}
-use Rattle.hz_automata_model.specs.Tables.MachineNames.{names_of_machine}
-use Rattle.hz_automata_model.specs.Tables.Machines.{Machine, parts_walk, starts_of, states_tell}
+use Rattle.hz_pipeline_model.specs.Tables.MachineNames.{names_of_machine}
+use Rattle.hz_pipeline_model.specs.Tables.Machines.{Machine, parts_walk, starts_of, states_tell}
 use Rattle.hz_replay.specs.Lines.{event_of}
 use Rattle.hz_replay.specs.Replaying.{IsOutcome}
 use Rattle.hz_replay.specs.Traces.{events_in}

@@ -2,12 +2,12 @@
 
 ghost use Rattle.std.specs.Prelude.{◌≡◌, ℕ, ◌-◌, ◌^◌, ◌<◌, ◌≤◌, All, length, drop, codes, if◌then◌else◌};
 ghost use Rattle.std.specs.Bool.{OnFalse};
-ghost use Rattle.hz_acceptance_model.specs.Accepting.Asking.{IsOfQuery};
-ghost use Rattle.hz_acceptance_model.specs.Accepting.Events.{issue, IsOfClass};
+ghost use Rattle.hz_pipeline_model.specs.Accepting.Asking.{IsOfQuery};
+ghost use Rattle.hz_pipeline_model.specs.Accepting.Events.{issue, IsOfClass};
 ghost use Rattle.hz_answer_model.specs.AskAnswers.{query_name};
 ghost use Rattle.hz_answer_model.specs.Texts as model;
-ghost use Rattle.hz_automata_model.specs.Tables.MachineNames.{names_of_machine};
-ghost use Rattle.hz_automata_model.specs.Tables.Machines.{part_at, starts_of};
+ghost use Rattle.hz_pipeline_model.specs.Tables.MachineNames.{names_of_machine};
+ghost use Rattle.hz_pipeline_model.specs.Tables.Machines.{part_at, starts_of};
 ghost use Rattle.hz_io.specs.Pages.{Adds};
 ghost use Rattle.hz_io.specs.Sink.{Writes};
 ghost use Rattle.hz_replay.specs.Lines.{event_of};

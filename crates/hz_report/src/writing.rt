@@ -12,7 +12,7 @@ use super::replayed::put_replayed;
 use super::report::Report;
 use super::scheduled::put_schedule;
 use hz_io::{Failed, Sink};
-use hz_listing::write_state;
+use hz_rtl::write_state;
 use std::alloc::Global;
 
 /// Writes the text of a report: all of it, or a front of it if the sink failed, with one more fault. It takes no memory.

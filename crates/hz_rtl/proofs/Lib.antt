@@ -6,3 +6,4 @@ pub mod StateLemmas
 pub mod StoringLemmas
 pub mod NameLemmas
 pub mod ListingLemmas
+pub mod LineLemmas

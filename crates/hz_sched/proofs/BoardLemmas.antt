@@ -10,8 +10,8 @@ use Rattle.std.proofs.Math.Seq.{take-append_seam}
 use Rattle.std.proofs.lemmas.Bool.{lt-ltb}
 use Rattle.std.proofs.lemmas.List.{length-map, get_or-map}
 use Rattle.std.proofs.lemmas.List.Elements.{All-map, All-filter}
-use Rattle.hz_acceptance_model.specs.Accepting.Events.{issue}
-use Rattle.hz_automata_model.specs.Tables.Machines.{Machine, parts_walk, IsWalked}
+use Rattle.hz_pipeline_model.specs.Accepting.Events.{issue}
+use Rattle.hz_pipeline_model.specs.Tables.Machines.{Machine, parts_walk, IsWalked}
 use Rattle.hz_depend.specs.declared.parts.Edge as depend
 use Rattle.hz_depend.specs.declared.parts.GraphInsn.{GraphInsn}
 use Rattle.hz_depend.specs.GraphShape.{edge_of}

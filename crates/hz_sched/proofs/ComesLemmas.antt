@@ -1,9 +1,9 @@
 -- An issue always comes.
 use Rattle.std.proofs.Common.{◌≡◌, ℕ, ◌+◌, ◌-◌, ◌<◌, ◌≤◌, true, List, [], ◌∷◌, ◌++◌, length, Option, Some, None, is_some, All, refl, sym, ap, ◌∙◌, subst, append_assoc, arith}
 use Rattle.std.specs.Prelude.{IsSome}
-use Rattle.hz_acceptance_model.specs.Accepting.Events.{issue, advance, IsOfClass}
+use Rattle.hz_pipeline_model.specs.Accepting.Events.{issue, advance, IsOfClass}
 use Rattle.std.proofs.lemmas.List.Elements.{All-append, All-cons, All-nil}
-use Rattle.hz_automata_model.specs.Tables.Machines.{Machine, parts_walk, machine_walk, starts_of, IsWalked}
+use Rattle.hz_pipeline_model.specs.Tables.Machines.{Machine, parts_walk, machine_walk, starts_of, IsWalked}
 use Rattle.hz_base_model.specs.Limits.{cycle_limit}
 use Rattle.hz_description_model.specs.Reading.Limits.{latency_limit}
 use Rattle.hz_block_model.specs.Scheduling.Schedules.{Graph, Slot, class_at, present, spell, IsReady, IsCandidate}

@@ -10,10 +10,10 @@ use Rattle.std.proofs.lemmas.List.Sums.{fails_before_first}
 use Rattle.std.proofs.lemmas.List.Elements.{All-get_or, All-contains, All-map, Contains-get_or}
 use Rattle.std.proofs.lemmas.Option.{slice_get-get_or}
 use Rattle.hz_base_model.proofs.Elements.{Contains-map}
-use Rattle.hz_acceptance_model.specs.Accepting.Events.{Event, issue, advance}
-use Rattle.hz_automata_model.specs.Tables.Machines.{advance_of, Part, Machine, no_part, part_at, parts_walk, machine_walk, starts_of, onto_states, word_of, IsPart, IsMachine, IsWalked}
-use Rattle.hz_automata_model.proofs.Tables.TableLaws.{walk_stays}
-use Rattle.hz_automata_model.proofs.Tables.MachineLaws.{machine_walk-each, machine_walk-part}
+use Rattle.hz_pipeline_model.specs.Accepting.Events.{Event, issue, advance}
+use Rattle.hz_pipeline_model.specs.Tables.Machines.{advance_of, Part, Machine, no_part, part_at, parts_walk, machine_walk, starts_of, onto_states, word_of, IsPart, IsMachine, IsWalked}
+use Rattle.hz_pipeline_model.proofs.Tables.TableLaws.{walk_stays}
+use Rattle.hz_pipeline_model.proofs.Tables.MachineLaws.{machine_walk-each, machine_walk-part}
 use Rattle.hz_replay.specs.Replaying.{Standing, AreStates}
 use Rattle.hz_depend.specs.declared.parts.Graph as depend_graph
 use Rattle.hz_depend.specs.declared.parts.GraphInsn.{GraphInsn}

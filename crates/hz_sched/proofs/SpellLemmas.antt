@@ -6,7 +6,7 @@ use Rattle.std.proofs.lemmas.List.{map-append, length-append, length-map, get_or
 use Rattle.hz_depend.specs.declared.parts.GraphInsn.{GraphInsn}
 use Rattle.hz_replay.specs.declared.event.Event as trace
 use Rattle.hz_sched.specs.Shape.{node_of, AreNumbered}
-use Rattle.hz_acceptance_model.specs.Accepting.Events.{Event}
+use Rattle.hz_pipeline_model.specs.Accepting.Events.{Event}
 use Rattle.hz_block_model.specs.Scheduling.Schedules.{Node}
 
 -- ---- lines

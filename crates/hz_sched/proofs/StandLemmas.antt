@@ -4,8 +4,8 @@ use Rattle.std.specs.Prelude.{IsSome}
 use Rattle.std.proofs.lemmas.Bool.{cases_lt}
 use Rattle.hz_base_model.proofs.Elements.{Contains-nil, Contains-cons_cases, Contains-map}
 use Rattle.std.proofs.lemmas.List.Elements.{Contains-append_cases}
-use Rattle.hz_acceptance_model.specs.Accepting.Events.{issue, advance}
-use Rattle.hz_automata_model.specs.Tables.Machines.{Machine, parts_walk, machine_walk, starts_of, IsWalked}
+use Rattle.hz_pipeline_model.specs.Accepting.Events.{issue, advance}
+use Rattle.hz_pipeline_model.specs.Tables.Machines.{Machine, parts_walk, machine_walk, starts_of, IsWalked}
 use Rattle.hz_block_model.specs.Scheduling.Schedules.{Graph, Slot, class_at, places, present, advance_to, spell, GoesBefore, Legal, Greedy, IsCandidate, FollowsGreedily}
 use Rattle.hz_block_model.proofs.Scheduling.GrowLaws.{greedy-push, legal_when_all}
 use Rattle.hz_sched.specs.Waits.{issued_at, and_issued}

@@ -3,8 +3,8 @@ use Rattle.std.proofs.Common.{ℕ, ◌<◌, ◌≤◌, ◌*◌, List, length, Al
 use Rattle.std.specs.List.{AllPairs}
 use Rattle.std.proofs.lemmas.List.{length-map}
 use Rattle.std.proofs.lemmas.List.Elements.{All-map}
-use Rattle.hz_acceptance_model.specs.Traces.TraceLimits.{advance_limit}
-use Rattle.hz_acceptance_model.specs.Accepting.Events.{IsOfClass, cycles_of}
+use Rattle.hz_pipeline_model.specs.Traces.TraceLimits.{advance_limit}
+use Rattle.hz_pipeline_model.specs.Accepting.Events.{IsOfClass, cycles_of}
 use Rattle.hz_depend.specs.declared.parts.Graph as depend
 use Rattle.hz_depend.specs.GraphShape.{IsSchedulable}
 use Rattle.hz_block_model.specs.Scheduling.Schedules.{Slot, spell}

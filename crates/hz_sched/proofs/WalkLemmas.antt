@@ -3,10 +3,10 @@ use Rattle.std.proofs.Common.{◌≡◌, ℕ, ◌+◌, ◌-◌, ◌≤◌, Bool,
 use Rattle.std.specs.Prelude.{nat_lt, IsSome, option_and_then}
 use Rattle.std.proofs.lemmas.Bool.{ltb-false}
 use Rattle.std.proofs.lemmas.List.{replicate-append-replicate, append-nil}
-use Rattle.hz_acceptance_model.specs.Accepting.Events.{Event, advance}
-use Rattle.hz_automata_model.specs.Tables.Tables.{walk}
-use Rattle.hz_automata_model.specs.Tables.Machines.{advance_of, Part, Machine, word_of, part_walk, parts_walk, machine_walk, starts_of, onto_states}
-use Rattle.hz_automata_model.proofs.Tables.MachineLaws.{word_of-append, parts_walk-append}
+use Rattle.hz_pipeline_model.specs.Accepting.Events.{Event, advance}
+use Rattle.hz_pipeline_model.specs.Tables.Tables.{walk}
+use Rattle.hz_pipeline_model.specs.Tables.Machines.{advance_of, Part, Machine, word_of, part_walk, parts_walk, machine_walk, starts_of, onto_states}
+use Rattle.hz_pipeline_model.proofs.Tables.MachineLaws.{word_of-append, parts_walk-append}
 use Rattle.hz_block_model.specs.Scheduling.Schedules.{advance_to}
 
 -- ---- words

@@ -8,8 +8,8 @@ use Rattle.std.specs.BTreeMap.{is_at}
 use Rattle.std.specs.Set.{remove_key}
 use Rattle.std.specs.declared.cmp.Ordering.{Ordering}
 use Rattle.std.specs.declared.cmp.Reverse.{Reverse}
-use Rattle.hz_acceptance_model.specs.Accepting.Events.{issue}
-use Rattle.hz_automata_model.specs.Tables.Machines.{Machine, parts_walk}
+use Rattle.hz_pipeline_model.specs.Accepting.Events.{issue}
+use Rattle.hz_pipeline_model.specs.Tables.Machines.{Machine, parts_walk}
 use Rattle.hz_block_model.specs.Dependences.Graphs.{Edge}
 use Rattle.hz_block_model.specs.Scheduling.Schedules.{Graph, class_at, height_at}
 use Rattle.hz_sched.specs.declared.board.Board.{Board}

@@ -1,8 +1,8 @@
 -- How far a schedule has come. These words are only to prove with.
 use Rattle.std.specs.Prelude.{◌≡◌, ℕ, zero, suc, ◌+◌, ◌-◌, ◌<◌, ◌≤◌, true, is_some, if◌then◌else◌, List, [], ◌∷◌, ◌++◌, length, Option, Some}
 use Rattle.std.specs.List.{Contains, AllPairs}
-use Rattle.hz_acceptance_model.specs.Accepting.Events.{advance}
-use Rattle.hz_automata_model.specs.Tables.Machines.{Machine, machine_walk, IsWalked}
+use Rattle.hz_pipeline_model.specs.Accepting.Events.{advance}
+use Rattle.hz_pipeline_model.specs.Tables.Machines.{Machine, machine_walk, IsWalked}
 use Rattle.hz_block_model.specs.Scheduling.Schedules.{Graph, Slot, class_at, present, spell, Greedy, IsCandidate}
 use Rattle.hz_block_model.specs.Scheduling.Machines.{can_start}
 use Rattle.hz_sched.specs.Waits.{issued_at}

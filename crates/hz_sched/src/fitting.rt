@@ -1,8 +1,8 @@
 //! Whether an issue fits.
 
 ghost use Rattle.std.specs.Prelude.{◌≡◌, ◌<◌, ◌≤◌, ◌+◌, ◌∷◌, [], not, length, map, All, is_some, position};
-ghost use Rattle.hz_acceptance_model.specs.Accepting.Events.{issue};
-ghost use Rattle.hz_automata_model.specs.Tables.Machines.{parts_walk};
+ghost use Rattle.hz_pipeline_model.specs.Accepting.Events.{issue};
+ghost use Rattle.hz_pipeline_model.specs.Tables.Machines.{parts_walk};
 ghost use Rattle.hz_tables.specs.Machines.{machine_of};
 ghost use Rattle.hz_replay.specs.Replaying.{AreStates};
 ghost use Rattle.hz_block_model.specs.Scheduling.Machines.{can_start};

@@ -10,7 +10,7 @@ ghost use Rattle.hz_sched.specs.Rows.{row_at};
 ghost use Rattle.hz_sched.specs.Waits.{issued_at};
 ghost use Rattle.hz_sched.specs.Standing.{left_below, AllStart};
 ghost use Rattle.hz_sched.specs.Pending.{IsBoard};
-ghost use Rattle.hz_automata_model.specs.Tables.Machines.{IsWalked};
+ghost use Rattle.hz_pipeline_model.specs.Tables.Machines.{IsWalked};
 
 use crate::board::Board;
 use crate::fault::SchedFault;

@@ -1,8 +1,8 @@
 -- The trace of a schedule asks nothing.
 use Rattle.std.proofs.Common.{List, [], ◌∷◌, All, subst}
 use Rattle.std.proofs.lemmas.List.Elements.{All-nil, All-cons}
-use Rattle.hz_acceptance_model.specs.Accepting.Asking.{IsOfQuery, issues_and_advances}
-use Rattle.hz_acceptance_model.specs.Accepting.Events.{Event, issue, advance, ask}
+use Rattle.hz_pipeline_model.specs.Accepting.Asking.{IsOfQuery, issues_and_advances}
+use Rattle.hz_pipeline_model.specs.Accepting.Events.{Event, issue, advance, ask}
 use Rattle.hz_block_model.specs.Scheduling.Schedules.{Graph, Slot, spell}
 use Rattle.hz_block_model.proofs.Scheduling.TraceLaws.{asks_spelled}
 

@@ -2,9 +2,9 @@
 use Rattle.std.proofs.Common.{◌≡◌, ℕ, List, [], ◌∷◌, ◌++◌, replicate, Option, Some, None, true, refl, sym, ap, ◌∙◌}
 use Rattle.std.specs.Prelude.{zero, suc, is_some}
 use Rattle.hz_base_model.specs.Limits.{cycle_limit}
-use Rattle.hz_acceptance_model.specs.Accepting.Events.{Event, advance}
-use Rattle.hz_automata_model.specs.Tables.Tables.{walk}
-use Rattle.hz_automata_model.specs.Tables.Machines.{Machine, machine_walk, parts_walk, onto_states, word_of}
+use Rattle.hz_pipeline_model.specs.Accepting.Events.{Event, advance}
+use Rattle.hz_pipeline_model.specs.Tables.Tables.{walk}
+use Rattle.hz_pipeline_model.specs.Tables.Machines.{Machine, machine_walk, parts_walk, onto_states, word_of}
 use Rattle.hz_block_model.specs.Scheduling.Machines.{Settles}
 use Rattle.hz_sched_rows.specs.Examples.{stuck, stuck_part, stuck_machine}
 use Rattle.hz_sched.proofs.WalkLemmas.{walk_on}

@@ -1,7 +1,7 @@
 -- A machine of the tests.
 use Rattle.std.specs.Prelude.{ℕ, List, [], ◌∷◌, Some, None}
 use Rattle.hz_tables.specs.Rows.{Rows}
-use Rattle.hz_automata_model.specs.Tables.Machines.{Part, Machine}
+use Rattle.hz_pipeline_model.specs.Tables.Machines.{Part, Machine}
 
 -- one state, and a class that is never issued: there is an entry for the advance alone
 abbrev pub stuck : Rows

@@ -5,8 +5,8 @@ use Rattle.std.proofs.lemmas.Bool.{eqb-true, eqb-false}
 use Rattle.std.proofs.lemmas.List.{append-nil, take-append-drop, take_more, take_all}
 use Rattle.std.proofs.lemmas.Grind.{flat_map-append}
 use Rattle.std.proofs.lemmas.List.Folds.{flat_map-map}
-use Rattle.hz_automata_model.specs.Tables.Machines.{names_of}
-use Rattle.hz_automata_model.specs.Tables.Machines as machines
+use Rattle.hz_pipeline_model.specs.Tables.Machines.{names_of}
+use Rattle.hz_pipeline_model.specs.Tables.Machines as machines
 use Rattle.hz_tables.specs.declared.part.Part.{Part}
 use Rattle.hz_tables.specs.Parts.{part_of}
 use Rattle.hz_tabtext_model.specs.Fields.{is_nil}

@@ -6,7 +6,7 @@ use Rattle.std.proofs.lemmas.Bool.{and_parts, leb-true}
 use Rattle.std.proofs.lemmas.List.{append-nil}
 use Rattle.hz_base_model.specs.Limits.{unit_limit}
 use Rattle.hz_base_model.specs.Names.{is_name}
-use Rattle.hz_automata_model.specs.Tables.StateLimits.{cell_limit}
+use Rattle.hz_pipeline_model.specs.Tables.StateLimits.{cell_limit}
 use Rattle.hz_tabtext_model.specs.Judging.{Kind, bad_line, ◌>>=◌}
 use Rattle.hz_tabtext_model.specs.Lines.{asks_of, is_new, are_asks}
 use Rattle.hz_tabfile.specs.declared.reading.wrong.Wrong.{Wrong}

@@ -10,13 +10,13 @@ use Rattle.hz_auto.specs.declared.compiled.Compiled.{Compiled}
 use Rattle.hz_auto.specs.declared.report.AutoReport.{AutoReport}
 use Rattle.hz_auto.specs.Reports.{report_of}
 use Rattle.hz_auto.specs.Machines.{reports_of}
-use Rattle.hz_automata_model.specs.Compiling.AutomatonPipelines.{automaton_at}
-use Rattle.hz_automata_model.specs.Compiling.Compiled as compiled
-use Rattle.hz_automata_model.specs.Compiling.Compiled.{Report, report_at, shows_states}
+use Rattle.hz_pipeline_model.specs.Compiling.AutomatonPipelines.{automaton_at}
+use Rattle.hz_pipeline_model.specs.Compiling.Compiled as compiled
+use Rattle.hz_pipeline_model.specs.Compiling.Compiled.{Report, report_at, shows_states}
 use Rattle.hz_mdread.specs.Shape.{options as options_of}
 use Rattle.hz_tables.specs.declared.part.Part as kept
 use Rattle.hz_tables.specs.Parts.{part_of}
-use Rattle.hz_automata_model.specs.Tables.Machines.{Part, no_part}
+use Rattle.hz_pipeline_model.specs.Tables.Machines.{Part, no_part}
 use Rattle.hz_tabtext_model.specs.Texts.{PartText}
 use Rattle.hz_tabtext_model.specs.Said.{part_said, IsShownOf}
 use Rattle.hz_tabfile.specs.Saying.{parts_says, IsSayable, IsWritable, AreWritable}

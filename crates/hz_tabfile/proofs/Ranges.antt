@@ -5,7 +5,7 @@ use Rattle.std.specs.Option.{option_map, ForSome}
 use Rattle.hz_base_model.specs.Pairs.{Pair}
 use Rattle.hz_auto.specs.declared.report.Shown.{Shown}
 use Rattle.hz_auto.specs.Reports.{shown_of}
-use Rattle.hz_automata_model.specs.Compiling.Compiled as compiled
+use Rattle.hz_pipeline_model.specs.Compiling.Compiled as compiled
 use Rattle.std.proofs.lemmas.List.{take_more, take_all}
 use Rattle.std.proofs.lemmas.List.Elements.{All-push}
 

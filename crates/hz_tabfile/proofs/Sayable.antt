@@ -7,7 +7,7 @@ use Rattle.hz_check.specs.Shape.{automaton_of, class_of, bypass_of, attribute_of
 use Rattle.hz_tables.specs.Machines.{machine_of}
 use Rattle.hz_auto.specs.declared.compiled.Compiled.{Compiled}
 use Rattle.hz_auto.specs.Machines.{reports_of}
-use Rattle.hz_automata_model.specs.Compiling.Compiled.{IsCompiled}
+use Rattle.hz_pipeline_model.specs.Compiling.Compiled.{IsCompiled}
 use Rattle.hz_tabtext_model.specs.Said.{CanBeSaid}
 use Rattle.hz_tabtext_model.proofs.CompiledSaid.{can_be_said}
 use Rattle.hz_tabfile.specs.Saying.{IsSayable}

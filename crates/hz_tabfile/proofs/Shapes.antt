@@ -2,8 +2,8 @@
 use Rattle.std.proofs.Common.{◌≡◌, ℕ, ◌<◌, ◌≤◌, zero, suc, List, [], ◌∷◌, ◌++◌, get_or, Option, Some, None, subst, arith}
 use Rattle.std.specs.List.{AllByRecursion}
 use Rattle.std.proofs.lemmas.List.Elements.{All-from_recursion}
-use Rattle.hz_automata_model.specs.Tables.StateLimits.{state_limit}
-use Rattle.hz_automata_model.specs.Tables.Tables.{Table}
+use Rattle.hz_pipeline_model.specs.Tables.StateLimits.{state_limit}
+use Rattle.hz_pipeline_model.specs.Tables.Tables.{Table}
 use Rattle.hz_tabfile.specs.Texts.{AreTargets}
 use Rattle.hz_tables.specs.Rows.{IsState, AreStates}
 use Rattle.hz_tabtext_model.specs.Texts.{IsEntry}

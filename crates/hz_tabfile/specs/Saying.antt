@@ -12,11 +12,11 @@ use Rattle.hz_mdread.specs.Shape.{options as options_of}
 use Rattle.hz_tables.specs.declared.part.Part as kept
 use Rattle.hz_tables.specs.Parts.{part_of}
 use Rattle.hz_tables.specs.Machines.{machine_of}
-use Rattle.hz_automata_model.specs.Tables.Machines.{Part, no_part, advance_of, names_of}
-use Rattle.hz_automata_model.specs.Tables.Tables.{IsTable}
-use Rattle.hz_automata_model.specs.Compiling.AutomatonPipelines.{automaton_at}
-use Rattle.hz_automata_model.specs.Compiling.Compiled as compiled
-use Rattle.hz_automata_model.specs.Compiling.Compiled.{report_at}
+use Rattle.hz_pipeline_model.specs.Tables.Machines.{Part, no_part, advance_of, names_of}
+use Rattle.hz_pipeline_model.specs.Tables.Tables.{IsTable}
+use Rattle.hz_pipeline_model.specs.Compiling.AutomatonPipelines.{automaton_at}
+use Rattle.hz_pipeline_model.specs.Compiling.Compiled as compiled
+use Rattle.hz_pipeline_model.specs.Compiling.Compiled.{report_at}
 use Rattle.hz_tabtext_model.specs.Fields.{is_nil}
 use Rattle.hz_tabtext_model.specs.Texts.{PartText, TablesText, header_line, treatment_line, class_line}
 use Rattle.hz_tabtext_model.specs.Said.{part_said, tables_said, CanBeSaid, IsShownOf}

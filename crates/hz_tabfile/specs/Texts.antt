@@ -1,6 +1,6 @@
 -- Parts of a text, as the reader has them.
 use Rattle.std.specs.Prelude.{◌≡◌, ℕ, ◌<◌, List, [], ◌∷◌, ◌++◌, Some, Result, Ok}
-use Rattle.hz_automata_model.specs.Tables.Tables.{Table, entry}
+use Rattle.hz_pipeline_model.specs.Tables.Tables.{Table, entry}
 use Rattle.hz_tabtext_model.specs.Judging.{Fault, ◌>>=◌}
 use Rattle.hz_tabtext_model.specs.Lines.{class_in}
 use Rattle.hz_tabtext_model.specs.Reading.{Rest, line_by, grids_from}

@@ -2,7 +2,7 @@
 
 ghost use Rattle.std.specs.Prelude.{◌-◌, ◌^◌, ◌<◌, All};
 ghost use Rattle.hz_auto.specs.Machines.{reports_of};
-ghost use Rattle.hz_automata_model.specs.Single.Told.{ListsAscending};
+ghost use Rattle.hz_pipeline_model.specs.Single.Told.{ListsAscending};
 ghost use Rattle.hz_io.specs.Sink.{Writes};
 ghost use Rattle.hz_tabtext_model.specs.Texts.{TableText, spelled};
 ghost use Rattle.hz_tables.specs.Machines.{machine_of};

@@ -5,8 +5,8 @@ use Rattle.std.proofs.lemmas.List.{length-append, length-replicate, get_or_appen
 use Rattle.std.proofs.lemmas.Bool.Decides.{nat_tests}
 use Rattle.std.proofs.lemmas.List.Sums.{AllPass-from_list_all}
 use Rattle.std.specs.List.{Contains, list_all}
-use Rattle.hz_automata_model.specs.Tables.Tables.{Table, entry}
-use Rattle.hz_automata_model.specs.Combs.Combs.{Comb, place_at, laid_at, laid}
+use Rattle.hz_pipeline_model.specs.Tables.Tables.{Table, entry}
+use Rattle.hz_pipeline_model.specs.Combs.Combs.{Comb, place_at, laid_at, laid}
 use Rattle.hz_tables.specs.Laying.{is_free, is_laid, Lays, IsLaid}
 
 laid_before : (row : ℕ → Option ℕ) (count base : ℕ) → is_laid row count base (base + count) ≡ false

@@ -6,7 +6,7 @@ use Rattle.std.proofs.lemmas.Bool.{lt-ltb, le-ltb}
 use Rattle.std.proofs.lemmas.List.{drop_more}
 use Rattle.std.proofs.lemmas.List.Sums.{position_or_len_is}
 use Rattle.hz_base_model.specs.Lines.{place_of}
-use Rattle.hz_acceptance_model.specs.Traces.TraceNames.{found_first, query_from}
+use Rattle.hz_pipeline_model.specs.Traces.TraceNames.{found_first, query_from}
 
 -- ---- one list of names
 

@@ -4,11 +4,11 @@ use Rattle.std.proofs.lemmas.Bool.{eq-eqb, ne_eqb}
 use Rattle.std.proofs.lemmas.List.Elements.{All-from_get_or}
 use Rattle.std.proofs.lemmas.Nat.{mul-le}
 use Rattle.hz_tables.specs.Rows.{Rows, KeepsRows}
-use Rattle.hz_automata_model.specs.Tables.StateLimits.{state_limit}
-use Rattle.hz_automata_model.specs.Tables.Tables.{Table, row_of, entry}
-use Rattle.hz_automata_model.specs.Tables.AskColumns.{column_limit}
-use Rattle.hz_automata_model.specs.Combs.Combs.{Comb, place_at, laid, rows_in, entries_of}
-use Rattle.hz_automata_model.proofs.Combs.CombLaws.{rows_in-each, rows_in-width, rows_in-entry, rows_in-entries, rows_in-table}
+use Rattle.hz_pipeline_model.specs.Tables.StateLimits.{state_limit}
+use Rattle.hz_pipeline_model.specs.Tables.Tables.{Table, row_of, entry}
+use Rattle.hz_pipeline_model.specs.Tables.AskColumns.{column_limit}
+use Rattle.hz_pipeline_model.specs.Combs.Combs.{Comb, place_at, laid, rows_in, entries_of}
+use Rattle.hz_pipeline_model.proofs.Combs.CombLaws.{rows_in-each, rows_in-width, rows_in-entry, rows_in-entries, rows_in-table}
 use Rattle.hz_tables.specs.Laying.{IsLaid}
 use Rattle.hz_tables.specs.Packing.{Packing, packing_of, IsPacked}
 

@@ -3,8 +3,8 @@ use Rattle.std.proofs.Common.{◌≡◌, ℕ, ◌<◌, ◌≤◌, [], length, ge
 use Rattle.std.proofs.lemmas.List.{length-map, get_or-map}
 use Rattle.std.proofs.lemmas.List.Elements.{All-get_or}
 use Rattle.hz_base_model.specs.Limits.{unit_limit}
-use Rattle.hz_automata_model.specs.Tables.Machines.{Part, IsPart, IsMachine}
-use Rattle.hz_automata_model.specs.Tables.MachineNames.{names_of_machine}
+use Rattle.hz_pipeline_model.specs.Tables.Machines.{Part, IsPart, IsMachine}
+use Rattle.hz_pipeline_model.specs.Tables.MachineNames.{names_of_machine}
 use Rattle.hz_tables.specs.declared.machine.Machine as kept
 use Rattle.hz_tables.specs.declared.part.Part as declared
 use Rattle.hz_tables.specs.Machines.{machine_of}

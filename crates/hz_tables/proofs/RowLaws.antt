@@ -3,7 +3,7 @@ use Rattle.std.proofs.Common.{◌≡◌, ℕ, ◌+◌, ◌*◌, ◌<◌, ◌≤�
 use Rattle.std.proofs.lemmas.List.{length-append, length-drop, length-take-le, get_or-take, get_or-drop, drop-drop, take_all, take-append-le, drop-append-le}
 use Rattle.std.proofs.lemmas.List.Elements.{All-take, All-drop, All-cons, All-nil, All-append}
 use Rattle.std.proofs.Math.Nat.{mul-le-mul_right}
-use Rattle.hz_automata_model.specs.Tables.Tables.{entry}
+use Rattle.hz_pipeline_model.specs.Tables.Tables.{entry}
 use Rattle.hz_tables.specs.Rows.{IsState, AreStates, KeepsRows}
 use Rattle.hz_tables.specs.Stored.{rows_in, AreCells}
 

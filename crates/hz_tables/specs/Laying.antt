@@ -1,7 +1,7 @@
 -- Rows that are laid into a comb, one after the other. These words are only to prove with.
 use Rattle.std.specs.Prelude.{◌≡◌, ℕ, ◌-◌, ◌<◌, ◌≤◌, ◌==◌, ◌&&◌, ◌||◌, not, nat_le, nat_lt, if◌then◌else◌, is_some, Bool, true, false, ◌⊎◌, List, Option, Some, length, slice_index}
-use Rattle.hz_automata_model.specs.Tables.Tables.{Table, entry}
-use Rattle.hz_automata_model.specs.Combs.Combs.{Comb, HasPlaces, laid}
+use Rattle.hz_pipeline_model.specs.Tables.Tables.{Table, entry}
+use Rattle.hz_pipeline_model.specs.Combs.Combs.{Comb, HasPlaces, laid}
 
 -- a place has no owner, or is behind all places
 abbrev pub is_free : List ℕ → ℕ → ℕ → Bool

@@ -1,6 +1,6 @@
 -- A machine as a definition.
 use Rattle.std.specs.Prelude.{map}
-use Rattle.hz_automata_model.specs.Tables.Machines as model
+use Rattle.hz_pipeline_model.specs.Tables.Machines as model
 use Rattle.hz_tables.specs.declared.machine.Machine as declared
 use Rattle.hz_tables.specs.Parts.{part_of}
 

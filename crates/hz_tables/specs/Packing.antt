@@ -1,9 +1,9 @@
 -- A table that is kept as a comb.
 use Rattle.std.specs.Prelude.{ℕ, ◌+◌, ◌*◌, ◌≤◌, length}
-use Rattle.hz_automata_model.specs.Tables.AskColumns.{column_limit}
-use Rattle.hz_automata_model.specs.Tables.StateLimits.{state_limit}
-use Rattle.hz_automata_model.specs.Tables.Tables.{Table}
-use Rattle.hz_automata_model.specs.Combs.Combs.{Comb, HasPlaces, rows_in}
+use Rattle.hz_pipeline_model.specs.Tables.AskColumns.{column_limit}
+use Rattle.hz_pipeline_model.specs.Tables.StateLimits.{state_limit}
+use Rattle.hz_pipeline_model.specs.Tables.Tables.{Table}
+use Rattle.hz_pipeline_model.specs.Combs.Combs.{Comb, HasPlaces, rows_in}
 
 -- the rows of a table, how many columns stand before the advance, and how many places its rows take
 pub record Packing : Type 0 where

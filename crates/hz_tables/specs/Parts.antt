@@ -1,7 +1,7 @@
 -- What a machine's types are as definitions.
 use Rattle.std.specs.Prelude.{ℕ, ◌-◌, ◌<◌, ◌≤◌, length}
-use Rattle.hz_automata_model.specs.Tables.Tables.{Table}
-use Rattle.hz_automata_model.specs.Tables.Machines as model
+use Rattle.hz_pipeline_model.specs.Tables.Tables.{Table}
+use Rattle.hz_pipeline_model.specs.Tables.Machines as model
 use Rattle.hz_tables.specs.declared.table.Table as kept
 use Rattle.hz_tables.specs.declared.table.Table.TheVariants as forms
 use Rattle.hz_tables.specs.declared.part.Part as declared

@@ -1,8 +1,8 @@
--- A table as its rows, however they are kept. The definitions of tables are those of hz_automata_model.
+-- A table as its rows, however they are kept. The definitions of tables are those of hz_pipeline_model.
 use Rattle.std.specs.Prelude.{◌≡◌, ℕ, ◌+◌, ◌<◌, ◌≤◌, List, Option, length, All, IfSome}
-use Rattle.hz_automata_model.specs.Tables.StateLimits.{state_limit}
-use Rattle.hz_automata_model.specs.Tables.AskColumns.{column_limit}
-use Rattle.hz_automata_model.specs.Tables.Tables.{Table}
+use Rattle.hz_pipeline_model.specs.Tables.StateLimits.{state_limit}
+use Rattle.hz_pipeline_model.specs.Tables.AskColumns.{column_limit}
+use Rattle.hz_pipeline_model.specs.Tables.Tables.{Table}
 
 -- the rows of a table, and how many columns stand before the advance
 pub record Rows : Type 0 where

@@ -1,6 +1,6 @@
 -- The comb that is kept.
 use Rattle.std.specs.Prelude.{ℕ}
-use Rattle.hz_automata_model.specs.Combs.Combs.{Comb}
+use Rattle.hz_pipeline_model.specs.Combs.Combs.{Comb}
 use Rattle.hz_tables.specs.declared.laying.Laying.{Laying}
 
 -- a comb that is being made, for so many columns

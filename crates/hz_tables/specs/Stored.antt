@@ -1,8 +1,8 @@
 -- How a table is kept: its entries, row after row.
 use Rattle.std.specs.Prelude.{◌≡◌, ℕ, zero, suc, ◌+◌, ◌*◌, ◌≤◌, List, [], ◌∷◌, Option, length, take, drop}
-use Rattle.hz_automata_model.specs.Tables.AskColumns.{column_limit}
-use Rattle.hz_automata_model.specs.Tables.StateLimits.{state_limit}
-use Rattle.hz_automata_model.specs.Tables.Tables.{Table}
+use Rattle.hz_pipeline_model.specs.Tables.AskColumns.{column_limit}
+use Rattle.hz_pipeline_model.specs.Tables.StateLimits.{state_limit}
+use Rattle.hz_pipeline_model.specs.Tables.Tables.{Table}
 use Rattle.hz_tables.specs.Rows.{AreStates}
 
 -- so many rows of one width

@@ -2,7 +2,7 @@
 
 ghost use Rattle.std.specs.Prelude.{[], ◌≡◌, ◌≢◌, ◌+◌, ◌-◌, ◌*◌, ◌++◌, ◌<◌, ◌≤◌, ◌==◌, ◌&&◌, ◌^◌, ℕ, if◌then◌else◌, Some, None, true, false, is_some, length, slice_index, replicate, OnOk, IfOk, IfSome};
 ghost use Rattle.std.specs.List.{Contains, list_all};
-ghost use Rattle.hz_automata_model.specs.Tables.Tables.{entry};
+ghost use Rattle.hz_pipeline_model.specs.Tables.Tables.{entry};
 ghost use Rattle.hz_tables.specs.Laying.{is_free, Lays, IsLaid};
 ghost use Rattle.hz_tables.specs.Shape.{comb_of};
 

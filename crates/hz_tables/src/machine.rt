@@ -5,7 +5,7 @@ ghost use Rattle.std.specs.Option.{ForSome};
 ghost use Rattle.std.proofs.Props.{props};
 ghost use Rattle.hz_base_model.specs.Limits.{unit_limit};
 ghost use Rattle.hz_base_model.specs.Lines as model;
-ghost use Rattle.hz_automata_model.specs.Tables.Machines.{IsMachine};
+ghost use Rattle.hz_pipeline_model.specs.Tables.Machines.{IsMachine};
 ghost use Rattle.hz_tables.specs.Parts.{part_of};
 
 use crate::Steps;
@@ -38,9 +38,9 @@ fn place_of(names: &[Name], name: &Name) -> Option<u32>
 }
 
 impl Machine {
-    ghost use Rattle.hz_acceptance_model.specs.Traces.TraceNames.{query_place};
-    ghost use Rattle.hz_automata_model.specs.Tables.Machines.{part_at, next_of, tells_reserved};
-    ghost use Rattle.hz_automata_model.specs.Tables.MachineNames.{names_of_machine};
+    ghost use Rattle.hz_pipeline_model.specs.Traces.TraceNames.{query_place};
+    ghost use Rattle.hz_pipeline_model.specs.Tables.Machines.{part_at, next_of, tells_reserved};
+    ghost use Rattle.hz_pipeline_model.specs.Tables.MachineNames.{names_of_machine};
     ghost use Rattle.hz_tables.specs.Machines.{machine_of};
 
     /// The next state of a part at an issue of a class, or at the advance of one cycle where there is no class; none

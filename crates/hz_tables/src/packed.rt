@@ -1,9 +1,9 @@
 //! A table whose rows are laid into one another.
 
 ghost use Rattle.std.specs.Prelude.{◌≡◌, ℕ, ◌+◌, ◌*◌, ◌<◌, ◌≤◌, ◌^◌, Some, length, IfOk, All, IsTrue};
-ghost use Rattle.hz_automata_model.specs.Tables.StateLimits.{state_limit};
-ghost use Rattle.hz_automata_model.specs.Tables.Tables.{entry, row_of};
-ghost use Rattle.hz_automata_model.specs.Combs.Combs.{entries_of};
+ghost use Rattle.hz_pipeline_model.specs.Tables.StateLimits.{state_limit};
+ghost use Rattle.hz_pipeline_model.specs.Tables.Tables.{entry, row_of};
+ghost use Rattle.hz_pipeline_model.specs.Combs.Combs.{entries_of};
 ghost use Rattle.hz_tables.specs.Packing.{packing_of, IsPacked};
 ghost use Rattle.hz_tables.specs.Widths.{is_width};
 

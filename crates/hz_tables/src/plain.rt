@@ -1,9 +1,9 @@
 //! A table that is kept row by row.
 
 ghost use Rattle.std.specs.Prelude.{◌≡◌, ℕ, ◌+◌, ◌*◌, ◌<◌, ◌≤◌, [], ◌∷◌, ◌++◌, length, OnOk, OnErr, vec_len};
-ghost use Rattle.hz_automata_model.specs.Tables.AskColumns.{column_limit};
-ghost use Rattle.hz_automata_model.specs.Tables.StateLimits.{state_limit};
-ghost use Rattle.hz_automata_model.specs.Tables.Tables.{entry, row_of};
+ghost use Rattle.hz_pipeline_model.specs.Tables.AskColumns.{column_limit};
+ghost use Rattle.hz_pipeline_model.specs.Tables.StateLimits.{state_limit};
+ghost use Rattle.hz_pipeline_model.specs.Tables.Tables.{entry, row_of};
 ghost use Rattle.hz_tables.specs.Rows.{AreStates, KeepsRows};
 
 /// No memory was left for the answer.

@@ -1,8 +1,8 @@
 //! A table, however it is kept.
 
 ghost use Rattle.std.specs.Prelude.{◌≡◌, ◌+◌, ◌<◌, ◌≤◌, ℕ, Some, length, IfOk};
-ghost use Rattle.hz_automata_model.specs.Tables.StateLimits.{state_limit};
-ghost use Rattle.hz_automata_model.specs.Tables.Tables.{entry, row_of};
+ghost use Rattle.hz_pipeline_model.specs.Tables.StateLimits.{state_limit};
+ghost use Rattle.hz_pipeline_model.specs.Tables.Tables.{entry, row_of};
 
 use crate::{NoMemory, Packed, Plain, Steps};
 use std::alloc::Global;

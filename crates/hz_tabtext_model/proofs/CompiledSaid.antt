@@ -8,24 +8,24 @@ use Rattle.std.proofs.lemmas.Option.{slice_get-get_or, slice_get_past, get_or_fr
 use Rattle.hz_base_model.specs.Pairs.{Pair, later, placed}
 use Rattle.hz_base_model.proofs.Elements.{Contains-nil, Contains-from_map}
 use Rattle.hz_description_model.specs.Reservations.Alternatives.{Alternative}
-use Rattle.hz_acceptance_model.specs.Accepting.Events.{Event, issue, advance, ask}
-use Rattle.hz_acceptance_model.specs.Accepting.Replay.{Class, Pipeline, of_class, alternatives_at, pairs_at, chosen, calendar}
-use Rattle.hz_acceptance_model.specs.Accepting.Restricted.{of_pairs}
+use Rattle.hz_pipeline_model.specs.Accepting.Events.{Event, issue, advance, ask}
+use Rattle.hz_pipeline_model.specs.Accepting.Replay.{Class, Pipeline, of_class, alternatives_at, pairs_at, chosen, calendar}
+use Rattle.hz_pipeline_model.specs.Accepting.Restricted.{of_pairs}
 use Rattle.hz_description_model.specs.Reading.Descriptions.{Options}
 use Rattle.hz_description_model.specs.Check.CheckedParts.{AutomatonParts, ClassParts, BypassParts}
 use Rattle.hz_description_model.specs.Check.CheckedShape.{IsKept}
-use Rattle.hz_automata_model.specs.Tables.Tables.{walk, IsReached}
-use Rattle.hz_automata_model.specs.Tables.Machines.{Part, Machine, IsMachine, part_at, no_part, part_walk, IsPart}
-use Rattle.hz_automata_model.specs.Reaching.Reach.{Leaves}
-use Rattle.hz_automata_model.specs.Reaching.Columns.{class_of_grids}
-use Rattle.hz_automata_model.specs.Compiling.AutomatonPipelines.{automaton_at, lists_at, automaton_pipeline, no_automaton}
-use Rattle.hz_automata_model.specs.Compiling.Compiled as compiled
-use Rattle.hz_automata_model.specs.Compiling.Compiled.{Report, report_at, shows_states, IsShown, IsCompiledPart, IsCompiled}
+use Rattle.hz_pipeline_model.specs.Tables.Tables.{walk, IsReached}
+use Rattle.hz_pipeline_model.specs.Tables.Machines.{Part, Machine, IsMachine, part_at, no_part, part_walk, IsPart}
+use Rattle.hz_pipeline_model.specs.Reaching.Reach.{Leaves}
+use Rattle.hz_pipeline_model.specs.Reaching.Columns.{class_of_grids}
+use Rattle.hz_pipeline_model.specs.Compiling.AutomatonPipelines.{automaton_at, lists_at, automaton_pipeline, no_automaton}
+use Rattle.hz_pipeline_model.specs.Compiling.Compiled as compiled
+use Rattle.hz_pipeline_model.specs.Compiling.Compiled.{Report, report_at, shows_states, IsShown, IsCompiledPart, IsCompiled}
 use Rattle.hz_tabtext_model.specs.Said.{IsShownOf, CanBeSaid}
-use Rattle.hz_automata_model.specs.Tables.AskColumns.{row_without_asks}
-use Rattle.hz_automata_model.proofs.Single.WordLaws.{spell}
-use Rattle.hz_automata_model.proofs.Single.PartLaws.{filled_part}
-use Rattle.hz_automata_model.proofs.Asks.BareWords.{bare, bare_columns, bare_walk}
+use Rattle.hz_pipeline_model.specs.Tables.AskColumns.{row_without_asks}
+use Rattle.hz_pipeline_model.proofs.Single.WordLaws.{spell}
+use Rattle.hz_pipeline_model.proofs.Single.PartLaws.{filled_part}
+use Rattle.hz_pipeline_model.proofs.Asks.BareWords.{bare, bare_columns, bare_walk}
 
 -- ---- units of what is left
 

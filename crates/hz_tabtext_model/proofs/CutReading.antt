@@ -1,7 +1,7 @@
 -- A text and a front of it are read side by side: they are judged alike up to the last line of the front, where the front
 -- is truncated and the text goes on.
 use Rattle.std.proofs.Common.{◌≡◌, ◌≢◌, ℕ, zero, suc, ◌+◌, ◌<◌, ◌≤◌, Bool, true, false, cond, List, [], ◌∷◌, ◌++◌, length, Option, Result, Ok, Err, refl, sym, ap, ◌∙◌, subst, arith, codes}
-use Rattle.hz_automata_model.specs.Tables.Machines.{Part, Machine}
+use Rattle.hz_pipeline_model.specs.Tables.Machines.{Part, Machine}
 use Rattle.hz_tabtext_model.specs.Judging.{Kind, truncated, trailing, Fault, ◌>>=◌}
 use Rattle.hz_tabtext_model.specs.Fields.{is_nil, fields_of, is_headed}
 use Rattle.hz_tabtext_model.specs.Lines.{Nothing, header_in, treatment_in, classes_in, class_in, automata_in, Head, head_in, map_in, counts_in, row_in, origin_in, grid_in, end_in, asks_in}

@@ -4,7 +4,7 @@ use Rattle.std.specs.Prelude.{◌==◌}
 use Rattle.std.specs.List.{onto_first}
 use Rattle.std.proofs.lemmas.Bool.{cases_lt}
 use Rattle.std.proofs.lemmas.List.{append-nil, length-append}
-use Rattle.hz_automata_model.specs.Tables.Machines.{Machine}
+use Rattle.hz_pipeline_model.specs.Tables.Machines.{Machine}
 use Rattle.hz_tabtext_model.specs.Judging.{truncated, trailing, Fault, ◌>>=◌}
 use Rattle.hz_tabtext_model.specs.Fields.{is_nil}
 use Rattle.hz_tabtext_model.specs.Reading.{line_by, machine_at, lines_in, is_over, tables_in}

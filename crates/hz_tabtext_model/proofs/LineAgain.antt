@@ -9,7 +9,7 @@ use Rattle.std.proofs.lemmas.List.Folds.{list_all-append}
 use Rattle.std.proofs.lemmas.Fmt.{decimal_nonempty}
 use Rattle.hz_base_model.specs.Names.{is_name}
 use Rattle.hz_base_model.specs.Limits.{automaton_limit, class_limit, cycle_limit, unit_limit}
-use Rattle.hz_automata_model.specs.Tables.StateLimits.{state_limit, cell_limit}
+use Rattle.hz_pipeline_model.specs.Tables.StateLimits.{state_limit, cell_limit}
 use Rattle.hz_tabtext_model.specs.Judging.{Kind, each_by}
 use Rattle.hz_tabtext_model.specs.Fields.{is_nil, number_below, entry_in, advance_in, is_colon, has_unit, cycle_in, ask_entry_in}
 use Rattle.hz_tabtext_model.specs.Lines.{header_in, treatment_in, classes_in, is_new, class_in, automata_in, Head, are_states, head_in, map_in, counts_in, row_in, origin_in, grid_in, end_in, asks_of, asks_in, are_asks}

@@ -9,7 +9,7 @@ use Rattle.std.proofs.lemmas.List.Sums.{split_at_first, passes_at_first}
 use Rattle.std.proofs.lemmas.Slice.Eq.{bytes_eq-Decides}
 use Rattle.hz_base_model.specs.Names.{is_name}
 use Rattle.hz_base_model.specs.Limits.{automaton_limit, class_limit, cycle_limit, unit_limit}
-use Rattle.hz_automata_model.specs.Tables.StateLimits.{state_limit, cell_limit}
+use Rattle.hz_pipeline_model.specs.Tables.StateLimits.{state_limit, cell_limit}
 use Rattle.hz_tabtext_model.specs.Judging.{Kind, bad_header, bad_line, ◌>>=◌, each_by, out_of_range}
 use Rattle.hz_tabtext_model.specs.Fields.{operands, only, three, one_in, three_in, number_in, number_where, number_below, entry_in, advance_in, is_colon, has_unit, cycle_in, ask_entry_in}
 use Rattle.hz_tabtext_model.specs.Lines.{Nothing, header_in, treatment_in, classes_in, is_new, class_in, automata_in, Head, are_states, head_of, head_in, map_in, counts_of, counts_in, entries_of, row_in, origin_of, origin_in, grid_in, end_in, asks_of, asks_in, are_asks}

@@ -4,14 +4,14 @@ use Rattle.std.specs.List.{AllByRecursion, AllPairs}
 use Rattle.std.proofs.lemmas.Bool.{cases_lt}
 use Rattle.std.proofs.lemmas.List.{get_or-map, length-map, get_or_past, get_or_at, length-append, get_or_append_left}
 use Rattle.std.proofs.lemmas.List.Elements.{All-from_recursion}
-use Rattle.hz_automata_model.specs.Tables.StateLimits.{cell_limit}
-use Rattle.hz_automata_model.specs.Tables.Tables.{Table, row_of, entry, IsTable}
-use Rattle.hz_automata_model.specs.Tables.Machines.{Machine, IsPart, IsMachine, names_of}
+use Rattle.hz_pipeline_model.specs.Tables.StateLimits.{cell_limit}
+use Rattle.hz_pipeline_model.specs.Tables.Tables.{Table, row_of, entry, IsTable}
+use Rattle.hz_pipeline_model.specs.Tables.Machines.{Machine, IsPart, IsMachine, names_of}
 use Rattle.hz_tabtext_model.specs.Texts.{RowText, PartText, TablesText, IsEntry, IsRow, IsPartText, IsTables, part_of, machine_of, TableText, AreRows, IsAskEntry, asks_said}
 use Rattle.hz_tabtext_model.specs.Fields.{is_nil}
 use Rattle.hz_tabtext_model.specs.Reading.{Rest, row_at, machine_at}
 use Rattle.hz_tabtext_model.proofs.TextTakes.{row_at_takes, machine_at_takes}
-use Rattle.hz_automata_model.specs.Tables.AskColumns.{AsksStay}
+use Rattle.hz_pipeline_model.specs.Tables.AskColumns.{AsksStay}
 
 -- ---- a part that is said
 

@@ -12,13 +12,13 @@ use Rattle.hz_base_model.specs.Names.{is_name}
 use Rattle.hz_base_model.specs.Pairs.{Pair}
 use Rattle.hz_description_model.specs.Reading.Descriptions.{Options}
 use Rattle.hz_description_model.specs.Check.CheckedParts.{AutomatonParts}
-use Rattle.hz_automata_model.specs.Tables.StateLimits.{state_limit, cell_limit}
-use Rattle.hz_automata_model.specs.Tables.Tables.{Table, row_of, entry}
-use Rattle.hz_automata_model.specs.Tables.Machines.{Part, Machine, IsPart, IsMachine, part_at, no_part, names_of}
-use Rattle.hz_automata_model.specs.Tables.Orders.{place_of}
-use Rattle.hz_automata_model.specs.Compiling.AutomatonPipelines.{automaton_at, no_automaton}
-use Rattle.hz_automata_model.specs.Compiling.Compiled as compiled
-use Rattle.hz_automata_model.specs.Compiling.Compiled.{Report, report_at, shows_states}
+use Rattle.hz_pipeline_model.specs.Tables.StateLimits.{state_limit, cell_limit}
+use Rattle.hz_pipeline_model.specs.Tables.Tables.{Table, row_of, entry}
+use Rattle.hz_pipeline_model.specs.Tables.Machines.{Part, Machine, IsPart, IsMachine, part_at, no_part, names_of}
+use Rattle.hz_pipeline_model.specs.Tables.Orders.{place_of}
+use Rattle.hz_pipeline_model.specs.Compiling.AutomatonPipelines.{automaton_at, no_automaton}
+use Rattle.hz_pipeline_model.specs.Compiling.Compiled as compiled
+use Rattle.hz_pipeline_model.specs.Compiling.Compiled.{Report, report_at, shows_states}
 use Rattle.hz_tabtext_model.specs.Texts.{PartText, IsEntry, IsPair, IsShown, IsRow, AreCounts, IsPartText, IsTables, TableText, part_of, machine_of, spelled, RowText, AreRows, IsAskEntry, asks_said}
 use Rattle.hz_tabtext_model.specs.Said.{named_grid, origin_said, shown_said, row_said, counts_said, part_said, tables_said, IsShownOf, CanBeSaid, IsInRange}
 use Rattle.hz_tabtext_model.specs.Fields.{is_nil}

@@ -9,7 +9,7 @@ use Rattle.std.proofs.lemmas.List.Folds.{list_all-append}
 use Rattle.std.proofs.lemmas.Slice.Eq.{bytes_eq-Decides}
 use Rattle.hz_base_model.specs.Names.{is_name}
 use Rattle.hz_base_model.specs.Limits.{class_limit}
-use Rattle.hz_automata_model.specs.Tables.Machines as machines
+use Rattle.hz_pipeline_model.specs.Tables.Machines as machines
 use Rattle.hz_tabtext_model.specs.Judging.{Kind, Fault, ◌>>=◌}
 use Rattle.hz_tabtext_model.specs.Fields.{is_nil, fields_of, is_headed}
 use Rattle.hz_tabtext_model.specs.Lines.{header_in, treatment_in, classes_in, is_new, class_in, automata_in, Head, head_in, map_in, counts_in, row_in, origin_in, end_in, asks_in}
@@ -19,7 +19,7 @@ use Rattle.hz_tabtext_model.proofs.FieldLaws.{is_field, fields_joined, lines_spe
 use Rattle.hz_tabtext_model.proofs.LineTakes.{AreEntries, AreNew, AreAsks}
 use Rattle.hz_tabtext_model.proofs.LineAgain.{Spells, header_again, end_again, treatment_again, classes_again, class_again, automata_again, head_again, map_again, counts_again, row_again, origin_again, grid_again, asks_again, names_seen}
 use Rattle.hz_tabtext_model.proofs.TextTakes.{AllFrom, row_view, FitsBeside, BesideAll, lines_behind}
-use Rattle.hz_automata_model.specs.Tables.StateLimits.{cell_limit}
+use Rattle.hz_pipeline_model.specs.Tables.StateLimits.{cell_limit}
 use Rattle.std.proofs.Math.Nat.{mul-le-mul_left}
 
 -- what is left from a line of this number on

@@ -8,8 +8,8 @@ use Rattle.std.proofs.lemmas.List.{map-append, append-nil}
 use Rattle.std.proofs.lemmas.List.Quantifiers.{all_pairs_push}
 use Rattle.std.proofs.lemmas.Slice.Eq.{bytes_eq-Decides}
 use Rattle.hz_base_model.specs.Names.{is_name}
-use Rattle.hz_automata_model.specs.Tables.StateLimits.{cell_limit}
-use Rattle.hz_automata_model.specs.Tables.Machines as machines
+use Rattle.hz_pipeline_model.specs.Tables.StateLimits.{cell_limit}
+use Rattle.hz_pipeline_model.specs.Tables.Machines as machines
 use Rattle.hz_tabtext_model.specs.Judging.{Kind, truncated, trailing, Fault, ◌>>=◌}
 use Rattle.hz_tabtext_model.specs.Fields.{is_nil, fields_of, is_headed}
 use Rattle.hz_tabtext_model.specs.Lines.{Nothing, header_in, treatment_in, classes_in, class_in, automata_in, Head, head_in, map_in, counts_in, row_in, origin_in, grid_in, end_in, asks_in}

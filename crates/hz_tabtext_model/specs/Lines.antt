@@ -4,7 +4,7 @@ use Rattle.std.specs.List.{list_all, list_any}
 use Rattle.std.specs.Str.{bytes_eq}
 use Rattle.hz_base_model.specs.Names.{is_name}
 use Rattle.hz_base_model.specs.Limits.{automaton_limit, class_limit, unit_limit}
-use Rattle.hz_automata_model.specs.Tables.StateLimits.{state_limit, cell_limit}
+use Rattle.hz_pipeline_model.specs.Tables.StateLimits.{state_limit, cell_limit}
 use Rattle.hz_tabtext_model.specs.Judging.{Kind, bad_header, bad_line, ◌>>=◌, each_by, out_of_range}
 use Rattle.hz_tabtext_model.specs.Fields.{is_nil, operands, one_in, three_in, number_where, number_below, number_in, entry_in, advance_in, has_unit, cycle_in, ask_entry_in}
 

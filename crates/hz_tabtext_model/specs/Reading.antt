@@ -1,7 +1,7 @@
 -- The machine that a text stands for, or the first fault of the text.
 use Rattle.std.specs.Prelude.{ℕ, zero, suc, ◌+◌, ◌==◌, ◌&&◌, Bool, true, false, if◌then◌else◌, List, [], ◌∷◌, ◌++◌, Option, Result, Ok, Err, codes, length}
 use Rattle.std.specs.List.{slice_split}
-use Rattle.hz_automata_model.specs.Tables.Machines.{Part, Machine}
+use Rattle.hz_pipeline_model.specs.Tables.Machines.{Part, Machine}
 use Rattle.hz_tabtext_model.specs.Judging.{Kind, truncated, trailing, Fault, ◌>>=◌}
 use Rattle.hz_tabtext_model.specs.Fields.{is_nil, fields_of, is_headed}
 use Rattle.hz_tabtext_model.specs.Lines.{header_in, treatment_in, classes_in, class_in, automata_in, head_in, map_in, counts_in, row_in, origin_in, grid_in, end_in, asks_in}

@@ -7,12 +7,12 @@ use Rattle.hz_base_model.specs.Names.{is_name}
 use Rattle.hz_base_model.specs.Pairs.{Pair}
 use Rattle.hz_description_model.specs.Reading.Descriptions.{Options}
 use Rattle.hz_description_model.specs.Check.CheckedParts.{AutomatonParts}
-use Rattle.hz_automata_model.specs.Tables.Machines.{Part, Machine, part_at, names_of}
-use Rattle.hz_automata_model.specs.Tables.Orders.{place_of}
-use Rattle.hz_automata_model.specs.Tables.StateLimits.{state_limit}
-use Rattle.hz_automata_model.specs.Compiling.AutomatonPipelines.{automaton_at}
-use Rattle.hz_automata_model.specs.Compiling.Compiled as compiled
-use Rattle.hz_automata_model.specs.Compiling.Compiled.{Report, report_at, shows_states}
+use Rattle.hz_pipeline_model.specs.Tables.Machines.{Part, Machine, part_at, names_of}
+use Rattle.hz_pipeline_model.specs.Tables.Orders.{place_of}
+use Rattle.hz_pipeline_model.specs.Tables.StateLimits.{state_limit}
+use Rattle.hz_pipeline_model.specs.Compiling.AutomatonPipelines.{automaton_at}
+use Rattle.hz_pipeline_model.specs.Compiling.Compiled as compiled
+use Rattle.hz_pipeline_model.specs.Compiling.Compiled.{Report, report_at, shows_states}
 use Rattle.hz_tabtext_model.specs.Texts.{Shown, RowText, Counts, PartText, TablesText, AreCounts}
 use Rattle.hz_tabtext_model.specs.Fields.{is_nil}
 

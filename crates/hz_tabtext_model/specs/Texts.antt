@@ -4,8 +4,8 @@ use Rattle.std.specs.Prelude.{◌≡◌, ◌≢◌, ℕ, ◌+◌, ◌*◌, ◌^�
 use Rattle.std.specs.List.{AllByRecursion, AllPairs, flat_map, join_with_byte}
 use Rattle.hz_base_model.specs.Names.{is_name}
 use Rattle.hz_base_model.specs.Limits.{automaton_limit, class_limit, cycle_limit, unit_limit}
-use Rattle.hz_automata_model.specs.Tables.StateLimits.{state_limit, cell_limit}
-use Rattle.hz_automata_model.specs.Tables.Machines as machines
+use Rattle.hz_pipeline_model.specs.Tables.StateLimits.{state_limit, cell_limit}
+use Rattle.hz_pipeline_model.specs.Tables.Machines as machines
 
 -- What is told of a state beside its row: the row and column where it is read first, none for the start; and its grids,
 -- each a list of cycles and names of units.

@@ -1,7 +1,7 @@
 //! Laws of the faults of tables texts.
 
 ghost use Rattle.std.specs.Prelude.{◌≡◌, ◌≢◌, ◌<◌, ◌≤◌, ℕ, List, [], ◌∷◌, ◌++◌, Err, codes, Bool};
-ghost use Rattle.hz_automata_model.specs.Tables.Machines.{Machine};
+ghost use Rattle.hz_pipeline_model.specs.Tables.Machines.{Machine};
 ghost use Rattle.hz_tabtext_model.specs.Texts.{TableText, joined, header_line};
 ghost use Rattle.hz_tabtext_model.specs.Judging.{Fault, truncated, trailing};
 ghost use Rattle.hz_tabtext_model.specs.Reading.{tables_in};

@@ -4,8 +4,8 @@ ghost use Rattle.std.specs.Prelude.{ℕ, List};
 ghost use Rattle.hz_description_model.specs.Reading.Descriptions.{Options};
 ghost use Rattle.hz_description_model.specs.Check.CheckedParts.{AutomatonParts, ClassParts, BypassParts};
 ghost use Rattle.hz_description_model.specs.Check.CheckedShape.{IsKept};
-ghost use Rattle.hz_automata_model.specs.Compiling.Compiled.{Report, IsCompiled};
-ghost use Rattle.hz_automata_model.specs.Tables.Machines.{Machine, IsMachine};
+ghost use Rattle.hz_pipeline_model.specs.Compiling.Compiled.{Report, IsCompiled};
+ghost use Rattle.hz_pipeline_model.specs.Tables.Machines.{Machine, IsMachine};
 ghost use Rattle.hz_tabtext_model.specs.Texts.{TableText, spelled};
 ghost use Rattle.hz_tabtext_model.specs.Said.{tables_said, CanBeSaid, IsInRange};
 

@@ -1,7 +1,7 @@
 //! Laws of tables texts.
 
 ghost use Rattle.std.specs.Prelude.{◌≡◌, ℕ, ◌⊎◌, List, Ok, Err};
-ghost use Rattle.hz_automata_model.specs.Tables.Machines.{Machine, IsMachine};
+ghost use Rattle.hz_pipeline_model.specs.Tables.Machines.{Machine, IsMachine};
 ghost use Rattle.hz_tabtext_model.specs.Texts.{TablesText, IsTables, TableText, spelled, machine_of};
 ghost use Rattle.hz_tabtext_model.specs.Judging.{Fault};
 ghost use Rattle.hz_tabtext_model.specs.Reading.{tables_in};

@@ -7,8 +7,8 @@ use Rattle.hz_base_model.proofs.Elements.{Contains-nil, Contains-head, Contains-
 use Rattle.hz_block_model.specs.Running.Blocks.{Value, register, constant, memory, unary, binary, choice, Instruction}
 use Rattle.hz_block_model.specs.Running.States.{State, Place, reg, cell, value_in}
 use Rattle.hz_block_model.specs.Dependences.Accesses.{addresses_in, registers_in, values_of, access_of}
-use Rattle.hz_timed_model.specs.Exposed.{ascending, reads_in}
-use Rattle.hz_timed_model.proofs.AscendingLaws.{ascending_ascends, in_ascending, from_ascending, one_ascending}
+use Rattle.hz_measure_model.specs.Exposed.Exposed.{ascending, reads_in}
+use Rattle.hz_measure_model.proofs.Exposed.AscendingLaws.{ascending_ascends, in_ascending, from_ascending, one_ascending}
 use Rattle.hz_timed.specs.Asking.{cells_asked}
 
 -- Two lists have the same elements.

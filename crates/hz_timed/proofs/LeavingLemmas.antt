@@ -8,7 +8,7 @@ use Rattle.hz_block_model.specs.Running.States.{State, Store, all_stored, stored
 use Rattle.hz_block_model.specs.Scheduling.Schedules.{Slot}
 use Rattle.hz_rtl.specs.declared.state.State as held
 use Rattle.hz_rtl.specs.States.{words}
-use Rattle.hz_timed_model.specs.Exposed.{Left, Read, Timed, left_state, lefts_of, exposed}
+use Rattle.hz_measure_model.specs.Exposed.Exposed.{Left, Read, Timed, left_state, lefts_of, exposed}
 use Rattle.hz_timed.specs.Notes.{Note, note, notes_of}
 use Rattle.hz_timed.specs.declared.parts.Source.{Source}
 use Rattle.hz_timed.specs.declared.parts.Source.TheVariants.{Reg, Cell}

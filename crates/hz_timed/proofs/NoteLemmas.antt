@@ -6,7 +6,7 @@ use Rattle.std.proofs.Math.Path.{fun_ext}
 use Rattle.hz_block_model.specs.Running.States.{Place, same_place, State, Store, stored, all_stored}
 use Rattle.hz_block_model.proofs.Dependences.StoreLaws.{congruent, touched, untouched}
 use Rattle.hz_timed.specs.Notes.{Note, note, notes_of}
-use Rattle.hz_timed_model.specs.Exposed.{Left, is_stored_to, newest, word_left, left_state}
+use Rattle.hz_measure_model.specs.Exposed.Exposed.{Left, is_stored_to, newest, word_left, left_state}
 
 abbrev pub or_first : Option Note → Option Note → Option Note
 or_first (Some n) other = Some n

@@ -7,8 +7,8 @@ use Rattle.hz_block_model.specs.Running.States.{State}
 use Rattle.hz_block_model.specs.Scheduling.Schedules as sched
 use Rattle.hz_sched.specs.declared.parts.Slot.{Slot}
 use Rattle.hz_sched.specs.Shape.{slot_of, slots_of}
-use Rattle.hz_timed_model.specs.Exposed.{Left, Read, exposed}
-use Rattle.hz_timed_model.proofs.RangeLaws.{IsWithin, reads_within}
+use Rattle.hz_measure_model.specs.Exposed.Exposed.{Left, Read, exposed}
+use Rattle.hz_measure_model.proofs.Exposed.RangeLaws.{IsWithin, reads_within}
 use Rattle.hz_timed.specs.declared.parts.ReadNote.{ReadNote}
 use Rattle.hz_timed.specs.Shape.{read_of, IsWriter}
 

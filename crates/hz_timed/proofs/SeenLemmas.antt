@@ -5,7 +5,7 @@ use Rattle.std.specs.Option.{option_map, option_map_or}
 use Rattle.hz_block_model.specs.Running.Blocks.{Instruction}
 use Rattle.hz_block_model.specs.Running.States.{Place, same_place, State}
 use Rattle.hz_block_model.specs.Scheduling.Schedules as model
-use Rattle.hz_timed_model.specs.Exposed.{Left, newest, word_left, seen, is_ripe}
+use Rattle.hz_measure_model.specs.Exposed.Exposed.{Left, newest, word_left, seen, is_ripe}
 use Rattle.hz_timed.specs.Notes.{Note, notes_of}
 use Rattle.hz_timed.proofs.NoteLemmas.{last_of, word_of, same, Same}
 use Rattle.hz_timed.proofs.NoteLemmas as notes

@@ -4,7 +4,7 @@ use Rattle.std.specs.Prelude.{slice_get}
 use Rattle.std.proofs.Math.Path.{fun_ext}
 use Rattle.hz_block_model.specs.Running.Blocks.{Instruction}
 use Rattle.hz_block_model.specs.Running.States as model
-use Rattle.hz_timed_model.specs.Exposed.{Left, Read, reads_in, stores_in, seen, left_by, read_by}
+use Rattle.hz_measure_model.specs.Exposed.Exposed.{Left, Read, reads_in, stores_in, seen, left_by, read_by}
 use Rattle.hz_timed.specs.Notes.{Note, note, notes_of}
 use Rattle.hz_rtl.specs.declared.state.State.{State}
 use Rattle.hz_timed.specs.declared.write.Write.{Write}

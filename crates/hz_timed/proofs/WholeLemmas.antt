@@ -7,7 +7,7 @@ use Rattle.hz_base_model.proofs.Elements.{Contains-head, Contains-tail, Contains
 use Rattle.hz_block_model.specs.Running.Blocks.{Instruction}
 use Rattle.hz_block_model.specs.Running.States as model
 use Rattle.hz_block_model.specs.Scheduling.Schedules as sched
-use Rattle.hz_timed_model.specs.Exposed.{Left, Read, reads_in, seen, left_by, lefts_of, read_by, reads_of}
+use Rattle.hz_measure_model.specs.Exposed.Exposed.{Left, Read, reads_in, seen, left_by, lefts_of, read_by, reads_of}
 use Rattle.hz_timed.specs.Notes.{Note, notes_of}
 use Rattle.hz_rtl.specs.declared.block.Insn.{Insn}
 use Rattle.hz_timed.specs.declared.write.Write.{Write}

@@ -1,7 +1,7 @@
 -- What slots left, as one list of words that were written.
 use Rattle.std.specs.Prelude.{ℕ, List, [], ◌∷◌, ◌++◌, map}
 use Rattle.hz_block_model.specs.Running.States.{Place, Store}
-use Rattle.hz_timed_model.specs.Exposed.{Left}
+use Rattle.hz_measure_model.specs.Exposed.Exposed.{Left}
 
 -- A word that was written: by the instruction at a place, at a cycle.
 pub record Note : Type 0 where

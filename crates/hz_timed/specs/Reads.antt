@@ -6,8 +6,8 @@ use Rattle.hz_rtl.specs.declared.block.Block.{Block}
 use Rattle.hz_rtl.specs.Shape.{instructions}
 use Rattle.hz_sched.specs.declared.parts.Slot.{Slot}
 use Rattle.hz_sched.specs.Shape.{slots_of}
-use Rattle.hz_timed_model.specs.Exposed.{Read}
-use Rattle.hz_timed_model.specs.Texts.{line_of_read}
+use Rattle.hz_measure_model.specs.Exposed.Exposed.{Read}
+use Rattle.hz_measure_model.specs.Exposed.Texts.{line_of_read}
 use Rattle.hz_timed.specs.declared.looking.Look.{Look}
 use Rattle.hz_timed.specs.declared.parts.ReadNote.{ReadNote}
 use Rattle.hz_timed.specs.declared.write.Write.{Write}

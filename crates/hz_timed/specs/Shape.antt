@@ -11,8 +11,8 @@ use Rattle.hz_sched.specs.declared.parts.Schedule.{Schedule}
 use Rattle.hz_sched.specs.Shape.{slots_of}
 use Rattle.hz_block_model.specs.Running.States as states
 use Rattle.hz_block_model.specs.Texts.StateTexts.{listing_text}
-use Rattle.hz_timed_model.specs.Exposed as model
-use Rattle.hz_timed_model.specs.Texts.{text_of_reads}
+use Rattle.hz_measure_model.specs.Exposed.Exposed as model
+use Rattle.hz_measure_model.specs.Exposed.Texts.{text_of_reads}
 use Rattle.hz_timed.specs.declared.parts.Source.{Source}
 use Rattle.hz_timed.specs.declared.parts.Source.TheVariants.{Reg, Cell}
 use Rattle.hz_timed.specs.declared.parts.ReadNote.{ReadNote}

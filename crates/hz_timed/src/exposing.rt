@@ -4,7 +4,7 @@ ghost use Rattle.std.specs.Prelude.{◌≡◌, ◌<◌, ◌^◌, length, All, If
 ghost use Rattle.hz_rtl.specs.Shape.{instructions};
 ghost use Rattle.hz_rtl.specs.States.{words};
 ghost use Rattle.hz_sched.specs.Shape.{slots_of};
-ghost use Rattle.hz_timed_model.specs.Exposed as model;
+ghost use Rattle.hz_measure_model.specs.Exposed.Exposed as model;
 ghost use Rattle.hz_timed.specs.Shape.{timed_of, number_in, HasClasses, IsInRange};
 
 use crate::leaving::state_after;

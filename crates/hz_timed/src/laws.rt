@@ -4,7 +4,7 @@ ghost use Rattle.hz_rtl.specs.declared.block.Block.{Block};
 ghost use Rattle.hz_rtl.specs.Shape.{instructions};
 ghost use Rattle.hz_sched.specs.declared.parts.Schedule.{Schedule};
 ghost use Rattle.hz_sched.specs.Shape.{slots_of};
-ghost use Rattle.hz_timed_model.specs.Texts.{IsTimedText};
+ghost use Rattle.hz_measure_model.specs.Exposed.Texts.{IsTimedText};
 ghost use Rattle.hz_timed.specs.declared.parts.Timed.{Timed};
 ghost use Rattle.hz_timed.specs.Shape.{timed_of, timed_text};
 

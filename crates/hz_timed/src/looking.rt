@@ -3,7 +3,7 @@
 ghost use Rattle.std.specs.Prelude.{◌≡◌};
 ghost use Rattle.std.specs.Option.{option_map};
 ghost use Rattle.hz_rtl.specs.States.{words};
-ghost use Rattle.hz_timed_model.specs.Exposed.{ascending};
+ghost use Rattle.hz_measure_model.specs.Exposed.Exposed.{ascending};
 ghost use Rattle.hz_timed.specs.Shape.{place_of};
 ghost use Rattle.hz_timed.specs.Writes.{number_by, last_ripe, seen_in, written_at, CanSee};
 

@@ -5,7 +5,7 @@ ghost use Rattle.hz_block_model.specs.Running.States as model;
 ghost use Rattle.hz_rtl.specs.Shape.{instruction, instructions};
 ghost use Rattle.hz_rtl.specs.States.{words};
 ghost use Rattle.hz_sched.specs.Shape.{slot_of, slots_of};
-ghost use Rattle.hz_timed_model.specs.Exposed.{Left, reads_in, seen, left_by, lefts_of, read_by, exposed};
+ghost use Rattle.hz_measure_model.specs.Exposed.Exposed.{Left, reads_in, seen, left_by, lefts_of, read_by, exposed};
 ghost use Rattle.hz_timed.specs.Asking.{store_of};
 ghost use Rattle.hz_timed.specs.Notes.{notes_of};
 ghost use Rattle.hz_timed.specs.Reads.{reads_by};

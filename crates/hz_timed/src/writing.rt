@@ -5,14 +5,13 @@ ghost use Rattle.std.specs.List.{flat_map};
 ghost use Rattle.hz_io.specs.Sink.{Writes};
 ghost use Rattle.hz_rtl.specs.Shape.{instructions};
 ghost use Rattle.hz_sched.specs.Shape.{slots_of};
-ghost use Rattle.hz_timed_model.specs.Texts as model;
+ghost use Rattle.hz_measure_model.specs.Exposed.Texts as model;
 ghost use Rattle.hz_timed.specs.Reads.{line_by};
 ghost use Rattle.hz_timed.specs.Shape.{place_of, IsWriter, IsInRange, timed_text};
 
 use crate::parts::{ReadNote, Source, Timed};
 use hz_io::{Failed, Sink, put_all};
-use hz_listing::write_state;
-use hz_rtl::Block;
+use hz_rtl::{Block, write_state};
 use hz_sched::{Schedule, Slot};
 use itoa::Buffer;
 

@@ -3,10 +3,10 @@ use Rattle.std.proofs.Common.{◌≡◌, ℕ, List, map, sym, ap, ◌∙◌, sub
 use Rattle.hz_block_model.specs.Running.Blocks.{Instruction}
 use Rattle.hz_block_model.specs.Scheduling.Schedules.{Graph, Slot, present}
 use Rattle.hz_bound.specs.Shape.{names_of, lists_in}
-use Rattle.hz_bound_model.proofs.ListLaws.{bound_by_lists}
-use Rattle.hz_bound_model.specs.Bounds.{Bound, IsBoundBy, IsBoundOf, unit_names}
-use Rattle.hz_bound_model.specs.Loads.{ways_by}
-use Rattle.hz_bound_model.specs.Texts.{bound_text, text_of_bound}
+use Rattle.hz_measure_model.proofs.Bounds.ListLaws.{bound_by_lists}
+use Rattle.hz_measure_model.specs.Bounds.Bounds.{Bound, IsBoundBy, IsBoundOf, unit_names}
+use Rattle.hz_measure_model.specs.Bounds.Loads.{ways_by}
+use Rattle.hz_measure_model.specs.Bounds.Texts.{bound_text, text_of_bound}
 use Rattle.hz_check.specs.Checked.{IsCheckedOf}
 use Rattle.hz_check.specs.declared.checked.Checked.{Checked}
 use Rattle.hz_depend.specs.declared.parts.Graph as depend

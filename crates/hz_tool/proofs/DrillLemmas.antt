@@ -1,25 +1,25 @@
 -- The drill over a machine that is compiled is that of its description.
 use Rattle.std.proofs.Common.{◌≡◌, ℕ, ◌+◌, ◌<◌, ◌≤◌, List, [], ◌∷◌, ◌++◌, length, take, get_or, Some, refl, ap, ◌∙◌, subst, arith}
 use Rattle.std.proofs.lemmas.List.{map_more}
-use Rattle.hz_acceptance_model.specs.Accepting.Events.{Event, issue, advance, ask, issues_of, cycles_of}
-use Rattle.hz_acceptance_model.proofs.Accepting.ReplayLaws.{issues_of-append}
-use Rattle.hz_acceptance_model.specs.Accepting.Replay.{Accepted}
+use Rattle.hz_pipeline_model.specs.Accepting.Events.{Event, issue, advance, ask, issues_of, cycles_of}
+use Rattle.hz_pipeline_model.proofs.Accepting.ReplayLaws.{issues_of-append}
+use Rattle.hz_pipeline_model.specs.Accepting.Replay.{Accepted}
 use Rattle.hz_answer_model.specs.DrillAnswers.{Drills}
 use Rattle.hz_answer_model.specs.Texts.{drill_text}
 use Rattle.hz_auto.specs.declared.compiled.Compiled.{Compiled}
 use Rattle.hz_auto.specs.Machines.{reports_of}
 use Rattle.hz_check.specs.declared.checked.Checked.{Checked}
 use Rattle.hz_check.specs.Checked.{IsCheckedOf}
-use Rattle.hz_acceptance_model.specs.Traces.Drills.{Drawn}
-use Rattle.hz_acceptance_model.proofs.Traces.DrillLaws.{drawn_there, draws_counts}
+use Rattle.hz_pipeline_model.specs.Traces.Drills.{Drawn}
+use Rattle.hz_pipeline_model.proofs.Traces.DrillLaws.{drawn_there, draws_counts}
 use Rattle.hz_description_model.specs.Reading.Descriptions.{Description}
-use Rattle.hz_acceptance_model.specs.Pipelines.Pipelines.{pipeline_with}
+use Rattle.hz_pipeline_model.specs.Pipelines.Pipelines.{pipeline_with}
 use Rattle.hz_replay.specs.declared.event.Event.{Event as Placed}
 use Rattle.hz_replay.specs.Lines.{event_of}
 use Rattle.hz_replay.specs.Replaying.{issues_in}
 use Rattle.hz_replay.specs.Traces.{events_in}
 use Rattle.hz_tables.specs.Machines.{machine_of}
-use Rattle.hz_automata_model.specs.Tables.Machines.{Machine, IsMachine, machine_walk, IsWalked}
+use Rattle.hz_pipeline_model.specs.Tables.Machines.{Machine, IsMachine, machine_walk, IsWalked}
 use Rattle.hz_tool.proofs.MachineLemmas.{classes_count, compiled_of, machine_for}
 use Rattle.hz_tool.specs.Compiled.{IsCompiledBy}
 

@@ -5,16 +5,16 @@ use Rattle.std.specs.Borrow.{Bor}
 use Rattle.std.specs.declared.alloc.Global.{Global}
 use Rattle.std.specs.declared.vec.Vec.{Vec}
 use Rattle.std.proofs.lemmas.List.Elements.{All-append}
-use Rattle.hz_acceptance_model.specs.Accepting.Events.{Event, IsOfClass}
-use Rattle.hz_acceptance_model.specs.Accepting.Replay.{Accepted}
-use Rattle.hz_acceptance_model.specs.Pipelines.Pipelines.{pipeline_with}
+use Rattle.hz_pipeline_model.specs.Accepting.Events.{Event, IsOfClass}
+use Rattle.hz_pipeline_model.specs.Accepting.Replay.{Accepted}
+use Rattle.hz_pipeline_model.specs.Pipelines.Pipelines.{pipeline_with}
 use Rattle.hz_answer_model.proofs.WalkLaws.{map_twice}
 use Rattle.hz_answer_model.specs.BlockAnswers.{HasAtMost}
 use Rattle.hz_answer_model.specs.DuoAnswers.{StartsTwo, TellsTwo}
 use Rattle.hz_answer_model.specs.Phases.{Says}
 use Rattle.hz_answer_model.specs.ScheduleAnswers.{Starts}
 use Rattle.hz_answer_model.specs.Texts.{insns_line}
-use Rattle.hz_automata_model.specs.Tables.Machines.{Machine, IsWalked}
+use Rattle.hz_pipeline_model.specs.Tables.Machines.{Machine, IsWalked}
 use Rattle.hz_block_model.proofs.Scheduling.SameSchedules.{legal_there, greedy_there}
 use Rattle.hz_block_model.proofs.Scheduling.StuckLaws.{first_stuck as stuck_first}
 use Rattle.hz_block_model.specs.Running.Blocks.{Instruction}
@@ -29,10 +29,10 @@ use Rattle.hz_duo.specs.Shape.{context_slot, stuck_in}
 use Rattle.hz_duo.specs.declared.fault.DuoFault.{DuoFault}
 use Rattle.hz_duo.specs.declared.fault.DuoFault.TheVariants as duo
 use Rattle.hz_duo.specs.declared.parts.DuoSlot.{DuoSlot}
-use Rattle.hz_duo_model.specs.Joining.{ContextSlot, joined, in_contexts}
-use Rattle.hz_duo_model.specs.Stuck.{first_of_two, stuck_of_two}
-use Rattle.hz_duo_model.specs.Texts.{duo_text, text_of_two}
-use Rattle.hz_duo_model.specs.TwoContexts.{IsScheduleOfTwo}
+use Rattle.hz_measure_model.specs.TwoContexts.Joining.{ContextSlot, joined, in_contexts}
+use Rattle.hz_measure_model.specs.TwoContexts.Stuck.{first_of_two, stuck_of_two}
+use Rattle.hz_measure_model.specs.TwoContexts.Texts.{duo_text, text_of_two}
+use Rattle.hz_measure_model.specs.TwoContexts.TwoContexts.{IsScheduleOfTwo}
 use Rattle.hz_rtl.specs.Shape.{instruction, instructions}
 use Rattle.hz_rtl.specs.declared.block.Block.{Block}
 use Rattle.hz_rtl.specs.declared.block.Insn.{Insn}

@@ -2,7 +2,7 @@
 use Rattle.std.proofs.Common.{◌≡◌, ℕ, suc, List, map, sym, ap, ◌∙◌, subst}
 use Rattle.std.specs.List.{repeat}
 use Rattle.hz_answer_model.proofs.WalkLaws.{map_twice}
-use Rattle.hz_automata_model.specs.Tables.Machines.{Machine}
+use Rattle.hz_pipeline_model.specs.Tables.Machines.{Machine}
 use Rattle.hz_block_model.specs.Dependences.Dependences.{Timing}
 use Rattle.hz_block_model.specs.Running.Blocks.{Instruction}
 use Rattle.hz_block_model.specs.Scheduling.Schedules.{Node, Slot, present}
@@ -13,10 +13,10 @@ use Rattle.hz_depend.specs.declared.parts.Graph.{Graph}
 use Rattle.hz_description_model.specs.Check.Places.{class_names}
 use Rattle.hz_description_model.specs.Reading.Descriptions.{Description}
 use Rattle.hz_modulo.specs.Costs as held
-use Rattle.hz_modulo_model.specs.Kernels.{KernelSlot, kernel_slots}
-use Rattle.hz_modulo_model.specs.KernelTexts.{text_of_slots, text_of_kernel}
-use Rattle.hz_modulo_model.specs.Repeats.{timing_of_copies, IsKernel}
-use Rattle.hz_modulo_model.specs.Turns.{stages}
+use Rattle.hz_measure_model.specs.Kernels.Kernels.{KernelSlot, kernel_slots}
+use Rattle.hz_measure_model.specs.Kernels.KernelTexts.{text_of_slots, text_of_kernel}
+use Rattle.hz_measure_model.specs.Kernels.Repeats.{timing_of_copies, IsKernel}
+use Rattle.hz_measure_model.specs.Kernels.Turns.{stages}
 use Rattle.hz_rtl.specs.Shape.{instruction, instructions}
 use Rattle.hz_rtl.specs.declared.block.Block.{Block}
 use Rattle.hz_sched.specs.Shape.{graph_of, node_of}

@@ -2,13 +2,13 @@
 use Rattle.std.proofs.Common.{◌≡◌, ℕ, suc, List, [], ◌∷◌, length, map, inl, inr, refl, sym, ap, ◌∙◌, subst}
 use Rattle.std.specs.Prelude.{slice_index_or}
 use Rattle.std.proofs.lemmas.List.{length-map}
-use Rattle.hz_acceptance_model.specs.Traces.TraceNames.{TraceNames}
+use Rattle.hz_pipeline_model.specs.Traces.TraceNames.{TraceNames}
 use Rattle.hz_answer_model.specs.Answers.{ReplaysTrace, TellsLimit, Compiles}
 use Rattle.hz_answer_model.specs.TableAnswers.{WalksTrace}
 use Rattle.hz_answer_model.proofs.WalkLaws.{machine_names, map_twice, told_is_held, traced_both}
 use Rattle.hz_answer_model.specs.Texts.{states_line}
-use Rattle.hz_automata_model.specs.Compiling.Compiled.{IsCompiled, IsFirstPast, Report as Told}
-use Rattle.hz_automata_model.proofs.Compiling.DescriptionLaws.{machine_accepts, all_keep, first_past}
+use Rattle.hz_pipeline_model.specs.Compiling.Compiled.{IsCompiled, IsFirstPast, Report as Told}
+use Rattle.hz_pipeline_model.proofs.Compiling.DescriptionLaws.{machine_accepts, all_keep, first_past}
 use Rattle.hz_check.specs.declared.checked.Checked.{Checked}
 use Rattle.hz_check.specs.Checked.{IsCheckedOf}
 use Rattle.hz_check.specs.Shape.{automaton_of, class_of}
@@ -16,8 +16,8 @@ use Rattle.hz_description_model.specs.Check.CheckedParts.{AutomatonParts, ClassP
 use Rattle.hz_description_model.specs.Check.Places.{Known, class_names}
 use Rattle.hz_mdread.specs.Shape.{options as options_of}
 use Rattle.hz_description_model.specs.Reading.Descriptions.{Description, Options}
-use Rattle.hz_automata_model.specs.Reaching.Counts.{Count}
-use Rattle.hz_automata_model.specs.Tables.Machines.{Machine}
+use Rattle.hz_pipeline_model.specs.Reaching.Counts.{Count}
+use Rattle.hz_pipeline_model.specs.Tables.Machines.{Machine}
 use Rattle.hz_tool.proofs.AnswerLemmas.{agrees_weaker}
 use Rattle.hz_tool.specs.Decisions.{Agrees}
 use Rattle.hz_tool.proofs.ToldStates.{IsStatesTold}

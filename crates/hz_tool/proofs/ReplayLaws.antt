@@ -1,14 +1,14 @@
 -- What `replay` answers over the machine of a description is what the description says.
 use Rattle.std.proofs.Common.{◌≡◌, ℕ, ◌+◌, suc, List, length, take, Some, None, All, refl, sym, ap, ◌∙◌, subst, add-one}
 use Rattle.std.proofs.lemmas.Option.{same_Some}
-use Rattle.hz_acceptance_model.specs.Accepting.Events.{Event, IsOfClass}
-use Rattle.hz_acceptance_model.specs.Accepting.Replay as accepting
-use Rattle.hz_acceptance_model.specs.Pipelines.Pipelines.{pipeline_with}
-use Rattle.hz_acceptance_model.proofs.Accepting.AcceptanceLaws.{one_refused, accepted_or_refused}
+use Rattle.hz_pipeline_model.specs.Accepting.Events.{Event, IsOfClass}
+use Rattle.hz_pipeline_model.specs.Accepting.Replay as accepting
+use Rattle.hz_pipeline_model.specs.Pipelines.Pipelines.{pipeline_with}
+use Rattle.hz_pipeline_model.proofs.Accepting.AcceptanceLaws.{one_refused, accepted_or_refused}
 use Rattle.hz_auto.specs.declared.compiled.Compiled.{Compiled}
 use Rattle.hz_auto.specs.Machines.{reports_of}
-use Rattle.hz_automata_model.specs.Tables.Machines.{Machine, machine_walk}
-use Rattle.hz_automata_model.proofs.Compiling.DescriptionLaws.{unwalked_refused}
+use Rattle.hz_pipeline_model.specs.Tables.Machines.{Machine, machine_walk}
+use Rattle.hz_pipeline_model.proofs.Compiling.DescriptionLaws.{unwalked_refused}
 use Rattle.hz_check.specs.Checked.{IsCheckedOf}
 use Rattle.hz_check.specs.declared.checked.Checked.{Checked}
 use Rattle.hz_description_model.specs.Check.Places.{Known}

@@ -4,15 +4,15 @@ use Rattle.std.specs.Option.{option_and_then, unwrap_or}
 use Rattle.std.proofs.lemmas.List.{length-map, take_all}
 use Rattle.std.proofs.lemmas.List.Elements.{All-get_or}
 use Rattle.std.proofs.lemmas.Option.{same_Some, slice_get-get_or, get_or_from_slice_get}
-use Rattle.hz_acceptance_model.specs.Accepting.Events.{Event, issue, advance, ask, IsOfClass, issues_of, cycles_of}
-use Rattle.hz_acceptance_model.specs.Traces.TraceNames.{TraceNames}
+use Rattle.hz_pipeline_model.specs.Accepting.Events.{Event, issue, advance, ask, IsOfClass, issues_of, cycles_of}
+use Rattle.hz_pipeline_model.specs.Traces.TraceNames.{TraceNames}
 use Rattle.hz_answer_model.specs.AskAnswers.{AskSays, AsksSay, query_name, told_by}
 use Rattle.hz_answer_model.specs.TableAnswers.{Walks}
 use Rattle.hz_answer_model.specs.Texts.{accepted_line, ask_line, refused_line}
 use Rattle.hz_answer_model.proofs.TableLaws.{prefix_walked}
-use Rattle.hz_automata_model.specs.Tables.MachineNames.{names_of_machine}
-use Rattle.hz_automata_model.specs.Tables.Machines.{Machine, Part, machine_walk, onto_states, parts_walk, starts_of, states_tell}
-use Rattle.hz_automata_model.proofs.Tables.MachineLaws.{parts_walk-append}
+use Rattle.hz_pipeline_model.specs.Tables.MachineNames.{names_of_machine}
+use Rattle.hz_pipeline_model.specs.Tables.Machines.{Machine, Part, machine_walk, onto_states, parts_walk, starts_of, states_tell}
+use Rattle.hz_pipeline_model.proofs.Tables.MachineLaws.{parts_walk-append}
 use Rattle.hz_replay.specs.Lines.{event_of}
 use Rattle.hz_replay.specs.Replaying.{IsOutcome}
 use Rattle.hz_replay.specs.Traces.{events_in, lines_in}

@@ -1,13 +1,13 @@
 -- The schedule that is made over a machine is the one by the description, and its text is told.
 use Rattle.std.proofs.Common.{◌≡◌, ℕ, ◌<◌, List, length, map, All, sym, ap, ◌∙◌, subst}
 use Rattle.std.proofs.lemmas.List.Elements.{All-map}
-use Rattle.hz_acceptance_model.specs.Accepting.Events.{Event, IsOfClass}
-use Rattle.hz_acceptance_model.specs.Accepting.Replay.{Accepted}
+use Rattle.hz_pipeline_model.specs.Accepting.Events.{Event, IsOfClass}
+use Rattle.hz_pipeline_model.specs.Accepting.Replay.{Accepted}
 use Rattle.hz_answer_model.specs.ScheduleAnswers.{schedule_text}
 use Rattle.hz_description_model.specs.Check.Places.{Known, class_names}
 use Rattle.hz_depend.specs.declared.parts.Graph as depend
 use Rattle.hz_description_model.specs.Reading.Descriptions.{Description}
-use Rattle.hz_acceptance_model.specs.Pipelines.Pipelines.{pipeline_with}
+use Rattle.hz_pipeline_model.specs.Pipelines.Pipelines.{pipeline_with}
 use Rattle.hz_report.specs.Schedules.{schedule_by}
 use Rattle.hz_rtl.specs.declared.block.Block.{Block}
 use Rattle.hz_rtl.specs.Shape.{instruction, instructions}
@@ -17,7 +17,7 @@ use Rattle.hz_block_model.specs.Scheduling.Schedules.{Graph, Node, Slot, Legal, 
 use Rattle.hz_block_model.proofs.Scheduling.SameSchedules.{legal_there, greedy_there}
 use Rattle.hz_block_model.specs.Scheduled.BlockGraphs.{IsGraphOf}
 use Rattle.hz_block_model.specs.Scheduled.BlockSchedules.{IsScheduleOf}
-use Rattle.hz_automata_model.specs.Tables.Machines.{Machine, IsWalked}
+use Rattle.hz_pipeline_model.specs.Tables.Machines.{Machine, IsWalked}
 use Rattle.hz_tool.specs.Machines.{IsMachineFor}
 use Rattle.hz_answer_model.proofs.WalkLaws.{map_twice}
 

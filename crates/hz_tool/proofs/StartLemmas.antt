@@ -2,11 +2,11 @@
 use Rattle.std.proofs.Common.{◌≡◌, ℕ, ◌<◌, Bool, true, false, List, [], ◌∷◌, length, Some, None, All, slice_get, sym, ◌∙◌, subst, arith}
 use Rattle.std.specs.Prelude.{IsSome, ◌↔◌}
 use Rattle.std.proofs.lemmas.List.Elements.{All-nil, All-cons}
-use Rattle.hz_acceptance_model.specs.Accepting.Events.{issue, IsOfClass}
-use Rattle.hz_acceptance_model.specs.Accepting.Replay.{Accepted}
+use Rattle.hz_pipeline_model.specs.Accepting.Events.{issue, IsOfClass}
+use Rattle.hz_pipeline_model.specs.Accepting.Replay.{Accepted}
 use Rattle.hz_description_model.specs.Check.Places.{Known}
 use Rattle.hz_description_model.specs.Reading.Descriptions.{Description}
-use Rattle.hz_acceptance_model.specs.Pipelines.Pipelines.{pipeline_with}
+use Rattle.hz_pipeline_model.specs.Pipelines.Pipelines.{pipeline_with}
 use Rattle.hz_block_model.specs.Running.Blocks.{Instruction}
 use Rattle.hz_block_model.specs.Scheduling.Machines.{can_start, cannot_start_alone}
 use Rattle.hz_block_model.specs.Scheduling.Schedules.{Graph, class_at}
@@ -15,7 +15,7 @@ use Rattle.hz_block_model.proofs.Scheduling.StuckLaws.{none_stuck, first_stuck a
 use Rattle.hz_block_model.specs.Scheduled.BlockGraphs.{IsGraphOf}
 use Rattle.hz_block_model.specs.Scheduled.BlockSchedules.{StartsAlone, IsFirstStuck}
 use Rattle.hz_block_model.proofs.Scheduled.FaultLaws.{starts_of_places, stuck_of_place}
-use Rattle.hz_automata_model.specs.Tables.Machines.{Machine, machine_walk}
+use Rattle.hz_pipeline_model.specs.Tables.Machines.{Machine, machine_walk}
 use Rattle.hz_tool.specs.Machines.{IsMachineFor}
 
 not_both : (b : Bool) → b ≡ true → b ≡ false → ⊥

@@ -6,7 +6,7 @@ use Rattle.hz_answer_model.specs.TableAnswers.{TablesFaultAt, HasTables}
 use Rattle.hz_tabtext_model.specs.Judging.{tables_word}
 use Rattle.hz_auto.specs.declared.compiled.Compiled.{Compiled}
 use Rattle.hz_auto.specs.Machines.{reports_of}
-use Rattle.hz_automata_model.proofs.Compiling.DescriptionLaws.{all_keep}
+use Rattle.hz_pipeline_model.proofs.Compiling.DescriptionLaws.{all_keep}
 use Rattle.hz_check.specs.declared.checked.Checked.{Checked}
 use Rattle.hz_check.specs.Checked.{IsCheckedOf}
 use Rattle.hz_check.specs.Shape.{automaton_of}
@@ -14,9 +14,9 @@ use Rattle.hz_description_model.specs.Check.CheckedParts.{AutomatonParts}
 use Rattle.hz_mdread.specs.Shape.{options as options_of}
 use Rattle.hz_description_model.specs.Reading.Descriptions.{Description, Options}
 use Rattle.hz_tabfile.specs.Saying.{says}
-use Rattle.hz_automata_model.specs.Single.Told.{ListsAscending}
+use Rattle.hz_pipeline_model.specs.Single.Told.{ListsAscending}
 use Rattle.hz_tables.specs.Machines.{machine_of}
-use Rattle.hz_automata_model.specs.Tables.Machines.{Machine}
+use Rattle.hz_pipeline_model.specs.Tables.Machines.{Machine}
 use Rattle.hz_tabtext_model.specs.Said.{tables_said}
 use Rattle.hz_tabtext_model.specs.Texts.{TableText, spelled}
 use Rattle.hz_tool.specs.declared.decision.Decision.{Decision}

@@ -12,8 +12,8 @@ use Rattle.hz_auto.specs.Faults.{count_of}
 use Rattle.hz_auto.specs.Machines.{IsFaultOf}
 use Rattle.hz_auto.specs.declared.fault.AutoFault.{AutoFault}
 use Rattle.hz_auto.specs.declared.fault.AutoFault.TheVariants as auto_fault
-use Rattle.hz_automata_model.specs.Compiling.Compiled.{IsFirstPast}
-use Rattle.hz_automata_model.specs.Reaching.Counts.{Count}
+use Rattle.hz_pipeline_model.specs.Compiling.Compiled.{IsFirstPast}
+use Rattle.hz_pipeline_model.specs.Reaching.Counts.{Count}
 use Rattle.hz_base_model.specs.Forms.Trees.{Trees}
 use Rattle.hz_base_model.specs.Told.{told_by, told_in}
 use Rattle.hz_check.specs.Faults.{IsToldAt, limit_of}

@@ -19,9 +19,9 @@ use Rattle.hz_sched.specs.Shape.{graph_of, node_of, slots_of}
 use Rattle.hz_sched.specs.declared.parts.Schedule.{Schedule}
 use Rattle.hz_timed.specs.Shape.{timed_of, timed_text, number_in}
 use Rattle.hz_timed.specs.declared.parts.Timed as held
-use Rattle.hz_timed_model.specs.ByDescription.{exposed_in}
-use Rattle.hz_timed_model.specs.Exposed.{Timed, exposed}
-use Rattle.hz_timed_model.specs.Texts.{IsTimedText}
+use Rattle.hz_measure_model.specs.Exposed.ByDescription.{exposed_in}
+use Rattle.hz_measure_model.specs.Exposed.Exposed.{Timed, exposed}
+use Rattle.hz_measure_model.specs.Exposed.Texts.{IsTimedText}
 use Rattle.hz_tool.proofs.BlockLemmas.{timing_same}
 
 module _ (d : Description) (checked : Checked) (is : IsCheckedOf d checked) (block : Block) (graph : Graph) where

@@ -4,7 +4,7 @@ use Rattle.std.specs.Prelude.{◌==◌}
 use Rattle.std.specs.Option.{option_map}
 use Rattle.std.proofs.lemmas.List.{length-map}
 use Rattle.std.proofs.lemmas.Option.{slice_get-map, slice_get-get_or}
-use Rattle.hz_acceptance_model.specs.Accepting.Events.{Event}
+use Rattle.hz_pipeline_model.specs.Accepting.Events.{Event}
 use Rattle.hz_answer_model.specs.Phases.{TellsFault, Traces}
 use Rattle.std.specs.List.{onto_first}
 use Rattle.hz_base_model.specs.Lines.{lines_of}
@@ -12,9 +12,9 @@ use Rattle.hz_replay.specs.declared.event.Event.{Event as Placed}
 use Rattle.hz_replay.specs.declared.event.What.TheVariants.{Issue}
 use Rattle.hz_replay.specs.Lines.{event_of}
 use Rattle.hz_replay.specs.Traces.{events_in, lines_in}
-use Rattle.hz_acceptance_model.specs.Traces.TraceNames.{TraceNames}
-use Rattle.hz_acceptance_model.specs.Traces.Traces.{Trace, TraceFaultAt, trace_word, Line, line_says, event_lines, numbered}
-use Rattle.hz_acceptance_model.specs.Traces.Traces as trace
+use Rattle.hz_pipeline_model.specs.Traces.TraceNames.{TraceNames}
+use Rattle.hz_pipeline_model.specs.Traces.Traces.{Trace, TraceFaultAt, trace_word, Line, line_says, event_lines, numbered}
+use Rattle.hz_pipeline_model.specs.Traces.Traces as trace
 use Rattle.hz_tool.proofs.AnswerLemmas.{agrees_weaker}
 use Rattle.hz_tool.specs.Decisions.{Agrees}
 use Rattle.hz_tool.specs.declared.decision.Decision.{Decision}

@@ -2,7 +2,7 @@
 use Rattle.std.specs.Prelude.{◌≡◌, map}
 use Rattle.hz_auto.specs.declared.compiled.Compiled.{Compiled}
 use Rattle.hz_auto.specs.Machines.{reports_of}
-use Rattle.hz_automata_model.specs.Compiling.Compiled.{IsCompiled}
+use Rattle.hz_pipeline_model.specs.Compiling.Compiled.{IsCompiled}
 use Rattle.hz_check.specs.declared.checked.Checked.{Checked}
 use Rattle.hz_check.specs.Shape.{automaton_of, class_of}
 use Rattle.hz_mdread.specs.Shape.{options as options_of}

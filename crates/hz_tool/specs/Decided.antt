@@ -5,13 +5,13 @@ use Rattle.hz_block_model.specs.Scheduling.Schedules.{present}
 use Rattle.hz_block_model.specs.Texts.StateTexts.{listing_text}
 use Rattle.hz_bound.specs.Shape.{names_of, bound_of}
 use Rattle.hz_bound.specs.Shape as bounds
-use Rattle.hz_bound_model.specs.Texts.{bound_text}
+use Rattle.hz_measure_model.specs.Bounds.Texts.{bound_text}
 use Rattle.hz_check.specs.Faults.{limit_of}
-use Rattle.hz_modulo_model.specs.KernelTexts.{text_of_slots}
-use Rattle.hz_turns.specs.Walking.{kernel_slot_of}
+use Rattle.hz_measure_model.specs.Kernels.KernelTexts.{text_of_slots}
+use Rattle.hz_modulo.specs.Walking.{kernel_slot_of}
 use Rattle.hz_duo.specs.Shape.{context_slot}
 use Rattle.hz_duo.specs.Shape as pairs
-use Rattle.hz_duo_model.specs.Texts.{duo_text}
+use Rattle.hz_measure_model.specs.TwoContexts.Texts.{duo_text}
 use Rattle.hz_description_model.specs.Check.CheckFaults.{limit_word}
 use Rattle.hz_base_model.specs.Told.{told_in}
 use Rattle.hz_replay.specs.declared.outcome.Outcome.{Outcome}

@@ -1,13 +1,13 @@
 -- The machine of a description, and what is told of its replay.
 use Rattle.std.specs.Prelude.{◌≡◌, ◌↔◌, ℕ, List, IsSome, All, length}
-use Rattle.hz_acceptance_model.specs.Accepting.Asking.{IsOfQuery}
-use Rattle.hz_acceptance_model.specs.Accepting.Events.{Event, ask, IsOfClass}
-use Rattle.hz_acceptance_model.specs.Accepting.Replay.{Accepted}
-use Rattle.hz_acceptance_model.specs.Pipelines.Pipelines.{pipeline_with}
+use Rattle.hz_pipeline_model.specs.Accepting.Asking.{IsOfQuery}
+use Rattle.hz_pipeline_model.specs.Accepting.Events.{Event, ask, IsOfClass}
+use Rattle.hz_pipeline_model.specs.Accepting.Replay.{Accepted}
+use Rattle.hz_pipeline_model.specs.Pipelines.Pipelines.{pipeline_with}
 use Rattle.hz_answer_model.specs.AskAnswers.{held_in, told_by, trace_names}
-use Rattle.hz_automata_model.specs.Compiling.DescriptionLimits.{AllKeepLimits}
-use Rattle.hz_automata_model.specs.Tables.MachineNames.{names_of_machine}
-use Rattle.hz_automata_model.specs.Tables.Machines.{Machine, machine_walk}
+use Rattle.hz_pipeline_model.specs.Compiling.DescriptionLimits.{AllKeepLimits}
+use Rattle.hz_pipeline_model.specs.Tables.MachineNames.{names_of_machine}
+use Rattle.hz_pipeline_model.specs.Tables.Machines.{Machine, machine_walk}
 use Rattle.hz_description_model.specs.Check.Places.{Known}
 use Rattle.hz_description_model.specs.Reading.Descriptions.{Description}
 

@@ -1,7 +1,7 @@
 -- What is known of two blocks by a description.
 use Rattle.std.specs.Prelude.{⊤, ◌≡◌, ◌⊎◌, ◌==◌, ℕ, ◌<◌, List, MatchBool}
 use Rattle.std.specs.Borrow.{Bor}
-use Rattle.hz_automata_model.specs.Tables.Machines.{Machine, IsWalked}
+use Rattle.hz_pipeline_model.specs.Tables.Machines.{Machine, IsWalked}
 use Rattle.hz_block_model.specs.Scheduling.Schedules.{Graph, Slot, Legal, Greedy, present}
 use Rattle.hz_duo.specs.declared.fault.DuoFault.{DuoFault}
 use Rattle.hz_duo.specs.declared.fault.DuoFault.TheVariants as duo

@@ -1,7 +1,7 @@
 -- What the library's `replay` answers for a description, over any list of events.
 use Rattle.std.specs.Prelude.{◌≡◌, ◌↔◌, ⊤, ℕ, List, Option, Some, None}
-use Rattle.hz_acceptance_model.specs.Accepting.Events.{Event, issues_of, cycles_of}
-use Rattle.hz_acceptance_model.specs.Accepting.Replay as accepting
+use Rattle.hz_pipeline_model.specs.Accepting.Events.{Event, issues_of, cycles_of}
+use Rattle.hz_pipeline_model.specs.Accepting.Replay as accepting
 use Rattle.hz_description_model.specs.Reservations.Automata.{UnitPlace}
 use Rattle.hz_replay.specs.declared.outcome.Outcome.{Outcome}
 use Rattle.hz_replay.specs.declared.outcome.Outcome.TheVariants.{Accepted, Refused}

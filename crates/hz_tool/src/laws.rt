@@ -1,8 +1,8 @@
 //! Laws of the calls of the library that the program makes.
 
 ghost use Rattle.std.specs.Prelude.{List, All, length};
-ghost use Rattle.hz_acceptance_model.specs.Accepting.Events.{Event, IsOfClass};
-ghost use Rattle.hz_acceptance_model.specs.Pipelines.Pipelines.{pipeline_with};
+ghost use Rattle.hz_pipeline_model.specs.Accepting.Events.{Event, IsOfClass};
+ghost use Rattle.hz_pipeline_model.specs.Pipelines.Pipelines.{pipeline_with};
 ghost use Rattle.hz_auto.specs.declared.compiled.Compiled.{Compiled};
 ghost use Rattle.hz_check.specs.Checked.{IsCheckedOf};
 ghost use Rattle.hz_check.specs.declared.checked.Checked.{Checked};

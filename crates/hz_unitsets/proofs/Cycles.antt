@@ -7,8 +7,8 @@ use Rattle.hz_base_model.specs.Pairs.{Pair, placed}
 use Rattle.hz_description_model.specs.Reservations.Sets.{Statement, exclusion, final_presence, Holds, HoldsSome, HoldsPattern, AllowsIn, Fits}
 use Rattle.hz_base_model.proofs.Elements.{Contains-map}
 use Rattle.hz_description_model.proofs.Reservations.FitLaws.{allows_same, some_with, pattern_with, holds_moved, iff_back}
-use Rattle.hz_acceptance_model.specs.Accepting.Fitting.{IsUnbroken}
-use Rattle.hz_acceptance_model.proofs.Accepting.FittingLaws.{holds_append}
+use Rattle.hz_pipeline_model.specs.Accepting.Fitting.{IsUnbroken}
+use Rattle.hz_pipeline_model.proofs.Accepting.FittingLaws.{holds_append}
 use Rattle.hz_grid.specs.Rows.{HasUnit, RowsMeet, IsWithin}
 use Rattle.hz_grid.specs.Grids.{Meets}
 use Rattle.hz_grid.specs.declared.usage.UsedRow.{UsedRow}

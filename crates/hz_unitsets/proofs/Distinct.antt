@@ -14,7 +14,7 @@ use Rattle.indexmap.specs.IndexSet.{insert_key}
 use Rattle.hz_base_model.proofs.Elements.{Contains-map, Contains-from_map}
 use Rattle.hz_description_model.specs.Reservations.Sets.{Statement}
 use Rattle.hz_description_model.specs.Reservations.Sets as model
-use Rattle.hz_acceptance_model.specs.Accepting.Fitting.{AskTheSame}
+use Rattle.hz_pipeline_model.specs.Accepting.Fitting.{AskTheSame}
 use Rattle.hz_grid.proofs.Units.{same_from_units}
 use Rattle.hz_unitsets.specs.declared.set_rules.SetKind.{SetKind}
 use Rattle.hz_unitsets.specs.declared.set_rules.SetKind.TheVariants.{Exclusion, Presence, FinalPresence, Absence, FinalAbsence}

@@ -8,7 +8,7 @@ use Rattle.std.proofs.lemmas.List.Elements.{All-contains, All-map}
 use Rattle.std.proofs.lemmas.List.Folds.{Any-from_list_any, list_any-from_Any}
 use Rattle.hz_base_model.specs.Pairs.{placed}
 use Rattle.hz_description_model.specs.Reservations.Sets.{Statement, Holds, HoldsSome, HoldsPattern, AllowsIn}
-use Rattle.hz_acceptance_model.specs.Accepting.Fitting.{AskTheSame}
+use Rattle.hz_pipeline_model.specs.Accepting.Fitting.{AskTheSame}
 use Rattle.hz_base_model.proofs.Elements.{Contains-filter, Contains-from_filter, Contains-map, Contains-from_map, Contains-range}
 use Rattle.hz_grid.specs.declared.rows.TheConstants.{UNITS}
 use Rattle.hz_unitsets.specs.declared.set_rules.SetRule.{SetRule}

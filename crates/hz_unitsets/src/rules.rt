@@ -3,7 +3,7 @@
 ghost use Rattle.std.specs.Prelude.{◌≡◌, ◌≢◌, ◌↔◌, ◌<◌, ℕ, List, map, All, IfOk, OnOk, IsTrue};
 ghost use Rattle.std.specs.List.{AllPairs, Any};
 ghost use Rattle.hz_description_model.specs.Reservations.Sets.{Fits};
-ghost use Rattle.hz_acceptance_model.specs.Accepting.Fitting.{AskTheSame, IsUnbroken};
+ghost use Rattle.hz_pipeline_model.specs.Accepting.Fitting.{AskTheSame, IsUnbroken};
 ghost use Rattle.hz_unitsets.specs.SetRules.{statements_of, IsInRange, ordered};
 ghost use Rattle.hz_unitsets.specs.RowRules.{statement_in, asked_statement, IsBounded, IsAsked, Allows, AllowsAt, AllowsRows, ForbidsRows, Breaks, BreaksRow, HasStanding, IsClear, IsPart, IsKept, AreSame};
 ghost use Rattle.hz_base_model.specs.Pairs.{Pair};

@@ -10,9 +10,9 @@ use Rattle.std.proofs.Math.Seq.{get_or-append_seam}
 use Rattle.hz_base_model.specs.Pairs.{Pair}
 use Rattle.hz_base_model.proofs.Ascending.{AllPairs-append}
 use Rattle.hz_base_model.proofs.Elements.{Contains-nil, Contains-cons_cases}
-use Rattle.hz_automata_model.specs.Compiling.ClassColumns.{IsColumns}
-use Rattle.hz_automata_model.specs.Compiling.CompiledParts.{HasColumns}
-use Rattle.hz_answer_laws.proofs.Decidable.ToldLaws.{IsTold, some_told}
+use Rattle.hz_pipeline_model.specs.Compiling.ClassColumns.{IsColumns}
+use Rattle.hz_pipeline_model.specs.Compiling.CompiledParts.{HasColumns}
+use Rattle.hz_pipeline_model.proofs.Decidable.ToldLaws.{IsTold, some_told}
 use Rattle.hz_answer_laws.proofs.Leaving.ListingLaws.{told_by}
 use Rattle.hz_base_model.proofs.PairOrder.{grid_eq-Decides}
 

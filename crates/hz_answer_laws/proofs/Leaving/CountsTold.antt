@@ -1,8 +1,8 @@
 -- Every count is told.
 use Rattle.std.proofs.Common.{ℕ, ◌+◌, ◌⊎◌, Bool, length, arith}
-use Rattle.hz_acceptance_model.specs.Accepting.Plays.{Tells}
-use Rattle.hz_acceptance_model.specs.Accepting.Replay.{Pipeline}
-use Rattle.hz_automata_model.specs.Reaching.Counts.{Count, grids, states, members, cells, CountIsAbove, CountIsAtMost}
+use Rattle.hz_pipeline_model.specs.Accepting.Plays.{Tells}
+use Rattle.hz_pipeline_model.specs.Accepting.Replay.{Pipeline}
+use Rattle.hz_pipeline_model.specs.Reaching.Counts.{Count, grids, states, members, cells, CountIsAbove, CountIsAtMost}
 use Rattle.hz_answer_laws.proofs.Leaving.GridCounts.{grids_told}
 use Rattle.hz_answer_laws.proofs.Leaving.StateCounts.{states_told}
 

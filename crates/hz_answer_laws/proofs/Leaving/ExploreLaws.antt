@@ -7,9 +7,9 @@ use Rattle.std.proofs.lemmas.List.Elements.{Contains-get_or}
 use Rattle.std.proofs.lemmas.List.Kept.{AllPairs-cons}
 use Rattle.std.proofs.lemmas.List.Sums.{sum_by-cons}
 use Rattle.hz_base_model.proofs.Elements.{Contains-nil, Contains-head, Contains-tail, Contains-cons_cases, Contains-map}
-use Rattle.hz_automata_model.specs.Reaching.Reach.{AreDifferent}
-use Rattle.hz_automata_model.specs.Reaching.Counts.{IsAbove, IsAtMost}
-use Rattle.hz_answer_laws.proofs.Decidable.ToldLaws.{IsTold, some_told}
+use Rattle.hz_pipeline_model.specs.Reaching.Reach.{AreDifferent}
+use Rattle.hz_pipeline_model.specs.Reaching.Counts.{IsAbove, IsAtMost}
+use Rattle.hz_pipeline_model.proofs.Decidable.ToldLaws.{IsTold, some_told}
 
 -- What is led to from a start: it, and what the ways on from there lead to.
 pub data IsLed {X L : Type 0} (ways : List L) (next : L → X → List X) (start : X) : X → Type 0 where

@@ -2,20 +2,20 @@
 use Rattle.std.proofs.Common.{ℕ, ◌≤◌, ◌⊎◌, inl, inr, ⊎_elim, Bool, List, [], ◌∷◌, ◌++◌, length, Contains, refl, sym, subst, arith}
 use Rattle.std.proofs.lemmas.List.Elements.{All-head, All-tail}
 use Rattle.hz_base_model.specs.Pairs.{Pair, SamePairs}
-use Rattle.hz_acceptance_model.specs.Accepting.Events.{Event}
-use Rattle.hz_acceptance_model.specs.Accepting.Fitting.{IsFuture, IsUnbroken}
-use Rattle.hz_acceptance_model.specs.Accepting.Plays.{Tells}
-use Rattle.hz_acceptance_model.specs.Accepting.Replay.{Pipeline, State, Plays, start}
-use Rattle.hz_acceptance_model.proofs.Accepting.FittingLaws.{unbroken_empty}
-use Rattle.hz_automata_model.specs.Reaching.Columns.{AreColumns, event_at, events_at}
-use Rattle.hz_automata_model.proofs.Reaching.Spelling.{spelled}
-use Rattle.hz_automata_model.specs.Reaching.Counts.{IsAbove, IsAtMost}
-use Rattle.hz_automata_model.specs.Reaching.Reach.{IsReachedGrid}
-use Rattle.hz_automata_model.proofs.Reaching.CountLaws.{same_pairs_back, same_pairs_then, same_pairs_itself}
-use Rattle.hz_automata_model.proofs.Reaching.LeavingLaws.{plays_from_leaves, leaves_from_plays}
-use Rattle.hz_automata_model.proofs.Reaching.PathLaws.{empty_future}
-use Rattle.hz_automata_model.proofs.Reaching.StepLaws.{one_future, future_with, leads_from_step, unbroken_step}
-use Rattle.hz_automata_model.proofs.Reaching.WordLaws.{spelled_columns, leaves_spelled, inside_of_leaves}
+use Rattle.hz_pipeline_model.specs.Accepting.Events.{Event}
+use Rattle.hz_pipeline_model.specs.Accepting.Fitting.{IsFuture, IsUnbroken}
+use Rattle.hz_pipeline_model.specs.Accepting.Plays.{Tells}
+use Rattle.hz_pipeline_model.specs.Accepting.Replay.{Pipeline, State, Plays, start}
+use Rattle.hz_pipeline_model.proofs.Accepting.FittingLaws.{unbroken_empty}
+use Rattle.hz_pipeline_model.specs.Reaching.Columns.{AreColumns, event_at, events_at}
+use Rattle.hz_pipeline_model.proofs.Reaching.Spelling.{spelled}
+use Rattle.hz_pipeline_model.specs.Reaching.Counts.{IsAbove, IsAtMost}
+use Rattle.hz_pipeline_model.specs.Reaching.Reach.{IsReachedGrid}
+use Rattle.hz_pipeline_model.proofs.Reaching.CountLaws.{same_pairs_back, same_pairs_then, same_pairs_itself}
+use Rattle.hz_pipeline_model.proofs.Reaching.LeavingLaws.{plays_from_leaves, leaves_from_plays}
+use Rattle.hz_pipeline_model.proofs.Reaching.PathLaws.{empty_future}
+use Rattle.hz_pipeline_model.proofs.Reaching.StepLaws.{one_future, future_with, leads_from_step, unbroken_step}
+use Rattle.hz_pipeline_model.proofs.Reaching.WordLaws.{spelled_columns, leaves_spelled, inside_of_leaves}
 use Rattle.hz_answer_laws.proofs.Leaving.ListingLaws.{pairs_told}
 use Rattle.hz_answer_laws.proofs.Leaving.ExploreLaws.{IsLed, first, onward, count_told}
 use Rattle.hz_answer_laws.proofs.Leaving.OnwardLaws.{no_class, steps, is_step, more_leaves, leads_alike, next_grids, leads_of_next, next_of_leads}

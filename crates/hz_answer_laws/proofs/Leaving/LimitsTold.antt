@@ -1,15 +1,15 @@
 -- Each automaton of a description keeps its limits, or has a count above one.
 use Rattle.std.proofs.Common.{◌⊎◌, inl, inr, ⊎_elim, ◌==◌, ◌+◌, length}
-use Rattle.hz_acceptance_model.specs.Accepting.Restricted.{restricted}
-use Rattle.hz_acceptance_model.proofs.Accepting.Rows.{numbers_tell}
-use Rattle.hz_automata_model.specs.Compiling.AutomatonPipelines.{class_lists}
-use Rattle.hz_automata_model.specs.Compiling.Compiled.{shows_states}
-use Rattle.hz_automata_model.specs.Compiling.CompiledParts.{cap_of}
-use Rattle.hz_automata_model.specs.Compiling.DescriptionLimits.{AreCounted}
+use Rattle.hz_pipeline_model.specs.Accepting.Restricted.{restricted}
+use Rattle.hz_pipeline_model.proofs.Accepting.Rows.{numbers_tell}
+use Rattle.hz_pipeline_model.specs.Compiling.AutomatonPipelines.{class_lists}
+use Rattle.hz_pipeline_model.specs.Compiling.Compiled.{shows_states}
+use Rattle.hz_pipeline_model.specs.Compiling.CompiledParts.{cap_of}
+use Rattle.hz_pipeline_model.specs.Compiling.DescriptionLimits.{AreCounted}
 use Rattle.hz_description_model.specs.Check.Places.{Known}
 use Rattle.hz_description_model.specs.Reading.Descriptions.{Description}
-use Rattle.hz_acceptance_model.specs.Pipelines.Pipelines.{pipeline_with}
-use Rattle.hz_automata_model.specs.Reaching.Counts.{Count, grids, states, members, cells, CountIsAbove, CountIsAtMost}
+use Rattle.hz_pipeline_model.specs.Pipelines.Pipelines.{pipeline_with}
+use Rattle.hz_pipeline_model.specs.Reaching.Counts.{Count, grids, states, members, cells, CountIsAbove, CountIsAtMost}
 use Rattle.hz_answer_laws.proofs.Leaving.ColumnLaws.{some_columns}
 use Rattle.hz_answer_laws.proofs.Leaving.CountsTold.{counts_told}
 use Rattle.hz_description_model.specs.Check.CheckedParts.{queries_in}

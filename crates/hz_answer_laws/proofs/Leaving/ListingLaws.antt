@@ -4,16 +4,16 @@ use Rattle.std.specs.Bool.{Decides}
 use Rattle.std.proofs.lemmas.Bool.{both_ways}
 use Rattle.hz_base_model.specs.Pairs.{Pair, SamePairs}
 use Rattle.hz_base_model.proofs.Elements.{Contains-map, Contains-from_map}
-use Rattle.hz_acceptance_model.specs.Accepting.Events.{Event}
-use Rattle.hz_acceptance_model.specs.Accepting.Fitting.{IsFuture}
-use Rattle.hz_acceptance_model.specs.Accepting.Plays.{Tells, has, plays}
-use Rattle.hz_acceptance_model.specs.Accepting.Replay.{Pipeline, start}
-use Rattle.hz_acceptance_model.proofs.Accepting.PlayLaws.{has_decides, plays_run, run_plays}
-use Rattle.hz_automata_model.specs.Reaching.Reach.{IsLeft, Leaves}
-use Rattle.hz_automata_model.proofs.Reaching.CountLaws.{same_pairs_back, same_pairs_then, same_pairs_itself}
-use Rattle.hz_automata_model.proofs.Reaching.LeavingLaws.{plays_from_leaves, leaves_from_plays}
-use Rattle.hz_automata_model.proofs.Reaching.StepLaws.{planned, planned_future, one_future}
-use Rattle.hz_answer_laws.proofs.Decidable.ToldLaws.{IsTold, each_told}
+use Rattle.hz_pipeline_model.specs.Accepting.Events.{Event}
+use Rattle.hz_pipeline_model.specs.Accepting.Fitting.{IsFuture}
+use Rattle.hz_pipeline_model.specs.Accepting.Plays.{Tells, has, plays}
+use Rattle.hz_pipeline_model.specs.Accepting.Replay.{Pipeline, start}
+use Rattle.hz_pipeline_model.proofs.Accepting.PlayLaws.{has_decides, plays_run, run_plays}
+use Rattle.hz_pipeline_model.specs.Reaching.Reach.{IsLeft, Leaves}
+use Rattle.hz_pipeline_model.proofs.Reaching.CountLaws.{same_pairs_back, same_pairs_then, same_pairs_itself}
+use Rattle.hz_pipeline_model.proofs.Reaching.LeavingLaws.{plays_from_leaves, leaves_from_plays}
+use Rattle.hz_pipeline_model.proofs.Reaching.StepLaws.{planned, planned_future, one_future}
+use Rattle.hz_pipeline_model.proofs.Decidable.ToldLaws.{IsTold, each_told}
 use Rattle.hz_answer_laws.proofs.Leaving.OnceLaws.{HasEachOnce, each_once}
 
 -- what a test decides is told

@@ -3,8 +3,8 @@ use Rattle.std.proofs.Common.{◌≡◌, ⊎_elim, List, [], ◌∷◌, get_or, 
 use Rattle.std.proofs.lemmas.List.Elements.{Contains-get_or}
 use Rattle.std.proofs.lemmas.List.Kept.{AllPairs-cons}
 use Rattle.hz_base_model.proofs.Elements.{Contains-nil, Contains-head, Contains-tail, Contains-cons_cases}
-use Rattle.hz_automata_model.specs.Reaching.Reach.{AreDifferent}
-use Rattle.hz_answer_laws.proofs.Decidable.ToldLaws.{IsTold, some_told}
+use Rattle.hz_pipeline_model.specs.Reaching.Reach.{AreDifferent}
+use Rattle.hz_pipeline_model.proofs.Decidable.ToldLaws.{IsTold, some_told}
 
 -- Different items of a list, and the same one for each item of it.
 pub record HasEachOnce {X : Type 0} (Same : X → X → Type 0) (xs ys : List X) : Type 0 where

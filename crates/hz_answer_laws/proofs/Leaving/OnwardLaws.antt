@@ -4,18 +4,18 @@ use Rattle.std.specs.List.{range_with_len}
 use Rattle.std.proofs.lemmas.Option.{slice_get_past}
 use Rattle.hz_base_model.specs.Pairs.{Pair, SamePairs}
 use Rattle.hz_base_model.proofs.Elements.{Contains-map, Contains-from_map, Contains-range}
-use Rattle.hz_acceptance_model.specs.Accepting.Events.{Event}
-use Rattle.hz_acceptance_model.specs.Accepting.Fitting.{IsFuture}
-use Rattle.hz_acceptance_model.specs.Accepting.Plays.{Tells, plays}
-use Rattle.hz_acceptance_model.specs.Accepting.Replay.{Pipeline, State, Step, start, alternatives_at, of_class}
-use Rattle.hz_acceptance_model.proofs.Accepting.FittingLaws.{unbroken_run}
-use Rattle.hz_acceptance_model.proofs.Accepting.PlayLaws.{plays_run, run_plays}
-use Rattle.hz_acceptance_model.proofs.Accepting.ReplayLaws.{run_split, run_more}
-use Rattle.hz_automata_model.specs.Reaching.Columns.{event_at}
-use Rattle.hz_automata_model.specs.Reaching.Graphs.{standing, Leads}
-use Rattle.hz_automata_model.specs.Reaching.Reach.{Leaves, IsReachedGrid}
-use Rattle.hz_automata_model.proofs.Reaching.LeavingLaws.{plays_from_leaves, leaves_from_plays}
-use Rattle.hz_automata_model.proofs.Reaching.StepLaws.{planned, planned_future, one_future, future_with, step_from_leads, leads_from_step}
+use Rattle.hz_pipeline_model.specs.Accepting.Events.{Event}
+use Rattle.hz_pipeline_model.specs.Accepting.Fitting.{IsFuture}
+use Rattle.hz_pipeline_model.specs.Accepting.Plays.{Tells, plays}
+use Rattle.hz_pipeline_model.specs.Accepting.Replay.{Pipeline, State, Step, start, alternatives_at, of_class}
+use Rattle.hz_pipeline_model.proofs.Accepting.FittingLaws.{unbroken_run}
+use Rattle.hz_pipeline_model.proofs.Accepting.PlayLaws.{plays_run, run_plays}
+use Rattle.hz_pipeline_model.proofs.Accepting.ReplayLaws.{run_split, run_more}
+use Rattle.hz_pipeline_model.specs.Reaching.Columns.{event_at}
+use Rattle.hz_pipeline_model.specs.Reaching.Graphs.{standing, Leads}
+use Rattle.hz_pipeline_model.specs.Reaching.Reach.{Leaves, IsReachedGrid}
+use Rattle.hz_pipeline_model.proofs.Reaching.LeavingLaws.{plays_from_leaves, leaves_from_plays}
+use Rattle.hz_pipeline_model.proofs.Reaching.StepLaws.{planned, planned_future, one_future, future_with, step_from_leads, leads_from_step}
 
 module _ {U : Type 0} (m : Pipeline U) where
   -- a class for each number below how many there are

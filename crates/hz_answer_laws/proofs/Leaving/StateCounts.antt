@@ -4,19 +4,19 @@ use Rattle.std.proofs.lemmas.List.{append-nil}
 use Rattle.std.proofs.lemmas.List.Elements.{All-head, All-tail}
 use Rattle.hz_base_model.specs.Pairs.{Pair, SamePairs}
 use Rattle.hz_base_model.proofs.Elements.{Contains-nil, Contains-head, Contains-cons_cases, Contains-filter, Contains-from_filter}
-use Rattle.hz_acceptance_model.specs.Accepting.Events.{Event}
-use Rattle.hz_acceptance_model.specs.Accepting.Plays.{Tells, accepts}
-use Rattle.hz_acceptance_model.specs.Accepting.Replay.{Pipeline, Accepted, start}
-use Rattle.hz_acceptance_model.proofs.Accepting.PlayLaws.{accepts_decides}
-use Rattle.hz_acceptance_model.proofs.Accepting.ReplayLaws.{runs_from_accepted, accepted_from_runs, run_split}
-use Rattle.hz_automata_model.specs.Reaching.Columns.{AreColumns, event_at, events_at}
-use Rattle.hz_automata_model.proofs.Reaching.Spelling.{spelled}
-use Rattle.hz_automata_model.specs.Reaching.Counts.{IsAbove, IsAtMost}
-use Rattle.hz_automata_model.specs.Reaching.Reach.{Leaves, IsLeft, IsReachedState, HasGrids, SameGrids}
-use Rattle.hz_automata_model.proofs.Reaching.AutomatonLaws.{leaves_of_accepted, accepted_of_leaves}
-use Rattle.hz_automata_model.proofs.Reaching.CountLaws.{same_pairs_back, same_pairs_itself, has_then, above_named}
-use Rattle.hz_automata_model.proofs.Reaching.WordLaws.{spelled_columns, leaves_spelled, leaves_from_spelled, inside_of_leaves}
-use Rattle.hz_answer_laws.proofs.Decidable.ToldLaws.{IsTold, each_told}
+use Rattle.hz_pipeline_model.specs.Accepting.Events.{Event}
+use Rattle.hz_pipeline_model.specs.Accepting.Plays.{Tells, accepts}
+use Rattle.hz_pipeline_model.specs.Accepting.Replay.{Pipeline, Accepted, start}
+use Rattle.hz_pipeline_model.proofs.Accepting.PlayLaws.{accepts_decides}
+use Rattle.hz_pipeline_model.proofs.Accepting.ReplayLaws.{runs_from_accepted, accepted_from_runs, run_split}
+use Rattle.hz_pipeline_model.specs.Reaching.Columns.{AreColumns, event_at, events_at}
+use Rattle.hz_pipeline_model.proofs.Reaching.Spelling.{spelled}
+use Rattle.hz_pipeline_model.specs.Reaching.Counts.{IsAbove, IsAtMost}
+use Rattle.hz_pipeline_model.specs.Reaching.Reach.{Leaves, IsLeft, IsReachedState, HasGrids, SameGrids}
+use Rattle.hz_pipeline_model.proofs.Reaching.AutomatonLaws.{leaves_of_accepted, accepted_of_leaves}
+use Rattle.hz_pipeline_model.proofs.Reaching.CountLaws.{same_pairs_back, same_pairs_itself, has_then, above_named}
+use Rattle.hz_pipeline_model.proofs.Reaching.WordLaws.{spelled_columns, leaves_spelled, leaves_from_spelled, inside_of_leaves}
+use Rattle.hz_pipeline_model.proofs.Decidable.ToldLaws.{IsTold, each_told}
 use Rattle.hz_answer_laws.proofs.Leaving.ListingLaws.{pairs_told, left_listed}
 use Rattle.hz_answer_laws.proofs.Leaving.ExploreLaws.{IsLed, first, onward, some_is_told, count_told, at_most_named}
 use Rattle.hz_answer_laws.proofs.Leaving.OnwardLaws.{no_class, steps, is_step, leaves_alike, more_leaves, fewer_leaves}

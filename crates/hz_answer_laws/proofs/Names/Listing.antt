@@ -8,20 +8,6 @@ use Rattle.hz_base_model.proofs.Elements.{Contains-nil, Contains-head, Contains-
 use Rattle.hz_description_model.specs.Check.Sites.{Site}
 use Rattle.hz_description_model.specs.Check.ToldPlaces.{ToldBehind}
 
-pub from_flat_map : {A B : Type 0} (f : A → List B) (xs : List A) (y : B) → Contains (flat_map f xs) y → (x : A) × Contains xs x × Contains (f x) y
-from_flat_map f [] y h = absurd (Contains-nil y h)
-from_flat_map f (x ∷ xs) y h = ⊎_elim
-    (λ here. (x, Contains-head x xs, here))
-    (λ there. let rest = from_flat_map f xs y there in (rest.0, Contains-tail x rest.0 xs rest.1, rest.2))
-    (Contains-append_cases (f x) (flat_map f xs) y h)
-
-pub in_flat_map : {A B : Type 0} (f : A → List B) (xs : List A) (x : A) (y : B) → Contains xs x → Contains (f x) y → Contains (flat_map f xs) y
-in_flat_map f [] x y is h = absurd (Contains-nil x is)
-in_flat_map {A} {B} f (z ∷ xs) x y is h = ⊎_elim
-    (λ e. Contains-append_left (f z) (flat_map f xs) y (subst (λ (w : A). Contains (f w) y) (sym e) h))
-    (λ there. Contains-append_right (f z) (flat_map f xs) y (in_flat_map f xs x y there h))
-    (Contains-cons_cases z x xs is)
-
 one_kept : {A B : Type 0} (f : A → Option B) (z x : A) (xs : List A) (y : B) (o : Option B) → f z ≡ o → f x ≡ Some y → (Contains xs x → Contains (filter_map f xs) y) → (z ≡ x) ⊎ Contains xs x → Contains (cons_option o (filter_map f xs)) y
 one_kept f z x xs y None is e rest (inl same) = absurd (none-some y (sym is ∙ ap f same ∙ e))
 one_kept f z x xs y None is e rest (inr k) = rest k

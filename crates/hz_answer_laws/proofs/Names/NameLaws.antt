@@ -18,7 +18,8 @@ use Rattle.hz_description_model.proofs.Check.PlaceLaws.{from_filter_map}
 use Rattle.hz_description_model.proofs.Check.ToldLaws.{second_names}
 use Rattle.hz_answer_laws.specs.Names.NameFaults.{IsNameSpace, IsSecondName, IsReservedName, IsUnknownAutomaton, IsWithoutAutomaton, IsSelfExclusion, IsStranger, IsAt, site_at}
 use Rattle.hz_answer_laws.proofs.Names.NamesAt.{site_told, among_items, kept}
-use Rattle.hz_answer_laws.proofs.Names.Listing.{from_flat_map, in_flat_map, in_filter_map, told_tells, tells_told}
+use Rattle.hz_pipeline_model.proofs.Decidable.FlatLists.{from_flat_map, in_flat_map}
+use Rattle.hz_answer_laws.proofs.Names.Listing.{in_filter_map, told_tells, tells_told}
 
 -- Names that stand twice.
 

@@ -17,7 +17,7 @@ use Rattle.hz_description_model.specs.Check.Sites.{Site, is_among}
 use Rattle.hz_description_model.proofs.Check.KeptLaws.{among, from_among}
 use Rattle.hz_answer_laws.specs.Names.NameFaults.{IsAt}
 use Rattle.hz_answer_laws.specs.Names.UnknownNames.{IsNoUnit, IsNoReservation, IsNoClass, IsNamedBy, IsOneOf, IsUnknownIn, IsUnknownName}
-use Rattle.hz_answer_laws.proofs.Names.Listing.{from_flat_map, in_flat_map}
+use Rattle.hz_pipeline_model.proofs.Decidable.FlatLists.{from_flat_map, in_flat_map}
 use Rattle.hz_answer_laws.proofs.Names.NamesAt.{site_told, among_items, kept}
 
 no_unit : (d : Description) (name : List ℕ) → is_unit d name ≡ false ↔ IsNoUnit d name

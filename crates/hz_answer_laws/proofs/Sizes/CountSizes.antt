@@ -4,25 +4,25 @@ use Rattle.std.proofs.Common.{◌≡◌, ℕ, ◌+◌, ◌^◌, ◌<◌, ◌≤�
 use Rattle.std.specs.Prelude.{MatchBool, IsSomeAnd, slice_index_or}
 use Rattle.std.proofs.lemmas.Bool.{cases_lt}
 use Rattle.std.proofs.lemmas.List.{get_or_default, length-map}
-use Rattle.hz_acceptance_model.specs.Accepting.Replay.{Pipeline}
+use Rattle.hz_pipeline_model.specs.Accepting.Replay.{Pipeline}
 use Rattle.hz_description_model.specs.Reading.Descriptions.{Options}
 use Rattle.hz_description_model.specs.Check.CheckedParts.{AutomatonParts, ClassParts}
-use Rattle.hz_automata_model.specs.Tables.StateLimits.{state_limit}
-use Rattle.hz_automata_model.specs.Tables.Machines.{Part, Machine, IsMachine, part_at, no_part}
-use Rattle.hz_automata_model.specs.Reaching.Counts.{Count, grids, states, members, CountIsAtMost}
-use Rattle.hz_automata_model.proofs.Reaching.CountLaws.{no_count_both}
-use Rattle.hz_automata_model.specs.Compiling.AutomatonPipelines.{automaton_pipeline, queries_at, automaton_at}
-use Rattle.hz_automata_model.specs.Compiling.Counted.{CountIs}
-use Rattle.hz_automata_model.specs.Compiling.CompiledParts.{cap_of}
-use Rattle.hz_automata_model.specs.Compiling.Compiled.{Report, report_at, shows_states, IsShown, IsCompiled}
+use Rattle.hz_pipeline_model.specs.Tables.StateLimits.{state_limit}
+use Rattle.hz_pipeline_model.specs.Tables.Machines.{Part, Machine, IsMachine, part_at, no_part}
+use Rattle.hz_pipeline_model.specs.Reaching.Counts.{Count, grids, states, members, CountIsAtMost}
+use Rattle.hz_pipeline_model.proofs.Reaching.CountLaws.{no_count_both}
+use Rattle.hz_pipeline_model.specs.Compiling.AutomatonPipelines.{automaton_pipeline, queries_at, automaton_at}
+use Rattle.hz_pipeline_model.specs.Compiling.Counted.{CountIs}
+use Rattle.hz_pipeline_model.specs.Compiling.CompiledParts.{cap_of}
+use Rattle.hz_pipeline_model.specs.Compiling.Compiled.{Report, report_at, shows_states, IsShown, IsCompiled}
 use Rattle.hz_tabtext_model.specs.Texts.{spelled}
 use Rattle.hz_tabtext_model.specs.Said.{tables_said}
-use Rattle.hz_automata_model.proofs.Single.PartLaws.{filled_part}
+use Rattle.hz_pipeline_model.proofs.Single.PartLaws.{filled_part}
 use Rattle.hz_answer_laws.specs.Sizes.Extents.{unnamed_limit, bytes_of_names}
 use Rattle.hz_answer_laws.proofs.Sizes.RowSizes.{rows_few}
 use Rattle.hz_answer_laws.proofs.Sizes.TextSizes.{TellsCounts, spelled_most}
-use Rattle.hz_answer_laws.proofs.Settling.AlikeStates.{IsTold}
-use Rattle.hz_answer_laws.proofs.Settling.AskedTreatment.{first_where_asked}
+use Rattle.hz_block_model.proofs.Settling.AlikeStates.{IsTold}
+use Rattle.hz_block_model.proofs.Settling.AskedTreatment.{first_where_asked}
 use Rattle.hz_description_model.specs.Check.CheckedShape.{AskNothingUnderNdfa}
 
 -- a count is no greater than what it is at most

@@ -5,26 +5,26 @@ use Rattle.std.proofs.lemmas.Bool.{cases_eq, cases_lt}
 use Rattle.std.proofs.lemmas.List.Elements.{All-cons, All-nil, All-contains}
 use Rattle.std.proofs.lemmas.List.Kept.{AllPairs-cons}
 use Rattle.hz_base_model.specs.Pairs.{Pair, SamePairs}
-use Rattle.hz_acceptance_model.specs.Accepting.Events.{Event, IsOfClass}
-use Rattle.hz_acceptance_model.specs.Accepting.Replay.{Pipeline, start, Accepted, first_fit}
-use Rattle.hz_acceptance_model.proofs.Accepting.ReplayLaws.{run_split, run_join, runs_from_accepted, accepted_from_runs}
-use Rattle.hz_acceptance_model.proofs.Accepting.FittingLaws.{unbroken_run}
-use Rattle.hz_automata_model.specs.Tables.Tables.{walk, IsReached}
-use Rattle.hz_automata_model.specs.Tables.Apart.{AllApart}
-use Rattle.hz_automata_model.specs.Tables.Machines.{Part, part_walk}
-use Rattle.hz_automata_model.specs.Reaching.Reach.{AreDifferent, IsLeft, IsReachedGrid, IsReachedState, HasGrids, SameGrids}
-use Rattle.hz_automata_model.specs.Reaching.Counts.{IsAtMost, states, CountIsAtMost}
-use Rattle.hz_automata_model.proofs.Reaching.LeavingLaws.{plays_from_leaves, leaves_from_plays}
-use Rattle.hz_automata_model.proofs.Reaching.StepLaws.{planned, planned_future, future_with}
-use Rattle.hz_automata_model.proofs.Reaching.CountLaws.{same_pairs_back, same_pairs_then, sum_by_ones, no_count_both}
-use Rattle.hz_automata_model.specs.Compiling.CompiledParts.{WalksAccepted, TellsWhatIsLeft}
-use Rattle.hz_answer_laws.proofs.Settling.RunLaws.{run_there}
-use Rattle.hz_automata_model.proofs.Single.WordLaws.{Spells, spell}
-use Rattle.hz_automata_model.proofs.Single.LeftLaws.{left_not_none}
-use Rattle.hz_automata_model.proofs.Asks.BareWords.{bare, bare_columns, bare_walk}
-use Rattle.hz_answer_laws.proofs.Settling.AlikeStates.{IsTold, IsAlike, walked_alike}
-use Rattle.hz_acceptance_model.specs.Accepting.Asking.{IsHeld}
-use Rattle.hz_automata_model.proofs.Reaching.HeldLaws.{held_is_present}
+use Rattle.hz_pipeline_model.specs.Accepting.Events.{Event, IsOfClass}
+use Rattle.hz_pipeline_model.specs.Accepting.Replay.{Pipeline, start, Accepted, first_fit}
+use Rattle.hz_pipeline_model.proofs.Accepting.ReplayLaws.{run_split, run_join, runs_from_accepted, accepted_from_runs}
+use Rattle.hz_pipeline_model.proofs.Accepting.FittingLaws.{unbroken_run}
+use Rattle.hz_pipeline_model.specs.Tables.Tables.{walk, IsReached}
+use Rattle.hz_pipeline_model.specs.Tables.Apart.{AllApart}
+use Rattle.hz_pipeline_model.specs.Tables.Machines.{Part, part_walk}
+use Rattle.hz_pipeline_model.specs.Reaching.Reach.{AreDifferent, IsLeft, IsReachedGrid, IsReachedState, HasGrids, SameGrids}
+use Rattle.hz_pipeline_model.specs.Reaching.Counts.{IsAtMost, states, CountIsAtMost}
+use Rattle.hz_pipeline_model.proofs.Reaching.LeavingLaws.{plays_from_leaves, leaves_from_plays}
+use Rattle.hz_pipeline_model.proofs.Reaching.StepLaws.{planned, planned_future, future_with}
+use Rattle.hz_pipeline_model.proofs.Reaching.CountLaws.{same_pairs_back, same_pairs_then, sum_by_ones, no_count_both}
+use Rattle.hz_pipeline_model.specs.Compiling.CompiledParts.{WalksAccepted, TellsWhatIsLeft}
+use Rattle.hz_block_model.proofs.Settling.RunLaws.{run_there}
+use Rattle.hz_pipeline_model.proofs.Single.WordLaws.{Spells, spell}
+use Rattle.hz_pipeline_model.proofs.Single.LeftLaws.{left_not_none}
+use Rattle.hz_pipeline_model.proofs.Asks.BareWords.{bare, bare_columns, bare_walk}
+use Rattle.hz_block_model.proofs.Settling.AlikeStates.{IsTold, IsAlike, walked_alike}
+use Rattle.hz_pipeline_model.specs.Accepting.Asking.{IsHeld}
+use Rattle.hz_pipeline_model.proofs.Reaching.HeldLaws.{held_is_present}
 
 -- what can be run behind some events can be run behind others that leave the same
 module _ {U : Type 0} (m : Pipeline U) where

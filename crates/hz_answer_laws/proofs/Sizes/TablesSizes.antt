@@ -8,8 +8,8 @@ use Rattle.hz_description_model.specs.Reading.Descriptions.{Description, UnitIte
 use Rattle.hz_description_model.specs.Reading.DescriptionForms.{Reads}
 use Rattle.hz_description_model.specs.Check.Places.{Known, class_names, automaton_number}
 use Rattle.hz_description_model.specs.Check.CheckedParts.{automaton_names, automata_from, automata_of, class_parts, automaton_parts}
-use Rattle.hz_automata_model.specs.Tables.Machines.{Machine, IsMachine, no_part, names_of}
-use Rattle.hz_automata_model.specs.Compiling.Compiled.{Report, IsCompiled, shows_states}
+use Rattle.hz_pipeline_model.specs.Tables.Machines.{Machine, IsMachine, no_part, names_of}
+use Rattle.hz_pipeline_model.specs.Compiling.Compiled.{Report, IsCompiled, shows_states}
 use Rattle.hz_tabtext_model.specs.Texts.{spelled}
 use Rattle.hz_tabtext_model.specs.Said.{tables_said}
 use Rattle.hz_answer_laws.specs.Sizes.Extents.{unnamed_limit, bytes_of_names}
@@ -18,7 +18,7 @@ use Rattle.hz_answer_laws.proofs.Sizes.StringSizes.{strings_fit}
 use Rattle.hz_answer_laws.proofs.Sizes.NameSizes.{sum_by-map, names_few}
 use Rattle.hz_description_model.specs.Check.CheckedShape.{ask_names, AskNothingUnderNdfa}
 use Rattle.hz_description_model.proofs.Check.QueryPlaces.{asked_names}
-use Rattle.hz_automata_model.specs.Compiling.AutomatonPipelines.{no_automaton}
+use Rattle.hz_pipeline_model.specs.Compiling.AutomatonPipelines.{no_automaton}
 use Rattle.hz_answer_laws.proofs.Totality.MachineTotal.{same_asks}
 use Rattle.std.proofs.lemmas.Bool.Decides.{nat_tests}
 use Rattle.std.proofs.lemmas.Bool.{cases_lt}

@@ -9,12 +9,12 @@ use Rattle.std.proofs.lemmas.List.Sums.{sum_by-cons, sum_by-append}
 use Rattle.hz_base_model.specs.Limits.{class_limit, unit_limit}
 use Rattle.hz_description_model.specs.Reading.Descriptions.{Options}
 use Rattle.hz_description_model.specs.Check.CheckedParts.{AutomatonParts}
-use Rattle.hz_automata_model.specs.Tables.StateLimits.{state_limit, cell_limit}
-use Rattle.hz_automata_model.specs.Tables.Tables.{Table, row_of, entry, IsTable}
-use Rattle.hz_automata_model.specs.Tables.Machines.{Part, Machine, IsPart, IsMachine, no_part, names_of, advance_of}
-use Rattle.hz_automata_model.specs.Compiling.AutomatonPipelines.{automaton_at}
-use Rattle.hz_automata_model.specs.Compiling.Compiled as compiled
-use Rattle.hz_automata_model.specs.Compiling.Compiled.{Report, report_at}
+use Rattle.hz_pipeline_model.specs.Tables.StateLimits.{state_limit, cell_limit}
+use Rattle.hz_pipeline_model.specs.Tables.Tables.{Table, row_of, entry, IsTable}
+use Rattle.hz_pipeline_model.specs.Tables.Machines.{Part, Machine, IsPart, IsMachine, no_part, names_of, advance_of}
+use Rattle.hz_pipeline_model.specs.Compiling.AutomatonPipelines.{automaton_at}
+use Rattle.hz_pipeline_model.specs.Compiling.Compiled as compiled
+use Rattle.hz_pipeline_model.specs.Compiling.Compiled.{Report, report_at}
 use Rattle.hz_tabtext_model.specs.Texts.{PartText, AreCounts, entry_field, entries_line, row_lines, counts_lines, head_line, map_line, part_lines, treatment_line, class_line, spelled, asks_lines, header_line}
 use Rattle.hz_tabtext_model.specs.Said.{row_said, counts_said, part_said, tables_said}
 use Rattle.hz_answer_laws.specs.Sizes.Extents.{unnamed_limit, bytes_of_names}

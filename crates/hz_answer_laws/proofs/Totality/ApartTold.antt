@@ -7,11 +7,11 @@ use Rattle.std.proofs.lemmas.List.{get_or_past, get_or_default}
 use Rattle.std.proofs.lemmas.List.Elements.{Contains-append_left, Contains-append_right, Contains-get_or}
 use Rattle.std.proofs.lemmas.Option.{none-some}
 use Rattle.hz_base_model.proofs.Elements.{Contains-map, Contains-range}
-use Rattle.hz_automata_model.specs.Tables.Tables.{Table, row_of, entry, walk, IsTable}
-use Rattle.hz_automata_model.specs.Tables.Apart.{Apart}
-use Rattle.hz_automata_model.proofs.Tables.TableLaws.{walk-append}
-use Rattle.hz_automata_model.proofs.Reaching.CountLaws.{weighs, sum_by_ones}
-use Rattle.hz_answer_laws.proofs.Decidable.ToldLaws.{IsTold, same_told}
+use Rattle.hz_pipeline_model.specs.Tables.Tables.{Table, row_of, entry, walk, IsTable}
+use Rattle.hz_pipeline_model.specs.Tables.Apart.{Apart}
+use Rattle.hz_pipeline_model.proofs.Tables.TableLaws.{walk-append}
+use Rattle.hz_pipeline_model.proofs.Reaching.CountLaws.{weighs, sum_by_ones}
+use Rattle.hz_pipeline_model.proofs.Decidable.ToldLaws.{IsTold, same_told}
 use Rattle.hz_answer_laws.proofs.Leaving.ExploreLaws.{some_is_told}
 use Rattle.hz_answer_laws.proofs.Totality.NumberingLaws.{Numbered, Finished, finished, all_led, all_different}
 

@@ -10,7 +10,7 @@ use Rattle.std.proofs.lemmas.List.Kept.{AllPairs-cons}
 use Rattle.hz_base_model.specs.Pairs.{Pair, grid_cmp}
 use Rattle.hz_base_model.proofs.Ascending.{AllPairs-head, AllPairs-tail, AllPairs-append}
 use Rattle.hz_base_model.proofs.Elements.{Contains-nil, Contains-head, Contains-tail, Contains-cons_cases}
-use Rattle.hz_answer_laws.proofs.Decidable.ToldLaws.{IsTold}
+use Rattle.hz_pipeline_model.proofs.Decidable.ToldLaws.{IsTold}
 use Rattle.hz_base_model.proofs.PairOrder.{grid_total, grid_exact}
 
 -- The items of the one list and one more, in ascending order.

@@ -3,8 +3,8 @@ use Rattle.std.proofs.Common.{◌≡◌, ℕ, zero, suc, ◌+◌, ◌-◌, ◌<�
 use Rattle.std.specs.List.{range_with_len}
 use Rattle.std.proofs.lemmas.List.{length-map, length-take-le, length-drop, get_or-take, get_or-drop, get_or_append_left, get_or-append_right}
 use Rattle.std.proofs.lemmas.List.FromFn.{length-range_with_len, get_or-map-range_with_len}
-use Rattle.hz_automata_model.specs.Tables.Tables.{Table, row_of, IsTable}
-use Rattle.hz_automata_model.specs.Tables.AskColumns.{HasAsks}
+use Rattle.hz_pipeline_model.specs.Tables.Tables.{Table, row_of, IsTable}
+use Rattle.hz_pipeline_model.specs.Tables.AskColumns.{HasAsks}
 
 module _ (columns asks : ℕ) (marks : ℕ → ℕ → Bool) where
   abbrev mark_at : ℕ → ℕ → Option ℕ

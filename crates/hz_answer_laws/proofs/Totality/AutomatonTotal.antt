@@ -9,25 +9,25 @@ use Rattle.std.proofs.lemmas.Option.{none-some}
 use Rattle.hz_base_model.specs.Pairs.{Pair, SamePairs, ascending_by, IsAscendingBy}
 use Rattle.hz_base_model.proofs.Ascending.{AllPairs-map}
 use Rattle.hz_base_model.proofs.Elements.{Contains-nil, Contains-head, Contains-tail, Contains-cons_cases, Contains-map, Contains-from_map}
-use Rattle.hz_acceptance_model.specs.Accepting.Events.{Event}
-use Rattle.hz_acceptance_model.specs.Accepting.Plays.{accepts}
-use Rattle.hz_acceptance_model.specs.Accepting.Replay.{Pipeline, Accepted, start, alternatives_at}
-use Rattle.hz_acceptance_model.proofs.Accepting.AcceptanceLaws.{advance_accepted}
-use Rattle.hz_acceptance_model.proofs.Accepting.PlayLaws.{accepts_decides}
-use Rattle.hz_acceptance_model.proofs.Accepting.ReplayLaws.{accepted_from_runs}
-use Rattle.hz_acceptance_model.proofs.Accepting.Rows.{numbers_tell}
-use Rattle.hz_automata_model.specs.Tables.Tables.{Table, entry, walk, IsTable}
-use Rattle.hz_automata_model.proofs.Tables.TableLaws.{breadth_first_reached}
-use Rattle.hz_automata_model.specs.Reaching.Built.{IsAutomaton, grid_at, set_at, state_at}
-use Rattle.hz_automata_model.specs.Reaching.Columns.{AreColumns, event_at, events_at}
-use Rattle.hz_automata_model.proofs.Reaching.Spelling.{spelled}
-use Rattle.hz_automata_model.specs.Reaching.Counts.{CountIsAtMost}
-use Rattle.hz_automata_model.specs.Reaching.Counts as count
-use Rattle.hz_automata_model.specs.Reaching.Reach.{AreDifferent, Leaves, IsLeft, IsReachedGrid, SameGrids}
-use Rattle.hz_automata_model.proofs.Reaching.AutomatonLaws.{leaves_of_accepted, accepted_of_leaves}
-use Rattle.hz_automata_model.proofs.Reaching.CountLaws.{weighs, sum_by_ones, same_pairs_then}
-use Rattle.hz_automata_model.proofs.Reaching.WordLaws.{event_of_advance, spelled_columns, leaves_spelled, leaves_from_spelled, inside_of_leaves}
-use Rattle.hz_answer_laws.proofs.Decidable.ToldLaws.{IsTold, low_told}
+use Rattle.hz_pipeline_model.specs.Accepting.Events.{Event}
+use Rattle.hz_pipeline_model.specs.Accepting.Plays.{accepts}
+use Rattle.hz_pipeline_model.specs.Accepting.Replay.{Pipeline, Accepted, start, alternatives_at}
+use Rattle.hz_pipeline_model.proofs.Accepting.AcceptanceLaws.{advance_accepted}
+use Rattle.hz_pipeline_model.proofs.Accepting.PlayLaws.{accepts_decides}
+use Rattle.hz_pipeline_model.proofs.Accepting.ReplayLaws.{accepted_from_runs}
+use Rattle.hz_pipeline_model.proofs.Accepting.Rows.{numbers_tell}
+use Rattle.hz_pipeline_model.specs.Tables.Tables.{Table, entry, walk, IsTable}
+use Rattle.hz_pipeline_model.proofs.Tables.TableLaws.{breadth_first_reached}
+use Rattle.hz_pipeline_model.specs.Reaching.Built.{IsAutomaton, grid_at, set_at, state_at}
+use Rattle.hz_pipeline_model.specs.Reaching.Columns.{AreColumns, event_at, events_at}
+use Rattle.hz_pipeline_model.proofs.Reaching.Spelling.{spelled}
+use Rattle.hz_pipeline_model.specs.Reaching.Counts.{CountIsAtMost}
+use Rattle.hz_pipeline_model.specs.Reaching.Counts as count
+use Rattle.hz_pipeline_model.specs.Reaching.Reach.{AreDifferent, Leaves, IsLeft, IsReachedGrid, SameGrids}
+use Rattle.hz_pipeline_model.proofs.Reaching.AutomatonLaws.{leaves_of_accepted, accepted_of_leaves}
+use Rattle.hz_pipeline_model.proofs.Reaching.CountLaws.{weighs, sum_by_ones, same_pairs_then}
+use Rattle.hz_pipeline_model.proofs.Reaching.WordLaws.{event_of_advance, spelled_columns, leaves_spelled, leaves_from_spelled, inside_of_leaves}
+use Rattle.hz_pipeline_model.proofs.Decidable.ToldLaws.{IsTold, low_told}
 use Rattle.hz_answer_laws.proofs.Leaving.ListingLaws.{told_by, pairs_told}
 use Rattle.hz_answer_laws.proofs.Leaving.ExploreLaws.{some_is_told}
 use Rattle.hz_answer_laws.proofs.Leaving.OnwardLaws.{leaves_alike}

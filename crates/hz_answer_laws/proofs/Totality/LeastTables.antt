@@ -6,10 +6,10 @@ use Rattle.std.proofs.lemmas.Bool.{cases_lt}
 use Rattle.std.proofs.lemmas.List.{get_or_default}
 use Rattle.std.proofs.lemmas.List.FromFn.{length-range_with_len}
 use Rattle.hz_base_model.proofs.Elements.{Contains-range}
-use Rattle.hz_automata_model.specs.Tables.Tables.{Table, entry, walk, IsTable}
-use Rattle.hz_automata_model.specs.Tables.Apart.{Apart, AllApart, WalkTheSame}
-use Rattle.hz_automata_model.specs.Least.Normal.{IsNormal}
-use Rattle.hz_answer_laws.proofs.Decidable.ToldLaws.{IsTold}
+use Rattle.hz_pipeline_model.specs.Tables.Tables.{Table, entry, walk, IsTable}
+use Rattle.hz_pipeline_model.specs.Tables.Apart.{Apart, AllApart, WalkTheSame}
+use Rattle.hz_pipeline_model.specs.Least.Normal.{IsNormal}
+use Rattle.hz_pipeline_model.proofs.Decidable.ToldLaws.{IsTold}
 use Rattle.hz_answer_laws.proofs.Totality.NumberingLaws.{Numbered, finished, all_led, all_different}
 use Rattle.hz_answer_laws.proofs.Totality.NumberedTables.{Alike, Stands, run, IsNumberedTable, some_table, all_items, walked_at, some_alike, entry_row}
 use Rattle.hz_answer_laws.proofs.Totality.ApartTold.{no_more, ended, none_past, apart_told}

@@ -10,9 +10,9 @@ use Rattle.hz_base_model.specs.Pairs.{Pair}
 use Rattle.hz_base_model.proofs.Elements.{Contains-nil, Contains-from_map, Contains-from_filter, Contains-cons_cases, Contains-head, Contains-tail}
 use Rattle.hz_description_model.specs.Reservations.Alternatives.{alternatives_of}
 use Rattle.hz_description_model.specs.Reservations.Automata.{list_in}
-use Rattle.hz_acceptance_model.specs.Accepting.Replay.{Pipeline}
-use Rattle.hz_acceptance_model.specs.Accepting.Restricted.{restricted}
-use Rattle.hz_acceptance_model.proofs.Accepting.Rows.{numbers_tell}
+use Rattle.hz_pipeline_model.specs.Accepting.Replay.{Pipeline}
+use Rattle.hz_pipeline_model.specs.Accepting.Restricted.{restricted}
+use Rattle.hz_pipeline_model.proofs.Accepting.Rows.{numbers_tell}
 use Rattle.hz_description_model.specs.Reading.Descriptions.{Description, matches, Options, AutomatonItem, UnitItem, ClassItem}
 use Rattle.hz_description_model.specs.Reading.DescriptionShape.{IsWellFormed, IsAutomaton, IsUnit, IsClass}
 use Rattle.hz_description_model.proofs.Reading.CheckableLaws.{can_be_checked}
@@ -21,26 +21,26 @@ use Rattle.hz_description_model.specs.Check.CheckedParts.{AutomatonParts, ClassP
 use Rattle.hz_description_model.specs.Check.CheckedShape.{IsKept, ask_names}
 use Rattle.hz_description_model.specs.Check.Places.{Known, automaton_number}
 use Rattle.hz_description_model.proofs.Check.KeptLaws.{parts_kept}
-use Rattle.hz_acceptance_model.specs.Pipelines.Pipelines.{pipeline_with}
-use Rattle.hz_automata_model.specs.Tables.Machines.{Machine, Part, IsMachine, IsPart, no_part, names_of}
-use Rattle.hz_automata_model.specs.Tables.StateLimits.{state_limit}
-use Rattle.hz_automata_model.proofs.Reaching.CountLaws.{no_count_both}
-use Rattle.hz_automata_model.specs.Compiling.AutomatonPipelines.{automaton_at, lists_at, class_lists, automaton_pipeline, queries_at, no_automaton}
-use Rattle.hz_automata_model.specs.Compiling.Compiled.{Report, report_at, shows_states, IsCompiledPart, IsCompiled}
-use Rattle.hz_automata_model.specs.Compiling.CompiledParts.{HasColumns, cap_of, IsWithinLimits}
-use Rattle.hz_automata_model.specs.Compiling.DescriptionLimits.{AllKeepLimits}
-use Rattle.hz_automata_model.proofs.Compiling.CompiledLaws.{above_alike}
-use Rattle.hz_automata_model.proofs.Compiling.DescriptionLaws.{automata_count, queries_there}
-use Rattle.hz_automata_model.proofs.Compiling.PipelineLaws.{list_there, restricted_moved}
+use Rattle.hz_pipeline_model.specs.Pipelines.Pipelines.{pipeline_with}
+use Rattle.hz_pipeline_model.specs.Tables.Machines.{Machine, Part, IsMachine, IsPart, no_part, names_of}
+use Rattle.hz_pipeline_model.specs.Tables.StateLimits.{state_limit}
+use Rattle.hz_pipeline_model.proofs.Reaching.CountLaws.{no_count_both}
+use Rattle.hz_pipeline_model.specs.Compiling.AutomatonPipelines.{automaton_at, lists_at, class_lists, automaton_pipeline, queries_at, no_automaton}
+use Rattle.hz_pipeline_model.specs.Compiling.Compiled.{Report, report_at, shows_states, IsCompiledPart, IsCompiled}
+use Rattle.hz_pipeline_model.specs.Compiling.CompiledParts.{HasColumns, cap_of, IsWithinLimits}
+use Rattle.hz_pipeline_model.specs.Compiling.DescriptionLimits.{AllKeepLimits}
+use Rattle.hz_pipeline_model.proofs.Compiling.CompiledLaws.{above_alike}
+use Rattle.hz_pipeline_model.proofs.Compiling.DescriptionLaws.{automata_count, queries_there}
+use Rattle.hz_pipeline_model.proofs.Compiling.PipelineLaws.{list_there, restricted_moved}
 use Rattle.hz_answer_laws.proofs.Leaving.CountsTold.{counts_told}
-use Rattle.hz_automata_model.specs.Single.Told.{ListsAscending}
+use Rattle.hz_pipeline_model.specs.Single.Told.{ListsAscending}
 use Rattle.hz_tabtext_model.specs.Said.{IsInRange, counts_said}
 use Rattle.hz_tabtext_model.specs.Texts.{AreCounts}
 use Rattle.hz_answer_laws.proofs.Totality.PartTotal.{AreLow, HasPart, some_part, AreQueries}
 use Rattle.hz_answer_laws.proofs.Totality.NumberedTables.{listed_values}
 use Rattle.hz_description_model.proofs.Check.QueryLaws.{asks_nothing}
 use Rattle.hz_description_model.proofs.Check.QueryPlaces.{names_of_their_own}
-use Rattle.hz_automata_model.specs.Reaching.Counts.{CountIsAtMost}
+use Rattle.hz_pipeline_model.specs.Reaching.Counts.{CountIsAtMost}
 use Rattle.std.specs.List.{flat_map, AllPairs}
 
 -- ---- names

@@ -4,8 +4,8 @@ use Rattle.std.specs.Prelude.{is_some}
 use Rattle.std.proofs.lemmas.Bool.{cases_lt}
 use Rattle.std.proofs.lemmas.List.{get_or_append_left, get_or_push, length_push, get_or_past}
 use Rattle.std.proofs.lemmas.Option.{none-some}
-use Rattle.hz_automata_model.specs.Tables.Tables.{Table, row_of, entry, walk}
-use Rattle.hz_automata_model.specs.Tables.Orders.{IsFirstRead, IsBreadthFirst, place_of}
+use Rattle.hz_pipeline_model.specs.Tables.Tables.{Table, row_of, entry, walk}
+use Rattle.hz_pipeline_model.specs.Tables.Orders.{IsFirstRead, IsBreadthFirst, place_of}
 use Rattle.hz_answer_laws.proofs.Totality.NumberingLaws.{Numbered, IsOrigin, read_row}
 
 -- a list with a value for each number

@@ -4,9 +4,9 @@ use Rattle.std.proofs.lemmas.Bool.{cases_lt}
 use Rattle.std.proofs.lemmas.List.{get_or_append_left, get_or_push, length_push, get_or_default}
 use Rattle.std.proofs.lemmas.List.Elements.{Contains-get_or}
 use Rattle.std.proofs.lemmas.Option.{none-some}
-use Rattle.hz_automata_model.specs.Reaching.Reach.{AreDifferent}
-use Rattle.hz_automata_model.specs.Tables.Orders.{IsReadBefore, place_of}
-use Rattle.hz_answer_laws.proofs.Decidable.ToldLaws.{IsTold, some_told}
+use Rattle.hz_pipeline_model.specs.Reaching.Reach.{AreDifferent}
+use Rattle.hz_pipeline_model.specs.Tables.Orders.{IsReadBefore, place_of}
+use Rattle.hz_pipeline_model.proofs.Decidable.ToldLaws.{IsTold, some_told}
 
 -- One item is no other.
 pub some_is : {X : Type 0} (x y : X) → Some x ≡ Some y → x ≡ y

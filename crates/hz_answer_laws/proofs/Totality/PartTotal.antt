@@ -15,36 +15,36 @@ use Rattle.hz_base_model.proofs.Ascending.{AllPairs-map}
 use Rattle.hz_base_model.proofs.Elements.{Contains-nil, Contains-from_map}
 use Rattle.hz_description_model.specs.Reservations.Sets.{Statement}
 use Rattle.hz_description_model.specs.Reservations.Alternatives.{Alternative}
-use Rattle.hz_acceptance_model.specs.Accepting.Events.{Event, issue, advance, ask, cycles_of, IsOfClass}
-use Rattle.hz_acceptance_model.specs.Accepting.Fitting.{AskTheSame}
-use Rattle.hz_acceptance_model.specs.Accepting.Replay.{Pipeline, Treatment, Class, chosen, calendar, alternatives_at, of_class, pairs_at, first_fit, any_fit}
-use Rattle.hz_acceptance_model.specs.Accepting.Restricted.{of_pairs}
-use Rattle.hz_acceptance_model.proofs.Accepting.Rows.{numbers_tell}
+use Rattle.hz_pipeline_model.specs.Accepting.Events.{Event, issue, advance, ask, cycles_of, IsOfClass}
+use Rattle.hz_pipeline_model.specs.Accepting.Fitting.{AskTheSame}
+use Rattle.hz_pipeline_model.specs.Accepting.Replay.{Pipeline, Treatment, Class, chosen, calendar, alternatives_at, of_class, pairs_at, first_fit, any_fit}
+use Rattle.hz_pipeline_model.specs.Accepting.Restricted.{of_pairs}
+use Rattle.hz_pipeline_model.proofs.Accepting.Rows.{numbers_tell}
 use Rattle.hz_description_model.specs.Reading.Descriptions.{Options}
 use Rattle.hz_description_model.specs.Check.CheckedParts.{AutomatonParts, ClassParts}
-use Rattle.hz_acceptance_model.specs.Pipelines.Pipelines.{treatment_of}
-use Rattle.hz_automata_model.specs.Tables.Tables.{Table, walk, entry}
-use Rattle.hz_automata_model.specs.Tables.Apart.{WalkTheSame}
-use Rattle.hz_automata_model.specs.Tables.Machines.{Part, IsPart, part_walk, word_of, advance_of, tells_reserved}
-use Rattle.hz_automata_model.specs.Tables.StateLimits.{grid_limit, state_limit, member_limit, cell_limit}
-use Rattle.hz_automata_model.proofs.Tables.TableLaws.{breadth_first_reached}
-use Rattle.hz_automata_model.specs.Least.Normal.{IsNormal}
-use Rattle.hz_automata_model.specs.Reaching.Reach.{IsLeft, IsReachedGrid}
-use Rattle.hz_automata_model.specs.Reaching.Built.{IsAutomaton, grid_at, set_at, state_at}
-use Rattle.hz_automata_model.specs.Reaching.Columns.{class_of_grids, pipeline_on}
-use Rattle.hz_automata_model.specs.Reaching.Counts.{Count, CountIsAbove, CountIsAtMost}
-use Rattle.hz_automata_model.specs.Reaching.Counts as count
-use Rattle.hz_automata_model.proofs.Reaching.CountLaws.{no_count_both}
-use Rattle.hz_automata_model.specs.Compiling.AutomatonPipelines.{automaton_at, lists_at, automaton_pipeline, queries_at}
-use Rattle.hz_automata_model.specs.Compiling.ClassColumns.{IsColumns}
-use Rattle.hz_automata_model.specs.Compiling.Compiled.{Shown, Report, shows_states, IsShown, IsCompiledPart}
-use Rattle.hz_automata_model.specs.Compiling.CompiledParts.{cap_of, IsWithinLimits, WalksAccepted, TellsWhatIsLeft, TellsWhatIsHeld}
-use Rattle.hz_automata_model.specs.Compiling.Counted.{CountIs}
-use Rattle.hz_automata_model.proofs.Compiling.ColumnLaws.{nothing_past}
-use Rattle.hz_automata_model.proofs.Compiling.CompiledLaws.{walks_accepted, tells_left, numbered, stands, low, counts_above, counts_most, tells_held}
-use Rattle.hz_automata_model.proofs.Compiling.ReportLaws.{states_of, grid_count, state_count, cell_count, member_count}
+use Rattle.hz_pipeline_model.specs.Pipelines.Pipelines.{treatment_of}
+use Rattle.hz_pipeline_model.specs.Tables.Tables.{Table, walk, entry}
+use Rattle.hz_pipeline_model.specs.Tables.Apart.{WalkTheSame}
+use Rattle.hz_pipeline_model.specs.Tables.Machines.{Part, IsPart, part_walk, word_of, advance_of, tells_reserved}
+use Rattle.hz_pipeline_model.specs.Tables.StateLimits.{grid_limit, state_limit, member_limit, cell_limit}
+use Rattle.hz_pipeline_model.proofs.Tables.TableLaws.{breadth_first_reached}
+use Rattle.hz_pipeline_model.specs.Least.Normal.{IsNormal}
+use Rattle.hz_pipeline_model.specs.Reaching.Reach.{IsLeft, IsReachedGrid}
+use Rattle.hz_pipeline_model.specs.Reaching.Built.{IsAutomaton, grid_at, set_at, state_at}
+use Rattle.hz_pipeline_model.specs.Reaching.Columns.{class_of_grids, pipeline_on}
+use Rattle.hz_pipeline_model.specs.Reaching.Counts.{Count, CountIsAbove, CountIsAtMost}
+use Rattle.hz_pipeline_model.specs.Reaching.Counts as count
+use Rattle.hz_pipeline_model.proofs.Reaching.CountLaws.{no_count_both}
+use Rattle.hz_pipeline_model.specs.Compiling.AutomatonPipelines.{automaton_at, lists_at, automaton_pipeline, queries_at}
+use Rattle.hz_pipeline_model.specs.Compiling.ClassColumns.{IsColumns}
+use Rattle.hz_pipeline_model.specs.Compiling.Compiled.{Shown, Report, shows_states, IsShown, IsCompiledPart}
+use Rattle.hz_pipeline_model.specs.Compiling.CompiledParts.{cap_of, IsWithinLimits, WalksAccepted, TellsWhatIsLeft, TellsWhatIsHeld}
+use Rattle.hz_pipeline_model.specs.Compiling.Counted.{CountIs}
+use Rattle.hz_pipeline_model.proofs.Compiling.ColumnLaws.{nothing_past}
+use Rattle.hz_pipeline_model.proofs.Compiling.CompiledLaws.{walks_accepted, tells_left, numbered, stands, low, counts_above, counts_most, tells_held}
+use Rattle.hz_pipeline_model.proofs.Compiling.ReportLaws.{states_of, grid_count, state_count, cell_count, member_count}
 use Rattle.hz_answer_laws.proofs.Leaving.CountsTold.{counts_told}
-use Rattle.hz_automata_model.specs.Single.Told.{ListsAscending}
+use Rattle.hz_pipeline_model.specs.Single.Told.{ListsAscending}
 use Rattle.hz_tabtext_model.specs.Said.{counts_said}
 use Rattle.hz_tabtext_model.specs.Texts.{AreCounts}
 use Rattle.hz_answer_laws.proofs.Totality.AscendingLists.{IsBelow, sorted_below}
@@ -54,15 +54,15 @@ use Rattle.hz_answer_laws.proofs.Totality.LeastTables.{least_table}
 use Rattle.hz_answer_laws.proofs.Totality.AutomatonTotal.{HasAutomaton, some_automaton}
 use Rattle.std.specs.Ordering.{nat_cmp}
 use Rattle.hz_description_model.specs.Check.CheckedShape.{ask_names}
-use Rattle.hz_automata_model.specs.Tables.AskColumns.{HasAsks, AsksStay}
-use Rattle.hz_automata_model.proofs.Asks.AskLaws.{asked_table, asks_stay, least_stays, walk_one, walk_end}
-use Rattle.hz_automata_model.proofs.Asks.BareLaws.{without}
-use Rattle.hz_automata_model.proofs.Asks.PresentLaws.{marks_present}
-use Rattle.hz_automata_model.specs.Reaching.Present.{marks_of}
+use Rattle.hz_pipeline_model.specs.Tables.AskColumns.{HasAsks, AsksStay}
+use Rattle.hz_pipeline_model.proofs.Asks.AskLaws.{asked_table, asks_stay, least_stays, walk_one, walk_end}
+use Rattle.hz_pipeline_model.proofs.Asks.BareLaws.{without}
+use Rattle.hz_pipeline_model.proofs.Asks.PresentLaws.{marks_present}
+use Rattle.hz_pipeline_model.specs.Reaching.Present.{marks_of}
 use Rattle.hz_answer_laws.proofs.Totality.AskedRows.{asked_rows, rows_have_asks}
-use Rattle.hz_acceptance_model.specs.Accepting.Asking.{IsHeld}
-use Rattle.hz_automata_model.specs.Tables.Orders.{IsBreadthFirst}
-use Rattle.hz_automata_model.proofs.Single.PartLaws.{some_of}
+use Rattle.hz_pipeline_model.specs.Accepting.Asking.{IsHeld}
+use Rattle.hz_pipeline_model.specs.Tables.Orders.{IsBreadthFirst}
+use Rattle.hz_pipeline_model.proofs.Single.PartLaws.{some_of}
 
 -- ---- cycles of what is left
 

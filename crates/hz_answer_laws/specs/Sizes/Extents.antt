@@ -3,8 +3,8 @@ use Rattle.std.specs.Prelude.{ℕ, ◌+◌, ◌*◌, length}
 use Rattle.std.specs.List.{sum_by}
 use Rattle.hz_base_model.specs.Limits.{automaton_limit, class_limit, unit_limit}
 use Rattle.hz_base_model.specs.Forms.Trees.{Tree, Trees, list, vector, quoted, none, more}
-use Rattle.hz_automata_model.specs.Tables.Machines.{Machine, names_of}
-use Rattle.hz_automata_model.specs.Tables.StateLimits.{state_limit, cell_limit}
+use Rattle.hz_pipeline_model.specs.Tables.Machines.{Machine, names_of}
+use Rattle.hz_pipeline_model.specs.Tables.StateLimits.{state_limit, cell_limit}
 
 -- the bytes of all quoted strings together, at every depth
 abbrev mutual

@@ -2,7 +2,7 @@
 
 ghost use Rattle.std.specs.Prelude.{◌<◌, length};
 ghost use Rattle.std.specs.Bool.{OnTrue};
-ghost use Rattle.hz_automata_model.specs.Tables.Tables.{IsTable};
+ghost use Rattle.hz_pipeline_model.specs.Tables.Tables.{IsTable};
 ghost use Rattle.hz_tables.specs.Rows.{AreStates};
 ghost use Rattle.hz_automata_rows.specs.Leading.{IsRow};
 

@@ -1,7 +1,7 @@
 //! A table whose rows are packed into few cells.
 
 ghost use Rattle.std.specs.Prelude.{◌≡◌, ◌<◌, ◌^◌, ◌+◌, ℕ, Some, length, IfOk, IfSome, All, IsTrue};
-ghost use Rattle.hz_automata_model.specs.Tables.Tables.{entry};
+ghost use Rattle.hz_pipeline_model.specs.Tables.Tables.{entry};
 ghost use Rattle.hz_tables.specs.Widths.{is_width};
 
 use hz_tables::{NoMemory, Packed, Plain};

@@ -1,8 +1,8 @@
 //! The blocks of tables by hand.
 
 ghost use Rattle.std.specs.Prelude.{◌≡◌, ◌+◌, ◌<◌, ◌≤◌, IfOk, OnOk, All, length};
-ghost use Rattle.hz_automata_model.specs.Tables.StateLimits.{state_limit};
-ghost use Rattle.hz_automata_model.specs.Tables.Tables.{IsTable};
+ghost use Rattle.hz_pipeline_model.specs.Tables.StateLimits.{state_limit};
+ghost use Rattle.hz_pipeline_model.specs.Tables.Tables.{IsTable};
 ghost use Rattle.hz_automata_rows.specs.Rows.{IsRow};
 
 use hz_minim::{NoMemory, refine};

@@ -1,10 +1,10 @@
 //! Traces by hand, and replays on a machine of one class.
 
 ghost use Rattle.std.specs.Prelude.{◌≡◌, ◌≤◌, ◌<◌, ◌^◌, length, All};
-ghost use Rattle.hz_acceptance_model.specs.Traces.TraceLimits.{advance_limit};
-ghost use Rattle.hz_acceptance_model.specs.Accepting.Events.{cycles_of, IsOfClass};
-ghost use Rattle.hz_acceptance_model.specs.Accepting.Asking.{IsOfQuery};
-ghost use Rattle.hz_automata_model.specs.Tables.MachineNames.{names_of_machine};
+ghost use Rattle.hz_pipeline_model.specs.Traces.TraceLimits.{advance_limit};
+ghost use Rattle.hz_pipeline_model.specs.Accepting.Events.{cycles_of, IsOfClass};
+ghost use Rattle.hz_pipeline_model.specs.Accepting.Asking.{IsOfQuery};
+ghost use Rattle.hz_pipeline_model.specs.Tables.MachineNames.{names_of_machine};
 ghost use Rattle.hz_tables.specs.Machines.{machine_of};
 ghost use Rattle.hz_replay.specs.Traces.{events_in};
 

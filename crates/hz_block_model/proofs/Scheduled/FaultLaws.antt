@@ -2,14 +2,14 @@
 use Rattle.std.proofs.Common.{◌≡◌, ℕ, zero, suc, ◌<◌, ◌⊎◌, inl, inr, ⊎_elim, List, [], ◌∷◌, length, map, All, Some, refl, sym, ap, ◌∙◌, subst, arith}
 use Rattle.std.specs.Prelude.{Result, Ok, Err, slice_get, slice_index}
 use Rattle.std.proofs.lemmas.List.Elements.{All-nil, All-cons}
-use Rattle.hz_acceptance_model.specs.Accepting.Events.{issue}
-use Rattle.hz_acceptance_model.specs.Accepting.Replay.{Accepted, FirstRefused}
-use Rattle.hz_acceptance_model.proofs.Accepting.AcceptanceLaws.{accepted_or_refused}
-use Rattle.hz_acceptance_model.proofs.Accepting.PlayLaws.{accepted_or_first_refused}
-use Rattle.hz_acceptance_model.proofs.Accepting.Rows.{same_unit, places_tell}
+use Rattle.hz_pipeline_model.specs.Accepting.Events.{issue}
+use Rattle.hz_pipeline_model.specs.Accepting.Replay.{Accepted, FirstRefused}
+use Rattle.hz_pipeline_model.proofs.Accepting.AcceptanceLaws.{accepted_or_refused}
+use Rattle.hz_pipeline_model.proofs.Accepting.PlayLaws.{accepted_or_first_refused}
+use Rattle.hz_pipeline_model.proofs.Accepting.Rows.{same_unit, places_tell}
 use Rattle.hz_description_model.specs.Check.Places.{Known}
 use Rattle.hz_description_model.specs.Reading.Descriptions.{Description}
-use Rattle.hz_acceptance_model.specs.Pipelines.Pipelines.{pipeline_with}
+use Rattle.hz_pipeline_model.specs.Pipelines.Pipelines.{pipeline_with}
 use Rattle.hz_block_model.specs.Running.Blocks.{Instruction}
 use Rattle.hz_block_model.specs.Dependences.Classes.{ClassFault}
 use Rattle.hz_block_model.specs.Scheduling.Schedules.{Graph, class_at}

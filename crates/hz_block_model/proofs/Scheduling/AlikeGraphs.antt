@@ -2,7 +2,7 @@
 use Rattle.std.proofs.Common.{◌≡◌, ℕ, inl, inr, List, [], ◌∷◌, ◌++◌, map, length, Contains, refl, sym, ap, ◌∙◌, subst, arith}
 use Rattle.std.specs.Prelude.{slice_index}
 use Rattle.std.proofs.lemmas.List.{length-map}
-use Rattle.hz_acceptance_model.specs.Accepting.Events.{Event, issue}
+use Rattle.hz_pipeline_model.specs.Accepting.Events.{Event, issue}
 use Rattle.hz_block_model.specs.Dependences.Graphs.{Edge}
 use Rattle.hz_block_model.specs.Scheduling.Schedules.{Node, Graph, Slot, class_at, height_at, present, advance_to, spelled, spell, GoesBefore, Legal, Greedy, IsCandidate}
 

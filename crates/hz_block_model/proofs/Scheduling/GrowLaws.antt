@@ -3,7 +3,7 @@ use Rattle.std.proofs.Common.{◌≡◌, ℕ, ◌<◌, List, [], ◌∷◌, ◌+
 use Rattle.std.specs.List.{AllPairs}
 use Rattle.std.proofs.lemmas.List.Elements.{All-contains}
 use Rattle.hz_base_model.proofs.Elements.{Contains-from_map}
-use Rattle.hz_acceptance_model.specs.Accepting.Events.{Event}
+use Rattle.hz_pipeline_model.specs.Accepting.Events.{Event}
 use Rattle.hz_block_model.specs.Scheduling.Schedules.{Graph, Slot, places, spell, Legal, Greedy, FollowsGreedily}
 use Rattle.hz_block_model.proofs.Scheduling.OneSchedule.{Rises}
 use Rattle.hz_block_model.proofs.Scheduling.SameSchedules.{greedy_within}

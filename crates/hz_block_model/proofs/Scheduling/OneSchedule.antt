@@ -6,7 +6,7 @@ use Rattle.std.proofs.lemmas.List.{append-nil}
 use Rattle.std.proofs.lemmas.List.Elements.{All-contains, Contains-append_right}
 use Rattle.hz_base_model.proofs.Elements.{Contains-head}
 use Rattle.hz_base_model.proofs.Ascending.{AllPairs-head, AllPairs-tail}
-use Rattle.hz_acceptance_model.specs.Accepting.Events.{Event}
+use Rattle.hz_pipeline_model.specs.Accepting.Events.{Event}
 use Rattle.hz_block_model.specs.Scheduling.Schedules.{Graph, Slot, present, GoesBefore, Legal, Greedy, IsCandidate, FollowsGreedily}
 
 -- cycles don't fall from one slot to another

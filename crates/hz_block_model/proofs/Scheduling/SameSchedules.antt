@@ -3,7 +3,7 @@ use Rattle.std.proofs.Common.{◌≡◌, ℕ, ◌-◌, ◌<◌, Bool, true, fals
 use Rattle.std.specs.Prelude.{nat_lt}
 use Rattle.std.proofs.lemmas.List.{append-nil, length-map, length-append, get_or-map, get_or_append_left}
 use Rattle.std.proofs.lemmas.List.Elements.{All-nil, All-cons, All-append, All-push, All-get_or, All-map, All-head, All-tail}
-use Rattle.hz_acceptance_model.specs.Accepting.Events.{Event, issue, advance, IsOfClass}
+use Rattle.hz_pipeline_model.specs.Accepting.Events.{Event, issue, advance, IsOfClass}
 use Rattle.hz_block_model.specs.Scheduling.Schedules.{Node, Graph, Slot, class_at, present, advance_to, spelled, spell, Legal, Greedy, IsCandidate}
 
 pub All-before : {X : Type 0} (P : X → Type 0) (xs ys : List X) → All P (xs ++ ys) → All P xs

@@ -4,7 +4,7 @@ use Rattle.std.specs.List.{AllPairs}
 use Rattle.std.proofs.lemmas.Bool.{lt-ltb}
 use Rattle.hz_base_model.proofs.Elements.{Contains-nil, Contains-cons_cases}
 use Rattle.hz_base_model.proofs.Ascending.{AllPairs-head, AllPairs-tail, AllPairs-append}
-use Rattle.hz_acceptance_model.specs.Accepting.Events.{Event, issue, advance}
+use Rattle.hz_pipeline_model.specs.Accepting.Events.{Event, issue, advance}
 use Rattle.hz_block_model.specs.Scheduling.Schedules.{Graph, Slot, class_at, places, present, advance_to, spelled}
 use Rattle.hz_block_model.proofs.Scheduling.OneSchedule.{Rises}
 

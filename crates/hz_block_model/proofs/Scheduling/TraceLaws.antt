@@ -6,10 +6,10 @@ use Rattle.std.proofs.lemmas.Bool.{ltb-false}
 use Rattle.std.proofs.lemmas.List.{length-append}
 use Rattle.std.proofs.lemmas.List.Elements.{All-head, All-tail}
 use Rattle.hz_base_model.proofs.Ascending.{AllPairs-head, AllPairs-tail}
-use Rattle.hz_acceptance_model.specs.Accepting.Events.{Event, issue, advance, issues_of, cycles_of}
-use Rattle.hz_acceptance_model.specs.Accepting.Asking.{issues_and_advances}
-use Rattle.hz_acceptance_model.proofs.Accepting.AskLaws.{without-append}
-use Rattle.hz_acceptance_model.proofs.Accepting.ReplayLaws.{issues_of-append, cycles_of-append}
+use Rattle.hz_pipeline_model.specs.Accepting.Events.{Event, issue, advance, issues_of, cycles_of}
+use Rattle.hz_pipeline_model.specs.Accepting.Asking.{issues_and_advances}
+use Rattle.hz_pipeline_model.proofs.Accepting.AskLaws.{without-append}
+use Rattle.hz_pipeline_model.proofs.Accepting.ReplayLaws.{issues_of-append, cycles_of-append}
 use Rattle.hz_block_model.specs.Scheduling.Schedules.{Graph, Slot, class_at, advance_to, spelled, spell, present}
 use Rattle.hz_block_model.proofs.Scheduling.OneSchedule.{Rises}
 

@@ -2,11 +2,11 @@
 -- description'; list scheduling as in this profile, docs/RULES.md, 'List schedules'.
 use Rattle.std.specs.Prelude.{◌≡◌, ℕ, ◌+◌, ◌≤◌, true, List, [], ◌∷◌, ◌++◌, length, All, Ok}
 use Rattle.std.specs.List.{Contains, AllPairs, range_with_len}
-use Rattle.hz_acceptance_model.specs.Accepting.Events.{issue}
-use Rattle.hz_acceptance_model.specs.Accepting.Replay.{Accepted}
+use Rattle.hz_pipeline_model.specs.Accepting.Events.{issue}
+use Rattle.hz_pipeline_model.specs.Accepting.Replay.{Accepted}
 use Rattle.hz_description_model.specs.Check.Places.{Known}
 use Rattle.hz_description_model.specs.Reading.Descriptions.{Description}
-use Rattle.hz_acceptance_model.specs.Pipelines.Pipelines.{pipeline_with}
+use Rattle.hz_pipeline_model.specs.Pipelines.Pipelines.{pipeline_with}
 use Rattle.hz_block_model.specs.Running.Blocks.{Instruction}
 use Rattle.hz_block_model.specs.Running.States.{State, run}
 use Rattle.hz_block_model.specs.Dependences.Dependences.{depends, cost}

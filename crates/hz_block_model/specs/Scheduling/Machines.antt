@@ -2,8 +2,8 @@
 use Rattle.std.specs.Prelude.{◌≡◌, ℕ, ◌+◌, Bool, not, List, [], ◌∷◌, ◌++◌, length, codes, position, All, Option, Some, is_some}
 use Rattle.hz_base_model.specs.Limits.{cycle_limit}
 use Rattle.hz_description_model.specs.Reading.Limits.{latency_limit}
-use Rattle.hz_acceptance_model.specs.Accepting.Events.{Event, issue, advance, IsOfClass}
-use Rattle.hz_automata_model.specs.Tables.Machines.{Machine, machine_walk, starts_of, IsWalked}
+use Rattle.hz_pipeline_model.specs.Accepting.Events.{Event, issue, advance, IsOfClass}
+use Rattle.hz_pipeline_model.specs.Tables.Machines.{Machine, machine_walk, starts_of, IsWalked}
 use Rattle.hz_block_model.specs.Scheduling.Schedules.{Graph}
 
 -- A machine settles: behind any events of its classes that it walks, `cycle_limit` cycles more lead each part to its start.

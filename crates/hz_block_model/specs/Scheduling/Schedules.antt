@@ -2,7 +2,7 @@
 -- description'; list scheduling as in this profile, docs/RULES.md, 'List schedules'.
 use Rattle.std.specs.Prelude.{◌≡◌, ◌⊎◌, ℕ, ◌+◌, ◌-◌, ◌<◌, ◌≤◌, nat_lt, if◌then◌else◌, List, [], ◌∷◌, ◌++◌, map, length, slice_index}
 use Rattle.std.specs.List.{Contains, AllPairs}
-use Rattle.hz_acceptance_model.specs.Accepting.Events.{Event, issue, advance}
+use Rattle.hz_pipeline_model.specs.Accepting.Events.{Event, issue, advance}
 use Rattle.hz_block_model.specs.Dependences.Graphs.{Edge}
 use Rattle.hz_block_model.specs.Dependences.Orders.{IsOrder}
 

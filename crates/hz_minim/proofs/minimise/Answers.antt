@@ -1,7 +1,7 @@
 use Rattle.std.proofs.Common.{subst, sym}
 use Rattle.std.proofs.lemmas.Result.{IfOk-weaker}
-use Rattle.hz_automata_model.specs.Tables.Apart.{WalkTheSame}
-use Rattle.hz_automata_model.specs.Least.Normal.{IsNormal}
+use Rattle.hz_pipeline_model.specs.Tables.Apart.{WalkTheSame}
+use Rattle.hz_pipeline_model.specs.Least.Normal.{IsNormal}
 use Rattle.hz_minim.specs.Leading.{IsSettled}
 use Rattle.hz_minim.specs.Folding.{IsFolded}
 use Rattle.hz_minim.proofs.WalkLaws.{folded_walks, folded_normal}

@@ -2,7 +2,7 @@
 
 ghost use Rattle.std.specs.Prelude.{◌≡◌, ◌≤◌, ◌∷◌, [], length, IfOk};
 ghost use Rattle.hz_depend.specs.GraphShape.{IsSchedulable};
-ghost use Rattle.hz_automata_model.specs.Tables.Machines.{IsPart};
+ghost use Rattle.hz_pipeline_model.specs.Tables.Machines.{IsPart};
 ghost use Rattle.hz_tables.specs.Machines.{machine_of};
 ghost use Rattle.hz_tables.specs.Parts.{part_of};
 ghost use Rattle.hz_block_model.specs.Scheduling.Machines.{Settles};

@@ -2,7 +2,7 @@
 
 ghost use Rattle.std.specs.Prelude.{◌≡◌, ◌≤◌, ◌++◌, IfOk, length};
 ghost use Rattle.hz_base_model.specs.Limits.{class_limit, unit_limit};
-ghost use Rattle.hz_automata_model.specs.Tables.StateLimits.{state_limit};
+ghost use Rattle.hz_pipeline_model.specs.Tables.StateLimits.{state_limit};
 ghost use Rattle.hz_tabtext_model.specs.Lines as model;
 ghost use Rattle.hz_tabfile.specs.Judged.{Judges};
 ghost use Rattle.hz_tabfile.specs.Heads.{head_said};

@@ -3,7 +3,7 @@
 ghost use Rattle.std.specs.Prelude.{◌≡◌, ◌<◌, ◌^◌, Ok, Err, length, map, All, IfOk, IfSome, MatchOption};
 ghost use Rattle.std.specs.Bool.{OnTrue};
 ghost use Rattle.std.specs.Str.{bytes_eq};
-ghost use Rattle.hz_automata_model.specs.Tables.Machines as machines;
+ghost use Rattle.hz_pipeline_model.specs.Tables.Machines as machines;
 ghost use Rattle.hz_tables.specs.Machines.{machine_of};
 ghost use Rattle.hz_tables.specs.Parts.{part_of, IsLeastWidth};
 ghost use Rattle.hz_tabtext_model.specs.Texts.{TableText};

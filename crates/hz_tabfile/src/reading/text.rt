@@ -2,7 +2,7 @@
 
 ghost use Rattle.std.specs.Prelude.{◌≡◌, ◌+◌, ◌<◌, ◌≤◌, ◌++◌, [], length, map, All, IfOk};
 ghost use Rattle.hz_base_model.specs.Limits.{class_limit, unit_limit};
-ghost use Rattle.hz_automata_model.specs.Tables.StateLimits.{state_limit};
+ghost use Rattle.hz_pipeline_model.specs.Tables.StateLimits.{state_limit};
 ghost use Rattle.hz_tables.specs.Parts.{part_of, IsLeastWidth};
 ghost use Rattle.hz_tabtext_model.specs.Reading as model;
 ghost use Rattle.hz_tabfile.specs.Given.{Gives};

@@ -2,7 +2,7 @@
 
 ghost use Rattle.std.specs.Prelude.{◌≡◌, ◌≤◌, ◌<◌, ◌++◌, length, IfOk};
 ghost use Rattle.hz_base_model.specs.Limits.{class_limit, unit_limit};
-ghost use Rattle.hz_automata_model.specs.Tables.StateLimits.{state_limit};
+ghost use Rattle.hz_pipeline_model.specs.Tables.StateLimits.{state_limit};
 ghost use Rattle.hz_tabtext_model.specs.Reading.{line_by};
 ghost use Rattle.hz_tabtext_model.specs.Lines as model;
 ghost use Rattle.hz_tabfile.specs.Given.{Gives};

@@ -7,7 +7,7 @@ ghost use Rattle.hz_check.specs.declared.checked.Checked.{Checked};
 ghost use Rattle.hz_tables.specs.Machines.{machine_of};
 ghost use Rattle.hz_auto.specs.declared.compiled.Compiled.{Compiled};
 ghost use Rattle.hz_auto.specs.Machines.{reports_of};
-ghost use Rattle.hz_automata_model.specs.Compiling.Compiled.{IsCompiled};
+ghost use Rattle.hz_pipeline_model.specs.Compiling.Compiled.{IsCompiled};
 ghost use Rattle.hz_tabfile.specs.Saying.{IsSayable};
 
 /// What is compiled of a checked description can be written beside it.

@@ -4,8 +4,8 @@ ghost use Rattle.std.specs.Prelude.{◌≡◌, ◌-◌, ◌^◌, ◌<◌, ◌≤
 ghost use Rattle.std.specs.List.{flat_map, enumerate_from};
 ghost use Rattle.std.specs.Option.{option_map};
 ghost use Rattle.hz_base_model.specs.Limits.{class_limit};
-ghost use Rattle.hz_automata_model.specs.Tables.Tables.{IsTable};
-ghost use Rattle.hz_automata_model.specs.Tables.Machines.{advance_of};
+ghost use Rattle.hz_pipeline_model.specs.Tables.Tables.{IsTable};
+ghost use Rattle.hz_pipeline_model.specs.Tables.Machines.{advance_of};
 ghost use Rattle.hz_tables.specs.Parts.{part_of};
 ghost use Rattle.hz_tables.specs.Machines.{machine_of};
 ghost use Rattle.hz_check.specs.Shape.{automaton_of};

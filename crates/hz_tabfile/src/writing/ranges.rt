@@ -3,14 +3,14 @@
 ghost use Rattle.std.specs.Prelude.{◌≤◌, IsTrue, All, length, map};
 ghost use Rattle.std.specs.Option.{ForSome};
 ghost use Rattle.hz_base_model.specs.Names.{is_name};
-ghost use Rattle.hz_automata_model.specs.Tables.StateLimits.{state_limit};
+ghost use Rattle.hz_pipeline_model.specs.Tables.StateLimits.{state_limit};
 ghost use Rattle.hz_tables.specs.Parts.{rows_of};
 ghost use Rattle.hz_tables.specs.Machines.{machine_of};
 ghost use Rattle.hz_check.specs.Shape.{automaton_of};
 ghost use Rattle.hz_auto.specs.Reports.{shown_of, report_of};
 ghost use Rattle.hz_auto.specs.Machines.{reports_of};
 ghost use Rattle.hz_grid.specs.Grids.{IsGrid};
-ghost use Rattle.hz_automata_model.specs.Single.Told.{ListsAscending};
+ghost use Rattle.hz_pipeline_model.specs.Single.Told.{ListsAscending};
 ghost use Rattle.hz_tabtext_model.specs.Texts.{AreCounts};
 ghost use Rattle.hz_tabtext_model.specs.Said.{counts_said, IsInRange};
 

@@ -3,9 +3,9 @@
 ghost use Rattle.std.specs.Prelude.{◌≡◌, ◌-◌, ◌^◌, ◌<◌, ◌≤◌, map, length};
 ghost use Rattle.std.specs.List.{flat_map, enumerate_from};
 ghost use Rattle.std.specs.Option.{option_map};
-ghost use Rattle.hz_automata_model.specs.Tables.AskColumns.{column_limit};
-ghost use Rattle.hz_automata_model.specs.Tables.Tables.{IsTable, row_of};
-ghost use Rattle.hz_automata_model.specs.Tables.Machines.{advance_of};
+ghost use Rattle.hz_pipeline_model.specs.Tables.AskColumns.{column_limit};
+ghost use Rattle.hz_pipeline_model.specs.Tables.Tables.{IsTable, row_of};
+ghost use Rattle.hz_pipeline_model.specs.Tables.Machines.{advance_of};
 ghost use Rattle.hz_tables.specs.Parts.{rows_of, columns_of, part_of};
 ghost use Rattle.hz_tabtext_model.specs.Texts.{line_text, entry_field, entries_line, row_lines};
 ghost use Rattle.hz_tabtext_model.specs.Said.{row_said};

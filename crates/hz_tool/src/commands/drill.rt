@@ -1,17 +1,17 @@
 //! The phases of `drill`, in their order: the description, its machine, and the trace that is drawn over it.
 
 ghost use Rattle.std.specs.Prelude.{◌≡◌, ◌<◌, ◌^◌, IfOk, Some, length};
-ghost use Rattle.hz_acceptance_model.specs.Accepting.Events.{issues_of};
+ghost use Rattle.hz_pipeline_model.specs.Accepting.Events.{issues_of};
 ghost use Rattle.hz_answer_model.specs.Answers.{DrillsDescription, HasDescription};
 ghost use Rattle.hz_answer_model.specs.DrillAnswers.{Drills};
 ghost use Rattle.hz_check.specs.Checked.{IsCheckedOf};
-ghost use Rattle.hz_acceptance_model.specs.Traces.Drills.{Drawn};
+ghost use Rattle.hz_pipeline_model.specs.Traces.Drills.{Drawn};
 ghost use Rattle.hz_description_model.specs.Reading.Descriptions.{Description};
 ghost use Rattle.hz_replay.specs.Lines.{event_of};
 ghost use Rattle.hz_replay.specs.Replaying.{issues_in};
 ghost use Rattle.hz_replay.specs.Traces.{events_in};
 ghost use Rattle.hz_tables.specs.Machines.{machine_of};
-ghost use Rattle.hz_automata_model.specs.Tables.Machines.{machine_walk, IsWalked};
+ghost use Rattle.hz_pipeline_model.specs.Tables.Machines.{machine_walk, IsWalked};
 ghost use Rattle.hz_tool.specs.Compiled.{IsCompiledBy};
 ghost use Rattle.hz_tool.specs.Decisions.{Agrees, IsJudged};
 

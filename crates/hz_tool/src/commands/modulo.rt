@@ -4,15 +4,15 @@
 ghost use Rattle.std.specs.Prelude.{◌≡◌, ◌<◌, ◌≤◌, ◌^◌, List, length, map, nat_lt};
 ghost use Rattle.hz_answer_model.specs.Answers.{OverlapsByDescription, HasDescription};
 ghost use Rattle.hz_answer_model.specs.ModuloAnswers.{Overlaps, OverlapsBody};
-ghost use Rattle.hz_automata_model.specs.Compiling.Compiled.{IsCompiled, Report as Told};
-ghost use Rattle.hz_automata_model.specs.Tables.Machines.{IsMachine};
+ghost use Rattle.hz_pipeline_model.specs.Compiling.Compiled.{IsCompiled, Report as Told};
+ghost use Rattle.hz_pipeline_model.specs.Tables.Machines.{IsMachine};
 ghost use Rattle.hz_block_model.specs.Running.Limits.{instruction_limit};
 ghost use Rattle.hz_block_model.specs.Scheduling.Machines.{Settles};
 ghost use Rattle.hz_check.specs.Checked.{IsCheckedOf};
 ghost use Rattle.hz_depend.specs.GraphShape.{IsGraphOf, IsSchedulable};
 ghost use Rattle.hz_description_model.specs.Check.CheckedParts.{automata_of, class_parts};
 ghost use Rattle.hz_description_model.specs.Reading.Descriptions.{Description};
-ghost use Rattle.hz_modulo_model.specs.Repeats.{body_limit};
+ghost use Rattle.hz_measure_model.specs.Kernels.Repeats.{body_limit};
 ghost use Rattle.hz_rtl.specs.Shape.{instructions};
 ghost use Rattle.hz_tables.specs.Machines.{machine_of};
 ghost use Rattle.hz_tool.specs.Decisions.{Agrees, IsJudged};

@@ -1,12 +1,12 @@
 //! The phases of `replay`, in their order: the description, its machine, the trace and its replay.
 
 ghost use Rattle.std.specs.Prelude.{◌≡◌, ◌<◌, ◌≤◌, ◌^◌, length, All};
-ghost use Rattle.hz_acceptance_model.specs.Traces.TraceLimits.{advance_limit};
-ghost use Rattle.hz_acceptance_model.specs.Accepting.Asking.{IsOfQuery};
-ghost use Rattle.hz_acceptance_model.specs.Accepting.Events.{cycles_of, IsOfClass};
+ghost use Rattle.hz_pipeline_model.specs.Traces.TraceLimits.{advance_limit};
+ghost use Rattle.hz_pipeline_model.specs.Accepting.Asking.{IsOfQuery};
+ghost use Rattle.hz_pipeline_model.specs.Accepting.Events.{cycles_of, IsOfClass};
 ghost use Rattle.hz_answer_model.specs.Answers.{ReplaysDescription, Judges};
 ghost use Rattle.hz_answer_model.specs.TableAnswers.{WalksTrace};
-ghost use Rattle.hz_automata_model.specs.Tables.MachineNames.{names_of_machine};
+ghost use Rattle.hz_pipeline_model.specs.Tables.MachineNames.{names_of_machine};
 ghost use Rattle.hz_check.specs.Checked.{IsCheckedOf};
 ghost use Rattle.hz_description_model.specs.Reading.Descriptions.{Description};
 ghost use Rattle.hz_replay.specs.Replaying.{IsOutcome};

@@ -2,7 +2,7 @@
 
 ghost use Rattle.std.specs.Prelude.{◌≡◌, ◌⊎◌, ◌-◌, ◌^◌, ◌<◌, ◌≤◌, IfErr, IfOk, Contains, None, All, length, map, vec_len};
 ghost use Rattle.std.specs.Option.{ForSome};
-ghost use Rattle.hz_acceptance_model.specs.Traces.TraceLimits.{trace_limit};
+ghost use Rattle.hz_pipeline_model.specs.Traces.TraceLimits.{trace_limit};
 ghost use Rattle.hz_answer_model.specs.BlockAnswers.{block_limit, state_text_limit};
 ghost use Rattle.hz_answer_model.specs.TableAnswers.{tables_limit};
 ghost use Rattle.hz_description_model.specs.Reading.Limits.{description_limit};

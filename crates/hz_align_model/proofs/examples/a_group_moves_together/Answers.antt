@@ -1,5 +1,5 @@
 use Rattle.std.proofs.Common.{refl}
-use Rattle.hz_acceptance_model.proofs.Accepting.Rows.{first_refused}
+use Rattle.hz_pipeline_model.proofs.Accepting.Rows.{first_refused}
 use Rattle.hz_align_model.proofs.WrongMoves.{together_may}
 use Rattle.hz_align_model.proofs.examples.a_group_moves_together.Goals as goal
 

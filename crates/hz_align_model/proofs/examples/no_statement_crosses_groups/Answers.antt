@@ -1,5 +1,5 @@
 use Rattle.std.proofs.Common.{refl}
-use Rattle.hz_acceptance_model.proofs.Accepting.Rows.{accepted, first_refused}
+use Rattle.hz_pipeline_model.proofs.Accepting.Rows.{accepted, first_refused}
 use Rattle.hz_align_model.proofs.WrongMoves.{crossed_may_not}
 use Rattle.hz_align_model.proofs.examples.no_statement_crosses_groups.Goals as goal
 

@@ -1,5 +1,5 @@
 use Rattle.std.proofs.Common.{refl}
-use Rattle.hz_acceptance_model.proofs.Accepting.Rows.{accepted, first_refused}
+use Rattle.hz_pipeline_model.proofs.Accepting.Rows.{accepted, first_refused}
 use Rattle.hz_align_model.proofs.WrongMoves.{alone_may_not}
 use Rattle.hz_align_model.proofs.examples.no_unit_leaves_its_group.Goals as goal
 

@@ -1,5 +1,5 @@
 use Rattle.std.specs.Prelude.{◌==◌}
-use Rattle.hz_acceptance_model.proofs.Accepting.Rows.{numbers_tell}
+use Rattle.hz_pipeline_model.proofs.Accepting.Rows.{numbers_tell}
 use Rattle.hz_answer_laws.proofs.Leaving.CountsTold.{counts_told}
 use Rattle.hz_answer_laws.proofs.leaving_laws.every_count_of_an_automaton_is_told.Goals as goal
 

@@ -1,5 +1,5 @@
 use Rattle.std.specs.Prelude.{◌==◌}
-use Rattle.hz_acceptance_model.proofs.Accepting.Rows.{numbers_tell, same_unit, places_tell}
+use Rattle.hz_pipeline_model.proofs.Accepting.Rows.{numbers_tell, same_unit, places_tell}
 use Rattle.hz_answer_laws.proofs.Leaving.ListingLaws.{left_listed}
 use Rattle.hz_answer_laws.proofs.leaving_laws.what_automata_leave_can_be_listed.Goals as goal
 

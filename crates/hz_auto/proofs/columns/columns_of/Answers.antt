@@ -1,7 +1,7 @@
 use Rattle.std.proofs.Common.{◌<◌, ◌++◌, ◌∷◌, [], length, map, take, sym, ap, ◌∙◌, subst, arith}
 use Rattle.std.proofs.lemmas.List.{length_push, length-take-le}
-use Rattle.hz_automata_model.specs.Compiling.AutomatonPipelines.{lists_at}
-use Rattle.hz_automata_model.specs.Compiling.ClassColumns.{IsColumns}
+use Rattle.hz_pipeline_model.specs.Compiling.AutomatonPipelines.{lists_at}
+use Rattle.hz_pipeline_model.specs.Compiling.ClassColumns.{IsColumns}
 use Rattle.hz_check.specs.declared.checked.CheckedClass.{CheckedClass}
 use Rattle.hz_check.specs.Shape.{class_of}
 use Rattle.hz_auto.proofs.CheckedFacts.{lists_more, list_held, lists_count}

@@ -1,6 +1,6 @@
 use Rattle.std.proofs.Common.{take, map}
-use Rattle.hz_automata_model.specs.Compiling.AutomatonPipelines.{lists_at}
-use Rattle.hz_automata_model.specs.Compiling.ClassColumns.{IsColumns}
+use Rattle.hz_pipeline_model.specs.Compiling.AutomatonPipelines.{lists_at}
+use Rattle.hz_pipeline_model.specs.Compiling.ClassColumns.{IsColumns}
 use Rattle.hz_check.specs.Shape.{class_of}
 use Rattle.hz_auto.proofs.columns.columns_of.Given as goal
 

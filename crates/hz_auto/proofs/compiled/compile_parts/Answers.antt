@@ -1,6 +1,6 @@
 use Rattle.std.proofs.Common.{rules, All, length, sym, subst, arith}
 use Rattle.std.proofs.lemmas.List.Elements.{All-push}
-use Rattle.hz_automata_model.specs.Tables.Machines.{IsPart}
+use Rattle.hz_pipeline_model.specs.Tables.Machines.{IsPart}
 use Rattle.hz_tables.specs.Parts.{part_of}
 use Rattle.hz_auto.specs.Parts.{IsKept}
 use Rattle.hz_auto.proofs.MachineLemmas.{fault_told, compiled_more, asks_told}

@@ -1,5 +1,5 @@
 use Rattle.std.proofs.Common.{All, length}
-use Rattle.hz_automata_model.specs.Tables.Machines.{IsPart}
+use Rattle.hz_pipeline_model.specs.Tables.Machines.{IsPart}
 use Rattle.hz_tables.specs.Parts.{part_of}
 use Rattle.hz_auto.specs.Parts.{IsKept}
 use Rattle.hz_auto.specs.Machines.{AreCompiled}

@@ -2,7 +2,7 @@ use Rattle.std.proofs.Common.{◌≤◌, ◌<◌, length, All, sym, ap, ◌∙�
 use Rattle.std.proofs.lemmas.Result.{IfErr-weaker}
 use Rattle.std.specs.Prelude.{IfOk, if◌then◌else◌}
 use Rattle.hz_base_model.specs.Limits.{class_limit}
-use Rattle.hz_acceptance_model.specs.Accepting.Replay.{first_fit, any_fit}
+use Rattle.hz_pipeline_model.specs.Accepting.Replay.{first_fit, any_fit}
 use Rattle.hz_unitsets.specs.SetRules.{IsInRange}
 use Rattle.hz_determ.specs.Explored.{IsBuilt, AreWithin, PassesCap}
 use Rattle.hz_determ.specs.Spaces.{pipeline_of, lists_of}

@@ -2,7 +2,7 @@ use Rattle.std.proofs.Common.{length, map, sym, subst}
 use Rattle.hz_mdread.specs.Shape.{options as options_of}
 use Rattle.hz_check.specs.Shape.{automaton_of, class_of}
 use Rattle.hz_auto.specs.Parts.{found_part_of}
-use Rattle.hz_automata_model.specs.Compiling.Compiled.{IsCompiledPart}
+use Rattle.hz_pipeline_model.specs.Compiling.Compiled.{IsCompiledPart}
 use Rattle.hz_auto.specs.Reports.{report_of}
 use Rattle.hz_auto.proofs.LeastLemmas.{least_compiled, least_kept}
 use Rattle.hz_auto.proofs.part.minimised.Goals as goal

@@ -4,7 +4,7 @@ use Rattle.std.proofs.lemmas.List.Elements.{All-push, All-get_or}
 use Rattle.std.proofs.lemmas.List.Sorted.{All-permutation}
 use Rattle.std.specs.Prelude.{IsPermutation}
 use Rattle.hz_grid.specs.Grids.{IsGrid}
-use Rattle.hz_automata_model.specs.Reaching.Built.{grid_at}
+use Rattle.hz_pipeline_model.specs.Reaching.Built.{grid_at}
 use Rattle.hz_auto.proofs.ReportLemmas.{copied_more}
 use Rattle.hz_auto.proofs.report.arranged.Goals as goal
 

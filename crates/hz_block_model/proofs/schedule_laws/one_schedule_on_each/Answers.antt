@@ -1,7 +1,7 @@
-use Rattle.hz_acceptance_model.specs.Accepting.Replay.{Accepted}
+use Rattle.hz_pipeline_model.specs.Accepting.Replay.{Accepted}
 use Rattle.hz_block_model.proofs.Scheduling.OneSchedule.{one_schedule}
 use Rattle.hz_block_model.proofs.schedule_laws.one_schedule_on_each.Goals as goal
-use Rattle.hz_automata_model.specs.Tables.Machines.{IsWalked}
+use Rattle.hz_pipeline_model.specs.Tables.Machines.{IsWalked}
 
 pub returns-clause-machine : goal.returns-clause-machine
 returns-clause-machine g c = λ m graph s t legal greedy lawful eager. one_schedule (IsWalked m) graph s t legal greedy lawful eager

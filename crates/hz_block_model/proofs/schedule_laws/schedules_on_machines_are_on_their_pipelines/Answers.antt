@@ -1,7 +1,7 @@
-use Rattle.hz_acceptance_model.specs.Accepting.Replay.{Accepted}
+use Rattle.hz_pipeline_model.specs.Accepting.Replay.{Accepted}
 use Rattle.hz_block_model.proofs.Scheduling.SameSchedules.{legal_there, greedy_there}
 use Rattle.hz_block_model.proofs.schedule_laws.schedules_on_machines_are_on_their_pipelines.Goals as goal
-use Rattle.hz_automata_model.specs.Tables.Machines.{IsWalked}
+use Rattle.hz_pipeline_model.specs.Tables.Machines.{IsWalked}
 
 pub returns-clause-legal : goal.returns-clause-legal
 returns-clause-legal g c = λ m p classes agree graph ranges slots. (

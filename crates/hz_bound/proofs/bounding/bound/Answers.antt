@@ -1,8 +1,8 @@
 use Rattle.std.proofs.Common.{◌≡◌, List, map, subst}
 use Rattle.std.specs.Option.{option_map}
 use Rattle.hz_depend.specs.declared.parts.GraphInsn.{GraphInsn}
-use Rattle.hz_bound_model.specs.Loads.{ways_by}
-use Rattle.hz_bound_model.specs.Bounds.{units_from, loads_of, heaviest}
+use Rattle.hz_measure_model.specs.Bounds.Loads.{ways_by}
+use Rattle.hz_measure_model.specs.Bounds.Bounds.{units_from, loads_of, heaviest}
 use Rattle.hz_bound.specs.declared.parts.Bound.{Bound}
 use Rattle.hz_bound.specs.Shape.{names_of, lists_in, load_of}
 use Rattle.hz_bound.proofs.BoundLemmas.{bound_is, in_range}

@@ -1,6 +1,6 @@
 use Rattle.std.proofs.Common.{map, rules}
 use Rattle.std.specs.Option.{option_map}
-use Rattle.hz_bound_model.specs.Loads.{ways_by}
+use Rattle.hz_measure_model.specs.Bounds.Loads.{ways_by}
 use Rattle.hz_bound.specs.Shape.{lists_in, load_of}
 use Rattle.hz_bound.proofs.HeaviestLemmas.{unit_more}
 use Rattle.hz_bound.proofs.ClassLemmas.{unit_told}

@@ -1,7 +1,7 @@
 use Rattle.std.proofs.Common.{◌≡◌, map}
 use Rattle.std.specs.Option.{option_map}
-use Rattle.hz_bound_model.specs.Bounds.{units_of, loads_of, heavier, heaviest}
-use Rattle.hz_bound_model.specs.Loads.{ways_by}
+use Rattle.hz_measure_model.specs.Bounds.Bounds.{units_of, loads_of, heavier, heaviest}
+use Rattle.hz_measure_model.specs.Bounds.Loads.{ways_by}
 use Rattle.hz_bound.specs.Shape.{lists_in, load_of}
 use Rattle.hz_bound.proofs.HeaviestLemmas.{from_unit}
 use Rattle.hz_bound.proofs.heaviest.heaviest_in.Given as goal

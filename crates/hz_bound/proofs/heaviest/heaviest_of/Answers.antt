@@ -1,7 +1,7 @@
 use Rattle.std.proofs.Common.{map, refl, arith}
 use Rattle.std.specs.Option.{option_map}
 use Rattle.std.proofs.lemmas.List.{drop_all}
-use Rattle.hz_bound_model.specs.Loads.{ways_by}
+use Rattle.hz_measure_model.specs.Bounds.Loads.{ways_by}
 use Rattle.hz_bound.specs.Shape.{names_of, lists_in, load_of}
 use Rattle.hz_bound.proofs.HeaviestLemmas.{automaton_more, no_more_automata, names_long}
 use Rattle.hz_bound.proofs.heaviest.heaviest_of.Goals as goal

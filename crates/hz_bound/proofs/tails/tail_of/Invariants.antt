@@ -1,6 +1,6 @@
 use Rattle.std.proofs.Common.{◌≡◌, map, drop}
 use Rattle.std.specs.Prelude.{max}
-use Rattle.hz_bound_model.specs.Paths.{greatest}
+use Rattle.hz_measure_model.specs.Bounds.Paths.{greatest}
 use Rattle.hz_bound.specs.Rows.{sum_of}
 use Rattle.hz_bound.proofs.tails.tail_of.Given as goal
 

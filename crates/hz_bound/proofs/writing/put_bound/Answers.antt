@@ -2,7 +2,7 @@ use Rattle.std.proofs.Common.{ℕ, ◌<◌, ◌++◌, List, length, map, slice_i
 use Rattle.std.specs.Option.{option_map}
 use Rattle.hz_io.specs.Sink.{Wrote, Cut}
 use Rattle.hz_io.proofs.Writing.{cut_before, writes_then}
-use Rattle.hz_bound_model.specs.Texts.{path_line, heaviest_line, bound_line, cycles_line}
+use Rattle.hz_measure_model.specs.Bounds.Texts.{path_line, heaviest_line, bound_line, cycles_line}
 use Rattle.hz_bound.specs.Shape.{names_of, load_of}
 use Rattle.hz_bound.proofs.writing.put_bound.Goals as goal
 

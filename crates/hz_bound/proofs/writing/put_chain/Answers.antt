@@ -2,7 +2,7 @@ use Rattle.std.proofs.Common.{ℕ, List, map, slice_index, codes, sym, subst}
 use Rattle.std.proofs.lemmas.List.Folds.{flat_map-map}
 use Rattle.hz_io.specs.Sink.{Wrote, Cut}
 use Rattle.hz_io.proofs.Writing.{cut_before, writes_then}
-use Rattle.hz_bound_model.specs.Texts.{number_field}
+use Rattle.hz_measure_model.specs.Bounds.Texts.{number_field}
 use Rattle.hz_bound.proofs.writing.put_chain.Goals as goal
 
 pub returns-in-Ok : goal.returns-in-Ok

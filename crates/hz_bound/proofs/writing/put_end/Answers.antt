@@ -1,4 +1,4 @@
-use Rattle.hz_bound_model.specs.Texts.{cycles_line}
+use Rattle.hz_measure_model.specs.Bounds.Texts.{cycles_line}
 use Rattle.hz_io.proofs.Writing.{cut_before, writes_then}
 use Rattle.hz_bound.proofs.writing.put_end.Goals as goal
 

@@ -2,7 +2,7 @@ use Rattle.std.proofs.Common.{ℕ, ◌+◌, ◌<◌, List, length, map, drop, sl
 use Rattle.std.specs.List.{flat_map}
 use Rattle.hz_io.specs.Sink.{Wrote, Cut}
 use Rattle.hz_io.proofs.Writing.{wrote_then, wrote_then_cut, cut_before}
-use Rattle.hz_bound_model.specs.Texts.{number_field}
+use Rattle.hz_measure_model.specs.Bounds.Texts.{number_field}
 use Rattle.hz_io.proofs.PieceTexts.{lines_more, lines_parts}
 use Rattle.hz_bound.proofs.writing.put_numbers.Goals as goal
 

@@ -1,7 +1,7 @@
 use Rattle.std.proofs.Common.{map, take, slice_index}
 use Rattle.std.specs.List.{flat_map}
 use Rattle.hz_io.specs.Sink.{Wrote}
-use Rattle.hz_bound_model.specs.Texts.{number_field}
+use Rattle.hz_measure_model.specs.Bounds.Texts.{number_field}
 use Rattle.hz_bound.proofs.writing.put_numbers.Given as goal
 
 -- the numbers so far

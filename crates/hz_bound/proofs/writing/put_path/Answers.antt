@@ -1,7 +1,7 @@
 use Rattle.std.proofs.Common.{◌++◌, map, slice_index, codes}
 use Rattle.std.specs.List.{flat_map}
 use Rattle.hz_io.proofs.Writing.{cut_before, writes_then}
-use Rattle.hz_bound_model.specs.Texts.{number_field}
+use Rattle.hz_measure_model.specs.Bounds.Texts.{number_field}
 use Rattle.hz_bound.proofs.writing.put_path.Goals as goal
 
 pub returns-in-Ok : goal.returns-in-Ok

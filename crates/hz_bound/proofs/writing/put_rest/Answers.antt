@@ -1,5 +1,5 @@
 use Rattle.std.proofs.Common.{◌++◌}
-use Rattle.hz_bound_model.specs.Texts.{bound_line, cycles_line}
+use Rattle.hz_measure_model.specs.Bounds.Texts.{bound_line, cycles_line}
 use Rattle.hz_io.proofs.Writing.{cut_before, writes_then}
 use Rattle.hz_bound.proofs.writing.put_rest.Goals as goal
 

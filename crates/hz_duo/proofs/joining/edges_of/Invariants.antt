@@ -1,5 +1,5 @@
 use Rattle.std.proofs.Common.{◌≡◌, ◌++◌, take, map}
-use Rattle.hz_duo_model.specs.Joining as model
+use Rattle.hz_measure_model.specs.TwoContexts.Joining as model
 use Rattle.hz_depend.specs.GraphShape.{edge_of}
 use Rattle.hz_duo.proofs.joining.edges_of.Given as goal
 

@@ -1,6 +1,6 @@
 use Rattle.std.proofs.Common.{◌≡◌, take, map}
 use Rattle.hz_sched.specs.Shape.{slots_of}
-use Rattle.hz_duo_model.specs.Joining as model
+use Rattle.hz_measure_model.specs.TwoContexts.Joining as model
 use Rattle.hz_duo.specs.Shape.{context_slot}
 use Rattle.hz_duo.proofs.pairing.in_contexts.Given as goal
 

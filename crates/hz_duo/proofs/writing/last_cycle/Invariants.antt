@@ -1,5 +1,5 @@
 use Rattle.std.proofs.Common.{◌≡◌, drop, map}
-use Rattle.hz_duo_model.specs.Texts as model
+use Rattle.hz_measure_model.specs.TwoContexts.Texts as model
 use Rattle.hz_duo.specs.Shape.{context_slot}
 use Rattle.hz_duo.proofs.writing.last_cycle.Given as goal
 

@@ -1,4 +1,4 @@
-use Rattle.hz_duo_model.specs.Texts.{alone_line}
+use Rattle.hz_measure_model.specs.TwoContexts.Texts.{alone_line}
 use Rattle.hz_io.proofs.Writing.{cut_before, writes_then}
 use Rattle.hz_duo.proofs.writing.put_end.Goals as goal
 

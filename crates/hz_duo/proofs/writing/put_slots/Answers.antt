@@ -3,7 +3,7 @@ use Rattle.std.specs.List.{flat_map}
 use Rattle.hz_io.specs.Sink.{Wrote, Cut}
 use Rattle.hz_io.proofs.Writing.{wrote_then, wrote_then_cut, cut_before}
 use Rattle.hz_io.proofs.PieceTexts.{lines_more, lines_parts}
-use Rattle.hz_duo_model.specs.Texts.{line_of_either}
+use Rattle.hz_measure_model.specs.TwoContexts.Texts.{line_of_either}
 use Rattle.hz_sched.specs.Shape.{graph_of}
 use Rattle.hz_duo.specs.declared.parts.DuoSlot.{DuoSlot}
 use Rattle.hz_duo.specs.Shape.{context_slot}

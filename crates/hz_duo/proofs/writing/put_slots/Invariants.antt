@@ -1,7 +1,7 @@
 use Rattle.std.proofs.Common.{map, take}
 use Rattle.std.specs.List.{flat_map}
 use Rattle.hz_io.specs.Sink.{Wrote}
-use Rattle.hz_duo_model.specs.Texts.{line_of_either}
+use Rattle.hz_measure_model.specs.TwoContexts.Texts.{line_of_either}
 use Rattle.hz_sched.specs.Shape.{graph_of}
 use Rattle.hz_duo.specs.Shape.{context_slot}
 use Rattle.hz_duo.proofs.writing.put_slots.Given as goal

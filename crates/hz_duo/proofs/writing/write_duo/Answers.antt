@@ -2,8 +2,8 @@ use Rattle.std.proofs.Common.{ℕ, ◌++◌, List, length, map, sym, subst}
 use Rattle.std.proofs.lemmas.List.Folds.{flat_map-map}
 use Rattle.hz_io.specs.Sink.{Wrote, Cut, Writes}
 use Rattle.hz_io.proofs.Writing.{cut_before, writes_then}
-use Rattle.hz_duo_model.specs.Joining.{ContextSlot}
-use Rattle.hz_duo_model.specs.Texts.{line_of_either, together_line, alone_line, last_cycle}
+use Rattle.hz_measure_model.specs.TwoContexts.Joining.{ContextSlot}
+use Rattle.hz_measure_model.specs.TwoContexts.Texts.{line_of_either, together_line, alone_line, last_cycle}
 use Rattle.hz_sched.specs.Shape.{graph_of}
 use Rattle.hz_duo.specs.Shape.{context_slot}
 use Rattle.hz_duo.proofs.writing.write_duo.Goals as goal

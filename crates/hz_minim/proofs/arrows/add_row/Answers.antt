@@ -1,7 +1,7 @@
 use Rattle.std.proofs.Common.{◌≡◌, ◌+◌, Some, sym, subst, arith}
 use Rattle.std.specs.declared.alloc.Global.{Global}
 use Rattle.std.specs.declared.vec.Vec.{Vec}
-use Rattle.hz_automata_model.specs.Tables.Tables.{entry}
+use Rattle.hz_pipeline_model.specs.Tables.Tables.{entry}
 use Rattle.hz_minim.specs.declared.arrows.Arrow.{Arrow}
 use Rattle.hz_minim.specs.Arrows.{HasRead}
 use Rattle.hz_minim.specs.Lists.{lists_of}

@@ -1,5 +1,5 @@
 use Rattle.std.proofs.Common.{ℕ, ◌+◌, ◌<◌, All, length, sym, subst, arith, vec_len}
-use Rattle.hz_automata_model.specs.Least.Blocks.{block_limit}
+use Rattle.hz_pipeline_model.specs.Least.Blocks.{block_limit}
 use Rattle.hz_minim.specs.declared.marks.Marks.{Marks}
 use Rattle.hz_minim.specs.declared.partition.Partition.{Partition}
 use Rattle.hz_minim.specs.Arrows.{AreWithin}

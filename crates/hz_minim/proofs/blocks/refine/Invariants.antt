@@ -1,5 +1,5 @@
 use Rattle.std.proofs.Common.{◌≡◌, ◌+◌, length, vec_len}
-use Rattle.hz_automata_model.specs.Least.Blocks.{KeepsApart}
+use Rattle.hz_pipeline_model.specs.Least.Blocks.{KeepsApart}
 use Rattle.hz_minim.specs.Kept.{IsKept}
 use Rattle.hz_minim.proofs.blocks.refine.Given as goal
 

@@ -3,7 +3,7 @@ use Rattle.std.specs.declared.alloc.Global.{Global}
 use Rattle.std.specs.declared.vec.Vec.{Vec}
 use Rattle.std.proofs.lemmas.List.{get_or_default, get_or_read, take_all}
 use Rattle.std.proofs.lemmas.List.Elements.{Contains-get_or}
-use Rattle.hz_automata_model.specs.Least.Blocks.{block_of}
+use Rattle.hz_pipeline_model.specs.Least.Blocks.{block_of}
 use Rattle.hz_minim.specs.declared.arrows.Arrow.{Arrow}
 use Rattle.hz_minim.specs.declared.partition.Partition.{Partition}
 use Rattle.hz_minim.specs.Buckets.{AddsArrows}

@@ -2,7 +2,7 @@ use Rattle.std.proofs.Common.{◌++◌, List, map, append-nil, sym, ap, ◌∙�
 use Rattle.std.specs.List.{repeat}
 use Rattle.hz_block_model.specs.Running.Blocks.{Instruction}
 use Rattle.hz_rtl.specs.Shape.{instruction, instructions}
-use Rattle.hz_modulo_model.proofs.UnrollLaws.{repeat-add}
+use Rattle.hz_measure_model.proofs.Kernels.UnrollLaws.{repeat-add}
 use Rattle.hz_modulo.proofs.copies.three_times.Goals as goal
 
 pub loop-turn-preserved : goal.loop-turn-preserved

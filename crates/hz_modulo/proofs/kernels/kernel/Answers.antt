@@ -8,7 +8,7 @@ use Rattle.hz_depend.specs.GraphShape.{edge_of}
 use Rattle.hz_sched.specs.declared.parts.Slot.{Slot}
 use Rattle.hz_sched.specs.Shape.{slots_of}
 use Rattle.hz_tables.specs.Machines.{machine_of}
-use Rattle.hz_turns.specs.Walking as turns
+use Rattle.hz_modulo.specs.Walking as turns
 use Rattle.hz_modulo.specs.Costs.{first_interval}
 use Rattle.hz_modulo.specs.Kernels.{RepeatsIn, IsFirstFrom}
 use Rattle.hz_modulo.proofs.KernelLemmas.{ok_weaker, places_within, cycles_rise, cycles_once, last_small, many_classes, long_in, first_near, kernel_is}

@@ -1,7 +1,7 @@
 use Rattle.std.proofs.Common.{◌+◌, arith}
 use Rattle.hz_sched.specs.Shape.{slots_of}
 use Rattle.hz_tables.specs.Machines.{machine_of}
-use Rattle.hz_turns.specs.Walking.{graph_of}
+use Rattle.hz_modulo.specs.Walking.{graph_of}
 use Rattle.hz_modulo.specs.Kernels.{RepeatsIn}
 use Rattle.hz_modulo.proofs.SearchLemmas.{if_none, none_yet}
 use Rattle.hz_modulo.proofs.searching.first_kernel.Goals as goal

@@ -1,5 +1,5 @@
 use Rattle.std.proofs.Common.{◌<◌, List, length, All, sym, subst}
-use Rattle.hz_turns.specs.declared.parts.KernelSlot.{KernelSlot}
+use Rattle.hz_modulo.specs.declared.parts.KernelSlot.{KernelSlot}
 use Rattle.hz_modulo.proofs.searching.kernel_at.Goals as goal
 
 pub first_repeat-requires-clause-places : goal.first_repeat-requires-clause-places

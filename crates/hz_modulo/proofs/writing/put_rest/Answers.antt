@@ -1,12 +1,12 @@
 use Rattle.std.proofs.Common.{ℕ, List, map, sym, subst}
 use Rattle.std.specs.List.{flat_map}
-use Rattle.hz_turns.specs.declared.parts.KernelSlot.{KernelSlot}
+use Rattle.hz_modulo.specs.declared.parts.KernelSlot.{KernelSlot}
 use Rattle.std.proofs.lemmas.List.Folds.{flat_map-map}
 use Rattle.hz_io.specs.Sink.{Wrote, Cut}
 use Rattle.hz_io.proofs.Writing.{cut_before, writes_then}
-use Rattle.hz_modulo_model.specs.KernelTexts.{line_of_kernel, edge_lines}
+use Rattle.hz_measure_model.specs.Kernels.KernelTexts.{line_of_kernel, edge_lines}
 use Rattle.hz_sched.specs.Shape.{graph_of}
-use Rattle.hz_turns.specs.Walking.{kernel_slot_of}
+use Rattle.hz_modulo.specs.Walking.{kernel_slot_of}
 use Rattle.hz_modulo.proofs.writing.put_rest.Goals as goal
 
 pub returns-in-Ok : goal.returns-in-Ok

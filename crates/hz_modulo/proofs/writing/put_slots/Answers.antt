@@ -3,10 +3,10 @@ use Rattle.std.specs.List.{flat_map}
 use Rattle.hz_io.specs.Sink.{Wrote, Cut}
 use Rattle.hz_io.proofs.Writing.{wrote_then, wrote_then_cut, cut_before}
 use Rattle.hz_io.proofs.PieceTexts.{lines_more, lines_parts}
-use Rattle.hz_modulo_model.specs.KernelTexts.{line_of_kernel}
+use Rattle.hz_measure_model.specs.Kernels.KernelTexts.{line_of_kernel}
 use Rattle.hz_sched.specs.Shape.{graph_of}
-use Rattle.hz_turns.specs.declared.parts.KernelSlot.{KernelSlot}
-use Rattle.hz_turns.specs.Walking.{kernel_slot_of}
+use Rattle.hz_modulo.specs.declared.parts.KernelSlot.{KernelSlot}
+use Rattle.hz_modulo.specs.Walking.{kernel_slot_of}
 use Rattle.hz_modulo.proofs.GraphLemmas.{some_slot}
 use Rattle.hz_modulo.proofs.writing.put_slots.Goals as goal
 

@@ -1,9 +1,9 @@
 use Rattle.std.proofs.Common.{map, take}
 use Rattle.std.specs.List.{flat_map}
 use Rattle.hz_io.specs.Sink.{Wrote}
-use Rattle.hz_modulo_model.specs.KernelTexts.{line_of_kernel}
+use Rattle.hz_measure_model.specs.Kernels.KernelTexts.{line_of_kernel}
 use Rattle.hz_sched.specs.Shape.{graph_of}
-use Rattle.hz_turns.specs.Walking.{kernel_slot_of}
+use Rattle.hz_modulo.specs.Walking.{kernel_slot_of}
 use Rattle.hz_modulo.proofs.writing.put_slots.Given as goal
 
 -- the lines of the slots so far

@@ -4,9 +4,9 @@ use Rattle.std.specs.List.{flat_map}
 use Rattle.hz_io.specs.Sink.{Writes}
 use Rattle.hz_io.proofs.Writing.{cut_before, writes_then}
 use Rattle.hz_block_model.specs.Scheduling.Schedules.{present}
-use Rattle.hz_modulo_model.specs.KernelTexts.{line_of_kernel, edge_lines}
+use Rattle.hz_measure_model.specs.Kernels.KernelTexts.{line_of_kernel, edge_lines}
 use Rattle.hz_sched.specs.Shape.{graph_of, slots_of}
-use Rattle.hz_turns.specs.Walking.{kernel_slot_of}
+use Rattle.hz_modulo.specs.Walking.{kernel_slot_of}
 use Rattle.hz_modulo.proofs.writing.write_kernel.Goals as goal
 
 pub returns-in-Ok : goal.returns-in-Ok

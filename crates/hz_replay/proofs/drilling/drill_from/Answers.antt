@@ -1,9 +1,9 @@
 use Rattle.std.proofs.Common.{◌≡◌, ◌+◌, ◌*◌, ◌≤◌, ◌∷◌, [], ◌++◌, ℕ, List, Option, length, refl, sym, ap, ◌∙◌, subst, arith}
 use Rattle.std.proofs.Math.Nat.{mul-add}
-use Rattle.hz_acceptance_model.specs.Accepting.Events as model
-use Rattle.hz_acceptance_model.specs.Traces.Drills.{next_number, number_after, draw, IsTurn, Drawn}
-use Rattle.hz_acceptance_model.proofs.Traces.DrillLaws.{number_more, draws_more}
-use Rattle.hz_automata_model.specs.Tables.Machines.{Machine, parts_walk}
+use Rattle.hz_pipeline_model.specs.Accepting.Events as model
+use Rattle.hz_pipeline_model.specs.Traces.Drills.{next_number, number_after, draw, IsTurn, Drawn}
+use Rattle.hz_pipeline_model.proofs.Traces.DrillLaws.{number_more, draws_more}
+use Rattle.hz_pipeline_model.specs.Tables.Machines.{Machine, parts_walk}
 use Rattle.hz_replay.specs.Drilling.{WalksFrom}
 use Rattle.hz_replay.specs.Lines.{event_of}
 use Rattle.hz_replay.specs.Traces.{events_in, lines_in}

@@ -1,7 +1,7 @@
 use Rattle.std.proofs.Common.{◌≡◌, ◌+◌, ◌*◌, ◌≤◌, length, Some}
 use Rattle.std.specs.List.{range_with_len}
-use Rattle.hz_acceptance_model.specs.Traces.Drills.{number_after, Drawn}
-use Rattle.hz_automata_model.specs.Tables.Machines.{parts_walk}
+use Rattle.hz_pipeline_model.specs.Traces.Drills.{number_after, Drawn}
+use Rattle.hz_pipeline_model.specs.Tables.Machines.{parts_walk}
 use Rattle.hz_replay.specs.Drilling.{WalksFrom}
 use Rattle.hz_replay.specs.Traces.{events_in, lines_in}
 use Rattle.hz_replay.proofs.drilling.drill_from.Given as goal

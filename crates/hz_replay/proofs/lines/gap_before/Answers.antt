@@ -1,6 +1,6 @@
 use Rattle.std.proofs.Common.{sym, ◌∙◌, arith}
 use Rattle.std.proofs.lemmas.List.Sums.{prefix_len_is}
-use Rattle.hz_acceptance_model.specs.Traces.Traces.{is_gap}
+use Rattle.hz_pipeline_model.specs.Traces.Traces.{is_gap}
 use Rattle.hz_replay.proofs.lines.gap_before.Goals as goal
 
 pub returns-then-not-is_gap-clause-count : goal.returns-then-not-is_gap-clause-count

@@ -1,6 +1,6 @@
 use Rattle.std.proofs.Common.{sym, ◌∙◌, arith}
 use Rattle.std.proofs.lemmas.List.Sums.{suffix_len_is}
-use Rattle.hz_acceptance_model.specs.Traces.Traces.{is_margin}
+use Rattle.hz_pipeline_model.specs.Traces.Traces.{is_margin}
 use Rattle.hz_replay.proofs.lines.margin_behind.Goals as goal
 
 pub returns-then-not-is_margin-clause-count : goal.returns-then-not-is_margin-clause-count

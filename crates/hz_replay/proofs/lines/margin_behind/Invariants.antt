@@ -1,5 +1,5 @@
 use Rattle.std.proofs.Common.{◌≡◌, ℕ, ◌<◌, ◌≤◌, true, get_or, length}
-use Rattle.hz_acceptance_model.specs.Traces.Traces.{is_margin}
+use Rattle.hz_pipeline_model.specs.Traces.Traces.{is_margin}
 use Rattle.hz_replay.proofs.lines.margin_behind.Given as goal
 
 -- each byte from the end on is of the margin

@@ -1,5 +1,5 @@
 use Rattle.std.proofs.Common.{◌≡◌, ℕ, ◌<◌, false, get_or}
-use Rattle.hz_acceptance_model.specs.Traces.Traces.{is_gap}
+use Rattle.hz_pipeline_model.specs.Traces.Traces.{is_gap}
 use Rattle.hz_replay.proofs.lines.word_length.Given as goal
 
 abbrev pub invariant-loop-count : goal.invariant-loop-count

@@ -1,7 +1,7 @@
 use Rattle.std.proofs.Common.{◌≡◌, ◌≢◌, ◌<◌, ◌++◌, ◌∷◌, [], ℕ, List, map, take, length, get_or, ap, sym, ◌∙◌, subst}
 use Rattle.std.specs.List.{AllPairs}
 use Rattle.std.proofs.lemmas.List.{map_push}
-use Rattle.hz_automata_model.specs.Tables.Machines.{Part}
+use Rattle.hz_pipeline_model.specs.Tables.Machines.{Part}
 use Rattle.hz_tables.specs.Machines.{machine_of}
 use Rattle.hz_tables.specs.declared.part.Part as declared
 use Rattle.hz_replay.specs.Names.{names_in, all_names_in}

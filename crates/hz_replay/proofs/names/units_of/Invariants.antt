@@ -1,5 +1,5 @@
 use Rattle.std.proofs.Common.{◌≡◌, map, take}
-use Rattle.hz_automata_model.specs.Tables.Machines.{Part}
+use Rattle.hz_pipeline_model.specs.Tables.Machines.{Part}
 use Rattle.hz_tables.specs.Machines.{machine_of}
 use Rattle.hz_replay.specs.Names.{all_names_in}
 use Rattle.hz_replay.proofs.names.units_of.Given as goal

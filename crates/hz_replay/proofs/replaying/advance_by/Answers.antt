@@ -1,6 +1,6 @@
 use Rattle.std.proofs.Common.{◌≡◌, ◌+◌, ◌*◌, ◌≤◌, Some, [], ◌∷◌, length, refl, ◌∙◌, subst, arith}
-use Rattle.hz_acceptance_model.specs.Accepting.Events.{advance}
-use Rattle.hz_automata_model.specs.Tables.Machines.{Machine, parts_walk}
+use Rattle.hz_pipeline_model.specs.Accepting.Events.{advance}
+use Rattle.hz_pipeline_model.specs.Tables.Machines.{Machine, parts_walk}
 use Rattle.hz_replay.proofs.EventLemmas.{none_advanced, one_cycle_more, steps_more, steps_once}
 use Rattle.hz_replay.proofs.replaying.advance_by.Goals as goal
 

@@ -1,6 +1,6 @@
 use Rattle.std.proofs.Common.{◌≡◌, ◌+◌, ◌*◌, ◌≤◌, ◌∷◌, [], length, Some}
-use Rattle.hz_acceptance_model.specs.Accepting.Events.{advance}
-use Rattle.hz_automata_model.specs.Tables.Machines.{parts_walk}
+use Rattle.hz_pipeline_model.specs.Accepting.Events.{advance}
+use Rattle.hz_pipeline_model.specs.Tables.Machines.{parts_walk}
 use Rattle.hz_replay.proofs.replaying.advance_by.Given as goal
 
 abbrev pub invariant-loop-cycle : goal.invariant-loop-cycle

@@ -1,5 +1,5 @@
 use Rattle.std.proofs.Common.{[], ◌∷◌, ap, ◌∙◌}
-use Rattle.hz_automata_model.specs.Tables.Machines.{parts_walk}
+use Rattle.hz_pipeline_model.specs.Tables.Machines.{parts_walk}
 use Rattle.hz_replay.specs.Lines.{event_of}
 use Rattle.hz_replay.specs.declared.event.What.{What}
 use Rattle.hz_replay.proofs.EventLemmas.{ask_walked}

@@ -2,9 +2,9 @@ use Rattle.std.proofs.Common.{◌≡◌, ◌<◌, ◌≤◌, ◌+◌, ◌*◌, �
 use Rattle.std.proofs.lemmas.Bool.{OnTrue_at, OnFalse_at}
 use Rattle.std.proofs.lemmas.List.{length-map, get_or-map, take_all}
 use Rattle.std.proofs.lemmas.List.Elements.{All-get_or}
-use Rattle.hz_acceptance_model.specs.Accepting.Events.{IsOfClass, issues_of, cycles_of}
-use Rattle.hz_automata_model.specs.Tables.Machines.{Machine, parts_walk, machine_walk, starts_of}
-use Rattle.hz_automata_model.proofs.Tables.MachineLaws.{machine_walk-each}
+use Rattle.hz_pipeline_model.specs.Accepting.Events.{IsOfClass, issues_of, cycles_of}
+use Rattle.hz_pipeline_model.specs.Tables.Machines.{Machine, parts_walk, machine_walk, starts_of}
+use Rattle.hz_pipeline_model.proofs.Tables.MachineLaws.{machine_walk-each}
 use Rattle.hz_tables.specs.Machines.{machine_of}
 use Rattle.hz_tables.specs.Parts.{part_of}
 use Rattle.hz_replay.specs.Lines.{event_of}

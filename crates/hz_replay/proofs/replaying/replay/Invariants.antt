@@ -1,7 +1,7 @@
 use Rattle.std.proofs.Common.{◌≡◌, ◌+◌, ◌*◌, ◌≤◌, length, Some, take}
-use Rattle.hz_acceptance_model.specs.Accepting.Events.{issues_of, cycles_of}
+use Rattle.hz_pipeline_model.specs.Accepting.Events.{issues_of, cycles_of}
 use Rattle.hz_tables.specs.Machines.{machine_of}
-use Rattle.hz_automata_model.specs.Tables.Machines.{machine_walk}
+use Rattle.hz_pipeline_model.specs.Tables.Machines.{machine_walk}
 use Rattle.hz_replay.specs.Traces.{events_in}
 use Rattle.hz_replay.proofs.replaying.replay.Given as goal
 

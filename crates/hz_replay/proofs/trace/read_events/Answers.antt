@@ -3,7 +3,7 @@ use Rattle.std.specs.List.{slice_range}
 use Rattle.std.specs.Option.{option_map}
 use Rattle.std.proofs.lemmas.List.{drop_all}
 use Rattle.hz_base_model.specs.Lines.{lines_of}
-use Rattle.hz_acceptance_model.specs.Traces.Traces.{Trace, line_says}
+use Rattle.hz_pipeline_model.specs.Traces.Traces.{Trace, line_says}
 use Rattle.hz_replay.specs.Lines.{event_of, fault_of, judged, judgement}
 use Rattle.hz_replay.specs.Reading.{Source}
 use Rattle.hz_replay.specs.Traces.{placed_in, cycles_in}

@@ -1,5 +1,5 @@
 use Rattle.std.proofs.Common.{◌≡◌, ◌+◌, ◌-◌, ◌≤◌, [], length, drop}
-use Rattle.hz_acceptance_model.specs.Traces.TraceLimits.{advance_limit}
+use Rattle.hz_pipeline_model.specs.Traces.TraceLimits.{advance_limit}
 use Rattle.hz_base_model.specs.Lines.{lines_of}
 use Rattle.hz_replay.specs.Traces.{placed_in}
 use Rattle.hz_replay.proofs.TraceLemmas.{trace_from}

@@ -1,5 +1,5 @@
 use Rattle.std.proofs.Common.{◌≡◌, take}
-use Rattle.hz_automata_model.specs.Tables.Machines.{starts_of}
+use Rattle.hz_pipeline_model.specs.Tables.Machines.{starts_of}
 use Rattle.hz_io.specs.Pages.{Added}
 use Rattle.hz_report.specs.Replays.{asks_from, states_from}
 use Rattle.hz_tables.specs.Machines.{machine_of}

@@ -1,5 +1,5 @@
 use Rattle.std.proofs.Common.{ℕ, List, subst}
-use Rattle.hz_automata_model.specs.Tables.Machines.{starts_of}
+use Rattle.hz_pipeline_model.specs.Tables.Machines.{starts_of}
 use Rattle.hz_io.specs.Pages.{Added, Stopped}
 use Rattle.hz_io.proofs.Adding.{writes_all, none_stopped}
 use Rattle.hz_report.specs.Replays.{asks_from}

@@ -1,8 +1,8 @@
 use Rattle.std.proofs.Common.{ℕ, List, All, length, take, sym, ap, ◌∙◌, subst}
-use Rattle.hz_acceptance_model.specs.Accepting.Asking.{IsOfQuery}
-use Rattle.hz_acceptance_model.specs.Accepting.Events.{IsOfClass}
-use Rattle.hz_automata_model.specs.Tables.MachineNames.{names_of_machine}
-use Rattle.hz_automata_model.specs.Tables.Machines.{starts_of}
+use Rattle.hz_pipeline_model.specs.Accepting.Asking.{IsOfQuery}
+use Rattle.hz_pipeline_model.specs.Accepting.Events.{IsOfClass}
+use Rattle.hz_pipeline_model.specs.Tables.MachineNames.{names_of_machine}
+use Rattle.hz_pipeline_model.specs.Tables.Machines.{starts_of}
 use Rattle.hz_io.specs.Sink.{Cut, Wrote}
 use Rattle.hz_io.proofs.Writing.{cut_before, writes_then}
 use Rattle.hz_replay.specs.Traces.{events_in}

@@ -1,6 +1,6 @@
 use Rattle.std.proofs.Common.{◌≡◌, ◌∷◌, [], drop, is_some}
-use Rattle.hz_acceptance_model.specs.Accepting.Events.{issue}
-use Rattle.hz_automata_model.specs.Tables.Machines.{parts_walk}
+use Rattle.hz_pipeline_model.specs.Accepting.Events.{issue}
+use Rattle.hz_pipeline_model.specs.Tables.Machines.{parts_walk}
 use Rattle.hz_tables.specs.Machines.{machine_of}
 use Rattle.hz_sched.proofs.fitting.each_steps.Given as goal
 

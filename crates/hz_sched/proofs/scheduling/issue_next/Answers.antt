@@ -1,7 +1,7 @@
 use Rattle.std.proofs.Common.{◌≡◌, ◌+◌, ◌<◌, ℕ, List, [], ◌∷◌, Some, length, sym, ap, ◌∙◌, subst, arith}
 use Rattle.std.proofs.lemmas.List.{length-map}
-use Rattle.hz_acceptance_model.specs.Accepting.Events.{advance}
-use Rattle.hz_automata_model.specs.Tables.Machines.{Machine, parts_walk}
+use Rattle.hz_pipeline_model.specs.Accepting.Events.{advance}
+use Rattle.hz_pipeline_model.specs.Tables.Machines.{Machine, parts_walk}
 use Rattle.hz_tables.specs.Machines.{machine_of}
 use Rattle.hz_replay.specs.Replaying.{AreStates}
 use Rattle.hz_block_model.specs.Scheduling.Schedules.{Slot, class_at, present}

@@ -12,7 +12,7 @@ use Rattle.hz_sched.proofs.SlotLemmas.{none_yet}
 use Rattle.hz_sched.proofs.StandLemmas.{is_legal}
 use Rattle.hz_sched.proofs.SchedLemmas.{board_start, all_within, all_soon}
 use Rattle.hz_sched.proofs.scheduling.slots_on.Goals as goal
-use Rattle.hz_automata_model.specs.Tables.Machines.{IsWalked}
+use Rattle.hz_pipeline_model.specs.Tables.Machines.{IsWalked}
 use Rattle.hz_block_model.specs.Scheduling.Machines.{most_wait}
 
 pub loop-turn-init : goal.loop-turn-init

@@ -1,5 +1,5 @@
 use Rattle.hz_tables.proofs.LayLaws.{lays_more}
-use Rattle.hz_automata_model.specs.Tables.Tables.{entry}
+use Rattle.hz_pipeline_model.specs.Tables.Tables.{entry}
 use Rattle.hz_tables.proofs.laying.lay.Goals as goal
 
 pub loop-column-preserved : goal.loop-column-preserved

@@ -1,4 +1,4 @@
-use Rattle.hz_automata_model.specs.Tables.Tables.{entry}
+use Rattle.hz_pipeline_model.specs.Tables.Tables.{entry}
 use Rattle.hz_tables.specs.Laying.{Lays}
 use Rattle.hz_tables.proofs.laying.lay.Given as goal
 

@@ -4,8 +4,8 @@ use Rattle.hz_rtl.specs.Shape.{instructions}
 use Rattle.hz_rtl.specs.States.{words}
 use Rattle.hz_sched.specs.declared.parts.Slot.{Slot}
 use Rattle.hz_sched.specs.Shape.{slots_of}
-use Rattle.hz_timed_model.specs.Exposed.{Read, lefts_of}
-use Rattle.hz_timed_model.specs.Exposed as model
+use Rattle.hz_measure_model.specs.Exposed.Exposed.{Read, lefts_of}
+use Rattle.hz_measure_model.specs.Exposed.Exposed as model
 use Rattle.hz_timed.specs.declared.write.Write.{Write}
 use Rattle.hz_timed.specs.Leaving.{stored_by}
 use Rattle.hz_timed.specs.Notes.{Note, notes_of}

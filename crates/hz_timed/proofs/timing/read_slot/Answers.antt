@@ -1,7 +1,7 @@
 use Rattle.std.proofs.Common.{◌≡◌, ◌++◌, ◌∙◌, sym, ap, map, List, ℕ}
 use Rattle.std.specs.List.{flat_map}
 use Rattle.hz_block_model.specs.Running.States.{reg, cell}
-use Rattle.hz_timed_model.specs.Exposed.{Read}
+use Rattle.hz_measure_model.specs.Exposed.Exposed.{Read}
 use Rattle.hz_block_model.specs.Dependences.Accesses.{registers_in, values_of}
 use Rattle.hz_rtl.specs.Shape.{instruction}
 use Rattle.hz_timed.specs.Writes.{seen_in}

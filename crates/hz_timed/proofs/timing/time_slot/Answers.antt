@@ -1,5 +1,5 @@
 use Rattle.std.proofs.Common.{◌≡◌, ◌++◌, ◌∙◌, ap, map, List}
-use Rattle.hz_timed_model.specs.Exposed.{Read}
+use Rattle.hz_measure_model.specs.Exposed.Exposed.{Read}
 use Rattle.hz_rtl.specs.Shape.{instruction, instructions}
 use Rattle.hz_timed.specs.declared.evaluating.Kept.{Kept}
 use Rattle.hz_timed.specs.Shape.{place_of, read_of}

@@ -1,7 +1,7 @@
 use Rattle.std.proofs.Common.{map}
 use Rattle.hz_io.proofs.Writing.{cut_before, writes_then}
 use Rattle.hz_rtl.specs.Shape.{instructions}
-use Rattle.hz_timed_model.specs.Texts.{from_text, writer_text}
+use Rattle.hz_measure_model.specs.Exposed.Texts.{from_text, writer_text}
 use Rattle.hz_timed.proofs.writing.put_end.Goals as goal
 
 pub returns-in-Ok : goal.returns-in-Ok

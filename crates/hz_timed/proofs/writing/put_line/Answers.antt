@@ -1,7 +1,7 @@
 use Rattle.std.proofs.Common.{◌++◌, map}
 use Rattle.hz_io.proofs.Writing.{cut_before, writes_then}
 use Rattle.hz_rtl.specs.Shape.{instructions}
-use Rattle.hz_timed_model.specs.Texts.{place_text, from_text, writer_text}
+use Rattle.hz_measure_model.specs.Exposed.Texts.{place_text, from_text, writer_text}
 use Rattle.hz_timed.specs.Shape.{place_of}
 use Rattle.hz_timed.proofs.writing.put_line.Goals as goal
 

@@ -8,7 +8,7 @@ use Rattle.hz_rtl.specs.Shape.{instructions}
 use Rattle.hz_rtl.specs.Listings.{listing}
 use Rattle.hz_sched.specs.declared.parts.Slot.{Slot}
 use Rattle.hz_sched.specs.Shape.{slots_of}
-use Rattle.hz_timed_model.specs.Texts.{line_of_read, text_of_reads}
+use Rattle.hz_measure_model.specs.Exposed.Texts.{line_of_read, text_of_reads}
 use Rattle.hz_timed.specs.declared.parts.ReadNote.{ReadNote}
 use Rattle.hz_timed.specs.Reads.{line_by}
 use Rattle.hz_timed.specs.Shape.{read_of, IsWriter}

@@ -1,7 +1,7 @@
 use Rattle.std.proofs.Common.{◌≡◌, length, subst, arith}
 use Rattle.std.specs.Prelude.{nat_lt}
 use Rattle.std.proofs.lemmas.Bool.{OnTrue_from, ltb-true}
-use Rattle.hz_automata_model.specs.Tables.Tables.{IsTable}
+use Rattle.hz_pipeline_model.specs.Tables.Tables.{IsTable}
 use Rattle.hz_automata_rows.proofs.LeadingRows.{AreRows}
 use Rattle.hz_automata_rows.proofs.LeadingLemmas.{table_of_rows}
 use Rattle.hz_automata_rows.proofs.tests.minimal.is_table.Goals as goal

@@ -1,5 +1,5 @@
 use Rattle.std.proofs.Common.{◌≡◌, ◌<◌, ℕ, Some, length}
-use Rattle.hz_automata_model.specs.Tables.Tables.{entry}
+use Rattle.hz_pipeline_model.specs.Tables.Tables.{entry}
 use Rattle.hz_automata_rows.proofs.tests.packed.diagonal.Given as goal
 
 abbrev pub invariant-loop-state : goal.invariant-loop-state

@@ -1,6 +1,6 @@
 use Rattle.std.proofs.Common.{◌≡◌, ℕ, ◌<◌, List, length, get_or, set, sym, subst, arith, vec_len}
 use Rattle.std.proofs.lemmas.List.{get_or_read}
-use Rattle.hz_automata_model.specs.Least.Blocks.{block_of}
+use Rattle.hz_pipeline_model.specs.Least.Blocks.{block_of}
 use Rattle.hz_minim.specs.declared.marks.Mark.{Mark}
 use Rattle.hz_minim.specs.declared.partition.Partition.{Partition}
 use Rattle.hz_minim.specs.Lists.{lists_of}

@@ -1,5 +1,5 @@
 use Rattle.std.proofs.Common.{◌≡◌, ◌+◌, ◌<◌, List, Some, drop, length, get_or, sym, ◌∙◌, subst}
-use Rattle.hz_acceptance_model.specs.Traces.TraceNames.{TraceNames, query_from, query_place}
+use Rattle.hz_pipeline_model.specs.Traces.TraceNames.{TraceNames, query_from, query_place}
 use Rattle.hz_replay.specs.Names.{names_in, all_names_in}
 use Rattle.hz_tables.proofs.NameLaws.{query_here, query_later}
 use Rattle.hz_replay.proofs.NameLemmas.{names_inside, names_at}

@@ -1,5 +1,5 @@
 use Rattle.std.proofs.Common.{◌≡◌, drop}
-use Rattle.hz_acceptance_model.specs.Traces.TraceNames.{query_from, query_place}
+use Rattle.hz_pipeline_model.specs.Traces.TraceNames.{query_from, query_place}
 use Rattle.hz_replay.proofs.names.Names.unit.Given as goal
 
 -- no part so far has the name

@@ -1,5 +1,5 @@
 use Rattle.std.proofs.Common.{◌≤◌, length, arith}
-use Rattle.hz_automata_model.specs.Tables.StateLimits.{state_limit}
+use Rattle.hz_pipeline_model.specs.Tables.StateLimits.{state_limit}
 use Rattle.hz_tables.specs.Parts.{rows_of}
 use Rattle.hz_tables.specs.declared.part.Part.{Part}
 use Rattle.hz_tabfile.proofs.Ranges.{all_more, all_done}

@@ -1,6 +1,6 @@
 use Rattle.std.proofs.Common.{◌≤◌, take, length}
 use Rattle.std.specs.Prelude.{All}
-use Rattle.hz_automata_model.specs.Tables.StateLimits.{state_limit}
+use Rattle.hz_pipeline_model.specs.Tables.StateLimits.{state_limit}
 use Rattle.hz_tables.specs.Parts.{rows_of}
 use Rattle.hz_tabfile.proofs.writing.ranges.are_tables.Given as goal
 

@@ -9,15 +9,15 @@ use Rattle.hz_check.specs.Shape.{automaton_of}
 use Rattle.hz_description_model.specs.Check.CheckedParts.{AutomatonParts}
 use Rattle.hz_tables.specs.declared.part.Part.{Part}
 use Rattle.hz_tables.specs.Parts.{rows_of, part_of}
-use Rattle.hz_automata_model.specs.Tables.Machines as machines
-use Rattle.hz_automata_model.specs.Tables.StateLimits.{state_limit}
+use Rattle.hz_pipeline_model.specs.Tables.Machines as machines
+use Rattle.hz_pipeline_model.specs.Tables.StateLimits.{state_limit}
 use Rattle.hz_auto.specs.declared.report.AutoReport.{AutoReport}
 use Rattle.hz_auto.specs.Reports.{report_of}
-use Rattle.hz_automata_model.specs.Compiling.Compiled.{Report}
+use Rattle.hz_pipeline_model.specs.Compiling.Compiled.{Report}
 use Rattle.hz_tabtext_model.specs.Texts.{AreCounts}
 use Rattle.hz_tabtext_model.specs.Said.{counts_said}
 use Rattle.hz_grid.specs.Grids.{IsGrid}
-use Rattle.hz_automata_model.specs.Single.Told.{ListsAscending}
+use Rattle.hz_pipeline_model.specs.Single.Told.{ListsAscending}
 use Rattle.hz_tabfile.proofs.Ranges.{all_made, shown_again, shown_weaker}
 use Rattle.hz_tabfile.proofs.writing.ranges.is_in_range.Goals as goal
 use Rattle.std.specs.Ordering.{nat_cmp}

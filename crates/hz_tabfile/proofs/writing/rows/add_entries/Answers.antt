@@ -1,6 +1,6 @@
 use Rattle.std.proofs.Common.{◌<◌, ℕ, Option, length, ap, sym, arith}
 use Rattle.std.specs.Prelude.{None}
-use Rattle.hz_automata_model.specs.Tables.Tables.{row_of}
+use Rattle.hz_pipeline_model.specs.Tables.Tables.{row_of}
 use Rattle.hz_tables.specs.Parts.{rows_of}
 use Rattle.hz_tabtext_model.specs.Texts.{entry_field}
 use Rattle.hz_tabfile.specs.Spaced.{spaced}

@@ -1,6 +1,6 @@
 use Rattle.std.proofs.Common.{take}
 use Rattle.std.specs.List.{flat_map}
-use Rattle.hz_automata_model.specs.Tables.Tables.{row_of}
+use Rattle.hz_pipeline_model.specs.Tables.Tables.{row_of}
 use Rattle.hz_tables.specs.Parts.{rows_of}
 use Rattle.hz_tabtext_model.specs.Texts.{entry_field}
 use Rattle.hz_tabfile.specs.Spaced.{spaced}

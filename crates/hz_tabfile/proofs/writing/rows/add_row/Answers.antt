@@ -1,5 +1,5 @@
 use Rattle.std.proofs.Common.{codes}
-use Rattle.hz_automata_model.specs.Tables.Tables.{row_of}
+use Rattle.hz_pipeline_model.specs.Tables.Tables.{row_of}
 use Rattle.hz_tables.specs.Parts.{rows_of}
 use Rattle.hz_tabtext_model.specs.Texts.{entry_field}
 use Rattle.std.proofs.Common.{rules}

@@ -3,7 +3,7 @@ use Rattle.std.specs.List.{flat_map}
 use Rattle.std.specs.Option.{option_map}
 use Rattle.hz_io.specs.Pages.{Adds}
 use Rattle.hz_io.proofs.Adding.{stopped_before, adds_then, adds_failed}
-use Rattle.hz_automata_model.specs.Tables.Tables.{IsTable, row_of}
+use Rattle.hz_pipeline_model.specs.Tables.Tables.{IsTable, row_of}
 use Rattle.hz_tables.specs.Parts.{rows_of}
 use Rattle.hz_auto.specs.declared.report.Shown.{Shown}
 use Rattle.hz_auto.specs.Reports.{shown_of}

@@ -1,7 +1,7 @@
 use Rattle.std.proofs.Common.{◌≡◌, ◌<◌, ◌≤◌, ℕ, List, length, get_or, sym, ap, ◌∙◌, subst}
 use Rattle.hz_base_model.specs.Limits.{unit_limit}
 use Rattle.hz_base_model.specs.Lines.{place_of}
-use Rattle.hz_automata_model.specs.Tables.MachineNames.{names_of_machine}
+use Rattle.hz_pipeline_model.specs.Tables.MachineNames.{names_of_machine}
 use Rattle.hz_tables.specs.Machines.{machine_of}
 use Rattle.hz_tables.specs.declared.part.Part as declared
 use Rattle.hz_tables.proofs.NameLaws.{query_here, query_later}

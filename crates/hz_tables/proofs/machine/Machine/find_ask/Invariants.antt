@@ -1,6 +1,6 @@
 use Rattle.std.proofs.Common.{◌≡◌, drop}
-use Rattle.hz_acceptance_model.specs.Traces.TraceNames.{query_from, query_place}
-use Rattle.hz_automata_model.specs.Tables.MachineNames.{names_of_machine}
+use Rattle.hz_pipeline_model.specs.Traces.TraceNames.{query_from, query_place}
+use Rattle.hz_pipeline_model.specs.Tables.MachineNames.{names_of_machine}
 use Rattle.hz_tables.specs.Machines.{machine_of}
 use Rattle.hz_tables.proofs.machine.Machine.find_ask.Given as goal
 

@@ -1,5 +1,5 @@
 use Rattle.std.proofs.Common.{◌≡◌, ◌≤◌, take}
-use Rattle.hz_acceptance_model.specs.Accepting.Events.{issues_of}
+use Rattle.hz_pipeline_model.specs.Accepting.Events.{issues_of}
 use Rattle.hz_replay.specs.Traces.{events_in}
 use Rattle.hz_tool.proofs.commands.drill.count_issues.Given as goal
 

@@ -1,5 +1,5 @@
 use Rattle.std.proofs.Common.{◌≡◌, ◌-◌, List, length, ap, ◌∙◌, arith}
-use Rattle.hz_acceptance_model.specs.Accepting.Events.{issues_of, cycles_of}
+use Rattle.hz_pipeline_model.specs.Accepting.Events.{issues_of, cycles_of}
 use Rattle.hz_replay.specs.declared.event.Event.{Event}
 use Rattle.hz_replay.specs.Traces.{events_in}
 use Rattle.hz_tables.specs.Machines.{machine_of}

@@ -1,11 +1,11 @@
 use Rattle.std.proofs.Common.{ℕ, ◌∙◌, subst}
-use Rattle.hz_acceptance_model.specs.Traces.Drills.{Drawn}
+use Rattle.hz_pipeline_model.specs.Traces.Drills.{Drawn}
 use Rattle.hz_replay.specs.Drilling.{WalksFrom}
 use Rattle.hz_replay.specs.Replaying.{Standing}
 use Rattle.hz_replay.specs.Traces.{events_in}
 use Rattle.hz_tables.specs.Machines.{machine_of}
 use Rattle.hz_tool.proofs.commands.drill.drilled_on.Goals as goal
-use Rattle.hz_automata_model.specs.Tables.Machines.{IsWalked}
+use Rattle.hz_pipeline_model.specs.Tables.Machines.{IsWalked}
 
 pub returns-clause-drawn : goal.returns-clause-drawn
 returns-clause-drawn g c =

@@ -5,7 +5,7 @@ use Rattle.hz_answer_model.specs.ModuloAnswers.{Overlaps}
 use Rattle.hz_answer_model.specs.ScheduleAnswers.{HasClasses}
 use Rattle.hz_block_model.proofs.Scheduled.GraphLaws.{all_have_classes}
 use Rattle.hz_block_model.specs.Scheduled.BlockGraphs.{classes_of}
-use Rattle.hz_modulo_model.specs.Repeats.{body_limit}
+use Rattle.hz_measure_model.specs.Kernels.Repeats.{body_limit}
 use Rattle.hz_rtl.specs.Shape.{instruction, instructions}
 use Rattle.hz_rtl.specs.declared.block.Block.{Block}
 use Rattle.hz_sched.specs.Shape.{graph_of}

@@ -5,7 +5,7 @@ use Rattle.hz_block_model.proofs.Scheduling.StuckLaws.{first_stuck as stuck_firs
 use Rattle.hz_rtl.specs.Shape.{instructions}
 use Rattle.hz_sched.specs.Shape.{graph_of, node_of, slots_of}
 use Rattle.hz_tables.specs.Machines.{machine_of}
-use Rattle.hz_turns.specs.Walking.{kernel_slot_of}
+use Rattle.hz_modulo.specs.Walking.{kernel_slot_of}
 use Rattle.hz_tool.proofs.BlockLemmas.{graph_size, is_graph}
 use Rattle.hz_tool.proofs.BlockTelling.{stuck_within, stuck_told}
 use Rattle.hz_tool.proofs.KernelLemmas.{kernel_is, kernel_told}

@@ -1,10 +1,10 @@
 use Rattle.std.proofs.Common.{ℕ, List, length, All, sym, ap, subst, arith}
-use Rattle.hz_acceptance_model.proofs.Traces.NameLaws.{events_of_classes, events_of_queries}
-use Rattle.hz_acceptance_model.specs.Accepting.Asking.{IsOfQuery}
-use Rattle.hz_acceptance_model.specs.Accepting.Events.{IsOfClass}
-use Rattle.hz_acceptance_model.specs.Traces.Traces.{event_lines}
+use Rattle.hz_pipeline_model.proofs.Traces.NameLaws.{events_of_classes, events_of_queries}
+use Rattle.hz_pipeline_model.specs.Accepting.Asking.{IsOfQuery}
+use Rattle.hz_pipeline_model.specs.Accepting.Events.{IsOfClass}
+use Rattle.hz_pipeline_model.specs.Traces.Traces.{event_lines}
 use Rattle.hz_answer_model.specs.TableAnswers.{Walks}
-use Rattle.hz_automata_model.specs.Tables.MachineNames.{names_of_machine}
+use Rattle.hz_pipeline_model.specs.Tables.MachineNames.{names_of_machine}
 use Rattle.hz_base_model.specs.Lines.{lines_of}
 use Rattle.hz_replay.specs.Replaying.{IsOutcome}
 use Rattle.hz_replay.specs.Traces.{events_in}

@@ -1,7 +1,7 @@
 use Rattle.std.proofs.Common.{List, map, sym, subst}
 use Rattle.hz_duo.specs.Shape.{context_slot}
 use Rattle.hz_duo.specs.declared.parts.DuoSlot.{DuoSlot}
-use Rattle.hz_duo_model.specs.Texts.{duo_text}
+use Rattle.hz_measure_model.specs.TwoContexts.Texts.{duo_text}
 use Rattle.hz_sched.specs.Shape.{graph_of}
 use Rattle.hz_io.specs.Sink.{Writes}
 use Rattle.hz_tool.specs.Decided.{text_of}

@@ -1,5 +1,5 @@
-use Rattle.hz_acceptance_model.specs.Traces.Traces.{TraceFaultAt, trace_word}
-use Rattle.hz_automata_model.specs.Tables.MachineNames.{names_of_machine}
+use Rattle.hz_pipeline_model.specs.Traces.Traces.{TraceFaultAt, trace_word}
+use Rattle.hz_pipeline_model.specs.Tables.MachineNames.{names_of_machine}
 use Rattle.hz_replay.specs.Traces as faults
 use Rattle.hz_tables.specs.Machines.{machine_of}
 use Rattle.hz_tool.proofs.TellingLemmas.{tells_fault}

@@ -1,5 +1,0 @@
-use Rattle.hz_acceptance_model.proofs.Accepting.ChoiceLaws.{one_choice}
-use Rattle.hz_acceptance_model.proofs.acceptance.one_choice_in_the_first_treatment.Goals as goal
-
-pub returns : goal.returns
-returns g c = one_choice

@@ -1,5 +1,0 @@
-use Rattle.hz_acceptance_model.proofs.Traces.DrillLaws.{one_drawn}
-use Rattle.hz_acceptance_model.proofs.drills.one_trace_is_drawn.Goals as goal
-
-pub returns : goal.returns
-returns g c = one_drawn g.A.Acceptance.accepts

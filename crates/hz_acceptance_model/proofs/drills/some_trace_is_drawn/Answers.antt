@@ -1,6 +1,0 @@
-use Rattle.std.proofs.Common.{[]}
-use Rattle.hz_acceptance_model.proofs.Traces.DrillLaws.{some_from}
-use Rattle.hz_acceptance_model.proofs.drills.some_trace_is_drawn.Goals as goal
-
-pub returns : goal.returns
-returns g c = λ decide classes number turns. some_from g.A.Acceptance.accepts decide classes [] number turns

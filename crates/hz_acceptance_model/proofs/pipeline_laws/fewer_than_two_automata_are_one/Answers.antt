@@ -1,5 +1,0 @@
-use Rattle.hz_acceptance_model.proofs.Pipelines.OneAutomaton.{machine_of_one}
-use Rattle.hz_acceptance_model.proofs.pipeline_laws.fewer_than_two_automata_are_one.Goals as goal
-
-pub returns : goal.returns
-returns c = machine_of_one

@@ -1,2 +1,0 @@
--- What can be decided.
-pub mod ToldLaws

@@ -1,5 +1,0 @@
-use Rattle.hz_automata_model.proofs.Asks.PresentLaws.{marks_present}
-use Rattle.hz_automata_model.proofs.asking.marks_are_of_present_units.Goals as goal
-
-pub returns : goal.returns
-returns c = marks_present

@@ -1,5 +1,0 @@
-use Rattle.hz_automata_model.proofs.Compiling.PipelineLaws.{restricted_moved}
-use Rattle.hz_automata_model.proofs.compiled.checked_automata_are_their_pipelines.Goals as goal
-
-pub returns : goal.returns
-returns c = λ d known a low. restricted_moved d known a low

@@ -1,5 +1,0 @@
-use Rattle.hz_automata_model.proofs.Reaching.CountLaws.{no_count_both}
-use Rattle.hz_automata_model.proofs.counting.no_count_is_both.Goals as goal
-
-pub returns : goal.returns
-returns g c = no_count_both

@@ -1,5 +1,0 @@
-use Rattle.hz_automata_model.proofs.Tables.TableLaws.{breadth_first_reached}
-use Rattle.hz_automata_model.proofs.table_laws.breadth_first_states_are_reached.Goals as goal
-
-pub returns : goal.returns
-returns c = breadth_first_reached

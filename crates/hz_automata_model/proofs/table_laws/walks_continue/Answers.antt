@@ -1,5 +1,0 @@
-use Rattle.hz_automata_model.proofs.Tables.TableLaws.{walk-append}
-use Rattle.hz_automata_model.proofs.table_laws.walks_continue.Goals as goal
-
-pub returns-clause-append : goal.returns-clause-append
-returns-clause-append c = walk-append

@@ -1,7 +1,0 @@
-use Rattle.std.proofs.Common.{◌≡◌, Some}
-use Rattle.hz_automata_model.proofs.Tables.TableLaws.{walk_stays}
-use Rattle.hz_automata_model.proofs.table_laws.walks_stay.Goals as goal
-
-pub returns : goal.returns
-returns c = λ table columns is state next w within e.
-    walk_stays table columns is (Some state) (λ other h. let same : state ≡ other = cc in rw (← same) within) next w e

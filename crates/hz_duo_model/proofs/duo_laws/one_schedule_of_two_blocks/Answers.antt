@@ -1,5 +1,0 @@
-use Rattle.hz_duo_model.proofs.OneOfTwo.{one_of_two}
-use Rattle.hz_duo_model.proofs.duo_laws.one_schedule_of_two_blocks.Goals as goal
-
-pub returns : goal.returns
-returns c = one_of_two

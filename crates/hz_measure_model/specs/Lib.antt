@@ -1,0 +1,4 @@
+pub mod Bounds
+pub mod TwoContexts
+pub mod Exposed
+pub mod Kernels

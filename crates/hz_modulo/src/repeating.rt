@@ -1,0 +1,134 @@
+//! The first two starts of turns at which a machine is in the same states.
+
+ghost use Rattle.std.specs.Prelude.{◌≡◌, ◌↔◌, ◌<◌, ◌≤◌, ◌-◌, ◌+◌, ◌++◌, ◌∷◌, [], ℕ, IsTrue, IfOk, IfSome, IfNone, length, map, All, nat_lt, if◌then◌else◌};
+ghost use Rattle.hz_block_model.specs.Scheduling.Machines.{Settles};
+ghost use Rattle.hz_measure_model.specs.Kernels.Repeats.{stage_limit};
+ghost use Rattle.hz_tables.specs.Machines.{machine_of};
+ghost use Rattle.hz_modulo.specs.Walking.{kernel_slot_of, graph_of};
+ghost use Rattle.hz_modulo.specs.Repeating.{RepeatsBy, lists_in, states_at};
+
+use crate::parts::{KernelSlot, Repeat};
+use crate::walking::{drains, walk_interval};
+use hz_replay::Replayer;
+use hz_tables::{Machine, NoMemory, Steps};
+use std::alloc::Global;
+use std::marker::Brand;
+use std::sync::ledger::{Blank, Ledger};
+
+/// Within how many turns the states have to repeat.
+const MOST_TURNS: u32 = 1_024;
+
+/// Whether two lists of states are the same.
+fn are_same(one: &[u32], other: &[u32]) -> bool
+    ensures { IsTrue result ↔ (one.now ≡ other.now) }
+{
+    one == other
+}
+
+/// The first of these at which the states are.
+fn place_of(held: &[Vec<u32>], states: &[u32]) -> Option<u32>
+    requires few { length held.now ≤ 4096 }
+    ensures found { IfSome result (λ i. (i < length (lists_in held.now)) × (states_at (lists_in held.now) i ≡ states.now)) }
+    ensures none { IfNone result ((i : ℕ) → i < length (lists_in held.now) → states_at (lists_in held.now) i ≡ states.now → ⊥) }
+{
+    for place in 0..held.len() as u32 {
+        if are_same(held[place as usize].as_slice(), states) {
+            return Some(place);
+        }
+    }
+    None
+}
+
+/// Keeps the states at a start of a turn, once so many turns have begun, if they were not met before: if they were, it answers where.
+fn keep(
+    alloc: Global,
+    held: &mut Vec<Vec<u32>>,
+    states: &[u32],
+    turn: u32,
+    stages: u32,
+) -> Result<Option<u32>, NoMemory>
+    requires many { length (lists_in held.old.items) ≡ turn - stages }
+    requires few { turn ≤ stages + 1024 }
+    ensures found { IfOk result (λ place. IfSome place (λ i. (i < length (lists_in held.old.items)) × (states_at (lists_in held.old.items) i ≡ states.now))) }
+    ensures new { IfOk result (λ place. IfNone place ((i : ℕ) → i < length (lists_in held.old.items) → states_at (lists_in held.old.items) i ≡ states.now → ⊥)) }
+    ensures kept { IfOk result (λ place. IfNone place (lists_in held.new.items ≡ (if nat_lt turn stages then lists_in held.old.items else lists_in held.old.items ++ states.now ∷ []))) }
+{
+    if turn < stages {
+        return Ok(None);
+    }
+    let place = place_of(held, states);
+    if place.is_none() {
+        held.push(Vec::from_slice(alloc, states)?)?;
+    }
+    Ok(place)
+}
+
+/// As `first_repeat`, with the steps of a count that begins here.
+fn first_repeat_by<L: Ledger>(
+    alloc: Global,
+    machine: &Machine,
+    classes: &[u32],
+    kernel: &[KernelSlot],
+    interval: u32,
+    stages: u32,
+    blank: Blank,
+) -> Result<Option<Repeat>, NoMemory>
+    requires name { blank.name ≡ L.name }
+    requires parts { blank.parts ≡ L.parts }
+    requires some { 0 < blank.parts }
+    requires settles { Settles (machine_of machine.now) }
+    requires classes { All (λ c. c < length machine.now.classes.items) classes.now }
+    requires places { All (λ x. x.place < length classes.now) kernel.now }
+    requires few { stages ≤ stage_limit }
+    ensures found { IfOk result (λ repeat. IfSome repeat (λ r. RepeatsBy (machine_of machine.now) (graph_of classes.now) interval stages (map kernel_slot_of kernel.now) r.first r.second)) }
+    ensures none { IfOk result (λ repeat. IfNone repeat ((first second : ℕ) → RepeatsBy (machine_of machine.now) (graph_of classes.now) interval stages (map kernel_slot_of kernel.now) first second → ⊥)) }
+{
+    let mut steps = Steps::<L>::new(blank);
+    let mut walker = Replayer::start(alloc, machine);
+    let mut held = Vec::new(alloc);
+    for turn in 0..stages + MOST_TURNS + 1 {
+        if !drains(
+            alloc, &walker, classes, kernel, interval, stages, turn, &mut steps,
+        ) {
+            return Ok(None);
+        }
+        if let Some(place) = keep(alloc, &mut held, walker.states(), turn, stages)? {
+            return Ok(Some(Repeat {
+                first: stages + place,
+                second: turn,
+            }));
+        }
+        if !walk_interval(&mut walker, classes, kernel, interval, 0, turn, &mut steps) {
+            return Ok(None);
+        }
+    }
+    Ok(None)
+}
+
+/// The first two starts of turns at which the machine is in the same states, once all stages have begun: None if an issue is not
+/// taken before, or after so many turns. A body has these classes, and its kernel these slots.
+pub fn first_repeat(
+    alloc: Global,
+    machine: &Machine,
+    classes: &[u32],
+    kernel: &[KernelSlot],
+    interval: u32,
+    stages: u32,
+) -> Result<Option<Repeat>, NoMemory>
+    requires settles { Settles (machine_of machine.now) }
+    requires classes { All (λ c. c < length machine.now.classes.items) classes.now }
+    requires places { All (λ x. x.place < length classes.now) kernel.now }
+    requires few { stages ≤ stage_limit }
+    ensures found { IfOk result (λ repeat. IfSome repeat (λ r. RepeatsBy (machine_of machine.now) (graph_of classes.now) interval stages (map kernel_slot_of kernel.now) r.first r.second)) }
+    ensures none { IfOk result (λ repeat. IfNone repeat ((first second : ℕ) → RepeatsBy (machine_of machine.now) (graph_of classes.now) interval stages (map kernel_slot_of kernel.now) first second → ⊥)) }
+{
+    first_repeat_by::<Brand>(
+        alloc,
+        machine,
+        classes,
+        kernel,
+        interval,
+        stages,
+        Blank::new(1),
+    )
+}

@@ -1,0 +1,11 @@
+pub mod Decidable
+pub mod Accepting
+pub mod Pipelines
+pub mod Traces
+pub mod Tables
+pub mod Reaching
+pub mod Asks
+pub mod Least
+pub mod Combs
+pub mod Compiling
+pub mod Single

@@ -1,0 +1,9 @@
+pub mod Accepting
+pub mod Pipelines
+pub mod Traces
+pub mod Tables
+pub mod Reaching
+pub mod Least
+pub mod Combs
+pub mod Compiling
+pub mod Single

@@ -1,6 +1,0 @@
-mod WalkingLemmas
-mod StateLemmas
-mod ScanLemmas
-mod KeptStates
-mod HeldLemmas
-pub mod RepeatLemmas

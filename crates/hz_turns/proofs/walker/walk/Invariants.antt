@@ -1,4 +1,0 @@
-use Rattle.hz_turns.proofs.walker.walk.Given as goal
-
-abbrev pub ghosts-walk_counted : goal.ghosts-walk_counted
-ghosts-walk_counted a = record { name = a.blank.name; parts = a.blank.parts }
