@@ -110,6 +110,7 @@ bench: bin/hz
 	@sh bench/check/run.sh bin/hz
 	@sh bench/compile/run.sh bin/hz
 	@sh bench/compile/pipelines.sh bin/hz
+	@sh bench/compile/widths.sh bin/hz
 	@sh bench/walk/run.sh bin/hz
 	@sh bench/asks/run.sh bin/hz
 	@sh bench/schedule/run.sh bin/hz

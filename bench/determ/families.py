@@ -10,6 +10,11 @@ alternating: the same, where another unit is taken in every other cycle.
 drifting: the same, where each cycle takes other units beside `z`.
 parted: alternating under 529 statements, the units of whose patterns all stand there, but in different cycles.
 present: alternating under a thousand presence statements, whose patterns stand in every cycle.
+standing: drifting under a thousand presence statements, whose patterns stand in every cycle.
+several: 4,096 alternatives of two units each with no pair in common, under a thousand statements, of which one refuses them.
+others: the same, where 64 statements refuse 64 alternatives each.
+thousands: single under 30,000 statements.
+wanting: present under 30,000 statements.
 """
 import sys
 
@@ -51,8 +56,8 @@ def taken(cycles):
     insn("y", f"nothing*{cycles - 1},y")
 
 
-def refused(cycles, statements, more=(), held=None, choices=11, kind="absence"):
-    unit("u", "v", "w", "z", *more, *names("p", 46))
+def refused(cycles, statements, more=(), held=None, choices=11, kind="absence", patterned=46):
+    unit("u", "v", "w", "z", *more, *names("p", patterned))
     for patterns in statements:
         print(f'({kind}_set "z" "{",".join(patterns)}")')
     if kind != "absence":
@@ -65,10 +70,10 @@ def alternating(cycles, statements, kind="absence"):
     refused(cycles, each_alone(statements), ["t"], f"(z,t)*{(cycles - 11) // 2}", kind=kind)
 
 
-def drifting(cycles):
+def drifting(cycles, statements, kind="absence"):
     units = names("t", 8)
     held = [" + ".join(["z"] + [one for place, one in enumerate(units) if cycle >> place & 1]) for cycle in range(cycles - 10)]
-    refused(cycles, each_alone(pairs() + ["w"]), units, ",".join(f"({one})" for one in held), choices=10)
+    refused(cycles, each_alone(statements), units, ",".join(f"({one})" for one in held), choices=10, kind=kind)
 
 
 def parted(cycles):
@@ -79,12 +84,48 @@ def parted(cycles):
 
 def present(cycles):
     alternating(cycles, pairs(), kind="presence")
-    insn("a", f"({'+'.join(names('p', 46))})*{cycles}")
+    hold(cycles, 46)
+
+
+def standing(cycles):
+    drifting(cycles, pairs(), kind="presence")
+    hold(cycles, 46)
+
+
+def hold(cycles, count):
+    """A class that takes all units of the patterns in every cycle."""
+    insn("a", f"({'+'.join(names('p', count))})*{cycles}")
+
+
+def several(cycles, refusing):
+    first, second = names("a", 64), names("b", 64)
+    unit(*first, *second, "w", "y", *names("p", 46))
+    for pattern in pairs():
+        print(f'(absence_set "{",".join(first)}" "{pattern}")')
+    for units in refusing(second):
+        print(f'(absence_set "{",".join(units)}" "w")')
+    insn("x", f"({'|'.join(first)}),({'|'.join(second)})")
+    insn("h", f"w*{cycles}")
+    insn("y", f"nothing*{cycles - 1},y")
+
+
+def thousands(cycles, kind="absence"):
+    statements = each_alone(triples(60)[:30000])
+    if kind == "absence":
+        statements.append(["w"])
+    refused(cycles, statements, ["t"], f"(z,t)*{(cycles - 11) // 2}", kind=kind, patterned=60)
+    if kind != "absence":
+        hold(cycles, 60)
 
 
 def pairs():
     units = names("p", 46)
     return [f"{one} {other}" for place, one in enumerate(units) for other in units[place + 1 :]][:999]
+
+
+def triples(count):
+    units = names("p", count)
+    return [f"{one} {other} {last}" for first, one in enumerate(units) for second, other in enumerate(units[first + 1 :], first + 1) for last in units[second + 1 :]]
 
 
 def each_alone(patterns):
@@ -100,9 +141,14 @@ KINDS = {
     "apart": lambda cycles: refused(cycles, [pairs() + ["w"]]),
     "single": lambda cycles: refused(cycles, each_alone(pairs() + ["w"])),
     "alternating": lambda cycles: alternating(cycles, pairs() + ["w"]),
-    "drifting": drifting,
+    "drifting": lambda cycles: drifting(cycles, pairs() + ["w"]),
     "parted": parted,
     "present": present,
+    "standing": standing,
+    "several": lambda cycles: several(cycles, lambda units: [units]),
+    "others": lambda cycles: several(cycles, lambda units: [[unit] for unit in units]),
+    "thousands": thousands,
+    "wanting": lambda cycles: thousands(cycles, "presence"),
 }
 
 KINDS[sys.argv[1]](int(sys.argv[2]))

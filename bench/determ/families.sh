@@ -5,7 +5,7 @@ hz=$1
 . "$(dirname "$0")/../common.sh"
 
 echo "kind cycles bytes s peak_kB"
-for kind in late early taken absent apart single alternating drifting parted present; do
+for kind in late early taken absent apart single alternating drifting parted present standing several others thousands wanting; do
     for cycles in 256 512; do
         case $kind-$cycles in
         taken-512) ;;

@@ -1,12 +1,13 @@
 -- Rules whose units and patterns are rows.
-use Rattle.std.specs.Prelude.{◌≡◌, ◌⊎◌, ℕ, ◌<◌, List, [], ◌∷◌, map, ◌++◌, All, Contains}
+use Rattle.std.specs.Prelude.{◌≡◌, ◌⊎◌, ℕ, ◌<◌, ◌≤◌, List, [], ◌∷◌, map, length, get_or, ◌++◌, All, Contains}
 use Rattle.hz_base_model.specs.Pairs.{Pair}
 use Rattle.hz_description_model.specs.Reservations.Sets.{Statement, exclusion, presence, final_presence, absence, final_absence, Holds, HoldsSome, HoldsPattern, AllowsIn}
 use Rattle.hz_grid.specs.declared.rows.TheConstants.{UNITS}
-use Rattle.hz_grid.specs.Rows.{HasUnit, IsWithin}
+use Rattle.hz_grid.specs.Rows.{HasUnit, RowsMeet, IsWithin}
 use Rattle.hz_grid.specs.declared.usage.UsedRow.{UsedRow}
 use Rattle.hz_unitsets.specs.declared.row_rules.Rule.{Rule}
 use Rattle.hz_unitsets.specs.declared.rules.Asked.{Asked}
+use Rattle.hz_unitsets.specs.declared.rules.Block.{Block}
 use Rattle.hz_unitsets.specs.SetRules.{kind_of}
 use Rattle.hz_grid.specs.Stored.{units_of}
 
@@ -102,3 +103,48 @@ IsKept old item new = (Contains old item × (new ≡ old)) ⊎ ((Contains old it
 pub record AreSame (first second : List (Statement ℕ)) : Type 0 where
   pub there : (s : Statement ℕ) → Contains first s → Contains second s
   pub back : (s : Statement ℕ) → Contains second s → Contains first s
+
+-- the pattern has one of the keys
+pub record HasKey (pattern keys : ℕ) : Type 0 where
+  pub key : RowsMeet pattern keys
+
+-- each pattern has one of the keys, or each unit is one
+abbrev pub AreKeys : List ℕ → ℕ → ℕ → Type 0
+AreKeys patterns units keys = All (λ pattern. HasKey pattern keys) patterns ⊎ IsWithin units keys
+
+-- some pattern of the statement is in the wanted row, or each unit is a key
+abbrev pub IsWanted : Statement ℕ → ℕ → ℕ → ℕ → Type 0
+IsWanted s units keys wanted = HoldsPattern s.patterns (HasUnit wanted) ⊎ IsWithin units keys
+
+-- The statement allows a cycle where no key stands and none is added, and all that is wanted stands.
+pub record IsSummed (s : Statement ℕ) (keys wanted : ℕ) : Type 0 where
+  pub allowed : (source add : List (Pair ℕ)) (cycle : ℕ) → ((unit : ℕ) → HasUnit keys unit → Holds source cycle unit → ⊥) → ((unit : ℕ) → HasUnit keys unit → Holds add cycle unit → ⊥) → ((unit : ℕ) → HasUnit wanted unit → Holds source cycle unit) → AllowsAt s source add cycle
+
+-- the block speaks of each rule from its first to its last
+pub record IsBlock (rules : List Asked) (block : Block) : Type 0 where
+  pub order : block.from ≤ block.to
+  pub within : block.to ≤ length rules
+  pub triggers : (k : ℕ) (d : Asked) → block.from ≤ k → k < block.to → IsWithin (get_or rules k d).triggers block.triggers
+  pub summed : (k : ℕ) (d : Asked) → block.from ≤ k → k < block.to → IsSummed (asked_statement (get_or rules k d)) block.keys block.wanted
+
+-- the pairs hold all units of the row in that cycle
+pub record StandsHere (pairs : List (Pair ℕ)) (cycle wanted : ℕ) : Type 0 where
+  pub held : (unit : ℕ) → HasUnit wanted unit → Holds pairs cycle unit
+
+-- the same in each cycle of the rows
+abbrev pub StandsInEach : List (Pair ℕ) → List UsedRow → ℕ → Type 0
+StandsInEach pairs rows wanted = All (λ row. StandsHere pairs row.cycle wanted) rows
+
+-- It is seen that no rule of the block is broken: no unit is added that may break one, or no key stands or is added and all
+-- that is wanted stands.
+abbrev pub IsPast : Block → List (Pair ℕ) → List UsedRow → ℕ → ℕ → Type 0
+IsPast block source rows there units = (RowsMeet block.triggers units → ⊥) ⊎ ((RowsMeet block.keys there → ⊥) × (RowsMeet block.keys units → ⊥) × StandsInEach source rows block.wanted)
+
+-- each rule from one place to another allows each cycle
+abbrev pub AllowBetween : List Asked → List (Pair ℕ) → List (Pair ℕ) → ℕ → ℕ → Type 0
+AllowBetween rules source add from to = (k : ℕ) (d : Asked) → from ≤ k → k < to → Allows (asked_statement (get_or rules k d)) source add
+
+-- rules that are asked, with their blocks
+pub record AreBuilt (rules : List Asked) (blocks : List Block) (all : ℕ) : Type 0 where
+  pub asked : AreAsked rules all
+  pub told : All (IsBlock rules) blocks

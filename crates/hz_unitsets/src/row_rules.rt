@@ -4,7 +4,7 @@ ghost use Rattle.std.specs.Prelude.{◌≡◌, ◌↔◌, ◌<◌, ℕ, map, All
 ghost use Rattle.hz_description_model.specs.Reservations.Sets.{AllowsIn, HoldsSome, HoldsPattern, final_presence};
 ghost use Rattle.hz_grid.specs.Rows.{HasUnit, IsWithin};
 ghost use Rattle.hz_unitsets.specs.SetRules.{statement_of, IsInRange, in_order, ordered};
-ghost use Rattle.hz_unitsets.specs.RowRules.{statement_in, IsRow, IsBounded, IsTrigger, Breaks, ClearsIn, StandsIn, StandsAt};
+ghost use Rattle.hz_unitsets.specs.RowRules.{statement_in, IsRow, IsBounded, IsTrigger, Breaks, ClearsIn, StandsIn, StandsAt, HasKey, AreKeys, IsWanted, IsSummed};
 ghost use Rattle.hz_grid.specs.Stored.{units_of};
 
 use crate::set_rules::{SetKind, SetRule};
@@ -19,6 +19,14 @@ pub(crate) struct Rule {
     kind: SetKind,
     units: Row<4>,
     patterns: Vec<Row<4>>,
+}
+
+/// What tells of many cycles at once that rules allow them: none of the keys stands there or is added, and all that is wanted
+/// stands there.
+#[derive(Clone, Copy, Debug)]
+pub(crate) struct Summary {
+    pub keys: Row<4>,
+    pub wanted: Row<4>,
 }
 
 impl Rule {
@@ -126,6 +134,51 @@ impl Rule {
         }
     }
 
+    /// What tells of many cycles at once that the rule allows them.
+    pub(crate) fn summary(&self) -> Summary
+        requires { IsBounded self.now }
+        ensures { IsSummed (statement_in self.now) result.keys result.wanted }
+    {
+        match self.kind {
+            SetKind::Presence => self.wanting(),
+            SetKind::FinalPresence => self.wanting(),
+            _ => self.forbidding(),
+        }
+    }
+
+    // The same of a rule that wants a pattern: its first. Where it has none, its units tell.
+    fn wanting(&self) -> Summary
+        requires { IsBounded self.now }
+        ensures { IsWanted (statement_in self.now) self.now.units result.keys result.wanted }
+    {
+        let wanted = first_of(&self.patterns);
+        if self.holds_pattern(wanted) {
+            return Summary {
+                keys: Row::empty(),
+                wanted,
+            };
+        }
+        Summary {
+            keys: self.units,
+            wanted,
+        }
+    }
+
+    // The same of a rule that forbids patterns: a unit of each. Where one has none, the rule's units tell.
+    fn forbidding(&self) -> Summary
+        ensures { AreKeys self.now.patterns.items self.now.units result.keys }
+    {
+        let keys = keys_of(&self.patterns);
+        let wanted = Row::empty();
+        if each_meets(&self.patterns, keys) {
+            return Summary { keys, wanted };
+        }
+        Summary {
+            keys: self.units,
+            wanted,
+        }
+    }
+
     // Whether the row has a unit of the rule.
     fn holds_some(&self, row: Row<4>) -> bool
         requires { IsBounded self.now }
@@ -173,4 +226,50 @@ fn joined(units: Row<4>, others: &[Row<4>]) -> Row<4>
         all = all.join(*other);
     }
     all
+}
+
+// The first of the rows, if there is one.
+fn first_of(rows: &[Row<4>]) -> Row<4> {
+    match rows.first() {
+        Some(row) => *row,
+        None => Row::empty(),
+    }
+}
+
+// A unit of each row.
+fn keys_of(rows: &[Row<4>]) -> Row<4> {
+    let mut keys = Row::empty();
+    for row in rows {
+        keys = keys.join(key_of(*row));
+    }
+    keys
+}
+
+// The first unit of the row.
+fn key_of(row: Row<4>) -> Row<4> {
+    for unit in 0..UNITS {
+        if row.holds(unit as u8) {
+            return Row::empty().add(unit as u8);
+        }
+    }
+    Row::empty()
+}
+
+// Whether each of the rows has one of the keys.
+fn each_meets(rows: &[Row<4>], keys: Row<4>) -> bool
+    ensures { IsTrue result → All (λ row. HasKey row keys) rows.now }
+{
+    for row in rows {
+        if !has_key(row, keys) {
+            return false;
+        }
+    }
+    true
+}
+
+// Whether the row has one of the keys.
+fn has_key(row: &Row<4>, keys: Row<4>) -> bool
+    ensures { IsTrue result ↔ HasKey row.now keys }
+{
+    row.meets(keys)
 }

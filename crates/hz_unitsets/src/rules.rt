@@ -1,14 +1,14 @@
 //! The set statements of an automaton, each once, which are asked of grids.
 
-ghost use Rattle.std.specs.Prelude.{◌≡◌, ◌≢◌, ◌↔◌, ◌<◌, ℕ, List, map, All, IfOk, OnOk, IsTrue};
+ghost use Rattle.std.specs.Prelude.{◌≡◌, ◌≢◌, ◌↔◌, ◌<◌, ◌≤◌, ℕ, List, map, length, All, IfOk, OnOk, IsTrue};
 ghost use Rattle.std.specs.List.{AllPairs, Any};
 ghost use Rattle.hz_description_model.specs.Reservations.Sets.{Fits};
 ghost use Rattle.hz_pipeline_model.specs.Accepting.Fitting.{AskTheSame, IsUnbroken};
 ghost use Rattle.hz_unitsets.specs.SetRules.{statements_of, IsInRange, ordered};
-ghost use Rattle.hz_unitsets.specs.RowRules.{statement_in, asked_statement, IsBounded, IsAsked, Allows, AllowsAt, AllowsRows, ForbidsRows, Breaks, BreaksRow, HasStanding, IsClear, IsPart, IsKept, AreSame};
+ghost use Rattle.hz_unitsets.specs.RowRules.{statement_in, asked_statement, IsBounded, IsAsked, Allows, AllowsAt, AllowsRows, ForbidsRows, Breaks, BreaksRow, HasStanding, IsClear, IsPart, IsKept, AreSame, IsBlock, IsPast, StandsHere, StandsInEach, AllowBetween};
 ghost use Rattle.hz_base_model.specs.Pairs.{Pair};
 ghost use Rattle.hz_grid.specs.Rows.{HasUnit};
-ghost use Rattle.hz_grid.specs.Used.{IsRowOf};
+ghost use Rattle.hz_grid.specs.Used.{IsRowOf, AreRowsOf, HasUnitsOf};
 
 use crate::row_rules::Rule;
 use crate::set_rules::SetRule;
@@ -21,19 +21,20 @@ use std::marker::Model;
 #[derive(Drop, Debug)]
 pub struct Rules {
     rules: Vec<Asked>,
+    blocks: Vec<Block>,
     triggers: Row<4>,
 }
 
 impl Model for Rules {
     ghost use Rattle.std.specs.Prelude.{List, ℕ, map};
     ghost use Rattle.hz_description_model.specs.Reservations.Sets.{Statement};
-    ghost use Rattle.hz_unitsets.specs.RowRules.{asked_statement, AreAsked};
+    ghost use Rattle.hz_unitsets.specs.RowRules.{asked_statement, AreBuilt};
 
     ghost Value = { List (Statement ℕ) };
 
     ghost view = { λ all. map asked_statement all.rules.items };
 
-    ghost invariant = { λ all. AreAsked all.rules.items all.triggers };
+    ghost invariant = { λ all. AreBuilt all.rules.items all.blocks.items all.triggers };
 }
 
 // A rule, and the units whose addition may break it.
@@ -41,6 +42,17 @@ impl Model for Rules {
 struct Asked {
     rule: Rule,
     triggers: Row<4>,
+}
+
+// Neighbours among the rules, from one place to another, of which it is seen at once where they allow what is added: the
+// units whose addition may break one, and their summary.
+#[derive(Drop, Debug)]
+struct Block {
+    from: usize,
+    to: usize,
+    triggers: Row<4>,
+    keys: Row<4>,
+    wanted: Row<4>,
 }
 
 impl Rules {
@@ -58,7 +70,12 @@ impl Rules {
             triggers = triggers.join(asked.triggers);
             rules.push(asked)?;
         }
-        Ok(Rules { rules, triggers })
+        let blocks = blocks_of(alloc, &rules)?;
+        Ok(Rules {
+            rules,
+            blocks,
+            triggers,
+        })
     }
 
     /// Whether the added pairs fit what stands reserved, both with cycles counted from the present one: no pair is in
@@ -82,13 +99,29 @@ impl Rules {
         !add.meets(source) && self.allow(source, add)
     }
 
+    /// The same, where the statement that refused others is asked first. Its number among the statements is kept in `last`, in
+    /// which any number may stand.
+    pub fn fits_after(&self, source: &Grid, add: &Usage, last: &mut usize) -> bool
+        requires { IsUnbroken self.now source.now }
+        ensures { IsTrue result ↔ Fits self.now source.now add.now 0 }
+    {
+        if self.is_refused_by(*last, source, add) || add.meets(source) {
+            return false;
+        }
+        if self.allow(source, add) {
+            return true;
+        }
+        *last = first_refusing(&self.rules, &self.blocks, source, add);
+        false
+    }
+
     /// Whether it is seen from some pairs that no grid that has them fits a source that breaks no exclusion: one of them
     /// stands there, or a statement forbids them whatever is added beside them. It takes no memory.
     pub fn refuses(&self, source: &Grid, part: &Usage) -> bool
         requires { IsUnbroken self.now source.now }
         ensures { IsTrue result → (pairs : List (Pair ℕ)) → IsPart part.now pairs → ¬ Fits self.now source.now pairs 0 }
     {
-        part.meets(source) || some_forbids(&self.rules, source, part)
+        part.meets(source) || some_forbids_in_blocks(&self.rules, &self.blocks, source, part)
     }
 
     /// Whether what stands reserved breaks no exclusion. It takes no memory.
@@ -98,13 +131,252 @@ impl Rules {
         none_broken(&self.rules, source)
     }
 
+    // Whether there is a rule of that number, and it does not allow what is added.
+    fn is_refused_by(&self, number: usize, source: &Grid, add: &Usage) -> bool
+        requires { IsUnbroken self.now source.now }
+        ensures { IsTrue result → ¬ All (λ s. Allows s source.now add.now) self.now }
+    {
+        number < self.rules.len() && refuses_at(&self.rules, number, source, add)
+    }
+
     // Whether each rule allows each cycle, where the source breaks no exclusion.
     fn allow(&self, source: &Grid, add: &Usage) -> bool
         requires { IsUnbroken self.now source.now }
         ensures { IsTrue result ↔ All (λ s. Allows s source.now add.now) self.now }
     {
-        !self.triggers.meets(add.units()) || all_allow(&self.rules, source, add)
+        !self.triggers.meets(add.units())
+            || all_allow_in_blocks(&self.rules, &self.blocks, source, add)
     }
+}
+
+// Whether the rule at that place does not allow what is added.
+fn refuses_at(rules: &[Asked], place: usize, source: &Grid, add: &Usage) -> bool
+    requires asked { All IsAsked rules.now }
+    requires place { place < length rules.now }
+    requires unbroken { All (λ asked. ¬ Breaks (asked_statement asked) source.now) rules.now }
+    ensures { IsTrue result → ¬ All (λ asked. Allows (asked_statement asked) source.now add.now) rules.now }
+{
+    let asked = &rules[place];
+    asked.triggers.meets(add.units()) && !asked.allows_each(source, add)
+}
+
+// The place of a rule that does not allow what is added, if one is found soon, and 0 if none is.
+fn first_refusing(rules: &[Asked], blocks: &[Block], source: &Grid, add: &Usage) -> usize
+    requires asked { All IsAsked rules.now }
+    requires blocks { All (IsBlock rules.now) blocks.now }
+    requires unbroken { All (λ asked. ¬ Breaks (asked_statement asked) source.now) rules.now }
+{
+    let rows = add.rows();
+    let there = standing(source, rows);
+    let mut next = 0;
+    for block in blocks {
+        if !is_past(block, source, rows, there, add.units()) {
+            let found = refusing_between(rules, block.from, block.to, source, add, there);
+            if let Some(place) = found {
+                return place;
+            }
+        }
+        next = block.to;
+    }
+    refusing_between(rules, next, rules.len(), source, add, there).unwrap_or(0)
+}
+
+// The same of the rules from one place to another.
+fn refusing_between(
+    rules: &[Asked],
+    from: usize,
+    to: usize,
+    source: &Grid,
+    add: &Usage,
+    there: Row<4>,
+) -> Option<usize>
+    requires asked { All IsAsked rules.now }
+    requires within { to ≤ length rules.now }
+    requires unbroken { All (λ asked. ¬ Breaks (asked_statement asked) source.now) rules.now }
+{
+    let units = add.units();
+    let mut left = patterns_in(FIRST_LOOKS, add.rows().len());
+    for place in from..to {
+        if !is_clear_at(rules, place, there, units) {
+            let count = rules[place].rule.pattern_count();
+            if left < count {
+                return None;
+            }
+            left -= count;
+            if refuses_at(rules, place, source, add) {
+                return Some(place);
+            }
+        }
+    }
+    None
+}
+
+// Whether the rule at that place is seen to allow what is added by what stands in any of its cycles.
+fn is_clear_at(rules: &[Asked], place: usize, there: Row<4>, units: Row<4>) -> bool
+    requires asked { All IsAsked rules.now }
+    requires place { place < length rules.now }
+{
+    rules[place].clears(there, units)
+}
+
+// So many rules are in a block, or more where there are more than so many blocks of them.
+const MANY: usize = 64;
+
+// The blocks of the rules, and none where these are few.
+fn blocks_of(alloc: Global, rules: &[Asked]) -> Result<Vec<Block>, NoMemory>
+    requires { All IsAsked rules.now }
+    ensures { IfOk result (λ blocks. All (IsBlock rules.now) blocks.items) }
+{
+    let mut blocks = Vec::new(alloc);
+    let size = MANY.max(rules.len() / MANY);
+    let mut from = 0;
+    while rules.len() - from > size {
+        let to = from + size;
+        blocks.push(block_of(rules, from, to))?;
+        from = to;
+    }
+    Ok(blocks)
+}
+
+// The block of the rules from one place to another.
+fn block_of(rules: &[Asked], from: usize, to: usize) -> Block
+    requires asked { All IsAsked rules.now }
+    requires order { from ≤ to }
+    requires within { to ≤ length rules.now }
+    ensures block { IsBlock rules.now result }
+    ensures from { result.from ≡ from }
+    ensures to { result.to ≡ to }
+{
+    let mut triggers = Row::empty();
+    let mut keys = Row::empty();
+    let mut wanted = Row::empty();
+    for place in from..to {
+        let asked = &rules[place];
+        let summary = asked.rule.summary();
+        triggers = triggers.join(asked.triggers);
+        keys = keys.join(summary.keys);
+        wanted = wanted.join(summary.wanted);
+    }
+    Block {
+        from,
+        to,
+        triggers,
+        keys,
+        wanted,
+    }
+}
+
+// Whether each rule allows each cycle, where the source breaks none. Of many rules, blocks are passed over of which this is
+// seen at once.
+fn all_allow_in_blocks(rules: &[Asked], blocks: &[Block], source: &Grid, add: &Usage) -> bool
+    requires asked { All IsAsked rules.now }
+    requires blocks { All (IsBlock rules.now) blocks.now }
+    requires unbroken { All (λ asked. ¬ Breaks (asked_statement asked) source.now) rules.now }
+    ensures { IsTrue result ↔ All (λ asked. Allows (asked_statement asked) source.now add.now) rules.now }
+{
+    if blocks.is_empty() {
+        return all_allow(rules, source, add);
+    }
+    let rows = add.rows();
+    let there = standing(source, rows);
+    let mut next = 0;
+    for block in blocks {
+        if block.from == next {
+            if !block_allows(rules, block, source, add, rows, there) {
+                return false;
+            }
+            next = block.to;
+        }
+    }
+    all_allow(&rules[next..], source, add)
+}
+
+// The same of the rules of a block, where what stands in the cycles of the rows is known.
+fn block_allows(
+    rules: &[Asked],
+    block: &Block,
+    source: &Grid,
+    add: &Usage,
+    rows: &[UsedRow],
+    there: Row<4>,
+) -> bool
+    requires asked { All IsAsked rules.now }
+    requires block { IsBlock rules.now block.now }
+    requires unbroken { All (λ asked. ¬ Breaks (asked_statement asked) source.now) rules.now }
+    requires rows { AreRowsOf add.now rows.now }
+    requires there { HasStanding source.now rows.now there }
+    ensures { IsTrue result ↔ AllowBetween rules.now source.now add.now block.now.from block.now.to }
+{
+    is_past(block, source, rows, there, add.units())
+        || all_allow(&rules[block.from..block.to], source, add)
+}
+
+// Whether it is seen that no rule of the block is broken: by the units that are added, or by what stands where they are.
+fn is_past(block: &Block, source: &Grid, rows: &[UsedRow], there: Row<4>, units: Row<4>) -> bool
+    ensures { IsTrue result → IsPast block.now source.now rows.now there units }
+{
+    if !block.triggers.meets(units) {
+        return true;
+    }
+    if block.keys.meets(there) || block.keys.meets(units) {
+        return false;
+    }
+    stands_in_each(block.wanted, source, rows)
+}
+
+// Whether all units of the row stand in each cycle of the rows.
+fn stands_in_each(wanted: Row<4>, source: &Grid, rows: &[UsedRow]) -> bool
+    ensures { IsTrue result → StandsInEach source.now rows.now wanted }
+{
+    if wanted.is_empty() {
+        return true;
+    }
+    for used in rows {
+        if !stands_at(wanted, source, used) {
+            return false;
+        }
+    }
+    true
+}
+
+// The same of one row's cycle.
+fn stands_at(wanted: Row<4>, source: &Grid, used: &UsedRow) -> bool
+    ensures { IsTrue result ↔ StandsHere source.now used.now.cycle wanted }
+{
+    wanted.within(source.row(used.cycle))
+}
+
+// Whether some rule forbids what has these pairs, where the source breaks none. Of many rules, blocks are passed over of which
+// it is seen at once that they don't.
+fn some_forbids_in_blocks(rules: &[Asked], blocks: &[Block], source: &Grid, part: &Usage) -> bool
+    requires asked { All IsAsked rules.now }
+    requires blocks { All (IsBlock rules.now) blocks.now }
+    requires unbroken { All (λ asked. ¬ Breaks (asked_statement asked) source.now) rules.now }
+    ensures { IsTrue result → (pairs : List (Pair ℕ)) → IsPart part.now pairs → ¬ All (λ asked. Allows (asked_statement asked) source.now pairs) rules.now }
+{
+    if blocks.is_empty() {
+        return some_forbids(rules, source, part);
+    }
+    let there = standing(source, part.rows());
+    let mut next = 0;
+    for block in blocks {
+        if block_forbids(rules, block, source, part, there) {
+            return true;
+        }
+        next = block.to;
+    }
+    some_forbids(&rules[next..], source, part)
+}
+
+// The same of the rules of a block.
+fn block_forbids(rules: &[Asked], block: &Block, source: &Grid, part: &Usage, there: Row<4>) -> bool
+    requires asked { All IsAsked rules.now }
+    requires block { IsBlock rules.now block.now }
+    requires unbroken { All (λ asked. ¬ Breaks (asked_statement asked) source.now) rules.now }
+    ensures { IsTrue result → (pairs : List (Pair ℕ)) → IsPart part.now pairs → ¬ All (λ asked. Allows (asked_statement asked) source.now pairs) rules.now }
+{
+    !is_past(block, source, part.rows(), there, part.units())
+        && some_forbids(&rules[block.from..block.to], source, part)
 }
 
 // Whether the source breaks none of the rules.

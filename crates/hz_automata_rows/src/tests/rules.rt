@@ -61,7 +61,8 @@ fn grid(rt: &impl Abort, alloc: Global, text: &[u8]) -> Result<Grid, Fail> {
     Ok(Grid::of(alloc, &pairs)?)
 }
 
-// Whether the added pairs fit the source under these statements. Where the source breaks no exclusion, both calls say so.
+// Whether the added pairs fit the source under these statements. Where the source breaks no exclusion, all three calls say so, whichever
+// statement is asked first.
 fn fit(
     rt: &impl Abort,
     alloc: Global,
@@ -76,6 +77,9 @@ fn fit(
     let fits = rules.fits(&source, &added);
     if rules.is_unbroken(&source) {
         assert_eq!(rt; rules.fits_unbroken(&source, &added), fits);
+        let mut last = 7;
+        assert_eq!(rt; rules.fits_after(&source, &added, &mut last), fits);
+        assert_eq!(rt; rules.fits_after(&source, &added, &mut last), fits);
     }
     Ok(fits)
 }

@@ -1,8 +1,8 @@
 use Rattle.hz_unitsets.proofs.Cycles.{rules_unbroken, allow_rules, grids_apart, grids_allowed}
 use Rattle.hz_unitsets.proofs.rules.Rules.refuses.Goals as goal
 
-pub some_forbids-requires-clause-unbroken : goal.some_forbids-requires-clause-unbroken
-some_forbids-requires-clause-unbroken c =
+pub some_forbids_in_blocks-requires-clause-unbroken : goal.some_forbids_in_blocks-requires-clause-unbroken
+some_forbids_in_blocks-requires-clause-unbroken c =
     let rules = c.self.inside.rules.items in
     rw c.deref.ensures.value (rules_unbroken rules c.args.source.now (rw (← c.self.view_is) at c.requires))
 
@@ -14,5 +14,5 @@ returns-then-meets c t pairs is fits =
 pub returns-else-meets : goal.returns-else-meets
 returns-else-meets c t pairs is fits =
     let rules = c.self.inside.rules.items in
-    let none = rw c.deref.ensures.value at c.some_forbids.ensures in
+    let none = rw c.deref.ensures.value at c.some_forbids_in_blocks.ensures in
     none t pairs is ((allow_rules rules c.args.source.now pairs).1 (rw (← c.self.view_is) at (grids_allowed c.args.self.now c.args.source.now pairs fits)))
