@@ -1,9 +1,9 @@
 #!/usr/bin/env python3
 """Extracts each pipeline of GCC's back ends with and without --align, gives both to hz, and prints a table of the answers.
 
-If both compile, their tables are compared. If only the aligned one does, drills of both treatments on its tables are
-compared with a calendar of the other. The machine descriptions are those of Debian's package gcc-12-source, unpacked into
-a folder that is removed, or those of a folder with GCC's source.
+If both compile, their tables are compared. If only the aligned one does, or these are of other automata, drills of both
+treatments on its tables are compared with a calendar of the other. The machine descriptions are those of Debian's package
+gcc-12-source, unpacked into a folder that is removed, or those of a folder with GCC's source.
 
 Each run of hz may have 6 GB of addresses. A proved program needs far less; one that is built to be tried without a proof reserves more
 than that, and can't start.
@@ -163,14 +163,28 @@ def drills_agree(hz, plain, aligned, is_any, most):
     return f"{counts[True]} accepted, {counts[False]} refused"
 
 
+def drills(hz, plain, aligned, most):
+    """How drills of both treatments agree."""
+    return "; ".join(f"{'ndfa' if is_any else 'first'}: {drills_agree(hz, plain, aligned, is_any, most)}" for is_any in (False, True))
+
+
+def automata(answer):
+    """The names of the automata of tables."""
+    return [line.split()[1] for line in answer.text.split("\n") if line.startswith("automaton ")]
+
+
 def agreement(hz, plain, aligned, answers, most):
-    """How both ways were compared."""
+    """How both ways were compared: by their tables, or by drills if these are not there or are of other automata, of which --merge joins
+    less if what is aligned needs less."""
     texts = ["\n".join(line for line in answer.text.split("\n") if not is_count(line)) for answer in answers]
     if answers[0].status == answers[1].status == 0:
-        return "the same tables" if texts[0] == texts[1] else "other tables: DIFFERS"
+        if texts[0] == texts[1]:
+            return "the same tables"
+        if automata(answers[0]) == automata(answers[1]):
+            return "other tables: DIFFERS"
+        return f"other automata; {drills(hz, plain, aligned, most)}"
     if answers[0].status != 0 and answers[1].status == 0:
-        return "; ".join(f"{'ndfa' if is_any else 'first'}: {drills_agree(hz, plain, aligned, is_any, most)}"
-                         for is_any in (False, True))
+        return drills(hz, plain, aligned, most)
     return "" if answers[0].told == answers[1].told else "another answer"
 
 
