@@ -1,0 +1,6 @@
+pub mod Reading
+pub mod Stepping
+pub mod Meaning
+pub mod WaitingLaws
+pub mod ChoosingLaws
+pub mod TakenLaws

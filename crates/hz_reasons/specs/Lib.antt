@@ -1,0 +1,5 @@
+pub mod Calendars
+pub mod Plans
+pub mod Waiting
+pub mod Choosing
+pub mod Taken

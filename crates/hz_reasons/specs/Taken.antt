@@ -1,0 +1,15 @@
+-- Pairs that stand reserved, as tests.
+use Rattle.std.specs.Prelude.{◌==◌, ◌&&◌, ℕ, Bool, List}
+use Rattle.hz_base_model.specs.Pairs.{Pair}
+use Rattle.hz_description_model.specs.Reservations.Automata.{UnitPlace}
+use Rattle.hz_pipeline_model.specs.Accepting.Plays.{has}
+use Rattle.hz_reasons.specs.Calendars.{at}
+use Rattle.hz_reasons.specs.declared.plan.Place.{Place}
+
+-- whether two units are the same
+abbrev pub same_unit : UnitPlace → UnitPlace → Bool
+same_unit u v = u.automaton == v.automaton && u.unit == v.unit
+
+-- whether the pair stands reserved in its automaton
+abbrev pub is_reserved : List (List (Pair ℕ)) → Place → Bool
+is_reserved grids p = has ◌==◌ (at grids p.automaton) (record { unit = p.unit; cycle = p.cycle })

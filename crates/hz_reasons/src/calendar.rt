@@ -1,0 +1,165 @@
+//! What stands reserved from the present cycle on, automaton by automaton.
+
+ghost use Rattle.std.specs.Prelude.{◌≡◌, ◌↔◌, ◌<◌, ℕ, List, [], replicate, length, vec_len, IsTrue, IfOk, OnOk, All};
+ghost use Rattle.hz_description_model.specs.Reservations.Automata.{UnitPlace};
+ghost use Rattle.hz_pipeline_model.specs.Accepting.Replay.{Pipeline, State, start, first_fit};
+ghost use Rattle.hz_why_model.specs.Waits.{after};
+ghost use Rattle.hz_reasons.specs.Plans.{IsWide, IsPlanOf, Stands, Issues};
+ghost use Rattle.hz_reasons.specs.Calendars.{at, AllFit, AreUnbroken, IsFirstOf, AreApart, AreUnited, Takes, IsLaterBy, AreLaterBy};
+
+use crate::plan::{Choice, Plan};
+use hz_grid::{Grid, NoMemory, Usage};
+use hz_unitsets::Rules;
+use std::alloc::Global;
+
+/// What stands reserved from the present cycle on: a grid for each automaton of a plan.
+#[derive(Drop)]
+pub struct Calendar {
+    pub grids: Vec<Grid>,
+}
+
+impl Calendar {
+    /// Nothing reserved. `NoMemory` where there was none.
+    pub fn start(alloc: Global, plan: &Plan) -> Result<Calendar, NoMemory>
+        ensures each { IfOk result (λ calendar. vec_len calendar.grids ≡ vec_len plan.now.rules) }
+        ensures unbroken { IfOk result (λ calendar. AreUnbroken plan.now.rules.items calendar.grids.items) }
+        ensures stands { IfOk result (λ calendar. (m : Pipeline UnitPlace) → Stands m calendar.grids.items start) }
+    {
+        Ok(Calendar {
+            grids: empty_grids(alloc, plan.rules.len())?,
+        })
+    }
+
+    /// An issue of a class in the first treatment: it takes the first of its alternatives that fits, whose number is answered. Where
+    /// none fits all stays as it was. Where memory ran out a part of the alternative may stand reserved, and the calendar is of no use.
+    pub fn issue(
+        &mut self,
+        alloc: Global,
+        plan: &Plan,
+        class: u32,
+    ) -> Result<Option<usize>, NoMemory>
+        requires class { class < vec_len plan.now.classes }
+        requires each { vec_len self.old.grids ≡ vec_len plan.now.rules }
+        requires wide { IsWide plan.now }
+        requires unbroken { AreUnbroken plan.now.rules.items self.old.grids.items }
+        ensures each { OnOk result (vec_len self.new.grids ≡ vec_len plan.now.rules) }
+        ensures unbroken { OnOk result (AreUnbroken plan.now.rules.items self.new.grids.items) }
+        ensures issues { IfOk result (λ taken. (m : Pipeline UnitPlace) (s : State UnitPlace) → IsPlanOf m plan.now → m.treatment ≡ first_fit → Stands m self.old.grids.items s → Issues m s class taken self.new.grids.items) }
+    {
+        let choices = &plan.classes[class as usize];
+        take_first(alloc, &plan.rules, &mut self.grids, choices)
+    }
+
+    /// So many cycles. It takes no memory.
+    pub fn advance(&mut self, plan: &Plan, cycles: u32)
+        requires each { vec_len self.old.grids ≡ vec_len plan.now.rules }
+        requires unbroken { AreUnbroken plan.now.rules.items self.old.grids.items }
+        ensures each { vec_len self.new.grids ≡ vec_len plan.now.rules }
+        ensures unbroken { AreUnbroken plan.now.rules.items self.new.grids.items }
+        ensures stands { (m : Pipeline UnitPlace) (s : State UnitPlace) → Stands m self.old.grids.items s → Stands m self.new.grids.items (after cycles s) }
+    {
+        let _automata = plan.rules.len();
+        advance_grids(self.grids.as_mut_slice(), cycles);
+    }
+}
+
+/// Whether in each automaton the added pairs fit what stands reserved there. It takes no memory.
+fn all_fit(rules: &[Rules], grids: &[Grid], parts: &[Usage]) -> bool
+    requires grids { length grids.now ≡ length rules.now }
+    requires parts { length parts.now ≡ length rules.now }
+    requires unbroken { AreUnbroken rules.now grids.now }
+    ensures { IsTrue result ↔ AllFit rules.now grids.now parts.now }
+{
+    for automaton in 0..rules.len() {
+        if !rules[automaton].fits_unbroken(&grids[automaton], &parts[automaton]) {
+            return false;
+        }
+    }
+    true
+}
+
+/// The first of the alternatives that fits, by its number; None if none does. It takes no memory.
+pub(crate) fn first_fitting(rules: &[Rules], grids: &[Grid], choices: &[Choice]) -> Option<usize>
+    requires grids { length grids.now ≡ length rules.now }
+    requires parts { All (λ choice. length choice.parts.items ≡ length rules.now) choices.now }
+    requires unbroken { AreUnbroken rules.now grids.now }
+    ensures { IsFirstOf rules.now grids.now choices.now result }
+{
+    for (number, choice) in choices.iter().enumerate() {
+        if all_fit(rules, grids, &choice.parts) {
+            return Some(number);
+        }
+    }
+    None
+}
+
+/// Adds the parts of the first of the alternatives that fits, whose number is answered. Where none fits all stays as it was, and where
+/// memory ran out some parts are added.
+fn take_first(
+    alloc: Global,
+    rules: &[Rules],
+    grids: &mut Vec<Grid>,
+    choices: &[Choice],
+) -> Result<Option<usize>, NoMemory>
+    requires grids { length grids.old.items ≡ length rules.now }
+    requires parts { All (λ choice. length choice.parts.items ≡ length rules.now) choices.now }
+    requires unbroken { AreUnbroken rules.now grids.old.items }
+    ensures unbroken { OnOk result (AreUnbroken rules.now grids.new.items) }
+    ensures each { OnOk result (length grids.new.items ≡ length grids.old.items) }
+    ensures first { IfOk result (IsFirstOf rules.now grids.old.items choices.now) }
+    ensures takes { IfOk result (Takes grids.old.items choices.now grids.new.items) }
+{
+    match first_fitting(rules, grids, choices) {
+        None => Ok(None),
+        Some(number) => {
+            reserve(alloc, grids, &choices[number].parts)?;
+            Ok(Some(number))
+        }
+    }
+}
+
+/// A grid with no pair for each of so many automata.
+pub(crate) fn empty_grids(alloc: Global, automata: usize) -> Result<Vec<Grid>, NoMemory>
+    ensures { IfOk result (λ grids. grids.items ≡ replicate automata []) }
+{
+    let mut grids = Vec::with_capacity(alloc, automata)?;
+    for _automaton in 0..automata {
+        grids.push(Grid::empty(alloc))?;
+    }
+    Ok(grids)
+}
+
+/// Adds the parts of an alternative, each in its automaton. Where memory ran out some of them are added.
+pub(crate) fn reserve(alloc: Global, grids: &mut Vec<Grid>, parts: &[Usage]) -> Result<(), NoMemory>
+    requires parts { length parts.now ≡ vec_len grids.old }
+    requires apart { AreApart grids.old.items parts.now }
+    ensures each { OnOk result (vec_len grids.new ≡ vec_len grids.old) }
+    ensures united { OnOk result (AreUnited grids.old.items parts.now grids.new.items) }
+{
+    for automaton in 0..parts.len() {
+        let with = grids[automaton].with(alloc, parts[automaton].grid())?;
+        grids[automaton] = with;
+    }
+    Ok(())
+}
+
+/// Goes so many cycles on. It takes no memory.
+fn advance_grid(grid: &mut Grid, cycles: u32)
+    ensures { IsLaterBy cycles grid.old grid.new }
+{
+    for _cycle in 0..cycles {
+        if grid.length() == 0 {
+            return;
+        }
+        grid.advance();
+    }
+}
+
+/// Goes so many cycles on in each automaton. It takes no memory.
+pub(crate) fn advance_grids(grids: &mut [Grid], cycles: u32)
+    ensures { AreLaterBy cycles grids.old grids.new }
+{
+    for grid in grids.iter_mut() {
+        advance_grid(grid, cycles);
+    }
+}

@@ -1,0 +1,7 @@
+pub mod Finding
+pub mod ReasonLaws
+pub mod Taking
+pub mod WaitLaws
+pub mod HolderLaws
+pub mod ChoiceLaws
+pub mod FrontLaws
