@@ -14,8 +14,9 @@ use Rattle.hz_altern.specs.declared.listing.joining.Joining.TheVariants.{Togethe
 use Rattle.hz_altern.specs.declared.known.Known.{Known}
 use Rattle.hz_altern.specs.declared.listing.leaves.Leaves.{Leaves}
 use Rattle.hz_altern.specs.declared.mark.Mark.TheVariants.{Plus}
+use Rattle.hz_altern.specs.Beside.{IsBeside}
 use Rattle.hz_altern.specs.Joinings.{IsListed, joined_by}
-use Rattle.hz_altern.specs.Leaves.{all_pairs, BeginsIn, Begins, Takes, AreTaken, AllEndBy, IsGathered}
+use Rattle.hz_altern.specs.Leaves.{all_pairs, BeginsIn, Begins, Takes, AreTaken, IsGathered}
 use Rattle.hz_altern.specs.Tables.{alternatives_in, known_alternatives, is_held}
 use Rattle.hz_altern.proofs.ChoiceWeights.{firsts_weigh, seconds_weigh}
 use Rattle.hz_altern.proofs.GatherLemmas.{together_of, part_at}
@@ -129,18 +130,6 @@ placed_same a b pairs cycles is =
     }
 
 -- ---- parts so far
-
--- Parts behind `nothing`, which changes no alternative: those with one are taken apart into leaves, the others listed.
-pub record IsBeside (known : Known) (es : List Expression) (leaves : Leaves) (cycles : ℕ) (others : Alternatives) : Type 0 where
-  pub ends : AllEndBy known cycle_limit leaves
-  pub pairs : List (Pair UnitPlace)
-  pub taken : AreTaken known leaves pairs
-  pub is_placed : IsPlaced (whole pairs cycles)
-  pub short : cycles ≤ cycle_limit
-  pub are_listed : All IsListed others
-  pub some : 0 < length others
-  pub short_others : greatest_length others ≤ cycle_limit
-  pub same : map listed (together_of known (nothing ∷ es)) ≡ joins (listed (whole pairs cycles) ∷ []) others
 
 module _ (known : Known) where
   abbrev of : List Expression → Alternatives

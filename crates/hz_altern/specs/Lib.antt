@@ -6,5 +6,6 @@ pub mod Answers
 pub mod Cuts
 pub mod Merging
 pub mod Leaves
+pub mod Beside
 pub mod Reserved
 pub mod Singles

@@ -18,4 +18,4 @@ pub use fault::{AlternFault, NoMemory};
 pub use known::Known;
 pub use listing::SIZE_LIMIT;
 pub use listing::expanding::{expand, expand_within};
-pub use projecting::project;
+pub use projecting::{part_in, project};

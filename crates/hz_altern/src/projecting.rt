@@ -49,6 +49,16 @@ fn cut(alloc: Global, alt: &Alt, automaton: u8) -> Result<(Vec<(u8, u16)>, Grid)
     Ok((pairs, grid))
 }
 
+/// What an alternative takes of the units of an automaton. Units are below `UNITS` and cycles below `CYCLES` of `hz_grid`; pairs may
+/// stand in any order. `NoMemory` where there was none.
+pub fn part_in(alloc: Global, alt: &Alt, automaton: u8) -> Result<Grid, NoMemory>
+    requires { IsCuttable (alternative_of alt.now) }
+    ensures { IfOk result (λ grid. grid ≡ cut automaton (alternative_of alt.now).pairs) }
+{
+    let (_pairs, grid) = cut(alloc, alt, automaton)?;
+    Ok(grid)
+}
+
 /// Adds pairs that are not among those that were seen, and says whether they were new.
 fn is_new(seen: &mut IndexSet<Vec<(u8, u16)>>, pairs: Vec<(u8, u16)>) -> Result<bool, NoMemory>
     ensures new { IfOk result (λ new. new ≡ not (list_any (grid_eq (within_pairs pairs.items)) (cuts_of seen.old.keys))) }

@@ -11,3 +11,5 @@ mod parts;
 pub use checked::{Checked, CheckedAutomaton, CheckedBypass, CheckedClass};
 pub use checking::check;
 pub use fault::{CheckFault, LimitName};
+pub use parts::placed_sets::PlacedSet;
+pub use parts::{Parts, parts_of};

@@ -1,6 +1,7 @@
 pub mod OperandLemmas
 pub mod FaultLemmas
 pub mod ListLemmas
+pub mod BypassLemmas
 pub mod ClassLemmas
 pub mod ConditionLemmas
 pub mod ConditionViews

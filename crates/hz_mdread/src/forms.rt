@@ -290,7 +290,6 @@ fn bypass_with(
 }
 
 /// A bypass by all its operands, where no string says another guard.
-#[tactic(auto, using(crate::proofs::OperandLemmas::no_bypass))]
 fn bypass_of(alloc: Global, place: Place, operands: &[Form]) -> Result<Addition, Wrong>
     ensures ok { IfOk result (λ added. model.bypass_of place.line place.form (trees operands.now) ≡ Ok (addition added)) }
     ensures err { IfErr result (TellsOf (λ fault. model.bypass_of place.line place.form (trees operands.now) ≡ Err fault)) }

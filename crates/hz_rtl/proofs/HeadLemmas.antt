@@ -89,3 +89,8 @@ pub place_size : (forms : List Form) (i : ℕ) (form : Form) → i < length form
 place_size [] i form inside is = absurd (omega arith)
 place_size (first ∷ forms) zero form inside is = let same = ap (λ (f : Form). size (tree f)) is in omega (arith, same)
 place_size (first ∷ forms) (suc i) form inside is = let h = place_size forms i form (omega arith) is in omega arith
+
+-- the operands of a list are less than the list
+pub headed_size : (t : Tree) (word : List ℕ) (operands : Trees) → Some (word, operands) ≡ head_of t → sizes operands < size t
+headed_size (list line (more (atom at w) os)) word operands h = let same = ap (λ (p : List ℕ × Trees). sizes p.1) (some_pair (word, operands) (w, os) h) in omega (arith, same)
+headed_size _ word operands h = absurd (cc)

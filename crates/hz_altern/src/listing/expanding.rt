@@ -1,8 +1,9 @@
 //! The alternatives of an expression. `most` is how many cycles and pairs a list of them may have together. That is asked
 //! before a list grows, so that none which passes it is held.
 
-ghost use Rattle.std.specs.Prelude.{◌≡◌, ◌<◌, ◌≤◌, ◌++◌, List, [], ◌∷◌, All, IsTrue, IfOk, IfErr, OnOk, length, map};
+ghost use Rattle.std.specs.Prelude.{◌≡◌, ◌+◌, ◌<◌, ◌≤◌, ◌++◌, List, [], ◌∷◌, All, IsTrue, IfOk, IfErr, OnOk, length, map, take};
 ghost use Rattle.hz_altern.specs.Answers.{Expands, Refuses, weight, total_weight};
+ghost use Rattle.hz_altern.specs.Beside.{IsBeside};
 ghost use Rattle.hz_altern.specs.Joinings.{IsListed, joined_by, joined_parts, left_behind, listed_lists, listed_beside, only_listed};
 ghost use Rattle.hz_altern.specs.Leaves.{Takes, AreTaken, AllEndBy};
 ghost use Rattle.hz_altern.specs.Shapes.{alternative_of, alternatives};
@@ -316,6 +317,15 @@ fn listing_parts(
     joined_lists(alloc, mark, first, second, most)
 }
 
+/// Parts that begin in the same cycle: those with one alternative are taken apart into names and run for so many cycles,
+/// and the alternatives of the others are listed.
+#[derive(Drop)]
+struct Beside {
+    leaves: Leaves,
+    length: u32,
+    others: Listing,
+}
+
 /// The alternatives of parts that begin in the same cycle, of which none is too long. Parts with one alternative are taken
 /// apart into names, each from its cycle on, so that the pairs of a name are joined once for each cycle in which it begins.
 #[cycle(listing)]
@@ -336,19 +346,98 @@ fn listing_together(
     ensures small { IfOk result (λ listing. total_weight listing ≤ most) }
     ensures err { IfErr result (Refuses most (map listed (together (known_alternatives known.now) (parts_of (expressions parts.now))))) }
 {
-    let mut leaves = Leaves::new(alloc);
-    let mut length = 1;
-    let mut others = idle(alloc, most)?;
-    for (place, part) in parts.iter().enumerate() {
-        let told = &singles[place];
-        if told.is_single() {
-            length = gather(alloc, part, 0, known, &mut leaves)?.max(length);
-        } else {
-            others = listing_beside(alloc, &others, part, told, known, most)?;
-        }
+    let leaves = Leaves::new(alloc);
+    let others = idle(alloc, most)?;
+    let mut beside = Beside {
+        leaves,
+        length: 1,
+        others,
+    };
+    listing_added(alloc, parts, singles, known, most, &mut beside)
+}
+
+/// The alternatives of parts that begin in the same cycle, of which none is too long. They are added to none.
+#[cycle(listing)]
+fn listing_added(
+    alloc: Global,
+    parts: &[Expr],
+    singles: &[Singles],
+    known: &Known,
+    most: usize,
+    beside: &mut Beside,
+) -> Result<Listing, AlternFault>
+    requires some { 0 < length parts.now }
+    requires formed { IsTrue (are_expressions (parts_of (expressions parts.now))) }
+    requires known { IsTrue (all_names_in (is_held (alternatives_in known.now)) (parts_of (expressions parts.now))) }
+    requires told { TellSingles (known_alternatives known.now) (parts_of (expressions parts.now)) singles.now }
+    requires short { greatest_length (together (known_alternatives known.now) (parts_of (expressions parts.now))) ≤ cycle_limit }
+    requires most { most ≤ size_limit }
+    requires before { IsBeside known.now [] beside.old.leaves beside.old.length beside.old.others }
+    ensures ok { IfOk result (λ listing. listing ≡ map listed (together (known_alternatives known.now) (parts_of (expressions parts.now)))) }
+    ensures small { IfOk result (λ listing. total_weight listing ≤ most) }
+    ensures err { IfErr result (Refuses most (map listed (together (known_alternatives known.now) (parts_of (expressions parts.now))))) }
+{
+    add_parts(alloc, parts, singles, known, most, beside)?;
+    let single = list_leaves(alloc, &beside.leaves, beside.length, known, most)?;
+    together(alloc, &single, &beside.others, most)
+}
+
+/// Adds parts to none, each to those before it.
+#[cycle(listing)]
+fn add_parts(
+    alloc: Global,
+    parts: &[Expr],
+    singles: &[Singles],
+    known: &Known,
+    most: usize,
+    beside: &mut Beside,
+) -> Result<(), AlternFault>
+    requires formed { IsTrue (are_expressions (parts_of (expressions parts.now))) }
+    requires known { IsTrue (all_names_in (is_held (alternatives_in known.now)) (parts_of (expressions parts.now))) }
+    requires told { TellSingles (known_alternatives known.now) (parts_of (expressions parts.now)) singles.now }
+    requires short { greatest_length (together (known_alternatives known.now) (parts_of (expressions parts.now))) ≤ cycle_limit }
+    requires most { most ≤ size_limit }
+    requires before { IsBeside known.now [] beside.old.leaves beside.old.length beside.old.others }
+    ensures ok { OnOk result (IsBeside known.now (expressions parts.now) beside.new.leaves beside.new.length beside.new.others) }
+    ensures err { IfErr result (Refuses most (map listed (together (known_alternatives known.now) (parts_of (expressions parts.now))))) }
+{
+    for place in 0..parts.len() {
+        add_part(alloc, parts, singles, place, known, most, beside)?;
     }
-    let single = list_leaves(alloc, &leaves, length, known, most)?;
-    together(alloc, &single, &others, most)
+    Ok(())
+}
+
+/// Adds the part at a place to those before it.
+#[cycle(listing)]
+fn add_part(
+    alloc: Global,
+    parts: &[Expr],
+    singles: &[Singles],
+    place: usize,
+    known: &Known,
+    most: usize,
+    beside: &mut Beside,
+) -> Result<(), AlternFault>
+    requires place { place < length parts.now }
+    requires formed { IsTrue (are_expressions (parts_of (expressions parts.now))) }
+    requires known { IsTrue (all_names_in (is_held (alternatives_in known.now)) (parts_of (expressions parts.now))) }
+    requires told { TellSingles (known_alternatives known.now) (parts_of (expressions parts.now)) singles.now }
+    requires short { greatest_length (together (known_alternatives known.now) (parts_of (expressions parts.now))) ≤ cycle_limit }
+    requires most { most ≤ size_limit }
+    requires before { IsBeside known.now (expressions (take place parts.now)) beside.old.leaves beside.old.length beside.old.others }
+    ensures ok { OnOk result (IsBeside known.now (expressions (take (place + 1) parts.now)) beside.new.leaves beside.new.length beside.new.others) }
+    ensures err { IfErr result (Refuses most (map listed (together (known_alternatives known.now) (parts_of (expressions parts.now))))) }
+{
+    let part = &parts[place];
+    let told = &singles[place];
+    if told.is_single() {
+        let length = gather(alloc, part, 0, known, &mut beside.leaves)?;
+        beside.length = length.max(beside.length);
+        return Ok(());
+    }
+    let others = listing_beside(alloc, &beside.others, part, told, known, most)?;
+    beside.others = others;
+    Ok(())
 }
 
 /// The alternatives of others and of one more part from the same cycle on, of which none is too long.

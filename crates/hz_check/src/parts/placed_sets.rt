@@ -18,7 +18,7 @@ use std::alloc::Global;
 
 /// A set statement on units by their places.
 #[derive(Drop)]
-pub(crate) struct PlacedSet {
+pub struct PlacedSet {
     pub kind: SetKind,
     pub units: Vec<UnitPlace>,
     pub patterns: Vec<Vec<UnitPlace>>,

@@ -1,6 +1,7 @@
 //! The values that forms are.
 
 ghost use Rattle.std.specs.Prelude.{◌≡◌, IfOk, IfErr, Ok, Err};
+ghost use Rattle.hz_block_model.specs.Running.Blocks as running;
 ghost use Rattle.hz_block_model.specs.Texts.Values as model;
 ghost use Rattle.hz_rtl.specs.Codes.{value_code};
 ghost use Rattle.hz_rtl.specs.Faults.{Tells};
@@ -12,6 +13,7 @@ use crate::block::{Op1, Op2, Value};
 use crate::fault::RtlFault;
 use crate::reading::codes::{ValueCode, value_code};
 use crate::reading::operands::{headed, register_in, word_in};
+use hz_regexp::NoMemory;
 use hz_sexp::Form;
 use std::alloc::Global;
 
@@ -41,8 +43,38 @@ fn constant_value(line: u32, operands: &[Form]) -> Result<Value, RtlFault>
     Ok(Value::Const(word_in(operand)?))
 }
 
+/// What is loaded from an address.
+fn load(alloc: Global, address: Value) -> Result<Value, NoMemory>
+    ensures { IfOk result (λ v. value v ≡ running.memory (value address)) }
+{
+    Ok(Value::Mem(Box::new(alloc, address)?))
+}
+
+/// An operator with its operand.
+fn unary(alloc: Global, operator: Op1, operand: Value) -> Result<Value, NoMemory>
+    ensures { IfOk result (λ v. value v ≡ running.unary (unary_operator operator) (value operand)) }
+{
+    Ok(Value::Unary(operator, Box::new(alloc, operand)?))
+}
+
+/// An operator with its two operands.
+fn binary(alloc: Global, operator: Op2, left: Value, right: Value) -> Result<Value, NoMemory>
+    ensures { IfOk result (λ v. value v ≡ running.binary (binary_operator operator) (value left) (value right)) }
+{
+    let left = Box::new(alloc, left)?;
+    Ok(Value::Binary(operator, left, Box::new(alloc, right)?))
+}
+
+/// One of two values by a test.
+fn choice(alloc: Global, test: Value, first: Value, second: Value) -> Result<Value, NoMemory>
+    ensures { IfOk result (λ v. value v ≡ running.choice (value test) (value first) (value second)) }
+{
+    let test = Box::new(alloc, test)?;
+    let first = Box::new(alloc, first)?;
+    Ok(Value::Choice(test, first, Box::new(alloc, second)?))
+}
+
 /// `(mem value)`
-#[tactic(auto, using(crate::proofs::ValueLemmas::no_memory))]
 #[cycle(value_of)]
 fn memory_value(alloc: Global, line: u32, operands: &[Form]) -> Result<Value, RtlFault>
     ensures ok { IfOk result (λ v. model.value_with line model.memory_code (trees operands.now) (judged operands.now) ≡ Ok (value v)) }
@@ -51,13 +83,11 @@ fn memory_value(alloc: Global, line: u32, operands: &[Form]) -> Result<Value, Rt
     if operands.len() != 1 {
         return Err(RtlFault::BadShape { line });
     }
-    let [operand] = operands else { unreachable!() };
-    let address = value_of(alloc, operand)?;
-    Ok(Value::Mem(Box::new(alloc, address)?))
+    let address = value_of(alloc, &operands[0])?;
+    Ok(load(alloc, address)?)
 }
 
 /// An operator with one operand.
-#[tactic(auto, using(crate::proofs::ValueLemmas::no_unary))]
 #[cycle(value_of)]
 fn unary_value(
     alloc: Global,
@@ -71,13 +101,11 @@ fn unary_value(
     if operands.len() != 1 {
         return Err(RtlFault::BadShape { line });
     }
-    let [operand] = operands else { unreachable!() };
-    let operand = value_of(alloc, operand)?;
-    Ok(Value::Unary(operator, Box::new(alloc, operand)?))
+    let operand = value_of(alloc, &operands[0])?;
+    Ok(unary(alloc, operator, operand)?)
 }
 
 /// An operator with two operands.
-#[tactic(auto, using(crate::proofs::ValueLemmas::no_binary))]
 #[cycle(value_of)]
 fn binary_value(
     alloc: Global,
@@ -91,17 +119,14 @@ fn binary_value(
     if operands.len() != 2 {
         return Err(RtlFault::BadShape { line });
     }
-    let [left, right] = operands else {
-        unreachable!()
-    };
+    let left = &operands[0];
+    let right = &operands[1];
     let left = value_of(alloc, left)?;
     let right = value_of(alloc, right)?;
-    let left = Box::new(alloc, left)?;
-    Ok(Value::Binary(operator, left, Box::new(alloc, right)?))
+    Ok(binary(alloc, operator, left, right)?)
 }
 
 /// `(if_then_else value value value)`
-#[tactic(auto, using(crate::proofs::ValueLemmas::no_choice))]
 #[cycle(value_of)]
 fn choice_value(alloc: Global, line: u32, operands: &[Form]) -> Result<Value, RtlFault>
     ensures ok { IfOk result (λ v. model.value_with line model.choice_code (trees operands.now) (judged operands.now) ≡ Ok (value v)) }
@@ -110,15 +135,13 @@ fn choice_value(alloc: Global, line: u32, operands: &[Form]) -> Result<Value, Rt
     if operands.len() != 3 {
         return Err(RtlFault::BadShape { line });
     }
-    let [test, first, second] = operands else {
-        unreachable!()
-    };
+    let test = &operands[0];
+    let first = &operands[1];
+    let second = &operands[2];
     let test = value_of(alloc, test)?;
     let first = value_of(alloc, first)?;
     let second = value_of(alloc, second)?;
-    let test = Box::new(alloc, test)?;
-    let first = Box::new(alloc, first)?;
-    Ok(Value::Choice(test, first, Box::new(alloc, second)?))
+    Ok(choice(alloc, test, first, second)?)
 }
 
 /// The value of a list at a line, by what it begins with and its operands.
@@ -143,7 +166,6 @@ fn value_with(
 }
 
 /// The value that a form is.
-#[tactic(auto, using(crate::proofs::HeadLemmas::value_headed, crate::proofs::HeadLemmas::value_unheaded))]
 #[cycle(value_of)]
 pub fn value_of(alloc: Global, form: &Form) -> Result<Value, RtlFault>
     ensures ok { IfOk result (λ v. model.value_of (tree form.now) ≡ Ok (value v)) }

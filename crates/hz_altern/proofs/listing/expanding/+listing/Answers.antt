@@ -1,17 +1,17 @@
-use Rattle.std.proofs.Common.{◌≡◌, ℕ, ◌+◌, ◌/◌, ◌<◌, ◌≤◌, max, [], ◌∷◌, ◌++◌, List, length, map, take, Some, All, sym, ap, ◌∙◌, subst, arith, rules}
+use Rattle.std.proofs.Common.{◌≡◌, ℕ, ◌+◌, ◌/◌, ◌<◌, ◌≤◌, max, List, length, map, take, Some, All, sym, ap, ◌∙◌, subst, arith, rules}
 use Rattle.std.specs.Prelude.{IsTrue, IfOk, IfErr}
 use Rattle.std.proofs.lemmas.Result.{err_from_is_err_and}
 use Rattle.hz_base_model.specs.Limits.{cycle_limit}
 use Rattle.hz_description_model.specs.Reservations.Limits.{size_limit}
 use Rattle.hz_altern.specs.Answers.{Refuses}
+use Rattle.hz_altern.specs.Beside.{IsBeside}
 use Rattle.hz_regexp.specs.Shape.{expression, expressions}
 use Rattle.hz_altern.specs.Joinings.{IsListed}
 use Rattle.hz_altern.specs.Shapes.{alternatives}
 use Rattle.hz_altern.specs.Tables.{alternatives_in, known_alternatives, is_held}
 use Rattle.std.proofs.lemmas.List.{take_all, length-map}
-use Rattle.hz_altern.proofs.BesideLemmas.{IsBeside, joins, within_length, none_beside, single_more, short_more, others_more, refused_more, refused_part, beside_at, listed_single, short_both, all_beside, refused_idle, refused_single}
+use Rattle.hz_altern.proofs.BesideLemmas.{joins, within_length, none_beside, single_more, short_more, others_more, refused_more, refused_part, beside_at, listed_single, short_both, all_beside, refused_idle, refused_single}
 use Rattle.hz_altern.proofs.GatherLemmas.{part_at}
-use Rattle.hz_altern.specs.declared.listing.leaves.Leaves.{Leaves}
 use Rattle.hz_regexp.specs.declared.expr.Expr.{Expr}
 use Rattle.hz_altern.proofs.HalfLemmas.{halved, single, repeated}
 use Rattle.hz_altern.proofs.KnownLemmas.{named_listed, placed_of, all_listed}
@@ -25,7 +25,6 @@ use Rattle.hz_description_model.specs.Reservations.Automata.{UnitPlace, listed}
 use Rattle.hz_description_model.specs.Reservations.Expressions.{is_expression}
 use Rattle.hz_description_model.specs.Reservations.NamesIn.{all_names}
 use Rattle.hz_altern.proofs.listing.expanding.+listing.Goals as goal
-use Rattle.hz_altern.proofs.listing.expanding.+listing.Goals.{listing_together-then-is_single+in_ok-gather, listing_together-else-is_single+in_ok-others-2}
 
 pub listing_parts-listing-requires : goal.listing_parts-listing-requires
 listing_parts-listing-requires t c =
@@ -175,52 +174,56 @@ listing-returns-in-Some-clause-err t c =
     ap alternatives c.deref.ensures.value ∙ (named_listed known c.in-Named.name _ there ∙ ap (λ e. map listed (alternatives_of (known_alternatives known) e)) (sym is)) in
     rw (← all) c.copied.ensures.err
 
-pub listing_together-loop-place-init : goal.listing_together-loop-place-init
-listing_together-loop-place-init t c = none_beside c.args.known.now c.new-leaves.result c.in_ok-others.others c.new-leaves.ensures c.in_ok-others.ensures.ok
+pub listing_together-listing_added-requires : goal.listing_together-listing_added-requires
+listing_together-listing_added-requires t c =
+    let before = none_beside c.args.known.now c.new-leaves.result c.in_ok-others.others c.new-leaves.ensures c.in_ok-others.ensures.ok in
+    search rules
 
-pub listing_together-gather-requires-clause-formed : goal.listing_together-gather-requires-clause-formed
-listing_together-gather-requires-clause-formed t c =
-    let part = part_at (is_held (alternatives_in c.args.known.now)) c.args.parts.now c.loop-place.place c.index-parts-place.result c.loop-place-test.true c.index-parts-place.is c.requires.formed c.requires.known in
+pub add_parts-returns-clause-ok : goal.add_parts-returns-clause-ok
+add_parts-returns-clause-ok t c = subst (λ (ps : List Expr). IsBeside c.args.known.now (expressions ps) c.loop-place.beside.leaves c.loop-place.beside.length c.loop-place.beside.others) (take_all c.loop-place.place c.args.parts.now c.loop-place-test.false) c.loop-place.invariant
+
+pub add_part-gather-requires-clause-formed : goal.add_part-gather-requires-clause-formed
+add_part-gather-requires-clause-formed t c =
+    let part = part_at (is_held (alternatives_in c.args.known.now)) c.args.parts.now c.args.place c.index-parts-place.result c.requires.place c.index-parts-place.is c.requires.formed c.requires.known in
     part.formed
 
-pub listing_together-gather-requires-clause-held : goal.listing_together-gather-requires-clause-held
-listing_together-gather-requires-clause-held t c =
-    let part = part_at (is_held (alternatives_in c.args.known.now)) c.args.parts.now c.loop-place.place c.index-parts-place.result c.loop-place-test.true c.index-parts-place.is c.requires.formed c.requires.known in
+pub add_part-gather-requires-clause-held : goal.add_part-gather-requires-clause-held
+add_part-gather-requires-clause-held t c =
+    let part = part_at (is_held (alternatives_in c.args.known.now)) c.args.parts.now c.args.place c.index-parts-place.result c.requires.place c.index-parts-place.is c.requires.formed c.requires.known in
     part.names_known
 
-pub listing_together-gather-requires-clause-one : goal.listing_together-gather-requires-clause-one
-listing_together-gather-requires-clause-one t c =
-    let part = part_at (is_held (alternatives_in c.args.known.now)) c.args.parts.now c.loop-place.place c.index-parts-place.result c.loop-place-test.true c.index-parts-place.is c.requires.formed c.requires.known in
-    let told = tell_at (known_alternatives c.args.known.now) c.args.parts.now c.args.singles.now c.loop-place.place c.index-parts-place.result c.index-singles-place.result c.loop-place-test.true c.index-parts-place.is c.index-singles-place.is c.requires.told in
+pub add_part-gather-requires-clause-one : goal.add_part-gather-requires-clause-one
+add_part-gather-requires-clause-one t c =
+    let part = part_at (is_held (alternatives_in c.args.known.now)) c.args.parts.now c.args.place c.index-parts-place.result c.requires.place c.index-parts-place.is c.requires.formed c.requires.known in
+    let told = tell_at (known_alternatives c.args.known.now) c.args.parts.now c.args.singles.now c.args.place c.index-parts-place.result c.index-singles-place.result c.requires.place c.index-parts-place.is c.index-singles-place.is c.requires.told in
     one_told (known_alternatives c.args.known.now) (expression c.index-parts-place.result) c.index-singles-place.result part.formed told c.is_single.result c.is_single.ensures c.if-is_single.true
 
-pub listing_together-gather-requires-clause-short : goal.listing_together-gather-requires-clause-short
-listing_together-gather-requires-clause-short t c =
-    let at = beside_at c.args.known.now c.args.parts.now c.loop-place.place c.index-parts-place.result c.loop-place-test.true c.index-parts-place.is c.requires.formed c.requires.known c.requires.short in
+pub add_part-gather-requires-clause-short : goal.add_part-gather-requires-clause-short
+add_part-gather-requires-clause-short t c =
+    let at = beside_at c.args.known.now c.args.parts.now c.args.place c.index-parts-place.result c.requires.place c.index-parts-place.is c.requires.formed c.requires.known c.requires.short in
     let short = at.short in
     omega arith
 
-pub listing_together-loop-place-preserved : goal.listing_together-loop-place-preserved
-listing_together-loop-place-preserved t c =
-    let part = part_at (is_held (alternatives_in c.args.known.now)) c.args.parts.now c.loop-place.place c.index-parts-place.result c.loop-place-test.true c.index-parts-place.is c.requires.formed c.requires.known in
-    let at = beside_at c.args.known.now c.args.parts.now c.loop-place.place c.index-parts-place.result c.loop-place-test.true c.index-parts-place.is c.requires.formed c.requires.known c.requires.short in
-    let before = expressions (take c.loop-place.place c.args.parts.now) in
+pub add_part-returns-then-is_single-clause-ok : goal.add_part-returns-then-is_single-clause-ok
+add_part-returns-then-is_single-clause-ok t c =
+    let part = part_at (is_held (alternatives_in c.args.known.now)) c.args.parts.now c.args.place c.index-parts-place.result c.requires.place c.index-parts-place.is c.requires.formed c.requires.known in
+    let at = beside_at c.args.known.now c.args.parts.now c.args.place c.index-parts-place.result c.requires.place c.index-parts-place.is c.requires.formed c.requires.known c.requires.short in
+    let before = expressions (take c.args.place c.args.parts.now) in
     let e = expression c.index-parts-place.result in
-    let told = tell_at (known_alternatives c.args.known.now) c.args.parts.now c.args.singles.now c.loop-place.place c.index-parts-place.result c.index-singles-place.result c.loop-place-test.true c.index-parts-place.is c.index-singles-place.is c.requires.told in
-    let known = c.args.known.now in
-    let Now : Leaves → ℕ → List (Alternative UnitPlace) → Type 0 = λ leaves cycles others. IsBeside known (before ++ e ∷ []) leaves cycles others in
-    rw part.next (elim c.if-is_single.branch [
-      | listing_together-then-is_single+in_ok-gather w ↦
-          let one = one_told (known_alternatives known) e c.index-singles-place.result part.formed told c.is_single.result c.is_single.ensures w.if-is_single.true in
-          let more = single_more known before e c.loop-place.leaves c.loop-place.length c.loop-place.others c.loop-place.invariant part.formed at.short w.gather.new.leaves w.max-length.result one w.in_ok-gather.ensures.gathered (w.max-length.ensures ∙ ap (λ (n : ℕ). max n c.loop-place.length) w.in_ok-gather.ensures.length) in
-          rw (w.leaves-is, w.length-is, w.others-is) more
-      | listing_together-else-is_single+in_ok-others-2 w ↦
-          let more = others_more known before e c.loop-place.leaves c.loop-place.length c.loop-place.others c.loop-place.invariant part.formed at.short part.names_known w.in_ok-others-2.others w.in_ok-others-2.ensures.ok in
-          rw (w.leaves-is, w.length-is, w.others-is) more
-    ])
+    let told = tell_at (known_alternatives c.args.known.now) c.args.parts.now c.args.singles.now c.args.place c.index-parts-place.result c.index-singles-place.result c.requires.place c.index-parts-place.is c.index-singles-place.is c.requires.told in
+    let one = one_told (known_alternatives c.args.known.now) e c.index-singles-place.result part.formed told c.is_single.result c.is_single.ensures c.if-is_single.true in
+    rw part.next (single_more c.args.known.now before e c.args.beside.now.leaves c.args.beside.now.length c.args.beside.now.others c.requires.before part.formed at.short c.gather.new.leaves c.max-beside.result one c.in_ok-length.ensures.gathered (c.max-beside.ensures ∙ ap (λ (n : ℕ). max n c.args.beside.now.length) c.in_ok-length.ensures.length))
 
-pub listing_together-bounds-singles-place : goal.listing_together-bounds-singles-place
-listing_together-bounds-singles-place t c = omega (arith, tell_length (known_alternatives c.args.known.now) c.args.parts.now c.args.singles.now c.requires.told, c.loop-place-test.true)
+pub add_part-returns-clause-ok : goal.add_part-returns-clause-ok
+add_part-returns-clause-ok t c =
+    let part = part_at (is_held (alternatives_in c.args.known.now)) c.args.parts.now c.args.place c.index-parts-place.result c.requires.place c.index-parts-place.is c.requires.formed c.requires.known in
+    let at = beside_at c.args.known.now c.args.parts.now c.args.place c.index-parts-place.result c.requires.place c.index-parts-place.is c.requires.formed c.requires.known c.requires.short in
+    let before = expressions (take c.args.place c.args.parts.now) in
+    let e = expression c.index-parts-place.result in
+    rw part.next (others_more c.args.known.now before e c.args.beside.now.leaves c.args.beside.now.length c.args.beside.now.others c.requires.before part.formed at.short part.names_known c.in_ok-others.others c.in_ok-others.ensures.ok)
+
+pub add_part-bounds-singles-place : goal.add_part-bounds-singles-place
+add_part-bounds-singles-place t c = omega (arith, tell_length (known_alternatives c.args.known.now) c.args.parts.now c.args.singles.now c.requires.told, c.requires.place)
 
 pub listing_parts-split_at-requires-2 : goal.listing_parts-split_at-requires-2
 listing_parts-split_at-requires-2 t c = omega (arith, tell_length (known_alternatives c.args.known.now) c.args.parts.now c.args.singles.now c.requires.told)
@@ -232,85 +235,85 @@ listing_together-returns-in_err-others-clause-err t c =
     let p = err_from_is_err_and c.from_residual.result c.from_residual.ensures.1 in
     rw (p.1, p.2) (refused_idle c.args.known.now es some c.requires.formed c.requires.known c.args.most _ c.in_err-others.ensures.err)
 
-pub listing_together-listing_beside-requires : goal.listing_together-listing_beside-requires
-listing_together-listing_beside-requires t c =
-    let part = part_at (is_held (alternatives_in c.args.known.now)) c.args.parts.now c.loop-place.place c.index-parts-place.result c.loop-place-test.true c.index-parts-place.is c.requires.formed c.requires.known in
-    let at = beside_at c.args.known.now c.args.parts.now c.loop-place.place c.index-parts-place.result c.loop-place-test.true c.index-parts-place.is c.requires.formed c.requires.known c.requires.short in
-    let before = expressions (take c.loop-place.place c.args.parts.now) in
+pub add_part-listing_beside-requires : goal.add_part-listing_beside-requires
+add_part-listing_beside-requires t c =
+    let part = part_at (is_held (alternatives_in c.args.known.now)) c.args.parts.now c.args.place c.index-parts-place.result c.requires.place c.index-parts-place.is c.requires.formed c.requires.known in
+    let at = beside_at c.args.known.now c.args.parts.now c.args.place c.index-parts-place.result c.requires.place c.index-parts-place.is c.requires.formed c.requires.known c.requires.short in
+    let before = expressions (take c.args.place c.args.parts.now) in
     let e = expression c.index-parts-place.result in
     let formed = part.formed in
     let names_known = part.names_known in
     let fewer = part.fewer in
     let short_part = at.short in
-    let some = c.loop-place.invariant.some in
-    let each = c.loop-place.invariant.are_listed in
-    let short = short_more c.args.known.now before e c.loop-place.leaves c.loop-place.length c.loop-place.others c.loop-place.invariant part.formed at.short part.names_known in
-    let told = tell_at (known_alternatives c.args.known.now) c.args.parts.now c.args.singles.now c.loop-place.place c.index-parts-place.result c.index-singles-place.result c.loop-place-test.true c.index-parts-place.is c.index-singles-place.is c.requires.told in
+    let some = c.requires.before.some in
+    let each = c.requires.before.are_listed in
+    let short = short_more c.args.known.now before e c.args.beside.now.leaves c.args.beside.now.length c.args.beside.now.others c.requires.before part.formed at.short part.names_known in
+    let told = tell_at (known_alternatives c.args.known.now) c.args.parts.now c.args.singles.now c.args.place c.index-parts-place.result c.index-singles-place.result c.requires.place c.index-parts-place.is c.index-singles-place.is c.requires.told in
     search rules
 
-pub listing_together-returns-in_err-others-2-clause-err : goal.listing_together-returns-in_err-others-2-clause-err
-listing_together-returns-in_err-others-2-clause-err t c =
-    let part = part_at (is_held (alternatives_in c.args.known.now)) c.args.parts.now c.loop-place.place c.index-parts-place.result c.loop-place-test.true c.index-parts-place.is c.requires.formed c.requires.known in
-    let at = beside_at c.args.known.now c.args.parts.now c.loop-place.place c.index-parts-place.result c.loop-place-test.true c.index-parts-place.is c.requires.formed c.requires.known c.requires.short in
-    let before = expressions (take c.loop-place.place c.args.parts.now) in
+pub add_part-returns-in_err-others-clause-err : goal.add_part-returns-in_err-others-clause-err
+add_part-returns-in_err-others-clause-err t c =
+    let part = part_at (is_held (alternatives_in c.args.known.now)) c.args.parts.now c.args.place c.index-parts-place.result c.requires.place c.index-parts-place.is c.requires.formed c.requires.known in
+    let at = beside_at c.args.known.now c.args.parts.now c.args.place c.index-parts-place.result c.requires.place c.index-parts-place.is c.requires.formed c.requires.known c.requires.short in
+    let before = expressions (take c.args.place c.args.parts.now) in
     let e = expression c.index-parts-place.result in
-    let p = err_from_is_err_and c.from_residual-in_err-others-2.result c.from_residual-in_err-others-2.ensures.1 in
-    rw (p.1, p.2) (at.refused c.args.most _ (refused_more c.args.known.now before e c.loop-place.leaves c.loop-place.length c.loop-place.others c.loop-place.invariant part.formed at.short part.names_known c.args.most _ c.in_err-others-2.ensures.err))
+    let p = err_from_is_err_and c.from_residual-in_err-others.result c.from_residual-in_err-others.ensures.1 in
+    rw (p.1, p.2) (at.refused c.args.most _ (refused_more c.args.known.now before e c.args.beside.now.leaves c.args.beside.now.length c.args.beside.now.others c.requires.before part.formed at.short part.names_known c.args.most _ c.in_err-others.ensures.err))
 
-pub listing_together-list_leaves-requires : goal.listing_together-list_leaves-requires
-listing_together-list_leaves-requires t c =
+pub listing_added-list_leaves-requires : goal.listing_added-list_leaves-requires
+listing_added-list_leaves-requires t c =
     let known = c.args.known.now in
     let es = expressions c.args.parts.now in
     let some : 0 < length es = simp length-map c.requires.some in
-    let are : IsBeside known es c.loop-place.leaves c.loop-place.length c.loop-place.others = subst (λ (ps : List Expr). IsBeside known (expressions ps) c.loop-place.leaves c.loop-place.length c.loop-place.others) (take_all c.loop-place.place c.args.parts.now c.loop-place-test.false) c.loop-place.invariant in
+    let are = c.in_ok-add_parts.ensures.ok in
     record {
-      ends = c.loop-place.invariant.ends;
-      within = within_length known es c.loop-place.leaves c.loop-place.length c.loop-place.others are some c.requires.formed;
-      short = c.loop-place.invariant.short;
+      ends = are.ends;
+      within = within_length known es c.add_parts.new.beside.leaves c.add_parts.new.beside.length c.add_parts.new.beside.others are some c.requires.formed;
+      short = are.short;
       most = c.requires.most;
     }
 
-pub listing_together-returns-in_err-single-clause-err : goal.listing_together-returns-in_err-single-clause-err
-listing_together-returns-in_err-single-clause-err t c =
+pub listing_added-returns-in_err-single-clause-err : goal.listing_added-returns-in_err-single-clause-err
+listing_added-returns-in_err-single-clause-err t c =
     let known = c.args.known.now in
     let es = expressions c.args.parts.now in
     let some : 0 < length es = simp length-map c.requires.some in
-    let are : IsBeside known es c.loop-place.leaves c.loop-place.length c.loop-place.others = subst (λ (ps : List Expr). IsBeside known (expressions ps) c.loop-place.leaves c.loop-place.length c.loop-place.others) (take_all c.loop-place.place c.args.parts.now c.loop-place-test.false) c.loop-place.invariant in
+    let are = c.in_ok-add_parts.ensures.ok in
     let p = err_from_is_err_and c.from_residual-in_err-single.result c.from_residual-in_err-single.ensures.1 in
-    rw (p.1, p.2) (refused_single known es c.loop-place.leaves c.loop-place.length c.loop-place.others are some c.requires.formed c.args.most _ (c.in_err-single.ensures.err are.pairs are.taken))
+    rw (p.1, p.2) (refused_single known es c.add_parts.new.beside.leaves c.add_parts.new.beside.length c.add_parts.new.beside.others are some c.requires.formed c.args.most _ (c.in_err-single.ensures.err are.pairs are.taken))
 
-pub listing_together-together-requires-clause-first : goal.listing_together-together-requires-clause-first
-listing_together-together-requires-clause-first t c =
+pub listing_added-together-requires-clause-first : goal.listing_added-together-requires-clause-first
+listing_added-together-requires-clause-first t c =
     let known = c.args.known.now in
     let es = expressions c.args.parts.now in
     let some : 0 < length es = simp length-map c.requires.some in
-    let are : IsBeside known es c.loop-place.leaves c.loop-place.length c.loop-place.others = subst (λ (ps : List Expr). IsBeside known (expressions ps) c.loop-place.leaves c.loop-place.length c.loop-place.others) (take_all c.loop-place.place c.args.parts.now c.loop-place-test.false) c.loop-place.invariant in
-    subst (All IsListed) (sym (c.in_ok-single.ensures.ok are.pairs are.taken)) (listed_single known es c.loop-place.leaves c.loop-place.length c.loop-place.others are some c.requires.formed)
+    let are = c.in_ok-add_parts.ensures.ok in
+    subst (All IsListed) (sym (c.in_ok-single.ensures.ok are.pairs are.taken)) (listed_single known es c.add_parts.new.beside.leaves c.add_parts.new.beside.length c.add_parts.new.beside.others are some c.requires.formed)
 
-pub listing_together-together-requires-clause-short : goal.listing_together-together-requires-clause-short
-listing_together-together-requires-clause-short t c =
+pub listing_added-together-requires-clause-short : goal.listing_added-together-requires-clause-short
+listing_added-together-requires-clause-short t c =
     let known = c.args.known.now in
     let es = expressions c.args.parts.now in
     let some : 0 < length es = simp length-map c.requires.some in
-    let are : IsBeside known es c.loop-place.leaves c.loop-place.length c.loop-place.others = subst (λ (ps : List Expr). IsBeside known (expressions ps) c.loop-place.leaves c.loop-place.length c.loop-place.others) (take_all c.loop-place.place c.args.parts.now c.loop-place-test.false) c.loop-place.invariant in
-    rw (c.in_ok-single.ensures.ok are.pairs are.taken) (short_both known es c.loop-place.leaves c.loop-place.length c.loop-place.others are some c.requires.formed)
+    let are = c.in_ok-add_parts.ensures.ok in
+    rw (c.in_ok-single.ensures.ok are.pairs are.taken) (short_both known es c.add_parts.new.beside.leaves c.add_parts.new.beside.length c.add_parts.new.beside.others are some c.requires.formed)
 
-pub listing_together-returns-clause-ok : goal.listing_together-returns-clause-ok
-listing_together-returns-clause-ok t c =
+pub listing_added-returns-clause-ok : goal.listing_added-returns-clause-ok
+listing_added-returns-clause-ok t c =
     let known = c.args.known.now in
     let es = expressions c.args.parts.now in
     let some : 0 < length es = simp length-map c.requires.some in
-    let are : IsBeside known es c.loop-place.leaves c.loop-place.length c.loop-place.others = subst (λ (ps : List Expr). IsBeside known (expressions ps) c.loop-place.leaves c.loop-place.length c.loop-place.others) (take_all c.loop-place.place c.args.parts.now c.loop-place-test.false) c.loop-place.invariant in
-    let joined = ap (λ xs. joins xs c.loop-place.others) (c.in_ok-single.ensures.ok are.pairs are.taken) ∙ all_beside known es c.loop-place.leaves c.loop-place.length c.loop-place.others are some c.requires.formed in
+    let are = c.in_ok-add_parts.ensures.ok in
+    let joined = ap (λ xs. joins xs c.add_parts.new.beside.others) (c.in_ok-single.ensures.ok are.pairs are.taken) ∙ all_beside known es c.add_parts.new.beside.leaves c.add_parts.new.beside.length c.add_parts.new.beside.others are some c.requires.formed in
     subst (λ (xs : List (Alternative UnitPlace)). IfOk c.together.result (λ listing. listing ≡ xs)) joined c.together.ensures.ok
 
-pub listing_together-returns-clause-err : goal.listing_together-returns-clause-err
-listing_together-returns-clause-err t c =
+pub listing_added-returns-clause-err : goal.listing_added-returns-clause-err
+listing_added-returns-clause-err t c =
     let known = c.args.known.now in
     let es = expressions c.args.parts.now in
     let some : 0 < length es = simp length-map c.requires.some in
-    let are : IsBeside known es c.loop-place.leaves c.loop-place.length c.loop-place.others = subst (λ (ps : List Expr). IsBeside known (expressions ps) c.loop-place.leaves c.loop-place.length c.loop-place.others) (take_all c.loop-place.place c.args.parts.now c.loop-place-test.false) c.loop-place.invariant in
-    let joined = ap (λ xs. joins xs c.loop-place.others) (c.in_ok-single.ensures.ok are.pairs are.taken) ∙ all_beside known es c.loop-place.leaves c.loop-place.length c.loop-place.others are some c.requires.formed in
+    let are = c.in_ok-add_parts.ensures.ok in
+    let joined = ap (λ xs. joins xs c.add_parts.new.beside.others) (c.in_ok-single.ensures.ok are.pairs are.taken) ∙ all_beside known es c.add_parts.new.beside.leaves c.add_parts.new.beside.length c.add_parts.new.beside.others are some c.requires.formed in
     subst (λ (xs : List (Alternative UnitPlace)). IfErr c.together.result (Refuses c.args.most xs)) joined c.together.ensures.err
 
 pub listing_beside-returns-in_err-more-clause-err : goal.listing_beside-returns-in_err-more-clause-err
