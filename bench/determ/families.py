@@ -15,6 +15,7 @@ several: 4,096 alternatives of two units each with no pair in common, under a th
 others: the same, where 64 statements refuse 64 alternatives each.
 thousands: single under 30,000 statements.
 wanting: present under 30,000 statements.
+spread: 36 times 36 alternatives, no two of which have a cycle with the same units, refused in their last cycle.
 """
 import sys
 
@@ -118,6 +119,14 @@ def thousands(cycles, kind="absence"):
         hold(cycles, 60)
 
 
+def spread(cycles):
+    first, second = names("a", 36), names("b", 36)
+    unit(*first, *second, "w", "y")
+    print(f'(absence_set "{",".join(first)}" "w")')
+    insn("x", f"({'|'.join(f'{one}*{cycles}' for one in first)})+({'|'.join(f'{one}*{cycles}' for one in second)})")
+    insn("y", f"nothing*{cycles - 1},w")
+
+
 def pairs():
     units = names("p", 46)
     return [f"{one} {other}" for place, one in enumerate(units) for other in units[place + 1 :]][:999]
@@ -149,6 +158,7 @@ KINDS = {
     "others": lambda cycles: several(cycles, lambda units: [[unit] for unit in units]),
     "thousands": thousands,
     "wanting": lambda cycles: thousands(cycles, "presence"),
+    "spread": spread,
 }
 
 KINDS[sys.argv[1]](int(sys.argv[2]))

@@ -11,4 +11,5 @@ pub mod SetLemmas
 pub mod BuildLemmas
 pub mod LateLemmas
 pub mod TryLemmas
+pub mod SharingLemmas
 pub mod AskingLemmas

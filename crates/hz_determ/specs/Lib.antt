@@ -6,5 +6,5 @@ pub mod Sets
 pub mod Reading
 pub mod Explored
 pub mod Worked
-pub mod Trying
+pub mod Sharing
 pub mod Asking

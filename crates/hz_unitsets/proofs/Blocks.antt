@@ -1,11 +1,11 @@
 -- What a block of rules tells of each of its rules.
-use Rattle.std.proofs.Common.{◌≡◌, ℕ, ◌+◌, ◌-◌, ◌<◌, ◌≤◌, take, drop, length-drop, ◌↔◌, ◌⊎◌, inl, inr, List, [], ◌∷◌, ◌++◌, map, get_or, length, All, Contains, refl, sym, ap, ◌∙◌, subst, arith, ⊎_elim}
+use Rattle.std.proofs.Common.{◌≡◌, ℕ, ◌+◌, ◌-◌, ◌<◌, ◌≤◌, take, drop, length-drop, ◌↔◌, ◌⊎◌, inl, inr, List, map, get_or, length, All, Contains, refl, sym, ◌∙◌, subst, arith, ⊎_elim}
 use Rattle.std.proofs.lemmas.Bool.{cases_lt}
 use Rattle.std.proofs.lemmas.List.{get_or-drop, get_or-take, length-take-le}
 use Rattle.std.proofs.lemmas.List.Elements.{All-drop, All-contains, Contains-append_cases, Contains-append_left, All-take}
 use Rattle.hz_base_model.specs.Pairs.{Pair}
 use Rattle.hz_base_model.proofs.Elements.{Contains-from_map}
-use Rattle.hz_description_model.specs.Reservations.Sets.{Statement, exclusion, presence, final_presence, absence, final_absence, Holds, HoldsSome, HoldsPattern}
+use Rattle.hz_description_model.specs.Reservations.Sets.{Statement, exclusion, presence, final_presence, absence, final_absence, AllowsIn, HoldsSome, HoldsPattern}
 use Rattle.hz_description_model.proofs.Reservations.FitLaws.{pattern_with}
 use Rattle.hz_grid.specs.Rows.{HasUnit, RowsMeet, IsWithin}
 use Rattle.hz_grid.specs.declared.usage.UsedRow.{UsedRow}
@@ -17,8 +17,8 @@ use Rattle.hz_unitsets.specs.declared.row_rules.Rule.{Rule}
 use Rattle.hz_unitsets.specs.SetRules.{kind_of}
 use Rattle.hz_unitsets.specs.declared.rules.Asked.{Asked}
 use Rattle.hz_unitsets.specs.declared.rules.Block.{Block}
-use Rattle.hz_unitsets.specs.RowRules.{statement_in, asked_statement, AllowsAt, Allows, Breaks, IsRow, IsBounded, IsAsked, HasKey, AreKeys, IsWanted, IsSummed, IsBlock, IsPast, HasStanding, AllowBetween}
-use Rattle.hz_unitsets.proofs.Cycles.{allows_untouched, allows_used, FirstAllow}
+use Rattle.hz_unitsets.specs.RowRules.{statement_in, asked_statement, AllowsRows, Breaks, BreaksRow, IsRow, IsBounded, IsAsked, HasKey, AreKeys, IsWanted, IsSummed, IsBlock, IsPast, PassesRows, HasStanding, Between, AllowBetween}
+use Rattle.hz_unitsets.proofs.Cycles.{allows_untouched, allows_untriggered, allows_used, rows_untriggered, FirstHold}
 use Rattle.hz_unitsets.proofs.RowUnits.{Contains-units_of, unit_from_units_in}
 
 -- ---- one rule
@@ -32,23 +32,6 @@ no_pattern patterns keys held are each none h =
 
 no_unit : (units keys : ℕ) (held : ℕ → Type 0) → IsWithin units keys → ((unit : ℕ) → HasUnit keys unit → held unit → ⊥) → HoldsSome (units_of units) held → ⊥
 no_unit units keys held within none h = none h.0 (within h.0 (unit_from_units_in units h.0 h.1)) h.2
-
-none_in_both : (keys : ℕ) (source add : List (Pair ℕ)) (cycle : ℕ) → ((unit : ℕ) → HasUnit keys unit → Holds source cycle unit → ⊥) → ((unit : ℕ) → HasUnit keys unit → Holds add cycle unit → ⊥) → (unit : ℕ) → HasUnit keys unit → Holds (source ++ add) cycle unit → ⊥
-none_in_both keys source add cycle there added unit key h = ⊎_elim (λ l. there unit key l) (λ r. added unit key r) (Contains-append_cases source add _ h)
-
--- of a rule that forbids patterns
-pub summed_forbidding : (rule : Rule) (keys wanted : ℕ) → IsBounded rule → ((statement_in rule).kind ≡ presence → ⊥) → ((statement_in rule).kind ≡ final_presence → ⊥) → AreKeys rule.patterns.items rule.units keys → IsSummed (statement_in rule) keys wanted
-summed_forbidding rule keys wanted is other last are = record {
-  allowed = λ source add cycle there added _.
-      let both = none_in_both keys source add cycle there added in
-      record {
-        excluded = λ e some pattern. ⊎_elim (λ each. no_pattern rule.patterns.items keys _ is.patterns each both pattern) (λ within. no_unit rule.units keys _ within both some) are;
-        present = λ e. absurd (other e);
-        finally_present = λ e. absurd (last e);
-        absent = λ e some pattern. ⊎_elim (λ each. no_pattern rule.patterns.items keys _ is.patterns each there pattern) (λ within. no_unit rule.units keys _ within added some) are;
-        finally_absent = λ e some pattern. ⊎_elim (λ each. no_pattern rule.patterns.items keys _ is.patterns each both pattern) (λ within. no_unit rule.units keys _ within added some) are;
-      };
-}
 
 pub presence_alone : (k : SetKind) → kind_of k ≡ presence → k ≡ Presence
 presence_alone Exclusion e = absurd (cc)
@@ -69,20 +52,50 @@ presence_wants = record { not_exclusion = λ e. cc; not_absence = λ e. cc; not_
 pub final_presence_wants : Wants FinalPresence
 final_presence_wants = record { not_exclusion = λ e. cc; not_absence = λ e. cc; not_final_absence = λ e. cc }
 
+-- a cycle by what stands, what is added and all, for all of which units are one of both
+module _ (there added all : ℕ → Type 0) (both : (unit : ℕ) → all unit → there unit ⊎ added unit) (more : (unit : ℕ) → there unit → all unit) where
+  forbidding_allowed : (rule : Rule) (keys : ℕ) → IsBounded rule → ((statement_in rule).kind ≡ presence → ⊥) → ((statement_in rule).kind ≡ final_presence → ⊥) → AreKeys rule.patterns.items rule.units keys
+      → ((unit : ℕ) → HasUnit keys unit → there unit → ⊥) → ((unit : ℕ) → HasUnit keys unit → added unit → ⊥) → AllowsIn (statement_in rule) there added all
+  forbidding_allowed rule keys is other last are stands adds =
+      let none : (unit : ℕ) → HasUnit keys unit → all unit → ⊥ = λ unit key h. ⊎_elim (λ l. stands unit key l) (λ r. adds unit key r) (both unit h) in
+      record {
+        excluded = λ e some pattern. ⊎_elim (λ each. no_pattern rule.patterns.items keys _ is.patterns each none pattern) (λ within. no_unit rule.units keys _ within none some) are;
+        present = λ e. absurd (other e);
+        finally_present = λ e. absurd (last e);
+        absent = λ e some pattern. ⊎_elim (λ each. no_pattern rule.patterns.items keys _ is.patterns each stands pattern) (λ within. no_unit rule.units keys _ within adds some) are;
+        finally_absent = λ e some pattern. ⊎_elim (λ each. no_pattern rule.patterns.items keys _ is.patterns each none pattern) (λ within. no_unit rule.units keys _ within adds some) are;
+      }
+
+  wanting_allowed : (rule : Rule) (keys wanted : ℕ) → Wants rule.kind → IsWanted (statement_in rule) rule.units keys wanted
+      → ((unit : ℕ) → HasUnit keys unit → added unit → ⊥) → ((unit : ℕ) → HasUnit wanted unit → there unit) → AllowsIn (statement_in rule) there added all
+  wanting_allowed rule keys wanted wants is adds stands = record {
+    excluded = λ e. absurd (wants.not_exclusion e);
+    present = λ e some. ⊎_elim (λ pattern. pattern_with _ _ _ stands pattern) (λ within. absurd (no_unit rule.units keys _ within adds some)) is;
+    finally_present = λ e some. ⊎_elim (λ pattern. pattern_with _ _ _ (λ unit has. more unit (stands unit has)) pattern) (λ within. absurd (no_unit rule.units keys _ within adds some)) is;
+    absent = λ e. absurd (wants.not_absence e);
+    finally_absent = λ e. absurd (wants.not_final_absence e);
+  }
+
+none_met : (keys row : ℕ) → (RowsMeet keys row → ⊥) → (unit : ℕ) → HasUnit keys unit → HasUnit row unit → ⊥
+none_met keys row apart unit key h = apart (unit, key, h)
+
+-- of a rule that forbids patterns
+pub summed_forbidding : (rule : Rule) (keys wanted : ℕ) → IsBounded rule → ((statement_in rule).kind ≡ presence → ⊥) → ((statement_in rule).kind ≡ final_presence → ⊥) → AreKeys rule.patterns.items rule.units keys → IsSummed (statement_in rule) keys wanted
+summed_forbidding rule keys wanted is other last are = record {
+  allowed_rows = λ there added stands adds _. forbidding_allowed _ _ _ (λ u h. h) (λ u h. inl h) rule keys is other last are (none_met keys there stands) (none_met keys added adds);
+  allowed = λ source add cycle stands adds _. forbidding_allowed _ _ _ (λ u h. Contains-append_cases source add _ h) (λ u h. Contains-append_left source add _ h) rule keys is other last are stands adds;
+}
+
 -- of a rule that wants one
 pub summed_wanting : (rule : Rule) (keys wanted : ℕ) → Wants rule.kind → IsWanted (statement_in rule) rule.units keys wanted → IsSummed (statement_in rule) keys wanted
 summed_wanting rule keys wanted wants is = record {
-  allowed = λ source add cycle there added stands. record {
-    excluded = λ e. absurd (wants.not_exclusion e);
-    present = λ e some. ⊎_elim (λ pattern. pattern_with _ _ _ stands pattern) (λ within. absurd (no_unit rule.units keys _ within added some)) is;
-    finally_present = λ e some. ⊎_elim (λ pattern. pattern_with _ _ _ (λ unit has. Contains-append_left source add _ (stands unit has)) pattern) (λ within. absurd (no_unit rule.units keys _ within added some)) is;
-    absent = λ e. absurd (wants.not_absence e);
-    finally_absent = λ e. absurd (wants.not_final_absence e);
-  };
+  allowed_rows = λ there added _ adds stands. wanting_allowed _ _ _ (λ u h. h) (λ u h. inl h) rule keys wanted wants is (none_met keys added adds) stands;
+  allowed = λ source add cycle _ adds stands. wanting_allowed _ _ _ (λ u h. Contains-append_cases source add _ h) (λ u h. Contains-append_left source add _ h) rule keys wanted wants is adds stands;
 }
 
 pub summed_wider : (s : Statement ℕ) (keys wanted keys' wanted' : ℕ) → IsWithin keys keys' → IsWithin wanted wanted' → IsSummed s keys wanted → IsSummed s keys' wanted'
 summed_wider s keys wanted keys' wanted' more all is = record {
+  allowed_rows = λ there added stood adds stands. is.allowed_rows there added (λ m. stood (m.0, more m.0 m.1, m.2)) (λ m. adds (m.0, more m.0 m.1, m.2)) (λ u want. stands u (all u want));
   allowed = λ source add cycle there added stands. is.allowed source add cycle (λ u key. there u (more u key)) (λ u key. added u (more u key)) (λ u want. stands u (all u want));
 }
 
@@ -136,15 +149,28 @@ pub past_allows : (rules : List Asked) (block : Block) (source add : List (Pair 
     → IsPast block source rows there units → AllowBetween rules source add block.from block.to
 past_allows rules block source add rows there units asked is unbroken are stands has past k d low high =
     let within : k < length rules = omega (arith, high, is.within) in
+    let triggers = (asked k d within).triggers in
+    let wider = is.triggers k d low high in
     ⊎_elim
-    (λ apart. allows_untouched _ source add (get_or rules k d).triggers units (unbroken k d within) (asked k d within).triggers has (λ m. apart (m.0, is.triggers k d low high m.0 m.1, m.2)))
-    (λ h. allows_used _ source add rows (unbroken k d within) are (λ j e inside.
-    (is.summed k d low high).allowed source add (get_or rows j e).cycle (λ u key held. h.0 (u, key, stands j e inside u held)) (λ u key held. h.1 (u, key, has.units u _ held)) (h.2 j e inside).held))
+    (λ apart. allows_untouched _ source add (get_or rules k d).triggers units (unbroken k d within) triggers has (λ m. apart (m.0, wider m.0 m.1, m.2)))
+    (λ h. allows_used _ source add rows (unbroken k d within) are (λ j e inside. ⊎_elim
+    (λ apart. allows_untriggered _ source add (get_or rows j e).cycle (unbroken k d within) (λ unit trigger held. apart (unit, wider unit (triggers unit trigger), ((are.each j e inside).units unit).1 held)))
+    (λ wanted. (is.summed k d low high).allowed source add (get_or rows j e).cycle (λ u key held. h.0 (u, key, stands j e inside u held)) (λ u key held. h.1 (u, key, has.units u _ held)) wanted)
+    (h.2 j e inside)))
     past
 
+-- and so of one cycle
+pub passes_allow : (rules : List Asked) (block : Block) (there added : ℕ) → All IsAsked rules → IsBlock rules block → All (λ asked. ¬ BreaksRow (asked_statement asked) there) rules → PassesRows block there added → Between (λ asked. AllowsRows (asked_statement asked) there added) rules block.from block.to
+passes_allow rules block there added asked is unbroken passes k d low high =
+    let within : k < length rules = omega (arith, high, is.within) in
+    ⊎_elim
+    (λ apart. rows_untriggered _ there added (unbroken k d within) (λ unit trigger held. apart (unit, is.triggers k d low high unit ((asked k d within).triggers unit trigger), held)))
+    (λ h. (is.summed k d low high).allowed_rows there added h.0 h.1 h.2)
+    passes
+
 -- the rules before a block and those of it
-pub before_and_between : (rules : List Asked) (source add : List (Pair ℕ)) (from to : ℕ) → FirstAllow rules source add from → AllowBetween rules source add from to → FirstAllow rules source add to
-before_and_between rules source add from to before between k d high = ⊎_elim
+pub first_and_between : (P : Asked → Type 0) (rules : List Asked) (from to : ℕ) → FirstHold P rules from → Between P rules from to → FirstHold P rules to
+first_and_between P rules from to before between k d high = ⊎_elim
     (λ (less : k < from). before k d less)
     (λ (same : from ≤ k). between k d same high)
     (cases_lt k from)
@@ -163,20 +189,20 @@ between_length rules from to order within = length-take-le (to - from) (drop fro
 between_at : (rules : List Asked) (from to j : ℕ) (d : Asked) → j < to - from → get_or (between rules from to) j d ≡ get_or rules (from + j) d
 between_at rules from to j d inside = get_or-take (to - from) (drop from rules) j d inside ∙ get_or-drop from rules j d
 
-pub between_allow : (rules : List Asked) (source add : List (Pair ℕ)) (from to : ℕ) → from ≤ to → to ≤ length rules → All (λ asked. Allows (asked_statement asked) source add) (between rules from to) ↔ AllowBetween rules source add from to
-between_allow rules source add from to order within = (
+pub between_hold : (P : Asked → Type 0) (rules : List Asked) (from to : ℕ) → from ≤ to → to ≤ length rules → All P (between rules from to) ↔ Between P rules from to
+between_hold P rules from to order within = (
   λ h k d low high.
       let back : from + (k - from) ≡ k = omega (arith, low) in
       let inside : k - from < to - from = omega (arith, low, high) in
       let there : k - from < length (between rules from to) = rw (between_length rules from to order within) inside in
-      subst (λ (n : ℕ). Allows (asked_statement (get_or rules n d)) source add) back
-      (subst (λ (a : Asked). Allows (asked_statement a) source add) (between_at rules from to (k - from) d inside) (h (k - from) d there)),
+      subst (λ (n : ℕ). P (get_or rules n d)) back
+      (subst P (between_at rules from to (k - from) d inside) (h (k - from) d there)),
   λ h j d there.
       let inside : j < to - from = rw (between_length rules from to order within) at there in
-      subst (λ (a : Asked). Allows (asked_statement a) source add) (sym (between_at rules from to j d inside))
+      subst P (sym (between_at rules from to j d inside))
       (h (from + j) d (omega arith) (omega (arith, inside, order))),
 )
 
--- where all rules allow each cycle, those between do
-pub all_allow_between : (rules : List Asked) (source add : List (Pair ℕ)) (from to : ℕ) → to ≤ length rules → All (λ asked. Allows (asked_statement asked) source add) rules → AllowBetween rules source add from to
-all_allow_between rules source add from to within h k d low high = h k d (omega (arith, high, within))
+-- where all rules have it, those between do
+pub all_hold_between : (P : Asked → Type 0) (rules : List Asked) (from to : ℕ) → to ≤ length rules → All P rules → Between P rules from to
+all_hold_between P rules from to within h k d low high = h k d (omega (arith, high, within))

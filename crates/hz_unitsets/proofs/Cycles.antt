@@ -74,6 +74,13 @@ allows_by_rows s source add cycle there added all is_there is_added is_all =
       allows_same s _ _ _ _ _ _ (λ u. iff_back _ _ (is_there u)) (λ u. iff_back _ _ (is_added u)) (λ u. iff_back _ _ (is_result u)),
     )
 
+-- what stands in a cycle or is among the units that are added there
+pub both_units : (source add : List (Pair ℕ)) (cycle units : ℕ) → ((u : ℕ) → HasUnit units u ↔ Holds add cycle u) → (u : ℕ) → (Holds source cycle u ⊎ HasUnit units u) ↔ Holds (source ++ add) cycle u
+both_units source add cycle units is u = (
+  λ h. ⊎_elim (λ l. Contains-append_left source add _ l) (λ r. Contains-append_right source add _ ((is u).0 r)) h,
+  λ h. ⊎_elim (λ l. inl l) (λ r. inr ((is u).1 r)) (Contains-append_cases source add _ h),
+)
+
 -- ---- all cycles
 
 pub allows_untouched : (s : Statement ℕ) (source add : List (Pair ℕ)) (triggers units : ℕ) → (Breaks s source → ⊥) → ((unit : ℕ) → IsTrigger s unit → HasUnit triggers unit) → HasUnitsOf add units → (RowsMeet triggers units → ⊥) → Allows s source add
@@ -239,9 +246,13 @@ all_allow_used rules source add rows unbroken are before i e within = allows_use
 
 -- ---- rules, one by one
 
+-- each of the first rules has it
+abbrev pub FirstHold : (Asked → Type 0) → List Asked → ℕ → Type 0
+FirstHold P rules count = (k : ℕ) (d : Asked) → k < count → P (get_or rules k d)
+
 -- each of the first rules allows each cycle
 abbrev pub FirstAllow : List Asked → List (Pair ℕ) → List (Pair ℕ) → ℕ → Type 0
-FirstAllow rules source add count = (k : ℕ) (d : Asked) → k < count → Allows (asked_statement (get_or rules k d)) source add
+FirstAllow rules source add count = FirstHold (λ asked. Allows (asked_statement asked) source add) rules count
 
 pub first_more : (rules : List Asked) (source add : List (Pair ℕ)) (count : ℕ) (asked : Asked) → FirstAllow rules source add count → ((e : Asked) → asked ≡ get_or rules count e) → Allows (asked_statement asked) source add → FirstAllow rules source add (count + 1)
 first_more rules source add count asked before read here k d low = ⊎_elim
@@ -262,16 +273,15 @@ rest_is rules place = take_all (length rules - place) (drop place rules) (rw (le
 pub all_rest : (P : Asked → Type 0) (rules : List Asked) (place : ℕ) → All P rules → All P (rest_of rules place)
 all_rest P rules place h = subst (All P) (sym (rest_is rules place)) (All-drop P place rules h)
 
--- the first rules allow each cycle, and so do the rest
-pub rest_allow : (rules : List Asked) (source add : List (Pair ℕ)) (place : ℕ) → FirstAllow rules source add place → All (λ asked. Allows (asked_statement asked) source add) (rest_of rules place) → All (λ asked. Allows (asked_statement asked) source add) rules
-rest_allow rules source add place before rest k d within = ⊎_elim
+-- the first rules have it, and so do the rest
+pub rest_hold : (P : Asked → Type 0) (rules : List Asked) (place : ℕ) → FirstHold P rules place → All P (rest_of rules place) → All P rules
+rest_hold P rules place before rest k d within = ⊎_elim
     (λ (less : k < place). before k d less)
     (λ (same : place ≤ k).
     let back : place + (k - place) ≡ k = omega (arith, same) in
     let inside : k - place < length (drop place rules) = rw (length-drop) (omega (arith, same, within)) in
-    let dropped = subst (All (λ asked. Allows (asked_statement asked) source add)) (rest_is rules place) rest in
-    subst (λ (n : ℕ). Allows (asked_statement (get_or rules n d)) source add) back
-    (subst (λ (a : Asked). Allows (asked_statement a) source add) (get_or-drop place rules (k - place) d) (dropped (k - place) d inside)))
+    let dropped = subst (All P) (rest_is rules place) rest in
+    subst (λ (n : ℕ). P (get_or rules n d)) back (subst P (get_or-drop place rules (k - place) d) (dropped (k - place) d inside)))
     (cases_lt k place)
 
 -- ---- two grids
@@ -326,6 +336,22 @@ module _ (rules : List Asked) (source : List (Pair ℕ)) where
     λ h. All-map (λ s. Allows s source add) asked_statement rules h,
     λ h k d within. All-contains (λ s. Allows s source add) (map asked_statement rules) _ h (Contains-map asked_statement rules (get_or rules k d) (Contains-get_or rules k d within)),
   )
+
+-- the same of one cycle
+module _ (rules : List Asked) (there : ℕ) where
+  pub rows_of_statements : All (λ s. ¬ BreaksRow s there) (map asked_statement rules) → All (λ asked. ¬ BreaksRow (asked_statement asked) there) rules
+  rows_of_statements h = λ k d within. All-contains (λ s. ¬ BreaksRow s there) (map asked_statement rules) _ h (Contains-map asked_statement rules (get_or rules k d) (Contains-get_or rules k d within))
+
+  pub allow_rows_rules : (added : ℕ) → All (λ asked. AllowsRows (asked_statement asked) there added) rules ↔ All (λ s. AllowsRows s there added) (map asked_statement rules)
+  allow_rows_rules added = (
+    λ h. All-map (λ s. AllowsRows s there added) asked_statement rules h,
+    λ h k d within. All-contains (λ s. AllowsRows s there added) (map asked_statement rules) _ h (Contains-map asked_statement rules (get_or rules k d) (Contains-get_or rules k d within)),
+  )
+
+-- where no unit is added that may break a rule, all allow the cycle
+pub none_touched_rows : (rules : List Asked) (all there added : ℕ) → AreAsked rules all → All (λ asked. ¬ BreaksRow (asked_statement asked) there) rules → (RowsMeet all added → ⊥) → All (λ asked. AllowsRows (asked_statement asked) there added) rules
+none_touched_rows rules all there added are unbroken apart k d within =
+    rows_untriggered _ there added (unbroken k d within) (λ unit is h. apart (unit, are.triggers k d within unit ((are.each k d within).triggers unit is), h))
 
 -- where no unit is added that may break a rule, all allow each cycle
 pub none_touched : (rules : List Asked) (all units : ℕ) (source add : List (Pair ℕ)) → AreAsked rules all → All (λ asked. ¬ Breaks (asked_statement asked) source) rules → HasUnitsOf add units → (RowsMeet all units → ⊥)

@@ -5,6 +5,7 @@ use Rattle.hz_description_model.specs.Reservations.Sets.{Statement, exclusion, p
 use Rattle.hz_grid.specs.declared.rows.TheConstants.{UNITS}
 use Rattle.hz_grid.specs.Rows.{HasUnit, RowsMeet, IsWithin}
 use Rattle.hz_grid.specs.declared.usage.UsedRow.{UsedRow}
+use Rattle.hz_grid.specs.Used.{MeetsIn}
 use Rattle.hz_unitsets.specs.declared.row_rules.Rule.{Rule}
 use Rattle.hz_unitsets.specs.declared.rules.Asked.{Asked}
 use Rattle.hz_unitsets.specs.declared.rules.Block.{Block}
@@ -116,8 +117,9 @@ AreKeys patterns units keys = All (λ pattern. HasKey pattern keys) patterns ⊎
 abbrev pub IsWanted : Statement ℕ → ℕ → ℕ → ℕ → Type 0
 IsWanted s units keys wanted = HoldsPattern s.patterns (HasUnit wanted) ⊎ IsWithin units keys
 
--- The statement allows a cycle where no key stands and none is added, and all that is wanted stands.
+-- The statement allows a cycle where no key stands and none is added, and all that is wanted stands: of pairs, and of rows.
 pub record IsSummed (s : Statement ℕ) (keys wanted : ℕ) : Type 0 where
+  pub allowed_rows : (there added : ℕ) → (RowsMeet keys there → ⊥) → (RowsMeet keys added → ⊥) → IsWithin wanted there → AllowsRows s there added
   pub allowed : (source add : List (Pair ℕ)) (cycle : ℕ) → ((unit : ℕ) → HasUnit keys unit → Holds source cycle unit → ⊥) → ((unit : ℕ) → HasUnit keys unit → Holds add cycle unit → ⊥) → ((unit : ℕ) → HasUnit wanted unit → Holds source cycle unit) → AllowsAt s source add cycle
 
 -- the block speaks of each rule from its first to its last
@@ -127,22 +129,35 @@ pub record IsBlock (rules : List Asked) (block : Block) : Type 0 where
   pub triggers : (k : ℕ) (d : Asked) → block.from ≤ k → k < block.to → IsWithin (get_or rules k d).triggers block.triggers
   pub summed : (k : ℕ) (d : Asked) → block.from ≤ k → k < block.to → IsSummed (asked_statement (get_or rules k d)) block.keys block.wanted
 
--- the pairs hold all units of the row in that cycle
-pub record StandsHere (pairs : List (Pair ℕ)) (cycle wanted : ℕ) : Type 0 where
-  pub held : (unit : ℕ) → HasUnit wanted unit → Holds pairs cycle unit
+-- all that the block wants stands in the row's cycle, if a unit is added there that may break one of its rules
+abbrev pub StandsHere : Block → List (Pair ℕ) → UsedRow → Type 0
+StandsHere block pairs row = (RowsMeet block.triggers row.units → ⊥) ⊎ ((unit : ℕ) → HasUnit block.wanted unit → Holds pairs row.cycle unit)
 
 -- the same in each cycle of the rows
-abbrev pub StandsInEach : List (Pair ℕ) → List UsedRow → ℕ → Type 0
-StandsInEach pairs rows wanted = All (λ row. StandsHere pairs row.cycle wanted) rows
+abbrev pub StandsInEach : Block → List (Pair ℕ) → List UsedRow → Type 0
+StandsInEach block pairs rows = All (StandsHere block pairs) rows
 
 -- It is seen that no rule of the block is broken: no unit is added that may break one, or no key stands or is added and all
 -- that is wanted stands.
 abbrev pub IsPast : Block → List (Pair ℕ) → List UsedRow → ℕ → ℕ → Type 0
-IsPast block source rows there units = (RowsMeet block.triggers units → ⊥) ⊎ ((RowsMeet block.keys there → ⊥) × (RowsMeet block.keys units → ⊥) × StandsInEach source rows block.wanted)
+IsPast block source rows there units = (RowsMeet block.triggers units → ⊥) ⊎ ((RowsMeet block.keys there → ⊥) × (RowsMeet block.keys units → ⊥) × StandsInEach block source rows)
+
+-- the same of one cycle with these rows, what stands there and what is added
+abbrev pub PassesRows : Block → ℕ → ℕ → Type 0
+PassesRows block there added = (RowsMeet block.triggers added → ⊥) ⊎ ((RowsMeet block.keys there → ⊥) × (RowsMeet block.keys added → ⊥) × IsWithin block.wanted there)
+
+-- the same holds of each rule from one place to another
+abbrev pub Between : (Asked → Type 0) → List Asked → ℕ → ℕ → Type 0
+Between holds rules from to = (k : ℕ) (d : Asked) → from ≤ k → k < to → holds (get_or rules k d)
 
 -- each rule from one place to another allows each cycle
 abbrev pub AllowBetween : List Asked → List (Pair ℕ) → List (Pair ℕ) → ℕ → ℕ → Type 0
-AllowBetween rules source add from to = (k : ℕ) (d : Asked) → from ≤ k → k < to → Allows (asked_statement (get_or rules k d)) source add
+AllowBetween rules source add from to = Between (λ asked. Allows (asked_statement asked) source add) rules from to
+
+-- Units that are added in a cycle fit the source: none stands there, and each statement allows the cycle.
+pub record FitsRow (statements : List (Statement ℕ)) (source : List (Pair ℕ)) (cycle units : ℕ) : Type 0 where
+  pub apart : MeetsIn source cycle units → ⊥
+  pub allowed : All (λ s. AllowsIn s (Holds source cycle) (HasUnit units) (λ unit. Holds source cycle unit ⊎ HasUnit units unit)) statements
 
 -- rules that are asked, with their blocks
 pub record AreBuilt (rules : List Asked) (blocks : List Block) (all : ℕ) : Type 0 where

@@ -5,7 +5,7 @@ ghost use Rattle.std.specs.List.{AllPairs, Any};
 ghost use Rattle.hz_description_model.specs.Reservations.Sets.{Fits};
 ghost use Rattle.hz_pipeline_model.specs.Accepting.Fitting.{AskTheSame, IsUnbroken};
 ghost use Rattle.hz_unitsets.specs.SetRules.{statements_of, IsInRange, ordered};
-ghost use Rattle.hz_unitsets.specs.RowRules.{statement_in, asked_statement, IsBounded, IsAsked, Allows, AllowsAt, AllowsRows, ForbidsRows, Breaks, BreaksRow, HasStanding, IsClear, IsPart, IsKept, AreSame, IsBlock, IsPast, StandsHere, StandsInEach, AllowBetween};
+ghost use Rattle.hz_unitsets.specs.RowRules.{statement_in, asked_statement, IsBounded, IsAsked, Allows, AllowsAt, AllowsRows, ForbidsRows, Breaks, BreaksRow, HasStanding, IsClear, IsPart, IsKept, AreSame, IsBlock, IsPast, StandsHere, StandsInEach, FitsRow, Between, AllowBetween, PassesRows};
 ghost use Rattle.hz_base_model.specs.Pairs.{Pair};
 ghost use Rattle.hz_grid.specs.Rows.{HasUnit};
 ghost use Rattle.hz_grid.specs.Used.{IsRowOf, AreRowsOf, HasUnitsOf};
@@ -121,7 +121,19 @@ impl Rules {
         requires { IsUnbroken self.now source.now }
         ensures { IsTrue result → (pairs : List (Pair ℕ)) → IsPart part.now pairs → ¬ Fits self.now source.now pairs 0 }
     {
-        part.meets(source) || some_forbids_in_blocks(&self.rules, &self.blocks, source, part)
+        part.meets(source)
+            || (self.triggers.meets(part.units())
+                && some_forbids_in_blocks(&self.rules, &self.blocks, source, part))
+    }
+
+    /// Whether units that are added in one cycle fit a source that breaks no exclusion: none of them stands there, and each
+    /// statement allows that cycle. Pairs fit exactly where the units of each of their cycles do. It takes no memory.
+    pub fn fits_row(&self, source: &Grid, cycle: u16, units: Row<4>) -> bool
+        requires { IsUnbroken self.now source.now }
+        ensures { IsTrue result ↔ FitsRow self.now source.now cycle units }
+    {
+        let there = source.row(cycle);
+        !there.meets(units) && self.allow_rows(there, units)
     }
 
     /// Whether what stands reserved breaks no exclusion. It takes no memory.
@@ -146,6 +158,15 @@ impl Rules {
     {
         !self.triggers.meets(add.units())
             || all_allow_in_blocks(&self.rules, &self.blocks, source, add)
+    }
+
+    // Whether each rule allows a cycle with these rows, what stood there and what is added, where the first breaks none.
+    fn allow_rows(&self, there: Row<4>, added: Row<4>) -> bool
+        requires { All (λ s. ¬ BreaksRow s there) self.now }
+        ensures { IsTrue result ↔ All (λ s. AllowsRows s there added) self.now }
+    {
+        !self.triggers.meets(added)
+            || all_allow_rows_in_blocks(&self.rules, &self.blocks, there, added)
     }
 }
 
@@ -321,18 +342,18 @@ fn is_past(block: &Block, source: &Grid, rows: &[UsedRow], there: Row<4>, units:
     if block.keys.meets(there) || block.keys.meets(units) {
         return false;
     }
-    stands_in_each(block.wanted, source, rows)
+    stands_in_each(block, source, rows)
 }
 
-// Whether all units of the row stand in each cycle of the rows.
-fn stands_in_each(wanted: Row<4>, source: &Grid, rows: &[UsedRow]) -> bool
-    ensures { IsTrue result → StandsInEach source.now rows.now wanted }
+// Whether all that the block wants stands in each cycle in which a unit is added that may break one of its rules.
+fn stands_in_each(block: &Block, source: &Grid, rows: &[UsedRow]) -> bool
+    ensures { IsTrue result → StandsInEach block.now source.now rows.now }
 {
-    if wanted.is_empty() {
+    if block.wanted.is_empty() {
         return true;
     }
     for used in rows {
-        if !stands_at(wanted, source, used) {
+        if !stands_at(block, source, used) {
             return false;
         }
     }
@@ -340,10 +361,51 @@ fn stands_in_each(wanted: Row<4>, source: &Grid, rows: &[UsedRow]) -> bool
 }
 
 // The same of one row's cycle.
-fn stands_at(wanted: Row<4>, source: &Grid, used: &UsedRow) -> bool
-    ensures { IsTrue result ↔ StandsHere source.now used.now.cycle wanted }
+fn stands_at(block: &Block, source: &Grid, used: &UsedRow) -> bool
+    ensures { IsTrue result → StandsHere block.now source.now used.now }
 {
-    wanted.within(source.row(used.cycle))
+    !block.triggers.meets(used.units) || block.wanted.within(source.row(used.cycle))
+}
+
+// Whether each rule allows a cycle with these rows, what stood there and what is added, where the first breaks none. Blocks are
+// passed over of which this is seen at once.
+fn all_allow_rows_in_blocks(rules: &[Asked], blocks: &[Block], there: Row<4>, added: Row<4>) -> bool
+    requires asked { All IsAsked rules.now }
+    requires blocks { All (IsBlock rules.now) blocks.now }
+    requires unbroken { All (λ asked. ¬ BreaksRow (asked_statement asked) there) rules.now }
+    ensures { IsTrue result ↔ All (λ asked. AllowsRows (asked_statement asked) there added) rules.now }
+{
+    let mut next = 0;
+    for block in blocks {
+        if block.from == next {
+            if !block_allows_rows(rules, block, there, added) {
+                return false;
+            }
+            next = block.to;
+        }
+    }
+    all_allow_rows(&rules[next..], there, added)
+}
+
+// The same of the rules of a block.
+fn block_allows_rows(rules: &[Asked], block: &Block, there: Row<4>, added: Row<4>) -> bool
+    requires asked { All IsAsked rules.now }
+    requires block { IsBlock rules.now block.now }
+    requires unbroken { All (λ asked. ¬ BreaksRow (asked_statement asked) there) rules.now }
+    ensures { IsTrue result ↔ Between (λ asked. AllowsRows (asked_statement asked) there added) rules.now block.now.from block.now.to }
+{
+    passes_rows(block, there, added) || all_allow_rows(&rules[block.from..block.to], there, added)
+}
+
+// Whether it is seen that no rule of the block is broken in a cycle with these rows: by the units that are added, or by what
+// stands there.
+fn passes_rows(block: &Block, there: Row<4>, added: Row<4>) -> bool
+    ensures { IsTrue result → PassesRows block.now there added }
+{
+    if !block.triggers.meets(added) {
+        return true;
+    }
+    !block.keys.meets(there) && !block.keys.meets(added) && block.wanted.within(there)
 }
 
 // Whether some rule forbids what has these pairs, where the source breaks none. Of many rules, blocks are passed over of which

@@ -2,7 +2,7 @@ use Rattle.std.proofs.Common.{sym, subst}
 use Rattle.std.proofs.lemmas.List.{get_or_read}
 use Rattle.hz_unitsets.specs.declared.rules.Asked.{Asked}
 use Rattle.hz_unitsets.specs.RowRules.{asked_statement, IsAsked, Allows, Breaks}
-use Rattle.hz_unitsets.proofs.Cycles.{allows_untouched, first_more, all_rest, rest_allow}
+use Rattle.hz_unitsets.proofs.Cycles.{allows_untouched, first_more, all_rest, rest_hold}
 use Rattle.hz_unitsets.proofs.rules.all_allow.Goals.{then-meets+else-left-count+else-not-allows_each, else-meets}
 use Rattle.hz_unitsets.proofs.rules.all_allow.Goals as goal
 
@@ -23,6 +23,6 @@ loop-at-preserved c =
 
 pub returns-then-left-count : goal.returns-then-left-count
 returns-then-left-count c = (
-  λ t. rest_allow c.args.rules.now c.args.source.now c.args.add.now c.loop-at.at c.loop-at.invariant (c.all_allow_whole.ensures.0 t),
+  λ t. rest_hold (λ (asked : Asked). Allows (asked_statement asked) c.args.source.now c.args.add.now) c.args.rules.now c.loop-at.at c.loop-at.invariant (c.all_allow_whole.ensures.0 t),
   λ h. c.all_allow_whole.ensures.1 (all_rest (λ (asked : Asked). Allows (asked_statement asked) c.args.source.now c.args.add.now) c.args.rules.now c.loop-at.at h),
 )

@@ -1,9 +1,8 @@
-use Rattle.std.proofs.Common.{◌≤◌, length, sym, subst}
+use Rattle.std.proofs.Common.{sym, subst}
 use Rattle.hz_unitsets.specs.declared.rules.Asked.{Asked}
-use Rattle.hz_unitsets.specs.declared.rules.Block.{Block}
 use Rattle.hz_unitsets.specs.RowRules.{asked_statement, Allows, IsBlock}
-use Rattle.hz_unitsets.proofs.Cycles.{FirstAllow, all_rest, rest_allow}
-use Rattle.hz_unitsets.proofs.Blocks.{before_and_between}
+use Rattle.hz_unitsets.proofs.Cycles.{all_rest, rest_hold}
+use Rattle.hz_unitsets.proofs.Blocks.{first_and_between}
 use Rattle.hz_unitsets.proofs.rules.all_allow_in_blocks.Goals.{then-block-next+else-not-block_allows, else-block-next}
 use Rattle.hz_unitsets.proofs.rules.all_allow_in_blocks.Goals as goal
 
@@ -16,7 +15,7 @@ loop-block-preserved c =
       | then-block-next+else-not-block_allows w ↦
           let between = w.block_allows.ensures.0 w.if-not-block_allows.false in
           rw w.next-is (record {
-            before = before_and_between rules c.args.source.now c.args.add.now c.loop-block.next block.to c.loop-block.invariant.before (λ k d low high. between k d (rw w.if-block-next.true low) high);
+            before = first_and_between (λ (asked : Asked). Allows (asked_statement asked) c.args.source.now c.args.add.now) rules c.loop-block.next block.to c.loop-block.invariant.before (λ k d low high. between k d (rw w.if-block-next.true low) high);
             within = is.within;
           })
       | else-block-next w ↦ rw w.next-is c.loop-block.invariant
@@ -24,6 +23,6 @@ loop-block-preserved c =
 
 pub returns : goal.returns
 returns c = (
-  λ t. rest_allow c.args.rules.now c.args.source.now c.args.add.now c.loop-block.next c.loop-block.invariant.before (c.all_allow-2.ensures.0 t),
+  λ t. rest_hold (λ (asked : Asked). Allows (asked_statement asked) c.args.source.now c.args.add.now) c.args.rules.now c.loop-block.next c.loop-block.invariant.before (c.all_allow-2.ensures.0 t),
   λ h. c.all_allow-2.ensures.1 (all_rest (λ (asked : Asked). Allows (asked_statement asked) c.args.source.now c.args.add.now) c.args.rules.now c.loop-block.next h),
 )

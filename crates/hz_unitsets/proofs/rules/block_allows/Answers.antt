@@ -1,4 +1,6 @@
-use Rattle.hz_unitsets.proofs.Blocks.{past_allows, between_allow}
+use Rattle.hz_unitsets.specs.declared.rules.Asked.{Asked}
+use Rattle.hz_unitsets.specs.RowRules.{asked_statement, Allows}
+use Rattle.hz_unitsets.proofs.Blocks.{past_allows, between_hold}
 use Rattle.hz_unitsets.proofs.rules.block_allows.Goals as goal
 
 pub returns-then-is_past : goal.returns-then-is_past
@@ -9,5 +11,5 @@ returns-then-is_past c = (
 
 pub returns-else-is_past : goal.returns-else-is_past
 returns-else-is_past c =
-    let both = between_allow c.args.rules.now c.args.source.now c.args.add.now c.args.block.now.from c.args.block.now.to c.requires.block.order c.requires.block.within in
+    let both = between_hold (λ (asked : Asked). Allows (asked_statement asked) c.args.source.now c.args.add.now) c.args.rules.now c.args.block.now.from c.args.block.now.to c.requires.block.order c.requires.block.within in
     (λ t. both.0 (c.all_allow.ensures.0 t), λ h. c.all_allow.ensures.1 (both.1 h))

@@ -11,8 +11,8 @@ returns-then-meets c t pairs is fits =
     let (p, there, here) = c.meets.ensures.0 c.if-meets.true in
     grids_apart c.args.self.now c.args.source.now pairs fits (p, there, is.within p here)
 
-pub returns-else-meets : goal.returns-else-meets
-returns-else-meets c t pairs is fits =
+pub returns-then-meets-2 : goal.returns-then-meets-2
+returns-then-meets-2 c t pairs is fits =
     let rules = c.self.inside.rules.items in
     let none = rw c.deref.ensures.value at c.some_forbids_in_blocks.ensures in
     none t pairs is ((allow_rules rules c.args.source.now pairs).1 (rw (← c.self.view_is) at (grids_allowed c.args.self.now c.args.source.now pairs fits)))
