@@ -1,8 +1,8 @@
 use Rattle.std.proofs.Common.{◌≡◌, ◌≢◌, ◌<◌, get_or, take, All, Option, ℕ, ◌+◌, ◌≤◌, ◌||◌, Bool, true, false, ⊎_elim, arith, cond, not, nat_lt, List, [], ◌∷◌, ◌++◌, length, map, Some, None, refl, sym, ap, ◌∙◌, subst}
-use Rattle.std.proofs.lemmas.List.{length-map, length-take, get_or-take, get_or-map, map_more}
+use Rattle.std.proofs.lemmas.List.{length-map, length_push, length-take, get_or-take, get_or-map, map_more}
 use Rattle.std.proofs.lemmas.List.Folds.{flat_map-map, length-flat_map-take}
 use Rattle.std.proofs.lemmas.List.Concat.{get_or-flat_map}
-use Rattle.std.proofs.lemmas.List.Elements.{All-get_or}
+use Rattle.std.proofs.lemmas.List.Elements.{All-get_or, All-push}
 use Rattle.std.specs.List.{AllPairs, flat_map}
 use Rattle.indexmap.specs.IndexSet.{IndexSet, index_set_len}
 use Rattle.hz_base_model.specs.Limits.{class_limit, automaton_limit, unit_limit}
@@ -112,6 +112,14 @@ few_units {S} machine sets made named =
         sym (get_or-map (λ (s : IndexSet (Vec ℕ Global) S). names_in s.keys) sets i d [] low) ∙ (ap (λ (ns : List (List (List ℕ))). get_or ns i []) named ∙ get_or-map (λ (p : Part). p.asks) parts i no_part [] inside) in
         let count : length (get_or parts i no_part).asks ≤ unit_limit = (All-get_or (IsPart (length (machine_of machine).classes)) parts i no_part inside made.parts).asks in
         omega (arith, count, ap length names, length-map set.keys (λ (k : Vec ℕ Global). k.items))
+
+-- one set more, of few names
+pub more_units : {S : Type 0} (sets : List (IndexSet (Vec ℕ Global) S)) (set : IndexSet (Vec ℕ Global) S) (names : List (List ℕ)) → All (λ set. index_set_len set ≤ class_limit) sets → names_in set.keys ≡ names → length names ≤ unit_limit → length (all_names_in sets) < automaton_limit
+    → All (λ set. index_set_len set ≤ class_limit) (sets ++ set ∷ []) × (length (sets ++ set ∷ []) ≤ automaton_limit)
+more_units {S} sets set names each is few room =
+    let one : index_set_len set ≤ class_limit = omega (arith, few, ap length is, length-map set.keys (λ (k : Vec ℕ Global). k.items)) in
+    let all : length (all_names_in sets) ≡ length sets = length-map sets (λ (s : IndexSet (Vec ℕ Global) S). names_in s.keys) in
+    (All-push (λ (s : IndexSet (Vec ℕ Global) S). index_set_len s ≤ class_limit) sets set each one, omega (arith, room, all, length_push sets set))
 
 -- ---- names in sets
 

@@ -2,7 +2,7 @@
 
 ghost use Rattle.std.specs.Prelude.{◌≡◌, ◌≢◌, ◌≤◌, ◌<◌, ◌++◌, ◌∷◌, [], length, IfOk, OnOk, None, map, take};
 ghost use Rattle.std.specs.List.{AllPairs};
-ghost use Rattle.hz_base_model.specs.Limits.{class_limit};
+ghost use Rattle.hz_base_model.specs.Limits.{class_limit, automaton_limit, unit_limit};
 ghost use Rattle.hz_base_model.specs.Lines as model;
 ghost use Rattle.hz_pipeline_model.specs.Traces.TraceNames.{query_place};
 ghost use Rattle.hz_pipeline_model.specs.Tables.MachineNames.{names_of_machine};
@@ -62,6 +62,18 @@ fn units_of(alloc: Global, machine: &Machine) -> Result<Vec<IndexSet<Vec<u8>>>, 
     Ok(units)
 }
 
+/// The names of the parts, and those of one more behind them.
+fn with_part(
+    parts: Vec<IndexSet<Vec<u8>>>,
+    part: IndexSet<Vec<u8>>,
+) -> Result<Vec<IndexSet<Vec<u8>>>, AllocError>
+    ensures { IfOk result (λ all. all.items ≡ parts.items ++ part ∷ []) }
+{
+    let mut all = parts;
+    all.push(part)?;
+    Ok(all)
+}
+
 /// The names that a trace says: those of the classes, and for each part those of the units that are asked for.
 #[derive(Drop)]
 pub struct Names {
@@ -91,6 +103,38 @@ impl Names {
         let classes = set_of(alloc, &machine.classes)?;
         let units = units_of(alloc, machine)?;
         Ok(Names { classes, units })
+    }
+
+    /// Those of classes, with no unit that is asked for. `AllocError` where there was no memory.
+    pub fn of_classes(alloc: Global, classes: &[Name]) -> Result<Names, AllocError>
+        requires different { AllPairs (λ a b. a ≢ b) classes.now }
+        requires few { length classes.now ≤ class_limit }
+        ensures { IfOk result (λ names. names ≡ record { classes = classes.now; queries = [] }) }
+    {
+        let classes = set_of(alloc, classes)?;
+        Ok(Names {
+            classes,
+            units: Vec::new(alloc),
+        })
+    }
+
+    /// The names, and behind those of the parts before the units that are asked for in the next part. `AllocError` where there was no
+    /// memory.
+    pub fn with_units(self, alloc: Global, units: &[Name]) -> Result<Names, AllocError>
+        requires different { AllPairs (λ a b. a ≢ b) units.now }
+        requires few { length units.now ≤ unit_limit }
+        requires room { length self.queries < automaton_limit }
+        ensures { IfOk result (λ names. names ≡ record { classes = self.classes; queries = self.queries ++ units.now ∷ [] }) }
+    {
+        let Names {
+            classes,
+            units: parts,
+        } = self;
+        let set = set_of(alloc, units)?;
+        Ok(Names {
+            classes,
+            units: with_part(parts, set)?,
+        })
     }
 
     /// The number of a class.

@@ -22,28 +22,25 @@ fn walk<L: Ledger>(
     machine: &Machine,
     states: &mut [u32],
     class: Option<u32>,
-    before: &mut SmallVec<u32, 16>,
+    before: &mut [u32; 16],
     steps: &mut Steps<L>,
 ) -> bool
     requires states { AreStates (machine_of machine.now) states.old }
     requires class { ForSome class (λ class. class < length machine.now.classes.items) }
-    requires room { before.old.capacity ≡ 16 }
     ensures next { OnTrue result (parts_walk (machine_of machine.now).parts states.old (event_for class ∷ []) ≡ Some states.new) }
     ensures none { OnFalse result (parts_walk (machine_of machine.now).parts states.old (event_for class ∷ []) ≡ None) }
     ensures stays { OnFalse result (states.new ≡ states.old) }
-    ensures room { before.new.capacity ≡ 16 }
     ensures cost { steps.new ≤ steps.old + 4 * length machine.now.parts.items }
 {
-    before.clear();
     for part in 0..machine.parts.len() {
         let state = states[part];
         match machine.step(part as u32, state, class, steps) {
             Some(next) => {
-                before.push_reserved(state);
+                before[part] = state;
                 states[part] = next;
             }
             None => {
-                states[..part].copy_from_slice(before.as_slice());
+                states[..part].copy_from_slice(&before[..part]);
                 return false;
             }
         }
@@ -63,7 +60,7 @@ fn are_starts(states: &[u32]) -> bool
 pub struct Replayer<'m> {
     machine: &'m Machine,
     states: SmallVec<u32, 16>,
-    before: SmallVec<u32, 16>,
+    before: [u32; 16],
 }
 
 impl<'m> Model for Replayer<'m> {
@@ -75,7 +72,7 @@ impl<'m> Model for Replayer<'m> {
 
     ghost view = { λ r. record { machine = machine_of r.machine.now; states = r.states.items } };
 
-    ghost invariant = { λ r. AreStates (machine_of r.machine.now) r.states.items × (r.states.capacity ≡ 16) × (r.before.capacity ≡ 16) };
+    ghost invariant = { λ r. AreStates (machine_of r.machine.now) r.states.items × (r.states.capacity ≡ 16) };
 }
 
 impl<'m> Replayer<'m> {
@@ -90,7 +87,7 @@ impl<'m> Replayer<'m> {
         Replayer {
             machine,
             states,
-            before: SmallVec::new(alloc),
+            before: [0; 16],
         }
     }
 
@@ -142,7 +139,7 @@ impl<'m> Replayer<'m> {
         Replayer {
             machine: self.machine,
             states,
-            before: SmallVec::new(alloc),
+            before: [0; 16],
         }
     }
 

@@ -47,8 +47,9 @@ fn note(events: &mut Vec<Event>, line: u32, what: Option<What>) -> Result<u32, T
     }
 }
 
-/// The events of a text, where these are the names, or the fault of its first wrong line.
-fn read_events(alloc: Global, names: &Names, text: &[u8]) -> Result<Vec<Event>, TraceFault>
+/// The events of a text, each with its line, where these are the names; or the fault of the first wrong line. Source: this profile,
+/// docs/FORMATS.md, 'Trace'.
+pub fn read_events(alloc: Global, names: &Names, text: &[u8]) -> Result<Vec<Event>, TraceFault>
     requires { length text.now < 2 ^ 32 }
     ensures ok { IfOk result (λ events. Trace names.now text.now (events_in events.items)) }
     ensures lines { IfOk result (λ events. lines_in events.items ≡ event_lines names.now 1 (lines_of text.now)) }

@@ -1,6 +1,7 @@
 pub mod Widths
 pub mod Laying
 pub mod Shape
+pub mod Pairing
 pub mod Packing
 pub mod Rows
 pub mod Stored

@@ -26,7 +26,7 @@ impl<const W: usize> Model for Cells<W> {
 }
 
 /// The number of a cell.
-fn number<const W: usize>(cell: &[u8; W]) -> u32
+pub(crate) fn number<const W: usize>(cell: &[u8; W]) -> u32
     requires { IsTrue (is_width W) }
     ensures { result ≡ number_of cell.now }
 {
@@ -40,7 +40,7 @@ fn number<const W: usize>(cell: &[u8; W]) -> u32
 }
 
 /// The cell of a number.
-fn cell<const W: usize>(number: u32) -> [u8; W]
+pub(crate) fn cell<const W: usize>(number: u32) -> [u8; W]
     requires width { IsTrue (is_width W) }
     requires small { number < 256 ^ W }
     ensures { number_of result ≡ number }

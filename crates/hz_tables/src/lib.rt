@@ -5,6 +5,7 @@ mod cells;
 mod laying;
 mod machine;
 mod packed;
+mod pairs;
 mod part;
 mod plain;
 mod steps;

@@ -9,20 +9,21 @@ ghost use Rattle.hz_tables.specs.Widths.{is_width};
 
 use crate::cells::Cells;
 use crate::laying::lay_all;
+use crate::pairs::Pairs;
 use crate::{NoMemory, Plain, Steps};
 use std::alloc::Global;
 use std::marker::Model;
 use std::sync::ledger::Ledger;
 
-/// A table of states whose rows are laid into one another, over cells of `W` bytes: 1, 2 or 4. At each place stands the state
-/// that owns it, and that state's next one; a state's entry in a column is looked up so many places behind its base. So a step
-/// is two reads, and a third where the state owns the place. GCC Internals, 'Specifying processor pipeline description', on `no-comb-vect`.
+/// A table of states whose rows are laid into one another, over cells of `W` bytes: 1, 2 or 4. At each place stand, side by
+/// side, the state that owns it and that state's next one; a state's entry in a column is looked up so many places behind its
+/// base. So a step is three reads: the base, the owner and its next state. GCC Internals, 'Specifying processor pipeline
+/// description', on `no-comb-vect`.
 #[derive(Drop)]
 pub struct Packed<const W: usize> {
     columns: u32,
     bases: Cells<4>,
-    owners: Cells<W>,
-    targets: Cells<W>,
+    pairs: Pairs<W>,
 }
 
 impl<const W: usize> Model for Packed<W> {
@@ -30,26 +31,20 @@ impl<const W: usize> Model for Packed<W> {
 
     ghost Value = { Packing };
 
-    ghost view = { λ p. packing_of (record { columns = p.columns; bases = p.bases; owners = p.owners; targets = p.targets }) };
+    ghost view = { λ p. packing_of (record { columns = p.columns; bases = p.bases; owners = p.pairs.owners; targets = p.pairs.targets }) };
 
-    ghost invariant = { λ p. IsPacked (record { columns = p.columns; bases = p.bases; owners = p.owners; targets = p.targets }) };
+    ghost invariant = { λ p. IsPacked (record { columns = p.columns; bases = p.bases; owners = p.pairs.owners; targets = p.pairs.targets }) };
 }
 
 /// What is laid, packed.
-fn packed_of<const W: usize>(
-    columns: u32,
-    bases: Cells<4>,
-    owners: Cells<W>,
-    targets: Cells<W>,
-) -> Packed<W>
-    requires { IsPacked (record { columns = columns; bases = bases; owners = owners; targets = targets }) }
-    ensures { result ≡ packing_of (record { columns = columns; bases = bases; owners = owners.entry; targets = targets.entry }) }
+fn packed_of<const W: usize>(columns: u32, bases: Cells<4>, pairs: Pairs<W>) -> Packed<W>
+    requires { IsPacked (record { columns = columns; bases = bases; owners = pairs.owners; targets = pairs.targets }) }
+    ensures { result ≡ packing_of (record { columns = columns; bases = bases; owners = pairs.entry.owners; targets = pairs.entry.targets }) }
 {
     Packed {
         columns,
         bases,
-        owners,
-        targets,
+        pairs,
     }
 }
 
@@ -66,9 +61,8 @@ impl<const W: usize> Packed<W> {
         let columns = plain.columns();
         let laid = lay_all(alloc, plain)?;
         let bases = Cells::of(alloc, &laid.bases)?;
-        let owners = Cells::of(alloc, &laid.owners)?;
-        let targets = Cells::of(alloc, &laid.targets)?;
-        Ok(packed_of(columns, bases, owners, targets))
+        let pairs = Pairs::of(alloc, &laid.owners, &laid.targets)?;
+        Ok(packed_of(columns, bases, pairs))
     }
 
     /// How many states there are. It takes no memory.
@@ -100,7 +94,7 @@ impl<const W: usize> Packed<W> {
         ensures each { entries_of self.now.rows ≤ result }
         ensures most { result ≤ length self.now.rows * (self.now.columns + 1) }
     {
-        self.owners.count() as u32
+        self.pairs.count() as u32
     }
 
     /// The next state, or none. The column after the others is the advance. It takes at most three steps, a step being one
@@ -113,10 +107,7 @@ impl<const W: usize> Packed<W> {
         ensures counted { steps.old < steps.new }
     {
         let place = self.bases.get(state as usize, steps) as usize + column as usize;
-        if self.owners.get(place, steps) == state {
-            Some(self.targets.get(place, steps))
-        } else {
-            None
-        }
+        let (owner, target) = self.pairs.get(place, steps);
+        if owner == state { Some(target) } else { None }
     }
 }

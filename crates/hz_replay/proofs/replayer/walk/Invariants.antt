@@ -11,7 +11,6 @@ invariant-loop-part g l = record {
   told : option_map (λ (rest : List ℕ). take l.part l.states ++ rest) (parts_walk (drop l.part (machine_of l.machine).parts) (drop l.part l.fn.states) (event_for l.class ∷ [])) ≡ parts_walk (machine_of l.machine).parts l.fn.states (event_for l.class ∷ []);
   left : drop l.part l.states ≡ drop l.part l.fn.states;
   count : length l.states ≡ length l.fn.states;
-  kept : l.before.items ≡ take l.part l.fn.states;
-  room : l.before.capacity ≡ 16;
+  kept : take l.part l.before ≡ take l.part l.fn.states;
   cost : l.steps ≤ l.fn.steps + 4 * l.part;
 }

@@ -15,7 +15,7 @@ invariant_of-self g c =
     let next = c.walk.new.states in
     let told = subst (λ (xs : List ℕ). parts_walk m.parts xs (advance 1 ∷ []) ≡ Some next) c.as_mut_slice-states.ensures.value (OnTrue_at c.if-not-walk.false c.walk.ensures.next) in
     let stay = states_stay m is states next (advance 1 ∷ []) c.self.invariant.0 told in
-    (subst (AreStates m) (sym (refilled states next (as_many m is states next (advance 1 ∷ []) c.self.invariant.0 told))) stay, c.self.invariant.1, c.walk.ensures.room)
+    (subst (AreStates m) (sym (refilled states next (as_many m is states next (advance 1 ∷ []) c.self.invariant.0 told))) stay, c.self.invariant.1)
 
 pub unreachable-requires : goal.unreachable-requires
 unreachable-requires g c =

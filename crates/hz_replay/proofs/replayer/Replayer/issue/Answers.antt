@@ -12,4 +12,4 @@ invariant_of-self g c =
     let next = c.walk.new.states in
     let told = subst (λ (xs : List ℕ). OnTrue c.walk.result (parts_walk m.parts xs (issue c.args.class ∷ []) ≡ Some next)) c.as_mut_slice-states.ensures.value c.walk.ensures.next in
     let stays = subst (λ (xs : List ℕ). OnFalse c.walk.result (next ≡ xs)) c.as_mut_slice-states.ensures.value c.walk.ensures.stays in
-    (stand_behind m c.self.inside.machine.now.kept c.self.inside.states.items next (issue c.args.class ∷ []) c.walk.result c.self.invariant.0 told stays, c.self.invariant.1, c.walk.ensures.room)
+    (stand_behind m c.self.inside.machine.now.kept c.self.inside.states.items next (issue c.args.class ∷ []) c.walk.result c.self.invariant.0 told stays, c.self.invariant.1)

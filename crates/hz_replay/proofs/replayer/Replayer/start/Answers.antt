@@ -24,7 +24,7 @@ invariant_of-result c =
     let all = (c.args.machine.now.parts.ok).0 in
     let long = length-map c.args.machine.now.parts.items part_of in
     let same : c.loop-part._part ≡ length (machine_of c.args.machine.now).parts = omega (arith, all, long, c.len-part-end.ensures, c.loop-part-test.false, c.loop-part.auto) in
-    (subst (AreStates (machine_of c.args.machine.now)) (sym (c.loop-part.invariant.states ∙ ap (λ n. replicate {A = ℕ} n 0) same)) (starts_stand (machine_of c.args.machine.now) c.args.machine.now.kept), c.loop-part.invariant.room, c.new.ensures.capacity)
+    (subst (AreStates (machine_of c.args.machine.now)) (sym (c.loop-part.invariant.states ∙ ap (λ n. replicate {A = ℕ} n 0) same)) (starts_stand (machine_of c.args.machine.now) c.args.machine.now.kept), c.loop-part.invariant.room)
 
 pub returns : goal.returns
 returns c =
