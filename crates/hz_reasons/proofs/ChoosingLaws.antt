@@ -1,16 +1,16 @@
 -- Choices grow by one with each issue that is taken.
-use Rattle.std.proofs.Common.{◌≡◌, ℕ, zero, suc, true, false, ◌+◌, ◌<◌, ◌≤◌, ◌⊎◌, inl, inr, ⊎_elim, List, [], ◌∷◌, ◌++◌, length, take, drop, slice_index, Option, Some, None, refl, sym, ap, ◌∙◌, subst, arith, append_assoc, add-one}
-use Rattle.std.specs.Prelude.{◌↔◌, slice_get}
+use Rattle.std.proofs.Common.{◌≡◌, ℕ, zero, suc, ◌+◌, ◌<◌, ◌≤◌, List, [], ◌∷◌, ◌++◌, length, take, drop, slice_index, Option, Some, None, refl, sym, ap, ◌∙◌, subst, arith, add-one}
+use Rattle.std.specs.Prelude.{slice_get}
 use Rattle.std.proofs.lemmas.List.{append-nil, length-append}
 use Rattle.hz_base_model.specs.Pairs.{Pair, placed}
 use Rattle.hz_description_model.specs.Reservations.Automata.{UnitPlace}
 use Rattle.hz_pipeline_model.specs.Accepting.Events.{Event, issue, advance, ask, issues_of, cycles_of}
-use Rattle.hz_pipeline_model.specs.Accepting.Replay.{Pipeline, first_fit, State, start, Plays, MayTake, FitsAt, IsChoice, Accepted, FirstRefused, calendar, chosen, left_by}
+use Rattle.hz_pipeline_model.specs.Accepting.Replay.{Pipeline, first_fit, State, start, MayTake, FitsAt, IsChoice, Accepted, calendar, chosen, left_by}
 use Rattle.hz_pipeline_model.proofs.Accepting.ReplayLaws.{issues_of-append, cycles_of-append, calendar-append, same_first, same_rest, none_last, run_split, chosen_run, runs_from_accepted}
 use Rattle.hz_pipeline_model.proofs.Accepting.ChoiceLaws.{one_choice}
 use Rattle.hz_why_model.specs.Waits.{after}
 use Rattle.hz_reasons.specs.Plans.{Stands, behind_issue, Issues}
-use Rattle.hz_reasons.specs.Choosing.{HasChosen, StopsAt, Chooses, IssuesTo}
+use Rattle.hz_reasons.specs.Choosing.{HasChosen, StopsAt, IssuesTo}
 
 -- an item at a place of a list that grew, and the new one
 index_before : (xs ys : List ℕ) (n : ℕ) → n < length xs → slice_index (xs ++ ys) n ≡ slice_index xs n
@@ -171,11 +171,11 @@ module _ (m : Pipeline UnitPlace) where
     }
 
     -- what an issue makes of the choices, by whether an alternative is taken
-    pub issued_to : (k : ℕ) (taken : Option ℕ) (i : ℕ) (more : List ℕ) (new : List (List (Pair ℕ))) → taken ≡ Some i → more ≡ choices ++ i ∷ [] → Issues m (left_by m t choices) k taken new → IssuesTo m t k more new true
+    pub issued_to : (k : ℕ) (taken : Option ℕ) (i : ℕ) (more : List ℕ) (new : List (List (Pair ℕ))) → taken ≡ Some i → more ≡ choices ++ i ∷ [] → Issues m (left_by m t choices) k taken new → IssuesTo m t k more new (Some i)
     issued_to k taken i more new is grown issues =
         subst (λ (cs : List ℕ). HasChosen m (t ++ issue k ∷ []) cs new) (sym grown) (chosen_issue k i new (subst (λ (o : Option ℕ). Issues m (left_by m t choices) k o new) is issues))
 
-    pub issued_none : (k : ℕ) (taken : Option ℕ) (new : List (List (Pair ℕ))) → taken ≡ None → Issues m (left_by m t choices) k taken new → IssuesTo m t k choices new false
+    pub issued_none : (k : ℕ) (taken : Option ℕ) (new : List (List (Pair ℕ))) → taken ≡ None → Issues m (left_by m t choices) k taken new → IssuesTo m t k choices new None
     issued_none k taken new is issues =
         let (none, stands) = subst (λ (o : Option ℕ). Issues m (left_by m t choices) k o new) is issues in
         (record { choice = has.choice; stands = stands }, none)

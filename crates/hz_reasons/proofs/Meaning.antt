@@ -1,6 +1,6 @@
 -- What fits in each automaton fits the pipeline, and what is done to grids is done to what stands reserved.
 use Rattle.std.proofs.Common.{◌≡◌, ℕ, zero, suc, ◌+◌, ◌<◌, inl, inr, ⊎_elim, List, [], ◌++◌, length, replicate, Contains, Option, Some, None, Result, Ok, Err, refl, sym, subst, arith}
-use Rattle.std.specs.Prelude.{◌↔◌, OnOk, IfOk}
+use Rattle.std.specs.Prelude.{◌↔◌, OnOk, IfOk, IfSome}
 use Rattle.std.proofs.lemmas.List.{append-nil}
 use Rattle.std.proofs.lemmas.List.Elements.{Contains-append_left, Contains-append_right, Contains-append_cases}
 use Rattle.hz_base_model.specs.Pairs.{Pair, SamePairs, later, placed}
@@ -9,7 +9,7 @@ use Rattle.hz_description_model.specs.Reservations.Automata.{UnitPlace, cut}
 use Rattle.hz_description_model.specs.Reservations.Sets.{Statement, Holds, Fits}
 use Rattle.hz_description_model.proofs.Reservations.FitLaws.{holds_moved, some_with, pattern_with}
 use Rattle.hz_pipeline_model.specs.Accepting.Fitting.{IsFuture, IsUnbroken}
-use Rattle.hz_pipeline_model.specs.Accepting.Replay.{Pipeline, first_fit, State, start, chosen, FitsAt, MayTake}
+use Rattle.hz_pipeline_model.specs.Accepting.Replay.{Pipeline, State, start, chosen, FitsAt, MayTake}
 use Rattle.hz_pipeline_model.specs.Pipelines.Factored.{state_in}
 use Rattle.hz_pipeline_model.proofs.Accepting.FittingLaws.{allows_unadded, fits_listed, future_fits, unbroken_added, unbroken_empty}
 use Rattle.hz_pipeline_model.proofs.Accepting.InsideFits.{IsSeen, seen_cut, fits_inside, allowed_outside, apart_outside}
@@ -229,12 +229,18 @@ module _ (m : Pipeline UnitPlace) (plan : Plan) (grids new : List (List (Pair �
 -- of an answer
 pub issued_result : {E : Type 0} (plan : Plan) (grids new : List (List (Pair ℕ))) (choices : List Choice) (k : ℕ) (result : Result (Option ℕ) E) → length grids ≡ length plan.rules.items → choices_at plan k ≡ choices
     → OnOk result (length new ≡ length grids) → IfOk result (IsFirstOf plan.rules.items grids choices) → IfOk result (Takes grids choices new)
-    → IfOk result (λ taken. (m : Pipeline UnitPlace) (s : State UnitPlace) → IsPlanOf m plan → m.treatment ≡ first_fit → Stands m grids s → Issues m s k taken new)
-issued_result plan grids new choices k (Ok taken) each is same first takes = λ m s plan_of t stands.
+    → IfOk result (λ taken. (m : Pipeline UnitPlace) (s : State UnitPlace) → IsPlanOf m plan → Stands m grids s → Issues m s k taken new)
+issued_result plan grids new choices k (Ok taken) each is same first takes = λ m s plan_of stands.
     issued_by m plan grids new s k each plan_of stands taken same
     (subst (λ (cs : List Choice). IsFirstOf plan.rules.items grids cs taken) (sym is) first)
     (subst (λ (cs : List Choice). Takes grids cs new taken) (sym is) takes)
 issued_result plan grids new choices k (Err e) each is same first takes = tt
+
+-- a number that is answered is that of an alternative
+pub issued_within : {E : Type 0} (plan : Plan) (asked : List (List (Statement ℕ))) (grids : List (List (Pair ℕ))) (choices : List Choice) (k : ℕ) (result : Result (Option ℕ) E) → choices_at plan k ≡ choices → IfOk result (IsFirstOf asked grids choices) → IfOk result (λ taken. IfSome taken (λ number. number < length (choices_at plan k)))
+issued_within plan asked grids choices k (Ok (Some i)) is first = subst (λ (cs : List Choice). i < length cs) (sym is) first.0
+issued_within plan asked grids choices k (Ok None) is first = tt
+issued_within plan asked grids choices k (Err e) is first = tt
 
 -- the first that fits, of the rules and alternatives that are read
 pub first_read : (plan : Plan) (k : ℕ) (rules : List (List (Statement ℕ))) (grids : List (List (Pair ℕ))) (choices : List Choice) (found : Option ℕ) → rules ≡ plan.rules.items → choices_at plan k ≡ choices → IsFirstOf rules grids choices found → IsFirstOf plan.rules.items grids (choices_at plan k) found

@@ -1,15 +1,14 @@
 -- Cycles in which a class does not fit, and the cycle behind the last.
-use Rattle.std.proofs.Common.{◌≡◌, ℕ, ◌+◌, ◌<◌, ◌≤◌, ◌⊎◌, inl, inr, ⊎_elim, List, [], All, length, replicate, Contains, Option, Some, None, refl, sym, ap, ◌∙◌, subst, arith}
-use Rattle.std.specs.Prelude.{◌↔◌}
+use Rattle.std.proofs.Common.{◌≡◌, ℕ, ◌+◌, ◌<◌, ◌≤◌, ⊎_elim, List, [], All, length, replicate, Contains, Some, None, ◌∙◌, subst, arith}
 use Rattle.std.proofs.lemmas.Bool.{cases_lt}
 use Rattle.std.proofs.lemmas.List.{length-replicate}
-use Rattle.hz_base_model.specs.Pairs.{Pair, later}
+use Rattle.hz_base_model.specs.Pairs.{Pair}
 use Rattle.hz_base_model.proofs.Elements.{Contains-nil}
 use Rattle.hz_description_model.specs.Reservations.Automata.{UnitPlace}
 use Rattle.hz_grid.specs.Grids.{IsGrid}
 use Rattle.hz_pipeline_model.specs.Accepting.Replay.{Pipeline, State, FitsAt}
-use Rattle.hz_why_model.specs.Waits.{after, FitsLater, IsWait}
-use Rattle.hz_reasons.specs.Calendars.{at, AreUnbroken, IsFirstOf, IsLaterBy, AreLaterBy}
+use Rattle.hz_why_model.specs.Waits.{after, IsWait}
+use Rattle.hz_reasons.specs.Calendars.{AreUnbroken, IsFirstOf, AreLaterBy}
 use Rattle.hz_reasons.specs.Plans.{choices_at, IsPlanOf, Stands, in_automaton}
 use Rattle.hz_reasons.specs.Waiting.{HasWaited}
 use Rattle.hz_reasons.specs.declared.plan.Plan.{Plan}

@@ -1,5 +1,5 @@
 -- What is chosen for the issues of a trace.
-use Rattle.std.specs.Prelude.{◌≡◌, ℕ, Bool, true, false, List, [], ◌∷◌, ◌++◌, take, slice_get, Option, Some, None}
+use Rattle.std.specs.Prelude.{◌≡◌, ℕ, List, [], ◌∷◌, ◌++◌, take, slice_get, Option, Some, None}
 use Rattle.hz_base_model.specs.Pairs.{Pair}
 use Rattle.hz_description_model.specs.Reservations.Automata.{UnitPlace}
 use Rattle.hz_pipeline_model.specs.Accepting.Events.{Event, issue}
@@ -23,7 +23,12 @@ abbrev pub Chooses : Pipeline UnitPlace → List Event → (choices : List ℕ) 
 Chooses m t choices grids None = HasChosen m t choices grids
 Chooses m t choices grids (Some place) = StopsAt m t choices grids place
 
--- An issue of the class behind the events: true if it is chosen for, false if no alternative fits and all stays.
-abbrev pub IssuesTo : Pipeline UnitPlace → List Event → (class : ℕ) → (choices : List ℕ) → (grids : List (List (Pair ℕ))) → Bool → Type 0
-IssuesTo m t k choices grids true = HasChosen m (t ++ issue k ∷ []) choices grids
-IssuesTo m t k choices grids false = HasChosen m t choices grids × ((i : ℕ) → FitsAt m (left_by m t choices) k i → ⊥)
+-- the choices with the one that is made, if one is
+abbrev pub chosen_with : (choices : List ℕ) → (taken : Option ℕ) → List ℕ
+chosen_with choices None = choices
+chosen_with choices (Some number) = choices ++ number ∷ []
+
+-- An issue of the class behind the events: an alternative is chosen for it; or no alternative fits and all stays.
+abbrev pub IssuesTo : Pipeline UnitPlace → List Event → (class : ℕ) → (choices : List ℕ) → (grids : List (List (Pair ℕ))) → (taken : Option ℕ) → Type 0
+IssuesTo m t k choices grids (Some _) = HasChosen m (t ++ issue k ∷ []) choices grids
+IssuesTo m t k choices grids None = HasChosen m t choices grids × ((i : ℕ) → FitsAt m (left_by m t choices) k i → ⊥)

@@ -3,3 +3,12 @@ pub mod Plans
 pub mod Waiting
 pub mod Choosing
 pub mod Taken
+pub mod Breaking
+pub mod Holding
+pub mod Planning
+pub mod Drawing
+pub mod Frontiers
+pub mod Telling
+pub mod Showing
+pub mod Walking
+pub mod Answering

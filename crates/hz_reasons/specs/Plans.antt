@@ -9,9 +9,12 @@ use Rattle.hz_description_model.specs.Reservations.Sets.{Statement}
 use Rattle.hz_pipeline_model.specs.Accepting.Fitting.{AskTheSame, IsUnbroken}
 use Rattle.hz_pipeline_model.specs.Accepting.Replay.{Pipeline, first_fit, any_fit, State, alternatives_at, chosen, FitsAt, MayTake}
 use Rattle.hz_reasons.specs.Calendars.{at, parts_at}
+use Rattle.hz_unitsets.specs.SetRules.{kind_of}
+use Rattle.hz_reasons.specs.declared.plan.AutomatonUnit.{AutomatonUnit}
 use Rattle.hz_reasons.specs.declared.plan.Choice.{Choice}
 use Rattle.hz_reasons.specs.declared.plan.Place.{Place}
 use Rattle.hz_reasons.specs.declared.plan.Plan.{Plan}
+use Rattle.hz_reasons.specs.declared.plan.SetStatement.{SetStatement}
 
 -- a unit of an automaton in a cycle
 abbrev pub in_automaton : (automaton unit cycle : ℕ) → Pair UnitPlace
@@ -49,8 +52,17 @@ pairs_at choices i = pairs_of (slice_get choices i)
 abbrev pub IsWide : Plan → Type 0
 IsWide plan = All (λ choices. All (λ choice. length choice.parts.items ≡ length plan.rules.items) choices.items) plan.classes.items
 
--- The plan has the pipeline's alternatives and statements, automaton by automaton, and its treatment.
+-- a unit of an automaton
+abbrev pub unit_of : AutomatonUnit → UnitPlace
+unit_of u = record { automaton = u.automaton; unit = u.unit }
+
+-- a set statement
+abbrev pub statement_of : SetStatement → Statement UnitPlace
+statement_of set = record { kind = kind_of set.kind; units = map unit_of set.units.items; patterns = map (λ pattern. map unit_of pattern.items) set.patterns.items }
+
+-- The plan has the pipeline's statements in their order; its alternatives and statements automaton by automaton; and its treatment.
 pub record IsPlanOf (m : Pipeline UnitPlace) (plan : Plan) : Type 0 where
+  pub sets : map statement_of plan.sets.items ≡ m.statements
   pub pairs : (k i : ℕ) (p : Pair UnitPlace) → Contains (chosen m k i) p → p.unit.automaton < length plan.rules.items
   pub statements : (s : Statement UnitPlace) → Contains m.statements s → (a : ℕ) × (a < length plan.rules.items) × IsStatementOf a s
   pub asks : (a : ℕ) → a < length plan.rules.items → AskTheSame (at plan.rules.items a) (statements_inside m a)

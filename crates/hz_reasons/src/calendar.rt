@@ -1,10 +1,10 @@
 //! What stands reserved from the present cycle on, automaton by automaton.
 
-ghost use Rattle.std.specs.Prelude.{◌≡◌, ◌↔◌, ◌<◌, ℕ, List, [], replicate, length, vec_len, IsTrue, IfOk, OnOk, All};
+ghost use Rattle.std.specs.Prelude.{◌≡◌, ◌↔◌, ◌<◌, ℕ, List, [], replicate, length, vec_len, IsTrue, IfOk, IfSome, OnOk, All};
 ghost use Rattle.hz_description_model.specs.Reservations.Automata.{UnitPlace};
-ghost use Rattle.hz_pipeline_model.specs.Accepting.Replay.{Pipeline, State, start, first_fit};
+ghost use Rattle.hz_pipeline_model.specs.Accepting.Replay.{Pipeline, State, start};
 ghost use Rattle.hz_why_model.specs.Waits.{after};
-ghost use Rattle.hz_reasons.specs.Plans.{IsWide, IsPlanOf, Stands, Issues};
+ghost use Rattle.hz_reasons.specs.Plans.{choices_at, IsWide, IsPlanOf, Stands, Issues};
 ghost use Rattle.hz_reasons.specs.Calendars.{at, AllFit, AreUnbroken, IsFirstOf, AreApart, AreUnited, Takes, IsLaterBy, AreLaterBy};
 
 use crate::plan::{Choice, Plan};
@@ -30,8 +30,9 @@ impl Calendar {
         })
     }
 
-    /// An issue of a class in the first treatment: it takes the first of its alternatives that fits, whose number is answered. Where
-    /// none fits all stays as it was. Where memory ran out a part of the alternative may stand reserved, and the calendar is of no use.
+    /// An issue of a class: it takes the first of its alternatives that fits, whose number is answered; under `ndfa` it might take
+    /// another. Where none fits all stays as it was. Where memory ran out a part of the alternative may stand reserved, and the calendar
+    /// is of no use.
     pub fn issue(
         &mut self,
         alloc: Global,
@@ -44,7 +45,8 @@ impl Calendar {
         requires unbroken { AreUnbroken plan.now.rules.items self.old.grids.items }
         ensures each { OnOk result (vec_len self.new.grids ≡ vec_len plan.now.rules) }
         ensures unbroken { OnOk result (AreUnbroken plan.now.rules.items self.new.grids.items) }
-        ensures issues { IfOk result (λ taken. (m : Pipeline UnitPlace) (s : State UnitPlace) → IsPlanOf m plan.now → m.treatment ≡ first_fit → Stands m self.old.grids.items s → Issues m s class taken self.new.grids.items) }
+        ensures within { IfOk result (λ taken. IfSome taken (λ number. number < length (choices_at plan.now class))) }
+        ensures issues { IfOk result (λ taken. (m : Pipeline UnitPlace) (s : State UnitPlace) → IsPlanOf m plan.now → Stands m self.old.grids.items s → Issues m s class taken self.new.grids.items) }
     {
         let choices = &plan.classes[class as usize];
         take_first(alloc, &plan.rules, &mut self.grids, choices)

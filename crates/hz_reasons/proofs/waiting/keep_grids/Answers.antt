@@ -1,4 +1,4 @@
-use Rattle.std.proofs.Common.{ℕ, ◌<◌, length, arith, below_more}
+use Rattle.std.proofs.Common.{arith, below_more}
 use Rattle.hz_reasons.proofs.Reading.{grid_read}
 use Rattle.hz_reasons.proofs.waiting.keep_grids.Goals as goal
 

@@ -1,7 +1,12 @@
-use Rattle.std.proofs.Common.{◌≡◌, ℕ, length, arith, Some, None}
+use Rattle.std.proofs.Common.{◌≡◌, length, arith, Some, None}
 use Rattle.hz_reasons.proofs.Meaning.{first_read}
 use Rattle.hz_reasons.proofs.WaitingLaws.{waited_none, waited_more, waited_found, waited_all}
 use Rattle.hz_reasons.proofs.waiting.wait_for.Goals as goal
+
+pub loop-cycles-init : goal.loop-cycles-init
+loop-cycles-init c =
+    let each : length c.args.grids.now ≡ length c.args.plan.now.rules.items = omega arith in
+    waited_none c.args.plan.now c.args.class c.args.grids.now each c.requires.unbroken
 
 pub returns-in-Some : goal.returns-in-Some
 returns-in-Some c =

@@ -1,0 +1,27 @@
+use Rattle.std.proofs.Common.{ℕ, List, ◌++◌, map, sym, ap, subst, ◌∙◌, arith}
+use Rattle.std.specs.List.{flat_map}
+use Rattle.std.specs.Option.{option_map}
+use Rattle.hz_pipeline_model.specs.Accepting.Events.{cycles_of}
+use Rattle.hz_pipeline_model.specs.Accepting.Replay.{alternatives_at, left_by}
+use Rattle.hz_reasons.specs.Breaking.{reason_at}
+use Rattle.hz_reasons.specs.Holding.{AreHolders}
+use Rattle.hz_reasons.specs.Showing.{AskFor}
+use Rattle.hz_reasons.specs.declared.holders.Holder.{Holder}
+use Rattle.hz_reasons.specs.declared.plan.Choice.{Choice}
+use Rattle.hz_reasons.proofs.Reading.{choices_read}
+use Rattle.hz_reasons.proofs.ShowLaws.{ask_class}
+use Rattle.hz_reasons.proofs.Joining.{joined}
+use Rattle.hz_reasons.proofs.TextLaws.{refusal_is}
+use Rattle.hz_reasons.proofs.explaining.tell_refusal.Goals as goal
+
+pub returns : goal.returns
+returns c = λ m t lines choices is stands are.
+    let plan = c.args.plan.now in
+    let k = c.args.class in
+    let here = subst (λ (hs : List Holder). AreHolders m t lines choices hs) (sym c.deref.ensures.value) are in
+    let there = subst (λ (hs : List Holder). AreHolders m t lines choices hs) (sym c.deref-3.ensures.value) are in
+    let same = ap (map (option_map (reason_at m.statements (cycles_of t)))) c.deref-2.ensures.value ∙ c.in_ok-reasons.ensures m (left_by m t choices) is stands in
+    let ask = subst (λ (cs : List Choice). AskFor cs (flat_map (λ a. a.pairs) (alternatives_at m k))) (choices_read plan k c.index.result.now c.index.ensures (omega arith) ∙ sym c.deref-4.ensures.value) (ask_class m plan is k) in
+    joined c.args.text.now.items c.add_choice.new.text.items c.add_wait.new.text.items c.add_alternatives.new.text.items c.add_shown.new.text.items _ _ _ _
+    c.in_ok-add_choice.ensures c.in_ok-add_wait.ensures c.in_ok-add_alternatives.ensures (c.in_ok-add_shown.ensures m t lines choices (flat_map (λ a. a.pairs) (alternatives_at m k)) is there ask)
+    ∙ ap (λ (l : List ℕ). c.args.text.now.items ++ l) (refusal_is c.args.desc.now c.args.parts.now c.requires.parts m plan is t lines choices c.deref.result.now here k c.args.wait c.deref-2.result.now same)
