@@ -1,5 +1,5 @@
 //! A grid of one width: the pairs of a unit and a cycle that are reserved, with the cycles counted from the present one.
-ghost use Rattle.std.specs.Prelude.{◌≡◌, ◌↔◌, ◌<◌, ◌≤◌, ◌-◌, ◌*◌, ℕ, [], length, drop, max, All, IsTrue, IfOk, OnOk, vec_len, fold, slice_index};
+ghost use Rattle.std.specs.Prelude.{◌≡◌, ◌↔◌, ◌<◌, ◌≤◌, ◌-◌, ◌*◌, ℕ, [], length, drop, take, max, All, IsTrue, IfOk, OnOk, OnErr, vec_len, fold, slice_index};
 ghost use Rattle.hz_base_model.specs.Pairs.{grid_cmp};
 ghost use Rattle.hz_grid.specs.Hashes.{fed_for};
 ghost use Rattle.hz_grid.specs.Rows.{HasUnit, RowsMeet};
@@ -87,6 +87,17 @@ impl<const N: usize> GridOf<N> {
         Ok(GridOf {
             rows: joined(alloc, &self.rows, &other.rows)?,
         })
+    }
+
+    /// Adds the pairs of a grid that is no wider. Where memory ran out all is as it was.
+    pub fn join<const M: usize>(&mut self, other: &GridOf<M>) -> Result<(), NoMemory>
+        requires { M ≤ N }
+        ensures grid { IsGrid self.new }
+        ensures pairs { OnOk result (Unites self.old other.now self.new) }
+        ensures same { OnErr result (self.new ≡ self.old) }
+    {
+        join_rows(&mut self.rows, &other.rows)?;
+        Ok(())
     }
 
     /// An equal grid.
@@ -224,6 +235,32 @@ fn joined<const N: usize, const M: usize, const K: usize>(
     Ok(rows)
 }
 
+// Adds the units of rows that are no wider, cycle by cycle. Where memory ran out all is as it was.
+fn join_rows<const N: usize, const M: usize>(
+    rows: &mut Vec<Row<N>>,
+    others: &[Row<M>],
+) -> Result<(), NoMemory>
+    requires wide { M ≤ N }
+    requires few { N ≤ 4 }
+    requires first { IsRows rows.old.items }
+    requires second { IsRows others.now }
+    ensures rows { IsRows rows.new.items }
+    ensures units { OnOk result (IsJoined rows.old.items others.now rows.new.items) }
+    ensures same { OnErr result (rows.new.items ≡ rows.old.items) }
+{
+    let before = rows.len();
+    match lengthen(rows, others.len()) {
+        Ok(()) => {
+            overlay(rows, others);
+            Ok(())
+        }
+        Err(full) => {
+            rows.truncate(before);
+            Err(full)
+        }
+    }
+}
+
 // The same rows, of another width.
 fn widened<const N: usize, const K: usize>(
     alloc: Global,
@@ -296,6 +333,7 @@ fn lengthen<const N: usize>(rows: &mut Vec<Row<N>>, length: usize) -> Result<(),
     requires few { N ≤ 4 }
     ensures length { OnOk result (vec_len rows.new ≡ max (vec_len rows.old) length) }
     ensures units { OnOk result (HasSameUnits rows.old.items rows.new.items) }
+    ensures start { take (vec_len rows.old) rows.new.items ≡ rows.old.items }
 {
     while rows.len() < length {
         rows.push(Row::empty())?;

@@ -1,6 +1,6 @@
 //! A grid: the pairs of a unit and a cycle that are reserved, with the cycles counted from the present one, in rows of the
 //! width that its units need.
-ghost use Rattle.std.specs.Prelude.{◌≡◌, ◌↔◌, ◌<◌, ◌-◌, ℕ, [], All, IsTrue, IfOk};
+ghost use Rattle.std.specs.Prelude.{◌≡◌, ◌↔◌, ◌<◌, ◌-◌, ℕ, [], All, IsTrue, IfOk, OnOk, OnErr, false};
 ghost use Rattle.hz_grid.specs.Rows.{HasUnit};
 ghost use Rattle.hz_grid.specs.Grids.{Holds, IsGrid, HoldsJust, Meets, IsUnion, IsAdvanced, Unites, Advances};
 ghost use Rattle.hz_grid.specs.Used.{MeetsIn};
@@ -105,6 +105,47 @@ impl Width {
         }
     }
 
+    // Adds the pairs of a grid that is no wider, and answers whether it is. Where memory ran out all is as it was.
+    fn join_narrow(&mut self, other: &Width) -> Result<bool, NoMemory>
+        ensures grid { IsGrid (pairs_of self.new) }
+        ensures pairs { IfOk result (λ done. IsTrue done → Unites (pairs_of self.old) (pairs_of other.now) (pairs_of self.new)) }
+        ensures wider { IfOk result (λ done. done ≡ false → pairs_of self.new ≡ pairs_of self.old) }
+        ensures same { OnErr result (pairs_of self.new ≡ pairs_of self.old) }
+    {
+        match self {
+            Width::One(first) => match other {
+                Width::One(second) => first.join(second)?,
+                Width::Two(_) | Width::Four(_) => {
+                    first.kept();
+                    return Ok(false);
+                }
+            },
+            Width::Two(first) => match other {
+                Width::One(second) => first.join(second)?,
+                Width::Two(second) => first.join(second)?,
+                Width::Four(_) => {
+                    first.kept();
+                    return Ok(false);
+                }
+            },
+            Width::Four(first) => in_width!(other, second => first.join(second)?),
+        }
+        Ok(true)
+    }
+
+    // Adds the pairs of a grid. Where memory ran out all is as it was.
+    fn join(&mut self, alloc: Global, other: &Width) -> Result<(), NoMemory>
+        ensures grid { IsGrid (pairs_of self.new) }
+        ensures pairs { OnOk result (Unites (pairs_of self.old) (pairs_of other.now) (pairs_of self.new)) }
+        ensures same { OnErr result (pairs_of self.new ≡ pairs_of self.old) }
+    {
+        if !self.join_narrow(other)? {
+            let wide = self.with(alloc, other)?;
+            *self = wide;
+        }
+        Ok(())
+    }
+
     // Whether both have the same pairs, whatever their widths.
     fn same(&self, other: &Width) -> bool
         ensures { IsTrue result ↔ (pairs_of self.now ≡ pairs_of other.now) }
@@ -177,6 +218,16 @@ impl Grid {
         Ok(Grid {
             width: self.width.with(alloc, &other.width)?,
         })
+    }
+
+    /// Adds the pairs of another grid. Where memory ran out the grid is as it was.
+    pub fn join(&mut self, alloc: Global, other: &Grid) -> Result<(), NoMemory>
+        ensures grid { IsGrid self.new }
+        ensures pairs { OnOk result (IsUnion self.old other.now self.new) }
+        ensures same { OnErr result (self.new ≡ self.old) }
+    {
+        self.width.join(alloc, &other.width)?;
+        Ok(())
     }
 
     /// An equal grid.
