@@ -1,3 +1,2 @@
 pub mod LeadingRows
 pub mod LeadingLemmas
-pub mod RowLemmas

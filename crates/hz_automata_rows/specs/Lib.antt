@@ -1,3 +1,1 @@
-pub mod Examples
 pub mod Leading
-pub mod Rows

@@ -1,2 +1,1 @@
 pub mod AskLemmas
-pub mod StuckLemmas
