@@ -16,6 +16,9 @@ others: the same, where 64 statements refuse 64 alternatives each.
 thousands: single under 30,000 statements.
 wanting: present under 30,000 statements.
 spread: 36 times 36 alternatives, no two of which have a cycle with the same units, refused in their last cycle.
+harmless: spread, where in each cycle other units stand beside, of which no statement speaks.
+turns: spread under twelve statements, which refuse neighbours among the alternatives in twelve different cycles.
+whirling: turns, where in each cycle other units stand beside as in harmless.
 """
 import sys
 
@@ -127,6 +130,18 @@ def spread(cycles):
     insn("y", f"nothing*{cycles - 1},w")
 
 
+def turning(cycles, turns, beside=False):
+    first, second = names("a", 36), names("b", 36)
+    last, others = names("w", turns), names("t", 8)
+    unit(*first, *second, *last, *others)
+    for turn, one in enumerate(last):
+        print(f'(absence_set "{",".join(second[turn::turns])}" "{one}")')
+    insn("x", f"({'|'.join(f'{one}*{cycles}' for one in first)})+({'|'.join(f'{one}*{cycles}' for one in second)})")
+    insn("y", f"nothing*{cycles - turns},{','.join(last)}")
+    if beside:
+        insn("h", ",".join("(" + "+".join(one for place, one in enumerate(others) if (cycle % 255 + 1) >> place & 1) + ")" for cycle in range(cycles)))
+
+
 def pairs():
     units = names("p", 46)
     return [f"{one} {other}" for place, one in enumerate(units) for other in units[place + 1 :]][:999]
@@ -159,6 +174,9 @@ KINDS = {
     "thousands": thousands,
     "wanting": lambda cycles: thousands(cycles, "presence"),
     "spread": spread,
+    "harmless": lambda cycles: turning(cycles, 1, True),
+    "turns": lambda cycles: turning(cycles, 12),
+    "whirling": lambda cycles: turning(cycles, 12, True),
 }
 
 KINDS[sys.argv[1]](int(sys.argv[2]))

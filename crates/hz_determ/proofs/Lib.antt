@@ -13,3 +13,4 @@ pub mod LateLemmas
 pub mod TryLemmas
 pub mod SharingLemmas
 pub mod AskingLemmas
+pub mod CycleLemmas

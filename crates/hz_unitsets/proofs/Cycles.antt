@@ -14,13 +14,13 @@ use Rattle.hz_grid.specs.Grids.{Meets}
 use Rattle.hz_grid.specs.declared.usage.UsedRow.{UsedRow}
 use Rattle.hz_grid.specs.Used.{is_at, AreRowsOf, HasUnitsOf}
 use Rattle.hz_grid.proofs.UsedLemmas.{row_at_cycle}
-use Rattle.std.specs.List.{Any, list_any}
+use Rattle.std.specs.List.{list_any}
 use Rattle.hz_unitsets.specs.declared.set_rules.SetKind.{SetKind}
 use Rattle.hz_unitsets.specs.declared.set_rules.SetKind.TheVariants.{Exclusion, Presence, FinalPresence, Absence, FinalAbsence}
 use Rattle.hz_unitsets.specs.declared.row_rules.Rule.{Rule}
 use Rattle.hz_unitsets.specs.declared.rules.Asked.{Asked}
 use Rattle.hz_unitsets.specs.SetRules.{kind_of}
-use Rattle.hz_unitsets.specs.RowRules.{statement_in, asked_statement, AllowsAt, AllowsRows, ForbidsRows, Allows, Breaks, BreaksRow, IsTrigger, IsPart, IsAsked, AreAsked, ClearsIn, IsClear, HasStanding}
+use Rattle.hz_unitsets.specs.RowRules.{statement_in, asked_statement, AllowsAt, AllowsRows, Allows, Breaks, BreaksRow, IsTrigger, IsAsked, AreAsked, ClearsIn, IsClear, HasStanding}
 
 -- ---- where no added unit may break a statement
 
@@ -142,25 +142,6 @@ clears_joined s there added all is_all clear = record {
   finally_absent = λ e some pattern. clear.finally_absent e some (pattern_with s.patterns _ _ (λ u. (is_all u).1) pattern);
 }
 
--- what a statement allows it allows of a part of it, unless it looks for a pattern in the result
-pub part_allowed : (s : Statement ℕ) (source part pairs : List (Pair ℕ)) → (s.kind ≡ final_presence → ⊥) → IsPart part pairs → Allows s source pairs → Allows s source part
-part_allowed s source part pairs other is h = record { at = λ cycle. allowed cycle (h.at cycle) }
-  where
-    into : (cycle unit : ℕ) → Holds part cycle unit → Holds pairs cycle unit
-    into cycle unit held = is.within (record { unit = unit; cycle = cycle }) held
-
-    into_all : (cycle unit : ℕ) → Holds (source ++ part) cycle unit → Holds (source ++ pairs) cycle unit
-    into_all cycle unit held = ⊎_elim (λ l. Contains-append_left source pairs _ l) (λ r. Contains-append_right source pairs _ (into cycle unit r)) (Contains-append_cases source part _ held)
-
-    allowed : (cycle : ℕ) → AllowsAt s source pairs cycle → AllowsAt s source part cycle
-    allowed cycle k = record {
-      excluded = λ e some pattern. k.excluded e (some_with s.units _ _ (into_all cycle) some) (pattern_with s.patterns _ _ (into_all cycle) pattern);
-      present = λ e some. k.present e (some_with s.units _ _ (into cycle) some);
-      finally_present = λ e some. absurd (other e);
-      absent = λ e some pattern. k.absent e (some_with s.units _ _ (into cycle) some) pattern;
-      finally_absent = λ e some pattern. k.finally_absent e (some_with s.units _ _ (into cycle) some) (pattern_with s.patterns _ _ (into_all cycle) pattern);
-    }
-
 -- ---- one cycle, by what stands there and what is added alone
 
 pub rows_untriggered : (s : Statement ℕ) (there added : ℕ) → (BreaksRow s there → ⊥) → ((unit : ℕ) → IsTrigger s unit → HasUnit added unit → ⊥) → AllowsRows s there added
@@ -210,13 +191,6 @@ module _ (source add : List (Pair ℕ)) (cycle there added : ℕ) (is_there : (u
     λ h k d within. (rows_at (asked_statement (get_or rules k d))).0 (h k d within),
     λ h k d within. (rows_at (asked_statement (get_or rules k d))).1 (h k d within),
   )
-
-  -- a part of what is added is forbidden there
-  pub rows_forbid : (rules : List Asked) (pairs : List (Pair ℕ)) → Any (λ asked. ForbidsRows (asked_statement asked) there added) rules → IsPart add pairs → All (λ asked. Allows (asked_statement asked) source pairs) rules → ⊥
-  rows_forbid rules pairs any is all =
-      let (k, asked, within, at, forbids) = any in
-      let allowed = All-contains (λ (a : Asked). Allows (asked_statement a) source pairs) rules asked all (k, within, at) in
-      forbids.1 ((rows_at (asked_statement asked)).1 ((part_allowed (asked_statement asked) source add pairs forbids.0 is allowed).at cycle))
 
 pub rows_unbroken : (rules : List Asked) (source : List (Pair ℕ)) (cycle there : ℕ) → ((u : ℕ) → HasUnit there u ↔ Holds source cycle u) → All (λ asked. ¬ Breaks (asked_statement asked) source) rules → All (λ asked. ¬ BreaksRow (asked_statement asked) there) rules
 rows_unbroken rules source cycle there is_there unbroken k d within b =

@@ -49,10 +49,6 @@ Breaks s pairs = (s.kind ≡ exclusion) × StandsIn s pairs
 abbrev pub AllowsRows : Statement ℕ → ℕ → ℕ → Type 0
 AllowsRows s there added = AllowsIn s (HasUnit there) (HasUnit added) (λ unit. HasUnit there unit ⊎ HasUnit added unit)
 
--- the statement forbids a cycle of these rows, and looks for no pattern in the result that it wants
-abbrev pub ForbidsRows : Statement ℕ → ℕ → ℕ → Type 0
-ForbidsRows s there added = (s.kind ≡ final_presence → ⊥) × (AllowsRows s there added → ⊥)
-
 -- the statement is an exclusion, and it stands in the row
 abbrev pub BreaksRow : Statement ℕ → ℕ → Type 0
 BreaksRow s row = (s.kind ≡ exclusion) × HoldsSome s.units (HasUnit row) × HoldsPattern s.patterns (HasUnit row)
@@ -91,10 +87,6 @@ pub record IsAsked (asked : Asked) : Type 0 where
 pub record AreAsked (rules : List Asked) (all : ℕ) : Type 0 where
   pub each : All IsAsked rules
   pub triggers : All (λ asked. IsWithin asked.triggers all) rules
-
--- each of the first pairs is one of the others
-pub record IsPart (part pairs : List (Pair ℕ)) : Type 0 where
-  pub within : (p : Pair ℕ) → Contains part p → Contains pairs p
 
 -- an item is there once more only where it was not there
 abbrev pub IsKept : {X : Type 0} → List X → X → List X → Type 0

@@ -1,7 +1,7 @@
 //! One set statement over rows.
 
 ghost use Rattle.std.specs.Prelude.{◌≡◌, ◌↔◌, ◌<◌, ℕ, map, All, IfOk, IsTrue};
-ghost use Rattle.hz_description_model.specs.Reservations.Sets.{AllowsIn, HoldsSome, HoldsPattern, final_presence};
+ghost use Rattle.hz_description_model.specs.Reservations.Sets.{AllowsIn, HoldsSome, HoldsPattern};
 ghost use Rattle.hz_grid.specs.Rows.{HasUnit, IsWithin};
 ghost use Rattle.hz_unitsets.specs.SetRules.{statement_of, IsInRange, in_order, ordered};
 ghost use Rattle.hz_unitsets.specs.RowRules.{statement_in, IsRow, IsBounded, IsTrigger, Breaks, ClearsIn, StandsIn, StandsAt, HasKey, AreKeys, IsWanted, IsSummed};
@@ -82,16 +82,6 @@ impl Rule {
     {
         match self.kind {
             SetKind::Exclusion => self.stands_in(source),
-            _ => false,
-        }
-    }
-
-    /// Whether the rule is a presence that looks at the result.
-    pub(crate) fn is_final_presence(&self) -> bool
-        ensures { (statement_in self.now).kind ≡ final_presence → IsTrue result }
-    {
-        match self.kind {
-            SetKind::FinalPresence => true,
             _ => false,
         }
     }

@@ -5,7 +5,7 @@ ghost use Rattle.std.specs.List.{AllPairs, Any};
 ghost use Rattle.hz_description_model.specs.Reservations.Sets.{Fits};
 ghost use Rattle.hz_pipeline_model.specs.Accepting.Fitting.{AskTheSame, IsUnbroken};
 ghost use Rattle.hz_unitsets.specs.SetRules.{statements_of, IsInRange, ordered};
-ghost use Rattle.hz_unitsets.specs.RowRules.{statement_in, asked_statement, IsBounded, IsAsked, Allows, AllowsAt, AllowsRows, ForbidsRows, Breaks, BreaksRow, HasStanding, IsClear, IsPart, IsKept, AreSame, IsBlock, IsPast, StandsHere, StandsInEach, FitsRow, Between, AllowBetween, PassesRows};
+ghost use Rattle.hz_unitsets.specs.RowRules.{statement_in, asked_statement, IsBounded, IsAsked, Allows, AllowsAt, AllowsRows, Breaks, BreaksRow, HasStanding, IsClear, IsKept, AreSame, IsBlock, IsPast, StandsHere, StandsInEach, FitsRow, Between, AllowBetween, PassesRows};
 ghost use Rattle.hz_base_model.specs.Pairs.{Pair};
 ghost use Rattle.hz_grid.specs.Rows.{HasUnit};
 ghost use Rattle.hz_grid.specs.Used.{IsRowOf, AreRowsOf, HasUnitsOf};
@@ -99,33 +99,6 @@ impl Rules {
         !add.meets(source) && self.allow(source, add)
     }
 
-    /// The same, where the statement that refused others is asked first. Its number among the statements is kept in `last`, in
-    /// which any number may stand.
-    pub fn fits_after(&self, source: &Grid, add: &Usage, last: &mut usize) -> bool
-        requires { IsUnbroken self.now source.now }
-        ensures { IsTrue result ↔ Fits self.now source.now add.now 0 }
-    {
-        if self.is_refused_by(*last, source, add) || add.meets(source) {
-            return false;
-        }
-        if self.allow(source, add) {
-            return true;
-        }
-        *last = first_refusing(&self.rules, &self.blocks, source, add);
-        false
-    }
-
-    /// Whether it is seen from some pairs that no grid that has them fits a source that breaks no exclusion: one of them
-    /// stands there, or a statement forbids them whatever is added beside them. It takes no memory.
-    pub fn refuses(&self, source: &Grid, part: &Usage) -> bool
-        requires { IsUnbroken self.now source.now }
-        ensures { IsTrue result → (pairs : List (Pair ℕ)) → IsPart part.now pairs → ¬ Fits self.now source.now pairs 0 }
-    {
-        part.meets(source)
-            || (self.triggers.meets(part.units())
-                && some_forbids_in_blocks(&self.rules, &self.blocks, source, part))
-    }
-
     /// Whether units that are added in one cycle fit a source that breaks no exclusion: none of them stands there, and each
     /// statement allows that cycle. Pairs fit exactly where the units of each of their cycles do. It takes no memory.
     pub fn fits_row(&self, source: &Grid, cycle: u16, units: Row<4>) -> bool
@@ -141,14 +114,6 @@ impl Rules {
         ensures { IsTrue result ↔ IsUnbroken self.now source.now }
     {
         none_broken(&self.rules, source)
-    }
-
-    // Whether there is a rule of that number, and it does not allow what is added.
-    fn is_refused_by(&self, number: usize, source: &Grid, add: &Usage) -> bool
-        requires { IsUnbroken self.now source.now }
-        ensures { IsTrue result → ¬ All (λ s. Allows s source.now add.now) self.now }
-    {
-        number < self.rules.len() && refuses_at(&self.rules, number, source, add)
     }
 
     // Whether each rule allows each cycle, where the source breaks no exclusion.
@@ -168,76 +133,6 @@ impl Rules {
         !self.triggers.meets(added)
             || all_allow_rows_in_blocks(&self.rules, &self.blocks, there, added)
     }
-}
-
-// Whether the rule at that place does not allow what is added.
-fn refuses_at(rules: &[Asked], place: usize, source: &Grid, add: &Usage) -> bool
-    requires asked { All IsAsked rules.now }
-    requires place { place < length rules.now }
-    requires unbroken { All (λ asked. ¬ Breaks (asked_statement asked) source.now) rules.now }
-    ensures { IsTrue result → ¬ All (λ asked. Allows (asked_statement asked) source.now add.now) rules.now }
-{
-    let asked = &rules[place];
-    asked.triggers.meets(add.units()) && !asked.allows_each(source, add)
-}
-
-// The place of a rule that does not allow what is added, if one is found soon, and 0 if none is.
-fn first_refusing(rules: &[Asked], blocks: &[Block], source: &Grid, add: &Usage) -> usize
-    requires asked { All IsAsked rules.now }
-    requires blocks { All (IsBlock rules.now) blocks.now }
-    requires unbroken { All (λ asked. ¬ Breaks (asked_statement asked) source.now) rules.now }
-{
-    let rows = add.rows();
-    let there = standing(source, rows);
-    let mut next = 0;
-    for block in blocks {
-        if !is_past(block, source, rows, there, add.units()) {
-            let found = refusing_between(rules, block.from, block.to, source, add, there);
-            if let Some(place) = found {
-                return place;
-            }
-        }
-        next = block.to;
-    }
-    refusing_between(rules, next, rules.len(), source, add, there).unwrap_or(0)
-}
-
-// The same of the rules from one place to another.
-fn refusing_between(
-    rules: &[Asked],
-    from: usize,
-    to: usize,
-    source: &Grid,
-    add: &Usage,
-    there: Row<4>,
-) -> Option<usize>
-    requires asked { All IsAsked rules.now }
-    requires within { to ≤ length rules.now }
-    requires unbroken { All (λ asked. ¬ Breaks (asked_statement asked) source.now) rules.now }
-{
-    let units = add.units();
-    let mut left = patterns_in(FIRST_LOOKS, add.rows().len());
-    for place in from..to {
-        if !is_clear_at(rules, place, there, units) {
-            let count = rules[place].rule.pattern_count();
-            if left < count {
-                return None;
-            }
-            left -= count;
-            if refuses_at(rules, place, source, add) {
-                return Some(place);
-            }
-        }
-    }
-    None
-}
-
-// Whether the rule at that place is seen to allow what is added by what stands in any of its cycles.
-fn is_clear_at(rules: &[Asked], place: usize, there: Row<4>, units: Row<4>) -> bool
-    requires asked { All IsAsked rules.now }
-    requires place { place < length rules.now }
-{
-    rules[place].clears(there, units)
 }
 
 // So many rules are in a block, or more where there are more than so many blocks of them.
@@ -408,39 +303,6 @@ fn passes_rows(block: &Block, there: Row<4>, added: Row<4>) -> bool
     !block.keys.meets(there) && !block.keys.meets(added) && block.wanted.within(there)
 }
 
-// Whether some rule forbids what has these pairs, where the source breaks none. Of many rules, blocks are passed over of which
-// it is seen at once that they don't.
-fn some_forbids_in_blocks(rules: &[Asked], blocks: &[Block], source: &Grid, part: &Usage) -> bool
-    requires asked { All IsAsked rules.now }
-    requires blocks { All (IsBlock rules.now) blocks.now }
-    requires unbroken { All (λ asked. ¬ Breaks (asked_statement asked) source.now) rules.now }
-    ensures { IsTrue result → (pairs : List (Pair ℕ)) → IsPart part.now pairs → ¬ All (λ asked. Allows (asked_statement asked) source.now pairs) rules.now }
-{
-    if blocks.is_empty() {
-        return some_forbids(rules, source, part);
-    }
-    let there = standing(source, part.rows());
-    let mut next = 0;
-    for block in blocks {
-        if block_forbids(rules, block, source, part, there) {
-            return true;
-        }
-        next = block.to;
-    }
-    some_forbids(&rules[next..], source, part)
-}
-
-// The same of the rules of a block.
-fn block_forbids(rules: &[Asked], block: &Block, source: &Grid, part: &Usage, there: Row<4>) -> bool
-    requires asked { All IsAsked rules.now }
-    requires block { IsBlock rules.now block.now }
-    requires unbroken { All (λ asked. ¬ Breaks (asked_statement asked) source.now) rules.now }
-    ensures { IsTrue result → (pairs : List (Pair ℕ)) → IsPart part.now pairs → ¬ All (λ asked. Allows (asked_statement asked) source.now pairs) rules.now }
-{
-    !is_past(block, source, part.rows(), there, part.units())
-        && some_forbids(&rules[block.from..block.to], source, part)
-}
-
 // Whether the source breaks none of the rules.
 fn none_broken(rules: &[Asked], source: &Grid) -> bool
     requires { All IsAsked rules.now }
@@ -603,102 +465,6 @@ fn all_allow_rows(rules: &[Asked], there: Row<4>, added: Row<4>) -> bool
     rules.iter().all(|asked| asked.allows_rows(there, added))
 }
 
-// Whether some rule forbids what has these pairs, where the source breaks none. A few rules that a unit of the pairs may
-// break are asked of all cycles. Where there are more, the rest are asked of these together first.
-fn some_forbids(rules: &[Asked], source: &Grid, part: &Usage) -> bool
-    requires asked { All IsAsked rules.now }
-    requires unbroken { All (λ asked. ¬ Breaks (asked_statement asked) source.now) rules.now }
-    ensures { IsTrue result → (pairs : List (Pair ℕ)) → IsPart part.now pairs → ¬ All (λ asked. Allows (asked_statement asked) source.now pairs) rules.now }
-{
-    let units = part.units();
-    let mut left = patterns_in(FIRST_LOOKS, part.rows().len());
-    for (at, asked) in rules.iter().enumerate() {
-        if asked.triggers.meets(units) {
-            let count = asked.rule.pattern_count();
-            if left < count {
-                return some_forbids_whole(&rules[at..], source, part);
-            }
-            left -= count;
-            if asked.forbids(source, part) {
-                return true;
-            }
-        }
-    }
-    false
-}
-
-// The same, where many rules are asked: each once, of all that stands in the cycles in which units are added. The few that
-// this may break are asked of all cycles. Where there are more, each cycle is asked of all rules.
-fn some_forbids_whole(rules: &[Asked], source: &Grid, part: &Usage) -> bool
-    requires asked { All IsAsked rules.now }
-    requires unbroken { All (λ asked. ¬ Breaks (asked_statement asked) source.now) rules.now }
-    ensures { IsTrue result → (pairs : List (Pair ℕ)) → IsPart part.now pairs → ¬ All (λ asked. Allows (asked_statement asked) source.now pairs) rules.now }
-{
-    let units = part.units();
-    let there = standing(source, part.rows());
-    let mut left = patterns_in(MORE_LOOKS, part.rows().len());
-    for asked in rules {
-        if !asked.clears(there, units) {
-            let count = asked.rule.pattern_count();
-            if left < count {
-                return some_forbids_by_cycle(rules, source, part);
-            }
-            left -= count;
-            if asked.forbids(source, part) {
-                return true;
-            }
-        }
-    }
-    false
-}
-
-// The same, cycle by cycle. A cycle with the rows of one of the last is not asked of the rules again.
-fn some_forbids_by_cycle(rules: &[Asked], source: &Grid, part: &Usage) -> bool
-    requires asked { All IsAsked rules.now }
-    requires unbroken { All (λ asked. ¬ Breaks (asked_statement asked) source.now) rules.now }
-    ensures { IsTrue result → (pairs : List (Pair ℕ)) → IsPart part.now pairs → ¬ All (λ asked. Allows (asked_statement asked) source.now pairs) rules.now }
-{
-    let mut last = [empty_cycle(); REMEMBERED];
-    let mut place = 0;
-    let rows = part.rows();
-    for used in rows {
-        let here = source.row(used.cycle);
-        if some_forbids_next(rules, &last, here, used.units) {
-            return true;
-        }
-        last[place] = Cycle {
-            there: here,
-            added: used.units,
-        };
-        place = place_after(place);
-    }
-    false
-}
-
-// Whether some rule is seen to forbid a cycle, where what stands there breaks none. The last cycles were not forbidden, so
-// where one of them has its rows no rule is asked.
-fn some_forbids_next(rules: &[Asked], last: &[Cycle], there: Row<4>, added: Row<4>) -> bool
-    requires asked { All IsAsked rules.now }
-    requires unbroken { All (λ asked. ¬ BreaksRow (asked_statement asked) there) rules.now }
-    ensures { IsTrue result → Any (λ asked. ForbidsRows (asked_statement asked) there added) rules.now }
-{
-    !is_among(there, added, last) && some_forbids_rows(rules, there, added)
-}
-
-// Whether some rule forbids a cycle with these rows, whatever is added beside them, where what stood there breaks none.
-fn some_forbids_rows(rules: &[Asked], there: Row<4>, added: Row<4>) -> bool
-    requires asked { All IsAsked rules.now }
-    requires unbroken { All (λ asked. ¬ BreaksRow (asked_statement asked) there) rules.now }
-    ensures { IsTrue result → Any (λ asked. ForbidsRows (asked_statement asked) there added) rules.now }
-{
-    for asked in rules {
-        if asked.forbids_rows(there, added) {
-            return true;
-        }
-    }
-    false
-}
-
 // The rules of these statements, each once.
 fn distinct(alloc: Global, sets: &[SetRule]) -> Result<IndexSet<Rule>, NoMemory>
     requires { All IsInRange sets.now }
@@ -747,16 +513,6 @@ impl Asked {
         self.rule.clears_rows(there, added, there.join(added))
     }
 
-    // Whether the rule forbids what has these pairs, whatever is added beside them, where the source does not break it. A
-    // final presence never does: what is added beside them may be its pattern.
-    fn forbids(&self, source: &Grid, part: &Usage) -> bool
-        requires asked { IsAsked self.now }
-        requires unbroken { ¬ Breaks (asked_statement self.now) source.now }
-        ensures { IsTrue result → (pairs : List (Pair ℕ)) → IsPart part.now pairs → ¬ Allows (asked_statement self.now) source.now pairs }
-    {
-        !self.rule.is_final_presence() && !self.allows_each(source, part)
-    }
-
     // Whether the rule allows a cycle with these rows, what stood there and what is added, where the first does not break it.
     // It is asked only where an added unit may break it.
     fn allows_rows(&self, there: Row<4>, added: Row<4>) -> bool
@@ -768,15 +524,6 @@ impl Asked {
             return true;
         }
         self.rule.allows_rows(there, added, there.join(added))
-    }
-
-    // Whether the rule forbids a cycle with these rows, whatever is added beside them. A final presence never does.
-    fn forbids_rows(&self, there: Row<4>, added: Row<4>) -> bool
-        requires asked { IsAsked self.now }
-        requires unbroken { ¬ BreaksRow (asked_statement self.now) there }
-        ensures { IsTrue result → ForbidsRows (asked_statement self.now) there added }
-    {
-        !self.allows_rows(there, added) && !self.rule.is_final_presence()
     }
 
     // Whether the rule allows each cycle in which a unit is added.
