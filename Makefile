@@ -5,8 +5,8 @@ GCC_SOURCE ?= /usr/src/gcc-12/gcc-12*.tar.xz
 program = $(DESTDIR)$(PREFIX)/bin
 page = $(DESTDIR)$(PREFIX)/share/man/man1
 crates := $(shell sed -n 's/^\(hz[a-z_]*\):.*/\1/p' crates.txt)
-# those that the program needs; crates of rows are only tests, and it needs neither the law of --align nor the reasons of refusals
-lower := $(filter-out hz hz_align_model hz_why_model hz_reasons %_rows,$(crates))
+# those that the program needs; crates of rows are only tests, and it needs no reasons of refusals
+lower := $(filter-out hz hz_why_model hz_reasons %_rows,$(crates))
 # what is begun first: the longest chain of crates leads through it
 first := hz_check
 # how many crates are built beside each other, or jobs work on one crate: as many as there are processors, each with 4 GB of memory

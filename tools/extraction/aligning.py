@@ -2,7 +2,7 @@
 
 Units meet only in one cycle. So all reservations of a unit, with those of the units that set statements tie to it, can be
 moved to earlier cycles by one number: every trace is answered as before. The law is `moved_pipelines_accept_the_same` of
-the crate hz_align_model.
+the crate hz_laws.
 """
 import itertools
 import math

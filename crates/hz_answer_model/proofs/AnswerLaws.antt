@@ -111,7 +111,7 @@ module _ {U : Type 0} (m : Pipeline U) where
       same_issue_number : (k l : ℕ) → issue k ≡ issue l → k ≡ l
       same_issue_number k l h = cc
 
-  replays_single : (reserved : Reserved) (names : TraceNames) (lines : List ℕ) (events : List Event) → IsSingle (Replays m reserved names lines events)
+  pub replays_single : (reserved : Reserved) (names : TraceNames) (lines : List ℕ) (events : List Event) → IsSingle (Replays m reserved names lines events)
   replays_single reserved names lines events s s' t t' (inl a) (inl b) = one_told reserved names lines events _ (says_single _ _) s s' t t' a.1 b.1
   replays_single reserved names lines events s s' t t' (inl a) (inr b) = absurd (accepted_or_refused m events b.0 a.0 b.3)
   replays_single reserved names lines events s s' t t' (inr a) (inl b) = absurd (accepted_or_refused m events a.0 b.0 a.3)
@@ -126,7 +126,7 @@ module _ {U : Type 0} (m : Pipeline U) where
       one_told reserved names lines (take i events) _ (says_single _ _) s s' t t' tells again
 
 -- a phase leaves no choice where the next leaves none
-traces_single : (names : TraceNames) (name text : List ℕ) (next : Next (List Event)) → ((events : List Event) → IsSingle (next events)) → IsSingle (Traces names name text next)
+pub traces_single : (names : TraceNames) (name text : List ℕ) (next : Next (List Event)) → ((events : List Event) → IsSingle (next events)) → IsSingle (Traces names name text next)
 traces_single names name text next single s s' t t' (inl (events, is, a)) (inl (events', is', b)) =
     let same = one_trace names text events events' is is' in
     single events s s' t t' a (subst (λ (es : List Event). next es s' t') (sym same) b)
@@ -186,7 +186,7 @@ forms_single name bytes next single s s' t t' (inr (fault, line, wrong, a)) (inr
     let same = one_fault bytes fault other line place wrong also in
     says_same _ _ _ _ (ap (λ (n : ℕ). 2) same.1) (ap (λ (f : FormFault). fault_line name line (form_word f ∷ [])) same.0 ∙ ap (λ (n : ℕ). fault_line name n (form_word other ∷ [])) same.1) s s' t t' a b
 
-description_single : (name bytes : List ℕ) (next : (d : Description) → Next Known) → ((d : Description) (known : Known) → IsSingle (next d known)) → IsSingle (HasDescription name bytes next)
+pub description_single : (name bytes : List ℕ) (next : (d : Description) → Next Known) → ((d : Description) (known : Known) → IsSingle (next d known)) → IsSingle (HasDescription name bytes next)
 description_single name bytes next single =
     forms_single name bytes _ (λ read.
     describes_single name read _ (λ d.
@@ -425,7 +425,7 @@ abbrev pub ForTexts : List FileWord → (List (List ℕ) → Type 0) → Type 0
 ForTexts [] P = P []
 ForTexts (file ∷ files) P = (bytes : List ℕ) → ForTexts files (λ others. P (bytes ∷ others))
 
-files_single : (held : Held) (files : List FileWord) (next : Next (List (List ℕ))) → ForTexts files (λ texts. IsSingle (next texts)) → IsSingle (OpensAll held files next)
+pub files_single : (held : Held) (files : List FileWord) (next : Next (List (List ℕ))) → ForTexts files (λ texts. IsSingle (next texts)) → IsSingle (OpensAll held files next)
 files_single held [] next single = single
 files_single held (file ∷ files) next single =
     opens_single (held file.name) file.name file.most (λ bytes. OpensAll held files (λ others. next (bytes ∷ others)))

@@ -72,7 +72,7 @@ use Rattle.hz_block_model.specs.Scheduled.BlockSchedules.{StartsAlone, IsFirstSt
 use Rattle.hz_block_model.specs.Scheduling.Schedules.{Graph, Slot}
 use Rattle.hz_block_model.proofs.Scheduling.AlikeGraphs.{legal_there, greedy_there}
 use Rattle.hz_pipeline_model.specs.Accepting.Replay.{Accepted}
-use Rattle.hz_answer_laws.proofs.Leaving.LimitsTold.{are_counted}
+use Rattle.hz_laws.proofs.Leaving.LimitsTold.{are_counted}
 use Rattle.hz_block_model.proofs.Schedulable.ScheduleTotal.{some_schedule_of}
 use Rattle.hz_block_model.proofs.Scheduled.GraphLaws.{HasClass, graphs_alike}
 use Rattle.hz_block_model.proofs.Scheduled.FaultLaws.{classes_or_fault, starts_or_stuck}
@@ -92,7 +92,7 @@ use Rattle.hz_tabtext_model.proofs.CompiledSaid.{can_be_said}
 use Rattle.hz_tabtext_model.proofs.SaidLaws.{said_is_text}
 use Rattle.hz_tabtext_model.specs.Said.{tables_said}
 use Rattle.hz_tabtext_model.specs.Texts.{spelled}
-use Rattle.hz_answer_laws.proofs.Totality.MachineTotal.{HasMachine, some_machine}
+use Rattle.hz_laws.proofs.Totality.MachineTotal.{HasMachine, some_machine}
 use Rattle.std.specs.List.{range_with_len}
 use Rattle.std.specs.Prelude.{Ok, Err, Result, IsSome, slice_index_or}
 

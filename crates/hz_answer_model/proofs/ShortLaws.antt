@@ -3,7 +3,7 @@ use Rattle.std.proofs.Common.{◌≡◌, ℕ, ◌≤◌, false, List, length, sy
 use Rattle.hz_pipeline_model.specs.Compiling.Compiled.{shows_states}
 use Rattle.hz_description_model.specs.Reading.Limits.{description_limit}
 use Rattle.hz_description_model.specs.Check.Places.{Known}
-use Rattle.hz_answer_laws.proofs.Sizes.TablesSizes.{tables_most}
+use Rattle.hz_laws.proofs.Sizes.TablesSizes.{tables_most}
 use Rattle.hz_description_model.specs.Reading.Descriptions.{Description}
 use Rattle.hz_tabtext_model.proofs.MachineLaws.{text_machine}
 use Rattle.hz_answer_model.specs.Headline.{IsDescribed}

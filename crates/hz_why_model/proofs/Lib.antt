@@ -5,3 +5,4 @@ pub mod WaitLaws
 pub mod HolderLaws
 pub mod ChoiceLaws
 pub mod FrontLaws
+pub mod SingleLaws

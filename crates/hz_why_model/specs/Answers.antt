@@ -19,6 +19,7 @@ use Rattle.hz_words_model.specs.Words.{has_option}
 use Rattle.hz_answer_model.specs.Answers.{HasDescription, Replays}
 use Rattle.hz_answer_model.specs.AskAnswers.{Reserved, trace_names, held_in}
 use Rattle.hz_answer_model.specs.Phases.{Says, Next, OpensAll, FileWord, Traces}
+use Rattle.hz_answer_model.specs.Texts.{states_line}
 use Rattle.hz_why_model.specs.Explanations.{Wording, TellsLeft, TellsRefusal}
 use Rattle.hz_why_model.specs.Reasons.{same_place}
 
@@ -99,7 +100,8 @@ WhyAnswer words held status text = MatchOption (why_files words) (Says 4 why_usa
 
 -- ---- beside what `replay` answers
 
--- The text begins with an answer of this status; or else there is an answer of status 3, a limit of states.
-abbrev pub Begins : (answers : ℕ → List ℕ → Type 0) → ℕ → List ℕ → Type 0
-Begins answers status text =
-    ((answer rest : List ℕ) × (answers status answer × (text ≡ answer ++ rest))) ⊎ ((limit : List ℕ) × answers 3 limit)
+-- The text begins with an answer of this status; or else it is answered that an automaton of the description of this name has too many
+-- states.
+abbrev pub Begins : (description : List ℕ) → (answers : ℕ → List ℕ → Type 0) → ℕ → List ℕ → Type 0
+Begins description answers status text =
+    ((answer rest : List ℕ) × (answers status answer × (text ≡ answer ++ rest))) ⊎ ((automaton : List ℕ) × answers 3 (states_line description automaton))

@@ -1,4 +1,0 @@
-pub mod Names
-pub mod Leaving
-pub mod Totality
-pub mod Sizes

@@ -1,5 +1,0 @@
-use Rattle.hz_answer_laws.proofs.Names.NameLaws.{reserved_name}
-use Rattle.hz_answer_laws.proofs.name_laws.reserved_names_are_called_nothing.Goals as goal
-
-pub returns : goal.returns
-returns c = reserved_name

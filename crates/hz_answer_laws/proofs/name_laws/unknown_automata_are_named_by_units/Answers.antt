@@ -1,5 +1,0 @@
-use Rattle.hz_answer_laws.proofs.Names.NameLaws.{unknown_automaton}
-use Rattle.hz_answer_laws.proofs.name_laws.unknown_automata_are_named_by_units.Goals as goal
-
-pub returns : goal.returns
-returns c = unknown_automaton

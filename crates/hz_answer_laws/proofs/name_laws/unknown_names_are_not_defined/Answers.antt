@@ -1,5 +1,0 @@
-use Rattle.hz_answer_laws.proofs.Names.UnknownLaws.{unknown_name}
-use Rattle.hz_answer_laws.proofs.name_laws.unknown_names_are_not_defined.Goals as goal
-
-pub returns : goal.returns
-returns c = unknown_name

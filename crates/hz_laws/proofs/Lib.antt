@@ -1,0 +1,5 @@
+pub mod Names
+pub mod Leaving
+pub mod Totality
+pub mod Sizes
+pub mod Moving
