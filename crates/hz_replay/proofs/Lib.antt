@@ -1,5 +1,5 @@
 mod NameLemmas
 mod TraceLemmas
 mod ReplayerLemmas
-mod EventLemmas
+pub mod EventLemmas
 mod DrillLemmas

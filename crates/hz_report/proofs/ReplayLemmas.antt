@@ -1,7 +1,7 @@
 -- The lines of asks, event by event.
-use Rattle.std.proofs.Common.{◌≡◌, ℕ, Bool, true, false, Option, Some, None, ap₂, ◌+◌, ◌<◌, List, [], ◌∷◌, ◌++◌, length, ◌≤◌, get_or, take, drop, All, refl, sym, ap, ◌∙◌, append_assoc, subst, arith}
-use Rattle.std.proofs.lemmas.List.{append-nil, drop_all, drop-append-le, get_or-map, length-map, length-take, take-map, take_more, take-append-drop}
-use Rattle.std.proofs.lemmas.List.Elements.{All-append, All-get_or, All-take, All-cons, All-head, All-nil, All-tail}
+use Rattle.std.proofs.Common.{◌≡◌, ℕ, Bool, true, false, Option, Some, None, ap₂, ◌+◌, ◌<◌, List, [], ◌∷◌, ◌++◌, length, get_or, take, drop, All, refl, sym, ap, ◌∙◌, append_assoc, subst, arith}
+use Rattle.std.proofs.lemmas.List.{append-nil, get_or-map, length-map, take-map, take_more, take-append-drop}
+use Rattle.std.proofs.lemmas.List.Elements.{All-get_or, All-take, All-head, All-tail}
 use Rattle.hz_pipeline_model.specs.Accepting.Events as accepting
 use Rattle.std.specs.Bool.{OnFalse, OnTrue}
 use Rattle.std.specs.Option.{unwrap_or}
@@ -64,16 +64,6 @@ module _ (m : Machine) where
       sym (append-nil (asks_from m states (take n events)))
       ∙ (ap (λ (text : List ℕ). asks_from m states (take n events) ++ text) (sym (silent (states_from m states (take n events)) (drop n events) none))
       ∙ (sym (asks_append states (take n events) (drop n events)) ∙ ap (asks_from m states) (take-append-drop n events)))
-
--- none of the events up to a place is left behind it
-pub nothing_behind : (P : Event → Type 0) (events : List Event) (i : ℕ) → All P (drop (i + 1) (take (i + 1) events))
-nothing_behind P events i = subst (All P) (sym (drop_all (i + 1) (take (i + 1) events) (let few = length-take (i + 1) events in omega (arith, few)))) (All-nil P)
-
--- one more event behind a place
-pub one_behind : (P : Event → Type 0) (events : List Event) (n i : ℕ) (d : Event) → n ≤ i → i < length events → All P (drop n (take i events)) → P (get_or events i d) → All P (drop n (take (i + 1) events))
-one_behind P events n i d few inside all one =
-    subst (All P) (sym (ap (drop n) (take_more events i d inside) ∙ drop-append-le n (take i events) (get_or events i d ∷ []) (omega (arith, few, inside, length-take i events))))
-    (All-append P (drop n (take i events)) (get_or events i d ∷ []) all (All-cons P (get_or events i d) [] one (All-nil P)))
 
 -- what holds of all events holds of the one at a place
 pub event_at : (P : accepting.Event → Type 0) (events : List Event) (i : ℕ) → i < length events → All P (events_in events) → P (event_of (get_or events i no_event).what)

@@ -1,7 +1,6 @@
 -- The line of a fault in parts, from left to right.
-use Rattle.std.specs.Prelude.{ℕ, List, [], ◌∷◌, ◌++◌, codes, decimal, Option, Some, None}
+use Rattle.std.specs.Prelude.{ℕ, List, [], ◌∷◌, ◌++◌, codes, decimal, Option}
 use Rattle.std.specs.List.{concat}
-use Rattle.std.specs.Borrow.{Bor}
 use Rattle.hz_answer_model.specs.Texts.{insn_words, name_words, at_words}
 
 -- what a fault begins with

@@ -35,3 +35,12 @@ abbrev pub IsTellable : Report → Type 0
 IsTellable (Replayed machine events outcome) = IsReplay machine.now events.now outcome.now
 IsTellable (Scheduled machine graph schedule) = IsInRange machine.now graph.now schedule.now
 IsTellable _ = ⊤
+
+-- a report of one plain line: a limit, or words, memory or a file
+abbrev pub IsPlainLine : Report → Type 0
+IsPlainLine (Replayed machine events outcome) = ⊥
+IsPlainLine (Scheduled machine graph schedule) = ⊥
+IsPlainLine (After state) = ⊥
+IsPlainLine (Drill turns issues cycles states) = ⊥
+IsPlainLine (Fault file line kind insn first second at) = ⊥
+IsPlainLine _ = ⊤

@@ -1,6 +1,6 @@
 //! Writing a replay, for which its events are walked once more.
 
-ghost use Rattle.std.specs.Prelude.{◌≡◌, ℕ, ◌-◌, ◌^◌, ◌<◌, ◌≤◌, All, length, drop, codes, if◌then◌else◌};
+ghost use Rattle.std.specs.Prelude.{◌≡◌, ℕ, ◌-◌, ◌^◌, ◌<◌, ◌≤◌, All, length, drop, codes, decimal, if◌then◌else◌};
 ghost use Rattle.std.specs.Bool.{OnFalse};
 ghost use Rattle.hz_pipeline_model.specs.Accepting.Asking.{IsOfQuery};
 ghost use Rattle.hz_pipeline_model.specs.Accepting.Events.{issue, IsOfClass};
@@ -17,7 +17,7 @@ ghost use Rattle.hz_report.specs.Replays.{AsksNothing, asks_from, end_line, line
 ghost use Rattle.hz_tables.specs.Machines.{machine_of};
 
 use super::outcomes::{put_accepted, put_refused};
-use hz_io::page::{Page, add_all, flush};
+use hz_io::page::{Page, add, flush};
 use hz_io::{Failed, Sink};
 use hz_regexp::Name;
 use hz_replay::{Event, Outcome, Replayer, What, play};
@@ -27,11 +27,33 @@ use std::alloc::Global;
 use std::marker::Brand;
 use std::sync::ledger::{Blank, Ledger};
 
-/// The end of the line of an ask.
-fn told<'a>(reserved: bool) -> &'a [u8]
-    ensures { result.now ≡ if reserved then codes " reserved\n" else codes " free\n" }
+/// Adds the end of the line of an ask.
+fn add_told<S: Sink>(out: &mut S, page: &mut Page, reserved: bool) -> Result<(), Failed>
+    requires { S.faults out.old < 2 ^ 64 - 1 }
+    ensures { Adds S.written S.room S.faults out.old out.new page.old.items page.new.items (if reserved then codes " reserved\n" else codes " free\n") result }
 {
-    if reserved { b" reserved\n" } else { b" free\n" }
+    if reserved {
+        add(out, page, b" reserved\n")
+    } else {
+        add(out, page, b" free\n")
+    }
+}
+
+/// Adds the digits of a number.
+fn add_number<S: Sink>(out: &mut S, page: &mut Page, number: u32) -> Result<(), Failed>
+    requires { S.faults out.old < 2 ^ 64 - 1 }
+    ensures { Adds S.written S.room S.faults out.old out.new page.old.items page.new.items (decimal number) result }
+{
+    let mut digits = Buffer::new();
+    add(out, page, digits.format(number).as_bytes())
+}
+
+/// Adds a name.
+fn add_name<S: Sink>(out: &mut S, page: &mut Page, name: &Name) -> Result<(), Failed>
+    requires { S.faults out.old < 2 ^ 64 - 1 }
+    ensures { Adds S.written S.room S.faults out.old out.new page.old.items page.new.items name.now result }
+{
+    add(out, page, name.bytes())
 }
 
 /// Adds the line of an ask.
@@ -45,18 +67,11 @@ fn add_answer<S: Sink>(
     requires { S.faults out.old < 2 ^ 64 - 1 }
     ensures { Adds S.written S.room S.faults out.old out.new page.old.items page.new.items (model.ask_line line unit.now reserved) result }
 {
-    let mut digits = Buffer::new();
-    add_all(
-        out,
-        page,
-        &[
-            b"ask line ",
-            digits.format(line).as_bytes(),
-            b" ",
-            unit.bytes(),
-            told(reserved),
-        ],
-    )
+    add(out, page, b"ask line ")?;
+    add_number(out, page, line)?;
+    add(out, page, b" ")?;
+    add_name(out, page, unit)?;
+    add_told(out, page, reserved)
 }
 
 /// The name of a unit that is asked for.
@@ -165,13 +180,12 @@ fn up_to_last_ask(events: &[Event]) -> usize
     ensures within { result ≤ length events.now }
     ensures none { All (λ event. AsksNothing (event_of event.what)) (drop result events.now) }
 {
-    let mut asked = 0;
-    for (place, event) in events.iter().enumerate() {
-        if is_ask(event.what) {
-            asked = place + 1;
+    for place in (0..events.len()).rev() {
+        if is_ask(events[place].what) {
+            return place + 1;
         }
     }
-    asked
+    0
 }
 
 /// Writes the line of an event that is refused, an issue.

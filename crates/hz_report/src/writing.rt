@@ -2,7 +2,7 @@
 
 ghost use Rattle.std.specs.Prelude.{◌-◌, ◌^◌, ◌<◌};
 ghost use Rattle.hz_io.specs.Sink.{Writes};
-ghost use Rattle.hz_report.specs.Reports.{text_of, IsTellable};
+ghost use Rattle.hz_report.specs.Reports.{text_of, IsPlainLine, IsTellable};
 
 use super::drilled::put_drill;
 use super::faults::put_fault;
@@ -14,6 +14,33 @@ use super::scheduled::put_schedule;
 use hz_io::{Failed, Sink};
 use hz_rtl::write_state;
 use std::alloc::Global;
+
+/// Writes a report of one plain line: a limit, or words, memory or a file.
+fn put_plain_line<S: Sink>(out: &mut S, report: &Report<'_>) -> Result<(), Failed>
+    requires sink { S.faults out.old < 2 ^ 64 - 1 }
+    requires line { IsPlainLine report.now }
+    ensures { Writes S.written S.room S.faults out.old out.new (text_of report.now) result }
+{
+    match *report {
+        Report::Bytes { file } => put_bytes(out, file),
+        Report::Insns { file } => put_insns(out, file),
+        Report::Checked {
+            file,
+            line,
+            what,
+            name,
+        } => put_checked(out, file, line, what, name),
+        Report::Automaton { file, name } => put_automaton(out, file, name),
+        Report::Usage => put_usage(out),
+        Report::Memory => put_memory(out),
+        Report::File { name } => put_file(out, name),
+        Report::Replayed { .. }
+        | Report::Scheduled { .. }
+        | Report::After { .. }
+        | Report::Drill { .. }
+        | Report::Fault { .. } => unreachable!(),
+    }
+}
 
 /// Writes the text of a report: all of it, or a front of it if the sink failed, with one more fault. It takes no memory.
 /// The outcome of a replay is that of its events over its machine, and they are of its classes and units. The slots of a
@@ -50,17 +77,12 @@ pub fn write_report<S: Sink>(alloc: Global, report: &Report<'_>, out: &mut S) ->
             second,
             at,
         } => put_fault(out, file, line, kind, insn, first, second, at),
-        Report::Bytes { file } => put_bytes(out, file),
-        Report::Insns { file } => put_insns(out, file),
-        Report::Checked {
-            file,
-            line,
-            what,
-            name,
-        } => put_checked(out, file, line, what, name),
-        Report::Automaton { file, name } => put_automaton(out, file, name),
-        Report::Usage => put_usage(out),
-        Report::Memory => put_memory(out),
-        Report::File { name } => put_file(out, name),
+        Report::Bytes { .. }
+        | Report::Insns { .. }
+        | Report::Checked { .. }
+        | Report::Automaton { .. }
+        | Report::Usage
+        | Report::Memory
+        | Report::File { .. } => put_plain_line(out, report),
     }
 }

@@ -1,10 +1,10 @@
 -- What is decided of a block without a schedule, or without a graph, is the answer.
-use Rattle.std.proofs.Common.{◌≡◌, ℕ, ◌<◌, List, [], ◌∷◌, map, Option, Some, None, Result, Ok, Err, slice_get, inl, inr, refl, sym, ap, ap₂, ◌∙◌, subst}
+use Rattle.std.proofs.Common.{◌≡◌, ℕ, ◌<◌, List, [], ◌∷◌, map, Some, None, Result, Ok, Err, slice_get, refl, sym, ap, ap₂, ◌∙◌, subst}
 use Rattle.std.specs.Prelude.{IfOk, slice_index_or}
 use Rattle.std.specs.Borrow.{Bor}
 use Rattle.std.specs.Option.{option_map}
 use Rattle.std.proofs.lemmas.Option.{slice_get-map}
-use Rattle.hz_answer_model.specs.FaultTexts.{class_line, stuck_line}
+use Rattle.hz_answer_model.specs.FaultTexts.{class_line}
 use Rattle.hz_answer_model.specs.Phases.{Says}
 use Rattle.hz_answer_model.specs.ScheduleAnswers.{HasClasses, Starts}
 use Rattle.hz_answer_model.specs.Texts.{fault_text}
@@ -12,7 +12,6 @@ use Rattle.hz_block_model.specs.Dependences.Classes.{ClassFault, class_word, cla
 use Rattle.hz_block_model.specs.Running.Blocks.{Instruction}
 use Rattle.hz_block_model.specs.Scheduled.BlockGraphs.{IsFirstClassFault}
 use Rattle.hz_block_model.specs.Scheduled.BlockSchedules.{IsFirstStuck}
-use Rattle.hz_block_model.specs.Scheduling.Machines.{stuck_word}
 use Rattle.hz_depend.specs.Faults.{classes_in}
 use Rattle.hz_depend.specs.Faults as depend_faults
 use Rattle.hz_depend.specs.GraphShape.{class_fault_in}
@@ -30,7 +29,6 @@ use Rattle.hz_tool.specs.Blocks.{IsFaultIn, IsWrongIn, IsStuckIn}
 use Rattle.hz_tool.specs.Decisions.{Agrees, IsJudged}
 use Rattle.hz_tool.specs.Telling.{TellsDepend, TellsStuck, decide_ambiguous, decide_insn}
 use Rattle.hz_tool.specs.declared.decision.Decision.{Decision}
-use Rattle.hz_tool.specs.declared.decision.Decision.TheVariants as decision
 
 -- the instruction is one of the block, where each that is told is
 pub stuck_within : (n : ℕ) (fault : SchedFault) → ((place : ℕ) → alone_in (Err fault) ≡ Some place → place < n) → IsStuckIn n fault

@@ -1,9 +1,7 @@
 -- The schedule that is made of two blocks is the one by the description, and its text is told; or the first that can't be issued is.
 use Rattle.std.proofs.Common.{◌≡◌, ◌⊎◌, ⊎_elim, inl, inr, ℕ, ◌<◌, Bool, true, false, List, length, map, All, Option, Some, None, MatchBool, nat_lt, refl, sym, ap, ◌∙◌, subst, arith}
-use Rattle.std.specs.Prelude.{Err, Result, ◌==◌, unwrap_or}
+use Rattle.std.specs.Prelude.{Err, ◌==◌, unwrap_or}
 use Rattle.std.specs.Borrow.{Bor}
-use Rattle.std.specs.declared.alloc.Global.{Global}
-use Rattle.std.specs.declared.vec.Vec.{Vec}
 use Rattle.std.proofs.lemmas.List.Elements.{All-append}
 use Rattle.hz_pipeline_model.specs.Accepting.Events.{Event, IsOfClass}
 use Rattle.hz_pipeline_model.specs.Accepting.Replay.{Accepted}

@@ -6,7 +6,7 @@ use Rattle.hz_pipeline_model.specs.Tables.Machines.{Machine}
 use Rattle.hz_block_model.specs.Dependences.Dependences.{Timing}
 use Rattle.hz_block_model.specs.Running.Blocks.{Instruction}
 use Rattle.hz_block_model.specs.Scheduling.Schedules.{Node, Slot, present}
-use Rattle.hz_block_model.specs.Scheduled.BlockGraphs.{timing_in, classes_of}
+use Rattle.hz_block_model.specs.Scheduled.BlockGraphs.{timing_in}
 use Rattle.hz_check.specs.Checked.{IsCheckedOf}
 use Rattle.hz_check.specs.declared.checked.Checked.{Checked}
 use Rattle.hz_depend.specs.declared.parts.Graph.{Graph}

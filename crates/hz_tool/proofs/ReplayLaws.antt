@@ -1,5 +1,5 @@
 -- What `replay` answers over the machine of a description is what the description says.
-use Rattle.std.proofs.Common.{◌≡◌, ℕ, ◌+◌, suc, List, length, take, Some, None, All, refl, sym, ap, ◌∙◌, subst, add-one}
+use Rattle.std.proofs.Common.{◌≡◌, ℕ, ◌+◌, List, length, take, Some, None, All, refl, sym, ap, subst, add-one}
 use Rattle.std.proofs.lemmas.Option.{same_Some}
 use Rattle.hz_pipeline_model.specs.Accepting.Events.{Event, IsOfClass}
 use Rattle.hz_pipeline_model.specs.Accepting.Replay as accepting

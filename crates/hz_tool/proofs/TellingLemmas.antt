@@ -1,13 +1,13 @@
 -- What is decided of a fault is what a phase may tell.
 use Rattle.std.proofs.Common.{◌≡◌, ℕ, List, map, Option, Some, None, Result, Ok, Err, MatchOption, refl, sym, ap, ap₂, ◌∙◌, subst}
-use Rattle.std.proofs.lemmas.Option.{same_Some, none-some}
+use Rattle.std.proofs.lemmas.Option.{same_Some}
 use Rattle.std.specs.Prelude.{⊤, IfOk, option_and_then}
 use Rattle.std.specs.Borrow.{Bor}
 use Rattle.std.specs.Option.{option_map}
 use Rattle.hz_answer_model.specs.Answers.{TellsDescription, TellsCheck}
 use Rattle.hz_answer_model.specs.FaultTexts.{told_line, status_by}
 use Rattle.hz_answer_model.specs.Phases.{TellsFault}
-use Rattle.hz_answer_model.specs.Texts.{fault_line, fault_text, passed_line}
+use Rattle.hz_answer_model.specs.Texts.{fault_text, passed_line}
 use Rattle.hz_auto.specs.Faults.{count_of}
 use Rattle.hz_auto.specs.Machines.{IsFaultOf}
 use Rattle.hz_auto.specs.declared.fault.AutoFault.{AutoFault}
@@ -21,7 +21,6 @@ use Rattle.hz_check.specs.Shape.{automaton_of, class_of}
 use Rattle.hz_check.specs.declared.checked.Checked.{Checked}
 use Rattle.hz_check.specs.declared.fault.LimitName.{LimitName}
 use Rattle.hz_description_model.specs.Check.CheckFaults.{CheckFault, check_word, limit_passed, limit_word}
-use Rattle.hz_description_model.specs.Check.CheckFaults as model
 use Rattle.hz_description_model.specs.Check.Sites.{Site}
 use Rattle.hz_description_model.specs.Reading.DescriptionForms.{DescriptionFault, description_word, description_at}
 use Rattle.hz_description_model.specs.Reading.DescriptionForms as description_forms

@@ -1,41 +1,40 @@
--- What is written, by how it ends: docs/FORMATS.md, 'Answers'.
+-- What is written, by how it ends: docs/FORMATS.md, 'Answers'. `answers` holds of a status and a text that are an answer, `names` of each
+-- file word.
 use Rattle.std.specs.Prelude.{◌≡◌, ◌⊎◌, ℕ, ◌<◌, ◌≤◌, List, ◌++◌, length, Option, Some, None}
 use Rattle.std.specs.Option.{ForSome}
-use Rattle.hz_answer_model.specs.Answers.{Answer}
 use Rattle.hz_answer_model.specs.Headline.{Promised}
 use Rattle.hz_words_model.specs.Words.{Order}
 use Rattle.hz_base_model.specs.Names.{Held}
 use Rattle.hz_answer_model.specs.Texts.{memory_line, file_line}
-use Rattle.hz_tool.specs.Decisions.{IsFileWord}
 
 -- the text was appended, where what is written is told
 abbrev pub IsAppended : Option (List ℕ) → Option (List ℕ) → List ℕ → Type 0
 IsAppended old new text = ForSome old (λ before. new ≡ Some (before ++ text))
 
 -- the line of a file word that could not be read
-pub record SaysFile (words : List (List ℕ)) (text : List ℕ) : Type 0 where
+pub record SaysFile (names : List ℕ → Type 0) (text : List ℕ) : Type 0 where
   pub name : List ℕ
-  pub word : IsFileWord words name
+  pub word : names name
   pub line : text ≡ file_line name
 
 -- what status 6 appends
-pub record AppendsFile (words : List (List ℕ)) (old new : Option (List ℕ)) : Type 0 where
+pub record AppendsFile (names : List ℕ → Type 0) (old new : Option (List ℕ)) : Type 0 where
   pub text : List ℕ
-  pub says : SaysFile words text
+  pub says : SaysFile names text
   pub appended : IsAppended old new text
 
 -- memory ran out, or the status and what is appended are an answer
-abbrev pub Completes : List (List ℕ) → Held → ℕ → Option (List ℕ) → Option (List ℕ) → Type 0
-Completes words held status old new = (status ≡ 5) ⊎ ((text : List ℕ) × Answer words held status text × IsAppended old new text)
+abbrev pub Completes : (answers : ℕ → List ℕ → Type 0) → ℕ → Option (List ℕ) → Option (List ℕ) → Type 0
+Completes answers status old new = (status ≡ 5) ⊎ ((text : List ℕ) × answers status text × IsAppended old new text)
 
 -- a text that may be cut: an answer, the line `memory`, or where a file failed the line of a file word
-abbrev pub MayWrite : List (List ℕ) → Held → Type 0 → List ℕ → Type 0
-MayWrite words held failed text = ((status : ℕ) × Answer words held status text) ⊎ ((text ≡ memory_line) ⊎ (failed × SaysFile words text))
+abbrev pub MayWrite : (answers : ℕ → List ℕ → Type 0) → (names : List ℕ → Type 0) → (failed : Type 0) → List ℕ → Type 0
+MayWrite answers names failed text = ((status : ℕ) × answers status text) ⊎ ((text ≡ memory_line) ⊎ (failed × SaysFile names text))
 
 -- a front of such a text was appended, which is longer than the room
-pub record IsCutShort (words : List (List ℕ)) (held : Held) (failed : Type 0) (old new : Option (List ℕ)) (room : Option ℕ) : Type 0 where
+pub record IsCutShort (answers : ℕ → List ℕ → Type 0) (names : List ℕ → Type 0) (failed : Type 0) (old new : Option (List ℕ)) (room : Option ℕ) : Type 0 where
   pub text : List ℕ
-  pub may : MayWrite words held failed text
+  pub may : MayWrite answers names failed text
   pub front : List ℕ
   pub back : List ℕ
   pub parts : text ≡ front ++ back
@@ -49,10 +48,10 @@ pub record AppendsPromised (held : Held) (order : Order) (old new : Option (List
   pub appended : IsAppended old new text
 
 -- all files that the words name are held
-abbrev pub HasAll : List (List ℕ) → Held → Type 0
-HasAll words held = (name : List ℕ) → IsFileWord words name → held name ≡ None → ⊥
+abbrev pub HasAll : (names : List ℕ → Type 0) → Held → Type 0
+HasAll names held = (name : List ℕ) → names name → held name ≡ None → ⊥
 
 -- there is room for the answer, and for the line of memory
-pub record HasRoom (words : List (List ℕ)) (held : Held) (room : ℕ) : Type 0 where
-  pub answer : (status : ℕ) (text : List ℕ) → Answer words held status text → length text ≤ room
+pub record HasRoom (answers : ℕ → List ℕ → Type 0) (room : ℕ) : Type 0 where
+  pub answer : (status : ℕ) (text : List ℕ) → answers status text → length text ≤ room
   pub memory : length memory_line ≤ room

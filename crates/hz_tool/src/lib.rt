@@ -2,9 +2,10 @@
 #![tactic(auto)]
 
 mod commands;
-mod decision;
+pub mod decision;
+pub mod host;
 pub mod laws;
-mod phases;
+pub mod phases;
 mod top;
 
 pub use top::run;

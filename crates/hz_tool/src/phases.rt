@@ -3,7 +3,7 @@
 pub(crate) mod blocks;
 pub(crate) mod compiling;
 pub(crate) mod describing;
-pub(crate) mod judging;
-pub(crate) mod read;
+pub mod judging;
+pub mod read;
 pub(crate) mod states;
-pub(crate) mod telling;
+pub mod telling;

@@ -180,16 +180,16 @@ pub fn run<F: Files, S: Sink>(alloc: Global, words: &[String], files: &mut F, ou
     // What is written.
     ensures usage { result ≡ 4 → IsAppended (S.written out.old) (S.written out.new) usage_line }
     ensures memory { result ≡ 5 → IsAppended (S.written out.old) (S.written out.new) memory_line }
-    ensures file_line { result ≡ 6 → AppendsFile (words_in words.now) (S.written out.old) (S.written out.new) }
+    ensures file_line { result ≡ 6 → AppendsFile (IsFileWord (words_in words.now)) (S.written out.old) (S.written out.new) }
 
     // Where the files tell what they hold, the status and the text are an answer, unless memory ran out.
-    ensures complete { ForSome (F.held files.old) (λ held. S.faults out.new ≡ S.faults out.old → (F.faults files.new ≡ F.faults files.old) ⊎ F.steady files.old → Completes (words_in words.now) held result (S.written out.old) (S.written out.new)) }
+    ensures complete { ForSome (F.held files.old) (λ held. S.faults out.new ≡ S.faults out.old → (F.faults files.new ≡ F.faults files.old) ⊎ F.steady files.old → Completes (Answer (words_in words.now) held) result (S.written out.old) (S.written out.new)) }
     ensures exact { ForSome (F.held files.old) (λ held. S.faults out.new ≡ S.faults out.old → (F.faults files.new ≡ F.faults files.old) ⊎ F.steady files.old → (status : ℕ) (text : List ℕ) → Answer (words_in words.now) held status text → (result ≡ status) ⊎ (result ≡ 5)) }
-    ensures cut { ForSome (F.held files.old) (λ held. result ≡ 7 → IsCutShort (words_in words.now) held (F.faults files.old < F.faults files.new) (S.written out.old) (S.written out.new) (S.room out.old)) }
+    ensures cut { ForSome (F.held files.old) (λ held. result ≡ 7 → IsCutShort (Answer (words_in words.now) held) (IsFileWord (words_in words.now)) (F.faults files.old < F.faults files.new) (S.written out.old) (S.written out.new) (S.room out.old)) }
 
     // Over steady files that hold all that the words name, and a sink with room for the answer and for the line of memory, neither a
     // file nor the sink fails.
-    ensures neither { ForSome (F.held files.old) (λ held. F.steady files.old → HasAll (words_in words.now) held → ForSome (S.room out.old) (λ room. HasRoom (words_in words.now) held room → result ≤ 5)) }
+    ensures neither { ForSome (F.held files.old) (λ held. F.steady files.old → HasAll (IsFileWord (words_in words.now)) held → ForSome (S.room out.old) (λ room. HasRoom (Answer (words_in words.now) held) room → result ≤ 5)) }
 
     // Status 0 keeps what is promised of the command (`Promised`): what tables, schedules, drills, what an exposed pipeline reads,
     // bounds, schedules of two blocks and kernels are.

@@ -8,5 +8,5 @@ pub mod order;
 mod reading;
 mod table;
 
-pub use reading::order_of;
+pub use reading::{has_option, order_of};
 pub use table::usage;

@@ -21,8 +21,8 @@ fn begins_with_dash(word: &str) -> bool
     }
 }
 
-/// Whether one of the words begins with `-`.
-fn has_option(words: &[String]) -> bool
+/// Whether one of the words begins with `-`, as an option would.
+pub fn has_option(words: &[String]) -> bool
     ensures { result ≡ model.has_option (words_in words.now) }
 {
     words.iter().any(|word| begins_with_dash(word.as_str()))

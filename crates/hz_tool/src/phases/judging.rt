@@ -12,6 +12,7 @@ ghost use Rattle.hz_block_model.specs.Texts.BlockForms as blocks;
 ghost use Rattle.hz_block_model.specs.Texts.StateForms as states;
 ghost use Rattle.hz_pipeline_model.specs.Traces.Traces.{Trace, event_lines};
 ghost use Rattle.hz_check.specs.Checked.{IsCheckedOf};
+ghost use Rattle.hz_check.specs.Parts.{IsPartsOf};
 ghost use Rattle.hz_mdread.specs.Shape.{description};
 ghost use Rattle.hz_sexp.specs.Shape.{trees};
 ghost use Rattle.hz_answer_model.specs.Answers.{TellsDescription, TellsCheck};
@@ -27,9 +28,9 @@ ghost use Rattle.hz_block_model.specs.Running.Limits.{instruction_limit};
 
 use crate::decision::Decision;
 use crate::phases::telling::{decide_check, decide_fault};
-use hz_check::{Checked, check};
+use hz_check::{Checked, Parts, check, parts_of};
 use hz_mdread::{Description, read_description};
-use hz_replay::{Event, read_trace};
+use hz_replay::{Event, Names, read_events, read_trace};
 use hz_rtl::{Block, State, read_block, read_state};
 use hz_sexp::{Form, read_forms};
 use hz_tables::Machine;
@@ -85,6 +86,24 @@ pub fn judge_check<'a>(
     }
 }
 
+/// What is made of a description without a fault while it stays whole, or what is decided of the fault that is told.
+pub fn judge_parts<'a>(
+    alloc: Global,
+    file: &'a str,
+    described: &Description,
+) -> Result<Parts, Decision<'a>>
+    requires formed { IsCheckable (description described.now) }
+    requires shared { AllPairs SharesAutomaton (description described.now).units }
+    ensures ok { IfOk result (IsPartsOf (description described.now)) }
+    ensures kind { IfErr result IsJudged }
+    ensures err { IfErr result (Agrees (TellsCheck file.entry.now (description described.now))) }
+{
+    match parts_of(alloc, described) {
+        Ok(parts) => Ok(parts),
+        Err(fault) => Err(decide_check(file, fault)),
+    }
+}
+
 /// The block that forms are, or what is decided of the first that is wrong.
 pub fn judge_block<'a>(alloc: Global, file: &'a str, read: &[Form]) -> Result<Block, Decision<'a>>
     ensures ok { IfOk result (λ block. blocks.Reads (trees read.now) (instructions block)) }
@@ -106,6 +125,25 @@ pub fn judge_state<'a>(alloc: Global, file: &'a str, read: &[Form]) -> Result<St
 {
     match read_state(alloc, read) {
         Ok(state) => Ok(state),
+        Err(fault) => Err(decide_fault(file, fault.told(), None)),
+    }
+}
+
+/// The events of a trace over these names, or what is decided of its first wrong line.
+pub fn judge_events<'a>(
+    alloc: Global,
+    file: &'a str,
+    names: &Names,
+    text: &[u8],
+) -> Result<Vec<Event>, Decision<'a>>
+    requires { length text.now < 2 ^ 32 }
+    ensures ok { IfOk result (λ events. Trace names.now text.now (events_in events.items)) }
+    ensures lines { IfOk result (λ events. lines_in events.items ≡ event_lines names.now 1 (lines_of text.now)) }
+    ensures kind { IfErr result IsJudged }
+    ensures err { IfErr result (Agrees (TellsFault trace_word (TraceFaultAt names.now text.now) file.entry.now)) }
+{
+    match read_events(alloc, names, text) {
+        Ok(events) => Ok(events),
         Err(fault) => Err(decide_fault(file, fault.told(), None)),
     }
 }

@@ -1,11 +1,8 @@
-use Rattle.std.proofs.Common.{◌≤◌, All, take, drop}
+use Rattle.std.proofs.Common.{All, drop}
 use Rattle.hz_replay.specs.Lines.{event_of}
 use Rattle.hz_report.specs.Replays.{AsksNothing}
 use Rattle.hz_report.proofs.replayed.up_to_last_ask.Given as goal
 
--- the events so far behind the last ask
+-- no ask is among the events that were looked at
 abbrev pub invariant-loop-place : goal.invariant-loop-place
-invariant-loop-place l = record {
-  within : l.asked ≤ l.place;
-  none : All (λ e. AsksNothing (event_of e.what)) (drop l.asked (take l.place l.events));
-}
+invariant-loop-place l = All (λ e. AsksNothing (event_of e.what)) (drop l.place l.events)

@@ -1,6 +1,6 @@
-use Rattle.std.proofs.Common.{◌≡◌, ℕ, List, map, sym, ap, ◌∙◌, subst}
+use Rattle.std.proofs.Common.{◌≡◌, List, map, ap, ◌∙◌, subst}
 use Rattle.std.specs.Prelude.{Contains}
-use Rattle.hz_answer_model.specs.Answers.{AnswersOrder, JudgesOrder, files_of}
+use Rattle.hz_answer_model.specs.Answers.{JudgesOrder, files_of}
 use Rattle.hz_answer_model.specs.Phases.{FileWord}
 use Rattle.hz_tool.proofs.ReadLemmas.{read_names, reads_all, refuses_all}
 use Rattle.hz_tool.specs.Decisions.{Agrees, AreRead, IsReadDecision}

@@ -2,6 +2,8 @@ use Rattle.std.proofs.Common.{◌≡◌, ◌<◌, ◌≤◌, ◌⊎◌, ℕ, ⊎
 use Rattle.std.proofs.lemmas.Bool.{cases_lt}
 use Rattle.hz_answer_model.specs.Answers.{Answer}
 use Rattle.hz_tool.proofs.RunLemmas.{says_file, may_write, status_exact, file_answer, completes, appends_promised, no_file, fits_room, no_order}
+use Rattle.hz_answer_model.proofs.AnswerLaws.{answer_single}
+use Rattle.hz_tool.specs.Decisions.{IsFileWord}
 use Rattle.hz_tool.specs.Endings.{Completes}
 use Rattle.hz_tool_words.specs.Shape.{words_in}
 use Rattle.hz_tool.proofs.top.run.Goals as goal
@@ -9,14 +11,14 @@ use Rattle.hz_tool.proofs.top.run.Goals as goal
 pub returns-in-Ok-clause-file_line : goal.returns-in-Ok-clause-file_line
 returns-in-Ok-clause-file_line g c = λ six. record {
   text = _;
-  says = says_file (words_in c.args.words.now) c.decide-decision.result (sym c.status.ensures.value ∙ six) c.decide-decision.ensures.file;
+  says = says_file (IsFileWord (words_in c.args.words.now)) c.decide-decision.result (sym c.status.ensures.value ∙ six) c.decide-decision.ensures.file;
   appended = c.in-Ok.ensures.appended;
 }
 
 pub returns-clause-cut : goal.returns-clause-cut
 returns-clause-cut g c = λ held told seven. record {
   text = _;
-  may = may_write (words_in c.args.words.now) held _ _ (g.F.Files.steady c.args.files.now) c.decide-decision.result c.decide-decision.ensures.counts c.decide-decision.ensures.file (c.decide-decision.ensures.answer held told);
+  may = may_write (Answer (words_in c.args.words.now) held) (IsFileWord (words_in c.args.words.now)) _ _ (g.F.Files.steady c.args.files.now) c.decide-decision.result c.decide-decision.ensures.counts c.decide-decision.ensures.file (c.decide-decision.ensures.answer held told);
   front = c.in-Err.ensures.front;
   back = c.in-Err.ensures.back;
   parts = c.in-Err.ensures.parts;
@@ -26,7 +28,7 @@ returns-clause-cut g c = λ held told seven. record {
 
 pub returns-in-Ok-clause-exact : goal.returns-in-Ok-clause-exact
 returns-in-Ok-clause-exact g c = λ held told same which status text a.
-    subst (λ (n : ℕ). (n ≡ status) ⊎ (n ≡ 5)) (sym c.status.ensures.value) (status_exact (words_in c.args.words.now) held c.decide-decision.result (c.decide-decision.ensures.answer held told which) status text a)
+    subst (λ (n : ℕ). (n ≡ status) ⊎ (n ≡ 5)) (sym c.status.ensures.value) (status_exact (Answer (words_in c.args.words.now) held) (λ s status t text one other. (answer_single (words_in c.args.words.now) held s status t text one other).0) c.decide-decision.result (c.decide-decision.ensures.answer held told which) status text a)
 
 pub returns-in-Ok-clause-lacks : goal.returns-in-Ok-clause-lacks
 returns-in-Ok-clause-lacks g c = λ held told steady more.
@@ -34,8 +36,8 @@ returns-in-Ok-clause-lacks g c = λ held told steady more.
 
 pub returns-in-Ok-clause-complete : goal.returns-in-Ok-clause-complete
 returns-in-Ok-clause-complete g c = λ held told same which.
-    subst (λ (n : ℕ). Completes (words_in c.args.words.now) held n (g.S.Sink.written c.args.out.now) (g.S.Sink.written c.write.new.out)) (sym c.status.ensures.value)
-    (completes (words_in c.args.words.now) held c.decide-decision.result _ _ (c.decide-decision.ensures.answer held told which) c.in-Ok.ensures.appended)
+    subst (λ (n : ℕ). Completes (Answer (words_in c.args.words.now) held) n (g.S.Sink.written c.args.out.now) (g.S.Sink.written c.write.new.out)) (sym c.status.ensures.value)
+    (completes (Answer (words_in c.args.words.now) held) c.decide-decision.result _ _ (c.decide-decision.ensures.answer held told which) c.in-Ok.ensures.appended)
 
 pub returns-clause-lacks : goal.returns-clause-lacks
 returns-clause-lacks g c = λ held told steady more.
@@ -47,7 +49,7 @@ returns-in-Ok-clause-promised g c = λ held told zero order is.
 
 pub returns-in-Ok-clause-neither : goal.returns-in-Ok-clause-neither
 returns-in-Ok-clause-neither g c = λ held told steady all room there has.
-    let not_six = no_file (words_in c.args.words.now) held c.decide-decision.result all c.decide-decision.ensures.file (c.decide-decision.ensures.lacks held told steady) in
+    let not_six = no_file (IsFileWord (words_in c.args.words.now)) held c.decide-decision.result all c.decide-decision.ensures.file (c.decide-decision.ensures.lacks held told steady) in
     let low = c.status.ensures.range in
     ⊎_elim (λ (few : c.status.result < 6). omega (arith, few))
     (λ (most : 6 ≤ c.status.result). let six : c.status.result ≡ 6 = omega (arith, low, most) in absurd (not_six (sym c.status.ensures.value ∙ six)))
@@ -55,7 +57,7 @@ returns-in-Ok-clause-neither g c = λ held told steady all room there has.
 
 pub returns-clause-neither : goal.returns-clause-neither
 returns-clause-neither g c = λ held told steady all room there has.
-    let fits = fits_room (words_in c.args.words.now) held room _ _ (g.F.Files.steady c.args.files.now) c.decide-decision.result steady all has c.decide-decision.ensures.counts c.decide-decision.ensures.file (c.decide-decision.ensures.lacks held told steady) (c.decide-decision.ensures.answer held told) in
+    let fits = fits_room (Answer (words_in c.args.words.now) held) (IsFileWord (words_in c.args.words.now)) held room _ _ (g.F.Files.steady c.args.files.now) c.decide-decision.result steady all has c.decide-decision.ensures.counts c.decide-decision.ensures.file (c.decide-decision.ensures.lacks held told steady) (c.decide-decision.ensures.answer held told) in
     absurd (omega (arith, fits, c.in-Err.ensures.exceeded room there))
 
 pub returns-in-Ok-clause-words : goal.returns-in-Ok-clause-words

@@ -1,4 +1,4 @@
-use Rattle.std.proofs.Common.{length, arith}
+use Rattle.std.proofs.Common.{arith}
 use Rattle.hz_answer_model.specs.DuoAnswers.{StartsTwo}
 use Rattle.hz_answer_model.specs.ScheduleAnswers.{HasClasses}
 use Rattle.hz_block_model.proofs.Scheduled.GraphLaws.{all_have_classes}

@@ -1,4 +1,4 @@
-use Rattle.std.proofs.Common.{◌≡◌, ℕ, inl, None, refl, sym, ◌∙◌, length, arith}
+use Rattle.std.proofs.Common.{inl, refl, ◌∙◌, length, arith}
 use Rattle.std.proofs.lemmas.List.{length-map}
 use Rattle.hz_block_model.proofs.Scheduled.GraphLaws.{as_many}
 use Rattle.hz_block_model.specs.Scheduling.Machines.{cannot_start_alone}

@@ -1,1 +1,0 @@
-use Rattle.hz_tool.proofs.commands.duo.decide_pair.Goals as goal

@@ -1,4 +1,4 @@
-use Rattle.std.proofs.Common.{◌≡◌, ℕ, ◌<◌, inl, refl, sym, ◌∙◌, length, All, subst, arith}
+use Rattle.std.proofs.Common.{ℕ, ◌<◌, inl, refl, sym, ◌∙◌, length, All, subst, arith}
 use Rattle.std.proofs.lemmas.List.{length-map}
 use Rattle.hz_answer_model.specs.TimedAnswers.{TellsTimed}
 use Rattle.hz_block_model.proofs.Scheduling.StuckLaws.{first_stuck as stuck_first}

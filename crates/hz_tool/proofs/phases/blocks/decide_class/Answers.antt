@@ -1,12 +1,10 @@
-use Rattle.std.proofs.Common.{◌∷◌, [], ℕ, List, refl, sym, ap, ◌∙◌, subst}
-use Rattle.std.specs.Prelude.{Option, Some}
+use Rattle.std.proofs.Common.{sym, ap, ◌∙◌, subst}
 use Rattle.hz_answer_model.specs.FaultTexts.{class_line}
 use Rattle.hz_answer_model.specs.Phases.{Says}
 use Rattle.hz_depend.specs.Faults.{fault as fault_of, classes_in}
 use Rattle.hz_rtl.specs.Shape.{instruction}
 use Rattle.hz_tool.proofs.BlockTelling.{ambiguous_judged, class_told, classes_told}
 use Rattle.hz_tool.specs.Decisions.{Agrees, IsJudged}
-use Rattle.hz_tool.specs.declared.decision.Decision.{Decision}
 use Rattle.hz_tool.proofs.phases.blocks.decide_class.Goals as goal
 
 pub returns-in-Some-clause-kind : goal.returns-in-Some-clause-kind

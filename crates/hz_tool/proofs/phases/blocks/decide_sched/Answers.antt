@@ -1,5 +1,4 @@
-use Rattle.std.proofs.Common.{ℕ, List, Some, refl, sym, ap, subst}
-use Rattle.std.specs.Prelude.{None, codes}
+use Rattle.std.proofs.Common.{refl, sym, subst}
 use Rattle.hz_answer_model.specs.FaultTexts.{stuck_line}
 use Rattle.hz_answer_model.specs.Phases.{Says}
 use Rattle.hz_rtl.specs.Shape.{instruction}

@@ -1,6 +1,5 @@
 use Rattle.std.proofs.Common.{ℕ, length, sym, ◌∙◌, subst, arith}
 use Rattle.hz_depend.specs.GraphShape.{IsSchedulable}
-use Rattle.hz_rtl.specs.Shape.{instructions}
 use Rattle.hz_tool.proofs.BlockLemmas.{first_wrong, wrong_within, wrong_below}
 use Rattle.hz_tool.proofs.BlockTelling.{wrong_in, wrong_told}
 use Rattle.hz_tool.specs.Blocks.{IsFaultIn, Nothing}

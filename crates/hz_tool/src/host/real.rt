@@ -9,14 +9,11 @@ use std::fs;
 use std::io::{self, ErrorKind, Read, Write};
 use std::rt::Files as HostFiles;
 
-#[cfg(test)]
-mod tests;
-
 /// How many bytes are read at a time.
 const CHUNK: usize = 16_384;
 
 /// One read, tried again where a signal interrupts it.
-fn read_again<F: Read>(file: &mut F, into: &mut [u8]) -> io::Result<usize>
+pub fn read_again<F: Read>(file: &mut F, into: &mut [u8]) -> io::Result<usize>
     ensures { ReadsAtMost result into.new }
 {
     // a loop is proved to end, so this one counts its tries
@@ -34,7 +31,8 @@ fn read_again<F: Read>(file: &mut F, into: &mut [u8]) -> io::Result<usize>
 pub struct RealFiles<'a, R: HostFiles> {
     rt: &'a R,
     file: Option<R::File>,
-    faults: u64,
+    /// How many calls failed.
+    pub faults: u64,
 }
 
 impl<'a, R: HostFiles> RealFiles<'a, R> {
@@ -98,7 +96,8 @@ impl<'a, R: HostFiles> Files for RealFiles<'a, R> {
 #[derive(Drop)]
 pub struct RealSink<'a, P: Print> {
     rt: &'a P,
-    faults: u64,
+    /// How many calls failed.
+    pub faults: u64,
 }
 
 impl<'a, P: Print> RealSink<'a, P> {
