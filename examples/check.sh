@@ -1,9 +1,10 @@
 #!/bin/sh
-# Asks the program for the answer to each example, and compares it with the file of the answer: the status on the first line, then the
-# text. Which file is asked of which command is in examples/README.md, and so is what else is tried.
+# check.sh HZ HZ_WHY: asks the programs for the answer to each example, and compares it with the file of the answer: the status on the first
+# line, then the text. Which file is asked of which command is in examples/README.md, and so is what else is tried.
 # The trace of each schedule is replayed on its machine, and so are 40 turns of each loop. What is left after the reads is what the block
 # leaves. Each .tables file is the text that its description compiles to.
 hz=$1
+hz_why=$2
 cd "$(dirname "$0")/.." || exit 2
 work=$(mktemp -d) || exit 2
 trap 'rm -rf "$work"' EXIT
@@ -21,12 +22,25 @@ against() {
     example=$2
     shift 2
     "$hz" "$@" > "$work/text"
-    status=$?
+    ends $? "$1"
+}
+
+# explained ANSWER EXAMPLE WORDS..: the same of hz_why
+explained() {
+    answer=$1
+    example=$2
+    shift 2
+    "$hz_why" "$@" > "$work/text"
+    ends $? hz_why
+}
+
+# ends STATUS COMMAND: the command, which has written `text`, ended as the answer of the example has it
+ends() {
     count=$((count + 1))
-    if { echo "$status"; cat "$work/text"; } | cmp -s - "$answer"; then
-        echo "$1 $example: $(cat "$work/text")"
+    if { echo "$1"; cat "$work/text"; } | cmp -s - "$answer"; then
+        echo "$2 $example: $(cat "$work/text")"
     else
-        echo "$1 $example: status $status, $(cat "$work/text"): not as in $answer"
+        echo "$2 $example: status $1, $(cat "$work/text"): not as in $answer"
         bad=1
     fi
 }
@@ -110,6 +124,9 @@ for machine in examples/*/machine.md; do
         compare "$trace" replay "$machine" "$trace"
         compare "$trace" walk "$work/kept" "$trace"
     done
+done
+for why in examples/*/*.why; do
+    explained "$why" "$why" "$(dirname "$why")/machine.md" "${why%.why}.trace"
 done
 for drill in examples/*/*.drill; do
     # its words are the number and the turns

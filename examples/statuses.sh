@@ -1,7 +1,9 @@
 #!/bin/sh
-# Shows each status of each command on real files, and each kind of fault of a tables text, and compares status and text. The program is
-# a proved one: one that is built to be tried without a proof can't start in the little memory that some runs are given.
+# statuses.sh HZ HZ_WHY: shows each status of each command and of hz_why on real files, and each kind of fault of a tables text, and compares
+# status and text. The programs are proved ones: one that is built to be tried without a proof can't start in the little memory that some
+# runs are given.
 hz=$(cd "$(dirname "$1")" && pwd)/$(basename "$1")
+hz_why=$(cd "$(dirname "$2")" && pwd)/$(basename "$2")
 work=$(mktemp -d) || exit 2
 trap 'rm -rf "$work"' EXIT
 cd "$work" || exit 2
@@ -25,9 +27,9 @@ run() {
 ends() {
     if [ "$status" = "$1" ] && [ "$text" = "$2${2:+$newline}" ] && [ ! -s errors ]; then
         shift 2
-        echo "status $status: hz $*: $(printf '%s' "$text" | tail -n 1)"
+        echo "status $status: ${hz##*/} $*: $(printf '%s' "$text" | tail -n 1)"
     else
-        echo "hz: status $status, text '$text', wanted $*"
+        echo "${hz##*/}: status $status, text '$text', wanted $*"
         bad=1
     fi
 }
@@ -80,6 +82,14 @@ expect_pipe() {
     ends 7 '' "$@"
 }
 
+# why FUNCTION WORD..: calls one of these for hz_why in place of hz
+why() {
+    kept=$hz
+    hz=$hz_why
+    "$@"
+    hz=$kept
+}
+
 # lines FILE LINE..: makes the file of these lines
 lines() {
     file=$1
@@ -104,6 +114,7 @@ lines query '(define_query_cpu_unit "a")' '(define_insn_reservation "x" 1 (const
 lines never '(define_cpu_unit "u,v")' '(presence_set "v" "u")' '(define_insn_reservation "x" 1 (const_int 1) "v")'
 printf '(define_cpu_unit "a' > unclosed
 lines shape '; a comment' '(define_cpu_unit "a,")'
+lines sixty "$unit" '(define_insn_reservation "x" 1 (const_int 1) "u*60")'
 lines comma "$unit" '(define_insn_reservation "x" 1 (const_int 1)' '  "u,,u")'
 lines name "$unit" '(define_reservation "r" "u, v")'
 lines circle '(define_reservation "r" "s")' '(define_reservation "s" "r")'
@@ -133,6 +144,7 @@ printf ' issue\tx\r\n\n; again\nissue x' > spaced
 head -c 67108864 /dev/zero | tr '\0' '\n' > longest_trace
 { cat longest_trace; echo; } > long_trace
 yes 'advance 0' | head -n 1000001 > many_events
+lines late_unit 'issue c16'
 
 # blocks and a state
 lines b '(insn 1 (set (reg 2) (plus (reg 1) (const_int 1))))'
@@ -393,6 +405,45 @@ expect 6 'file folder could not be read' drill folder 1 4
 expect_memory 32768 drill most_states 1 4
 expect_sink drill d 1 4
 
+# hz_why
+why expect 0 "$(printf 'accepted 2 issues 1 cycles\ncycle   0 1\na       1 3')" d t
+why expect 0 'accepted 0 issues 0 cycles' d empty
+why expect 0 'accepted 0 issues 0 cycles' empty empty
+why expect 0 'accepted 0 issues 0 cycles' longest empty
+why expect 0 'accepted 0 issues 0 cycles' d longest_trace
+why expect 0 'accepted 0 issues 0 cycles' d many_events
+why expect 0 "$(printf 'accepted 2 issues 1 cycles\ncycle   0\na       3\nb       3')" two_automata t
+why expect 0 "$(printf 'accepted 2 issues 0 cycles\nby one of the choices\ncycle   0\na       2\nb       1')" ndfa both
+why expect 0 "$(printf 'accepted 1 issues 0 cycles\ncycle    0  1  2  3  4  5  6  7  8  9 10 11 12 13 14 15 16
+u        .  .  .  .  .  .  .  .  .  .  .  .  .  .  .  .  1')" states late_unit
+held='alternative 1: a in cycle 1 is held since line'
+why expect 1 "$(printf 'refused line 2 x\nfits 1 cycle later\n%s 1, x\ncycle   0 1\na       . 1' "$held")" d twice
+why expect 1 "$(printf '%s\nfits 1 cycle later\n%s 5, x\ncycle   0 1\na       1 5' "$told" "$held")" query asks
+why expect 1 "$(printf 'refused line 1 x\nnever fits\nalternative 1: presence_set line 2, v in cycle 0 without a pattern\ncycle   0\nv       .')" \
+    never twice
+why expect 1 "$(printf 'refused line 2 x\nfits 60 cycles later\nalternative 1: u in cycle 0 is held since line 1, x\ncycle  '
+    for j in $(seq 0 55); do printf ' %s' $((j % 10)); done; printf '\nu      '; for j in $(seq 0 55); do printf ' 1'; done
+    printf '\ncut after cycle 55')" sixty twice
+why expect 2 'fault no_unit line 3 UnknownUnit' query no_unit
+why expect 2 'fault query_ndfa line 1 QueryUnderNdfa a' query_ndfa asks
+why expect 2 'fault unclosed line 1 Unclosed' unclosed t
+why expect 2 'fault name line 2 UnknownName v' name t
+why expect 2 'fault unknown line 2 UnknownClass' d unknown
+why expect 2 'fault bad line 2 BadLine' d bad
+why expect 2 'fault far line 3 AdvanceLimit' d far
+why expect 2 'fault t line 1 UnknownClass' states t
+why expect 3 'limit alternatives line 2 Alternatives x' alternatives t
+why expect 3 'limit long bytes' long t
+why expect 3 'limit long bytes' long missing
+why expect 3 'limit long_trace bytes' d long_trace
+why expect 6 'file missing could not be read' missing t
+why expect 6 'file missing could not be read' d missing
+why expect 6 'file folder could not be read' folder t
+why expect 6 'file  could not be read' '' t
+why expect_memory 65536 d longest_trace
+why expect_sink d t
+why expect_sink d twice
+
 # names of files, and bytes of texts, as they are
 cp d " d\\~"
 expect 0 'accepted 2 issues 1 cycles' replay " d\\~" t
@@ -426,6 +477,7 @@ yes '' | head -n 50000 > feeds
 { head -n 6 k; echo 'automaton - 2 50000'; echo 'map 0 1'; yes 'row 1 1 0' | head -n 49999; echo 'row 01 1 0'; echo end; } > late_tables
 expect 2 "fault late line 50001 TwiceDefined $long_name" compile late
 expect 2 "fault late line 50001 TwiceDefined $long_name" replay late t
+why expect 2 "fault late line 50001 TwiceDefined $long_name" late t
 expect 2 "fault late line 50001 TwiceDefined $long_name" schedule late b
 expect 2 "fault late line 50001 TwiceDefined $long_name" drill late 1 4
 expect 2 "fault late line 50001 TwiceDefined $long_name" timed late b s
@@ -433,7 +485,12 @@ expect 2 "fault late line 50001 TwiceDefined $long_name" duo late b b
 expect 2 "fault late line 50001 TwiceDefined $long_name" modulo late b
 expect 3 "limit late_limit line 50001 Cycles $long_name" replay late_limit t
 expect 1 "refused line 50002 $long_name" replay late_class late_issues
+row=$(head -c 32 /dev/zero | tr '\0' n)
+why expect 1 "$(printf 'refused line 50002 %s\nfits 1 cycle later\n' "$long_name"
+    printf 'alternative 1: %s in cycle 0 is held since line 50001, %s\n' "$long_name" "$long_name"
+    printf '%-32s       0\n%s   50001' cycle "$row")" late_class late_issues
 expect 2 'fault late_trace line 50001 BadLine' replay d late_trace
+why expect 2 'fault late_trace line 50001 BadLine' d late_trace
 expect 2 'fault late_trace line 50001 BadLine' walk k late_trace
 expect 2 'fault late_tables line 50008 BadNumber' walk late_tables t
 expect 2 'fault late_block line 50001 RegisterRange' schedule d late_block
@@ -462,6 +519,12 @@ expect_sink timed d b missing
 expect_sink duo d b missing
 expect_sink modulo d missing
 expect_sink drill missing 1 4
+why expect_sink late t
+why expect_sink long t
+why expect_sink missing t
+why expect_sink d folder
+why expect_sink
+why expect_sink d
 expect_sink
 expect_sink replay d
 
@@ -496,6 +559,10 @@ once ambiguous 2 'fault /dev/stdin line 2 Ambiguous insn 2 x y' modulo classes /
 once code 2 'fault /dev/stdin line 2 UnknownCode' eval /dev/stdin s
 once b 2 'fault /dev/stdin line 1 BadShape' eval b /dev/stdin
 once circle 2 'fault /dev/stdin line 1 CircularReservation r' drill /dev/stdin 1 4
+why once alternatives 3 'limit /dev/stdin line 2 Alternatives x' /dev/stdin t
+why once bad 2 'fault /dev/stdin line 2 BadLine' d /dev/stdin
+why once never 1 "$(printf 'refused line 1 x\nnever fits\nalternative 1: presence_set line 2, v in cycle 0 without a pattern\ncycle   0\nv       .')" \
+    /dev/stdin t
 
 # words
 expect 4 "$usage"
@@ -545,6 +612,17 @@ expect 4 "$usage" --version
 expect 4 "$usage" -- compile d
 expect 4 "$usage" compile -- d
 
+why_usage='usage: hz_why DESC TRACE'
+why expect 4 "$why_usage"
+why expect 4 "$why_usage" d
+why expect 4 "$why_usage" d t more
+why expect 4 "$why_usage" replay d t
+why expect 4 "$why_usage" -d t
+why expect 4 "$why_usage" d -
+why expect 4 "$why_usage" missing --trace
+why expect 4 "$why_usage" --help
+why expect 4 "$why_usage" d "$(printf '\377')"
+
 # a file that fails after as many bytes as are allowed: it gives words of eight bytes alone, and no single byte
 words=/proc/self/pagemap
 if [ -r "$words" ]; then
@@ -559,6 +637,8 @@ if [ -r "$words" ]; then
     expect 6 "file $words could not be read" eval "$words" missing
     expect 6 "file $words could not be read" eval b "$words"
     expect 6 "file $words could not be read" drill "$words" 1 4
+    why expect 6 "file $words could not be read" "$words" missing
+    why expect 6 "file $words could not be read" d "$words"
 fi
 
 # a file that may not be read, where the user may not read all files

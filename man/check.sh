@@ -1,41 +1,46 @@
 #!/bin/sh
-# Looks at the manual page. It has the version and the date of the file VERSION. mandoc and man, each if it is there, have no warning, and the
-# page is not empty.
-page=$(dirname "$0")/hz.1
+# Looks at the manual pages. Each has the version and the date of the file VERSION. mandoc and man, each if it is there, have no warning, and
+# no page is empty.
+folder=$(dirname "$0")
 work=$(mktemp -d) || exit 2
 trap 'rm -rf "$work"' EXIT
 bad=0
 
-# has LINE: the page has this line
+# has PAGE LINE: the page has this line
 has() {
-    grep -qxF "$1" "$page" || { echo "hz.1: no line '$1', by the file VERSION"; bad=1; }
+    grep -qxF "$2" "$folder/$1" || { echo "$1: no line '$2', by the file VERSION"; bad=1; }
 }
 
-# is_quiet NAME: the tool NAME reports nothing of the page
+# is_quiet NAME PAGE: the tool NAME reports nothing of the page
 is_quiet() {
     if [ -s "$work/reported" ]; then
         cat "$work/reported"
-        echo "$1: the page has warnings"
+        echo "$1: $2 has warnings"
         bad=1
     else
-        echo "$1: no warning"
+        echo "$1: no warning of $2"
     fi
 }
 
-read -r version date < "$(dirname "$0")/../VERSION" || exit 2
-has ".Os hz $version"
-has ".Dd $(LC_ALL=C date -u -d "$date" '+%B %-d, %Y')"
-if command -v mandoc > /dev/null; then
-    mandoc -T lint -W warning "$page" > "$work/reported" 2>&1
-    is_quiet mandoc
-else
-    echo "no mandoc: its look at the page is left out"
-fi
-if man --version 2> /dev/null | grep -q '^man 2'; then
-    LC_ALL=C.UTF-8 MANWIDTH=100 man --warnings -E UTF-8 -l "$page" > "$work/text" 2> "$work/reported"
-    is_quiet man
-    grep -q 'hz compile desc' "$work/text" || { echo "man: the page is empty"; bad=1; }
-else
-    echo "no man that takes --warnings: its look at the page is left out"
-fi
+# look PAGE WORDS: looks at the page, whose synopsis has these words
+look() {
+    has "$1" ".Os hz $version"
+    has "$1" ".Dd $(LC_ALL=C date -u -d "$date" '+%B %-d, %Y')"
+    if [ -n "$mandoc" ]; then
+        mandoc -T lint -W warning "$folder/$1" > "$work/reported" 2>&1
+        is_quiet mandoc "$1"
+    fi
+    if [ -n "$man" ]; then
+        LC_ALL=C.UTF-8 MANWIDTH=100 man --warnings -E UTF-8 -l "$folder/$1" > "$work/text" 2> "$work/reported"
+        is_quiet man "$1"
+        grep -q "$2" "$work/text" || { echo "man: $1 is empty"; bad=1; }
+    fi
+}
+
+read -r version date < "$folder/../VERSION" || exit 2
+mandoc=$(command -v mandoc) || echo "no mandoc: its look at the pages is left out"
+man=
+if man --version 2> /dev/null | grep -q '^man 2'; then man=man; else echo "no man that takes --warnings: its look at the pages is left out"; fi
+look hz.1 'hz compile desc'
+look hz_why.1 'hz_why desc trace'
 exit $bad

@@ -1,9 +1,9 @@
 #!/usr/bin/env python3
-"""Refuses memory to hz, one request at a time, from the first to the last, on each command. Each run must end in one of three ways:
-with status 5 and the line `memory`, with status 5 and nothing while the words are still got, or with the command's own status and text.
-The first two must occur.
+"""Refuses memory to hz, one request at a time, from the first to the last, on each command, and to hz_why. Each run must end in one of three
+ways: with status 5 and the line `memory`, with status 5 and nothing while the words are still got, or with the command's own status and
+text. The first two must occur.
 
-The program is a proved one. One that is built to be tried without a proof asks for memory of its own, and may end otherwise."""
+The programs are proved ones. One that is built to be tried without a proof asks for memory of its own, and may end otherwise."""
 import argparse
 import os
 import subprocess
@@ -77,6 +77,9 @@ def answer(name):
     status, text = example(name).split("\n", 1)
     return int(status), text
 
+
+# in the place of a command: the program that has none
+WHY = "hz_why"
 
 # what is shown, the command, the texts of its files, the status and the text, and the words after the files
 ROWS = (
@@ -155,6 +158,24 @@ ROWS = (
         (example("kernel/machine.md"), example("kernel/power.block")),
         *answer("kernel/power.kernel"),
     ),
+    (
+        "why a division is refused",
+        WHY,
+        (example("divider/machine.md"), example("divider/busy.trace")),
+        *answer("divider/busy.why"),
+    ),
+    (
+        "why a move is refused under ndfa",
+        WHY,
+        (example("choices/machine.md"), example("choices/both_slots.trace")),
+        *answer("choices/both_slots.why"),
+    ),
+    (
+        "what an accepted trace leaves",
+        WHY,
+        (example("refusals/machine.md"), example("refusals/accepted.trace")),
+        *answer("refusals/accepted.why"),
+    ),
 )
 
 MEMORY = (5, b"memory\n", b"")
@@ -162,21 +183,26 @@ NO_WORDS = (5, b"", b"")
 
 
 class Refuser:
-    """Runs hz with one request for memory refused."""
+    """Runs a program with one request for memory refused."""
 
-    def __init__(self, hz, library, folder):
+    def __init__(self, hz, hz_why, library, folder):
         self.hz = hz
+        self.hz_why = hz_why
         self.library = library
         self.report = os.path.join(folder, "report")
         self.folder = folder
 
+    def start_of(self, command):
+        """The program of a command, and the words before those of its files."""
+        return [self.hz_why] if command == WHY else [self.hz, command]
+
     def run(self, words, number):
-        """How hz ends if the request of this number is refused, how many it made, and whether one was refused."""
+        """How a program ends if the request of this number is refused, how many it made, and whether one was refused."""
         if os.path.exists(self.report):
             os.remove(self.report)
         given = {"LD_PRELOAD": self.library, "REFUSE_REQUEST": str(number), "REFUSE_REPORT": self.report}
         done = subprocess.run(
-            [self.hz, *words], cwd=self.folder, env={**os.environ, **given}, capture_output=True, timeout=60, check=False
+            words, cwd=self.folder, env={**os.environ, **given}, capture_output=True, timeout=60, check=False
         )
         ended = (done.returncode, done.stdout, done.stderr)
         if not os.path.exists(self.report):
@@ -201,7 +227,7 @@ def check(refuser, row, most):
     """Whether each run of a row ends as it may; says how many requests were refused, and each run that ends otherwise. A row of more
     requests than `most` is left out."""
     shown, command, texts, status, text, *more = row
-    words = [command, *files_of(refuser.folder, texts), *more]
+    words = [*refuser.start_of(command), *files_of(refuser.folder, texts), *more]
     own = (status, text.encode(), b"")
     ended, requests, refused = refuser.run(words, 0)
     if ended != own or requests == 0 or refused:
@@ -233,12 +259,13 @@ def main():
     parser = argparse.ArgumentParser(description=__doc__)
     parser.add_argument("--most", type=int, default=sys.maxsize, help="leave out what makes more requests")
     parser.add_argument("hz", help="the program")
+    parser.add_argument("hz_why", help="the program that explains")
     given = parser.parse_args()
     source = os.path.join(os.path.dirname(os.path.abspath(__file__)), "refuse_memory.c")
     with tempfile.TemporaryDirectory() as folder:
         library = os.path.join(folder, "refuse_memory.so")
         subprocess.run(["cc", "-O2", "-shared", "-fPIC", "-o", library, source], check=True)
-        refuser = Refuser(os.path.abspath(given.hz), library, folder)
+        refuser = Refuser(os.path.abspath(given.hz), os.path.abspath(given.hz_why), library, folder)
         # all rows are shown, also after one that is wrong
         good = [check(refuser, row, given.most) for row in ROWS]
     return 0 if all(good) else 1

@@ -43,15 +43,16 @@ def pattern_of(lines):
 
 
 class Typist:
-    """Types commands in a copy of the examples, with hz on the path and files of /tmp in a folder of its own."""
+    """Types commands in a copy of the examples, with the programs on the path and files of /tmp in a folder of its own."""
 
-    def __init__(self, hz, folder):
+    def __init__(self, hz, hz_why, folder):
         self.folder = folder + "/"
         self.examples = os.path.join(folder, "examples")
         programs = os.path.join(folder, "programs")
         shutil.copytree(os.path.join(TOP, "examples"), self.examples)
         os.mkdir(programs)
-        os.symlink(os.path.abspath(hz), os.path.join(programs, "hz"))
+        for name, program in (("hz", hz), ("hz_why", hz_why)):
+            os.symlink(os.path.abspath(program), os.path.join(programs, name))
         self.surroundings = {**os.environ, "PATH": programs + os.pathsep + os.environ["PATH"]}
 
     def type(self, place, command):
@@ -72,13 +73,14 @@ def main():
     """Types all commands of the pages."""
     parser = argparse.ArgumentParser(description=__doc__)
     parser.add_argument("hz", help="the program")
+    parser.add_argument("hz_why", help="the program that explains")
     given = parser.parse_args()
     pages = [("README.md", "")]
     pages += [(os.path.relpath(page, TOP), os.path.basename(os.path.dirname(page)))
               for page in sorted(glob.glob(os.path.join(TOP, "examples", "*", "README.md")))]
     count = wrong = 0
     with tempfile.TemporaryDirectory() as folder:
-        typist = Typist(given.hz, folder)
+        typist = Typist(given.hz, given.hz_why, folder)
         for page, place in pages:
             for block in blocks_of(os.path.join(TOP, page)):
                 for command, lines in commands_of(block):

@@ -1,9 +1,10 @@
 #!/bin/sh
-# try_deb.sh PACKAGE PROGRAM: tries a Debian package in a folder of its own, and leaves the system as it is. The package unpacks; dpkg
-# installs it; the installed program is PROGRAM and answers all installed examples; dpkg removes it, and no file is left.
+# try_deb.sh PACKAGE HZ HZ_WHY: tries a Debian package in a folder of its own, and leaves the system as it is. The package unpacks; dpkg
+# installs it; the installed programs are these and answer all installed examples; dpkg removes it, and no file is left.
 package=$(cd "$(dirname "$1")" && pwd)/$(basename "$1")
-program=$(cd "$(dirname "$2")" && pwd)/$(basename "$2")
-page=$(cd "$(dirname "$0")/.." && pwd)/man/hz.1
+hz=$(cd "$(dirname "$2")" && pwd)/$(basename "$2")
+hz_why=$(cd "$(dirname "$3")" && pwd)/$(basename "$3")
+pages=$(cd "$(dirname "$0")/.." && pwd)/man
 work=$(mktemp -d) || exit 2
 trap 'rm -rf "$work"' EXIT
 PATH=$PATH:/usr/sbin:/sbin
@@ -46,9 +47,14 @@ owned() {
     dpkg-deb -c "$package" > "$work/list" && ! grep -v ' root/root .* [.]/\(usr/.*\)\{0,1\}$' "$work/list"
 }
 
-# whole FOLDER: program and manual page are there as they are here
+# page FOLDER NAME: the manual page is there as it is here
+page() {
+    gzip -dc "$1/usr/share/man/man1/$2.gz" | cmp - "$pages/$2"
+}
+
+# whole FOLDER: programs and manual pages are there as they are here
 whole() {
-    cmp "$program" "$1/usr/bin/hz" && gzip -dc "$1/usr/share/man/man1/hz.1.gz" | cmp - "$page" &&
+    cmp "$hz" "$1/usr/bin/hz" && cmp "$hz_why" "$1/usr/bin/hz_why" && page "$1" hz.1 && page "$1" hz_why.1 &&
         (cd "$1" && dpkg-deb --ctrl-tarfile "$package" | tar -xOf - ./md5sums | md5sum --quiet -c)
 }
 
@@ -69,7 +75,7 @@ tried 'a folder to install in' prepare
 tried 'install' in_folder --install "$package"
 tried 'what was installed' whole "$system"
 tried 'no fault, by dpkg' audited
-tried 'all examples, by the installed program' sh "$system/usr/share/doc/hz/examples/check.sh" "$system/usr/bin/hz"
+tried 'all examples, by the installed programs' sh "$system/usr/share/doc/hz/examples/check.sh" "$system/usr/bin/hz" "$system/usr/bin/hz_why"
 if command -v python3 > /dev/null; then
     tried 'extract.py' python3 "$system/usr/share/hz/tools/extract.py" -o "$work/out.md" "$system/usr/share/doc/hz/examples/divider/machine.md"
 fi

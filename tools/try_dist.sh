@@ -1,6 +1,6 @@
 #!/bin/sh
-# try_dist.sh FILE: tries a tar file of tools/release.sh in a folder of its own. The checksums apply, and the program answers all
-# examples, what tools/test.sh asks, and what pages show.
+# try_dist.sh FILE: tries a tar file of tools/release.sh in a folder of its own. The checksums apply, and the programs answer all examples,
+# what tools/test.sh asks, and what pages show.
 file=$(cd "$(dirname "$1")" && pwd)/$(basename "$1")
 work=$(mktemp -d) || exit 2
 trap 'rm -rf "$work"' EXIT
@@ -17,8 +17,8 @@ tried() {
 tar -C "$work" -xzf "$file" || exit 1
 cd "$work"/hz-* || exit 1
 tried 'checksums' sha256sum --quiet -c SHA256SUMS
-tried 'all examples' sh examples/check.sh bin/hz
+tried 'all examples' sh examples/check.sh bin/hz bin/hz_why
 if command -v python3 > /dev/null; then
     tried 'extract.py' sh tools/test.sh bin/hz
-    tried 'what pages show' python3 tools/check_pages.py bin/hz
+    tried 'what pages show' python3 tools/check_pages.py bin/hz bin/hz_why
 fi

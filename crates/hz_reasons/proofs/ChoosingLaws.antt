@@ -1,24 +1,22 @@
 -- Choices grow by one with each issue that is taken.
-use Rattle.std.proofs.Common.{◌≡◌, ℕ, zero, suc, ◌+◌, ◌<◌, ◌≤◌, List, [], ◌∷◌, ◌++◌, length, take, drop, slice_index, Option, Some, None, refl, sym, ap, ◌∙◌, subst, arith, add-one}
-use Rattle.std.specs.Prelude.{slice_get}
+use Rattle.std.proofs.Common.{◌≡◌, ℕ, zero, suc, ◌+◌, ◌<◌, ◌≤◌, List, [], ◌∷◌, ◌++◌, length, drop, slice_index, Some, refl, sym, ap, ◌∙◌, subst, arith}
 use Rattle.std.proofs.lemmas.List.{append-nil, length-append}
 use Rattle.hz_base_model.specs.Pairs.{Pair, placed}
 use Rattle.hz_description_model.specs.Reservations.Automata.{UnitPlace}
 use Rattle.hz_pipeline_model.specs.Accepting.Events.{Event, issue, advance, ask, issues_of, cycles_of}
-use Rattle.hz_pipeline_model.specs.Accepting.Replay.{Pipeline, first_fit, State, start, MayTake, FitsAt, IsChoice, Accepted, calendar, chosen, left_by}
-use Rattle.hz_pipeline_model.proofs.Accepting.ReplayLaws.{issues_of-append, cycles_of-append, calendar-append, same_first, same_rest, none_last, run_split, chosen_run, runs_from_accepted}
-use Rattle.hz_pipeline_model.proofs.Accepting.ChoiceLaws.{one_choice}
+use Rattle.hz_pipeline_model.specs.Accepting.Replay.{Pipeline, State, start, MayTake, IsChoice, calendar, chosen, left_by}
+use Rattle.hz_pipeline_model.proofs.Accepting.ReplayLaws.{issues_of-append, cycles_of-append, calendar-append, same_first, same_rest, none_last}
 use Rattle.hz_why_model.specs.Waits.{after}
 use Rattle.hz_reasons.specs.Plans.{Stands, behind_issue, Issues}
-use Rattle.hz_reasons.specs.Choosing.{HasChosen, StopsAt, IssuesTo}
+use Rattle.hz_reasons.specs.Choosing.{HasChosen}
 
 -- an item at a place of a list that grew, and the new one
-index_before : (xs ys : List ℕ) (n : ℕ) → n < length xs → slice_index (xs ++ ys) n ≡ slice_index xs n
+pub index_before : (xs ys : List ℕ) (n : ℕ) → n < length xs → slice_index (xs ++ ys) n ≡ slice_index xs n
 index_before [] ys n h = absurd (omega arith)
 index_before (x ∷ xs) ys zero h = refl
 index_before (x ∷ xs) ys (suc n) h = index_before xs ys n (omega arith)
 
-index_last : (xs : List ℕ) (y : ℕ) → slice_index (xs ++ y ∷ []) (length xs) ≡ y
+pub index_last : (xs : List ℕ) (y : ℕ) → slice_index (xs ++ y ∷ []) (length xs) ≡ y
 index_last [] y = refl
 index_last (x ∷ xs) y = index_last xs y
 
@@ -53,7 +51,7 @@ no_ask a u k h = cc
 
 module _ (m : Pipeline UnitPlace) where
   -- choices behind those of the issues change no calendar
-  calendar_more : (now : ℕ) (t : List Event) (choices more : List ℕ) → issues_of t ≤ length choices → calendar m now t (choices ++ more) ≡ calendar m now t choices
+  pub calendar_more : (now : ℕ) (t : List Event) (choices more : List ℕ) → issues_of t ≤ length choices → calendar m now t (choices ++ more) ≡ calendar m now t choices
   calendar_more now [] choices more h = refl
   calendar_more now (advance n ∷ t) choices more h = calendar_more (n + now) t choices more h
   calendar_more now (ask a u ∷ t) choices more h = calendar_more now t choices more h
@@ -121,15 +119,6 @@ module _ (m : Pipeline UnitPlace) where
           let pairs = calendar-append m 0 t (issue k ∷ []) more in
           rw (time, pairs, before, rest, here) (ap (λ (ps : List (Pair UnitPlace)). let s : State UnitPlace = record { reserved = calendar m 0 t choices ++ ps; now = cycles_of t } in s) (append-nil (placed (cycles_of t) (chosen m k i))))
 
--- a list that is read up to a place, and one more
-take_after : (t : List Event) (n : ℕ) (e : Event) → slice_get t n ≡ Some e → take (suc n) t ≡ take n t ++ e ∷ []
-take_after [] n e h = absurd (cc)
-take_after (x ∷ t) zero e h = let same : x ≡ e = cc in ap (λ (z : Event). z ∷ []) same
-take_after (x ∷ t) (suc n) e h = ap (λ (es : List Event). x ∷ es) (take_after t n e h)
-
-pub take_next : (t : List Event) (n : ℕ) (e : Event) → slice_get t n ≡ Some e → take (n + 1) t ≡ take n t ++ e ∷ []
-take_next t n e h = rw (add-one n) (take_after t n e h)
-
 -- ---- what is chosen, event by event
 
 module _ (m : Pipeline UnitPlace) where
@@ -169,36 +158,3 @@ module _ (m : Pipeline UnitPlace) where
       choice = choice_more m t choices has.choice k i may;
       stands = subst (λ (s : State UnitPlace). Stands m new s) (sym (left_more m t choices has.choice k i may)) stands;
     }
-
-    -- what an issue makes of the choices, by whether an alternative is taken
-    pub issued_to : (k : ℕ) (taken : Option ℕ) (i : ℕ) (more : List ℕ) (new : List (List (Pair ℕ))) → taken ≡ Some i → more ≡ choices ++ i ∷ [] → Issues m (left_by m t choices) k taken new → IssuesTo m t k more new (Some i)
-    issued_to k taken i more new is grown issues =
-        subst (λ (cs : List ℕ). HasChosen m (t ++ issue k ∷ []) cs new) (sym grown) (chosen_issue k i new (subst (λ (o : Option ℕ). Issues m (left_by m t choices) k o new) is issues))
-
-    pub issued_none : (k : ℕ) (taken : Option ℕ) (new : List (List (Pair ℕ))) → taken ≡ None → Issues m (left_by m t choices) k taken new → IssuesTo m t k choices new None
-    issued_none k taken new is issues =
-        let (none, stands) = subst (λ (o : Option ℕ). Issues m (left_by m t choices) k o new) is issues in
-        (record { choice = has.choice; stands = stands }, none)
-
-    -- in the first treatment no other choices are there
-    pub refused_issue : m.treatment ≡ first_fit → (k : ℕ) → ((i : ℕ) → FitsAt m (left_by m t choices) k i → ⊥) → Accepted m (t ++ issue k ∷ []) → ⊥
-    refused_issue first k none accepted =
-        let run = runs_from_accepted m (t ++ issue k ∷ []) accepted in
-        let parts = run_split m start run.0 t (issue k ∷ []) run.1 in
-        let (others, by, led) = chosen_run m t parts.0 parts.1 in
-        let there : parts.0 ≡ left_by m t choices = led ∙ ap (left_by m t) (one_choice m first t others choices by has.choice) in
-        let (last, (i, may, issued), end) = parts.2 in
-        none i (subst (λ (q : State UnitPlace). FitsAt m q k i) there may.fits)
-
--- the first that is refused stops
-pub stops_there : (m : Pipeline UnitPlace) → m.treatment ≡ first_fit → (t : List Event) (place k : ℕ) (choices : List ℕ) (grids : List (List (Pair ℕ))) → slice_get t place ≡ Some (issue k) → place < length t → HasChosen m (take place t) choices grids → ((i : ℕ) → FitsAt m (left_by m (take place t) choices) k i → ⊥) → StopsAt m t choices grids place
-stops_there m first t place k choices grids there lt has none = record {
-  refused = record {
-    within = lt;
-    before = (choices, has.choice);
-    refused = λ accepted. refused_issue m (take place t) choices grids has first k none (subst (Accepted m) (take_next t place (issue k) there) accepted);
-  };
-  class = k;
-  issue_there = there;
-  before = has;
-}

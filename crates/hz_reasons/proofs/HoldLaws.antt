@@ -1,5 +1,5 @@
 -- Who holds what, along the choices of a trace.
-use Rattle.std.proofs.Common.{◌≡◌, ℕ, zero, suc, ◌+◌, ◌<◌, ◌≤◌, List, [], ◌∷◌, ◌++◌, length, map, take, drop, get_or, slice_index, refl, sym, ap, ◌∙◌, subst, arith, append_assoc}
+use Rattle.std.proofs.Common.{◌≡◌, ℕ, ◌+◌, ◌<◌, ◌≤◌, List, [], ◌∷◌, ◌++◌, length, take, drop, get_or, slice_index, refl, sym, ap, ◌∙◌, subst, arith, append_assoc}
 use Rattle.std.proofs.lemmas.List.{length-map, length-take, get_or-map, map-append, take_all, take_more, take-append-drop}
 use Rattle.hz_description_model.specs.Reservations.Automata.{UnitPlace}
 use Rattle.hz_pipeline_model.specs.Accepting.Events.{Event, issue, advance, ask, issues_of}
@@ -9,11 +9,11 @@ use Rattle.hz_replay.specs.Lines.{event_of}
 use Rattle.hz_replay.specs.Traces.{events_in, lines_in}
 use Rattle.hz_replay.specs.declared.event.Event.{Event as TraceEvent}
 use Rattle.hz_reasons.specs.Holding.{AreHolders}
-use Rattle.hz_reasons.specs.Plans.{IsPlanOf, choices_at}
-use Rattle.hz_reasons.specs.Walking.{HasNumber, HoldsTo}
+use Rattle.hz_reasons.specs.Plans.{IsPlanOf}
+use Rattle.hz_reasons.specs.Walking.{HasNumber, AreNumbers, HoldsTo}
 use Rattle.hz_reasons.specs.declared.holders.Holder.{Holder}
 use Rattle.hz_reasons.specs.declared.plan.Plan.{Plan}
-use Rattle.hz_reasons.proofs.HoldingLaws.{after_advance, holders_ask, holders_at_start}
+use Rattle.hz_reasons.proofs.HoldingLaws.{holders_ask}
 use Rattle.hz_reasons.proofs.WalkLaws.{events_step}
 
 -- one choice more
@@ -24,14 +24,20 @@ pub few_taken : (choices : List ℕ) (n : ℕ) → n < length choices → length
 few_taken choices n low = let few = length-take n choices in omega (arith, few, low)
 
 -- choices that accept events have a number for each issue
-pub has_number : (m : Pipeline UnitPlace) (plan : Plan) → IsPlanOf m plan → (t before after : List Event) (e : Event) (choices : List ℕ) → IsChoice m t choices → t ≡ before ++ e ∷ after → HasNumber plan choices (issues_of before) e
-has_number m plan of_plan t before after (issue k) choices is parts =
-    let may = is.may before after k parts in
-    let numbers = of_plan.numbers k in
-    let fits = may.fits.0 in
-    (omega (arith, is.each, ap issues_of parts, issues_of-append before (issue k ∷ after)), omega (arith, numbers, fits))
-has_number m plan of_plan t before after (advance n) choices is parts = tt
-has_number m plan of_plan t before after (ask a u) choices is parts = tt
+pub accepted_numbers : (m : Pipeline UnitPlace) (plan : Plan) → IsPlanOf m plan → (t : List Event) (choices : List ℕ) → IsChoice m t choices → AreNumbers plan t choices
+accepted_numbers m plan of_plan t choices is = record {
+  each = is.each;
+  numbers = λ before after k parts.
+      let may = is.may before after k parts in
+      let numbers = of_plan.numbers k in
+      let fits = may.fits.0 in
+      omega (arith, numbers, fits);
+}
+
+pub has_number : (plan : Plan) (t before after : List Event) (e : Event) (choices : List ℕ) → AreNumbers plan t choices → t ≡ before ++ e ∷ after → HasNumber plan choices (issues_of before) e
+has_number plan t before after (issue k) choices are parts = (omega (arith, are.each, ap issues_of parts, issues_of-append before (issue k ∷ after)), are.numbers before after k parts)
+has_number plan t before after (advance n) choices are parts = tt
+has_number plan t before after (ask a u) choices are parts = tt
 
 module _ (m : Pipeline UnitPlace) (t : List Event) (lines choices : List ℕ) (next : ℕ) (old : List Holder) (holds : HoldsTo m t lines choices next old) where
   -- an event that is no issue
@@ -65,8 +71,8 @@ module _ (es : List TraceEvent) (i : ℕ) (e : TraceEvent) (is : e ≡ get_or es
       let few : length (events_in (take i es)) ≡ i = omega (arith, inside, length-map (take i es) says, length-take i es) in
       ap (slice_index (lines_in es)) few ∙ (get_or-map (λ (x : TraceEvent). x.line) es i e 0 inside ∙ ap (λ (x : TraceEvent). x.line) (sym is))
 
-pub all_hold : (m : Pipeline UnitPlace) (es : List TraceEvent) (i : ℕ) (choices : List ℕ) (next : ℕ) (issues : List Holder) → length es ≤ i → IsChoice m (events_in es) choices → HoldsTo m (events_in (take i es)) (lines_in es) choices next issues → AreHolders m (events_in es) (lines_in es) choices issues
-all_hold m es i choices next issues all is holds =
+pub all_hold : (m : Pipeline UnitPlace) (plan : Plan) (es : List TraceEvent) (i : ℕ) (choices : List ℕ) (next : ℕ) (issues : List Holder) → length es ≤ i → AreNumbers plan (events_in es) choices → HoldsTo m (events_in (take i es)) (lines_in es) choices next issues → AreHolders m (events_in es) (lines_in es) choices issues
+all_hold m plan es i choices next issues all is holds =
     let whole : take i es ≡ es = take_all i es all in
     let count = subst (λ (xs : List TraceEvent). next ≡ issues_of (events_in xs)) whole holds.count in
     let each = is.each in

@@ -24,7 +24,7 @@ use Rattle.hz_pipeline_model.proofs.Accepting.Rows.{places_tell}
 use Rattle.hz_why_model.specs.Holders.{Entry, entries_of, entries, entry_at, entry_from, entries_from}
 use Rattle.hz_why_model.specs.Reasons.{same_place}
 use Rattle.hz_reasons.specs.Calendars.{parts_at}
-use Rattle.hz_reasons.specs.Holding.{last_of, age_of, held_by, IsHolder, AreHolders, older, entry_with, is_holder_of}
+use Rattle.hz_reasons.specs.Holding.{most, last_of, age_of, held_by, IsHolder, AreHolders, older, entry_with, is_holder_of}
 use Rattle.hz_reasons.specs.Plans as plans
 use Rattle.hz_reasons.specs.Plans.{place_of, in_automaton, choices_at, IsPlanOf}
 use Rattle.hz_reasons.specs.Taken.{is_held}
@@ -37,7 +37,7 @@ use Rattle.hz_reasons.proofs.TakenLaws.{held_alike}
 -- ---- entries from a cycle on
 
 module _ {U : Type 0} where
-  from-append : (n : ℕ) (xs ys : List (Entry U)) → entries_from n (xs ++ ys) ≡ entries_from n xs ++ entries_from n ys
+  pub from-append : (n : ℕ) (xs ys : List (Entry U)) → entries_from n (xs ++ ys) ≡ entries_from n xs ++ entries_from n ys
   from-append n xs ys =
       ap (map (entry_from n)) (filter-append (λ e. nat_le n e.pair.cycle) xs ys)
       ∙ map-append (entry_from n) (filter (λ e. nat_le n e.pair.cycle) xs) (filter (λ e. nat_le n e.pair.cycle) ys)
@@ -45,20 +45,20 @@ module _ {U : Type 0} where
   from_by : (n : ℕ) (e : Entry U) (es : List (Entry U)) (b : Bool) → nat_le n e.pair.cycle ≡ b → entries_from n (e ∷ es) ≡ map (entry_from n) (cond b (e ∷ filter (λ x. nat_le n x.pair.cycle) es) (filter (λ x. nat_le n x.pair.cycle) es))
   from_by n e es b h = ap (λ (c : Bool). map (entry_from n) (cond c (e ∷ filter (λ x. nat_le n x.pair.cycle) es) (filter (λ x. nat_le n x.pair.cycle) es))) h
 
-  from_low : (n : ℕ) (e : Entry U) (es : List (Entry U)) → n ≤ e.pair.cycle → entries_from n (e ∷ es) ≡ entry_from n e ∷ entries_from n es
+  pub from_low : (n : ℕ) (e : Entry U) (es : List (Entry U)) → n ≤ e.pair.cycle → entries_from n (e ∷ es) ≡ entry_from n e ∷ entries_from n es
   from_low n e es h = from_by n e es true (le-leb n e.pair.cycle h)
 
   from_high : (n : ℕ) (e : Entry U) (es : List (Entry U)) → e.pair.cycle < n → entries_from n (e ∷ es) ≡ entries_from n es
   from_high n e es h = from_by n e es false (lt-leb n e.pair.cycle h)
 
   -- a cycle that is counted anew
-  abbrev at_cycle : Entry U → ℕ → Entry U
+  abbrev pub at_cycle : Entry U → ℕ → Entry U
   at_cycle e c = record { pair = record { unit = e.pair.unit; cycle = c }; line = e.line; class = e.class }
 
   twice : (n m : ℕ) (e : Entry U) → entry_from n (entry_from m e) ≡ entry_from (n + m) e
   twice n m e = let time : e.pair.cycle - m - n ≡ e.pair.cycle - (n + m) = omega arith in ap (at_cycle e) time
 
-  from-from : (n m : ℕ) (es : List (Entry U)) → entries_from n (entries_from m es) ≡ entries_from (n + m) es
+  pub from-from : (n m : ℕ) (es : List (Entry U)) → entries_from n (entries_from m es) ≡ entries_from (n + m) es
   from-from n m [] = refl
   from-from n m (e ∷ es) = ⊎_elim
       (λ (high : e.pair.cycle < m). ap (entries_from n) (from_high m e es high) ∙ from-from n m es ∙ sym (from_high (n + m) e es (omega arith)))
@@ -72,7 +72,7 @@ module _ {U : Type 0} where
       (cases_lt (e.pair.cycle - m) n))
       (cases_lt e.pair.cycle m)
 
-  from_past : (n : ℕ) (es : List (Entry U)) → ((e : Entry U) → Contains es e → e.pair.cycle < n) → entries_from n es ≡ []
+  pub from_past : (n : ℕ) (es : List (Entry U)) → ((e : Entry U) → Contains es e → e.pair.cycle < n) → entries_from n es ≡ []
   from_past n [] h = refl
   from_past n (e ∷ es) h = from_high n e es (h e (Contains-head e es)) ∙ from_past n es (λ x is. h x (Contains-tail e x es is))
 
@@ -257,12 +257,12 @@ holders_at_start m lines issues none = subst (λ (hs : List Holder). AreHolders 
 
 -- ---- the last cycle of pairs
 
-within_last : (ps : List Place) (p : Place) → Contains ps p → p.cycle ≤ last_of ps
-within_last [] p h = absurd (Contains-nil p h)
-within_last (q ∷ ps) p h = ⊎_elim
-    (λ (e : q ≡ p). let same = ap (λ (x : Place). x.cycle) e in omega arith)
-    (λ there. let rest = within_last ps p there in omega arith)
-    (Contains-cons_cases q p ps h)
+pub within_most : {X : Type 0} (number : X → ℕ) (xs : List X) (x : X) → Contains xs x → number x ≤ most number xs
+within_most number [] x h = absurd (Contains-nil x h)
+within_most number (y ∷ xs) x h = ⊎_elim
+    (λ (e : y ≡ x). let same = ap number e in omega arith)
+    (λ there. let rest = within_most number xs x there in omega arith)
+    (Contains-cons_cases y x xs h)
 
 reached_from : (p : Place) (ps : List Place) → (q : Place) × Contains (p ∷ ps) q × (q.cycle ≡ last_of (p ∷ ps))
 reached_from p [] = (p, Contains-head p [], omega arith)
@@ -375,7 +375,7 @@ module _ (m : Pipeline UnitPlace) where
       sym (is_some-find (is_at u c) (held_by m h)) ∙ ap is_some (found_from (age_of h) u c all) ∙ is_some-map (entry_from (age_of h)) (find (is_at u (age_of h + c)) all)
       ∙ is_some-find (is_at u (age_of h + c)) all ∙ any_entries h.line h.class u (age_of h + c) (chosen m h.class h.number)
 
-  within_alternatives : (all : List (Alternative UnitPlace)) (i : ℕ) (p : Pair UnitPlace) → Contains (pairs_at (slice_get all i)) p → i < length all
+  pub within_alternatives : (all : List (Alternative UnitPlace)) (i : ℕ) (p : Pair UnitPlace) → Contains (pairs_at (slice_get all i)) p → i < length all
   within_alternatives all i p h = ⊎_elim
       (λ (low : i < length all). low)
       (λ (high : length all ≤ i). absurd (Contains-nil p (subst (λ (o : Option (Alternative UnitPlace)). Contains (pairs_at o) p) (slice_get_past all i high) h)))
@@ -435,7 +435,7 @@ module _ (m : Pipeline UnitPlace) where
 
     -- ---- the last cycle of an alternative
 
-    listed_pair : (k i : ℕ) → i < length (choices_at plan k) → (p : Pair UnitPlace) → Contains (chosen m k i) p → (q : Place) × Contains (plans.pairs_at (choices_at plan k) i) q × (place_of q ≡ p)
+    pub listed_pair : (k i : ℕ) → i < length (choices_at plan k) → (p : Pair UnitPlace) → Contains (chosen m k i) p → (q : Place) × Contains (plans.pairs_at (choices_at plan k) i) q × (place_of q ≡ p)
     listed_pair k i lt p h = Contains-from_map place_of (plans.pairs_at (choices_at plan k) i) p
         (subst (λ (ps : List (Pair UnitPlace)). Contains ps p) (sym (is.listed k i lt)) ((same_ascending (chosen m k i) p).1 h))
 
@@ -448,7 +448,7 @@ module _ (m : Pipeline UnitPlace) where
       order = omega arith;
       within = λ p h.
           let (q, there, e) = listed_pair k i lt p h in
-          let within = within_last pairs q (subst (λ (qs : List Place). Contains qs q) same there) in
+          let within = within_most (λ (r : Place). r.cycle) pairs q (subst (λ (qs : List Place). Contains qs q) same there) in
           subst (λ (r : Pair UnitPlace). r.cycle ≤ last) e (omega arith);
       reached =
           let (q, there, e) = reached_last pairs some in

@@ -1,6 +1,6 @@
 -- What fits in each automaton fits the pipeline, and what is done to grids is done to what stands reserved.
-use Rattle.std.proofs.Common.{◌≡◌, ℕ, zero, suc, ◌+◌, ◌<◌, inl, inr, ⊎_elim, List, [], ◌++◌, length, replicate, Contains, Option, Some, None, Result, Ok, Err, refl, sym, subst, arith}
-use Rattle.std.specs.Prelude.{◌↔◌, OnOk, IfOk, IfSome}
+use Rattle.std.proofs.Common.{◌≡◌, ℕ, zero, suc, ◌+◌, ◌<◌, inl, inr, ⊎_elim, List, [], ◌++◌, length, replicate, Contains, Option, Some, None, refl, sym, subst, arith}
+use Rattle.std.specs.Prelude.{◌↔◌}
 use Rattle.std.proofs.lemmas.List.{append-nil}
 use Rattle.std.proofs.lemmas.List.Elements.{Contains-append_left, Contains-append_right, Contains-append_cases}
 use Rattle.hz_base_model.specs.Pairs.{Pair, SamePairs, later, placed}
@@ -14,8 +14,8 @@ use Rattle.hz_pipeline_model.specs.Pipelines.Factored.{state_in}
 use Rattle.hz_pipeline_model.proofs.Accepting.FittingLaws.{allows_unadded, fits_listed, future_fits, unbroken_added, unbroken_empty}
 use Rattle.hz_pipeline_model.proofs.Accepting.InsideFits.{IsSeen, seen_cut, fits_inside, allowed_outside, apart_outside}
 use Rattle.hz_grid.specs.Grids.{IsUnion}
-use Rattle.hz_reasons.specs.Calendars.{at, AllFit, AreUnbroken, IsFirstOf, AreApart, AreUnited, Takes, AreLaterBy, parts_at}
-use Rattle.hz_reasons.specs.Plans.{in_automaton, choices_at, part_at, statements_inside, IsPlanOf, Stands, behind_issue, Issues}
+use Rattle.hz_reasons.specs.Calendars.{at, AllFit, AreUnbroken, IsFirstOf, AreApart, AreUnited, AreLaterBy, parts_at}
+use Rattle.hz_reasons.specs.Plans.{in_automaton, choices_at, part_at, statements_inside, IsPlanOf, Stands, behind_issue}
 use Rattle.hz_reasons.specs.declared.plan.Choice.{Choice}
 use Rattle.hz_reasons.specs.declared.plan.Plan.{Plan}
 
@@ -209,38 +209,6 @@ stands_at_start m count = record {
 
 pub unbroken_at_start : (rules : List (List (Statement ℕ))) (count : ℕ) → AreUnbroken rules (replicate count [])
 unbroken_at_start rules count a low = subst (λ (g : List (Pair ℕ)). IsUnbroken (at rules a) g) (sym (empty_at count a)) (unbroken_empty (at rules a))
-
--- what is issued
-pub issued_none : (m : Pipeline UnitPlace) (plan : Plan) (grids : List (List (Pair ℕ))) (s : State UnitPlace) (k : ℕ) → length grids ≡ length plan.rules.items → IsPlanOf m plan → Stands m grids s → IsFirstOf plan.rules.items grids (choices_at plan k) None → Issues m s k None grids
-issued_none m plan grids s k each is stands none = (none_means m plan is grids each s stands k none, stands)
-
-pub issued_some : (m : Pipeline UnitPlace) (plan : Plan) (grids new : List (List (Pair ℕ))) (s : State UnitPlace) (k i : ℕ) → length grids ≡ length plan.rules.items → IsPlanOf m plan → Stands m grids s → IsFirstOf plan.rules.items grids (choices_at plan k) (Some i) → length new ≡ length grids → AreUnited grids (parts_at (choices_at plan k) i) new → Issues m s k (Some i) new
-issued_some m plan grids new s k i each is stands first length_new united =
-    let may = first_means m plan is grids each s stands k i first in
-    (may, stands_behind_issue m plan is grids each s stands k i new first.0 may.fits length_new united)
-
--- ---- what an issue takes, or none
-
-module _ (m : Pipeline UnitPlace) (plan : Plan) (grids new : List (List (Pair ℕ))) (s : State UnitPlace) (k : ℕ) (each : length grids ≡ length plan.rules.items) (is : IsPlanOf m plan) (stands : Stands m grids s) where
-  issued_by : (taken : Option ℕ) → length new ≡ length grids → IsFirstOf plan.rules.items grids (choices_at plan k) taken → Takes grids (choices_at plan k) new taken → Issues m s k taken new
-  issued_by None same first takes = subst (λ (gs : List (List (Pair ℕ))). Issues m s k None gs) (sym takes) (issued_none m plan grids s k each is stands first)
-  issued_by (Some i) same first takes = issued_some m plan grids new s k i each is stands first same takes
-
--- of an answer
-pub issued_result : {E : Type 0} (plan : Plan) (grids new : List (List (Pair ℕ))) (choices : List Choice) (k : ℕ) (result : Result (Option ℕ) E) → length grids ≡ length plan.rules.items → choices_at plan k ≡ choices
-    → OnOk result (length new ≡ length grids) → IfOk result (IsFirstOf plan.rules.items grids choices) → IfOk result (Takes grids choices new)
-    → IfOk result (λ taken. (m : Pipeline UnitPlace) (s : State UnitPlace) → IsPlanOf m plan → Stands m grids s → Issues m s k taken new)
-issued_result plan grids new choices k (Ok taken) each is same first takes = λ m s plan_of stands.
-    issued_by m plan grids new s k each plan_of stands taken same
-    (subst (λ (cs : List Choice). IsFirstOf plan.rules.items grids cs taken) (sym is) first)
-    (subst (λ (cs : List Choice). Takes grids cs new taken) (sym is) takes)
-issued_result plan grids new choices k (Err e) each is same first takes = tt
-
--- a number that is answered is that of an alternative
-pub issued_within : {E : Type 0} (plan : Plan) (asked : List (List (Statement ℕ))) (grids : List (List (Pair ℕ))) (choices : List Choice) (k : ℕ) (result : Result (Option ℕ) E) → choices_at plan k ≡ choices → IfOk result (IsFirstOf asked grids choices) → IfOk result (λ taken. IfSome taken (λ number. number < length (choices_at plan k)))
-issued_within plan asked grids choices k (Ok (Some i)) is first = subst (λ (cs : List Choice). i < length cs) (sym is) first.0
-issued_within plan asked grids choices k (Ok None) is first = tt
-issued_within plan asked grids choices k (Err e) is first = tt
 
 -- the first that fits, of the rules and alternatives that are read
 pub first_read : (plan : Plan) (k : ℕ) (rules : List (List (Statement ℕ))) (grids : List (List (Pair ℕ))) (choices : List Choice) (found : Option ℕ) → rules ≡ plan.rules.items → choices_at plan k ≡ choices → IsFirstOf rules grids choices found → IsFirstOf plan.rules.items grids (choices_at plan k) found

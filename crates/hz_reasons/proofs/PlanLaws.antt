@@ -19,7 +19,6 @@ use Rattle.hz_check.specs.Parts.{IsPartsOf}
 use Rattle.hz_check.specs.Parts.Assembly.{placed_statement}
 use Rattle.hz_check.specs.Shape.{automaton_of}
 use Rattle.hz_check.proofs.Built.PartSteps.{length-automata}
-use Rattle.hz_check_reservations.specs.Shape.{lists_of}
 use Rattle.hz_description_model.specs.Check.CheckedParts.{AutomatonParts, automaton_count, automaton_names, automata_from, automata_of, statements_in}
 use Rattle.hz_base_model.specs.Limits.{automaton_limit, unit_limit}
 use Rattle.hz_description_model.specs.Reading.Descriptions.{Description, ClassItem}
@@ -35,7 +34,7 @@ use Rattle.hz_pipeline_model.specs.Accepting.Replay.{Pipeline, alternatives_at, 
 use Rattle.hz_pipeline_model.specs.Accepting.Fitting.{AskTheSame}
 use Rattle.hz_unitsets.specs.SetRules.{statement_of as set_statement, statements_of, IsInRange}
 use Rattle.hz_pipeline_model.specs.Pipelines.Pipelines.{pipeline_with, class_of}
-use Rattle.hz_pipeline_model.proofs.Accepting.InsideFits.{IsSeen, seen_cut}
+use Rattle.hz_pipeline_model.proofs.Accepting.InsideFits.{seen_cut}
 use Rattle.hz_pipeline_model.proofs.Pipelines.JointLaws.{joint}
 use Rattle.hz_pipeline_model.proofs.Pipelines.SideBySide.{chosen_low}
 use Rattle.hz_reasons.specs.Calendars.{at, parts_of, parts_at}
@@ -238,10 +237,14 @@ few_automata d parts formed is =
     let few = (parts_kept d is.known formed is.sound).few in
     omega (arith, few, length-map parts.automata.items automaton_of, ap length is.automata)
 
+-- as many classes as lists
+pub many_classes : (n : ℕ) (classes : List (Vec Choice Global)) (lists : List (Vec Alt Global)) → classes_in classes ≡ in_classes n lists → length classes ≡ length lists
+many_classes n classes lists same = omega (arith, ap length same, length-map classes (λ (c : Vec Choice Global). map parts_in c.items), length-map lists (λ (l : Vec Alt Global). map (in_parts n) (alternatives l.items)))
+
 -- each alternative has a part for each automaton
 pub wide_of : (n : ℕ) (classes : List (Vec Choice Global)) (lists : List (Vec Alt Global)) → classes_in classes ≡ in_classes n lists → All (λ choices. All (λ choice. length choice.parts.items ≡ n) choices.items) classes
 wide_of n classes lists same k e low i f lower =
-    let low_lists : k < length lists = omega (arith, low, ap length same, length-map classes (λ (c : Vec Choice Global). map parts_in c.items), length-map lists (λ (l : Vec Alt Global). map (in_parts n) (alternatives l.items))) in
+    let low_lists : k < length lists = omega (arith, low, many_classes n classes lists same) in
     let list : Vec Alt Global = some_item lists k low_lists in
     let alts : List (Alternative UnitPlace) = alternatives (get_or lists k list).items in
     let items : List Choice = (get_or classes k e).items in

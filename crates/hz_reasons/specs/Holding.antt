@@ -1,6 +1,8 @@
 -- Which issues hold what stands reserved from the present cycle on.
 use Rattle.std.specs.Prelude.{◌&&◌, Bool, nat_le, ◌≡◌, ℕ, ◌+◌, ◌-◌, ◌≤◌, max, List, [], ◌∷◌, Contains}
 use Rattle.std.specs.List.{flat_map}
+use Rattle.std.specs.declared.alloc.Global.{Global}
+use Rattle.std.specs.declared.vec.Vec.{Vec}
 use Rattle.hz_base_model.specs.Pairs.{Pair}
 use Rattle.hz_description_model.specs.Reservations.Automata.{UnitPlace}
 use Rattle.hz_pipeline_model.specs.Accepting.Events.{Event, cycles_of}
@@ -11,6 +13,7 @@ use Rattle.hz_reasons.specs.Plans.{choices_at, unit_of}
 use Rattle.hz_reasons.specs.Taken.{is_held}
 use Rattle.hz_reasons.specs.declared.holders.Holder.{Holder}
 use Rattle.hz_reasons.specs.declared.plan.AutomatonUnit.{AutomatonUnit}
+use Rattle.hz_reasons.specs.declared.plan.Choice.{Choice}
 use Rattle.hz_reasons.specs.declared.plan.Place.{Place}
 use Rattle.hz_reasons.specs.declared.plan.Plan.{Plan}
 
@@ -22,6 +25,14 @@ most number (x ∷ xs) = max (number x) (most number xs)
 -- the last cycle of pairs; 0 if there is none
 abbrev pub last_of : List Place → ℕ
 last_of pairs = most (λ p. p.cycle) pairs
+
+-- the last cycle of alternatives; 0 if there is none
+abbrev pub last_of_choices : List Choice → ℕ
+last_of_choices choices = most (λ choice. last_of choice.pairs.items) choices
+
+-- the last cycle of the alternatives of classes; 0 if there is none
+abbrev pub last_of_classes : List (Vec Choice Global) → ℕ
+last_of_classes classes = most (λ choices. last_of_choices choices.items) classes
 
 -- how many cycles ago the issue was
 abbrev pub age_of : Holder → ℕ

@@ -6,9 +6,7 @@ pub mod Taken
 pub mod Breaking
 pub mod Holding
 pub mod Planning
-pub mod Drawing
 pub mod Frontiers
-pub mod Telling
-pub mod Showing
+pub mod Stepped
+pub mod Held
 pub mod Walking
-pub mod Answering

@@ -5,7 +5,7 @@ ghost use Rattle.hz_description_model.specs.Reservations.Automata.{UnitPlace};
 ghost use Rattle.hz_pipeline_model.specs.Accepting.Replay.{Pipeline, State, start};
 ghost use Rattle.hz_why_model.specs.Waits.{after};
 ghost use Rattle.hz_reasons.specs.Plans.{choices_at, IsWide, IsPlanOf, Stands, Issues};
-ghost use Rattle.hz_reasons.specs.Calendars.{at, AllFit, AreUnbroken, IsFirstOf, AreApart, AreUnited, Takes, IsLaterBy, AreLaterBy};
+ghost use Rattle.hz_reasons.specs.Calendars.{at, AllFit, AreUnbroken, IsFirstOf, AreUnited, Takes, IsLaterBy, AreLaterBy};
 
 use crate::plan::{Choice, Plan};
 use hz_grid::{Grid, NoMemory, Usage};
@@ -16,53 +16,6 @@ use std::alloc::Global;
 #[derive(Drop)]
 pub struct Calendar {
     pub grids: Vec<Grid>,
-}
-
-impl Calendar {
-    /// Nothing reserved. `NoMemory` where there was none.
-    pub fn start(alloc: Global, plan: &Plan) -> Result<Calendar, NoMemory>
-        ensures each { IfOk result (λ calendar. vec_len calendar.grids ≡ vec_len plan.now.rules) }
-        ensures unbroken { IfOk result (λ calendar. AreUnbroken plan.now.rules.items calendar.grids.items) }
-        ensures stands { IfOk result (λ calendar. (m : Pipeline UnitPlace) → Stands m calendar.grids.items start) }
-    {
-        Ok(Calendar {
-            grids: empty_grids(alloc, plan.rules.len())?,
-        })
-    }
-
-    /// An issue of a class: it takes the first of its alternatives that fits, whose number is answered; under `ndfa` it might take
-    /// another. Where none fits all stays as it was. Where memory ran out a part of the alternative may stand reserved, and the calendar
-    /// is of no use.
-    pub fn issue(
-        &mut self,
-        alloc: Global,
-        plan: &Plan,
-        class: u32,
-    ) -> Result<Option<usize>, NoMemory>
-        requires class { class < vec_len plan.now.classes }
-        requires each { vec_len self.old.grids ≡ vec_len plan.now.rules }
-        requires wide { IsWide plan.now }
-        requires unbroken { AreUnbroken plan.now.rules.items self.old.grids.items }
-        ensures each { OnOk result (vec_len self.new.grids ≡ vec_len plan.now.rules) }
-        ensures unbroken { OnOk result (AreUnbroken plan.now.rules.items self.new.grids.items) }
-        ensures within { IfOk result (λ taken. IfSome taken (λ number. number < length (choices_at plan.now class))) }
-        ensures issues { IfOk result (λ taken. (m : Pipeline UnitPlace) (s : State UnitPlace) → IsPlanOf m plan.now → Stands m self.old.grids.items s → Issues m s class taken self.new.grids.items) }
-    {
-        let choices = &plan.classes[class as usize];
-        take_first(alloc, &plan.rules, &mut self.grids, choices)
-    }
-
-    /// So many cycles. It takes no memory.
-    pub fn advance(&mut self, plan: &Plan, cycles: u32)
-        requires each { vec_len self.old.grids ≡ vec_len plan.now.rules }
-        requires unbroken { AreUnbroken plan.now.rules.items self.old.grids.items }
-        ensures each { vec_len self.new.grids ≡ vec_len plan.now.rules }
-        ensures unbroken { AreUnbroken plan.now.rules.items self.new.grids.items }
-        ensures stands { (m : Pipeline UnitPlace) (s : State UnitPlace) → Stands m self.old.grids.items s → Stands m self.new.grids.items (after cycles s) }
-    {
-        let _automata = plan.rules.len();
-        advance_grids(self.grids.as_mut_slice(), cycles);
-    }
 }
 
 /// Whether in each automaton the added pairs fit what stands reserved there. It takes no memory.
@@ -97,7 +50,7 @@ pub(crate) fn first_fitting(rules: &[Rules], grids: &[Grid], choices: &[Choice])
 
 /// Adds the parts of the first of the alternatives that fits, whose number is answered. Where none fits all stays as it was, and where
 /// memory ran out some parts are added.
-fn take_first(
+pub(crate) fn take_first(
     alloc: Global,
     rules: &[Rules],
     grids: &mut Vec<Grid>,
@@ -134,13 +87,11 @@ pub(crate) fn empty_grids(alloc: Global, automata: usize) -> Result<Vec<Grid>, N
 /// Adds the parts of an alternative, each in its automaton. Where memory ran out some of them are added.
 pub(crate) fn reserve(alloc: Global, grids: &mut Vec<Grid>, parts: &[Usage]) -> Result<(), NoMemory>
     requires parts { length parts.now ≡ vec_len grids.old }
-    requires apart { AreApart grids.old.items parts.now }
     ensures each { OnOk result (vec_len grids.new ≡ vec_len grids.old) }
     ensures united { OnOk result (AreUnited grids.old.items parts.now grids.new.items) }
 {
     for automaton in 0..parts.len() {
-        let with = grids[automaton].with(alloc, parts[automaton].grid())?;
-        grids[automaton] = with;
+        grids[automaton].join(alloc, parts[automaton].grid())?;
     }
     Ok(())
 }

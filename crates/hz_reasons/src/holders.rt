@@ -101,8 +101,8 @@ impl Holders {
     }
 }
 
-/// How many cycles there are up to the last in which one of the issues holds something.
-pub(crate) fn cycles_left(issues: &[Holder]) -> u32
+/// How many cycles there are up to the last in which one of the issues holds something. It takes no memory.
+pub fn cycles_left(issues: &[Holder]) -> u32
     ensures { result ≡ most (λ holder. holder.left + 1) issues.now }
 {
     let mut cycles = 0;
@@ -113,7 +113,7 @@ pub(crate) fn cycles_left(issues: &[Holder]) -> u32
 }
 
 /// The last cycle of the pairs; 0 if there is none.
-fn last_cycle(pairs: &[Place]) -> u16
+pub fn last_cycle(pairs: &[Place]) -> u16
     ensures { result ≡ last_of pairs.now }
 {
     let mut last = 0;
@@ -181,7 +181,7 @@ fn is_holder(plan: &Plan, holder: Holder, unit: AutomatonUnit, cycle: u16) -> bo
 }
 
 /// The first of the issues that holds the unit in a cycle, which is counted from the present one. It takes no memory.
-pub(crate) fn first_holder(
+pub fn first_holder(
     plan: &Plan,
     issues: &[Holder],
     unit: AutomatonUnit,

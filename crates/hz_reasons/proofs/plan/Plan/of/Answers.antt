@@ -1,13 +1,10 @@
-use Rattle.std.proofs.Common.{◌≡◌, ◌≤◌, ◌∙◌, All, length, map, sym, ap, subst, arith}
+use Rattle.std.proofs.Common.{◌≡◌, ◌∙◌, All, length, map, sym, ap, subst, arith}
 use Rattle.hz_altern.specs.Shapes.{alternatives}
-use Rattle.hz_check.specs.Parts.{IsPartsOf}
 use Rattle.hz_check.specs.Parts.Assembly.{placed_statement}
-use Rattle.hz_description_model.specs.Reading.Descriptions.{Description}
 use Rattle.hz_description_model.specs.Reservations.AlternativeLists.{IsCuttable}
 use Rattle.hz_unitsets.specs.SetRules.{IsInRange}
-use Rattle.hz_reasons.specs.Planning.{classes_in, in_classes, AreRulesUpTo}
-use Rattle.hz_reasons.specs.Plans.{statement_of}
-use Rattle.hz_reasons.proofs.PlanLaws.{plan_of, cuttable_lists, sets_in_range, few_automata, wide_of}
+use Rattle.hz_reasons.specs.Planning.{in_classes, AreRulesUpTo}
+use Rattle.hz_reasons.proofs.PlanLaws.{plan_of, cuttable_lists, sets_in_range, few_automata, many_classes, wide_of}
 use Rattle.hz_reasons.proofs.plan.Plan.of.Goals as goal
 
 pub rules-requires : goal.rules-requires
@@ -22,6 +19,14 @@ classes-requires-clause-few c =
 
 pub classes-requires-clause-cuttable : goal.classes-requires-clause-cuttable
 classes-requires-clause-cuttable c = subst (All (λ list. All IsCuttable (alternatives list.items))) (sym c.deref-3.ensures.value) (cuttable_lists c.requires.parts.0 c.args.parts.now c.requires.parts.2)
+
+pub returns-clause-rules : goal.returns-clause-rules
+returns-clause-rules c = omega (arith, c.args.parts.now.automata.ok.0, c.in_ok-rules.ensures.each, ap length c.deref-2.ensures.value, c.in_ok-rules.rules.ok.0)
+
+pub returns-clause-classes : goal.returns-clause-classes
+returns-clause-classes c =
+    let count = many_classes c.len.result c.in_ok-classes.classes.items c.deref-3.result.now c.in_ok-classes.ensures in
+    omega (arith, c.args.parts.now.lists.ok.0, count, ap length c.deref-3.ensures.value, c.in_ok-classes.classes.ok.0)
 
 pub returns-clause-wide : goal.returns-clause-wide
 returns-clause-wide c =

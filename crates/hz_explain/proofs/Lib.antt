@@ -1,0 +1,11 @@
+pub mod DrawLaws
+pub mod TellLaws
+pub mod WordLaws
+pub mod ShowLaws
+pub mod Joining
+pub mod TextLaws
+pub mod AnswerLaws
+pub mod WholeLaws
+pub mod NamingLaws
+pub mod RunLaws
+pub mod JudgeLaws

@@ -1,0 +1,21 @@
+use Rattle.std.proofs.Common.{ap, subst, sym, ◌∙◌, ◌++◌}
+use Rattle.hz_pipeline_model.specs.Accepting.Replay.{left_by}
+use Rattle.hz_why_model.specs.Answers.{wording_of}
+use Rattle.hz_why_model.specs.Explanations.{refusal_text}
+use Rattle.hz_mdread.specs.Shape.{description}
+use Rattle.hz_reasons.specs.Holding.{AreHolders}
+use Rattle.hz_explain.specs.Telling.{AreReasons}
+use Rattle.hz_explain.proofs.explaining.tell_refusal.Goals as goal
+
+pub returns : goal.returns
+returns c = λ m t lines choices is first stands are.
+    let k = c.args.class in
+    let here = subst (AreHolders m t lines choices) (sym c.deref.ensures.value) are in
+    let told = subst (AreReasons m (left_by m t choices) k) (sym c.deref-2.ensures.value) (c.in_ok-reasons.ensures m (left_by m t choices) is stands) in
+    record {
+      choices = choices;
+      first = first;
+      wait = c.wait-wait.result;
+      waits = c.wait-wait.ensures m (left_by m t choices) is stands;
+      is = c.in_ok-add_refusal.ensures m t lines choices is told here ∙ ap (λ xs. xs ++ refusal_text (wording_of (description c.args.desc.now)) m t lines choices k c.wait-wait.result) c.new-text.ensures.items;
+    }

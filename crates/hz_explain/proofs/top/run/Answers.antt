@@ -1,0 +1,49 @@
+use Rattle.std.proofs.Common.{◌≡◌, ◌<◌, ◌≤◌, ◌⊎◌, ℕ, ⊎_elim, sym, subst, ◌∙◌, arith}
+use Rattle.std.proofs.lemmas.Bool.{cases_lt}
+use Rattle.hz_why_model.specs.Answers.{WhyAnswer}
+use Rattle.hz_why_model.proofs.SingleLaws.{why_single}
+use Rattle.hz_tool.specs.Endings.{Completes}
+use Rattle.hz_tool_words.specs.Shape.{words_in}
+use Rattle.hz_explain.specs.Deciding.{IsFileWord}
+use Rattle.hz_explain.proofs.RunLaws.{says_file, may_write, status_exact, completes, no_file, fits_room}
+use Rattle.hz_explain.proofs.top.run.Goals as goal
+
+pub returns-in-Ok-clause-file_line : goal.returns-in-Ok-clause-file_line
+returns-in-Ok-clause-file_line g c = λ six. record {
+  text = _;
+  says = says_file (IsFileWord (words_in c.args.words.now)) c.decide-decision.result c.decide-decision.ensures.tells (sym c.status.ensures.value ∙ six) c.decide-decision.ensures.file;
+  appended = c.in-Ok.ensures.appended;
+}
+
+pub returns-clause-cut : goal.returns-clause-cut
+returns-clause-cut g c = λ held told seven. record {
+  text = _;
+  may = may_write (WhyAnswer (words_in c.args.words.now) held) (IsFileWord (words_in c.args.words.now)) _ _ (g.F.Files.steady c.args.files.now) c.decide-decision.result c.decide-decision.ensures.counts c.decide-decision.ensures.file (c.decide-decision.ensures.answer held told);
+  front = c.in-Err.ensures.front;
+  back = c.in-Err.ensures.back;
+  parts = c.in-Err.ensures.parts;
+  appended = c.in-Err.ensures.appended;
+  longer = c.in-Err.ensures.exceeded;
+}
+
+pub returns-in-Ok-clause-exact : goal.returns-in-Ok-clause-exact
+returns-in-Ok-clause-exact g c = λ held told same which status text a.
+    subst (λ (n : ℕ). (n ≡ status) ⊎ (n ≡ 5)) (sym c.status.ensures.value) (status_exact (WhyAnswer (words_in c.args.words.now) held) (λ s status t text one other. (why_single (words_in c.args.words.now) held s status t text one other).0) c.decide-decision.result (c.decide-decision.ensures.answer held told which) status text a)
+
+pub returns-in-Ok-clause-complete : goal.returns-in-Ok-clause-complete
+returns-in-Ok-clause-complete g c = λ held told same which.
+    subst (λ (n : ℕ). Completes (WhyAnswer (words_in c.args.words.now) held) n (g.S.Sink.written c.args.out.now) (g.S.Sink.written c.write.new.out)) (sym c.status.ensures.value)
+    (completes (WhyAnswer (words_in c.args.words.now) held) c.decide-decision.result _ _ (c.decide-decision.ensures.answer held told which) c.in-Ok.ensures.appended)
+
+pub returns-clause-neither : goal.returns-clause-neither
+returns-clause-neither g c = λ held told steady all room there has.
+    let fits = fits_room (WhyAnswer (words_in c.args.words.now) held) (IsFileWord (words_in c.args.words.now)) held room _ _ (g.F.Files.steady c.args.files.now) c.decide-decision.result steady all has c.decide-decision.ensures.counts c.decide-decision.ensures.file (c.decide-decision.ensures.lacks held told steady) (c.decide-decision.ensures.answer held told) in
+    absurd (omega (arith, fits, c.in-Err.ensures.exceeded room there))
+
+pub returns-in-Ok-clause-neither : goal.returns-in-Ok-clause-neither
+returns-in-Ok-clause-neither g c = λ held told steady all room there has.
+    let not_six = no_file (IsFileWord (words_in c.args.words.now)) held c.decide-decision.result c.decide-decision.ensures.tells all c.decide-decision.ensures.file (c.decide-decision.ensures.lacks held told steady) in
+    let low = c.status.ensures.range in
+    ⊎_elim (λ (few : c.status.result < 6). omega (arith, few))
+    (λ (most : 6 ≤ c.status.result). let six : c.status.result ≡ 6 = omega (arith, low, most) in absurd (not_six (sym c.status.ensures.value ∙ six)))
+    (cases_lt c.status.result 6)

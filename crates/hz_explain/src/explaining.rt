@@ -1,0 +1,106 @@
+//! Why an issue is refused, and what accepted events leave, as texts.
+
+ghost use Rattle.std.specs.Prelude.{◌≡◌, ◌<◌, ◌++◌, ℕ, List, IfOk, OnOk, vec_len};
+ghost use Rattle.hz_check.specs.Parts.{IsPartsOf};
+ghost use Rattle.hz_description_model.specs.Reservations.Automata.{UnitPlace};
+ghost use Rattle.hz_mdread.specs.Shape.{description};
+ghost use Rattle.hz_pipeline_model.specs.Accepting.Events.{Event};
+ghost use Rattle.hz_pipeline_model.specs.Accepting.Replay.{Pipeline, left_by};
+ghost use Rattle.hz_why_model.specs.Answers.{wording_of};
+ghost use Rattle.hz_why_model.specs.Choices.{IsFirstChoice};
+ghost use Rattle.hz_why_model.specs.Explanations.{left_text, refusal_text, TellsRefusal};
+ghost use Rattle.hz_reasons.specs.Calendars.{AreUnbroken};
+ghost use Rattle.hz_reasons.specs.Holding.{AreHolders};
+ghost use Rattle.hz_reasons.specs.Plans.{IsPlanOf, IsWide, Stands};
+ghost use Rattle.hz_explain.specs.Telling.{AreReasons};
+
+use crate::picture::add_shown;
+use crate::telling::{add_alternatives, add_choice, add_wait, reasons};
+use hz_check::Parts;
+use hz_grid::NoMemory;
+use hz_mdread::Description;
+use hz_reasons::{Calendar, Holder, Holders, Plan, Reason};
+use std::alloc::Global;
+
+/// Adds why an issue of the class is refused behind the events whose issues hold this: when it fits, what forbids each of its
+/// alternatives, and a picture of what stands reserved.
+fn add_refusal(
+    alloc: Global,
+    text: &mut Vec<u8>,
+    desc: &Description,
+    parts: &Parts,
+    plan: &Plan,
+    issues: &[Holder],
+    reasons: &[Option<Reason>],
+    class: u32,
+    wait: Option<u32>,
+) -> Result<(), NoMemory>
+    requires parts { IsPartsOf (description desc.now) parts.now }
+    requires class { class < vec_len plan.now.classes }
+    ensures { OnOk result ((m : Pipeline UnitPlace) (t : List Event) (lines choices : List ℕ) → IsPlanOf m plan.now → AreReasons m (left_by m t choices) class reasons.now → AreHolders m t lines choices issues.now → text.new.items ≡ text.old.items ++ refusal_text (wording_of (description desc.now)) m t lines choices class wait) }
+{
+    add_choice(text, plan.any_fit)?;
+    add_wait(text, wait)?;
+    add_alternatives(text, desc, parts, plan, issues, reasons)?;
+    add_shown(
+        alloc,
+        text,
+        parts,
+        plan,
+        issues,
+        &plan.classes[class as usize],
+    )?;
+    Ok(())
+}
+
+/// Why an issue of the class is refused behind the events whose issues hold this, and which leave this reserved: when it fits, what
+/// forbids each of its alternatives, and a picture of what stands reserved. `NoMemory` where there was none.
+pub fn tell_refusal(
+    alloc: Global,
+    desc: &Description,
+    parts: &Parts,
+    plan: &Plan,
+    calendar: Calendar,
+    holders: &Holders,
+    class: u32,
+) -> Result<Vec<u8>, NoMemory>
+    requires parts { IsPartsOf (description desc.now) parts.now }
+    requires class { class < vec_len plan.now.classes }
+    requires each { vec_len calendar.grids ≡ vec_len plan.now.rules }
+    requires wide { IsWide plan.now }
+    requires unbroken { AreUnbroken plan.now.rules.items calendar.grids.items }
+    ensures { IfOk result (λ text. (m : Pipeline UnitPlace) (t : List Event) (lines choices : List ℕ) → IsPlanOf m plan.now → IsFirstChoice m t choices → Stands m calendar.grids.items (left_by m t choices) → AreHolders m t lines choices holders.now.issues.items → TellsRefusal (wording_of (description desc.now)) m t lines class text.items) }
+{
+    let reasons = reasons(alloc, &calendar, plan, class)?;
+    let wait = calendar.wait(plan, class);
+    let mut text = Vec::new(alloc);
+    add_refusal(
+        alloc,
+        &mut text,
+        desc,
+        parts,
+        plan,
+        &holders.issues,
+        &reasons,
+        class,
+        wait,
+    )?;
+    Ok(text)
+}
+
+/// What is left behind accepted events whose issues hold this: a picture of what stands reserved. `NoMemory` where there was none.
+pub fn tell_left(
+    alloc: Global,
+    desc: &Description,
+    parts: &Parts,
+    plan: &Plan,
+    holders: &Holders,
+) -> Result<Vec<u8>, NoMemory>
+    requires parts { IsPartsOf (description desc.now) parts.now }
+    ensures { IfOk result (λ text. (m : Pipeline UnitPlace) (t : List Event) (lines choices : List ℕ) → IsPlanOf m plan.now → AreHolders m t lines choices holders.now.issues.items → text.items ≡ left_text (wording_of (description desc.now)) m t lines choices) }
+{
+    let mut text = Vec::new(alloc);
+    add_choice(&mut text, plan.any_fit)?;
+    add_shown(alloc, &mut text, parts, plan, &holders.issues, &[])?;
+    Ok(text)
+}

@@ -1,0 +1,22 @@
+//! What is told of a trace: what `replay` answers of it, and behind it why an issue is refused or what is left, with pictures of what
+//! stands reserved.
+#![tactic(auto)]
+
+mod answering;
+mod decision;
+mod drawing;
+mod explaining;
+mod judging;
+mod naming;
+mod picture;
+mod telling;
+mod top;
+mod whole;
+mod words;
+
+pub use answering::{answer_replay, status};
+pub use explaining::{tell_left, tell_refusal};
+pub use hz_grid::NoMemory;
+pub use naming::trace_names;
+pub use top::run;
+pub use whole::{Explained, explain};

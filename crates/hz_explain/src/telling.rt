@@ -1,0 +1,383 @@
+//! The lines that tell why an issue is refused.
+
+ghost use Rattle.std.specs.Prelude.{◌≡◌, ◌<◌, ◌++◌, Some, false, OnOk, IfOk, decimal, length, vec_len};
+ghost use Rattle.hz_description_model.specs.Reservations.Automata.{UnitPlace};
+ghost use Rattle.hz_mdread.specs.Shape.{set_kind};
+ghost use Rattle.hz_pipeline_model.specs.Accepting.Replay.{Pipeline, State};
+ghost use Rattle.hz_why_model.specs.Answers.{set_word};
+ghost use Rattle.hz_why_model.specs.Explanations.{wait_line};
+ghost use Rattle.hz_reasons.specs.Plans.{unit_of, IsPlanOf, Stands};
+ghost use Rattle.hz_explain.specs.Telling as told;
+ghost use Rattle.hz_explain.specs.Telling.{AreReasons, wording_in, holder_in, pattern_in, pattern_numbered, pair_told, holder_told, units_told, pattern_told, broken_told, reason_told, alternative_told, alternatives_told, choice_told, later_told};
+ghost use Rattle.hz_reasons.specs.declared.reasons.Reason.TheVariants.{Taken};
+
+use crate::drawing::{add, add_number};
+use hz_check::Parts;
+use hz_grid::NoMemory;
+use hz_mdread::{Description, SetForm};
+use hz_reasons::{
+    AutomatonUnit, Break, Calendar, Holder, Place, Plan, Reason, SetStatement, first_holder,
+};
+use itoa::Buffer;
+use std::alloc::Global;
+
+/// The name of a unit; an empty one where there is no such unit. It takes no memory.
+pub(crate) fn unit_name(parts: &Parts, unit: AutomatonUnit) -> &[u8]
+    ensures { result.now ≡ told.unit_name parts.now (unit_of unit) }
+{
+    match parts.automata.get(usize::from(unit.automaton)) {
+        Some(automaton) => match automaton.units.get(usize::from(unit.unit)) {
+            Some(name) => name.bytes(),
+            None => &[],
+        },
+        None => &[],
+    }
+}
+
+/// The name of a class; an empty one where there is no such class. It takes no memory.
+pub(crate) fn class_name(desc: &Description, class: u32) -> &[u8]
+    ensures { result.now ≡ told.class_name desc.now class }
+{
+    match desc.classes.get(class as usize) {
+        Some(item) => item.name.bytes(),
+        None => &[],
+    }
+}
+
+/// The line of a set statement; 0 where there is no such statement. It takes no memory.
+fn statement_line(desc: &Description, statement: usize) -> u32
+    ensures { result ≡ told.statement_line desc.now statement }
+{
+    match desc.sets.get(statement) {
+        Some(item) => item.line,
+        None => 0,
+    }
+}
+
+/// Adds the word of a form.
+fn add_form(text: &mut Vec<u8>, form: SetForm) -> Result<(), NoMemory>
+    ensures { OnOk result (text.new.items ≡ text.old.items ++ set_word (set_kind form)) }
+{
+    match form {
+        SetForm::Exclusion => add(text, b"exclusion_set"),
+        SetForm::Presence => add(text, b"presence_set"),
+        SetForm::FinalPresence => add(text, b"final_presence_set"),
+        SetForm::Absence => add(text, b"absence_set"),
+        SetForm::FinalAbsence => add(text, b"final_absence_set"),
+    }
+}
+
+/// Adds the word of a set statement; nothing where there is no such statement.
+fn add_statement(text: &mut Vec<u8>, desc: &Description, statement: usize) -> Result<(), NoMemory>
+    ensures { OnOk result (text.new.items ≡ text.old.items ++ told.statement_word desc.now statement) }
+{
+    match desc.sets.get(statement) {
+        Some(item) => add_form(text, item.kind),
+        None => Ok(()),
+    }
+}
+
+/// Adds a count.
+fn add_count(text: &mut Vec<u8>, count: usize) -> Result<(), NoMemory>
+    ensures { OnOk result (text.new.items ≡ text.old.items ++ decimal count) }
+{
+    add(text, Buffer::new().format(count).as_bytes())
+}
+
+/// Which issue holds the unit in a cycle, which is counted from the present one; None if it is free. It takes no memory.
+pub(crate) fn holder(
+    plan: &Plan,
+    issues: &[Holder],
+    unit: AutomatonUnit,
+    cycle: u16,
+) -> Option<Holder>
+    ensures { result ≡ holder_in plan.now issues.now (unit_of unit) cycle }
+{
+    if usize::from(unit.automaton) < plan.rules.len() {
+        return first_holder(plan, issues, unit, cycle);
+    }
+    None
+}
+
+/// The pattern of this number; an empty one where there is none. It takes no memory.
+fn numbered(patterns: &[Vec<AutomatonUnit>], number: Option<usize>) -> &[AutomatonUnit]
+    ensures { result.now ≡ pattern_numbered patterns.now number }
+{
+    match number {
+        Some(number) => match patterns.get(number) {
+            Some(pattern) => pattern,
+            None => &[],
+        },
+        None => &[],
+    }
+}
+
+/// The pattern by which a statement is broken; an empty one where a pattern is missed. It takes no memory.
+fn pattern(sets: &[SetStatement], broken: Break) -> &[AutomatonUnit]
+    ensures { result.now ≡ pattern_in sets.now broken }
+{
+    match sets.get(broken.statement) {
+        Some(set) => numbered(&set.patterns, broken.pattern),
+        None => numbered(&[], broken.pattern),
+    }
+}
+
+/// Adds a unit in a cycle.
+fn add_pair(
+    text: &mut Vec<u8>,
+    desc: &Description,
+    parts: &Parts,
+    unit: AutomatonUnit,
+    cycle: u16,
+) -> Result<(), NoMemory>
+    ensures { OnOk result (text.new.items ≡ text.old.items ++ pair_told (wording_in desc.now parts.now) unit cycle) }
+{
+    add(text, unit_name(parts, unit))?;
+    add(text, b" in cycle ")?;
+    add_number(text, u32::from(cycle))
+}
+
+/// Adds the name of a class.
+fn add_class(text: &mut Vec<u8>, desc: &Description, class: u32) -> Result<(), NoMemory>
+    ensures { OnOk result (text.new.items ≡ text.old.items ++ told.class_name desc.now class) }
+{
+    add(text, class_name(desc, class))
+}
+
+/// Adds which issue holds something.
+fn add_since(
+    text: &mut Vec<u8>,
+    desc: &Description,
+    parts: &Parts,
+    holder: Holder,
+) -> Result<(), NoMemory>
+    ensures { OnOk result (text.new.items ≡ text.old.items ++ holder_told (wording_in desc.now parts.now) (Some holder)) }
+{
+    add(text, b" is held since line ")?;
+    add_number(text, holder.line)?;
+    add(text, b", ")?;
+    add_class(text, desc, holder.class)?;
+    Ok(())
+}
+
+/// Adds which issue holds something, if one does.
+fn add_holder(
+    text: &mut Vec<u8>,
+    desc: &Description,
+    parts: &Parts,
+    holder: Option<Holder>,
+) -> Result<(), NoMemory>
+    ensures { OnOk result (text.new.items ≡ text.old.items ++ holder_told (wording_in desc.now parts.now) holder) }
+{
+    match holder {
+        Some(holder) => add_since(text, desc, parts, holder),
+        None => Ok(()),
+    }
+}
+
+/// Adds units, each after a blank.
+fn add_units(
+    text: &mut Vec<u8>,
+    desc: &Description,
+    parts: &Parts,
+    units: &[AutomatonUnit],
+) -> Result<(), NoMemory>
+    ensures { OnOk result (text.new.items ≡ text.old.items ++ units_told (wording_in desc.now parts.now) units.now) }
+{
+    for unit in units {
+        add(text, b" ")?;
+        add(text, unit_name(parts, *unit))?;
+    }
+    Ok(())
+}
+
+/// Adds the pattern by which a statement is broken.
+fn add_pattern(
+    text: &mut Vec<u8>,
+    desc: &Description,
+    parts: &Parts,
+    pattern: &[AutomatonUnit],
+) -> Result<(), NoMemory>
+    ensures { OnOk result (text.new.items ≡ text.old.items ++ pattern_told (wording_in desc.now parts.now) pattern.now) }
+{
+    if pattern.is_empty() {
+        return add(text, b" without a pattern");
+    }
+    add(text, b" with")?;
+    add_units(text, desc, parts, pattern)
+}
+
+/// Adds a pair that stands reserved, and who holds it.
+fn add_taken(
+    text: &mut Vec<u8>,
+    desc: &Description,
+    parts: &Parts,
+    plan: &Plan,
+    issues: &[Holder],
+    pair: Place,
+) -> Result<(), NoMemory>
+    ensures { OnOk result (text.new.items ≡ text.old.items ++ reason_told (wording_in desc.now parts.now) plan.now issues.now (Taken pair)) }
+{
+    let unit = AutomatonUnit {
+        automaton: pair.automaton,
+        unit: pair.unit,
+    };
+    add_pair(text, desc, parts, unit, pair.cycle)?;
+    add_holder(text, desc, parts, holder(plan, issues, unit, pair.cycle))
+}
+
+/// Adds a set statement that is broken.
+fn add_broken(
+    text: &mut Vec<u8>,
+    desc: &Description,
+    parts: &Parts,
+    plan: &Plan,
+    broken: Break,
+) -> Result<(), NoMemory>
+    ensures { OnOk result (text.new.items ≡ text.old.items ++ broken_told (wording_in desc.now parts.now) plan.now broken) }
+{
+    add_statement(text, desc, broken.statement)?;
+    add(text, b" line ")?;
+    add_number(text, statement_line(desc, broken.statement))?;
+    add(text, b", ")?;
+    add_pair(text, desc, parts, broken.unit, broken.cycle)?;
+    add_pattern(text, desc, parts, pattern(&plan.sets, broken))
+}
+
+/// Adds what forbids an alternative.
+fn add_reason(
+    text: &mut Vec<u8>,
+    desc: &Description,
+    parts: &Parts,
+    plan: &Plan,
+    issues: &[Holder],
+    reason: Reason,
+) -> Result<(), NoMemory>
+    ensures { OnOk result (text.new.items ≡ text.old.items ++ reason_told (wording_in desc.now parts.now) plan.now issues.now reason) }
+{
+    match reason {
+        Reason::Taken(pair) => add_taken(text, desc, parts, plan, issues, pair),
+        Reason::Broken(broken) => add_broken(text, desc, parts, plan, broken),
+    }
+}
+
+/// Adds the line of the alternative of this number.
+fn add_line(
+    text: &mut Vec<u8>,
+    desc: &Description,
+    parts: &Parts,
+    plan: &Plan,
+    issues: &[Holder],
+    number: usize,
+    reason: Reason,
+) -> Result<(), NoMemory>
+    ensures { OnOk result (text.new.items ≡ text.old.items ++ alternative_told (wording_in desc.now parts.now) plan.now issues.now number (Some reason)) }
+{
+    add(text, b"alternative ")?;
+    add_count(text, number)?;
+    add(text, b": ")?;
+    add_reason(text, desc, parts, plan, issues, reason)?;
+    add(text, b"\n")
+}
+
+/// Adds the line of the alternative of this number; none if nothing forbids it.
+fn add_alternative(
+    text: &mut Vec<u8>,
+    desc: &Description,
+    parts: &Parts,
+    plan: &Plan,
+    issues: &[Holder],
+    number: usize,
+    reason: Option<Reason>,
+) -> Result<(), NoMemory>
+    ensures { OnOk result (text.new.items ≡ text.old.items ++ alternative_told (wording_in desc.now parts.now) plan.now issues.now number reason) }
+{
+    match reason {
+        Some(reason) => add_line(text, desc, parts, plan, issues, number, reason),
+        None => Ok(()),
+    }
+}
+
+/// Adds the lines of alternatives, which begin with number 1.
+pub(crate) fn add_alternatives(
+    text: &mut Vec<u8>,
+    desc: &Description,
+    parts: &Parts,
+    plan: &Plan,
+    issues: &[Holder],
+    reasons: &[Option<Reason>],
+) -> Result<(), NoMemory>
+    ensures { OnOk result (text.new.items ≡ text.old.items ++ alternatives_told (wording_in desc.now parts.now) plan.now issues.now 1 reasons.now) }
+{
+    for place in 0..reasons.len() {
+        let reason = reasons[place];
+        add_alternative(text, desc, parts, plan, issues, place + 1, reason)?;
+    }
+    Ok(())
+}
+
+/// What forbids each alternative of a class, in their order.
+pub(crate) fn reasons(
+    alloc: Global,
+    calendar: &Calendar,
+    plan: &Plan,
+    class: u32,
+) -> Result<Vec<Option<Reason>>, NoMemory>
+    requires class { class < vec_len plan.now.classes }
+    requires each { vec_len calendar.now.grids ≡ vec_len plan.now.rules }
+    ensures { IfOk result (λ reasons. (m : Pipeline UnitPlace) (s : State UnitPlace) → IsPlanOf m plan.now → Stands m calendar.now.grids.items s → AreReasons m s class reasons.items) }
+{
+    let count = plan.classes[class as usize].len();
+    let mut reasons = Vec::with_capacity(alloc, count)?;
+    for number in 0..count {
+        reasons.push(calendar.reason(plan, class, number))?;
+    }
+    Ok(reasons)
+}
+
+/// Adds that the issues go by one of the choices, where they may take any alternative that fits.
+pub(crate) fn add_choice(text: &mut Vec<u8>, any_fit: bool) -> Result<(), NoMemory>
+    ensures { OnOk result (text.new.items ≡ text.old.items ++ choice_told any_fit) }
+{
+    if any_fit {
+        return add(text, b"by one of the choices\n");
+    }
+    Ok(())
+}
+
+/// Adds that a class fits so many cycles later.
+fn add_many(text: &mut Vec<u8>, cycles: u32) -> Result<(), NoMemory>
+    ensures { OnOk result (text.new.items ≡ text.old.items ++ later_told cycles false) }
+{
+    add(text, b"fits ")?;
+    add_number(text, cycles)?;
+    add(text, b" cycles later\n")?;
+    Ok(())
+}
+
+/// Adds after how many cycles a class fits, and it is told whether this is one.
+fn add_later(text: &mut Vec<u8>, cycles: u32, one: bool) -> Result<(), NoMemory>
+    ensures { OnOk result (text.new.items ≡ text.old.items ++ later_told cycles one) }
+{
+    if one {
+        return add(text, b"fits 1 cycle later\n");
+    }
+    add_many(text, cycles)
+}
+
+/// Adds after how many cycles a class fits.
+fn add_cycles_later(text: &mut Vec<u8>, cycles: u32) -> Result<(), NoMemory>
+    ensures { OnOk result (text.new.items ≡ text.old.items ++ wait_line (Some cycles)) }
+{
+    add_later(text, cycles, cycles == 1)
+}
+
+/// Adds when a class fits; None if it never does.
+pub(crate) fn add_wait(text: &mut Vec<u8>, wait: Option<u32>) -> Result<(), NoMemory>
+    ensures { OnOk result (text.new.items ≡ text.old.items ++ wait_line wait) }
+{
+    match wait {
+        Some(cycles) => add_cycles_later(text, cycles),
+        None => add(text, b"never fits\n"),
+    }
+}

@@ -1,7 +1,0 @@
-use Rattle.std.proofs.Common.{◌≡◌, take}
-use Rattle.hz_pipeline_model.specs.Accepting.Events.{cycles_of}
-use Rattle.hz_replay.specs.Traces.{events_in}
-use Rattle.hz_reasons.proofs.answering.count_cycles.Given as goal
-
-abbrev pub invariant-loop-event : goal.invariant-loop-event
-invariant-loop-event l = l.cycles ≡ cycles_of (events_in (take l.event-index l.events))
