@@ -9,7 +9,7 @@ ghost use Rattle.hz_check.specs.declared.fault.CheckFault.TheVariants.{NoMemory 
 
 use hz_regexp::Name;
 use std::alloc::{AllocError, AllocFailed};
-use std::fmt::{self, Display, Formatter, Write};
+use std::fmt::{self, Debug, Display, Formatter, Write};
 use thiserror::Error;
 
 /// What a limit of a description counts. This profile, docs/RULES.md, 'Limits'.
@@ -48,7 +48,7 @@ impl LimitName {
 /// What is wrong with a description: the line of the form, counted from 1, and the name that is wrong there. Of several
 /// faults the first of this list is told, and of one fault the first form and in it the leftmost name. Of limits the first
 /// of `LimitName` is told before an earlier form, and for `Size` the first in the counting order.
-#[derive(Debug, Drop, Error)]
+#[derive(Drop, Error)]
 pub enum CheckFault {
     /// The name is defined the second time in its name space, or the value in its attribute.
     TwiceDefined {
@@ -208,6 +208,16 @@ impl Display for CheckFault {
         match self.told() {
             Some((_, line)) => write!(f, "line {line}: {words}"),
             None => write!(f, "{words}"),
+        }
+    }
+}
+
+// Derived, it takes 18 seconds to prove.
+impl Debug for CheckFault {
+    fn fmt<W: Write>(&self, f: &mut Formatter<W>) -> fmt::Result {
+        match self.told() {
+            Some((word, line)) => write!(f, "{word} {{ line: {line}, .. }}"),
+            None => write!(f, "NoMemory"),
         }
     }
 }

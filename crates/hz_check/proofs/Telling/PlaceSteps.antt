@@ -1,9 +1,10 @@
 -- The places of units, unit by unit.
 use Rattle.std.proofs.Common.{◌≡◌, ◌≢◌, ℕ, suc, ◌<◌, ◌≤◌, ◌+◌, ◌==◌, nat_lt, List, [], ◌∷◌, ◌++◌, map, length, take, drop, get_or, get_or-set_same, get_or-set_other, Option, Some, None, Bool, true, false, All, refl, sym, ap, ◌∙◌, subst, arith, cond, ⊎_elim, append_assoc, unwrap_or, lit<}
-use Rattle.std.proofs.Math.ListN.{set}
+use Rattle.std.proofs.Math.ListN.{set, length-set}
 use Rattle.std.proofs.lemmas.Bool.{cases_eq, cases_lt, lt-ltb, le-ltb}
 use Rattle.std.proofs.lemmas.Bool.Decides.{nat_tests}
 use Rattle.std.proofs.lemmas.List.{take_more, map-append, length-map}
+use Rattle.std.proofs.lemmas.List.Elements.{All-push}
 use Rattle.std.proofs.lemmas.List.Quantifiers.{position-Some}
 use Rattle.std.proofs.lemmas.List.Sums.{sum_by-append}
 use Rattle.std.specs.List.{AllPairs, drop-map}
@@ -14,6 +15,7 @@ use Rattle.hz_mdread.specs.declared.items.UnitItem.{UnitItem as StoredUnit}
 use Rattle.hz_mdread.specs.Shape.{unit_item}
 use Rattle.hz_check_reservations.specs.declared.listing.unit_place.UnitPlace.{UnitPlace as Place}
 use Rattle.hz_check_reservations.specs.Shape.{place_of}
+use Rattle.hz_check.specs.Faults.PastUnits.{IsWithin}
 use Rattle.hz_check.proofs.Lists.Earliest.{earlier-earlier}
 use Rattle.hz_check.proofs.Lists.InOrder.{AllPairs-drop, earlier_one}
 use Rattle.hz_check.proofs.Lists.Next.{drop_next}
@@ -21,7 +23,7 @@ use Rattle.hz_base_model.proofs.Ascending.{AllPairs-head}
 use Rattle.hz_description_model.specs.Reservations.Automata.{UnitPlace}
 use Rattle.hz_description_model.specs.Check.CheckFaults.{past_units}
 use Rattle.hz_description_model.specs.Reading.Descriptions.{Description, UnitItem}
-use Rattle.hz_description_model.specs.Check.Places.{automaton_number, automaton_numbers, place_behind, places_behind}
+use Rattle.hz_description_model.specs.Check.Places.{automaton_number, automaton_numbers, place_behind, places_behind, unit_places}
 use Rattle.hz_description_model.specs.Check.Sites.{Site, earlier, earliest}
 use Rattle.hz_base_model.specs.Lines.{place_of as place_in}
 
@@ -131,3 +133,25 @@ module _ (d : Description) (items : List StoredUnit) (i : ℕ) (item : StoredUni
         ∙ earlier_units here (map unit_item (drop (i + 1) items)) (places_behind d (map unit_item (take (i + 1) items)) (map unit_item (drop (i + 1) items)))
         (AllPairs-head (λ u v. u.form ≤ v.form) (unit_item item) (map unit_item (drop (i + 1) items))
         (subst (λ (us : List UnitItem). AllPairs (λ u v. u.form ≤ v.form) us) (drop-map unit_item i items ∙ ap (map unit_item) (drop_next items i item is lt)) (AllPairs-drop (λ u v. u.form ≤ v.form) i (map unit_item items) ordered)))
+
+-- so many units have their places, none is past the limit of its automaton, and the counts are those of the units before
+pub record ArePlacedTo (d : Description) (items : List StoredUnit) (i : ℕ) (counts : List ℕ) (places : List Place) : Type 0 where
+  pub whole : unit_places d ≡ map place_of places ++ places_behind d (map unit_item (take i items)) (map unit_item (drop i items))
+  pub each : All IsWithin places
+  pub size : length counts ≡ 16
+  pub right : (automaton : ℕ) → automaton < 16 → get_or counts automaton 0 ≡ count_by (λ a. a == automaton) (automaton_numbers d (map unit_item (take i items)))
+  pub past : [] ≡ past_units (map unit_item (drop i items)) (places_behind d (map unit_item (take i items)) (map unit_item (drop i items)))
+
+-- the unit behind them gets its place
+pub placed_next : (d : Description) (items : List StoredUnit) (i : ℕ) (item : StoredUnit) → item ≡ get_or items i item → i < length items
+    → (counts : List ℕ) (places : List Place) (number : ℕ) → number ≡ automaton_number d item.automaton → number < 16 → ArePlacedTo d items i counts places
+    → ArePlacedTo d items (i + 1) (set counts number (get_or counts number 0 + 1)) (places ++ record { automaton = number; unit = get_or counts number 0 } ∷ [])
+placed_next d items i item is lt counts places number at few placed =
+    let below = below_here d items i item is lt counts (placed.right) number at few (placed.past) in
+    record {
+      whole = places_next d items i item is lt counts (placed.right) number at few (unit_places d) places (placed.whole);
+      each = All-push IsWithin places (record { automaton = number; unit = get_or counts number 0 }) (placed.each) (record { automaton = few; unit = below });
+      size = length-set counts number (get_or counts number 0 + 1) ∙ placed.size;
+      right = counts_next d items i item is lt counts (placed.right) number at few (placed.size);
+      past = within_next d items i item is lt counts (placed.right) number at few [] below (placed.past);
+    }

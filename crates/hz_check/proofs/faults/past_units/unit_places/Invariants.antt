@@ -1,21 +1,6 @@
-use Rattle.std.proofs.Common.{◌≡◌, ℕ, ◌<◌, ◌==◌, [], ◌++◌, All, map, take, drop, length, get_or}
-use Rattle.std.specs.Prelude.{count_by}
-use Rattle.hz_mdread.specs.Shape.{description, unit_item}
-use Rattle.hz_check.specs.Faults.PastUnits.{IsWithin}
-use Rattle.hz_check_reservations.specs.Shape.{place_of}
-use Rattle.hz_description_model.specs.Check.CheckFaults.{past_units}
-use Rattle.hz_description_model.specs.Check.Places.{automaton_numbers, places_behind, unit_places}
+use Rattle.hz_mdread.specs.Shape.{description}
+use Rattle.hz_check.proofs.Telling.PlaceSteps.{ArePlacedTo}
 use Rattle.hz_check.proofs.faults.past_units.unit_places.Given as goal
 
 abbrev pub invariant-loop-unit : goal.invariant-loop-unit
-invariant-loop-unit l =
-    let d = description l.names.desc.now in
-    let done = map unit_item (take l.unit-index l.unit-items) in
-    let rest = map unit_item (drop l.unit-index l.unit-items) in
-    record {
-      places : unit_places d ≡ map place_of l.places.items ++ places_behind d done rest;
-      each : All IsWithin l.places.items;
-      size : length l.counts ≡ 16;
-      counts : (automaton : ℕ) → automaton < 16 → get_or l.counts automaton 0 ≡ count_by (λ a. a == automaton) (automaton_numbers d done);
-      past : [] ≡ past_units rest (places_behind d done rest);
-    }
+invariant-loop-unit l = ArePlacedTo (description l.names.desc.now) l.unit-items l.unit-index l.counts l.places.items
