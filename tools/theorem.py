@@ -98,6 +98,10 @@ Files in memory are known: contracts have what they hold. A clause that begins w
 written is said of known sinks. The host's files and standard output are not known: no contract can have their bytes. `run` is the same code
 for every kind of files and sinks; [GUARANTEES.md](GUARANTEES.md) says what is proved of it over the host's."""
 
+UNREACHED = """Nobody must believe these to believe `hz`. They are words of laws, and words to prove with. Who believes `hz_why` reads `WhyAnswer` of
+`hz_why_model`, and what it names there and in `Plays`: `run` of `hz_explain` promises it
+([GUARANTEES.md](GUARANTEES.md#what-hz_why-answers), 'What `hz_why` answers')."""
+
 
 class Theorem:
     """The clauses of `run`, and what each needs."""
@@ -287,7 +291,7 @@ def unreached_section(theorem):
             files.append((f"`{crate_of(source.path)}` {link(source.path)}", len(free), laws or "none", first_sentence(source.path)))
         elif free:
             others.append((f"`{crate_of(source.path)}` {link(source.path)}", places_of(free)))
-    lines = ["## Definitions that no clause reaches", "", "Nobody must believe these. They are words of laws, and words to prove with.", ""]
+    lines = ["## Definitions that no clause reaches", "", UNREACHED, ""]
     lines += table(("file", "definitions", "laws that need it", "what it says"), files)
     return lines + ["", "Single ones, in files of which a clause reaches others:", ""] + table(("file", "definitions"), others)
 
