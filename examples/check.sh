@@ -128,6 +128,9 @@ done
 for why in examples/*/*.why; do
     explained "$why" "$why" "$(dirname "$why")/machine.md" "${why%.why}.trace"
 done
+# hz_why writes its text in one piece, of more than 100,000 bytes here: it comes whole, and begins with that of replay
+awk 'BEGIN { for (i = 0; i < 5000; i++) print "ask slot_0" }' > "$work/trace"
+agree hz_why '5000 asks' "$("$hz_why" examples/bundler/machine.md "$work/trace" | head -n 5001 | cksum)" "$("$hz" replay examples/bundler/machine.md "$work/trace" | cksum)"
 for drill in examples/*/*.drill; do
     # its words are the number and the turns
     compare "$drill" drill "$(dirname "$drill")/machine.md" $(cat "$drill")

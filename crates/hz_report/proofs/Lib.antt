@@ -1,3 +1,4 @@
+pub mod BehindLemmas
 pub mod ScheduleLemmas
 pub mod FaultLines
 pub mod ReplayLemmas

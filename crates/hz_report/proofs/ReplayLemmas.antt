@@ -1,13 +1,10 @@
 -- The lines of asks, event by event.
-use Rattle.std.proofs.Common.{◌≡◌, ℕ, Bool, true, false, Option, Some, None, ap₂, ◌+◌, ◌<◌, List, [], ◌∷◌, ◌++◌, length, get_or, take, drop, All, refl, sym, ap, ◌∙◌, append_assoc, subst, arith}
+use Rattle.std.proofs.Common.{◌≡◌, ℕ, ◌+◌, ◌<◌, List, [], ◌∷◌, ◌++◌, length, get_or, take, drop, All, refl, sym, ap, ◌∙◌, append_assoc, subst, arith}
 use Rattle.std.proofs.lemmas.List.{append-nil, get_or-map, length-map, take-map, take_more, take-append-drop}
 use Rattle.std.proofs.lemmas.List.Elements.{All-get_or, All-take, All-head, All-tail}
 use Rattle.hz_pipeline_model.specs.Accepting.Events as accepting
-use Rattle.std.specs.Bool.{OnFalse, OnTrue}
-use Rattle.std.specs.Option.{unwrap_or}
-use Rattle.hz_pipeline_model.specs.Tables.Machines.{Machine, parts_walk}
+use Rattle.hz_pipeline_model.specs.Tables.Machines.{Machine}
 use Rattle.hz_replay.specs.Lines.{event_of}
-use Rattle.hz_replay.specs.Replaying.{Standing}
 use Rattle.hz_replay.specs.Traces.{events_in}
 use Rattle.hz_replay.specs.declared.event.Event.{Event}
 use Rattle.hz_replay.specs.declared.outcome.Outcome.{Outcome}
@@ -70,17 +67,6 @@ pub event_at : (P : accepting.Event → Type 0) (events : List Event) (i : ℕ) 
 event_at P events i inside all =
     subst P (get_or-map (λ (e : Event). event_of e.what) events i no_event (event_of no_event.what) inside)
     (All-get_or P (events_in events) i (event_of no_event.what) (omega (arith, inside, length-map events (λ (e : Event). event_of e.what))) all)
-
--- where a replayer stands once it played an event
-pub played : (m : Machine) (states : List ℕ) (old new : Standing) (e : Event) (taken : Bool) → old ≡ record { machine = m; states = states } → new.machine ≡ old.machine
-    → OnTrue taken (parts_walk old.machine.parts old.states (event_of e.what ∷ []) ≡ Some new.states) → OnFalse taken (parts_walk old.machine.parts old.states (event_of e.what ∷ []) ≡ None) → OnFalse taken (new ≡ old)
-    → new ≡ record { machine = m; states = behind m states e }
-played m states old new e true stands same walked none stays =
-    let next = subst (λ (r : Standing). parts_walk r.machine.parts r.states (event_of e.what ∷ []) ≡ Some new.states) stands walked in
-    ap₂ (λ (x : Machine) (s : List ℕ). record { machine = x; states = s }) (same ∙ ap (λ (r : Standing). r.machine) stands) (sym (ap (λ (o : Option (List ℕ)). unwrap_or o states) next))
-played m states old new e false stands same walked none stays =
-    let nowhere = subst (λ (r : Standing). parts_walk r.machine.parts r.states (event_of e.what ∷ []) ≡ None) stands none in
-    stays ∙ (stands ∙ ap (λ (s : List ℕ). record { machine = m; states = s }) (sym (ap (λ (o : Option (List ℕ)). unwrap_or o states) nowhere)))
 
 -- what holds of all events holds of the first of those before the one that is refused
 pub all_taken : (P : accepting.Event → Type 0) (events : List Event) (outcome : Outcome) (n : ℕ) → All P (events_in events) → All P (events_in (take n (taken outcome events)))

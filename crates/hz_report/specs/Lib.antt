@@ -1,3 +1,4 @@
+pub mod Behind
 pub mod Faults
 pub mod Replays
 pub mod Reports

@@ -1,6 +1,7 @@
 //! The texts of the program: what it answers, as it is lent to be written, and the one call that writes it.
 #![tactic(auto)]
 
+mod behind;
 mod drilled;
 mod faults;
 mod limits;

@@ -1,29 +1,30 @@
-//! Writing a replay, for which its events are walked once more.
+//! Writing a replay, for which the parts that are asked are walked once more.
 
-ghost use Rattle.std.specs.Prelude.{◌≡◌, ℕ, ◌-◌, ◌^◌, ◌<◌, ◌≤◌, All, length, drop, codes, decimal, if◌then◌else◌};
+ghost use Rattle.std.specs.Prelude.{◌≡◌, ℕ, ◌-◌, ◌^◌, ◌<◌, ◌≤◌, All, IsSome, length, drop, take, slice_index_or, codes, decimal, if◌then◌else◌};
 ghost use Rattle.std.specs.Bool.{OnFalse};
 ghost use Rattle.hz_pipeline_model.specs.Accepting.Asking.{IsOfQuery};
 ghost use Rattle.hz_pipeline_model.specs.Accepting.Events.{issue, IsOfClass};
 ghost use Rattle.hz_answer_model.specs.AskAnswers.{query_name};
 ghost use Rattle.hz_answer_model.specs.Texts as model;
 ghost use Rattle.hz_pipeline_model.specs.Tables.MachineNames.{names_of_machine};
-ghost use Rattle.hz_pipeline_model.specs.Tables.Machines.{part_at, starts_of};
+ghost use Rattle.hz_pipeline_model.specs.Tables.Machines.{machine_walk, part_at, starts_of};
 ghost use Rattle.hz_io.specs.Pages.{Adds};
 ghost use Rattle.hz_io.specs.Sink.{Writes};
 ghost use Rattle.hz_replay.specs.Lines.{event_of};
 ghost use Rattle.hz_replay.specs.Traces.{events_in};
 ghost use Rattle.hz_replay.specs.declared.outcome.Outcome.TheVariants.{Refused};
-ghost use Rattle.hz_report.specs.Replays.{AsksNothing, asks_from, end_line, line_of, refused_by, replay_text, taken, IsReplay};
+ghost use Rattle.hz_report.specs.Behind.{AreBehind};
+ghost use Rattle.hz_report.specs.Replays.{AsksNothing, asks_from, end_line, line_of, no_event, refused_by, replay_text, states_from, taken, IsReplay};
 ghost use Rattle.hz_tables.specs.Machines.{machine_of};
 
+use super::behind::{Behind, ask_behind, in_start};
 use super::outcomes::{put_accepted, put_refused};
 use hz_io::page::{Page, add, flush};
 use hz_io::{Failed, Sink};
 use hz_regexp::Name;
-use hz_replay::{Event, Outcome, Replayer, What, play};
+use hz_replay::{Event, Outcome, What};
 use hz_tables::{Machine, Steps};
 use itoa::Buffer;
-use std::alloc::Global;
 use std::marker::Brand;
 use std::sync::ledger::{Blank, Ledger};
 
@@ -83,32 +84,38 @@ fn unit_of(machine: &Machine, part: u32, ask: u32) -> &Name
     &machine.parts[part as usize].asks[ask as usize]
 }
 
-/// Adds what is told of an event in the states of a replayer: the line of an ask.
+/// Adds what is told of the event at a place of a trace: the line of an ask.
 fn add_event<S: Sink, L: Ledger>(
     out: &mut S,
     page: &mut Page,
     machine: &Machine,
-    replayer: &Replayer<'_>,
-    event: &Event,
+    parts: &mut [Behind; 16],
+    events: &[Event],
+    place: usize,
     steps: &mut Steps<L>,
 ) -> Result<(), Failed>
     requires sink { S.faults out.old < 2 ^ 64 - 1 }
-    requires same { replayer.now.machine ≡ machine_of machine.now }
-    requires asks { IsOfQuery (names_of_machine (machine_of machine.now)).queries (event_of event.now.what) }
-    ensures { Adds S.written S.room S.faults out.old out.new page.old.items page.new.items (line_of (machine_of machine.now) replayer.now.states event.now) result }
+    requires place { place < length events.now }
+    requires classes { All (IsOfClass (length machine.now.classes.items)) (events_in events.now) }
+    requires asks { IsOfQuery (names_of_machine (machine_of machine.now)).queries (event_of (slice_index_or events.now place no_event).what) }
+    requires walked { IsSome (machine_walk (machine_of machine.now) (events_in events.now)) }
+    requires behind { AreBehind (machine_of machine.now) events.now place parts.old }
+    ensures behind { AreBehind (machine_of machine.now) events.now place parts.new }
+    ensures added { Adds S.written S.room S.faults out.old out.new page.old.items page.new.items (line_of (machine_of machine.now) (states_from (machine_of machine.now) (starts_of (machine_of machine.now)) (take place events.now)) (slice_index_or events.now place no_event)) result }
 {
+    let event = &events[place];
     match event.what {
         What::Ask { part, ask } => {
-            let reserved = replayer.ask(part, ask, steps);
+            let reserved = ask_behind(machine, parts, events, place, part, ask, steps);
             add_answer(out, page, event.line, unit_of(machine, part, ask), reserved)
         }
         What::Issue(_) | What::Advance(_) => Ok(()),
     }
 }
 
-/// Adds the lines of the asks among events, which are walked from the start of every part.
+/// Adds the lines of the asks among events, which the machine walks from the start of every part. Only parts that are asked are
+/// walked.
 fn add_asks<S: Sink, L: Ledger>(
-    alloc: Global,
     out: &mut S,
     page: &mut Page,
     machine: &Machine,
@@ -121,34 +128,30 @@ fn add_asks<S: Sink, L: Ledger>(
     requires sink { S.faults out.old < 2 ^ 64 - 1 }
     requires classes { All (IsOfClass (length machine.now.classes.items)) (events_in events.now) }
     requires asks { All (IsOfQuery (names_of_machine (machine_of machine.now)).queries) (events_in events.now) }
+    requires walked { IsSome (machine_walk (machine_of machine.now) (events_in events.now)) }
     ensures { Adds S.written S.room S.faults out.old out.new page.old.items page.new.items (asks_from (machine_of machine.now) (starts_of (machine_of machine.now)) events.now) result }
 {
     let mut steps = Steps::<L>::new(blank);
-    let mut replayer = Replayer::start(alloc, machine);
-    for event in events {
-        match add_event(out, page, machine, &replayer, event, &mut steps) {
+    let mut parts = in_start();
+    for place in 0..events.len() {
+        match add_event(out, page, machine, &mut parts, events, place, &mut steps) {
             Ok(()) => {}
             Err(failed) => return Err(failed),
         }
-        play(&mut replayer, event.what, &mut steps);
     }
     Ok(())
 }
 
 /// Writes the lines of the asks among events.
-fn put_asks<S: Sink>(
-    alloc: Global,
-    out: &mut S,
-    machine: &Machine,
-    events: &[Event],
-) -> Result<(), Failed>
+fn put_asks<S: Sink>(out: &mut S, machine: &Machine, events: &[Event]) -> Result<(), Failed>
     requires sink { S.faults out.old < 2 ^ 64 - 1 }
     requires classes { All (IsOfClass (length machine.now.classes.items)) (events_in events.now) }
     requires asks { All (IsOfQuery (names_of_machine (machine_of machine.now)).queries) (events_in events.now) }
+    requires walked { IsSome (machine_walk (machine_of machine.now) (events_in events.now)) }
     ensures { Writes S.written S.room S.faults out.old out.new (asks_from (machine_of machine.now) (starts_of (machine_of machine.now)) events.now) result }
 {
     let mut page = Page::new();
-    match add_asks::<S, Brand>(alloc, out, &mut page, machine, events, Blank::new(1)) {
+    match add_asks::<S, Brand>(out, &mut page, machine, events, Blank::new(1)) {
         Ok(()) => flush(out, &mut page),
         Err(failed) => Err(failed),
     }
@@ -217,9 +220,8 @@ fn put_end<S: Sink>(
     }
 }
 
-/// Writes the text of a replay. Its events are walked once more up to the last ask, and not at all if there is none.
+/// Writes the text of a replay. The parts that are asked are walked once more up to their last ask.
 pub fn put_replayed<S: Sink>(
-    alloc: Global,
     out: &mut S,
     machine: &Machine,
     events: &[Event],
@@ -231,7 +233,7 @@ pub fn put_replayed<S: Sink>(
 {
     let before = taken_of(events, outcome);
     let asked = &before[..up_to_last_ask(before)];
-    match put_asks(alloc, out, machine, asked) {
+    match put_asks(out, machine, asked) {
         Ok(()) => put_end(out, machine, events, outcome),
         Err(failed) => Err(failed),
     }
