@@ -18,18 +18,40 @@ pub fn answer_grid(alloc: Global, text: &str) -> Option<String> {
     Some(out)
 }
 
-/// Writes a copy of a grid to which another one is joined, and whether the two meet, each the other one; where they do not,
-/// whether their union is that grid too.
+/// Writes whether the union of two grids is this one, where they do not meet.
+fn write_union(
+    alloc: Global,
+    out: &mut String,
+    joined: &Grid,
+    first: &Grid,
+    second: &Grid,
+) -> Option<()> {
+    if first.meets(second) {
+        return Some(());
+    }
+    let union = first.with(alloc, second).ok()?;
+    write!(out, " {}", union == *joined).ok()
+}
+
+/// Writes a grid that two are joined to, and whether these meet, each the other one; where they do not, whether their union is
+/// that grid too.
+fn write_meeting(
+    alloc: Global,
+    out: &mut String,
+    joined: &Grid,
+    first: &Grid,
+    second: &Grid,
+) -> Option<()> {
+    write_grid(out, joined)?;
+    write!(out, " {} {}", first.meets(second), second.meets(first)).ok()?;
+    write_union(alloc, out, joined, first, second)
+}
+
+/// Writes a copy of a grid to which another one is joined, and how the two meet.
 fn write_joined(alloc: Global, out: &mut String, first: &Grid, second: &Grid) -> Option<()> {
     let mut joined = first.copy(alloc).ok()?;
     joined.join(alloc, second).ok()?;
-    write_grid(out, &joined)?;
-    write!(out, " {} {}", first.meets(second), second.meets(first)).ok()?;
-    if !first.meets(second) {
-        let union = first.with(alloc, second).ok()?;
-        write!(out, " {}", union == joined).ok()?;
-    }
-    Some(())
+    write_meeting(alloc, out, &joined, first, second)
 }
 
 /// What the grids before and behind a `/` are together, and whether they meet, each the other one; where they do not, whether

@@ -7,7 +7,7 @@ ghost use Rattle.std.specs.Prelude.{◌<◌, All, IsTrue};
 ghost use Rattle.hz_unitsets.specs.SetRules.{IsInRange};
 
 use crate::texts::{grid_of, units_of};
-use hz_grid::{UNITS, Usage};
+use hz_grid::{Grid, UNITS, Usage};
 use hz_unitsets::{Rules, SetKind, SetRule};
 use std::alloc::Global;
 
@@ -78,17 +78,25 @@ pub fn rules_of(alloc: Global, text: &str) -> Option<Rules> {
     None
 }
 
-/// Whether the grid behind a `/` fits the one before it under the statements beside. Where that one breaks no exclusion, both
-/// calls say so.
-pub fn answer(alloc: Global, text: &str, beside: &str) -> Option<String> {
-    let (source, added) = text.split_once('/')?;
-    let rules = rules_of(alloc, beside)?;
-    let source = grid_of(alloc, source)?;
-    let added = Usage::of(alloc, grid_of(alloc, added)?).ok()?;
-    let fits = rules.fits(&source, &added);
-    let word = if fits { "fits" } else { "does not fit" };
-    if rules.is_unbroken(&source) && rules.fits_unbroken(&source, &added) != fits {
+/// Whether the second grid fits the first under rules. Where the first breaks no exclusion, both calls say so.
+fn fits(rules: &Rules, source: &Grid, added: &Usage) -> Option<bool> {
+    let fits = rules.fits(source, added);
+    if rules.is_unbroken(source) && rules.fits_unbroken(source, added) != fits {
         return None;
     }
+    Some(fits)
+}
+
+/// Whether the grid behind a `/` fits the one before it under rules.
+fn judge(alloc: Global, rules: &Rules, text: &str) -> Option<bool> {
+    let (source, added) = text.split_once('/')?;
+    let added = Usage::of(alloc, grid_of(alloc, added)?).ok()?;
+    fits(rules, &grid_of(alloc, source)?, &added)
+}
+
+/// Whether the grid behind a `/` fits the one before it under the statements beside.
+pub fn answer(alloc: Global, text: &str, beside: &str) -> Option<String> {
+    let fits = judge(alloc, &rules_of(alloc, beside)?, text)?;
+    let word = if fits { "fits" } else { "does not fit" };
     String::from_str(alloc, word).ok()
 }

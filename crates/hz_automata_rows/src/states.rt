@@ -52,15 +52,24 @@ fn keep(alloc: Global, out: &mut String, interner: &mut Interner, text: &str) ->
     out.push(';').ok()
 }
 
+/// Writes all grids that are kept once more.
+fn write_all(alloc: Global, out: &mut String, interner: Interner) -> Option<()> {
+    write_grids(out, &interner.into_grids(alloc).ok()?)
+}
+
+/// Writes what is kept of the grids of a text, of which so many may be kept.
+fn write_limited(alloc: Global, out: &mut String, limit: u32, grids: &str) -> Option<()> {
+    let mut interner = Interner::new(alloc, limit);
+    keep(alloc, out, &mut interner, grids)?;
+    write_all(alloc, out, interner)
+}
+
 /// Whether nothing is kept, the numbers of the grids behind a `/`, of which so many may be kept as is said before it, and all
 /// that are kept, by number and once more.
 pub fn answer_grids(alloc: Global, text: &str) -> Option<String> {
     let (limit, grids) = text.split_once('/')?;
-    let limit = limit.trim().parse::<u32>().ok()?;
     let mut out = String::new(alloc);
-    let mut interner = Interner::new(alloc, limit);
-    keep(alloc, &mut out, &mut interner, grids)?;
-    write_grids(&mut out, &interner.into_grids(alloc).ok()?)?;
+    write_limited(alloc, &mut out, limit.trim().parse::<u32>().ok()?, grids)?;
     Some(out)
 }
 
