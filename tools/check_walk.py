@@ -247,13 +247,26 @@ def written(folder, name, text):
     return path
 
 
+def words_given(purpose, seed, descriptions, traces, *programs):
+    """What the words of a check say: its seed, how many descriptions are made, how many traces for each, and the programs."""
+    parser = argparse.ArgumentParser(description=purpose)
+    parser.add_argument("--seed", type=int, default=seed)
+    parser.add_argument("--descriptions", type=int, default=descriptions)
+    parser.add_argument("--traces", type=int, default=traces, help="for each description")
+    for program in programs:
+        parser.add_argument(program)
+    return parser.parse_args()
+
+
+def tell(name, check):
+    """Writes what a check saw: the statuses, what else it counted, and how many answers differ."""
+    counts = ", ".join(f"{count} of status {status}" for status, count in sorted(check.seen.items()))
+    told = ", ".join(f"{count} {what}" for what, count in sorted(check.told.items()))
+    print(f"{name}: {sum(check.seen.values())} answers, {counts}; {told}; {check.wrong} differ")
+
+
 def main():
-    parser = argparse.ArgumentParser(description=__doc__)
-    parser.add_argument("--seed", type=int, default=29)
-    parser.add_argument("--descriptions", type=int, default=100)
-    parser.add_argument("--traces", type=int, default=8, help="for each description")
-    parser.add_argument("hz")
-    given = parser.parse_args()
+    given = words_given(__doc__, 29, 100, 8, "hz")
     examples = os.path.join(os.path.dirname(os.path.abspath(__file__)), os.pardir, "examples", "*", "machine.md")
     maker = Maker(given.seed)
     with tempfile.TemporaryDirectory() as folder:
@@ -270,9 +283,7 @@ def main():
             if check.wrong:
                 print(text)
                 break
-    counts = ", ".join(f"{count} of status {status}" for status, count in sorted(check.seen.items()))
-    told = ", ".join(f"{count} {what}" for what, count in sorted(check.told.items()))
-    print(f"check-walk: {sum(check.seen.values())} answers, {counts}; {told}; {check.wrong} differ")
+    tell("check-walk", check)
     shown = {0, 1, 2} <= set(check.seen) and check.told["reserved"] and check.told["free"]
     return 0 if shown and not check.wrong else 1
 

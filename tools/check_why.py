@@ -3,7 +3,6 @@
 the examples, and on traces of descriptions that a seed makes, the status and the first text are those of `replay`. Where `replay` answers
 a limit of states, they are those of the calendar. The text behind is the calendar's, byte by byte: who holds what is asked for, which set
 statement is broken, when the class fits, and the picture. Under `ndfa` the first of all lists of choices is searched for."""
-import argparse
 import collections
 import glob
 import os
@@ -12,7 +11,7 @@ import subprocess
 import sys
 import tempfile
 
-from check_walk import SETS, Maker, Simulation, Wrong, answer, written
+from check_walk import SETS, Maker, Simulation, Wrong, answer, tell, words_given, written
 from extraction.changes import of_kind
 from extraction.expressions import Expander, tree_of
 from extraction.items import Automata, Class, Reservation, Units, UnitSet
@@ -443,13 +442,7 @@ def check_worked(check, folder):
 
 
 def main():
-    parser = argparse.ArgumentParser(description=__doc__)
-    parser.add_argument("--seed", type=int, default=31)
-    parser.add_argument("--descriptions", type=int, default=150)
-    parser.add_argument("--traces", type=int, default=10, help="for each description")
-    parser.add_argument("hz")
-    parser.add_argument("hz_why")
-    given = parser.parse_args()
+    given = words_given(__doc__, 31, 150, 10, "hz", "hz_why")
     examples = os.path.join(os.path.dirname(os.path.abspath(__file__)), os.pardir, "examples", "*", "*.md")
     maker = WhyMaker(given.seed)
     check = Check(os.path.abspath(given.hz), os.path.abspath(given.hz_why))
@@ -465,9 +458,7 @@ def main():
             if check.wrong:
                 print(text)
                 break
-    counts = ", ".join(f"{count} of status {status}" for status, count in sorted(check.seen.items()))
-    told = ", ".join(f"{count} {what}" for what, count in sorted(check.told.items()))
-    print(f"check-why: {sum(check.seen.values())} answers, {counts}; {told}; {check.wrong} differ")
+    tell("check-why", check)
     shown = {0, 1, 2} <= set(check.seen) and all(check.told[kind] for kind in [*KINDS, "limits of states"])
     return 0 if shown and not check.wrong else 1
 
