@@ -38,6 +38,7 @@ fn hold<S: Sink>(out: &mut S, page: &mut Page, bytes: &[u8]) -> Result<(), Faile
 }
 
 /// Writes what is held, and adds bytes.
+#[cold]
 fn spill<S: Sink>(out: &mut S, page: &mut Page, bytes: &[u8]) -> Result<(), Failed>
     requires { S.faults out.old < 2 ^ 64 - 1 }
     ensures { Adds S.written S.room S.faults out.old out.new page.old.items page.new.items bytes.now result }
@@ -49,6 +50,7 @@ fn spill<S: Sink>(out: &mut S, page: &mut Page, bytes: &[u8]) -> Result<(), Fail
 }
 
 /// Adds bytes behind those that are held, which are written where there is no room for more.
+#[inline(always)]
 pub fn add<S: Sink>(out: &mut S, page: &mut Page, bytes: &[u8]) -> Result<(), Failed>
     requires { S.faults out.old < 2 ^ 64 - 1 }
     ensures { Adds S.written S.room S.faults out.old out.new page.old.items page.new.items bytes.now result }
