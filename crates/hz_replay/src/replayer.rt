@@ -1,6 +1,6 @@
 //! Replaying over a machine of tables: a state for each part, stepped event by event.
 
-ghost use Rattle.std.specs.Prelude.{◌≡◌, ◌↔◌, ◌==◌, ◌+◌, ◌*◌, ◌<◌, ◌≤◌, ◌∷◌, [], length, replicate, IsTrue, IfSome, Some, None};
+ghost use Rattle.std.specs.Prelude.{◌≡◌, ◌↔◌, ◌==◌, ◌+◌, ◌*◌, ◌<◌, ◌≤◌, ◌∷◌, ◌++◌, [], length, take, drop, replicate, IsTrue, IfSome, Some, None};
 ghost use Rattle.std.specs.Bool.{OnTrue, OnFalse};
 ghost use Rattle.std.specs.List.{list_all};
 ghost use Rattle.std.specs.Option.{option_map, ForSome};
@@ -14,6 +14,15 @@ use smallvec::SmallVec;
 use std::alloc::Global;
 use std::marker::Model;
 use std::sync::ledger::Ledger;
+
+/// Puts back the states of the parts before one.
+fn put_back(states: &mut [u32], before: &[u32; 16], part: usize)
+    requires within { part ≤ length states.old }
+    requires few { part ≤ 16 }
+    ensures { states.new ≡ take part before.now ++ drop part states.old }
+{
+    states[..part].copy_from_slice(&before[..part]);
+}
 
 /// Takes each part to its next state, in place: at an issue of a class, or at the advance of one cycle where there is no class. False
 /// where some part has no next state; then the states are as they were. `before` is for the states of the parts that are taken on. At most
@@ -40,7 +49,7 @@ fn walk<L: Ledger>(
                 states[part] = next;
             }
             None => {
-                states[..part].copy_from_slice(&before[..part]);
+                put_back(states, before, part);
                 return false;
             }
         }
