@@ -95,6 +95,13 @@ module _ (machine : Machine) (checked : Checked) (block : Block) (graph : Graph)
       let size = length-map block.insns.items instruction in
       omega (arith, low, many, size, few)
 
+  -- all cycles are small
+  pub cycles_small : length block.insns.items ≤ 256 → All (λ x. x.cycle ≤ most_wait * length graph.insns.items) slots → All (λ x. x.cycle < 2 ^ 30) slots
+  cycles_small few all = All-weaker (λ x. x.cycle ≤ most_wait * length graph.insns.items) (λ x. x.cycle < 2 ^ 30) (λ x le. let many = many_insns in let size = length-map block.insns.items instruction in omega (arith, le, many, size, few)) slots all
+
+  pub many_in_block : length graph.insns.items ≡ length block.insns.items
+  many_in_block = many_insns ∙ length-map block.insns.items instruction
+
   pub cycles_rise : All (λ x. x.cycle ≤ present 0 (slots_of slots)) (slots_of slots)
   cycles_rise = all_of (λ x. x.cycle ≤ present 0 (slots_of slots)) (slots_of slots) soon
 

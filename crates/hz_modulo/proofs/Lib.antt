@@ -1,3 +1,4 @@
+mod CopyLemmas
 mod GraphLemmas
 mod CycleLemmas
 mod EdgeLemmas

@@ -11,34 +11,37 @@ use std::alloc::Global;
 /// How many turns tell all costs: docs/RULES.md, 'Kernels of loops'.
 const TURNS: usize = 3;
 
+/// An equal value in a box.
+#[cycle(copy_value)]
+fn copy_boxed(alloc: Global, from: &Value) -> Result<Box<Value>, NoMemory>
+    ensures { IfOk result (λ made. value made.value ≡ value from.now) }
+{
+    let made = copy_value(alloc, from)?;
+    Ok(Box::new(alloc, made)?)
+}
+
 /// An equal value.
+#[cycle(copy_value)]
 fn copy_value(alloc: Global, from: &Value) -> Result<Value, NoMemory>
     ensures { IfOk result (λ made. value made ≡ value from.now) }
 {
     match from {
         Value::Reg(number) => Ok(Value::Reg(*number)),
         Value::Const(word) => Ok(Value::Const(*word)),
-        Value::Mem(address) => {
-            let address = copy_value(alloc, address)?;
-            Ok(Value::Mem(Box::new(alloc, address)?))
-        }
+        Value::Mem(address) => Ok(Value::Mem(copy_boxed(alloc, address)?)),
         Value::Unary(operator, operand) => {
-            let operand = copy_value(alloc, operand)?;
-            Ok(Value::Unary(*operator, Box::new(alloc, operand)?))
+            Ok(Value::Unary(*operator, copy_boxed(alloc, operand)?))
         }
         Value::Binary(operator, left, right) => {
-            let left = copy_value(alloc, left)?;
-            let right = copy_value(alloc, right)?;
-            let left = Box::new(alloc, left)?;
-            Ok(Value::Binary(*operator, left, Box::new(alloc, right)?))
+            let left = copy_boxed(alloc, left)?;
+            let right = copy_boxed(alloc, right)?;
+            Ok(Value::Binary(*operator, left, right))
         }
         Value::Choice(test, first, second) => {
-            let test = copy_value(alloc, test)?;
-            let first = copy_value(alloc, first)?;
-            let second = copy_value(alloc, second)?;
-            let test = Box::new(alloc, test)?;
-            let first = Box::new(alloc, first)?;
-            Ok(Value::Choice(test, first, Box::new(alloc, second)?))
+            let test = copy_boxed(alloc, test)?;
+            let first = copy_boxed(alloc, first)?;
+            let second = copy_boxed(alloc, second)?;
+            Ok(Value::Choice(test, first, second))
         }
     }
 }

@@ -2,6 +2,7 @@
 
 ghost use Rattle.std.specs.Prelude.{◌≡◌, ◌↔◌, ◌<◌, ◌≤◌, ◌-◌, ◌+◌, ◌++◌, ◌∷◌, [], ℕ, IsTrue, IfOk, IfSome, IfNone, length, map, All, nat_lt, if◌then◌else◌};
 ghost use Rattle.hz_block_model.specs.Scheduling.Machines.{Settles};
+ghost use Rattle.hz_pipeline_model.specs.Tables.Machines.{starts_of};
 ghost use Rattle.hz_measure_model.specs.Kernels.Repeats.{stage_limit};
 ghost use Rattle.hz_tables.specs.Machines.{machine_of};
 ghost use Rattle.hz_modulo.specs.Walking.{kernel_slot_of, graph_of};
@@ -63,6 +64,45 @@ fn keep(
     Ok(place)
 }
 
+/// As `first_repeat`, on a machine in its start, while nothing is kept.
+fn repeat_from_start<L: Ledger>(
+    alloc: Global,
+    walker: &mut Replayer<'_>,
+    held: &mut Vec<Vec<u32>>,
+    classes: &[u32],
+    kernel: &[KernelSlot],
+    interval: u32,
+    stages: u32,
+    steps: &mut Steps<L>,
+) -> Result<Option<Repeat>, NoMemory>
+    requires settles { Settles walker.old.machine }
+    requires starts { walker.old.states ≡ starts_of walker.old.machine }
+    requires nothing { held.old.items ≡ [] }
+    requires classes { All (λ c. c < length walker.old.machine.classes) classes.now }
+    requires places { All (λ x. x.place < length classes.now) kernel.now }
+    requires few { stages ≤ stage_limit }
+    ensures found { IfOk result (λ repeat. IfSome repeat (λ r. RepeatsBy walker.old.machine (graph_of classes.now) interval stages (map kernel_slot_of kernel.now) r.first r.second)) }
+    ensures none { IfOk result (λ repeat. IfNone repeat ((first second : ℕ) → RepeatsBy walker.old.machine (graph_of classes.now) interval stages (map kernel_slot_of kernel.now) first second → ⊥)) }
+{
+    for turn in 0..stages + MOST_TURNS + 1 {
+        if !drains(
+            alloc, walker, classes, kernel, interval, stages, turn, steps,
+        ) {
+            return Ok(None);
+        }
+        if let Some(place) = keep(alloc, held, walker.states(), turn, stages)? {
+            return Ok(Some(Repeat {
+                first: stages + place,
+                second: turn,
+            }));
+        }
+        if !walk_interval(walker, classes, kernel, interval, 0, turn, steps) {
+            return Ok(None);
+        }
+    }
+    Ok(None)
+}
+
 /// As `first_repeat`, with the steps of a count that begins here.
 fn first_repeat_by<L: Ledger>(
     alloc: Global,
@@ -86,23 +126,16 @@ fn first_repeat_by<L: Ledger>(
     let mut steps = Steps::<L>::new(blank);
     let mut walker = Replayer::start(alloc, machine);
     let mut held = Vec::new(alloc);
-    for turn in 0..stages + MOST_TURNS + 1 {
-        if !drains(
-            alloc, &walker, classes, kernel, interval, stages, turn, &mut steps,
-        ) {
-            return Ok(None);
-        }
-        if let Some(place) = keep(alloc, &mut held, walker.states(), turn, stages)? {
-            return Ok(Some(Repeat {
-                first: stages + place,
-                second: turn,
-            }));
-        }
-        if !walk_interval(&mut walker, classes, kernel, interval, 0, turn, &mut steps) {
-            return Ok(None);
-        }
-    }
-    Ok(None)
+    repeat_from_start(
+        alloc,
+        &mut walker,
+        &mut held,
+        classes,
+        kernel,
+        interval,
+        stages,
+        &mut steps,
+    )
 }
 
 /// The first two starts of turns at which the machine is in the same states, once all stages have begun: None if an issue is not

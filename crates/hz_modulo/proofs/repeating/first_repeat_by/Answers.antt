@@ -1,76 +1,24 @@
-use Rattle.std.proofs.Common.{◌≡◌, ℕ, suc, ◌+◌, ◌-◌, true, List, Option, Some, None, [], map, length, refl, sym, ap, ◌∙◌, subst, arith}
-use Rattle.std.specs.Prelude.{is_some, option_and_then, nat_lt, if◌then◌else◌, ◌++◌, ◌∷◌}
-use Rattle.std.proofs.lemmas.Bool.{OnTrue_at, OnFalse_at}
-use Rattle.hz_pipeline_model.specs.Tables.Machines.{Machine, parts_walk}
-use Rattle.hz_measure_model.specs.Kernels.Kernels.{interval_trace}
-use Rattle.hz_tables.specs.Machines.{machine_of}
+use Rattle.std.proofs.Common.{◌≡◌, ◌<◌, ℕ, List, length, map, All, sym, ap, subst}
+use Rattle.std.specs.Prelude.{IfOk, IfSome, IfNone}
+use Rattle.hz_block_model.specs.Scheduling.Machines.{Settles}
+use Rattle.hz_pipeline_model.specs.Tables.Machines.{Machine}
 use Rattle.hz_replay.specs.Replaying.{Standing}
-use Rattle.hz_modulo.specs.Walking.{kernel_slot_of, graph_of, drained_from}
-use Rattle.hz_modulo.specs.Repeating.{edge_by, drain_by, lists_in}
-use Rattle.hz_modulo.proofs.AdvanceLemmas.{starts_are}
-use Rattle.hz_modulo.proofs.WalkingLemmas.{stands_behind}
-use Rattle.hz_modulo.proofs.ScanLemmas.{IsScanned, scan_start, scan_next, scan_stops}
-use Rattle.hz_modulo.proofs.HeldLemmas.{if_none, is_new, kept_more}
+use Rattle.hz_modulo.specs.Walking.{kernel_slot_of, graph_of}
+use Rattle.hz_modulo.specs.Repeating.{RepeatsBy}
 use Rattle.hz_modulo.proofs.repeating.first_repeat_by.Goals as goal
 
-pub loop-turn-init : goal.loop-turn-init
-loop-turn-init g c =
-    let m = machine_of c.args.machine.now in
-    let gr = graph_of c.args.classes.now in
-    let kernel = map kernel_slot_of c.args.kernel.now in
-    let at = sym (ap (λ (s : Standing). s.states) c.start-walker.ensures) in
-    record {
-      machine = ap (λ (s : Standing). s.machine) c.start-walker.ensures;
-      stands = subst (λ (xs : List ℕ). parts_walk m.parts xs [] ≡ Some xs) at (starts_are m.parts);
-      here = ap (λ (xs : List ℕ). let o : Option (List ℕ) = Some xs in o) at;
-      scanned = scan_start (edge_by m gr c.args.interval kernel) (drain_by m gr c.args.interval kernel c.args.stages) c.args.stages refl;
-      kept = record {
-        many = ap (λ xs. length (lists_in xs)) c.new-held.ensures.items ∙ (let none : 0 ≡ 0 - c.args.stages = omega arith in none);
-        each = λ i lt. absurd (let none = ap (λ xs. length (lists_in xs)) c.new-held.ensures.items in omega (arith, lt, none));
-      };
-    }
+pub repeat_from_start-requires-clause-settles : goal.repeat_from_start-requires-clause-settles
+repeat_from_start-requires-clause-settles g c = subst Settles (sym (ap (λ (s : Standing). s.machine) c.start-walker.ensures)) c.requires.settles
 
-pub returns-then-not-walk_interval-clause-none : goal.returns-then-not-walk_interval-clause-none
-returns-then-not-walk_interval-clause-none g c = λ first second r.
-    let m = machine_of c.args.machine.now in
-    let gr = graph_of c.args.classes.now in
-    let kernel = map kernel_slot_of c.args.kernel.now in
-    let edge = edge_by m gr c.args.interval kernel in
-    let drain = drain_by m gr c.args.interval kernel c.args.stages in
-    let turn = c.loop-turn.turn in
-    let refused = subst (λ (n : Machine). parts_walk n.parts c.loop-turn.walker.states (interval_trace gr c.args.interval 0 turn kernel) ≡ None) c.loop-turn.invariant.machine (OnFalse_at c.if-not-walk_interval.true c.walk_interval.ensures.refused) in
-    let none = if_none c.in_ok-place.field-0 _ c.in_default.is c.in_ok-place.ensures.new in
-    scan_stops edge drain c.args.stages (λ t e. ap (option_and_then (λ states. parts_walk m.parts states (interval_trace gr c.args.interval 0 t kernel))) e)
-    turn c.loop-turn.invariant.scanned
-    (is_new edge c.args.stages turn c.loop-turn.walker.states c.loop-turn.invariant.here (lists_in c.loop-turn.held.items) c.loop-turn.invariant.kept (λ i lt e. none i lt (e ∙ sym c.states.ensures)))
-    (ap (option_and_then (λ states. parts_walk m.parts states (interval_trace gr c.args.interval 0 turn kernel))) c.loop-turn.invariant.here ∙ refused)
-    first second r
+pub repeat_from_start-requires-clause-classes : goal.repeat_from_start-requires-clause-classes
+repeat_from_start-requires-clause-classes g c = subst (λ (m : Machine). All (λ k. k < length m.classes) c.args.classes.now) (sym (ap (λ (s : Standing). s.machine) c.start-walker.ensures)) c.requires.classes
 
-pub loop-turn-preserved : goal.loop-turn-preserved
-loop-turn-preserved g c =
-    let m = machine_of c.args.machine.now in
-    let gr = graph_of c.args.classes.now in
-    let kernel = map kernel_slot_of c.args.kernel.now in
-    let edge = edge_by m gr c.args.interval kernel in
-    let drain = drain_by m gr c.args.interval kernel c.args.stages in
-    let turn = c.loop-turn.turn in
-    let states = c.loop-turn.walker.states in
-    let next = c.walk_interval.new.walker.states in
-    let taken = subst (λ (n : Machine). parts_walk n.parts c.loop-turn.walker.states (interval_trace gr c.args.interval 0 turn kernel) ≡ Some c.walk_interval.new.walker.states) c.loop-turn.invariant.machine (OnTrue_at c.if-not-walk_interval.false c.walk_interval.ensures.taken) in
-    let none = if_none c.in_ok-place.field-0 _ c.in_default.is c.in_ok-place.ensures.new in
-    let kept = if_none c.in_ok-place.field-0 _ c.in_default.is c.in_ok-place.ensures.kept in
-    let more : turn + 1 ≡ suc turn = omega arith in
-    let edge_next : edge (suc turn) ≡ Some next = ap (option_and_then (λ states. parts_walk m.parts states (interval_trace gr c.args.interval 0 turn kernel))) c.loop-turn.invariant.here ∙ taken in
-    let drained : is_some (drain turn) ≡ true =
-    ap (λ o. is_some (drained_from m gr c.args.interval kernel turn (c.args.stages + 1) o)) c.loop-turn.invariant.here
-    ∙ subst (λ (n : Machine). is_some (drained_from n gr c.args.interval kernel turn (c.args.stages + 1) (Some c.loop-turn.walker.states)) ≡ true) c.loop-turn.invariant.machine (OnTrue_at c.if-not-drains.false c.drains.ensures.drained) in
-    record {
-      machine = c.walk_interval.ensures.machine ∙ c.loop-turn.invariant.machine;
-      stands = stands_behind m.parts states next (interval_trace gr c.args.interval 0 turn kernel) taken;
-      here = ap edge more ∙ edge_next;
-      scanned = subst (λ (n : ℕ). IsScanned edge drain c.args.stages n) (sym more) (scan_next edge drain c.args.stages turn c.loop-turn.invariant.scanned drained
-          (is_new edge c.args.stages turn states c.loop-turn.invariant.here (lists_in c.loop-turn.held.items) c.loop-turn.invariant.kept (λ i lt e. none i lt (e ∙ sym c.states.ensures)))
-          (ap is_some edge_next));
-      kept = kept_more edge c.args.stages turn states c.loop-turn.invariant.here (lists_in c.loop-turn.held.items) _ c.loop-turn.invariant.kept
-          (kept ∙ ap (λ (xs : List ℕ). if nat_lt turn c.args.stages then lists_in c.loop-turn.held.items else lists_in c.loop-turn.held.items ++ xs ∷ []) c.states.ensures);
-    }
+pub returns-clause-found : goal.returns-clause-found
+returns-clause-found g c =
+    subst (λ (m : Machine). IfOk c.repeat_from_start.result (λ repeat. IfSome repeat (λ r. RepeatsBy m (graph_of c.args.classes.now) c.args.interval c.args.stages (map kernel_slot_of c.args.kernel.now) r.first r.second)))
+    (ap (λ (s : Standing). s.machine) c.start-walker.ensures) c.repeat_from_start.ensures.found
+
+pub returns-clause-none : goal.returns-clause-none
+returns-clause-none g c =
+    subst (λ (m : Machine). IfOk c.repeat_from_start.result (λ repeat. IfNone repeat ((first second : ℕ) → RepeatsBy m (graph_of c.args.classes.now) c.args.interval c.args.stages (map kernel_slot_of c.args.kernel.now) first second → ⊥)))
+    (ap (λ (s : Standing). s.machine) c.start-walker.ensures) c.repeat_from_start.ensures.none
