@@ -2,7 +2,7 @@
 # Times `hz compile` and `hz replay` on descriptions whose units are query units, beside the same with plain units, by processor time, the
 # least of five runs each. Compiled are delays, whose states double with each class; and ports that are taken for two cycles, of which one
 # is a query unit, or all. Replayed are traces of 4 million events. Then a quarter of them ask for a unit, beside as many advances by 0 on
-# the same description.
+# the same description; and a tenth of them, beside the other nine tenths alone.
 hz=$1
 . "$(dirname "$0")/../common.sh"
 
@@ -56,6 +56,11 @@ fourth() {
     head -n 3000000 | awk -v line="$1" '{ print } NR % 3 == 0 { print line }'
 }
 
+# tenth LINE: nine lines of ten as they are, and this one after them
+tenth() {
+    head -n 3600000 | awk -v line="$1" '{ print } NR % 9 == 0 { print line }'
+}
+
 echo "machine what plain_ms asked_ms times"
 for kind in memory_pipe superscalar; do
     trace=$data/trace_${kind}_4
@@ -66,4 +71,7 @@ for kind in memory_pipe superscalar; do
     fourth "ask $unit" < "$trace" > "$data/trace_asked"
     replay_both "$kind query_units" "examples/$kind/machine.md" "$trace" "$data/asked.md" "$trace"
     replay_both "$kind asks" "$data/asked.md" "$data/trace_idle" "$data/asked.md" "$data/trace_asked"
+    head -n 3600000 "$trace" > "$data/trace_nine"
+    tenth "ask $unit" < "$trace" > "$data/trace_tenth"
+    replay_both "$kind tenth" "$data/asked.md" "$data/trace_nine" "$data/asked.md" "$data/trace_tenth"
 done
