@@ -87,3 +87,12 @@ IsTellable (Bounded checked graph schedule bound) = bounds.IsInRange checked gra
 IsTellable (Paired machine first second slots alone) = pairs.IsInRange machine first second slots.items
 IsTellable (Overlapped machine graph schedule kernel) = IsKernelInRange machine graph kernel
 IsTellable _ = ⊤
+
+-- it is told by a report
+abbrev pub IsReported : Decision → Type 0
+IsReported (Tables compiled checked) = ⊥
+IsReported (Timed block schedule timed) = ⊥
+IsReported (Bounded checked graph schedule bound) = ⊥
+IsReported (Paired machine first second slots alone) = ⊥
+IsReported (Overlapped machine graph schedule kernel) = ⊥
+IsReported _ = ⊤

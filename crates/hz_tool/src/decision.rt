@@ -2,7 +2,8 @@
 
 ghost use Rattle.std.specs.Prelude.{◌≡◌, ◌≤◌, ◌<◌, ◌^◌, ◌-◌};
 ghost use Rattle.hz_io.specs.Sink.{Writes};
-ghost use Rattle.hz_tool.specs.Decided.{replay_status, status_of, text_of, IsTellable};
+ghost use Rattle.hz_report.specs.Reports as reports;
+ghost use Rattle.hz_tool.specs.Decided.{replay_status, status_of, text_of, IsReported, IsTellable};
 
 use hz_auto::Compiled;
 use hz_bound::{Bound, write_bound};
@@ -159,6 +160,86 @@ impl Decision<'_> {
         }
     }
 
+    /// The report that says it, where it is told by one.
+    fn report(&self) -> Report<'_>
+        requires kind { IsReported self.now }
+        requires range { IsTellable self.now }
+        ensures text { reports.text_of result ≡ text_of self.now }
+        ensures range { reports.IsTellable result }
+    {
+        match self {
+            Decision::Replayed {
+                machine,
+                events,
+                outcome,
+            } => Report::Replayed {
+                machine,
+                events,
+                outcome,
+            },
+            Decision::Scheduled {
+                machine,
+                graph,
+                schedule,
+            } => Report::Scheduled {
+                machine,
+                graph,
+                schedule,
+            },
+            Decision::Drilled {
+                turns,
+                issues,
+                cycles,
+                states,
+            } => Report::Drill {
+                turns: *turns,
+                issues: *issues,
+                cycles: *cycles,
+                states,
+            },
+            Decision::After { state } => Report::After { state },
+            Decision::Fault {
+                file,
+                line,
+                kind,
+                insn,
+                first,
+                second,
+                at,
+            } => Report::Fault {
+                file,
+                line: *line,
+                kind,
+                insn: *insn,
+                first: first.as_ref(),
+                second: second.as_ref(),
+                at: *at,
+            },
+            Decision::Limit {
+                file,
+                line,
+                what,
+                name,
+            } => Report::Checked {
+                file,
+                line: *line,
+                what: *what,
+                name,
+            },
+            Decision::Automaton { file, name } => Report::Automaton { file, name },
+            Decision::Bytes { file } => Report::Bytes { file },
+            Decision::Insns { file } => Report::Insns { file },
+            Decision::Usage => Report::Usage,
+            Decision::Memory => Report::Memory,
+            Decision::File { name } => Report::File { name },
+            Decision::Tables { .. }
+            | Decision::Bounded { .. }
+            | Decision::Timed { .. }
+            | Decision::Paired { .. }
+            | Decision::Overlapped { .. } => unreachable!(),
+        }
+    }
+
     /// Writes the text of the answer, which is lent to what writes it: all of it, or a front of it if the sink failed, with one
     /// more fault. It takes no memory.
     pub fn write<S: Sink>(&self, alloc: Global, out: &mut S) -> Result<(), Failed>
@@ -167,33 +248,7 @@ impl Decision<'_> {
         ensures { Writes S.written S.room S.faults out.old out.new (text_of self.now) result }
     {
         match self {
-            Decision::Replayed {
-                machine,
-                events,
-                outcome,
-            } => write_report(
-                alloc,
-                &Report::Replayed {
-                    machine,
-                    events,
-                    outcome,
-                },
-                out,
-            ),
             Decision::Tables { compiled, checked } => write_tables(compiled, checked, out),
-            Decision::Scheduled {
-                machine,
-                graph,
-                schedule,
-            } => write_report(
-                alloc,
-                &Report::Scheduled {
-                    machine,
-                    graph,
-                    schedule,
-                },
-                out,
-            ),
             Decision::Bounded {
                 checked,
                 graph,
@@ -218,66 +273,18 @@ impl Decision<'_> {
                 schedule,
                 kernel,
             } => write_kernel(kernel, machine, graph, schedule, out),
-            Decision::Drilled {
-                turns,
-                issues,
-                cycles,
-                states,
-            } => write_report(
-                alloc,
-                &Report::Drill {
-                    turns: *turns,
-                    issues: *issues,
-                    cycles: *cycles,
-                    states,
-                },
-                out,
-            ),
-            Decision::After { state } => write_report(alloc, &Report::After { state }, out),
-            Decision::Fault {
-                file,
-                line,
-                kind,
-                insn,
-                first,
-                second,
-                at,
-            } => write_report(
-                alloc,
-                &Report::Fault {
-                    file,
-                    line: *line,
-                    kind,
-                    insn: *insn,
-                    first: first.as_ref(),
-                    second: second.as_ref(),
-                    at: *at,
-                },
-                out,
-            ),
-            Decision::Limit {
-                file,
-                line,
-                what,
-                name,
-            } => write_report(
-                alloc,
-                &Report::Checked {
-                    file,
-                    line: *line,
-                    what: *what,
-                    name,
-                },
-                out,
-            ),
-            Decision::Automaton { file, name } => {
-                write_report(alloc, &Report::Automaton { file, name }, out)
-            }
-            Decision::Bytes { file } => write_report(alloc, &Report::Bytes { file }, out),
-            Decision::Insns { file } => write_report(alloc, &Report::Insns { file }, out),
-            Decision::Usage => write_report(alloc, &Report::Usage, out),
-            Decision::Memory => write_report(alloc, &Report::Memory, out),
-            Decision::File { name } => write_report(alloc, &Report::File { name }, out),
+            Decision::Replayed { .. }
+            | Decision::Scheduled { .. }
+            | Decision::Drilled { .. }
+            | Decision::After { .. }
+            | Decision::Fault { .. }
+            | Decision::Limit { .. }
+            | Decision::Automaton { .. }
+            | Decision::Bytes { .. }
+            | Decision::Insns { .. }
+            | Decision::Usage
+            | Decision::Memory
+            | Decision::File { .. } => write_report(alloc, &self.report(), out),
         }
     }
 }

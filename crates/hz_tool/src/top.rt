@@ -1,15 +1,17 @@
 //! The top call: the words, the files, the texts, and then the answer.
 
-ghost use Rattle.std.specs.Prelude.{◌≡◌, ◌⊎◌, ◌↔◌, ℕ, List, ◌-◌, ◌^◌, ◌<◌, ◌≤◌, IfOk, None, Some, All, length};
+ghost use Rattle.std.specs.Prelude.{◌≡◌, ◌⊎◌, ◌↔◌, ℕ, List, ◌-◌, ◌^◌, ◌<◌, ◌≤◌, ◌∷◌, [], IfOk, None, Some, All, length};
 ghost use Rattle.std.specs.Option.{ForSome};
 ghost use Rattle.hz_answer_model.specs.Answers.{Answer, AnswersOrder, JudgesOrder, files_of};
+ghost use Rattle.hz_answer_model.specs.BlockAnswers.{block_limit};
 ghost use Rattle.hz_answer_model.specs.Texts.{memory_line};
+ghost use Rattle.hz_description_model.specs.Reading.Limits.{description_limit};
 ghost use Rattle.hz_words_model.specs.Words as model;
 ghost use Rattle.hz_words_model.specs.Words.{usage_line};
 ghost use Rattle.hz_tool.specs.Decided.{IsTellable};
 ghost use Rattle.hz_tool.specs.Decisions.{Agrees, CountsDecision, DecidesWords, IsFileOf, IsFileWord, IsJudged, IsOfOrder, NamesFile};
 ghost use Rattle.hz_tool.specs.Endings.{AppendsFile, AppendsPromised, Completes, HasAll, HasRoom, IsAppended, IsCutShort};
-ghost use Rattle.hz_tool.specs.Reading.{texts_in, wanted_in};
+ghost use Rattle.hz_tool.specs.Reading.{texts_in, wanted_in, word_of};
 ghost use Rattle.hz_tool_words.specs.Shape.{words_in, order_in};
 
 use crate::commands::bound::judge_bound;
@@ -31,57 +33,80 @@ use hz_tool_words::order::Order;
 use hz_tool_words::order_of;
 use std::alloc::{AllocError, Global};
 
+/// The file of a description alone.
+fn description_alone<'a>(
+    alloc: Global,
+    description: &'a str,
+) -> Result<Vec<FileWord<'a>>, AllocError>
+    ensures { IfOk result (λ files. files.items ≡ word_of description.entry description_limit ∷ []) }
+{
+    Ok(vec![in alloc; description_file(description)]?)
+}
+
+/// Two files.
+fn two_files<'a>(
+    alloc: Global,
+    first: FileWord<'a>,
+    second: FileWord<'a>,
+) -> Result<Vec<FileWord<'a>>, AllocError>
+    ensures { IfOk result (λ files. files.items ≡ first.entry ∷ second.entry ∷ []) }
+{
+    Ok(vec![in alloc; first, second]?)
+}
+
+/// The files of a description and of a block.
+fn description_and_block<'a>(
+    alloc: Global,
+    description: &'a str,
+    block: &'a str,
+) -> Result<Vec<FileWord<'a>>, AllocError>
+    ensures { IfOk result (λ files. files.items ≡ word_of description.entry description_limit ∷ word_of block.entry block_limit ∷ []) }
+{
+    two_files(alloc, description_file(description), block_file(block))
+}
+
+/// Three files.
+fn three_files<'a>(
+    alloc: Global,
+    first: FileWord<'a>,
+    second: FileWord<'a>,
+    third: FileWord<'a>,
+) -> Result<Vec<FileWord<'a>>, AllocError>
+    ensures { IfOk result (λ files. files.items ≡ first.entry ∷ second.entry ∷ third.entry ∷ []) }
+{
+    Ok(vec![in alloc; first, second, third]?)
+}
+
 /// The file words of an order with their limits, in the order in which they are read.
 fn files_of<'a>(alloc: Global, order: &Order<'a>) -> Result<Vec<FileWord<'a>>, AllocError>
     ensures words { IfOk result (λ files. wanted_in files.items ≡ files_of (order_in order.now)) }
     ensures low { IfOk result (λ files. All (λ file. file.most < 2 ^ 32) files.items) }
 {
     match order {
-        Order::Compile(order) => Ok(vec![in alloc; description_file(order.description)]?),
-        Order::Replay(order) => {
-            Ok(vec![in alloc;
-                description_file(order.description),
-                trace_file(order.trace),
-            ]?)
-        }
-        Order::Walk(order) => Ok(vec![in alloc;
-            tables_file(order.tables),
+        Order::Compile(order) => description_alone(alloc, order.description),
+        Order::Replay(order) => two_files(
+            alloc,
+            description_file(order.description),
             trace_file(order.trace),
-        ]?),
-        Order::Schedule(order) => {
-            Ok(vec![in alloc;
-                description_file(order.description),
-                block_file(order.block),
-            ]?)
-        }
-        Order::Eval(order) => Ok(vec![in alloc; block_file(order.block), state_file(order.state)]?),
-        Order::Drill(order) => Ok(vec![in alloc; description_file(order.description)]?),
-        Order::Timed(order) => {
-            Ok(vec![in alloc;
-                description_file(order.description),
-                block_file(order.block),
-                state_file(order.state),
-            ]?)
-        }
-        Order::Bound(order) => {
-            Ok(vec![in alloc;
-                description_file(order.description),
-                block_file(order.block),
-            ]?)
-        }
-        Order::Duo(order) => {
-            Ok(vec![in alloc;
-                description_file(order.description),
-                block_file(order.first),
-                block_file(order.second),
-            ]?)
-        }
-        Order::Modulo(order) => {
-            Ok(vec![in alloc;
-                description_file(order.description),
-                block_file(order.block),
-            ]?)
-        }
+        ),
+        Order::Walk(order) => two_files(alloc, tables_file(order.tables), trace_file(order.trace)),
+        Order::Schedule(order) => description_and_block(alloc, order.description, order.block),
+        Order::Eval(order) => two_files(alloc, block_file(order.block), state_file(order.state)),
+        Order::Drill(order) => description_alone(alloc, order.description),
+        Order::Timed(order) => three_files(
+            alloc,
+            description_file(order.description),
+            block_file(order.block),
+            state_file(order.state),
+        ),
+        Order::Bound(order) => description_and_block(alloc, order.description, order.block),
+        Order::Duo(order) => three_files(
+            alloc,
+            description_file(order.description),
+            block_file(order.first),
+            block_file(order.second),
+        ),
+        Order::Modulo(order) => description_and_block(alloc, order.description, order.block),
     }
 }
 
@@ -196,8 +221,11 @@ pub fn run<F: Files, S: Sink>(alloc: Global, words: &[String], files: &mut F, ou
     ensures promised { ForSome (F.held files.old) (λ held. result ≡ 0 → (order : model.Order) → model.order_of (words_in words.now) ≡ Some order → AppendsPromised held order (S.written out.old) (S.written out.new)) }
 {
     let decision = decide(alloc, words, files);
-    match decision.write(alloc, out) {
-        Ok(()) => decision.status(),
+    let status = decision.status();
+    let written = decision.write(alloc, out);
+    drop(decision);
+    match written {
+        Ok(()) => status,
         Err(_) => 7,
     }
 }

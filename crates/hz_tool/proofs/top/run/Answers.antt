@@ -11,12 +11,12 @@ use Rattle.hz_tool.proofs.top.run.Goals as goal
 pub returns-in-Ok-clause-file_line : goal.returns-in-Ok-clause-file_line
 returns-in-Ok-clause-file_line g c = λ six. record {
   text = _;
-  says = says_file (IsFileWord (words_in c.args.words.now)) c.decide-decision.result (sym c.status.ensures.value ∙ six) c.decide-decision.ensures.file;
+  says = says_file (IsFileWord (words_in c.args.words.now)) c.decide-decision.result (sym c.status-status.ensures.value ∙ six) c.decide-decision.ensures.file;
   appended = c.in-Ok.ensures.appended;
 }
 
-pub returns-clause-cut : goal.returns-clause-cut
-returns-clause-cut g c = λ held told seven. record {
+pub returns-in-Err-clause-cut : goal.returns-in-Err-clause-cut
+returns-in-Err-clause-cut g c = λ held told seven. record {
   text = _;
   may = may_write (Answer (words_in c.args.words.now) held) (IsFileWord (words_in c.args.words.now)) _ _ (g.F.Files.steady c.args.files.now) c.decide-decision.result c.decide-decision.ensures.counts c.decide-decision.ensures.file (c.decide-decision.ensures.answer held told);
   front = c.in-Err.ensures.front;
@@ -28,7 +28,7 @@ returns-clause-cut g c = λ held told seven. record {
 
 pub returns-in-Ok-clause-exact : goal.returns-in-Ok-clause-exact
 returns-in-Ok-clause-exact g c = λ held told same which status text a.
-    subst (λ (n : ℕ). (n ≡ status) ⊎ (n ≡ 5)) (sym c.status.ensures.value) (status_exact (Answer (words_in c.args.words.now) held) (λ s status t text one other. (answer_single (words_in c.args.words.now) held s status t text one other).0) c.decide-decision.result (c.decide-decision.ensures.answer held told which) status text a)
+    subst (λ (n : ℕ). (n ≡ status) ⊎ (n ≡ 5)) (sym c.status-status.ensures.value) (status_exact (Answer (words_in c.args.words.now) held) (λ s status t text one other. (answer_single (words_in c.args.words.now) held s status t text one other).0) c.decide-decision.result (c.decide-decision.ensures.answer held told which) status text a)
 
 pub returns-in-Ok-clause-lacks : goal.returns-in-Ok-clause-lacks
 returns-in-Ok-clause-lacks g c = λ held told steady more.
@@ -36,29 +36,29 @@ returns-in-Ok-clause-lacks g c = λ held told steady more.
 
 pub returns-in-Ok-clause-complete : goal.returns-in-Ok-clause-complete
 returns-in-Ok-clause-complete g c = λ held told same which.
-    subst (λ (n : ℕ). Completes (Answer (words_in c.args.words.now) held) n (g.S.Sink.written c.args.out.now) (g.S.Sink.written c.write.new.out)) (sym c.status.ensures.value)
+    subst (λ (n : ℕ). Completes (Answer (words_in c.args.words.now) held) n (g.S.Sink.written c.args.out.now) (g.S.Sink.written c.write-written.new.out)) (sym c.status-status.ensures.value)
     (completes (Answer (words_in c.args.words.now) held) c.decide-decision.result _ _ (c.decide-decision.ensures.answer held told which) c.in-Ok.ensures.appended)
 
-pub returns-clause-lacks : goal.returns-clause-lacks
-returns-clause-lacks g c = λ held told steady more.
+pub returns-in-Err-clause-lacks : goal.returns-in-Err-clause-lacks
+returns-in-Err-clause-lacks g c = λ held told steady more.
     file_answer (Answer (words_in c.args.words.now) held) (g.F.Files.faults c.args.files.now) _ c.decide-decision.result c.decide-decision.ensures.counts more (c.decide-decision.ensures.answer held told (inr steady))
 
 pub returns-in-Ok-clause-promised : goal.returns-in-Ok-clause-promised
 returns-in-Ok-clause-promised g c = λ held told zero order is.
-    appends_promised (words_in c.args.words.now) held _ _ (g.F.Files.steady c.args.files.now) c.decide-decision.result _ _ c.decide-decision.ensures.counts (c.decide-decision.ensures.answer held told) (sym c.status.ensures.value ∙ zero) order is c.in-Ok.ensures.appended
+    appends_promised (words_in c.args.words.now) held _ _ (g.F.Files.steady c.args.files.now) c.decide-decision.result _ _ c.decide-decision.ensures.counts (c.decide-decision.ensures.answer held told) (sym c.status-status.ensures.value ∙ zero) order is c.in-Ok.ensures.appended
 
 pub returns-in-Ok-clause-neither : goal.returns-in-Ok-clause-neither
 returns-in-Ok-clause-neither g c = λ held told steady all room there has.
     let not_six = no_file (IsFileWord (words_in c.args.words.now)) held c.decide-decision.result all c.decide-decision.ensures.file (c.decide-decision.ensures.lacks held told steady) in
-    let low = c.status.ensures.range in
-    ⊎_elim (λ (few : c.status.result < 6). omega (arith, few))
-    (λ (most : 6 ≤ c.status.result). let six : c.status.result ≡ 6 = omega (arith, low, most) in absurd (not_six (sym c.status.ensures.value ∙ six)))
-    (cases_lt c.status.result 6)
+    let low = c.status-status.ensures.range in
+    ⊎_elim (λ (few : c.status-status.result < 6). omega (arith, few))
+    (λ (most : 6 ≤ c.status-status.result). let six : c.status-status.result ≡ 6 = omega (arith, low, most) in absurd (not_six (sym c.status-status.ensures.value ∙ six)))
+    (cases_lt c.status-status.result 6)
 
-pub returns-clause-neither : goal.returns-clause-neither
-returns-clause-neither g c = λ held told steady all room there has.
+pub returns-in-Err-clause-neither : goal.returns-in-Err-clause-neither
+returns-in-Err-clause-neither g c = λ held told steady all room there has.
     let fits = fits_room (Answer (words_in c.args.words.now) held) (IsFileWord (words_in c.args.words.now)) held room _ _ (g.F.Files.steady c.args.files.now) c.decide-decision.result steady all has c.decide-decision.ensures.counts c.decide-decision.ensures.file (c.decide-decision.ensures.lacks held told steady) (c.decide-decision.ensures.answer held told) in
     absurd (omega (arith, fits, c.in-Err.ensures.exceeded room there))
 
 pub returns-in-Ok-clause-words : goal.returns-in-Ok-clause-words
-returns-in-Ok-clause-words g c = λ four. no_order _ c.decide-decision.result c.decide-decision.ensures.words (sym c.status.ensures.value ∙ four)
+returns-in-Ok-clause-words g c = λ four. no_order _ c.decide-decision.result c.decide-decision.ensures.words (sym c.status-status.ensures.value ∙ four)

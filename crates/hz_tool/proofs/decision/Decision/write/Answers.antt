@@ -8,10 +8,6 @@ use Rattle.hz_tool.specs.Decided.{text_of}
 use Rattle.hz_tool.specs.declared.decision.Decision.{Decision}
 use Rattle.hz_tool.proofs.decision.Decision.write.Goals as goal
 
-pub returns-in-Scheduled : goal.returns-in-Scheduled
-returns-in-Scheduled g c =
-    subst (λ (d : Decision). Writes g.S.Sink.written g.S.Sink.room g.S.Sink.faults c.args.out.now c.write_report-in-Scheduled.new.out (text_of d) c.write_report-in-Scheduled.result) (sym c.in-Scheduled.is) c.write_report-in-Scheduled.ensures
-
 pub returns-in-Bounded : goal.returns-in-Bounded
 returns-in-Bounded g c =
     subst (λ (d : Decision). Writes g.S.Sink.written g.S.Sink.room g.S.Sink.faults c.args.out.now c.write_bound.new.out (text_of d) c.write_bound.result) (sym c.in-Bounded.is) c.write_bound.ensures
@@ -21,7 +17,7 @@ returns-in-Paired g c =
     let at = c.in-Paired in
     subst (λ (d : Decision). Writes g.S.Sink.written g.S.Sink.room g.S.Sink.faults c.args.out.now c.write_duo.new.out (text_of d) c.write_duo.result) (sym at.is)
     (subst (λ (slots : List DuoSlot). Writes g.S.Sink.written g.S.Sink.room g.S.Sink.faults c.args.out.now c.write_duo.new.out (duo_text at.machine.classes.items (map (λ i. i.number) at.first.insns.items) (map (λ i. i.number) at.second.insns.items) (graph_of at.first) (graph_of at.second) (map context_slot slots) at.alone.0 at.alone.1) c.write_duo.result)
-    c.deref-in-Paired.ensures.value c.write_duo.ensures)
+    c.deref.ensures.value c.write_duo.ensures)
 
 pub returns-in-Timed : goal.returns-in-Timed
 returns-in-Timed g c =
