@@ -83,10 +83,10 @@ looking_through() {
     printf 'pub mod LeadingRows\npub mod LeadingLemmas\n' > proofs/Lib.antt
     for file in specs/Leading.antt proofs/LeadingRows.antt proofs/LeadingLemmas.antt is_row/Invariants.antt is_table/Invariants.antt is_table/Answers.antt; do
         case $file in
-            is_*) from=proofs/tables/$file to=proofs/$file ;;
+            is_*) from=proofs/automata/tables/$file to=proofs/$file ;;
             *) from=$file to=$file ;;
         esac
-        sed "s/hz_automata_rows\.proofs\.tables\./$1.proofs./; s/hz_automata_rows\./$1./" "$top/crates/hz_automata_rows/$from" > "$to"
+        sed "s/hz_layer_rows\.proofs\.automata\.tables\./$1.proofs./; s/hz_layer_rows\./$1./" "$top/crates/hz_layer_rows/$from" > "$to"
     done
 }
 

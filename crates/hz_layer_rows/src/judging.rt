@@ -1,6 +1,6 @@
 //! Compares what the rows of a file want with what is answered.
 
-use crate::reader::{Case, Row, read_rows};
+use crate::reader::{Row, read_rows};
 use crate::subject::{Subject, answer};
 use std::alloc::{AllocError, Global};
 use std::rt::Files;
@@ -18,11 +18,10 @@ fn difference(alloc: Global, subject: Subject, row: &Row) -> Result<Option<Strin
     let Some(case) = &row.case else {
         return Ok(Some(String::from_str(alloc, "not a row")?));
     };
-    let found = answer(alloc, subject, &case.text, &case.beside)?;
-    if found.as_bytes() == case.wanted.as_slice() {
-        Ok(None)
-    } else {
-        Ok(Some(found))
+    match answer(alloc, subject, &case.text, &case.beside) {
+        Some(found) if found.as_bytes() == case.wanted.as_slice() => Ok(None),
+        Some(found) => Ok(Some(found)),
+        None => Ok(Some(String::from_str(alloc, "no answer")?)),
     }
 }
 

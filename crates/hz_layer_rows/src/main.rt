@@ -1,56 +1,83 @@
-//! Rows by hand of what each layer below the commands answers, read from the files of `data/`. `reader` says how they are
-//! written.
+//! Rows by hand, and by programs of other languages, of what each layer below the commands answers, read from the files of
+//! `data/`. `reader` says how they are written, and the file of an answer what its texts are.
 #![tactic(auto)]
 
-mod blocks;
-mod checks;
-mod conditions;
-mod depends;
-mod descriptions;
-mod expressions;
+mod automata;
 mod faults;
-mod files;
-mod forms;
 mod judging;
-mod names;
-mod orders;
 mod reader;
-mod sites;
+mod schedules;
 mod subject;
+mod tables;
 mod texts;
-mod words;
+mod written;
 
+use automata::StepRow;
 use judging::{Counts, judge_file};
+use schedules::ScheduleRow;
 use std::io;
 use subject::Subject;
+use subject::Subject::{Schedule, Step, Table, Text};
+use tables::TableRow;
+use texts::TextRow;
 
 /// The files of rows, each with what its rows ask.
-const FILES: [(&str, Subject); 19] = [
-    ("forms.rows", Subject::Forms),
-    ("expressions.rows", Subject::Expressions),
-    ("lists.rows", Subject::Lists),
-    ("names.rows", Subject::Names),
-    ("descriptions.rows", Subject::Descriptions),
-    ("shapes.rows", Subject::Descriptions),
-    ("conditions.rows", Subject::Conditions),
-    ("blocks.rows", Subject::Blocks),
-    ("words.rows", Subject::Words),
-    ("reading.rows", Subject::Reading),
-    ("openings.rows", Subject::Openings),
-    ("sinks.rows", Subject::Sinks),
-    ("sites.rows", Subject::Sites),
-    ("checks.rows", Subject::Checks),
-    ("orders.rows", Subject::Orders),
-    ("classes.rows", Subject::Classes),
-    ("graphs.rows", Subject::Graphs),
-    ("made_graphs.rows", Subject::Graphs),
-    ("faults.rows", Subject::Faults),
+const FILES: [(&str, Subject); 49] = [
+    ("texts/forms.rows", Text(TextRow::Forms)),
+    ("texts/expressions.rows", Text(TextRow::Expressions)),
+    ("texts/lists.rows", Text(TextRow::Lists)),
+    ("texts/names.rows", Text(TextRow::Names)),
+    ("texts/descriptions.rows", Text(TextRow::Descriptions)),
+    ("texts/shapes.rows", Text(TextRow::Descriptions)),
+    ("texts/conditions.rows", Text(TextRow::Conditions)),
+    ("texts/blocks.rows", Text(TextRow::Blocks)),
+    ("texts/words.rows", Text(TextRow::Words)),
+    ("texts/reading.rows", Text(TextRow::Reading)),
+    ("texts/openings.rows", Text(TextRow::Openings)),
+    ("texts/sinks.rows", Text(TextRow::Sinks)),
+    ("texts/sites.rows", Text(TextRow::Sites)),
+    ("texts/checks.rows", Text(TextRow::Checks)),
+    ("texts/orders.rows", Text(TextRow::Orders)),
+    ("texts/classes.rows", Text(TextRow::Classes)),
+    ("texts/graphs.rows", Text(TextRow::Graphs)),
+    ("texts/made_graphs.rows", Text(TextRow::Graphs)),
+    ("texts/faults.rows", Text(TextRow::Faults)),
+    ("automata/grids.rows", Step(StepRow::Grids)),
+    ("automata/joins.rows", Step(StepRow::Joins)),
+    ("automata/rows.rows", Step(StepRow::Rows)),
+    ("automata/units.rows", Step(StepRow::Units)),
+    ("automata/orders.rows", Step(StepRow::Orders)),
+    ("automata/cycles.rows", Step(StepRow::Cycles)),
+    ("automata/reserved.rows", Step(StepRow::Reserved)),
+    ("automata/kept.rows", Step(StepRow::Kept)),
+    ("automata/lists.rows", Step(StepRow::Lists)),
+    ("automata/alternatives.rows", Step(StepRow::Alternatives)),
+    ("automata/limits.rows", Step(StepRow::Limits)),
+    ("automata/within.rows", Step(StepRow::Within)),
+    ("automata/projected.rows", Step(StepRow::Projected)),
+    ("automata/unordered.rows", Step(StepRow::Unordered)),
+    ("automata/fits.rows", Step(StepRow::Fits)),
+    ("automata/counts.rows", Step(StepRow::Counts)),
+    ("automata/automata.rows", Step(StepRow::Automata)),
+    ("automata/asked.rows", Step(StepRow::Asked)),
+    ("automata/least.rows", Step(StepRow::Least)),
+    ("automata/blocks.rows", Step(StepRow::Blocks)),
+    ("automata/packed.rows", Step(StepRow::Packed)),
+    ("automata/forms.rows", Step(StepRow::Forms)),
+    ("automata/faults.rows", Step(StepRow::Faults)),
+    ("tables/compiled.rows", Table(TableRow::Compiled)),
+    ("tables/read.rows", Table(TableRow::Read)),
+    ("tables/written.rows", Table(TableRow::Written)),
+    ("tables/faults.rows", Table(TableRow::Faults)),
+    ("schedules/schedules.rows", Schedule(ScheduleRow::Schedules)),
+    ("schedules/exposed.rows", Schedule(ScheduleRow::Exposed)),
+    ("schedules/faults.rows", Schedule(ScheduleRow::Faults)),
 ];
 
 fn main(rt: HostRuntime) -> io::Result<()> {
     let mut counts = Counts { rows: 0, differ: 0 };
-    for (file, subject) in FILES {
-        judge_file(&rt, file, subject, &mut counts)?;
+    for file in FILES.iter() {
+        judge_file(&rt, file.0, file.1, &mut counts)?;
     }
     let Counts { rows, differ } = counts;
     println!(rt; "{rows} rows, {differ} differ")

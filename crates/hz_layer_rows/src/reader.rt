@@ -13,7 +13,7 @@
 //! A line of these is continued by others: `+` adds a line feed and a text, `~` a text alone, and `* 0..9 TEXT` adds the text
 //! for each number from 0 to 8, with the number in place of `%#` and the next one in place of `%+`.
 
-use crate::texts::{add_repeated, bytes_of, framed};
+use crate::written::{add_repeated, bytes_of, framed};
 use std::alloc::{AllocError, Global};
 
 /// What a row asks, and the answer that is wanted.

@@ -1,80 +1,67 @@
-//! Texts of rows: what stands for bytes that are written otherwise.
+//! What reads and judges texts: files and sinks, forms, expressions, names, descriptions and their check, blocks, words.
 
+pub(crate) mod blocks;
+pub(crate) mod checks;
+pub(crate) mod conditions;
+pub(crate) mod depends;
+pub(crate) mod descriptions;
+pub(crate) mod expressions;
+pub(crate) mod files;
+pub(crate) mod forms;
+pub(crate) mod given;
+pub(crate) mod names;
+pub(crate) mod sites;
+pub(crate) mod words;
+
+use crate::faults;
 use std::alloc::{AllocError, Global};
 
-/// A name of 300 bytes, which `%@` stands for.
-const LONG_NAME: [u8; 300] = [b'n'; 300];
-
-/// The text, or `?` where these bytes are none.
-pub fn text_of(bytes: &[u8]) -> &str {
-    str::from_utf8(bytes).unwrap_or("?")
+/// What the rows of a file ask.
+#[derive(Clone, Copy)]
+pub enum TextRow {
+    Forms,
+    Expressions,
+    Lists,
+    Names,
+    Descriptions,
+    Conditions,
+    Blocks,
+    Words,
+    Reading,
+    Openings,
+    Sinks,
+    Sites,
+    Checks,
+    Orders,
+    Classes,
+    Graphs,
+    Faults,
 }
 
-/// Adds what a piece behind a `%` stands for, and the rest of the piece: `@` for the long name, and two hexadecimal digits
-/// for a byte. It answers whether the piece begins with one of these.
-fn add_piece(out: &mut Vec<u8>, piece: &str) -> Result<bool, AllocError> {
-    if let Some(rest) = piece.strip_prefix('@') {
-        out.extend_from_slice(&LONG_NAME)?;
-        out.extend_from_slice(rest.as_bytes())?;
-        return Ok(true);
-    }
-    let Some((digits, rest)) = piece.split_at_checked(2) else {
-        return Ok(false);
-    };
-    let Ok(byte) = u8::from_str_radix(digits, 16) else {
-        return Ok(false);
-    };
-    out.push(byte)?;
-    out.extend_from_slice(rest.as_bytes())?;
-    Ok(true)
-}
-
-/// The bytes that a written text stands for, or None where it is written wrongly.
-pub fn bytes_of(alloc: Global, written: &str) -> Result<Option<Vec<u8>>, AllocError> {
-    let mut out = Vec::new(alloc);
-    let Some((front, rest)) = written.split_once('%') else {
-        out.extend_from_slice(written.as_bytes())?;
-        return Ok(Some(out));
-    };
-    out.extend_from_slice(front.as_bytes())?;
-    for piece in rest.split('%') {
-        if !add_piece(&mut out, piece)? {
-            return Ok(None);
-        }
-    }
-    Ok(Some(out))
-}
-
-/// Adds a piece once for each number of `FROM..TO`, with the number in place of each `%#` and the next one in place of each
-/// `%+`. It answers whether the numbers can be read.
-pub fn add_repeated(out: &mut String, numbers: &str, piece: &str) -> Result<bool, AllocError> {
-    let alloc = *out.allocator();
-    let Some((from, to)) = numbers.split_once("..") else {
-        return Ok(false);
-    };
-    let (Ok(from), Ok(to)) = (from.parse::<u32>(), to.parse::<u32>()) else {
-        return Ok(false);
-    };
-    for number in from..to {
-        let next = (number + 1).to_string(alloc)?;
-        let number = number.to_string(alloc)?;
-        let one = piece.replace(alloc, "%#", number.as_str())?;
-        out.push_str(one.replace(alloc, "%+", next.as_str())?.as_str())?;
-    }
-    Ok(true)
-}
-
-/// The text of an outer frame with the parts of an inner one round a text in it, or None where the inner one has no `%*`.
-pub fn framed(
+/// What is answered of a text, and of what stands beside it.
+pub fn answer(
     alloc: Global,
-    outer: &str,
-    frame: &str,
-    text: &str,
-) -> Result<Option<String>, AllocError> {
-    let Some((front, back)) = frame.split_once("%*") else {
-        return Ok(None);
-    };
-    let begun = outer.replace(alloc, "%<", front)?;
-    let ended = begun.replace(alloc, "%>", back)?;
-    Ok(Some(ended.replace(alloc, "%*", text)?))
+    subject: TextRow,
+    text: &[u8],
+    beside: &[u8],
+) -> Result<String, AllocError> {
+    match subject {
+        TextRow::Forms => forms::answer(alloc, text),
+        TextRow::Expressions => expressions::answer(alloc, text),
+        TextRow::Lists => names::answer_list(alloc, text),
+        TextRow::Names => names::answer_name(alloc, text),
+        TextRow::Descriptions => descriptions::answer(alloc, text),
+        TextRow::Conditions => conditions::answer(alloc, text, beside),
+        TextRow::Blocks => blocks::answer(alloc, text, beside),
+        TextRow::Words => words::answer(alloc, text),
+        TextRow::Reading => files::answer_reading(alloc, text),
+        TextRow::Openings => files::answer_openings(alloc, text),
+        TextRow::Sinks => files::answer_sink(alloc, text),
+        TextRow::Sites => sites::answer(alloc, text),
+        TextRow::Checks => checks::answer(alloc, text),
+        TextRow::Orders => checks::answer_order(alloc, text),
+        TextRow::Classes => depends::answer_class(alloc, text, beside),
+        TextRow::Graphs => depends::answer_graph(alloc, text, beside),
+        TextRow::Faults => faults::answer_texts(alloc),
+    }
 }

@@ -1,2 +1,0 @@
-pub mod LeadingRows
-pub mod LeadingLemmas

@@ -1,5 +1,0 @@
-use Rattle.hz_automata_rows.proofs.LeadingRows.{LeadsWithin}
-use Rattle.hz_automata_rows.proofs.tables.is_row.Given as goal
-
-abbrev pub invariant-loop-column : goal.invariant-loop-column
-invariant-loop-column l = LeadsWithin l.plain.rows l.state l.column
