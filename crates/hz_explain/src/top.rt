@@ -110,8 +110,11 @@ pub fn run<F: Files, S: Sink>(alloc: Global, words: &[String], files: &mut F, ou
     ensures neither { ForSome (F.held files.old) (λ held. F.steady files.old → HasAll (IsFileWord (words_in words.now)) held → ForSome (S.room out.old) (λ room. HasRoom (WhyAnswer (words_in words.now) held) room → result ≤ 5)) }
 {
     let decision = decide(alloc, words, files);
-    match decision.write(alloc, out) {
-        Ok(()) => decision.status(),
+    let status = decision.status();
+    let written = decision.write(alloc, out);
+    drop(decision);
+    match written {
+        Ok(()) => status,
         Err(_) => 7,
     }
 }

@@ -14,8 +14,10 @@ ghost use Rattle.hz_pipeline_model.specs.Pipelines.Pipelines.{pipeline_with};
 ghost use Rattle.hz_pipeline_model.specs.Traces.TraceLimits.{advance_limit};
 ghost use Rattle.hz_replay.specs.Traces.{events_in, lines_in};
 ghost use Rattle.hz_why_model.specs.Answers.{wording_of, Explains, ReplaysAndExplains};
+ghost use Rattle.hz_why_model.specs.Choices.{IsFirstChoice};
 ghost use Rattle.hz_why_model.specs.Explanations.{TellsLeft, TellsRefusal};
-ghost use Rattle.hz_reasons.specs.Frontiers.{AreEntriesOf, IsFrontier};
+ghost use Rattle.hz_reasons.specs.Frontiers.{AreEntriesOf, IsFrontier, first_of};
+ghost use Rattle.hz_reasons.specs.Holding.{AreHolders};
 ghost use Rattle.hz_reasons.specs.Plans.{IsPlanOf, IsWide};
 ghost use Rattle.hz_reasons.specs.Walking.{taken, AreAsked, ChoosesAll, IsIssueAt, StopsAll};
 ghost use Rattle.hz_reasons.specs.declared.plan.Plan.{Plan};
@@ -29,7 +31,7 @@ use crate::naming::{class_names, query_names, query_numbers};
 use hz_check::Parts;
 use hz_grid::NoMemory;
 use hz_mdread::Description;
-use hz_reasons::{Frontier, Plan, Walked, hold, walk};
+use hz_reasons::{Frontier, Holders, Plan, Walked, hold, walk};
 use hz_replay::{Event, What};
 use std::alloc::Global;
 
@@ -82,6 +84,22 @@ fn answer(
     answer_replay(alloc, &classes, &units, events, walked)
 }
 
+/// Who holds what accepted events leave, by the first choices.
+fn first_holders(
+    alloc: Global,
+    plan: &Plan,
+    events: &[Event],
+    frontier: &Frontier,
+) -> Result<Holders, NoMemory>
+    requires classes { All (IsOfClass (vec_len plan.now.classes)) (events_in events.now) }
+    requires entries { AreEntriesOf plan.now frontier.now }
+    ensures first { IfOk result (λ holders. (m : Pipeline UnitPlace) → IsPlanOf m plan.now → IsFrontier m (events_in events.now) frontier.now → IsFirstChoice m (events_in events.now) (first_of frontier.now).choices) }
+    ensures holders { IfOk result (λ holders. (m : Pipeline UnitPlace) → IsPlanOf m plan.now → IsFrontier m (events_in events.now) frontier.now → AreHolders m (events_in events.now) (lines_in events.now) (first_of frontier.now).choices holders.issues.items) }
+{
+    let choices = frontier.choices(alloc)?;
+    hold(alloc, plan, events, &choices)
+}
+
 /// What accepted events leave, by the first choices.
 fn left(
     alloc: Global,
@@ -96,8 +114,7 @@ fn left(
     requires entries { AreEntriesOf plan.now frontier.now }
     ensures { IfOk result (λ text. (m : Pipeline UnitPlace) → IsPlanOf m plan.now → IsFrontier m (events_in events.now) frontier.now → TellsLeft (wording_of (description desc.now)) m (events_in events.now) (lines_in events.now) text.items) }
 {
-    let choices = frontier.choices(alloc)?;
-    let holders = hold(alloc, plan, events, &choices)?;
+    let holders = first_holders(alloc, plan, events, frontier)?;
     tell_left(alloc, desc, parts, plan, &holders)
 }
 
@@ -118,17 +135,12 @@ fn refusal(
     requires entries { AreEntriesOf plan.now frontier }
     ensures { IfOk result (λ text. (m : Pipeline UnitPlace) → IsPlanOf m plan.now → IsFrontier m (events_in events.now) frontier → TellsRefusal (wording_of (description desc.now)) m (events_in events.now) (lines_in events.now) class text.items) }
 {
-    let choices = frontier.choices(alloc)?;
-    let holders = hold(alloc, plan, events, &choices)?;
-    tell_refusal(
-        alloc,
-        desc,
-        parts,
-        plan,
-        frontier.into_first(),
-        &holders,
-        class,
-    )
+    let holders = first_holders(alloc, plan, events, &frontier);
+    let calendar = frontier.into_first();
+    match holders {
+        Ok(holders) => tell_refusal(alloc, desc, parts, plan, calendar, &holders, class),
+        Err(NoMemory) => Err(NoMemory),
+    }
 }
 
 /// The class of the issue at a place.
