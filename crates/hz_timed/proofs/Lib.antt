@@ -11,3 +11,4 @@ pub mod WaitLemmas
 pub mod LeavingLemmas
 pub mod RangeLemmas
 pub mod WritingLemmas
+pub mod WordLemmas

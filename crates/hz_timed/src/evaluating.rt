@@ -55,7 +55,6 @@ fn push_kept(stores: &mut Vec<Kept>, kept: Option<Kept>) -> Result<(), NoMemory>
 }
 
 /// The word that a value is. All operands are computed, and what is asked for is added.
-#[tactic(auto, using(crate::proofs::AskedLemmas::cell_more, crate::proofs::AskedLemmas::two_more, crate::proofs::AskedLemmas::three_more))]
 fn word_of<S: Sight>(sight: &S, asked: &mut Asked, from: &Value) -> Result<u64, NoMemory>
     requires { S.sees sight.now }
     ensures word { IfOk result (λ word. word ≡ model.value_in (S.seen sight.now) (value from.now)) }
