@@ -19,7 +19,7 @@ TICKS = os.sysconf("SC_CLK_TCK")
 
 
 def processes(top):
-    """The processes of the prover at work here: number and start, words, and seconds of a processor."""
+    """The processes of the prover at work here: number and start, words, and seconds of a processor so far."""
     for number in filter(str.isdigit, os.listdir("/proc")):
         try:
             with open(f"/proc/{number}/cmdline", "rb") as file:
@@ -38,7 +38,8 @@ def sample(path):
     while True:
         began = time.time()
         for key, words, seconds in processes(os.getcwd()):
-            seen[key] = {"words": words[:600], "seconds": seconds}
+            crate = re.search(r"--crate-name (\S+)", words).group(1)
+            seen[key] = {"crate": crate, "column": column_of(words), "seconds": seconds}
         with open(path + ".new", "w") as file:
             json.dump(seen, file)
         os.replace(path + ".new", path)
@@ -57,8 +58,7 @@ def sums(path):
     found = collections.Counter()
     with open(path) as file:
         for one in json.load(file).values():
-            crate = re.search(r"--crate-name (\S+)", one["words"]).group(1)
-            found[crate, column_of(one["words"])] += one["seconds"]
+            found[one["crate"], one["column"]] += one["seconds"]
     return found
 
 
