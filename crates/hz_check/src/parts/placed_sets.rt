@@ -1,7 +1,7 @@
 //! Set statements on units by their places.
 
-ghost use Rattle.std.specs.Prelude.{◌≡◌, All, Contains, IfOk, IfSome, map};
-ghost use Rattle.std.specs.Option.{option_map};
+ghost use Rattle.std.specs.Prelude.{◌≡◌, ◌++◌, All, Contains, IfOk, IfSome, OnOk, map};
+ghost use Rattle.std.specs.Option.{option_map, option_to_list};
 ghost use Rattle.hz_mdread.specs.Shape.{description, set_item, set_kind};
 ghost use Rattle.hz_check.specs.Parts.Assembly.{placed_statement, IsPlaced};
 ghost use Rattle.hz_check.specs.Faults.PastUnits.{IsWithin};
@@ -52,6 +52,16 @@ fn place<'a>(names: &Names<'a>, places: &[UnitPlace], unit: &'a Name) -> Option<
     }
 }
 
+/// Adds a place, if there is one.
+fn add(found: &mut Vec<UnitPlace>, place: Option<UnitPlace>) -> Result<(), NoMemory>
+    ensures { OnOk result (found.new.items ≡ found.old.items ++ option_to_list place) }
+{
+    if let Some(place) = place {
+        found.push(place)?;
+    }
+    Ok(())
+}
+
 /// The places of the units of these names.
 fn places_of<'a>(
     alloc: Global,
@@ -66,9 +76,7 @@ fn places_of<'a>(
 {
     let mut found = Vec::new(alloc);
     for unit in units {
-        if let Some(place) = place(names, places, unit) {
-            found.push(place)?;
-        }
+        add(&mut found, place(names, places, unit))?;
     }
     Ok(found)
 }
