@@ -7,7 +7,6 @@ use Rattle.std.proofs.lemmas.List.Elements.{All-map, All-contains}
 use Rattle.hz_rtl.specs.declared.block.Block.{Block}
 use Rattle.hz_rtl.specs.declared.block.Insn.{Insn}
 use Rattle.hz_check.specs.declared.checked.Checked.{Checked}
-use Rattle.hz_check.specs.declared.checked.CheckedBypass.{CheckedBypass}
 use Rattle.hz_check.specs.Shape.{bypass_of}
 use Rattle.hz_depend.specs.declared.nodes.Node.{Node}
 use Rattle.hz_depend.specs.declared.parts.Edge.{Edge}
@@ -35,14 +34,13 @@ pub record Made (checked : Checked) (insns : List Insn) (nodes : List Node) (edg
   pub holds : map held nodes ≡ map (node_for checked) insns
   pub finds : map edge_of edges ≡ all_found (number (map bypass_of checked.bypasses.items)) (map held nodes) (length nodes)
 
-pub made : (checked : Checked) (insns given : List Insn) (nodes again : List Node) (others : List CheckedBypass) (numbers : Numbers) (edges : List Edge) → given ≡ insns → again ≡ nodes → others ≡ checked.bypasses.items
-    → map held nodes ≡ map (node_for checked) given → HoldsNumbers (map bypass_of others) numbers → map edge_of edges ≡ all_found (numbers_in numbers) (map held again) (length again) → Made checked insns nodes edges
-made checked insns given nodes again others numbers edges same_insns same_nodes same_bypasses holds are finds = record {
+pub made : (checked : Checked) (insns given : List Insn) (nodes again : List Node) (numbers : Numbers) (edges : List Edge) → given ≡ insns → again ≡ nodes
+    → map held nodes ≡ map (node_for checked) given → HoldsNumbers (map bypass_of checked.bypasses.items) numbers → map edge_of edges ≡ all_found (numbers_in numbers) (map held again) (length again) → Made checked insns nodes edges
+made checked insns given nodes again numbers edges same_insns same_nodes holds are finds = record {
   holds = holds ∙ ap (map (node_for checked)) same_insns;
   finds = finds
-      ∙ (ap (λ (cycles : Held → Held → ℕ). all_found cycles (map held again) (length again)) (numbers_are (map bypass_of others) numbers are)
-      ∙ (ap (λ (bs : List CheckedBypass). all_found (number (map bypass_of bs)) (map held again) (length again)) same_bypasses
-      ∙ ap (λ (ns : List Node). all_found (number (map bypass_of checked.bypasses.items)) (map held ns) (length ns)) same_nodes));
+      ∙ (ap (λ (cycles : Held → Held → ℕ). all_found cycles (map held again) (length again)) (numbers_are (map bypass_of checked.bypasses.items) numbers are)
+      ∙ ap (λ (ns : List Node). all_found (number (map bypass_of checked.bypasses.items)) (map held ns) (length ns)) same_nodes);
 }
 
 -- a fault at a place, or a later one

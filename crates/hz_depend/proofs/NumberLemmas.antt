@@ -1,10 +1,9 @@
 -- The numbers of bypasses in rows.
-use Rattle.std.proofs.Common.{◌≡◌, ℕ, zero, suc, ◌+◌, ◌<◌, ◌==◌, Bool, true, false, cond, ◌&&◌, List, [], ◌∷◌, length, map, filter, drop, get_or, Option, Some, None, All, Vec, Global, refl, sym, ap, ◌∙◌, subst, arith}
-use Rattle.std.specs.Prelude.{slice_get, slice_index, slice_index_or}
-use Rattle.std.specs.List.{list_any, find}
+use Rattle.std.proofs.Common.{◌≡◌, ℕ, zero, suc, ◌<◌, Bool, true, false, cond, List, [], ◌∷◌, length, map, filter, get_or, Option, Some, None, All, Vec, Global, refl, sym, ap, ◌∙◌, subst, arith}
+use Rattle.std.specs.Prelude.{not, slice_get, slice_index, slice_index_or}
 use Rattle.std.specs.Option.{option_map}
 use Rattle.std.proofs.Math.Path.{fun_ext}
-use Rattle.std.proofs.lemmas.List.{drop_more, length-map, get_or-map}
+use Rattle.std.proofs.lemmas.List.{length-map, get_or-map}
 use Rattle.std.proofs.lemmas.Option.{slice_get-map, get_or_from_slice_get}
 use Rattle.hz_check.specs.declared.checked.CheckedBypass.{CheckedBypass}
 use Rattle.hz_check.specs.declared.checked.Checked.{Checked}
@@ -17,7 +16,7 @@ use Rattle.hz_block_model.specs.Dependences.Classes.{bypass_between, number_betw
 use Rattle.hz_block_model.specs.Running.Blocks.{Instruction}
 use Rattle.hz_depend.specs.declared.finding.numbers.Numbers.{Numbers}
 use Rattle.hz_depend.proofs.HeldNumbers.{number}
-use Rattle.hz_depend.specs.Numbers.{has_guard, served, numbers_in, HoldsNumbers}
+use Rattle.hz_depend.specs.Numbers.{served, numbers_in, HoldsNumbers}
 
 -- the numbers that are held are those of the bypasses
 pub numbers_are : (bypasses : List BypassParts) (n : Numbers) → HoldsNumbers bypasses n → numbers_in n ≡ number bypasses
@@ -25,34 +24,6 @@ unfolding numbers_in
 numbers_are bypasses n h = fun_ext (λ f. fun_ext (λ s.
     ap (λ (o : Option ℕ). served o (number_at (rows_of n.plain.items) f.class s.class) f.latency f.instruction s.instruction) (h.guarded f.class s.class)
     ∙ ap (λ (o : Option ℕ). served (bypass_between (filter (λ b. b.guard) bypasses) f.class s.class) o f.latency f.instruction s.instruction) (h.plain f.class s.class)))
-
--- a bypass lists two classes
-abbrev pub listed : ℕ → ℕ → BypassParts → Bool
-listed out into b = list_any (λ n. n == out) b.outs && list_any (λ n. n == into) b.ins
-
-module _ (guard : Bool) (b : BypassParts) (bypasses : List BypassParts) (out into : ℕ) where
-  abbrev rest : Option ℕ
-  rest = bypass_between (filter (has_guard guard) bypasses) out into
-
-  -- one bypass more at the front
-  front_by : (g t : Bool) → option_map (λ (b : BypassParts). b.number) (find (listed out into) (cond g (b ∷ filter (has_guard guard) bypasses) (filter (has_guard guard) bypasses))) ≡ cond (g && listed out into b) (Some b.number) rest
-  front_by true t = pick (listed out into b)
-    where
-      pick : (l : Bool) → option_map (λ (b : BypassParts). b.number) (cond l (Some b) (find (listed out into) (filter (has_guard guard) bypasses))) ≡ cond l (Some b.number) rest
-      pick true = refl
-      pick false = refl
-  front_by false t = refl
-
-  pub front : bypass_between (filter (has_guard guard) (b ∷ bypasses)) out into ≡ cond (has_guard guard b && listed out into b) (Some b.number) rest
-  front = front_by (has_guard guard b) true
-
--- a bypass that is read at a place
-pub front_at : (guard : Bool) (bypasses : List CheckedBypass) (k : ℕ) (bypass : CheckedBypass) (out into : ℕ) → k < length bypasses → bypass ≡ get_or bypasses k bypass
-    → bypass_between (filter (has_guard guard) (map bypass_of (drop k bypasses))) out into
-    ≡ cond (has_guard guard (bypass_of bypass) && listed out into (bypass_of bypass)) (Some bypass.number) (bypass_between (filter (has_guard guard) (map bypass_of (drop (k + 1) bypasses))) out into)
-front_at guard bypasses k bypass out into lt is =
-    ap (λ (bs : List CheckedBypass). bypass_between (filter (has_guard guard) (map bypass_of bs)) out into) (drop_more bypasses k bypass lt ∙ ap (λ (b : CheckedBypass). b ∷ drop (k + 1) bypasses) (sym is))
-    ∙ front guard (bypass_of bypass) (map bypass_of (drop (k + 1) bypasses)) out into
 
 -- where there is no number with the guard, it isn't asked
 pub none_served : (b : Bool) (o : Option ℕ) → cond b o o ≡ o
@@ -86,13 +57,15 @@ latency_is checked class c lt is = get_or-map (λ (k : CheckedClass). k.latency)
 pub bounded_at : (bypasses : List CheckedBypass) (k n : ℕ) (b : CheckedBypass) → All (λ b. All (λ c. c < n) b.outs.items × All (λ c. c < n) b.ins.items) bypasses → k < length bypasses → b ≡ get_or bypasses k b → All (λ c. c < n) b.outs.items × All (λ c. c < n) b.ins.items
 bounded_at bypasses k n b all lt is = subst (λ (x : CheckedBypass). All (λ c. c < n) x.outs.items × All (λ c. c < n) x.ins.items) (sym is) (all k b lt)
 
--- the number of two instructions by the first bypasses that are found
-pub ripe_is : (checked : Checked) (others again : List CheckedBypass) (out into : ℕ) (c : CheckedClass) (first second : Instruction) (g p : Option ℕ) (n : ℕ) → others ≡ checked.bypasses.items → again ≡ checked.bypasses.items
-    → out < length checked.classes.items → c ≡ get_or checked.classes.items out c → g ≡ bypass_between (filter (has_guard true) (map bypass_of others)) out into → p ≡ bypass_between (filter (has_guard false) (map bypass_of again)) out into
+-- the number of two instructions by the numbers that are held
+pub ripe_is : (checked : Checked) (numbers : Numbers) (out into : ℕ) (c : CheckedClass) (first second : Instruction) (g p : Option ℕ) (n : ℕ) → HoldsNumbers (map bypass_of checked.bypasses.items) numbers
+    → out < length checked.classes.items → c ≡ get_or checked.classes.items out c → g ≡ number_at (rows_of numbers.guarded.items) out into → p ≡ number_at (rows_of numbers.plain.items) out into
     → n ≡ served g p c.latency first second → n ≡ number_between (map bypass_of checked.bypasses.items) (slice_index (latencies_of checked) out) out into first second
-ripe_is checked others again out into c first second g p n same also lt is with_guard without e =
-    let plain : Option ℕ = bypass_between (filter (has_guard false) (map bypass_of checked.bypasses.items)) out into in
+ripe_is checked numbers out into c first second g p n holds lt is with_guard without e =
+    let bypasses : List BypassParts = map bypass_of checked.bypasses.items in
+    let guarded : Option ℕ = bypass_between (filter (λ b. b.guard) bypasses) out into in
+    let plain : Option ℕ = bypass_between (filter (λ b. not b.guard) bypasses) out into in
     e
-    ∙ (ap (λ (o : Option ℕ). served o p c.latency first second) (with_guard ∙ ap (λ (bs : List CheckedBypass). bypass_between (filter (has_guard true) (map bypass_of bs)) out into) same)
-    ∙ (ap (λ (o : Option ℕ). served (bypass_between (filter (has_guard true) (map bypass_of checked.bypasses.items)) out into) o c.latency first second) (without ∙ ap (λ (bs : List CheckedBypass). bypass_between (filter (has_guard false) (map bypass_of bs)) out into) also)
-    ∙ ap (λ (l : ℕ). served (bypass_between (filter (has_guard true) (map bypass_of checked.bypasses.items)) out into) plain l first second) (sym (latency_is checked out c lt is))))
+    ∙ (ap (λ (o : Option ℕ). served o p c.latency first second) (with_guard ∙ holds.guarded out into)
+    ∙ (ap (λ (o : Option ℕ). served guarded o c.latency first second) (without ∙ holds.plain out into)
+    ∙ ap (λ (l : ℕ). served guarded plain l first second) (sym (latency_is checked out c lt is))))

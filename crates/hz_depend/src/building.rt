@@ -60,7 +60,7 @@ pub fn graph(alloc: Global, checked: &Checked, block: &Block) -> Result<Graph, D
         return Err(DependFault::Class { place, fault });
     }
     let nodes = nodes_of(alloc, checked, &block.insns)?;
-    let numbers = Numbers::new(alloc, &checked.bypasses, checked.classes.len())?;
+    let numbers = Numbers::of(alloc, checked)?;
     let edges = edges_of(alloc, &numbers, &nodes)?;
     let sums = sums_of(alloc, &nodes, &edges)?;
     let insns = insns_of(alloc, &block.insns, &nodes, &sums)?;

@@ -11,5 +11,5 @@ mod parts;
 pub use building::graph;
 pub use class::{ClassFault, class_of};
 pub use fault::DependFault;
-pub use finding::numbers::ripe;
+pub use finding::numbers::Numbers;
 pub use parts::{Edge, Graph, GraphInsn};

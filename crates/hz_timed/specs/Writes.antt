@@ -1,10 +1,12 @@
 -- Writes that are held, as what the definitions speak of.
-use Rattle.std.specs.Prelude.{◌≡◌, ℕ, zero, suc, ◌+◌, ◌<◌, ◌≤◌, Bool, false, ◌&&◌, nat_le, if◌then◌else◌, List, [], ◌∷◌, ◌++◌, map, length, Option, Some, None, slice_get, slice_index_or, All, ⊤}
+use Rattle.std.specs.Prelude.{◌≡◌, ℕ, zero, suc, ◌+◌, ◌<◌, Bool, false, ◌&&◌, nat_le, if◌then◌else◌, List, map, length, Option, Some, None, slice_get, slice_index_or, All, ⊤}
 use Rattle.std.specs.Option.{option_map_or}
 use Rattle.std.specs.Ordering.{nat_cmp}
-use Rattle.std.specs.BTreeMap.{BTreeMap, get, IsOrdered}
+use Rattle.std.specs.BTreeMap.{get, IsOrdered}
 use Rattle.hz_block_model.specs.Running.States as model
 use Rattle.hz_block_model.specs.Running.States.{same_place}
+use Rattle.hz_check.specs.Shape.{bypass_of}
+use Rattle.hz_depend.specs.Numbers.{HoldsNumbers}
 use Rattle.hz_timed.specs.Notes.{Note}
 use Rattle.hz_rtl.specs.declared.state.State.{State}
 use Rattle.hz_timed.specs.declared.looking.Look.{Look}
@@ -23,9 +25,10 @@ number_by w = number_in w.checked.now w.block.now w.graph.now
 abbrev pub place_count : Waits → ℕ
 place_count w = length w.block.now.insns.items
 
--- each instruction has a class
-abbrev pub CanWait : Waits → Type 0
-CanWait w = HasClasses w.checked.now w.block.now w.graph.now
+-- each instruction has a class, and the numbers are those of the description's bypasses
+pub record CanWait (w : Waits) : Type 0 where
+  pub classes : HasClasses w.checked.now w.block.now w.graph.now
+  pub numbers : HoldsNumbers (map bypass_of w.checked.now.bypasses.items) w.numbers.now
 
 -- the last number below another that passes
 abbrev pub last_below : (ℕ → Bool) → ℕ → Option ℕ

@@ -12,7 +12,7 @@ use crate::parts::Timed;
 use crate::timing::run_slots;
 use crate::waits::Waits;
 use hz_check::Checked;
-use hz_depend::Graph;
+use hz_depend::{Graph, Numbers};
 use hz_regexp::NoMemory;
 use hz_rtl::{Block, State};
 use hz_sched::Schedule;
@@ -35,10 +35,12 @@ pub fn exposed(
     ensures timed { IfOk result (λ t. timed_of t ≡ model.exposed (instructions block.now) (number_in checked.now block.now graph.now) (words state.now) (slots_of schedule.now.slots.items)) }
     ensures range { IfOk result (IsInRange block.now schedule.now) }
 {
+    let numbers = Numbers::of(alloc, checked)?;
     let waits = Waits {
         checked,
         block,
         graph,
+        numbers: &numbers,
     };
     let ran = run_slots(alloc, &waits, state, &schedule.slots)?;
     Ok(Timed {

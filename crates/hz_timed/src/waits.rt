@@ -2,21 +2,21 @@
 
 ghost use Rattle.std.specs.Prelude.{◌≡◌, ◌<◌, ◌+◌, Some, nat_le, length, map, slice_get, slice_index};
 ghost use Rattle.hz_rtl.specs.Shape.{instruction, instructions};
-ghost use Rattle.hz_timed.specs.Shape.{HasClasses};
 ghost use Rattle.hz_timed.specs.Writes.{number_by, place_count, CanWait};
 
 use crate::write::Write;
 use hz_check::Checked;
-use hz_depend::{Graph, ripe};
+use hz_depend::{Graph, Numbers};
 use hz_rtl::{Block, Insn};
 use hz_sched::Slot;
 
-/// A block, and the classes of its instructions in a description.
+/// A block, the classes of its instructions in a description, and the numbers of the description's bypasses.
 #[derive(Clone, Copy)]
 pub struct Waits<'a> {
     pub checked: &'a Checked,
     pub block: &'a Block,
     pub graph: &'a Graph,
+    pub numbers: &'a Numbers,
 }
 
 impl Waits<'_> {
@@ -46,7 +46,7 @@ impl Waits<'_> {
         requires second { second < place_count self.now }
         ensures { result ≡ number_by self.now first second }
     {
-        ripe(
+        self.numbers.ripe(
             self.checked,
             self.insn(first),
             self.class(first),

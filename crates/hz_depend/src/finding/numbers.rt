@@ -16,11 +16,14 @@ use hz_regexp::NoMemory;
 use hz_rtl::{Insn, store_data_bypass};
 use std::alloc::Global;
 
-/// The numbers of the bypasses with the guard, and of those without it.
+/// The numbers of bypasses between classes, in cycles: a row for each producing class, with the number for a consuming class at its
+/// place. A row ends after the last class that has one, or later.
 #[derive(Drop)]
 pub struct Numbers {
-    guarded: Vec<Vec<Option<u32>>>,
-    plain: Vec<Vec<Option<u32>>>,
+    /// Those of the bypasses with the guard.
+    pub guarded: Vec<Vec<Option<u32>>>,
+    /// Those of the bypasses without it.
+    pub plain: Vec<Vec<Option<u32>>>,
 }
 
 /// A row for each of so many classes, in which no number is given yet.
@@ -150,11 +153,7 @@ fn served(
 
 impl Numbers {
     /// The numbers of bypasses between so many classes.
-    pub fn new(
-        alloc: Global,
-        bypasses: &[CheckedBypass],
-        classes: usize,
-    ) -> Result<Numbers, NoMemory>
+    fn new(alloc: Global, bypasses: &[CheckedBypass], classes: usize) -> Result<Numbers, NoMemory>
         requires { All (λ b. All (λ n. n < classes) b.outs.items × All (λ n. n < classes) b.ins.items) bypasses.now }
         ensures { IfOk result (HoldsNumbers (map bypass_of bypasses.now)) }
     {
@@ -164,53 +163,43 @@ impl Numbers {
         })
     }
 
+    /// The numbers of the bypasses of a description: of two that list the same classes, both with the guard or both without it, the
+    /// first gives it.
+    pub fn of(alloc: Global, checked: &Checked) -> Result<Numbers, NoMemory>
+        ensures { IfOk result (HoldsNumbers (map bypass_of checked.now.bypasses.items)) }
+    {
+        Numbers::new(alloc, &checked.bypasses, checked.classes.len())
+    }
+
     /// The cycles of a true dependence of the second instruction on the first.
     #[tactic(auto, unfolding(crate::specs::Numbers::numbers_in))]
-    pub fn between(&self, first: &Node<'_>, second: &Node<'_>) -> u32
+    pub(crate) fn between(&self, first: &Node<'_>, second: &Node<'_>) -> u32
         ensures { result ≡ numbers_in self.now (held first.now) (held second.now) }
     {
         let guarded = number_in(&self.guarded, first.class, second.class);
         let plain = number_in(&self.plain, first.class, second.class);
         served(guarded, plain, first.latency, first.insn, second.insn)
     }
-}
 
-/// Whether a bypass has the guard or has none, as it is asked, and leads from one class to another.
-fn leads(bypass: &CheckedBypass, guard: bool, out: u32, into: u32) -> bool
-    ensures { result ≡ (has_guard guard (bypass_of bypass.now) && (list_any (λ n. n == out) bypass.now.outs.items && list_any (λ n. n == into) bypass.now.ins.items)) }
-{
-    is_asked(bypass, guard) && (bypass.outs.contains(&out) && bypass.ins.contains(&into))
-}
-
-/// The number of the first bypass that has the guard, or has none, and leads from one class to another.
-#[tactic(auto, using(crate::proofs::NumberLemmas::front_at))]
-fn number_from(bypasses: &[CheckedBypass], guard: bool, out: u32, into: u32) -> Option<u32>
-    ensures { result ≡ bypass_between (filter (has_guard guard) (map bypass_of bypasses.now)) out into }
-{
-    for bypass in bypasses {
-        if leads(bypass, guard, out, into) {
-            return Some(bypass.number);
-        }
+    /// The cycles from a producer of a class to a consumer of a class that reads what it makes, where all is ready then: those of the
+    /// first bypass with the guard that lists both classes, where the consumer only stores what is made; else those of a bypass
+    /// without it that lists both; else the latency of the producing class. It takes no memory. docs/RULES.md, 'Dependences'.
+    pub fn ripe(
+        &self,
+        checked: &Checked,
+        producer: &Insn,
+        producer_class: u32,
+        consumer: &Insn,
+        consumer_class: u32,
+    ) -> u32
+        requires numbers { HoldsNumbers (map bypass_of checked.now.bypasses.items) self.now }
+        requires producer { producer_class < length checked.now.classes.items }
+        requires consumer { consumer_class < length checked.now.classes.items }
+        ensures { result ≡ number_between (map bypass_of checked.now.bypasses.items) (slice_index (latencies_of checked.now) producer_class) producer_class consumer_class (instruction producer.now) (instruction consumer.now) }
+    {
+        let guarded = number_in(&self.guarded, producer_class, consumer_class);
+        let plain = number_in(&self.plain, producer_class, consumer_class);
+        let latency = checked.classes[producer_class as usize].latency;
+        served(guarded, plain, latency, producer, consumer)
     }
-    None
-}
-
-/// The cycles from a producer of a class to a consumer of a class that reads what it makes, where all is ready then: those of the
-/// first bypass with the guard that lists both classes, where the consumer only stores what is made; else those of a bypass
-/// without it that lists both; else the latency of the producing class. It takes no memory. docs/RULES.md, 'Dependences'.
-pub fn ripe(
-    checked: &Checked,
-    producer: &Insn,
-    producer_class: u32,
-    consumer: &Insn,
-    consumer_class: u32,
-) -> u32
-    requires producer { producer_class < length checked.now.classes.items }
-    requires consumer { consumer_class < length checked.now.classes.items }
-    ensures { result ≡ number_between (map bypass_of checked.now.bypasses.items) (slice_index (latencies_of checked.now) producer_class) producer_class consumer_class (instruction producer.now) (instruction consumer.now) }
-{
-    let guarded = number_from(&checked.bypasses, true, producer_class, consumer_class);
-    let plain = number_from(&checked.bypasses, false, producer_class, consumer_class);
-    let latency = checked.classes[producer_class as usize].latency;
-    served(guarded, plain, latency, producer, consumer)
 }
