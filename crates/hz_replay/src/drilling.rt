@@ -1,6 +1,6 @@
 //! Drawing a trace turn by turn.
 
-ghost use Rattle.std.specs.Prelude.{◌≡◌, ◌+◌, ◌*◌, ◌<◌, ◌≤◌, ◌∷◌, [], length, IfOk, Some};
+ghost use Rattle.std.specs.Prelude.{◌≡◌, ◌+◌, ◌*◌, ◌<◌, ◌≤◌, ◌∷◌, [], length, IfOk, OnErr, Some};
 ghost use Rattle.std.specs.List.{range_with_len};
 ghost use Rattle.std.specs.Option.{ForSome};
 ghost use Rattle.hz_pipeline_model.specs.Traces.Drills as model;
@@ -97,8 +97,8 @@ fn take_turn<L: Ledger>(
 
 /// Draws the trace of so many turns from where the replayer stands, over a machine of so many classes, and leaves the replayer where
 /// the trace ends. One turn is one event, and its line is its place counted from 1. No memory is taken but that of the events, and at
-/// most eight steps for each part and each turn: four to try the issue, and four to advance where it is refused. Where memory ran out
-/// the replayer stands behind some of the turns. Source: this profile, docs/RULES.md, 'Drills'.
+/// most eight steps for each part and each turn: four to try the issue, and four to advance where it is refused. If memory ran out the
+/// replayer stands where it did. Source: this profile, docs/RULES.md, 'Drills'.
 pub fn drill_from<L: Ledger>(
     alloc: Global,
     replayer: &mut Replayer<'_>,
@@ -110,6 +110,7 @@ pub fn drill_from<L: Ledger>(
     requires classes { classes ≡ length replayer.old.machine.classes }
     requires each { length replayer.old.states ≡ length replayer.old.machine.parts }
     ensures machine { replayer.new.machine ≡ replayer.old.machine }
+    ensures stays { OnErr result (replayer.new ≡ replayer.old) }
     ensures drawn { IfOk result (λ events. Drawn (WalksFrom replayer.old) classes number turns (events_in events.items)) }
     ensures states { IfOk result (λ events. parts_walk replayer.old.machine.parts replayer.old.states (events_in events.items) ≡ Some replayer.new.states) }
     ensures lines { IfOk result (λ events. lines_in events.items ≡ range_with_len 1 turns) }

@@ -21,6 +21,8 @@ loop-turn-init g c =
       drawn = ap events_in none;
       walked = ap (λ (es : List Event). parts_walk c.args.replayer.now.machine.parts c.args.replayer.now.states (events_in es)) none ∙ nothing_walked c.args.replayer.now.machine.parts c.args.replayer.now.states c.requires.each;
       lines = ap lines_in none;
+      many = c.in_ok-events.ensures.len;
+      room = omega (arith, c.in_ok-events.ensures.exact);
       cost = omega arith;
     }
 
@@ -47,6 +49,11 @@ loop-turn-preserved g c =
       drawn = subst (λ (es : List model.Event). Drawn (WalksFrom start) c.args.classes c.args.number (i + 1) es) (sym events) (draws_more (WalksFrom start) c.args.classes [] c.args.number i t e before.drawn turn);
       walked = ap (parts_walk start.machine.parts start.states) events ∙ walked_behind start now t before.machine before.walked e c.take_turn-what.new.replayer.states c.take_turn-what.ensures.moved;
       lines = ap lines_in pushed ∙ (lines_push c.loop-turn.events.items _ ∙ (ap (λ (ks : List ℕ). ks ++ (i + 1) ∷ []) before.lines ∙ sym (places_push i (i + 1) refl)));
+      many = omega (arith, c.in_ok-push.ensures.len, before.many);
+      room = omega (arith, c.in_ok-push.ensures.capacity, before.room);
       cost = steps_turn (length start.machine.parts) i c.args.steps.now c.loop-turn.steps c.take_turn-what.new.steps before.cost
           (subst (λ (m : Machine). c.take_turn-what.new.steps ≤ c.loop-turn.steps + 8 * length m.parts) before.machine c.take_turn-what.ensures.cost);
     }
+
+pub returns-in_err-push-clause-stays : goal.returns-in_err-push-clause-stays
+returns-in_err-push-clause-stays g c = absurd (omega (arith, c.in_err-push.ensures.full, c.loop-turn.invariant.many, c.loop-turn.invariant.room, c.loop-turn-test.true))

@@ -1,4 +1,5 @@
-use Rattle.std.proofs.Common.{◌≡◌, ◌+◌, ◌*◌, ◌≤◌, length, Some}
+use Rattle.std.proofs.Common.{◌≡◌, ◌+◌, ◌*◌, ◌≤◌, length, Some, vec_len}
+use Rattle.std.specs.Prelude.{vec_capacity}
 use Rattle.std.specs.List.{range_with_len}
 use Rattle.hz_pipeline_model.specs.Traces.Drills.{number_after, Drawn}
 use Rattle.hz_pipeline_model.specs.Tables.Machines.{parts_walk}
@@ -14,5 +15,7 @@ invariant-loop-turn g l = record {
   drawn : Drawn (WalksFrom l.fn.replayer) l.classes l.number l.turn (events_in l.events.items);
   walked : parts_walk l.fn.replayer.machine.parts l.fn.replayer.states (events_in l.events.items) ≡ Some l.replayer.states;
   lines : lines_in l.events.items ≡ range_with_len 1 l.turn;
+  many : vec_len l.events ≡ l.turn;
+  room : l.turns ≤ vec_capacity l.events;
   cost : l.steps ≤ l.fn.steps + 8 * length l.fn.replayer.machine.parts * l.turn;
 }
