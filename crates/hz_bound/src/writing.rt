@@ -14,17 +14,8 @@ use hz_check::Checked;
 use hz_depend::Graph;
 use hz_io::{Failed, Sink, put_all};
 use hz_regexp::Name;
-use hz_sched::Schedule;
+use hz_sched::{Schedule, number_at};
 use itoa::Buffer;
-
-/// The number of the instruction at a place.
-fn number_at(graph: &Graph, place: u32) -> u32
-    requires { place < length graph.now.insns.items }
-    ensures { result ≡ slice_index (map (λ i. i.number) graph.now.insns.items) place }
-{
-    let insn = &graph.insns[place as usize];
-    insn.number
-}
 
 /// Writes a number behind a blank.
 fn put_number<S: Sink>(out: &mut S, number: u32) -> Result<(), Failed>
@@ -177,17 +168,6 @@ fn put_rest<S: Sink>(
     }
 }
 
-/// The cycle of the last issue, 0 where there is none.
-fn last_cycle(schedule: &Schedule) -> u32
-    ensures { result ≡ present 0 (slots_of schedule.now.slots.items) }
-{
-    let mut cycle = 0;
-    for slot in &schedule.slots {
-        cycle = slot.cycle;
-    }
-    cycle
-}
-
 /// Writes the four lines of all.
 fn put_bound<S: Sink>(
     out: &mut S,
@@ -220,5 +200,5 @@ pub fn write_bound<S: Sink>(
     requires range { IsInRange checked.now graph.now bound.now }
     ensures { Writes S.written S.room S.faults out.old out.new (model.bound_text (names_of checked.now) (map (λ i. i.number) graph.now.insns.items) (bound_of bound.now) (present 0 (slots_of schedule.now.slots.items))) result }
 {
-    put_bound(out, bound, checked, graph, last_cycle(schedule))
+    put_bound(out, bound, checked, graph, schedule.last_cycle())
 }

@@ -1,4 +1,4 @@
--- Graphs that are joined are what the definitions say, and can be scheduled.
+-- Graphs that are joined can be scheduled.
 use Rattle.std.proofs.Common.{◌≡◌, ℕ, ◌+◌, ◌<◌, ◌≤◌, ⊎_elim, List, ◌++◌, map, length, get_or, All, Contains, sym, ap, ◌∙◌, subst, arith}
 use Rattle.std.proofs.lemmas.List.{length-map, length-append, map-append}
 use Rattle.std.proofs.lemmas.List.Elements.{All-append, All-contains, Contains-get_or, Contains-append_cases}
@@ -13,24 +13,6 @@ use Rattle.hz_depend.specs.declared.parts.GraphInsn.{GraphInsn}
 use Rattle.hz_depend.specs.GraphShape.{edge_of, IsSchedulable}
 use Rattle.hz_sched.specs.Shape.{node_of, graph_of}
 use Rattle.hz_measure_model.specs.TwoContexts.Joining as model
-
--- the instructions and the edges of both make the joined graph
-pub is_joined : (first second made : Graph) (count : ℕ) → count ≡ length first.insns.items → made.insns.items ≡ first.insns.items ++ second.insns.items → map edge_of made.edges.items ≡ map edge_of first.edges.items ++ map (model.raised count) (map edge_of second.edges.items) → graph_of made ≡ model.joined (graph_of first) (graph_of second)
-is_joined first second made count many insns edges = λ i. record { nodes = nodes i; edges = all i }
-  where
-    nodes : map node_of made.insns.items ≡ map node_of first.insns.items ++ map node_of second.insns.items
-    nodes = ap (map node_of) insns ∙ map-append node_of first.insns.items second.insns.items
-
-    all : map edge_of made.edges.items ≡ map edge_of first.edges.items ++ map (model.raised (length (map node_of first.insns.items))) (map edge_of second.edges.items)
-    all = edges ∙ ap (λ (n : ℕ). map edge_of first.edges.items ++ map (model.raised n) (map edge_of second.edges.items)) (many ∙ sym (length-map first.insns.items node_of))
-
--- edges of a graph that can be scheduled have both ends in range
-pub inside : (n : ℕ) (g : Graph) → IsSchedulable n g → All (λ e. (e.from < length g.insns.items) × (e.to < length g.insns.items)) g.edges.items
-inside n g is k d lt = let (up, low, small) = is.edges k d lt in (omega (arith, up, low), low)
-
--- edges whose ends are in range have small ones
-pub small_ends : (edges view : List Edge) (n : ℕ) → view ≡ edges → n ≤ instruction_limit → All (λ e. (e.from < n) × (e.to < n)) edges → All (λ e. (e.from < instruction_limit) × (e.to < instruction_limit)) view
-small_ends edges view n same few all = subst (All (λ (e : Edge). (e.from < instruction_limit) × (e.to < instruction_limit))) (sym same) (λ k d lt. let (from, to) = all k d lt in (omega (arith, from, few), omega (arith, to, few)))
 
 module _ (n : ℕ) (first second made : Graph) (one : IsSchedulable n first) (other : IsSchedulable n second) (few : length first.insns.items + length second.insns.items ≤ instruction_limit)
     (insns : made.insns.items ≡ first.insns.items ++ second.insns.items) (joined : graph_of made ≡ model.joined (graph_of first) (graph_of second)) where

@@ -32,13 +32,8 @@ fn insns_of(
 ) -> Result<Vec<GraphInsn>, NoMemory>
     ensures { IfOk result (λ insns. insns.items ≡ first.now ++ second.now) }
 {
-    let mut insns = Vec::new(alloc);
-    for insn in first {
-        insns.push(*insn)?;
-    }
-    for more in second {
-        insns.push(*more)?;
-    }
+    let mut insns = Vec::from_slice(alloc, first)?;
+    insns.extend_from_slice(second)?;
     Ok(insns)
 }
 
@@ -48,12 +43,9 @@ fn edges_of(alloc: Global, first: &[Edge], second: &[Edge], by: u32) -> Result<V
     requires places { All (λ e. (e.from < instruction_limit) × (e.to < instruction_limit)) second.now }
     ensures { IfOk result (λ edges. map edge_of edges.items ≡ map edge_of first.now ++ map (model.raised by) (map edge_of second.now)) }
 {
-    let mut edges = Vec::new(alloc);
-    for edge in first {
-        edges.push(*edge)?;
-    }
-    for more in second {
-        edges.push(raised(*more, by))?;
+    let mut edges = Vec::from_slice(alloc, first)?;
+    for edge in second {
+        edges.push(raised(*edge, by))?;
     }
     Ok(edges)
 }

@@ -1,9 +1,8 @@
 //! The text of a schedule of two blocks.
 
-ghost use Rattle.std.specs.Prelude.{◌≡◌, ◌-◌, ◌^◌, ◌<◌, ◌++◌, ◌==◌, [], length, map, All, slice_index, slice_index_or, if◌then◌else◌};
+ghost use Rattle.std.specs.Prelude.{◌≡◌, ◌-◌, ◌^◌, ◌<◌, ◌++◌, length, map, All};
 ghost use Rattle.std.specs.List.{flat_map};
 ghost use Rattle.hz_io.specs.Sink.{Writes};
-ghost use Rattle.hz_block_model.specs.Scheduling.Schedules.{class_at};
 ghost use Rattle.hz_sched.specs.Shape.{graph_of};
 ghost use Rattle.hz_measure_model.specs.TwoContexts.Texts as model;
 ghost use Rattle.hz_duo.specs.Shape.{context_slot, IsOfEither, AreInRange, IsInRange};
@@ -12,35 +11,9 @@ use crate::parts::DuoSlot;
 use hz_depend::Graph;
 use hz_io::{Failed, Sink, put_all};
 use hz_regexp::Name;
+use hz_sched::{class_name, number_at};
 use hz_tables::Machine;
 use itoa::Buffer;
-
-/// The number of the instruction at a place.
-fn number_at(graph: &Graph, place: u32) -> u32
-    requires { place < length graph.now.insns.items }
-    ensures { result ≡ slice_index (map (λ i. i.number) graph.now.insns.items) place }
-{
-    let insn = &graph.insns[place as usize];
-    insn.number
-}
-
-/// The number of its class.
-fn class_of(graph: &Graph, place: u32) -> u32
-    requires { place < length graph.now.insns.items }
-    ensures { result ≡ class_at (graph_of graph.now) place }
-{
-    let insn = &graph.insns[place as usize];
-    insn.class
-}
-
-/// The name of its class.
-fn class_name<'a>(machine: &'a Machine, graph: &Graph, place: u32) -> &'a Name
-    requires place { place < length graph.now.insns.items }
-    requires classes { All (λ i. i.class < length machine.now.classes.items) graph.now.insns.items }
-    ensures { result.now ≡ slice_index_or machine.now.classes.items (class_at (graph_of graph.now) place) [] }
-{
-    &machine.classes[class_of(graph, place) as usize]
-}
 
 /// Writes a line: the cycle and the context, and the number and the class of the instruction that is issued.
 fn put_line<S: Sink>(

@@ -1,5 +1,4 @@
 mod CopyLemmas
-mod GraphLemmas
 mod CycleLemmas
 mod EdgeLemmas
 mod SortLemmas

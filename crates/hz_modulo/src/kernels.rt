@@ -3,7 +3,7 @@
 ghost use Rattle.std.specs.Prelude.{◌≡◌, ◌≤◌, ◌<◌, ◌*◌, length, map, All, IfOk};
 ghost use Rattle.hz_pipeline_model.specs.Tables.Machines.{IsWalked};
 ghost use Rattle.hz_block_model.specs.Scheduling.Machines.{Settles, most_wait};
-ghost use Rattle.hz_block_model.specs.Scheduling.Schedules.{Legal, present};
+ghost use Rattle.hz_block_model.specs.Scheduling.Schedules.{Legal};
 ghost use Rattle.hz_depend.specs.GraphShape.{IsGraphOf, IsSchedulable};
 ghost use Rattle.hz_sched.specs.Shape.{graph_of, slots_of};
 ghost use Rattle.hz_tables.specs.Machines.{machine_of};
@@ -19,7 +19,7 @@ use hz_check::Checked;
 use hz_depend::{Graph, GraphInsn};
 use hz_regexp::NoMemory;
 use hz_rtl::Block;
-use hz_sched::{Schedule, Slot};
+use hz_sched::Schedule;
 use hz_tables::Machine;
 use std::alloc::Global;
 
@@ -32,17 +32,6 @@ fn classes_of(alloc: Global, insns: &[GraphInsn]) -> Result<Vec<u32>, NoMemory>
         classes.push(insn.class)?;
     }
     Ok(classes)
-}
-
-/// The cycle of the last slot, 0 where there is none.
-pub fn last_cycle(slots: &[Slot]) -> u32
-    ensures { result ≡ present 0 (slots_of slots.now) }
-{
-    let mut cycle = 0;
-    for slot in slots {
-        cycle = slot.cycle;
-    }
-    cycle
 }
 
 /// The kernel of a loop whose body is a block of at most 256 instructions, where each turn is placed as this schedule of the block:
@@ -68,7 +57,7 @@ pub fn kernel(
     let classes = classes_of(alloc, &graph.insns)?;
     let edges = turn_edges(alloc, checked, block, graph)?;
     let cycles = cycles_of(alloc, &schedule.slots, graph.insns.len())?;
-    let last = last_cycle(&schedule.slots);
+    let last = schedule.last_cycle();
     let first = first_interval(&cycles, last, &edges);
     first_kernel(alloc, machine, &classes, &schedule.slots, last, first)
 }

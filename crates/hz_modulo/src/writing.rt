@@ -1,49 +1,21 @@
 //! The text of a kernel.
 
-ghost use Rattle.std.specs.Prelude.{◌≡◌, ◌-◌, ◌^◌, ◌<◌, ◌++◌, [], length, map, All, slice_index, slice_index_or};
+ghost use Rattle.std.specs.Prelude.{◌-◌, ◌^◌, ◌<◌, ◌++◌, length, map, All};
 ghost use Rattle.std.specs.List.{flat_map};
 ghost use Rattle.hz_io.specs.Sink.{Writes};
-ghost use Rattle.hz_block_model.specs.Scheduling.Schedules.{class_at, present};
+ghost use Rattle.hz_block_model.specs.Scheduling.Schedules.{present};
 ghost use Rattle.hz_measure_model.specs.Kernels.KernelTexts as model;
 ghost use Rattle.hz_sched.specs.Shape.{graph_of, slots_of};
 ghost use Rattle.hz_modulo.specs.Walking.{kernel_slot_of};
 ghost use Rattle.hz_modulo.specs.Kernels.{IsInRange};
 
-use crate::kernels::last_cycle;
 use crate::parts::{Kernel, KernelSlot};
 use hz_depend::Graph;
 use hz_io::{Failed, Sink, put_all};
 use hz_regexp::Name;
-use hz_sched::Schedule;
+use hz_sched::{Schedule, class_name, number_at};
 use hz_tables::Machine;
 use itoa::Buffer;
-
-/// The number of the instruction at a place.
-fn number_at(graph: &Graph, place: u32) -> u32
-    requires { place < length graph.now.insns.items }
-    ensures { result ≡ slice_index (map (λ i. i.number) graph.now.insns.items) place }
-{
-    let insn = &graph.insns[place as usize];
-    insn.number
-}
-
-/// The number of its class.
-fn class_of(graph: &Graph, place: u32) -> u32
-    requires { place < length graph.now.insns.items }
-    ensures { result ≡ class_at (graph_of graph.now) place }
-{
-    let insn = &graph.insns[place as usize];
-    insn.class
-}
-
-/// The name of its class.
-fn class_name<'a>(machine: &'a Machine, graph: &Graph, place: u32) -> &'a Name
-    requires place { place < length graph.now.insns.items }
-    requires classes { All (λ i. i.class < length machine.now.classes.items) graph.now.insns.items }
-    ensures { result.now ≡ slice_index_or machine.now.classes.items (class_at (graph_of graph.now) place) [] }
-{
-    &machine.classes[class_of(graph, place) as usize]
-}
 
 /// Writes the first lines: the interval, and how many stages there are.
 fn put_interval<S: Sink>(out: &mut S, interval: u32, stages: u32) -> Result<(), Failed>
@@ -191,7 +163,7 @@ pub fn write_kernel<S: Sink>(
     ensures { Writes S.written S.room S.faults out.old out.new (model.text_of_slots machine.now.classes.items (map (λ i. i.number) graph.now.insns.items) (graph_of graph.now) (map kernel_slot_of kernel.now.slots.items) kernel.now.interval kernel.now.stages kernel.now.first_edge kernel.now.second_edge (present 0 (slots_of schedule.now.slots.items))) result }
 {
     match put_interval(out, kernel.interval, kernel.stages) {
-        Ok(()) => put_rest(out, machine, graph, kernel, last_cycle(&schedule.slots)),
+        Ok(()) => put_rest(out, machine, graph, kernel, schedule.last_cycle()),
         Err(failed) => Err(failed),
     }
 }

@@ -1,4 +1,3 @@
 pub mod BehindLemmas
-pub mod ScheduleLemmas
 pub mod FaultLines
 pub mod ReplayLemmas

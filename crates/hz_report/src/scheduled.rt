@@ -1,46 +1,18 @@
 //! Writing a schedule.
 
-ghost use Rattle.std.specs.Prelude.{◌≡◌, ◌-◌, ◌^◌, ◌<◌, [], map, length, All, slice_index, slice_index_or};
+ghost use Rattle.std.specs.Prelude.{◌≡◌, ◌-◌, ◌^◌, ◌<◌, map, length, All};
 ghost use Rattle.std.specs.List.{flat_map};
 ghost use Rattle.hz_io.specs.Sink.{Writes};
 ghost use Rattle.hz_answer_model.specs.Texts as model;
 ghost use Rattle.hz_sched.specs.Shape.{graph_of, slot_of, slots_of};
-ghost use Rattle.hz_block_model.specs.Scheduling.Schedules.{class_at, present};
 ghost use Rattle.hz_report.specs.Schedules.{IsInRange, line_by, schedule_by};
 
 use hz_depend::Graph;
 use hz_io::{Failed, Sink, put_all};
 use hz_regexp::Name;
-use hz_sched::{Schedule, Slot};
+use hz_sched::{Schedule, Slot, class_name, number_at};
 use hz_tables::Machine;
 use itoa::Buffer;
-
-/// The number of the instruction at a place.
-fn number_at(graph: &Graph, place: u32) -> u32
-    requires { place < length graph.now.insns.items }
-    ensures { result ≡ slice_index (map (λ i. i.number) graph.now.insns.items) place }
-{
-    let insn = &graph.insns[place as usize];
-    insn.number
-}
-
-/// The number of its class.
-fn class_of(graph: &Graph, place: u32) -> u32
-    requires { place < length graph.now.insns.items }
-    ensures { result ≡ class_at (graph_of graph.now) place }
-{
-    let insn = &graph.insns[place as usize];
-    insn.class
-}
-
-/// The name of its class.
-fn class_name<'a>(machine: &'a Machine, graph: &Graph, place: u32) -> &'a Name
-    requires place { place < length graph.now.insns.items }
-    requires classes { All (λ i. i.class < length machine.now.classes.items) graph.now.insns.items }
-    ensures { result.now ≡ slice_index_or machine.now.classes.items (class_at (graph_of graph.now) place) [] }
-{
-    &machine.classes[class_of(graph, place) as usize]
-}
 
 /// Writes a line: the cycle, and the number and the class of the instruction that is issued.
 fn put_line<S: Sink>(out: &mut S, cycle: u32, number: u32, class: &Name) -> Result<(), Failed>
@@ -103,17 +75,6 @@ fn put_slots<S: Sink>(
     Ok(())
 }
 
-/// The cycle of the last issue, 0 where there is none.
-fn last_cycle(schedule: &Schedule) -> u32
-    ensures { result ≡ present 0 (slots_of schedule.now.slots.items) }
-{
-    let mut cycle = 0;
-    for slot in &schedule.slots {
-        cycle = slot.cycle;
-    }
-    cycle
-}
-
 /// How many issues there are.
 fn count_of(schedule: &Schedule) -> u64
     ensures { result ≡ length (slots_of schedule.now.slots.items) }
@@ -152,7 +113,7 @@ pub fn put_schedule<S: Sink>(
     ensures { Writes S.written S.room S.faults out.old out.new (schedule_by machine.now.classes.items (map (λ i. i.number) graph.now.insns.items) (graph_of graph.now) (slots_of schedule.now.slots.items)) result }
 {
     match put_slots(out, machine, graph, &schedule.slots) {
-        Ok(()) => put_end(out, count_of(schedule), last_cycle(schedule)),
+        Ok(()) => put_end(out, count_of(schedule), schedule.last_cycle()),
         Err(failed) => Err(failed),
     }
 }

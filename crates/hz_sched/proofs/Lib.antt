@@ -1,6 +1,7 @@
 pub mod ResultLemmas
 pub mod RowLemmas
 pub mod SpellLemmas
+pub mod NamingLemmas
 pub mod SlotLemmas
 pub mod WaitLemmas
 pub mod WalkLemmas

@@ -1,15 +1,9 @@
 -- The trace of one more slot.
-use Rattle.std.proofs.Common.{◌≡◌, ℕ, zero, suc, ◌+◌, ◌<◌, List, [], ◌∷◌, ◌++◌, map, length, get_or, sym, ap, ◌∙◌, arith}
-use Rattle.std.specs.Prelude.{slice_index}
+use Rattle.std.proofs.Common.{◌≡◌, ℕ, zero, suc, ◌+◌, List, [], ◌∷◌, ◌++◌, length, sym, ap, ◌∙◌, arith}
 use Rattle.std.specs.List.{range_with_len}
-use Rattle.std.proofs.lemmas.List.{map-append, length-append, length-map, get_or-map}
-use Rattle.hz_depend.specs.declared.parts.GraphInsn.{GraphInsn}
+use Rattle.std.proofs.lemmas.List.{map-append, length-append}
 use Rattle.hz_replay.specs.declared.event.Event as trace
-use Rattle.hz_sched.specs.Shape.{node_of, AreNumbered}
-use Rattle.hz_pipeline_model.specs.Accepting.Events.{Event}
-use Rattle.hz_block_model.specs.Scheduling.Schedules.{Node}
-
--- ---- lines
+use Rattle.hz_sched.specs.Shape.{AreNumbered}
 
 one_more_number : (a n : ℕ) → range_with_len a (suc n) ≡ range_with_len a n ++ (a + n) ∷ []
 one_more_number a zero = let same : a ≡ a + 0 = omega arith in ap (λ (k : ℕ). k ∷ []) same
@@ -25,12 +19,3 @@ numbered_more events e numbered line =
     ∙ (ap (λ (ks : List ℕ). ks ++ e.line ∷ []) numbered
     ∙ (ap (λ (k : ℕ). range_with_len 1 (length events) ++ k ∷ []) at
     ∙ (sym (one_more_number 1 (length events)) ∙ ap (range_with_len 1) (sym long))))
-
--- ---- classes
-
-pub class_of_node : (insns : List GraphInsn) (place : ℕ) (x : GraphInsn) → place < length insns → x ≡ get_or insns place x → x.class ≡ slice_index (map (λ n. n.class) (map node_of insns)) place
-class_of_node insns place x within is =
-    let long = length-map insns node_of in
-    ap (λ (i : GraphInsn). i.class) is
-    ∙ (ap (λ (n : Node). n.class) (sym (get_or-map node_of insns place x (node_of x) within))
-    ∙ sym (get_or-map (λ (n : Node). n.class) (map node_of insns) place (node_of x) 0 (omega (arith, long, within))))

@@ -6,6 +6,7 @@ use Rattle.hz_replay.specs.Traces.{lines_in}
 use Rattle.hz_depend.specs.declared.parts.Graph as depend
 use Rattle.hz_depend.specs.declared.parts.GraphInsn.{GraphInsn}
 use Rattle.hz_depend.specs.GraphShape.{edge_of}
+use Rattle.hz_block_model.specs.Scheduling.Machines.{stuck_word}
 use Rattle.hz_block_model.specs.Scheduling.Schedules.{Node, Graph}
 use Rattle.hz_block_model.specs.Scheduling.Schedules as model
 use Rattle.hz_sched.specs.declared.parts.Slot.{Slot}
@@ -30,6 +31,11 @@ abbrev pub alone_in : Result Schedule SchedFault → Option ℕ
 alone_in (Ok schedule) = None
 alone_in (Err (CannotStartAlone place)) = Some place
 alone_in (Err NoMemory) = None
+
+-- the word by which a fault is told, and the place of its instruction; want of memory is none
+abbrev pub told_of : SchedFault → Option (List ℕ × ℕ)
+told_of (CannotStartAlone place) = Some (stuck_word, place)
+told_of NoMemory = None
 
 -- the line of each event is its place, from 1
 abbrev pub AreNumbered : List Event → Type 0

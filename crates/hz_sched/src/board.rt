@@ -9,9 +9,9 @@ ghost use Rattle.hz_sched.specs.Waits.{issued_at, and_issued};
 ghost use Rattle.hz_sched.specs.Pending.{key_of, keys_at, AreWaits, IsQueue, AreLater};
 ghost use Rattle.hz_block_model.specs.Running.Limits.{instruction_limit};
 
+use crate::naming::class_at;
 use crate::parts::Slot;
 use crate::queue::{Queue, height_at};
-use crate::spelling::class_at;
 use crate::waiting::{counts_of, release};
 use hz_depend::{Edge, Graph};
 use hz_regexp::NoMemory;

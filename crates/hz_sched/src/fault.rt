@@ -1,5 +1,9 @@
 //! Why a block is not scheduled.
 
+ghost use Rattle.std.specs.Prelude.{◌≡◌};
+ghost use Rattle.hz_base_model.specs.Told.{told_in};
+ghost use Rattle.hz_sched.specs.Shape.{told_of};
+
 use thiserror::Error;
 
 /// Why a block is not scheduled.
@@ -11,4 +15,16 @@ pub enum SchedFault {
     /// Memory ran out.
     #[error("out of memory")]
     NoMemory,
+}
+
+impl SchedFault {
+    /// The word by which the fault is told, and the place of its instruction; None for want of memory. docs/FORMATS.md, 'Answers'.
+    pub fn told(&self) -> Option<(&'static str, u32)>
+        ensures { told_in result ≡ told_of self.now }
+    {
+        match self {
+            SchedFault::CannotStartAlone { place } => Some(("CannotStartAlone", *place)),
+            SchedFault::NoMemory => None,
+        }
+    }
 }

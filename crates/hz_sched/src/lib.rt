@@ -4,6 +4,7 @@
 mod board;
 mod fault;
 mod fitting;
+mod naming;
 mod parts;
 mod queue;
 mod rows;
@@ -12,6 +13,7 @@ mod spelling;
 mod waiting;
 
 pub use fault::SchedFault;
+pub use naming::{class_name, number_at};
 pub use parts::{Schedule, Slot};
 pub use rows::outgoing;
 pub use scheduling::{first_stuck, schedule};

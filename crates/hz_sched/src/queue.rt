@@ -16,7 +16,7 @@ ghost use Rattle.hz_sched.specs.Pending.{key_cmp, wait_cmp, may, keys_at, ripe_f
 ghost use Rattle.hz_block_model.specs.Running.Limits.{instruction_limit};
 
 use crate::fitting::fits;
-use crate::spelling::class_at;
+use crate::naming::class_at;
 use hz_depend::{Edge, Graph};
 use hz_regexp::NoMemory;
 use hz_tables::Machine;

@@ -7,6 +7,7 @@ ghost use Rattle.hz_replay.specs.Traces.{events_in, lines_in};
 ghost use Rattle.hz_block_model.specs.Scheduling.Schedules as model;
 ghost use Rattle.hz_sched.specs.Shape.{graph_of, slots_of, AreNumbered};
 
+use crate::naming::class_at;
 use crate::parts::Schedule;
 use hz_depend::Graph;
 use hz_regexp::NoMemory;
@@ -38,15 +39,6 @@ fn add_advance(events: &mut Vec<Event>, cycle: u32, later: u32) -> Result<(), No
         add(events, What::Advance(later - cycle))?;
     }
     Ok(())
-}
-
-/// The class of an instruction.
-pub fn class_at(graph: &Graph, place: u32) -> u32
-    requires { place < length graph.now.insns.items }
-    ensures { result ≡ model.class_at (graph_of graph.now) place }
-{
-    let insn = &graph.insns[place as usize];
-    insn.class
 }
 
 /// The trace of a schedule: for each slot the advance to its cycle, where that is later than the one before, and the issue of

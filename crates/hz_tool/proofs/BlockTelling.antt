@@ -1,6 +1,6 @@
 -- What is decided of a block without a schedule, or without a graph, is the answer.
-use Rattle.std.proofs.Common.{◌≡◌, ℕ, ◌<◌, List, [], ◌∷◌, map, Some, None, Result, Ok, Err, slice_get, refl, sym, ap, ap₂, ◌∙◌, subst}
-use Rattle.std.specs.Prelude.{IfOk, slice_index_or}
+use Rattle.std.proofs.Common.{◌≡◌, ℕ, ◌<◌, List, [], ◌∷◌, map, Some, None, Result, Ok, Err, slice_get, Option, refl, sym, ap, ap₂, ◌∙◌, subst}
+use Rattle.std.specs.Prelude.{IfOk, slice_index_or, unwrap_or}
 use Rattle.std.specs.Borrow.{Bor}
 use Rattle.std.specs.Option.{option_map}
 use Rattle.std.proofs.lemmas.Option.{slice_get-map}
@@ -8,10 +8,12 @@ use Rattle.hz_answer_model.specs.FaultTexts.{class_line}
 use Rattle.hz_answer_model.specs.Phases.{Says}
 use Rattle.hz_answer_model.specs.ScheduleAnswers.{HasClasses, Starts}
 use Rattle.hz_answer_model.specs.Texts.{fault_text}
+use Rattle.hz_base_model.specs.Told.{told_in}
 use Rattle.hz_block_model.specs.Dependences.Classes.{ClassFault, class_word, classes_named}
 use Rattle.hz_block_model.specs.Running.Blocks.{Instruction}
 use Rattle.hz_block_model.specs.Scheduled.BlockGraphs.{IsFirstClassFault}
 use Rattle.hz_block_model.specs.Scheduled.BlockSchedules.{IsFirstStuck}
+use Rattle.hz_block_model.specs.Scheduling.Machines.{stuck_word}
 use Rattle.hz_depend.specs.Faults.{classes_in}
 use Rattle.hz_depend.specs.Faults as depend_faults
 use Rattle.hz_depend.specs.GraphShape.{class_fault_in}
@@ -21,7 +23,7 @@ use Rattle.hz_description_model.specs.Check.Places.{Known, class_names}
 use Rattle.hz_description_model.specs.Reading.Descriptions.{Description}
 use Rattle.hz_rtl.specs.Shape.{instruction}
 use Rattle.hz_rtl.specs.declared.block.Insn.{Insn}
-use Rattle.hz_sched.specs.Shape.{alone_in}
+use Rattle.hz_sched.specs.Shape.{alone_in, told_of}
 use Rattle.hz_sched.specs.declared.fault.SchedFault.{SchedFault}
 use Rattle.hz_sched.specs.declared.fault.SchedFault.TheVariants as sched
 use Rattle.hz_tool.proofs.JudgeLemmas.{class_refused, stuck_refused}
@@ -29,11 +31,40 @@ use Rattle.hz_tool.specs.Blocks.{IsFaultIn, IsWrongIn, IsStuckIn}
 use Rattle.hz_tool.specs.Decisions.{Agrees, IsJudged}
 use Rattle.hz_tool.specs.Telling.{TellsDepend, TellsStuck, decide_ambiguous, decide_insn}
 use Rattle.hz_tool.specs.declared.decision.Decision.{Decision}
+use Rattle.hz_tool.specs.declared.decision.Decision.TheVariants as decision
 
 -- the instruction is one of the block, where each that is told is
 pub stuck_within : (n : ℕ) (fault : SchedFault) → ((place : ℕ) → alone_in (Err fault) ≡ Some place → place < n) → IsStuckIn n fault
 stuck_within n (sched.CannotStartAlone place) low = low place refl
 stuck_within n sched.NoMemory low = tt
+
+-- so is the one whose place is told with a word
+pub place_within : (n : ℕ) (fault : SchedFault) (told : Option (Bor (List ℕ) × ℕ)) (at : Bor (List ℕ) × ℕ) → told ≡ Some at → told_in told ≡ told_of fault → IsStuckIn n fault → at.1 < n
+place_within n (sched.CannotStartAlone place) told at is same low =
+    let there : Some (at.0.now, at.1) ≡ Some (stuck_word, place) = ap told_in (sym is) ∙ same in
+    subst (λ (k : ℕ). k < n) (sym (ap (λ (o : Option (List ℕ × ℕ)). (unwrap_or o (stuck_word, place)).1) there)) low
+place_within n sched.NoMemory told at is same low =
+    let there : Some (at.0.now, at.1) ≡ None = ap told_in (sym is) ∙ same in
+    absurd (cc)
+
+-- what is decided of the instruction there, by the word
+pub word_told : (file : Bor (List ℕ)) (insns : List Insn) (fault : SchedFault) (told : Option (Bor (List ℕ) × ℕ)) (at : Bor (List ℕ) × ℕ) (insn : Insn) → told ≡ Some at → told_in told ≡ told_of fault → slice_get insns at.1 ≡ Some insn
+    → TellsStuck file insns fault (decide_insn file insn at.0 None None)
+word_told file insns (sched.CannotStartAlone place) told at insn is same found =
+    let there : Some (at.0.now, at.1) ≡ Some (stuck_word, place) = ap told_in (sym is) ∙ same in
+    let word = ap (λ (o : Option (List ℕ × ℕ)). (unwrap_or o (stuck_word, place)).0) there in
+    let here = ap (λ (o : Option (List ℕ × ℕ)). (unwrap_or o (stuck_word, place)).1) there in
+    (insn, subst (λ (k : ℕ). slice_get insns k ≡ Some insn) here found, (refl, ap (λ (w : List ℕ). fault_text file.now insn.line w (Some insn.number) None None None) word))
+word_told file insns sched.NoMemory told at insn is same found =
+    let there : Some (at.0.now, at.1) ≡ None = ap told_in (sym is) ∙ same in
+    absurd (cc)
+
+-- where nothing is told memory ran out
+pub memory_told : (file : Bor (List ℕ)) (insns : List Insn) (fault : SchedFault) (told : Option (Bor (List ℕ) × ℕ)) → told ≡ None → told_in told ≡ told_of fault → TellsStuck file insns fault decision.Memory
+memory_told file insns (sched.CannotStartAlone place) told none same =
+    let there : None ≡ Some (stuck_word, place) = ap told_in (sym none) ∙ same in
+    absurd (cc)
+memory_told file insns sched.NoMemory told none same = refl
 
 -- what is told is the answer, where what is told first can't be issued
 pub stuck_told : (file : Bor (List ℕ)) (d : Description) (known : Known) (insns : List Insn) (next : ℕ → List ℕ → Type 0) (fault : SchedFault) (told : Decision) → ((place : ℕ) (i : Instruction) → alone_in (Err fault) ≡ Some place → slice_get (map instruction insns) place ≡ Some i → IsFirstStuck d known (map instruction insns) i)

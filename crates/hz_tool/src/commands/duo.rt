@@ -7,13 +7,12 @@ ghost use Rattle.hz_answer_model.specs.DuoAnswers.{SchedulesTwo, StartsTwo};
 ghost use Rattle.hz_block_model.specs.Running.Limits.{instruction_limit};
 ghost use Rattle.hz_block_model.specs.Scheduled.BlockGraphs.{IsGraphOf};
 ghost use Rattle.hz_block_model.specs.Scheduling.Machines.{Settles, cannot_start_alone};
-ghost use Rattle.hz_block_model.specs.Scheduling.Schedules.{present};
 ghost use Rattle.hz_check.specs.Checked.{IsCheckedOf};
 ghost use Rattle.hz_depend.specs.GraphShape.{IsSchedulable};
 ghost use Rattle.hz_description_model.specs.Check.Places.{Known};
 ghost use Rattle.hz_description_model.specs.Reading.Descriptions.{Description};
 ghost use Rattle.hz_rtl.specs.Shape.{instructions};
-ghost use Rattle.hz_sched.specs.Shape.{graph_of, slots_of};
+ghost use Rattle.hz_sched.specs.Shape.{graph_of};
 ghost use Rattle.hz_tables.specs.Machines.{machine_of};
 ghost use Rattle.hz_tool.specs.Decisions.{Agrees, IsJudged};
 ghost use Rattle.hz_tool.specs.Machines.{IsMachineFor};
@@ -27,7 +26,7 @@ use hz_check::Checked;
 use hz_depend::Graph;
 use hz_duo::{DuoFault, duo};
 use hz_rtl::Block;
-use hz_sched::{SchedFault, Schedule, schedule};
+use hz_sched::{SchedFault, schedule};
 use hz_tables::Machine;
 use hz_tool_words::order::DuoOrder;
 use std::alloc::Global;
@@ -44,17 +43,6 @@ fn are_many(one: &Block, other: &Block) -> bool
     INSTRUCTION_LIMIT < one.insns.len() + other.insns.len()
 }
 
-/// The cycle of the last issue, 0 where there is none.
-fn last_cycle(schedule: &Schedule) -> u32
-    ensures { result ≡ present 0 (slots_of schedule.now.slots.items) }
-{
-    let mut cycle = 0;
-    for slot in &schedule.slots {
-        cycle = slot.cycle;
-    }
-    cycle
-}
-
 /// The last cycle of a block's own schedule.
 fn cycles_alone(alloc: Global, machine: &Machine, graph: &Graph) -> Result<u32, SchedFault>
     requires settles { Settles (machine_of machine.now) }
@@ -62,7 +50,7 @@ fn cycles_alone(alloc: Global, machine: &Machine, graph: &Graph) -> Result<u32, 
     ensures { IfOk result (IsLastOf (machine_of machine.now) (graph_of graph.now)) }
 {
     match schedule(alloc, machine, graph) {
-        Ok(schedule) => Ok(last_cycle(&schedule)),
+        Ok(schedule) => Ok(schedule.last_cycle()),
         Err(fault) => Err(fault),
     }
 }
@@ -114,16 +102,16 @@ fn decide_duo<'a>(
         Ok(slots) => slots,
         Err(fault) => return decide_pair(order, one, other, fault),
     };
-    let Ok(mine) = cycles_alone(alloc, &machine, &first) else {
+    let Ok(first_alone) = cycles_alone(alloc, &machine, &first) else {
         return Decision::Memory;
     };
     match cycles_alone(alloc, &machine, &second) {
-        Ok(yours) => Decision::Paired {
+        Ok(second_alone) => Decision::Paired {
             machine,
             first,
             second,
             slots,
-            alone: (mine, yours),
+            alone: (first_alone, second_alone),
         },
         Err(_) => Decision::Memory,
     }

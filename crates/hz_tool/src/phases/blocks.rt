@@ -39,9 +39,6 @@ fn two_names(machine: &Machine, a: u32, b: u32) -> Result<(Name, Name), NoMemory
     Ok((first, second))
 }
 
-/// The word by which it is told that an instruction can't be issued from the start.
-const STUCK: &str = "CannotStartAlone";
-
 /// What is decided of an instruction whose class is wrong.
 fn decide_class<'a>(
     file: &'a str,
@@ -92,11 +89,9 @@ pub fn decide_sched<'a>(file: &'a str, block: &Block, fault: SchedFault) -> Deci
     ensures kind { IsJudged result }
     ensures answer { TellsStuck file.entry block.now.insns.items fault result }
 {
-    match fault {
-        SchedFault::CannotStartAlone { place } => {
-            decide_insn(file, insn_at(block, place), STUCK, None, None)
-        }
-        SchedFault::NoMemory => Decision::Memory,
+    match fault.told() {
+        Some((word, place)) => decide_insn(file, insn_at(block, place), word, None, None),
+        None => Decision::Memory,
     }
 }
 

@@ -7,8 +7,11 @@ use Rattle.hz_measure_model.specs.TwoContexts.Texts.{line_of_either}
 use Rattle.hz_sched.specs.Shape.{graph_of}
 use Rattle.hz_duo.specs.declared.parts.DuoSlot.{DuoSlot}
 use Rattle.hz_duo.specs.Shape.{context_slot}
-use Rattle.hz_duo.proofs.ScheduleLemmas.{some_slot}
 use Rattle.hz_duo.proofs.writing.put_slots.Goals as goal
+
+-- a slot, read where there is none
+abbrev some_slot : DuoSlot
+some_slot = record { context = 0; place = 0; cycle = 0 }
 
 pub loop-slot-preserved : goal.loop-slot-preserved
 loop-slot-preserved g c =

@@ -26,44 +26,44 @@ cycles_of-requires-clause-small c =
 pub first_interval-first-requires-clause-few : goal.first_interval-first-requires-clause-few
 first_interval-first-requires-clause-few c =
     let size : length c.in_ok-cycles.cycles.items ≡ length c.args.graph.now.insns.items = c.in_ok-cycles.ensures.size ∙ (c.len.ensures ∙ c.args.graph.now.insns.ok.0) in
-    subst (λ (xs : List ℕ). length xs ≤ body_limit) (sym c.deref-4.ensures.value)
+    subst (λ (xs : List ℕ). length xs ≤ body_limit) (sym c.deref-3.ensures.value)
     (subst (λ (n : ℕ). n ≤ body_limit) (sym (size ∙ many_in_block c.args.machine.now c.args.checked.now c.args.block.now c.args.graph.now c.args.schedule.now.slots.items c.requires.graph c.requires.legal)) c.requires.few)
 
 pub first_interval-first-requires-clause-small : goal.first_interval-first-requires-clause-small
-first_interval-first-requires-clause-small c = subst (λ (xs : List ℕ). All (λ k. k < 2 ^ 30) xs) (sym c.deref-4.ensures.value) c.in_ok-cycles.ensures.small
+first_interval-first-requires-clause-small c = subst (λ (xs : List ℕ). All (λ k. k < 2 ^ 30) xs) (sym c.deref-3.ensures.value) c.in_ok-cycles.ensures.small
 
 pub first_interval-first-requires-clause-inside : goal.first_interval-first-requires-clause-inside
 first_interval-first-requires-clause-inside c =
     let size : length c.in_ok-cycles.cycles.items ≡ length c.args.graph.now.insns.items = c.in_ok-cycles.ensures.size ∙ (c.len.ensures ∙ c.args.graph.now.insns.ok.0) in
-    subst (λ (xs : List ℕ). All (λ e. (e.from < e.to) × (e.to < 3 * length xs) × (e.cost ≤ latency_limit)) c.deref-5.result.now) (sym c.deref-4.ensures.value)
-    (subst (λ (es : List Edge). All (λ e. (e.from < e.to) × (e.to < 3 * length c.in_ok-cycles.cycles.items) × (e.cost ≤ latency_limit)) es) (sym c.deref-5.ensures.value)
+    subst (λ (xs : List ℕ). All (λ e. (e.from < e.to) × (e.to < 3 * length xs) × (e.cost ≤ latency_limit)) c.deref-4.result.now) (sym c.deref-3.ensures.value)
+    (subst (λ (es : List Edge). All (λ e. (e.from < e.to) × (e.to < 3 * length c.in_ok-cycles.cycles.items) × (e.cost ≤ latency_limit)) es) (sym c.deref-4.ensures.value)
     (subst (λ (n : ℕ). All (λ e. (e.from < e.to) × (e.to < 3 * n) × (e.cost ≤ latency_limit)) c.in_ok-edges.edges.items) (sym (size ∙ many_in_block c.args.machine.now c.args.checked.now c.args.block.now c.args.graph.now c.args.schedule.now.slots.items c.requires.graph c.requires.legal)) c.in_ok-edges.ensures.inside))
 
 pub first_kernel-requires-clause-settles : goal.first_kernel-requires-clause-settles
 first_kernel-requires-clause-settles c = c.requires.settles
 
 pub first_kernel-requires-clause-last : goal.first_kernel-requires-clause-last
-first_kernel-requires-clause-last c = c.last_cycle-last.ensures ∙ ap (λ (xs : List Slot). present 0 (slots_of xs)) (c.deref-3.ensures.value ∙ sym c.deref-7.ensures.value)
+first_kernel-requires-clause-last c = c.last_cycle-last.ensures ∙ ap (λ (xs : List Slot). present 0 (slots_of xs)) (sym c.deref-6.ensures.value)
 
 pub first_kernel-requires-clause-some : goal.first_kernel-requires-clause-some
 first_kernel-requires-clause-some c =
     let are : c.in_ok-classes.classes.items ≡ map (λ i. i.class) c.args.graph.now.insns.items = c.in_ok-classes.ensures ∙ ap (map (λ (i : GraphInsn). i.class)) c.deref.ensures.value in
-    let last : c.last_cycle-last.result ≡ present 0 (slots_of c.args.schedule.now.slots.items) = c.last_cycle-last.ensures ∙ ap (λ (xs : List Slot). present 0 (slots_of xs)) c.deref-3.ensures.value in
+    let last = c.last_cycle-last.ensures in
     let size : length c.in_ok-cycles.cycles.items ≡ length c.args.graph.now.insns.items = c.in_ok-cycles.ensures.size ∙ (c.len.ensures ∙ c.args.graph.now.insns.ok.0) in
     let told = subst (λ (xs : List Slot). (x : model.Slot) → Contains (slots_of xs) x → slice_index c.in_ok-cycles.cycles.items x.place ≡ x.cycle) c.deref-2.ensures.value c.in_ok-cycles.ensures.told in
     let first : c.first_interval-first.result ≡ first_interval (length c.in_ok-cycles.cycles.items) (slice_index c.in_ok-cycles.cycles.items) c.last_cycle-last.result (map edge_of c.in_ok-edges.edges.items) =
-    c.first_interval-first.ensures ∙ (λ i. first_interval (length (c.deref-4.ensures.value i)) (slice_index (c.deref-4.ensures.value i)) c.last_cycle-last.result (map edge_of (c.deref-5.ensures.value i))) in
+    c.first_interval-first.ensures ∙ (λ i. first_interval (length (c.deref-3.ensures.value i)) (slice_index (c.deref-3.ensures.value i)) c.last_cycle-last.result (map edge_of (c.deref-4.ensures.value i))) in
     first_some c.args.machine.now c.args.checked.now c.args.block.now c.args.graph.now c.args.schedule.now.slots.items c.requires.graph c.requires.legal c.requires.settles c.requires.schedulable c.in_ok-edges.edges.items c.in_ok-edges.ensures c.in_ok-classes.classes.items are c.in_ok-cycles.cycles.items size told c.last_cycle-last.result c.first_interval-first.result last first
 
 pub first_kernel-requires-clause-few : goal.first_kernel-requires-clause-few
 first_kernel-requires-clause-few c =
     let are : c.in_ok-classes.classes.items ≡ map (λ i. i.class) c.args.graph.now.insns.items = c.in_ok-classes.ensures ∙ ap (map (λ (i : GraphInsn). i.class)) c.deref.ensures.value in
-    let last : c.last_cycle-last.result ≡ present 0 (slots_of c.args.schedule.now.slots.items) = c.last_cycle-last.ensures ∙ ap (λ (xs : List Slot). present 0 (slots_of xs)) c.deref-3.ensures.value in
+    let last = c.last_cycle-last.ensures in
     let size : length c.in_ok-cycles.cycles.items ≡ length c.args.graph.now.insns.items = c.in_ok-cycles.ensures.size ∙ (c.len.ensures ∙ c.args.graph.now.insns.ok.0) in
     let told = subst (λ (xs : List Slot). (x : model.Slot) → Contains (slots_of xs) x → slice_index c.in_ok-cycles.cycles.items x.place ≡ x.cycle) c.deref-2.ensures.value c.in_ok-cycles.ensures.told in
     let first : c.first_interval-first.result ≡ first_interval (length c.in_ok-cycles.cycles.items) (slice_index c.in_ok-cycles.cycles.items) c.last_cycle-last.result (map edge_of c.in_ok-edges.edges.items) =
-    c.first_interval-first.ensures ∙ (λ i. first_interval (length (c.deref-4.ensures.value i)) (slice_index (c.deref-4.ensures.value i)) c.last_cycle-last.result (map edge_of (c.deref-5.ensures.value i))) in
-    subst (λ (xs : List Slot). (interval : ℕ) → c.first_interval-first.result ≤ interval → stages interval (slots_of xs) ≤ stage_limit) (sym c.deref-7.ensures.value)
+    c.first_interval-first.ensures ∙ (λ i. first_interval (length (c.deref-3.ensures.value i)) (slice_index (c.deref-3.ensures.value i)) c.last_cycle-last.result (map edge_of (c.deref-4.ensures.value i))) in
+    subst (λ (xs : List Slot). (interval : ℕ) → c.first_interval-first.result ≤ interval → stages interval (slots_of xs) ≤ stage_limit) (sym c.deref-6.ensures.value)
     (few_from c.args.machine.now c.args.checked.now c.args.block.now c.args.graph.now c.args.schedule.now.slots.items c.requires.graph c.requires.legal c.requires.settles c.requires.schedulable c.in_ok-edges.edges.items c.in_ok-edges.ensures c.in_ok-classes.classes.items are c.in_ok-cycles.cycles.items size told c.last_cycle-last.result c.first_interval-first.result last first)
 
 pub cycles_of-requires-clause-places : goal.cycles_of-requires-clause-places
@@ -80,62 +80,62 @@ cycles_of-requires-clause-once c =
 pub first_kernel-requires-clause-classes : goal.first_kernel-requires-clause-classes
 first_kernel-requires-clause-classes c =
     let are : c.in_ok-classes.classes.items ≡ map (λ i. i.class) c.args.graph.now.insns.items = c.in_ok-classes.ensures ∙ ap (map (λ (i : GraphInsn). i.class)) c.deref.ensures.value in
-    subst (λ (xs : List ℕ). All (λ k. k < length c.args.machine.now.classes.items) xs) (sym (c.deref-6.ensures.value ∙ are))
+    subst (λ (xs : List ℕ). All (λ k. k < length c.args.machine.now.classes.items) xs) (sym (c.deref-5.ensures.value ∙ are))
     (All-map (λ k. k < length c.args.machine.now.classes.items) (λ (i : GraphInsn). i.class) c.args.graph.now.insns.items c.requires.schedulable.classes)
 
 pub first_kernel-requires-clause-places : goal.first_kernel-requires-clause-places
 first_kernel-requires-clause-places c =
     let are : c.in_ok-classes.classes.items ≡ map (λ i. i.class) c.args.graph.now.insns.items = c.in_ok-classes.ensures ∙ ap (map (λ (i : GraphInsn). i.class)) c.deref.ensures.value in
     let many = many_classes c.args.machine.now c.args.checked.now c.args.block.now c.args.graph.now c.args.schedule.now.slots.items c.requires.graph c.requires.legal c.requires.settles c.requires.schedulable c.in_ok-edges.edges.items c.in_ok-edges.ensures c.in_ok-classes.classes.items are in
-    subst (λ (xs : List Slot). All (λ x. x.place < length c.deref-6.result.now) xs) (sym c.deref-7.ensures.value)
-    (subst (λ (n : ℕ). All (λ x. x.place < n) c.args.schedule.now.slots.items) (sym (ap length c.deref-6.ensures.value ∙ many))
+    subst (λ (xs : List Slot). All (λ x. x.place < length c.deref-5.result.now) xs) (sym c.deref-6.ensures.value)
+    (subst (λ (n : ℕ). All (λ x. x.place < n) c.args.schedule.now.slots.items) (sym (ap length c.deref-5.ensures.value ∙ many))
     (places_within c.args.machine.now c.args.checked.now c.args.block.now c.args.graph.now c.args.schedule.now.slots.items c.requires.graph c.requires.legal))
 
 pub first_kernel-requires-clause-rising : goal.first_kernel-requires-clause-rising
 first_kernel-requires-clause-rising c =
-    let last : c.last_cycle-last.result ≡ present 0 (slots_of c.args.schedule.now.slots.items) = c.last_cycle-last.ensures ∙ ap (λ (xs : List Slot). present 0 (slots_of xs)) c.deref-3.ensures.value in
-    subst (λ (xs : List Slot). All (λ x. x.cycle ≤ c.last_cycle-last.result) (slots_of xs)) (sym c.deref-7.ensures.value)
+    let last = c.last_cycle-last.ensures in
+    subst (λ (xs : List Slot). All (λ x. x.cycle ≤ c.last_cycle-last.result) (slots_of xs)) (sym c.deref-6.ensures.value)
     (subst (λ (n : ℕ). All (λ x. x.cycle ≤ n) (slots_of c.args.schedule.now.slots.items)) (sym last)
     (cycles_rise c.args.machine.now c.args.checked.now c.args.block.now c.args.graph.now c.args.schedule.now.slots.items c.requires.graph c.requires.legal))
 
 pub first_kernel-requires-clause-small : goal.first_kernel-requires-clause-small
 first_kernel-requires-clause-small c =
-    let last : c.last_cycle-last.result ≡ present 0 (slots_of c.args.schedule.now.slots.items) = c.last_cycle-last.ensures ∙ ap (λ (xs : List Slot). present 0 (slots_of xs)) c.deref-3.ensures.value in
+    let last = c.last_cycle-last.ensures in
     subst (λ (n : ℕ). n < 2 ^ 30) (sym last) (last_small c.args.machine.now c.args.checked.now c.args.block.now c.args.graph.now c.args.schedule.now.slots.items c.requires.graph c.requires.legal c.requires.few c.requires.soon)
 
 pub first_kernel-requires-clause-near : goal.first_kernel-requires-clause-near
 first_kernel-requires-clause-near c =
     let are : c.in_ok-classes.classes.items ≡ map (λ i. i.class) c.args.graph.now.insns.items = c.in_ok-classes.ensures ∙ ap (map (λ (i : GraphInsn). i.class)) c.deref.ensures.value in
-    let last : c.last_cycle-last.result ≡ present 0 (slots_of c.args.schedule.now.slots.items) = c.last_cycle-last.ensures ∙ ap (λ (xs : List Slot). present 0 (slots_of xs)) c.deref-3.ensures.value in
+    let last = c.last_cycle-last.ensures in
     let size : length c.in_ok-cycles.cycles.items ≡ length c.args.graph.now.insns.items = c.in_ok-cycles.ensures.size ∙ (c.len.ensures ∙ c.args.graph.now.insns.ok.0) in
     let told = subst (λ (xs : List Slot). (x : model.Slot) → Contains (slots_of xs) x → slice_index c.in_ok-cycles.cycles.items x.place ≡ x.cycle) c.deref-2.ensures.value c.in_ok-cycles.ensures.told in
     let first : c.first_interval-first.result ≡ first_interval (length c.in_ok-cycles.cycles.items) (slice_index c.in_ok-cycles.cycles.items) c.last_cycle-last.result (map edge_of c.in_ok-edges.edges.items) =
-    c.first_interval-first.ensures ∙ (λ i. first_interval (length (c.deref-4.ensures.value i)) (slice_index (c.deref-4.ensures.value i)) c.last_cycle-last.result (map edge_of (c.deref-5.ensures.value i))) in
+    c.first_interval-first.ensures ∙ (λ i. first_interval (length (c.deref-3.ensures.value i)) (slice_index (c.deref-3.ensures.value i)) c.last_cycle-last.result (map edge_of (c.deref-4.ensures.value i))) in
     first_near c.args.machine.now c.args.checked.now c.args.block.now c.args.graph.now c.args.schedule.now.slots.items c.requires.graph c.requires.legal c.requires.settles c.requires.schedulable c.in_ok-edges.edges.items c.in_ok-edges.ensures c.in_ok-classes.classes.items are c.in_ok-cycles.cycles.items size told c.last_cycle-last.result c.first_interval-first.result last first
 
 pub first_kernel-requires-clause-long : goal.first_kernel-requires-clause-long
 first_kernel-requires-clause-long c =
     let are : c.in_ok-classes.classes.items ≡ map (λ i. i.class) c.args.graph.now.insns.items = c.in_ok-classes.ensures ∙ ap (map (λ (i : GraphInsn). i.class)) c.deref.ensures.value in
-    let last : c.last_cycle-last.result ≡ present 0 (slots_of c.args.schedule.now.slots.items) = c.last_cycle-last.ensures ∙ ap (λ (xs : List Slot). present 0 (slots_of xs)) c.deref-3.ensures.value in
-    subst (λ (ks : List ℕ). RepeatsIn (machine_of c.args.machine.now) (turns.graph_of ks) (slots_of c.deref-7.result.now) (c.last_cycle-last.result + 1000) 0 1) (sym c.deref-6.ensures.value)
-    (subst (λ (xs : List Slot). RepeatsIn (machine_of c.args.machine.now) (turns.graph_of c.in_ok-classes.classes.items) (slots_of xs) (c.last_cycle-last.result + 1000) 0 1) (sym c.deref-7.ensures.value)
+    let last = c.last_cycle-last.ensures in
+    subst (λ (ks : List ℕ). RepeatsIn (machine_of c.args.machine.now) (turns.graph_of ks) (slots_of c.deref-6.result.now) (c.last_cycle-last.result + 1000) 0 1) (sym c.deref-5.ensures.value)
+    (subst (λ (xs : List Slot). RepeatsIn (machine_of c.args.machine.now) (turns.graph_of c.in_ok-classes.classes.items) (slots_of xs) (c.last_cycle-last.result + 1000) 0 1) (sym c.deref-6.ensures.value)
     (long_in c.args.machine.now c.args.checked.now c.args.block.now c.args.graph.now c.args.schedule.now.slots.items c.requires.graph c.requires.legal c.requires.settles c.requires.schedulable c.in_ok-edges.edges.items c.in_ok-edges.ensures c.in_ok-classes.classes.items are c.last_cycle-last.result last))
 
 pub returns-clause-kernel : goal.returns-clause-kernel
 returns-clause-kernel c =
     let are : c.in_ok-classes.classes.items ≡ map (λ i. i.class) c.args.graph.now.insns.items = c.in_ok-classes.ensures ∙ ap (map (λ (i : GraphInsn). i.class)) c.deref.ensures.value in
-    let last : c.last_cycle-last.result ≡ present 0 (slots_of c.args.schedule.now.slots.items) = c.last_cycle-last.ensures ∙ ap (λ (xs : List Slot). present 0 (slots_of xs)) c.deref-3.ensures.value in
+    let last = c.last_cycle-last.ensures in
     let size : length c.in_ok-cycles.cycles.items ≡ length c.args.graph.now.insns.items = c.in_ok-cycles.ensures.size ∙ (c.len.ensures ∙ c.args.graph.now.insns.ok.0) in
     let told = subst (λ (xs : List Slot). (x : model.Slot) → Contains (slots_of xs) x → slice_index c.in_ok-cycles.cycles.items x.place ≡ x.cycle) c.deref-2.ensures.value c.in_ok-cycles.ensures.told in
     let first : c.first_interval-first.result ≡ first_interval (length c.in_ok-cycles.cycles.items) (slice_index c.in_ok-cycles.cycles.items) c.last_cycle-last.result (map edge_of c.in_ok-edges.edges.items) =
-    c.first_interval-first.ensures ∙ (λ i. first_interval (length (c.deref-4.ensures.value i)) (slice_index (c.deref-4.ensures.value i)) c.last_cycle-last.result (map edge_of (c.deref-5.ensures.value i))) in
+    c.first_interval-first.ensures ∙ (λ i. first_interval (length (c.deref-3.ensures.value i)) (slice_index (c.deref-3.ensures.value i)) c.last_cycle-last.result (map edge_of (c.deref-4.ensures.value i))) in
     ok_weaker _ _ c.first_kernel.result (λ k x. kernel_is c.args.machine.now c.args.checked.now c.args.block.now c.args.graph.now c.args.schedule.now.slots.items c.requires.graph c.requires.legal c.requires.settles c.requires.schedulable c.in_ok-edges.edges.items c.in_ok-edges.ensures c.in_ok-classes.classes.items are c.in_ok-cycles.cycles.items size told c.last_cycle-last.result c.first_interval-first.result last first k
-    (subst (λ (ks : List ℕ). IsFirstFrom (machine_of c.args.machine.now) (turns.graph_of ks) (slots_of c.args.schedule.now.slots.items) c.first_interval-first.result k) c.deref-6.ensures.value
-    (subst (λ (xs : List Slot). IsFirstFrom (machine_of c.args.machine.now) (turns.graph_of c.deref-6.result.now) (slots_of xs) c.first_interval-first.result k) c.deref-7.ensures.value x)))
+    (subst (λ (ks : List ℕ). IsFirstFrom (machine_of c.args.machine.now) (turns.graph_of ks) (slots_of c.args.schedule.now.slots.items) c.first_interval-first.result k) c.deref-5.ensures.value
+    (subst (λ (xs : List Slot). IsFirstFrom (machine_of c.args.machine.now) (turns.graph_of c.deref-5.result.now) (slots_of xs) c.first_interval-first.result k) c.deref-6.ensures.value x)))
     c.first_kernel.ensures.first
 
 pub returns-clause-range : goal.returns-clause-range
 returns-clause-range c =
     let are : c.in_ok-classes.classes.items ≡ map (λ i. i.class) c.args.graph.now.insns.items = c.in_ok-classes.ensures ∙ ap (map (λ (i : GraphInsn). i.class)) c.deref.ensures.value in
     let many = many_classes c.args.machine.now c.args.checked.now c.args.block.now c.args.graph.now c.args.schedule.now.slots.items c.requires.graph c.requires.legal c.requires.settles c.requires.schedulable c.in_ok-edges.edges.items c.in_ok-edges.ensures c.in_ok-classes.classes.items are in
-    ok_weaker _ _ c.first_kernel.result (λ k x. subst (λ (n : ℕ). All (λ x. x.place < n) k.slots.items) (ap length c.deref-6.ensures.value ∙ many) x) c.first_kernel.ensures.range
+    ok_weaker _ _ c.first_kernel.result (λ k x. subst (λ (n : ℕ). All (λ x. x.place < n) k.slots.items) (ap length c.deref-5.ensures.value ∙ many) x) c.first_kernel.ensures.range

@@ -7,8 +7,11 @@ use Rattle.hz_measure_model.specs.Kernels.KernelTexts.{line_of_kernel}
 use Rattle.hz_sched.specs.Shape.{graph_of}
 use Rattle.hz_modulo.specs.declared.parts.KernelSlot.{KernelSlot}
 use Rattle.hz_modulo.specs.Walking.{kernel_slot_of}
-use Rattle.hz_modulo.proofs.GraphLemmas.{some_slot}
 use Rattle.hz_modulo.proofs.writing.put_slots.Goals as goal
+
+-- a slot, read where there is none
+abbrev some_slot : KernelSlot
+some_slot = record { offset = 0; stage = 0; place = 0 }
 
 pub loop-slot-preserved : goal.loop-slot-preserved
 loop-slot-preserved g c =

@@ -5,9 +5,12 @@ use Rattle.hz_io.proofs.Writing.{wrote_then, wrote_then_cut, cut_before}
 use Rattle.hz_report.specs.Schedules.{line_by}
 use Rattle.hz_sched.specs.declared.parts.Slot.{Slot}
 use Rattle.hz_sched.specs.Shape.{graph_of, slot_of}
-use Rattle.hz_report.proofs.ScheduleLemmas.{some_slot}
 use Rattle.hz_io.proofs.PieceTexts.{lines_more, lines_parts}
 use Rattle.hz_report.proofs.scheduled.put_slots.Goals as goal
+
+-- a slot, read where there is none
+abbrev some_slot : Slot
+some_slot = record { place = 0; cycle = 0 }
 
 pub loop-slot-preserved : goal.loop-slot-preserved
 loop-slot-preserved g c =

@@ -62,7 +62,7 @@ returns-in-Ok-cycles_alone-2-clause-answer c = λ d known machine first second n
           pair_is d known m machine one other g h both.all first second mine yours both.legal both.greedy,
           schedule_is d known m one g alone.slots machine first mine alone.legal alone.greedy,
           schedule_is d known m other h late.slots machine second yours late.legal late.greedy,
-          (refl, pair_told d m.classes c.args.one.now c.args.other.now c.args.first c.args.second c.in-Ok.slots.items both.all alone.slots late.slots c.in-Ok-cycles_alone.mine c.in-Ok-cycles_alone-2.yours (classes_named machine) numbers more both.same (as_many d one g first) alone.last late.last),
+          (refl, pair_told d m.classes c.args.one.now c.args.other.now c.args.first c.args.second c.in-Ok.slots.items both.all alone.slots late.slots c.in-Ok-cycles_alone.first_alone c.in-Ok-cycles_alone-2.second_alone (classes_named machine) numbers more both.same (as_many d one g first) alone.last late.last),
         ),
       ),
     )

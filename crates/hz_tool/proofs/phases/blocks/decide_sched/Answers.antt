@@ -1,13 +1,15 @@
-use Rattle.std.proofs.Common.{refl, sym, subst}
-use Rattle.hz_answer_model.specs.FaultTexts.{stuck_line}
-use Rattle.hz_answer_model.specs.Phases.{Says}
-use Rattle.hz_rtl.specs.Shape.{instruction}
-use Rattle.hz_sched.specs.declared.fault.SchedFault.{SchedFault}
-use Rattle.hz_tool.specs.Decisions.{Agrees}
+use Rattle.std.proofs.Common.{length, sym, subst}
+use Rattle.hz_tool.proofs.BlockTelling.{place_within, word_told, memory_told}
 use Rattle.hz_tool.specs.Telling.{TellsStuck}
 use Rattle.hz_tool.proofs.phases.blocks.decide_sched.Goals as goal
 
-pub returns-in-CannotStartAlone-clause-answer : goal.returns-in-CannotStartAlone-clause-answer
-returns-in-CannotStartAlone-clause-answer c =
-    subst (λ (f : SchedFault). TellsStuck c.args.file c.args.block.now.insns.items f c.decide_insn.result) (sym c.in-CannotStartAlone.is)
-    (c.insn_at.result.now, c.insn_at.ensures, subst (Agrees (Says 2 (stuck_line c.args.file.now (instruction c.insn_at.result.now)))) (sym c.decide_insn.ensures) (refl, refl))
+pub insn_at-requires : goal.insn_at-requires
+insn_at-requires c = place_within (length c.args.block.now.insns.items) c.args.fault _ _ c.in-Some.is c.told.ensures c.requires
+
+pub returns-in-Some-clause-answer : goal.returns-in-Some-clause-answer
+returns-in-Some-clause-answer c =
+    subst (TellsStuck c.args.file c.args.block.now.insns.items c.args.fault) (sym c.decide_insn.ensures)
+    (word_told c.args.file c.args.block.now.insns.items c.args.fault _ _ c.insn_at.result.now c.in-Some.is c.told.ensures c.insn_at.ensures)
+
+pub returns-in-None-clause-answer : goal.returns-in-None-clause-answer
+returns-in-None-clause-answer c = memory_told c.args.file c.args.block.now.insns.items c.args.fault _ c.in-None.is c.told.ensures
