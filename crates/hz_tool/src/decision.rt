@@ -3,7 +3,7 @@
 ghost use Rattle.std.specs.Prelude.{◌≡◌, ◌≤◌, ◌<◌, ◌^◌, ◌-◌};
 ghost use Rattle.hz_io.specs.Sink.{Writes};
 ghost use Rattle.hz_report.specs.Reports as reports;
-ghost use Rattle.hz_tool.specs.Decided.{replay_status, status_of, text_of, IsReported, IsTellable};
+ghost use Rattle.hz_tool.specs.Decided.{replay_status, status_of, text_of, IsPlainLine, IsRefusal, IsReported, IsTellable};
 
 use hz_auto::Compiled;
 use hz_bound::{Bound, write_bound};
@@ -160,7 +160,63 @@ impl Decision<'_> {
         }
     }
 
-    /// The report that says it, where it is told by one.
+    /// The report of one plain line: a limit of states, bytes or instructions, or words, memory or a file.
+    fn report_plain_line(&self) -> Report<'_>
+        requires { IsPlainLine self.now }
+        ensures text { reports.text_of result ≡ text_of self.now }
+        ensures range { reports.IsTellable result }
+    {
+        match self {
+            Decision::Automaton { file, name } => Report::Automaton { file, name },
+            Decision::Bytes { file } => Report::Bytes { file },
+            Decision::Insns { file } => Report::Insns { file },
+            Decision::Usage => Report::Usage,
+            Decision::Memory => Report::Memory,
+            Decision::File { name } => Report::File { name },
+            _ => unreachable!(),
+        }
+    }
+
+    /// The report of what was not done: a fault of a text, a limit of a description, or one plain line.
+    fn report_refusal(&self) -> Report<'_>
+        requires { IsRefusal self.now }
+        ensures text { reports.text_of result ≡ text_of self.now }
+        ensures range { reports.IsTellable result }
+    {
+        match self {
+            Decision::Fault {
+                file,
+                line,
+                kind,
+                insn,
+                first,
+                second,
+                at,
+            } => Report::Fault {
+                file,
+                line: *line,
+                kind,
+                insn: *insn,
+                first: first.as_ref(),
+                second: second.as_ref(),
+                at: *at,
+            },
+            Decision::Limit {
+                file,
+                line,
+                what,
+                name,
+            } => Report::Checked {
+                file,
+                line: *line,
+                what: *what,
+                name,
+            },
+            _ => self.report_plain_line(),
+        }
+    }
+
+    /// The report that says it, if it is told by one.
     fn report(&self) -> Report<'_>
         requires kind { IsReported self.now }
         requires range { IsTellable self.now }
@@ -198,45 +254,7 @@ impl Decision<'_> {
                 states,
             },
             Decision::After { state } => Report::After { state },
-            Decision::Fault {
-                file,
-                line,
-                kind,
-                insn,
-                first,
-                second,
-                at,
-            } => Report::Fault {
-                file,
-                line: *line,
-                kind,
-                insn: *insn,
-                first: first.as_ref(),
-                second: second.as_ref(),
-                at: *at,
-            },
-            Decision::Limit {
-                file,
-                line,
-                what,
-                name,
-            } => Report::Checked {
-                file,
-                line: *line,
-                what: *what,
-                name,
-            },
-            Decision::Automaton { file, name } => Report::Automaton { file, name },
-            Decision::Bytes { file } => Report::Bytes { file },
-            Decision::Insns { file } => Report::Insns { file },
-            Decision::Usage => Report::Usage,
-            Decision::Memory => Report::Memory,
-            Decision::File { name } => Report::File { name },
-            Decision::Tables { .. }
-            | Decision::Bounded { .. }
-            | Decision::Timed { .. }
-            | Decision::Paired { .. }
-            | Decision::Overlapped { .. } => unreachable!(),
+            _ => self.report_refusal(),
         }
     }
 
