@@ -1,15 +1,13 @@
 //! Which issues hold what stands reserved.
 
-ghost use Rattle.std.specs.Prelude.{◌≡◌, ◌+◌, ◌<◌, ◌++◌, ◌∷◌, [], ℕ, List, decimal, IfOk, filter, length, map, nat_le, slice_index, vec_len};
+ghost use Rattle.std.specs.Prelude.{◌≡◌, ◌+◌, ◌<◌, ◌++◌, ◌∷◌, [], ℕ, List, decimal, IfOk, OnErr, filter, length, map, nat_le, slice_index, vec_len};
 ghost use Rattle.std.specs.List.{find};
-ghost use Rattle.std.specs.Option.{option_map};
 ghost use Rattle.hz_description_model.specs.Reservations.Automata.{UnitPlace};
 ghost use Rattle.hz_pipeline_model.specs.Accepting.Events.{Event, issue, advance, issues_of, cycles_of};
 ghost use Rattle.hz_pipeline_model.specs.Accepting.Replay.{Pipeline};
-ghost use Rattle.hz_why_model.specs.Holders.{entries, entries_from, entry_at, pairs_in};
-ghost use Rattle.hz_why_model.specs.Pictures.{cycles_in, longest};
-ghost use Rattle.hz_why_model.specs.Reasons.{same_place};
-ghost use Rattle.hz_reasons.specs.Holding.{AreHolders, entry_with, last_of, most, older, pair_in, is_holder_of};
+ghost use Rattle.hz_why_model.specs.Holders.{entries, entries_from};
+ghost use Rattle.hz_why_model.specs.Pictures.{longest};
+ghost use Rattle.hz_reasons.specs.Holding.{AreHolders, last_of, most, older, is_holder_of};
 ghost use Rattle.hz_reasons.specs.Plans.{choices_at, unit_of, IsPlanOf};
 
 use crate::plan::{AutomatonUnit, Place, Plan};
@@ -48,7 +46,8 @@ impl Holders {
         }
     }
 
-    /// An issue of a class on a line, which takes the alternative of this number. `NoMemory` where there was none.
+    /// An issue of a class on a line, which takes the alternative of this number. `NoMemory` where there was none: the issues stay as
+    /// they were.
     pub fn issue(
         &mut self,
         plan: &Plan,
@@ -58,7 +57,8 @@ impl Holders {
     ) -> Result<(), NoMemory>
         requires class { class < vec_len plan.now.classes }
         requires number { number < length (choices_at plan.now class) }
-        ensures { IfOk result (λ _. (m : Pipeline UnitPlace) (t : List Event) (lines choices : List ℕ) → IsPlanOf m plan.now → length choices ≡ issues_of t → slice_index lines (length t) ≡ line → AreHolders m t lines choices self.old.issues.items → AreHolders m (t ++ issue class ∷ []) lines (choices ++ number ∷ []) self.new.issues.items) }
+        ensures holds { IfOk result (λ _. (m : Pipeline UnitPlace) (t : List Event) (lines choices : List ℕ) → IsPlanOf m plan.now → length choices ≡ issues_of t → slice_index lines (length t) ≡ line → AreHolders m t lines choices self.old.issues.items → AreHolders m (t ++ issue class ∷ []) lines (choices ++ number ∷ []) self.new.issues.items) }
+        ensures kept { OnErr result (self.new.issues.items ≡ self.old.issues.items) }
     {
         let choices = &plan.classes[class as usize];
         let pairs = &choices[number].pairs;
@@ -82,22 +82,6 @@ impl Holders {
     {
         keep(&mut self.issues, cycles);
         pass(self.issues.as_mut_slice(), cycles);
-    }
-
-    /// How many cycles there are, from the present one, up to the last in which something is held. It takes no memory.
-    pub fn cycles(&self) -> u32
-        ensures { (m : Pipeline UnitPlace) (t : List Event) (lines choices : List ℕ) → AreHolders m t lines choices self.now.issues.items → result ≡ cycles_in (pairs_in (entries_from (cycles_of t) (entries m 0 t lines choices))) }
-    {
-        cycles_left(&self.issues)
-    }
-
-    /// Which issue holds the unit in a cycle, which is counted from the present one; None if it is free. It takes no memory.
-    pub fn holder(&self, plan: &Plan, unit: AutomatonUnit, cycle: u16) -> Option<Holder>
-        requires { unit.automaton < vec_len plan.now.rules }
-        ensures from_now { (m : Pipeline UnitPlace) (t : List Event) (lines choices : List ℕ) → IsPlanOf m plan.now → AreHolders m t lines choices self.now.issues.items → option_map (entry_with (record { unit = unit_of unit; cycle = cycle })) result ≡ entry_at same_place (entries_from (cycles_of t) (entries m 0 t lines choices)) (record { unit = unit_of unit; cycle = cycle }) }
-        ensures in_all { (m : Pipeline UnitPlace) (t : List Event) (lines choices : List ℕ) → IsPlanOf m plan.now → AreHolders m t lines choices self.now.issues.items → option_map (entry_with (pair_in (cycles_of t) unit cycle)) result ≡ entry_at same_place (entries m 0 t lines choices) (pair_in (cycles_of t) unit cycle) }
-    {
-        first_holder(plan, &self.issues, unit, cycle)
     }
 }
 

@@ -10,8 +10,8 @@ use Rattle.hz_reasons.proofs.HoldingLaws.{no_length, holders_issue, holders_none
 use Rattle.hz_reasons.proofs.Reading.{choices_read}
 use Rattle.hz_reasons.proofs.holders.Holders.issue.Goals as goal
 
-pub returns-then-is_empty : goal.returns-then-is_empty
-returns-then-is_empty c = λ m t lines choices is count there are.
+pub returns-then-is_empty-clause-holds : goal.returns-then-is_empty-clause-holds
+returns-then-is_empty-clause-holds c = λ m t lines choices is count there are.
     let read : choices_at c.args.plan.now c.args.class ≡ c.index-choices.result.now.items = choices_read c.args.plan.now c.args.class c.index-choices.result.now c.index-choices.ensures (omega arith) in
     let low : c.args.number < length c.index-choices.result.now.items = subst (λ (cs : List Choice). c.args.number < length cs) read c.requires.number in
     let pairs : pairs_at (choices_at c.args.plan.now c.args.class) c.args.number ≡ c.index.result.now.pairs.items =
@@ -20,8 +20,8 @@ returns-then-is_empty c = λ m t lines choices is count there are.
     holders_none m t lines choices c.args.self.now.issues.items are c.args.class c.args.number c.args.line count there
     (nothing_of m c.args.plan.now is c.args.class c.args.number c.requires.number (pairs ∙ no_length c.index.result.now.pairs.items none))
 
-pub returns : goal.returns
-returns c = λ m t lines choices is count there are.
+pub returns-clause-holds : goal.returns-clause-holds
+returns-clause-holds c = λ m t lines choices is count there are.
     let read : choices_at c.args.plan.now c.args.class ≡ c.index-choices.result.now.items = choices_read c.args.plan.now c.args.class c.index-choices.result.now c.index-choices.ensures (omega arith) in
     let low : c.args.number < length c.index-choices.result.now.items = subst (λ (cs : List Choice). c.args.number < length cs) read c.requires.number in
     let pairs : pairs_at (choices_at c.args.plan.now c.args.class) c.args.number ≡ c.index.result.now.pairs.items =
