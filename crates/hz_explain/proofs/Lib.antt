@@ -2,6 +2,7 @@ pub mod DrawLaws
 pub mod TellLaws
 pub mod WordLaws
 pub mod ShowLaws
+pub mod GatherLaws
 pub mod Joining
 pub mod TextLaws
 pub mod AnswerLaws

@@ -4,6 +4,8 @@ use Rattle.std.specs.Prelude.{⊤, ◌&&◌, ◌||◌, ◌==◌, nat_le, nat_lt,
 use Rattle.std.specs.Cmp.{both_ways}
 use Rattle.std.specs.List.{list_any, flat_map, range_with_len}
 use Rattle.std.specs.Option.{option_map}
+use Rattle.std.specs.declared.alloc.Global.{Global}
+use Rattle.std.specs.declared.vec.Vec.{Vec}
 use Rattle.std.proofs.lemmas.Bool.{cases_lt, cases_eq, and_parts, and_cases, and_left, and_right, ltb-false, lt-ltb, le-ltb, le-leb, eqb-true, eq-eqb, ne_eqb, false_from_ne_true}
 use Rattle.std.proofs.lemmas.List.{map-append, drop_more, drop_all, take_more, get_or-set_same, get_or-set_other, get_or_past, get_or-replicate, length-replicate}
 use Rattle.std.proofs.lemmas.List.Elements.{All-nil, All-cons, filter-append}
@@ -26,7 +28,7 @@ use Rattle.hz_explain.specs.Drawing.{picture_text, lines_at, AreRowsOf}
 use Rattle.hz_reasons.specs.Holding.{most, age_of, held_by, IsHolder, AreHolders, entry_with}
 use Rattle.hz_reasons.specs.Plans as plans
 use Rattle.hz_reasons.specs.Plans.{place_of, unit_of, choices_at, IsPlanOf}
-use Rattle.hz_explain.specs.Showing.{small_unit, marked_unit, mark_of, is_marked, is_of, is_asked, is_kept, is_shown, cycles_asked, cycles_shown, longest_shown, lines_shown, Shown, shown_in, shown_of, rows_of_unit, AskFor}
+use Rattle.hz_explain.specs.Showing.{small_unit, marked_unit, mark_of, is_marked, is_of, is_asked, is_kept, is_shown, cycles_asked, cycles_shown, longest_shown, lines_shown, Shown, shown_in, shown_of, shown_by, rows_of_unit, AskFor}
 use Rattle.hz_explain.specs.Telling.{holder_in, unit_name}
 use Rattle.hz_explain.specs.declared.drawing.Row.{Row}
 use Rattle.hz_reasons.specs.declared.holders.Holder.{Holder}
@@ -263,11 +265,11 @@ ask_class m plan is k =
 
 -- ---- rows
 
-map_alike : {A B : Type 0} (f g : A → B) → ((x : A) → f x ≡ g x) → (xs : List A) → map f xs ≡ map g xs
+pub map_alike : {A B : Type 0} (f g : A → B) → ((x : A) → f x ≡ g x) → (xs : List A) → map f xs ≡ map g xs
 map_alike f g each [] = refl
 map_alike f g each (x ∷ xs) = ap (λ (y : _). y ∷ map f xs) (each x) ∙ ap (λ (ys : List _). g x ∷ ys) (map_alike f g each xs)
 
-filter_alike : {A : Type 0} (f g : A → Bool) → ((x : A) → f x ≡ g x) → (xs : List A) → filter f xs ≡ filter g xs
+pub filter_alike : {A : Type 0} (f g : A → Bool) → ((x : A) → f x ≡ g x) → (xs : List A) → filter f xs ≡ filter g xs
 filter_alike f g each [] = refl
 filter_alike f g each (x ∷ xs) = ap (λ (b : Bool). cond b (x ∷ filter f xs) (filter f xs)) (each x) ∙ ap (λ (ys : List _). cond (g x) (x ∷ ys) ys) (filter_alike f g each xs)
 
@@ -303,9 +305,9 @@ tail_of (x ∷ xs) = xs
 same_shown : (row : Row) (s : Shown) → shown_in row ≡ s → (row.name.now ≡ s.name) × (row.lines.items ≡ s.lines)
 same_shown row s e = (ap (λ (x : Shown). x.name) e, ap (λ (x : Shown). x.lines) e)
 
-pub rows_one : (parts : Parts) (plan : Plan) (issues : List Holder) (n : ℕ) (b : Bool) (u : UnitPlace) → rows_of_unit parts plan issues n (cond b (Some u) None) ≡ cond b (shown_of parts plan issues n u ∷ []) []
-rows_one parts plan issues n true u = refl
-rows_one parts plan issues n false u = refl
+pub rows_one : (parts : Parts) (plan : Plan) (held : List (Vec Holder Global)) (n : ℕ) (b : Bool) (u : UnitPlace) → rows_of_unit parts plan held n (cond b (Some u) None) ≡ cond b (shown_by parts plan held n u ∷ []) []
+rows_one parts plan held n true u = refl
+rows_one parts plan held n false u = refl
 
 -- a row more
 pub rows_next : {A : Type 0} (marked : UnitPlace → Bool) (shown : UnitPlace → Shown) (place : A → UnitPlace) (xs : List A) (i : ℕ) (d : A) (old new : List Shown) (one : List Shown) → i < length xs
@@ -372,11 +374,11 @@ module _ (m : Pipeline UnitPlace) (plan : Plan) (is : IsPlanOf m plan) (t : List
       ∙ ap (rows_of same_place (unit_name parts) held 0) (filter_no units)
 
 -- each row has so many lines
-pub rows_wide : (parts : Parts) (plan : Plan) (issues : List Holder) (n : ℕ) (us : List UnitPlace) (rows : List Row) → map shown_in rows ≡ map (shown_of parts plan issues n) us → All (λ (row : Row). n ≤ length row.lines.items) rows
+pub rows_wide : (parts : Parts) (plan : Plan) (issues : UnitPlace → List Holder) (n : ℕ) (us : List UnitPlace) (rows : List Row) → map shown_in rows ≡ map (λ u. shown_of parts plan (issues u) n u) us → All (λ (row : Row). n ≤ length row.lines.items) rows
 rows_wide parts plan issues n us [] e = All-nil (λ (row : Row). n ≤ length row.lines.items)
 rows_wide parts plan issues n [] (row ∷ rows) e = absurd (no_item _ _ e)
 rows_wide parts plan issues n (u ∷ us) (row ∷ rows) e =
-    let first = same_shown row (shown_of parts plan issues n u) (ap (head_of (shown_in row)) e) in
-    let long = length-map-range_with_len (λ (cycle : ℕ). option_map (λ (h : Holder). h.line) (holder_in plan issues u cycle)) 0 n in
+    let first = same_shown row (shown_of parts plan (issues u) n u) (ap (head_of (shown_in row)) e) in
+    let long = length-map-range_with_len (λ (cycle : ℕ). option_map (λ (h : Holder). h.line) (holder_in plan (issues u) u cycle)) 0 n in
     let same = ap length first.1 in
     All-cons (λ (row : Row). n ≤ length row.lines.items) row rows (omega arith) (rows_wide parts plan issues n us rows (ap tail_of e))

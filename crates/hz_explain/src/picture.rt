@@ -1,6 +1,6 @@
 //! A picture of what stands reserved, and of what the alternatives of a class ask for.
 
-ghost use Rattle.std.specs.Prelude.{◌≡◌, ◌<◌, ◌+◌, ◌||◌, ◌++◌, ℕ, List, OnOk, IfOk, false, filter, length, map, min, decimal, replicate};
+ghost use Rattle.std.specs.Prelude.{◌≡◌, ◌<◌, ◌+◌, ◌||◌, ◌++◌, ◌∷◌, [], ℕ, List, OnOk, IfOk, false, filter, length, map, min, decimal, replicate, vec_len, if◌then◌else◌};
 ghost use Rattle.std.specs.List.{list_any};
 ghost use Rattle.std.specs.Option.{option_map};
 ghost use Rattle.hz_check_reservations.specs.Shape.{place_of};
@@ -14,7 +14,7 @@ ghost use Rattle.hz_why_model.specs.Pictures.{line_limit, picture};
 ghost use Rattle.hz_why_model.specs.Reasons.{same_place};
 ghost use Rattle.hz_reasons.specs.Holding.{age_of, most, AreHolders};
 ghost use Rattle.hz_reasons.specs.Plans.{unit_of, choices_at, pairs_at, IsPlanOf};
-ghost use Rattle.hz_explain.specs.Showing.{mark_of, is_marked, is_of, is_asked, is_kept, is_shown, cycles_asked, cycles_shown, longest_shown, lines_shown, shown_in, shown_of, rows_of_unit, AskFor};
+ghost use Rattle.hz_explain.specs.Showing.{mark_of, is_marked, is_of, is_asked, is_kept, is_shown, cycles_asked, cycles_shown, lists_of, list_at, listed_for, each_time, times_held, holders_of, longest_shown, lines_shown, shown_in, shown_by, shown_held, rows_of_unit, AskFor};
 ghost use Rattle.hz_explain.specs.Showing as showing;
 ghost use Rattle.hz_explain.specs.Telling as told;
 ghost use Rattle.hz_explain.specs.Telling.{holder_in};
@@ -163,6 +163,126 @@ fn marks(
     Ok(marks)
 }
 
+/// So many empty lists.
+fn empty_lists(alloc: Global, count: usize) -> Result<Vec<Vec<Holder>>, NoMemory>
+    ensures size { IfOk result (λ lists. vec_len lists ≡ count) }
+    ensures empty { IfOk result (λ lists. (place : ℕ) → list_at (lists_of lists.items) place ≡ []) }
+{
+    let mut lists = Vec::with_capacity(alloc, count)?;
+    while lists.len() < count {
+        lists.push(Vec::new(alloc))?;
+    }
+    Ok(lists)
+}
+
+/// Adds an issue to the list of a unit.
+fn add_to_unit(
+    held: &mut Vec<Vec<Holder>>,
+    unit: AutomatonUnit,
+    holder: Holder,
+) -> Result<(), NoMemory>
+    requires { vec_len held.old ≡ 65536 }
+    ensures size { vec_len held.new ≡ 65536 }
+    ensures added { OnOk result ((u : Unit) → listed_for held.new.items u ≡ listed_for held.old.items u ++ (if same_place (unit_of unit) u then holder ∷ [] else [])) }
+{
+    let place = mark_place(unit);
+    held[place].push(holder)?;
+    Ok(())
+}
+
+/// Adds an issue to the list of the unit of a pair, unless the pair's cycle is before this one.
+fn add_by_pair(
+    held: &mut Vec<Vec<Holder>>,
+    pair: Place,
+    age: u16,
+    holder: Holder,
+) -> Result<(), NoMemory>
+    requires { vec_len held.old ≡ 65536 }
+    ensures size { vec_len held.new ≡ 65536 }
+    ensures added { OnOk result ((u : Unit) → listed_for held.new.items u ≡ listed_for held.old.items u ++ (if is_of age u pair then holder ∷ [] else [])) }
+{
+    if pair.cycle < age {
+        return Ok(());
+    }
+    let unit = AutomatonUnit {
+        automaton: pair.automaton,
+        unit: pair.unit,
+    };
+    add_to_unit(held, unit, holder)?;
+    Ok(())
+}
+
+/// Adds an issue to the lists of the units of pairs whose cycle is not before this one.
+fn add_by_pairs(
+    held: &mut Vec<Vec<Holder>>,
+    pairs: &[Place],
+    age: u16,
+    holder: Holder,
+) -> Result<(), NoMemory>
+    requires { vec_len held.old ≡ 65536 }
+    ensures size { vec_len held.new ≡ 65536 }
+    ensures added { OnOk result ((u : Unit) → listed_for held.new.items u ≡ listed_for held.old.items u ++ each_time age u holder pairs.now) }
+{
+    for place in 0..pairs.len() {
+        let pair = pairs[place];
+        add_by_pair(held, pair, age, holder)?;
+    }
+    Ok(())
+}
+
+/// Adds an issue to the lists of the units that it holds from the present cycle on.
+fn add_holder(held: &mut Vec<Vec<Holder>>, plan: &Plan, holder: Holder) -> Result<(), NoMemory>
+    requires { vec_len held.old ≡ 65536 }
+    ensures size { vec_len held.new ≡ 65536 }
+    ensures added { OnOk result ((u : Unit) → listed_for held.new.items u ≡ listed_for held.old.items u ++ times_held plan.now u holder) }
+{
+    add_by_pairs(held, pairs_taken(plan, holder), age(holder), holder)?;
+    Ok(())
+}
+
+/// Adds issues to the lists of the units that they hold from the present cycle on.
+fn add_holders(held: &mut Vec<Vec<Holder>>, plan: &Plan, issues: &[Holder]) -> Result<(), NoMemory>
+    requires { vec_len held.old ≡ 65536 }
+    ensures { OnOk result ((u : Unit) → listed_for held.new.items u ≡ listed_for held.old.items u ++ holders_of plan.now issues.now u) }
+{
+    for place in 0..issues.len() {
+        let holder = issues[place];
+        add_holder(held, plan, holder)?;
+    }
+    Ok(())
+}
+
+/// For each unit the issues that hold it from the present cycle on, in their order, each as often as it has a pair of it.
+fn holders_by_unit(
+    alloc: Global,
+    plan: &Plan,
+    issues: &[Holder],
+) -> Result<Vec<Vec<Holder>>, NoMemory>
+    ensures { IfOk result (λ held. (u : Unit) → listed_for held.items u ≡ holders_of plan.now issues.now u) }
+{
+    let mut held = empty_lists(alloc, MARKS)?;
+    add_holders(&mut held, plan, issues)?;
+    Ok(held)
+}
+
+/// The list of a place, which is empty where there is none. It takes no memory.
+fn list_of(held: &[Vec<Holder>], place: usize) -> &[Holder]
+    ensures { result.now ≡ list_at (lists_of held.now) place }
+{
+    match held.get(place) {
+        Some(list) => list.as_slice(),
+        None => &[],
+    }
+}
+
+/// The issues in the list of a unit. It takes no memory.
+fn holders_at(held: &[Vec<Holder>], unit: AutomatonUnit) -> &[Holder]
+    ensures { result.now ≡ listed_for held.now (unit_of unit) }
+{
+    let place = mark_place(unit);
+    list_of(held, place)
+}
+
 /// How many cycles there are up to the last of a pair. It takes no memory.
 fn cycles_of_pairs(pairs: &[Place]) -> u32
     ensures { result ≡ most (λ p. p.cycle + 1) pairs.now }
@@ -244,18 +364,18 @@ fn lines(
     Ok(lines)
 }
 
-/// The row of a unit, for so many cycles.
+/// The row of a unit, for so many cycles, by the issues in its list.
 fn row<'a>(
     alloc: Global,
     parts: &'a Parts,
     plan: &Plan,
-    issues: &[Holder],
+    held: &[Vec<Holder>],
     unit: AutomatonUnit,
     cycles: u16,
 ) -> Result<Row<'a>, NoMemory>
-    ensures { IfOk result (λ row. shown_in row ≡ shown_of parts.now plan.now issues.now cycles (unit_of unit)) }
+    ensures { IfOk result (λ row. shown_in row ≡ shown_by parts.now plan.now held.now cycles (unit_of unit)) }
 {
-    let lines = lines(alloc, plan, issues, unit, cycles)?;
+    let lines = lines(alloc, plan, holders_at(held, unit), unit, cycles)?;
     Ok(Row {
         name: unit_name(parts, unit),
         lines,
@@ -306,15 +426,15 @@ fn add_row<'a>(
     rows: &mut Vec<Row<'a>>,
     parts: &'a Parts,
     plan: &Plan,
-    issues: &[Holder],
+    held: &[Vec<Holder>],
     marked: Option<AutomatonUnit>,
     cycles: u16,
 ) -> Result<(), NoMemory>
-    ensures { OnOk result (map shown_in rows.new.items ≡ map shown_in rows.old.items ++ rows_of_unit parts.now plan.now issues.now cycles (option_map unit_of marked)) }
+    ensures { OnOk result (map shown_in rows.new.items ≡ map shown_in rows.old.items ++ rows_of_unit parts.now plan.now held.now cycles (option_map unit_of marked)) }
 {
     match marked {
         Some(unit) => {
-            let row = row(alloc, parts, plan, issues, unit, cycles)?;
+            let row = row(alloc, parts, plan, held, unit, cycles)?;
             rows.push(row)?;
             Ok(())
         }
@@ -328,19 +448,35 @@ fn rows<'a>(
     parts: &'a Parts,
     places: &[UnitPlace],
     plan: &Plan,
-    issues: &[Holder],
+    held: &[Vec<Holder>],
     marks: &[bool],
     cycles: u16,
 ) -> Result<Vec<Row<'a>>, NoMemory>
     requires { length marks.now ≡ 65536 }
-    ensures { IfOk result (λ rows. map shown_in rows.items ≡ map (shown_of parts.now plan.now issues.now cycles) (filter (is_marked marks.now) (map place_of places.now))) }
+    ensures { IfOk result (λ rows. map shown_in rows.items ≡ map (shown_by parts.now plan.now held.now cycles) (filter (is_marked marks.now) (map place_of places.now))) }
 {
     let mut rows = Vec::new(alloc);
     for place in places {
         let marked = marked_unit(marks, place);
-        add_row(alloc, &mut rows, parts, plan, issues, marked, cycles)?;
+        add_row(alloc, &mut rows, parts, plan, held, marked, cycles)?;
     }
     Ok(rows)
+}
+
+/// The rows of what is held from the present cycle on, and of what alternatives ask for, for so many cycles.
+fn shown_rows<'a>(
+    alloc: Global,
+    parts: &'a Parts,
+    plan: &Plan,
+    issues: &[Holder],
+    asked: &[Choice],
+    cycles: u16,
+) -> Result<Vec<Row<'a>>, NoMemory>
+    ensures { IfOk result (λ rows. map shown_in rows.items ≡ map (shown_held parts.now plan.now issues.now cycles) (filter (is_shown plan.now issues.now asked.now) (map place_of parts.now.places.items))) }
+{
+    let marks = marks(alloc, plan, issues, asked)?;
+    let held = holders_by_unit(alloc, plan, issues)?;
+    rows(alloc, parts, &parts.places, plan, &held, &marks, cycles)
 }
 
 /// Adds the picture of what is held from the present cycle on, and of what alternatives ask for.
@@ -358,9 +494,8 @@ pub(crate) fn add_shown(
     if cycles == 0 {
         return Ok(());
     }
-    let marks = marks(alloc, plan, issues, asked)?;
     let shown = cycles_drawn(cycles);
-    let rows = rows(alloc, parts, &parts.places, plan, issues, &marks, shown)?;
+    let rows = shown_rows(alloc, parts, plan, issues, asked, shown)?;
     add_picture(text, &rows, cycles as usize, longest_cell(issues, cycles))?;
     Ok(())
 }
