@@ -22,7 +22,7 @@ use tables::TableRow;
 use texts::TextRow;
 
 /// The files of rows, each with what its rows ask.
-const FILES: [(&str, Subject); 49] = [
+const FILES: [(&str, Subject); 51] = [
     ("texts/forms.rows", Text(TextRow::Forms)),
     ("texts/expressions.rows", Text(TextRow::Expressions)),
     ("texts/lists.rows", Text(TextRow::Lists)),
@@ -71,6 +71,8 @@ const FILES: [(&str, Subject); 49] = [
     ("tables/faults.rows", Table(TableRow::Faults)),
     ("schedules/schedules.rows", Schedule(ScheduleRow::Schedules)),
     ("schedules/exposed.rows", Schedule(ScheduleRow::Exposed)),
+    ("schedules/drawn.rows", Schedule(ScheduleRow::Drawn)),
+    ("schedules/walked.rows", Schedule(ScheduleRow::Walked)),
     ("schedules/faults.rows", Schedule(ScheduleRow::Faults)),
 ];
 

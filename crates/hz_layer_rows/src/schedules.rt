@@ -1,7 +1,8 @@
-//! Schedules of blocks with their traces, and what slots of a block read and leave.
+//! Schedules of blocks with their traces, what slots of a block read and leave, traces that are drawn, and walks word by word.
 
 pub(crate) mod exposing;
 pub(crate) mod scheduling;
+pub(crate) mod walking;
 
 use crate::faults;
 use std::alloc::Global;
@@ -11,6 +12,8 @@ use std::alloc::Global;
 pub enum ScheduleRow {
     Schedules,
     Exposed,
+    Drawn,
+    Walked,
     Faults,
 }
 
@@ -19,6 +22,8 @@ pub fn answer(alloc: Global, subject: ScheduleRow, text: &str, beside: &str) -> 
     match subject {
         ScheduleRow::Schedules => scheduling::answer(alloc, text, beside),
         ScheduleRow::Exposed => exposing::answer(alloc, text, beside),
+        ScheduleRow::Drawn => walking::answer_drawn(alloc, text, beside),
+        ScheduleRow::Walked => walking::answer_walked(alloc, text, beside),
         ScheduleRow::Faults => faults::answer_schedules(alloc),
     }
 }

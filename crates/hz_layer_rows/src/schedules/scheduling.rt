@@ -56,7 +56,7 @@ fn write_slots(out: &mut String, machine: &Machine, graph: &Graph, slots: &[Slot
 }
 
 /// Writes an event: its line, and the class of an issue or the cycles of an advance.
-fn write_event(out: &mut String, machine: &Machine, event: &Event) -> Option<()> {
+pub(crate) fn write_event(out: &mut String, machine: &Machine, event: &Event) -> Option<()> {
     write!(out, "{}:", event.line).ok()?;
     match event.what {
         What::Issue(class) => out.push_str(class_name(machine, class)?).ok()?,
