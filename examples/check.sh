@@ -56,6 +56,12 @@ agree() {
     fi
 }
 
+# begins COMMAND..: the status of the command, and the first line that it writes
+begins() {
+    "$@" > "$work/text"
+    echo "$? $(head -n 1 "$work/text")"
+}
+
 # trace EXAMPLE MACHINE WORDS..: the trace of the schedule that the program, given the words, writes is made of its text: the machine accepts
 # it, with as many issues as there are instructions
 trace() {
@@ -131,6 +137,23 @@ done
 # hz_why writes its text in one piece, of more than 100,000 bytes here: it comes whole, and begins with that of replay
 awk 'BEGIN { for (i = 0; i < 5000; i++) print "ask slot_0" }' > "$work/trace"
 agree hz_why '5000 asks' "$("$hz_why" examples/bundler/machine.md "$work/trace" | head -n 5001 | cksum)" "$("$hz" replay examples/bundler/machine.md "$work/trace" | cksum)"
+# Under ndfa hz_why remembers the steps of a trace until they make 32,768 entries together, and then begins anew. Which of 14 units are taken
+# makes up to 3,432 entries, and each turn of this trace some 70,000 in all. It ends with an issue that is refused.
+early='u0 | u1 | u2 | u3 | u4 | u5 | u6'
+cat > "$work/machine" << END
+(automata_option "ndfa")
+(define_cpu_unit "u0, u1, u2, u3, u4, u5, u6, u7, u8, u9, u10, u11, u12, u13")
+(define_insn_reservation "early" 1 (const_int 1) "$early")
+(define_insn_reservation "any" 1 (const_int 1) "$early | u7 | u8 | u9 | u10 | u11 | u12 | u13")
+END
+awk 'BEGIN {
+    for (turn = 0; turn < 3; turn++) for (early = 0; early < 8; early++) {
+        for (unit = 0; unit < 14; unit++) print "issue " (unit < early ? "early" : "any")
+        print "advance 1"
+    }
+    for (unit = 0; unit < 15; unit++) print "issue any"
+}' > "$work/trace"
+agree hz_why '375 events under ndfa' "$(begins "$hz_why" "$work/machine" "$work/trace")" "$(begins "$hz" replay "$work/machine" "$work/trace")"
 for drill in examples/*/*.drill; do
     # its words are the number and the turns
     compare "$drill" drill "$(dirname "$drill")/machine.md" $(cat "$drill")

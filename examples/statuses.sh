@@ -590,6 +590,9 @@ expect 4 "$usage" eval b -
 expect 4 "$usage" timed d b
 expect 4 "$usage" timed d b s more
 expect 4 "$usage" timed d b -s
+expect 4 "$usage" bound d
+expect 4 "$usage" bound d b more
+expect 4 "$usage" bound d -b
 expect 4 "$usage" duo d b
 expect 4 "$usage" duo d b b more
 expect 4 "$usage" duo d b -b

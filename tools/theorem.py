@@ -34,7 +34,7 @@ ENSURED = {
     "sink": "The status is 7 exactly if a write failed.",
     "file": "The status is 6 exactly if a read failed and no write did.",
     "lacks": "If only the opening of a name that is not there can fail, and a read failed, then the answer by the rules is status 6."
-             " So a file that is there is never reported as missing.",
+             " So if all files are there, none is reported as missing.",
     "rises": "The count of failed reads never falls.",
     "fails": "The count of failed writes never falls.",
     "words": "The status is 4 only if the words are no command.",
