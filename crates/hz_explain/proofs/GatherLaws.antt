@@ -1,14 +1,14 @@
 -- The issues of each unit as the code gathers them, and that a search of these finds what a search of all finds.
 use Rattle.std.proofs.Common.{◌≡◌, ℕ, ◌+◌, ◌-◌, ◌*◌, ◌<◌, ◌≤◌, ⊎_elim, Bool, true, false, cond, List, [], ◌∷◌, ◌++◌, map, filter, drop, length, get_or, set, append_assoc, Contains, Option, Some, None, refl, sym, ap, ◌∙◌, subst, arith, get_or-set_same, get_or-set_other}
-use Rattle.std.specs.Prelude.{◌&&◌, ◌||◌, ◌==◌, nat_le, nat_lt}
+use Rattle.std.specs.Prelude.{◌&&◌, ◌||◌, ◌==◌, nat_le, nat_lt, slice_get, unwrap_or}
 use Rattle.std.specs.Cmp.{both_ways}
 use Rattle.std.specs.List.{find, list_any, flat_map, range_with_len}
-use Rattle.std.specs.Option.{option_map}
+use Rattle.std.specs.Option.{option_map, option_or}
 use Rattle.std.specs.declared.alloc.Global.{Global}
 use Rattle.std.specs.declared.vec.Vec.{Vec}
 use Rattle.std.proofs.lemmas.Bool.{cases_lt, and_parts, and_right, lt-ltb, le-ltb, le-leb, lt-leb, eqb-true, eq-eqb, ne_eqb}
 use Rattle.std.proofs.lemmas.List.{append-nil, drop_more, drop_all, get_or-map, length-map, map-set}
-use Rattle.std.proofs.lemmas.List.Folds.{list_any_at}
+use Rattle.std.proofs.lemmas.List.Folds.{list_any_at, find-append}
 use Rattle.std.proofs.lemmas.Option.{slice_get_past}
 use Rattle.hz_base_model.specs.Pairs.{Pair}
 use Rattle.hz_base_model.proofs.Elements.{Contains-nil}
@@ -22,21 +22,35 @@ use Rattle.hz_reasons.specs.Calendars.{at, parts_of, parts_at}
 use Rattle.hz_reasons.specs.Holding.{age_of, is_holder_of}
 use Rattle.hz_reasons.specs.Plans.{in_automaton, unit_of, choices_at, pairs_at, IsPlanOf}
 use Rattle.hz_reasons.specs.Taken.{is_held}
-use Rattle.hz_explain.specs.Showing.{mark_of, is_marked, is_of, is_shown, lists_of, list_at, listed_for, holders_of, lines_shown, Shown, shown_of, shown_by, shown_held}
+use Rattle.hz_explain.specs.Showing.{mark_of, is_marked, is_of, is_shown, lists_of, list_at, listed_for, holders_of, lines_shown, Shown, shown_of, shown_by, shown_held, FindAlike}
 use Rattle.hz_explain.specs.Telling.{holder_in, unit_in, unit_name}
 use Rattle.hz_reasons.specs.declared.holders.Holder.{Holder}
 use Rattle.hz_reasons.specs.declared.plan.Choice.{Choice}
-use Rattle.hz_reasons.specs.declared.plan.Place.{Place}
 use Rattle.hz_reasons.specs.declared.plan.Plan.{Plan}
 use Rattle.hz_reasons.proofs.HoldingLaws.{listed_pair}
 use Rattle.hz_explain.proofs.ShowLaws.{map_alike, filter_alike}
 
 -- ---- lists by units
 
+-- an issue more at the end of a list that ends with it
+pub find_once : (xs : List Holder) (h : Holder) → slice_get xs (length xs - 1) ≡ Some h → FindAlike xs (xs ++ h ∷ [])
+find_once [] h is test = absurd (cc)
+find_once (x ∷ xs) h is test =
+    let count : length (x ∷ xs) - 1 ≡ length xs = omega arith in
+    go x xs (sym (ap (slice_get (x ∷ xs)) count) ∙ is)
+  where
+    one : (y : Holder) → y ≡ h → (b : Bool) → test y ≡ b → cond b (Some y) None ≡ cond b (Some y) (cond (test h) (Some h) None)
+    one y e true t = refl
+    one y e false t = sym (ap (λ (c : Bool). cond c (Some h) None) (sym (ap test e) ∙ t))
+
+    go : (y : Holder) (ys : List Holder) → slice_get (y ∷ ys) (length ys) ≡ Some h → find test (y ∷ ys) ≡ find test ((y ∷ ys) ++ h ∷ [])
+    go y [] e = one y (ap (λ (o : Option Holder). unwrap_or o y) e) (test y) refl
+    go y (z ∷ ys) e = ap (λ (o : Option Holder). cond (test y) (Some y) o) (go z ys e)
+
 -- an issue more in the list of a place
-more_at : (held : List (Vec Holder Global)) (i : ℕ) (old new : Vec Holder Global) (h : Holder) → i < length held → old ≡ get_or held i old → new.items ≡ old.items ++ h ∷ []
-    → (j : ℕ) → list_at (lists_of (set held i new)) j ≡ list_at (lists_of held) j ++ cond (i == j) (h ∷ []) []
-more_at held i old new h within is grown j = ap (λ (all : List (List Holder)). list_at all j) (map-set (λ (v : Vec Holder Global). v.items) held i new) ∙ go (i == j) refl
+more_at : (held : List (Vec Holder Global)) (i : ℕ) (old new : Vec Holder Global) (h : Holder) → i < length held → old ≡ get_or held i old → FindAlike new.items (old.items ++ h ∷ [])
+    → (j : ℕ) → FindAlike (list_at (lists_of (set held i new)) j) (list_at (lists_of held) j ++ cond (i == j) (h ∷ []) [])
+more_at held i old new h within is grown j test = ap (λ (all : List (List Holder)). find test (list_at all j)) (map-set (λ (v : Vec Holder Global). v.items) held i new) ∙ go (i == j) refl
   where
     inside : i < length (lists_of held)
     inside = let n = length-map held (λ (v : Vec Holder Global). v.items) in omega arith
@@ -44,20 +58,19 @@ more_at held i old new h within is grown j = ap (λ (all : List (List Holder)). 
     there : list_at (lists_of held) i ≡ old.items
     there = get_or-map (λ (v : Vec Holder Global). v.items) held i old [] within ∙ ap (λ (v : Vec Holder Global). v.items) (sym is)
 
-    go : (b : Bool) → (i == j) ≡ b → list_at (set (lists_of held) i new.items) j ≡ list_at (lists_of held) j ++ cond b (h ∷ []) []
+    go : (b : Bool) → (i == j) ≡ b → find test (list_at (set (lists_of held) i new.items) j) ≡ find test (list_at (lists_of held) j ++ cond b (h ∷ []) [])
     go true e =
         let same = eqb-true i j e in
-        ap (list_at (set (lists_of held) i new.items)) (sym same)
-        ∙ (get_or-set_same (lists_of held) i new.items [] inside
-        ∙ (grown ∙ (ap (λ (xs : List Holder). xs ++ h ∷ []) (sym there) ∙ ap (λ (q : ℕ). list_at (lists_of held) q ++ h ∷ []) same)))
+        ap (find test) (ap (list_at (set (lists_of held) i new.items)) (sym same) ∙ get_or-set_same (lists_of held) i new.items [] inside)
+        ∙ (grown test ∙ ap (find test) (ap (λ (xs : List Holder). xs ++ h ∷ []) (sym there) ∙ ap (λ (q : ℕ). list_at (lists_of held) q ++ h ∷ []) same))
     go false e =
         let ne : j ≡ i → ⊥ = λ (s : j ≡ i). let t = eq-eqb i j (sym s) in absurd (cc) in
-        get_or-set_other (lists_of held) i j new.items [] ne ∙ sym (append-nil (list_at (lists_of held) j))
+        ap (find test) (get_or-set_other (lists_of held) i j new.items [] ne ∙ sym (append-nil (list_at (lists_of held) j)))
 
 -- an issue more in the list of a unit
-pub holder_added : (held : List (Vec Holder Global)) (a k i : ℕ) (old new : Vec Holder Global) (h : Holder) → i < length held → a < 256 → k < 256 → i ≡ a * 256 + k → old ≡ get_or held i old → new.items ≡ old.items ++ h ∷ []
-    → (u : UnitPlace) → listed_for (set held i new) u ≡ listed_for held u ++ cond (same_place (record { automaton = a; unit = k }) u) (h ∷ []) []
-holder_added held a k i old new h within low under place is grown u = ⊎_elim inside outside (cases_lt u.unit 256)
+pub holder_added : (held : List (Vec Holder Global)) (a k i : ℕ) (old new : Vec Holder Global) (h : Holder) → i < length held → a < 256 → k < 256 → i ≡ a * 256 + k → old ≡ get_or held i old → FindAlike new.items (old.items ++ h ∷ [])
+    → (u : UnitPlace) → FindAlike (listed_for (set held i new) u) (listed_for held u ++ cond (same_place (record { automaton = a; unit = k }) u) (h ∷ []) [])
+holder_added held a k i old new h within low under place is grown u test = ⊎_elim inside outside (cases_lt u.unit 256)
   where
     here : UnitPlace
     here = record { automaton = a; unit = k }
@@ -75,37 +88,43 @@ holder_added held a k i old new h within low under place is grown u = ⊎_elim i
         let number = eqb-true k u.unit both.1 in
         eq-eqb i (mark_of u) (omega arith))
 
-    inside : u.unit < 256 → listed_for (set held i new) u ≡ listed_for held u ++ cond (same_place here u) (h ∷ []) []
+    inside : u.unit < 256 → find test (listed_for (set held i new) u) ≡ find test (listed_for held u ++ cond (same_place here u) (h ∷ []) [])
     inside small =
         let on = lt-ltb u.unit 256 small in
-        ap (λ (b : Bool). cond b (list_at (lists_of (set held i new)) (mark_of u)) []) on
-        ∙ (more_at held i old new h within is grown (mark_of u)
-        ∙ (ap (λ (b : Bool). list_at (lists_of held) (mark_of u) ++ cond b (h ∷ []) []) (same small)
+        ap (λ (b : Bool). find test (cond b (list_at (lists_of (set held i new)) (mark_of u)) [])) on
+        ∙ (more_at held i old new h within is grown (mark_of u) test
+        ∙ ap (find test)
+        (ap (λ (b : Bool). list_at (lists_of held) (mark_of u) ++ cond b (h ∷ []) []) (same small)
         ∙ sym (ap (λ (b : Bool). cond b (list_at (lists_of held) (mark_of u)) [] ++ cond (same_place here u) (h ∷ []) []) on)))
 
-    outside : 256 ≤ u.unit → listed_for (set held i new) u ≡ listed_for held u ++ cond (same_place here u) (h ∷ []) []
+    outside : 256 ≤ u.unit → find test (listed_for (set held i new) u) ≡ find test (listed_for held u ++ cond (same_place here u) (h ∷ []) [])
     outside large =
         let none = le-ltb u.unit 256 large in
         let other = and_right (a == u.automaton) (k == u.unit) (ne_eqb k u.unit (λ e. absurd (omega arith))) in
-        ap (λ (b : Bool). cond b (list_at (lists_of (set held i new)) (mark_of u)) []) none
-        ∙ sym (ap (λ (b : Bool). cond b (list_at (lists_of held) (mark_of u)) [] ++ cond (same_place here u) (h ∷ []) []) none ∙ ap (λ (b : Bool). cond b (h ∷ []) []) other)
+        ap (find test)
+        (ap (λ (b : Bool). cond b (list_at (lists_of (set held i new)) (mark_of u)) []) none
+        ∙ sym (ap (λ (b : Bool). cond b (list_at (lists_of held) (mark_of u)) [] ++ cond (same_place here u) (h ∷ []) []) none ∙ ap (λ (b : Bool). cond b (h ∷ []) []) other))
 
 -- a pair before the cycle, and one that is not before it
 pub pair_before : (old : List Holder) (age cycle : ℕ) (t : Bool) (h : Holder) → cycle < age → old ≡ old ++ cond (nat_le age cycle && t) (h ∷ []) []
 pair_before old age cycle t h lt = sym (ap (λ (b : Bool). old ++ cond (b && t) (h ∷ []) []) (lt-leb age cycle lt) ∙ append-nil old)
 
-pub pair_from : (old new : List Holder) (age cycle : ℕ) (t : Bool) (h : Holder) → age ≤ cycle → new ≡ old ++ cond t (h ∷ []) [] → new ≡ old ++ cond (nat_le age cycle && t) (h ∷ []) []
-pair_from old new age cycle t h le is = is ∙ sym (ap (λ (b : Bool). old ++ cond (b && t) (h ∷ []) []) (le-leb age cycle le))
+pub pair_from : (old new : List Holder) (age cycle : ℕ) (t : Bool) (h : Holder) → age ≤ cycle → FindAlike new (old ++ cond t (h ∷ []) []) → FindAlike new (old ++ cond (nat_le age cycle && t) (h ∷ []) [])
+pair_from old new age cycle t h le is test = is test ∙ sym (ap (λ (b : Bool). find test (old ++ cond (b && t) (h ∷ []) [])) (le-leb age cycle le))
 
--- one item more
-pub listed_next : {X Y : Type 0} (f : X → List Y) (xs : List X) (i : ℕ) (d : X) (a b c : List Y) → i < length xs → (a ++ flat_map f (drop i xs)) ≡ c → b ≡ a ++ f (get_or xs i d) → (b ++ flat_map f (drop (i + 1) xs)) ≡ c
-listed_next {X} {Y} f xs i d a b c lt come more =
-    ap (λ (ys : List Y). ys ++ flat_map f (drop (i + 1) xs)) more
-    ∙ (append_assoc a (f (get_or xs i d)) (flat_map f (drop (i + 1) xs))
-    ∙ (sym (ap (λ (ys : List X). a ++ flat_map f ys) (drop_more xs i d lt)) ∙ come))
+-- the issues of one item more
+pub listed_next : {X : Type 0} (f : X → List Holder) (xs : List X) (i : ℕ) (d : X) (a b c : List Holder) → i < length xs → FindAlike (a ++ flat_map f (drop i xs)) c → FindAlike b (a ++ f (get_or xs i d)) → FindAlike (b ++ flat_map f (drop (i + 1) xs)) c
+listed_next {X} f xs i d a b c lt come more test =
+    find-append test b rest
+    ∙ (ap (λ (o : Option Holder). option_or o (find test rest)) (more test)
+    ∙ (sym (find-append test (a ++ f (get_or xs i d)) rest)
+    ∙ (ap (find test) (append_assoc a (f (get_or xs i d)) rest ∙ sym (ap (λ (ys : List X). a ++ flat_map f ys) (drop_more xs i d lt))) ∙ come test)))
+  where
+    rest : List Holder
+    rest = flat_map f (drop (i + 1) xs)
 
-pub listed_end : {X Y : Type 0} (f : X → List Y) (xs : List X) (i : ℕ) (a c : List Y) → length xs ≤ i → (a ++ flat_map f (drop i xs)) ≡ c → a ≡ c
-listed_end {X} f xs i a c le come = sym (append-nil a) ∙ (sym (ap (λ (ys : List X). a ++ flat_map f ys) (drop_all i xs le)) ∙ come)
+pub listed_end : {X : Type 0} (f : X → List Holder) (xs : List X) (i : ℕ) (a c : List Holder) → length xs ≤ i → FindAlike (a ++ flat_map f (drop i xs)) c → FindAlike a c
+listed_end {X} f xs i a c le come test = ap (find test) (sym (append-nil a) ∙ sym (ap (λ (ys : List X). a ++ flat_map f ys) (drop_all i xs le))) ∙ come test
 
 pub none_listed : (held : List (Vec Holder Global)) → ((place : ℕ) → list_at (lists_of held) place ≡ []) → (u : UnitPlace) → listed_for held u ≡ []
 none_listed held none u = ap (λ (xs : List Holder). cond (nat_lt u.unit 256) xs []) (none (mark_of u)) ∙ either (nat_lt u.unit 256)
@@ -204,14 +223,20 @@ module _ (m : Pipeline UnitPlace) (plan : Plan) (is : IsPlanOf m plan) where
 abbrev shown_with : List ℕ → List (Option ℕ) → Shown
 shown_with name lines = record { name = name; lines = lines }
 
+-- lists in which the same is found show the same
+shown_alike : (parts : Parts) (plan : Plan) (n : ℕ) (u : UnitPlace) (one other : List Holder) → FindAlike one other → shown_of parts plan one n u ≡ shown_of parts plan other n u
+shown_alike parts plan n u one other alike = ap (shown_with (unit_name parts u))
+    (map_alike (λ (c : ℕ). option_map (λ (h : Holder). h.line) (holder_in plan one u c)) (λ (c : ℕ). option_map (λ (h : Holder). h.line) (holder_in plan other u c))
+    (λ c. ap (λ (o : Option Holder). option_map (λ (h : Holder). h.line) (cond (nat_lt u.automaton (length plan.rules.items)) o None)) (alike (is_holder_of plan u c))) (range_with_len 0 n))
+
 pub row_shown : (parts : Parts) (plan : Plan) (held : List (Vec Holder Global)) (n : ℕ) (u : UnitPlace) (name : List ℕ) (lines : List (Option ℕ)) (hs : List Holder)
     → name ≡ unit_name parts u → lines ≡ lines_shown plan hs n u → hs ≡ listed_for held u → shown_with name lines ≡ shown_by parts plan held n u
 row_shown parts plan held n u name lines hs named drawn is =
     ap (λ (x : List ℕ). shown_with x lines) named ∙ (ap (shown_with (unit_name parts u)) drawn ∙ ap (λ (xs : List Holder). shown_of parts plan xs n u) is)
 
 pub rows_held : (parts : Parts) (plan : Plan) (issues : List Holder) (asked : List Choice) (n : ℕ) (held : List (Vec Holder Global)) (marks : List Bool)
-    → ((u : UnitPlace) → listed_for held u ≡ holders_of plan issues u) → ((u : UnitPlace) → is_marked marks u ≡ is_shown plan issues asked u) → (units : List UnitPlace)
+    → ((u : UnitPlace) → FindAlike (listed_for held u) (holders_of plan issues u)) → ((u : UnitPlace) → is_marked marks u ≡ is_shown plan issues asked u) → (units : List UnitPlace)
     → map (shown_by parts plan held n) (filter (is_marked marks) units) ≡ map (shown_held parts plan issues n) (filter (is_shown plan issues asked) units)
 rows_held parts plan issues asked n held marks listed marked units =
     ap (map (shown_by parts plan held n)) (filter_alike (is_marked marks) (is_shown plan issues asked) marked units)
-    ∙ map_alike (shown_by parts plan held n) (shown_held parts plan issues n) (λ u. ap (λ (hs : List Holder). shown_of parts plan hs n u) (listed u)) (filter (is_shown plan issues asked) units)
+    ∙ map_alike (shown_by parts plan held n) (shown_held parts plan issues n) (λ u. shown_alike parts plan n u (listed_for held u) (holders_of plan issues u) (listed u)) (filter (is_shown plan issues asked) units)

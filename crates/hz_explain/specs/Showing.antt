@@ -1,6 +1,6 @@
 -- Which units a picture shows, and what it shows of them, by what the code holds.
 use Rattle.std.specs.Prelude.{◌≡◌, ℕ, ◌+◌, ◌-◌, ◌*◌, ◌&&◌, ◌||◌, Bool, false, nat_le, nat_lt, max, List, [], ◌∷◌, map, decimal, Option, Some, None, slice_index_or, if◌then◌else◌}
-use Rattle.std.specs.List.{flat_map, list_any, range_with_len}
+use Rattle.std.specs.List.{find, flat_map, list_any, range_with_len}
 use Rattle.std.specs.Option.{option_map}
 use Rattle.std.specs.declared.alloc.Global.{Global}
 use Rattle.std.specs.declared.vec.Vec.{Vec}
@@ -69,6 +69,10 @@ times_held plan u h = each_time (age_of h) u h (pairs_at (choices_at plan h.clas
 -- the issues that hold the unit from the present cycle on
 abbrev pub holders_of : Plan → List Holder → UnitPlace → List Holder
 holders_of plan issues u = flat_map (times_held plan u) issues
+
+-- a search finds the same in both, whatever is looked for
+abbrev pub FindAlike : List Holder → List Holder → Type 0
+FindAlike one other = (test : Holder → Bool) → find test one ≡ find test other
 
 -- ---- how many cycles, and how long a cell is
 

@@ -1,6 +1,6 @@
 //! A picture of what stands reserved, and of what the alternatives of a class ask for.
 
-ghost use Rattle.std.specs.Prelude.{◌≡◌, ◌<◌, ◌+◌, ◌||◌, ◌++◌, ◌∷◌, [], ℕ, List, OnOk, IfOk, false, filter, length, map, min, decimal, replicate, vec_len, if◌then◌else◌};
+ghost use Rattle.std.specs.Prelude.{◌≡◌, ◌<◌, ◌+◌, ◌||◌, ◌++◌, ◌∷◌, [], ℕ, List, OnOk, IfOk, false, filter, length, map, min, decimal, replicate, vec_len, slice_get, true, Some, ◌-◌, if◌then◌else◌};
 ghost use Rattle.std.specs.List.{list_any};
 ghost use Rattle.std.specs.Option.{option_map};
 ghost use Rattle.hz_check_reservations.specs.Shape.{place_of};
@@ -14,7 +14,7 @@ ghost use Rattle.hz_why_model.specs.Pictures.{line_limit, picture};
 ghost use Rattle.hz_why_model.specs.Reasons.{same_place};
 ghost use Rattle.hz_reasons.specs.Holding.{age_of, most, AreHolders};
 ghost use Rattle.hz_reasons.specs.Plans.{unit_of, choices_at, pairs_at, IsPlanOf};
-ghost use Rattle.hz_explain.specs.Showing.{mark_of, is_marked, is_of, is_asked, is_kept, is_shown, cycles_asked, cycles_shown, lists_of, list_at, listed_for, each_time, times_held, holders_of, longest_shown, lines_shown, shown_in, shown_by, shown_held, rows_of_unit, AskFor};
+ghost use Rattle.hz_explain.specs.Showing.{mark_of, is_marked, is_of, is_asked, is_kept, is_shown, cycles_asked, cycles_shown, lists_of, list_at, listed_for, each_time, times_held, holders_of, longest_shown, lines_shown, shown_in, shown_by, shown_held, rows_of_unit, AskFor, FindAlike};
 ghost use Rattle.hz_explain.specs.Showing as showing;
 ghost use Rattle.hz_explain.specs.Telling as told;
 ghost use Rattle.hz_explain.specs.Telling.{holder_in};
@@ -175,7 +175,38 @@ fn empty_lists(alloc: Global, count: usize) -> Result<Vec<Vec<Holder>>, NoMemory
     Ok(lists)
 }
 
-/// Adds an issue to the list of a unit.
+/// Whether two issues are the same.
+fn is_same(one: Holder, other: Holder) -> bool
+    ensures { result ≡ true → one ≡ other }
+{
+    one.line == other.line
+        && one.class == other.class
+        && one.number == other.number
+        && one.last == other.last
+        && one.left == other.left
+}
+
+/// Whether a list ends with an issue.
+fn ends_with(list: &[Holder], holder: Holder) -> bool
+    ensures { result ≡ true → slice_get list.now (length list.now - 1) ≡ Some holder }
+{
+    match list.last() {
+        Some(last) => is_same(*last, holder),
+        None => false,
+    }
+}
+
+/// Adds an issue to a list, unless the list ends with it.
+fn put(list: &mut Vec<Holder>, holder: Holder) -> Result<(), NoMemory>
+    ensures { OnOk result (FindAlike list.new.items (list.old.items ++ holder ∷ [])) }
+{
+    if !ends_with(list, holder) {
+        list.push(holder)?;
+    }
+    Ok(())
+}
+
+/// Adds an issue to the list of a unit, unless the list ends with it.
 fn add_to_unit(
     held: &mut Vec<Vec<Holder>>,
     unit: AutomatonUnit,
@@ -183,10 +214,10 @@ fn add_to_unit(
 ) -> Result<(), NoMemory>
     requires { vec_len held.old ≡ 65536 }
     ensures size { vec_len held.new ≡ 65536 }
-    ensures added { OnOk result ((u : Unit) → listed_for held.new.items u ≡ listed_for held.old.items u ++ (if same_place (unit_of unit) u then holder ∷ [] else [])) }
+    ensures added { OnOk result ((u : Unit) → FindAlike (listed_for held.new.items u) (listed_for held.old.items u ++ (if same_place (unit_of unit) u then holder ∷ [] else []))) }
 {
     let place = mark_place(unit);
-    held[place].push(holder)?;
+    put(&mut held[place], holder)?;
     Ok(())
 }
 
@@ -199,7 +230,7 @@ fn add_by_pair(
 ) -> Result<(), NoMemory>
     requires { vec_len held.old ≡ 65536 }
     ensures size { vec_len held.new ≡ 65536 }
-    ensures added { OnOk result ((u : Unit) → listed_for held.new.items u ≡ listed_for held.old.items u ++ (if is_of age u pair then holder ∷ [] else [])) }
+    ensures added { OnOk result ((u : Unit) → FindAlike (listed_for held.new.items u) (listed_for held.old.items u ++ (if is_of age u pair then holder ∷ [] else []))) }
 {
     if pair.cycle < age {
         return Ok(());
@@ -221,7 +252,7 @@ fn add_by_pairs(
 ) -> Result<(), NoMemory>
     requires { vec_len held.old ≡ 65536 }
     ensures size { vec_len held.new ≡ 65536 }
-    ensures added { OnOk result ((u : Unit) → listed_for held.new.items u ≡ listed_for held.old.items u ++ each_time age u holder pairs.now) }
+    ensures added { OnOk result ((u : Unit) → FindAlike (listed_for held.new.items u) (listed_for held.old.items u ++ each_time age u holder pairs.now)) }
 {
     for place in 0..pairs.len() {
         let pair = pairs[place];
@@ -234,7 +265,7 @@ fn add_by_pairs(
 fn add_holder(held: &mut Vec<Vec<Holder>>, plan: &Plan, holder: Holder) -> Result<(), NoMemory>
     requires { vec_len held.old ≡ 65536 }
     ensures size { vec_len held.new ≡ 65536 }
-    ensures added { OnOk result ((u : Unit) → listed_for held.new.items u ≡ listed_for held.old.items u ++ times_held plan.now u holder) }
+    ensures added { OnOk result ((u : Unit) → FindAlike (listed_for held.new.items u) (listed_for held.old.items u ++ times_held plan.now u holder)) }
 {
     add_by_pairs(held, pairs_taken(plan, holder), age(holder), holder)?;
     Ok(())
@@ -243,7 +274,7 @@ fn add_holder(held: &mut Vec<Vec<Holder>>, plan: &Plan, holder: Holder) -> Resul
 /// Adds issues to the lists of the units that they hold from the present cycle on.
 fn add_holders(held: &mut Vec<Vec<Holder>>, plan: &Plan, issues: &[Holder]) -> Result<(), NoMemory>
     requires { vec_len held.old ≡ 65536 }
-    ensures { OnOk result ((u : Unit) → listed_for held.new.items u ≡ listed_for held.old.items u ++ holders_of plan.now issues.now u) }
+    ensures { OnOk result ((u : Unit) → FindAlike (listed_for held.new.items u) (listed_for held.old.items u ++ holders_of plan.now issues.now u)) }
 {
     for place in 0..issues.len() {
         let holder = issues[place];
@@ -252,13 +283,13 @@ fn add_holders(held: &mut Vec<Vec<Holder>>, plan: &Plan, issues: &[Holder]) -> R
     Ok(())
 }
 
-/// For each unit the issues that hold it from the present cycle on, in their order, each as often as it has a pair of it.
+/// For each unit the issues that hold it from the present cycle on, in their order, each once.
 fn holders_by_unit(
     alloc: Global,
     plan: &Plan,
     issues: &[Holder],
 ) -> Result<Vec<Vec<Holder>>, NoMemory>
-    ensures { IfOk result (λ held. (u : Unit) → listed_for held.items u ≡ holders_of plan.now issues.now u) }
+    ensures { IfOk result (λ held. (u : Unit) → FindAlike (listed_for held.items u) (holders_of plan.now issues.now u)) }
 {
     let mut held = empty_lists(alloc, MARKS)?;
     add_holders(&mut held, plan, issues)?;

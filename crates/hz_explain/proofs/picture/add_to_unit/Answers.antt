@@ -8,4 +8,4 @@ returns-clause-added c =
     let a = made.automaton in
     let k = made.unit in
     let i = made.place in
-    holder_added c.args.held.now.items c.args.unit.automaton c.args.unit.unit c.mark_place-place.result c.index_mut.result.now c.push.new.self c.args.holder (omega (arith, c.requires)) a k i c.index_mut.ensures.value c.in_ok-push.ensures.items
+    holder_added c.args.held.now.items c.args.unit.automaton c.args.unit.unit c.mark_place-place.result c.index_mut.result.now c.put.new.list c.args.holder (omega (arith, c.requires)) a k i c.index_mut.ensures.value c.in_ok-put.ensures
