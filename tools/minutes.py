@@ -19,7 +19,7 @@ TICKS = os.sysconf("SC_CLK_TCK")
 
 
 def processes(top):
-    """The processes of the prover at work here: number and start, words, and seconds of a processor so far."""
+    """The processes of the prover at work here: number and start, words, the folder, and seconds of a processor so far."""
     for number in filter(str.isdigit, os.listdir("/proc")):
         try:
             with open(f"/proc/{number}/cmdline", "rb") as file:
@@ -30,25 +30,26 @@ def processes(top):
         except OSError:
             continue
         if "--crate-name" in words and (place.startswith(top) or "/tmp/rt-" in place or "/tmp/rt-" in words):
-            yield f"{number}.{stat[19]}", words, (int(stat[11]) + int(stat[12])) / TICKS
+            yield f"{number}.{stat[19]}", words, place, (int(stat[11]) + int(stat[12])) / TICKS
 
 
 def sample(path):
     seen = {}
     while True:
         began = time.time()
-        for key, words, seconds in processes(os.getcwd()):
+        for key, words, place, seconds in processes(os.getcwd()):
             crate = re.search(r"--crate-name (\S+)", words).group(1)
-            seen[key] = {"crate": crate, "column": column_of(words), "seconds": seconds}
+            seen[key] = {"crate": crate, "column": column_of(words, place), "seconds": seconds}
         with open(path + ".new", "w") as file:
             json.dump(seen, file)
         os.replace(path + ".new", path)
         time.sleep(max(0.0, 1 - (time.time() - began)))
 
 
-def column_of(words):
-    """0 for the proof of a library, 1 for a program: its proof, the building of it and its runs; 2 for edits and the check before them."""
-    if "--incremental" in words:
+def column_of(words, place):
+    """0 for the proof of a library, 1 for a program: its proof, the building of it and its runs; 2 for edits and the check before them,
+    which `rt` checks in folders of its own."""
+    if "/rt-edit" in place:
         return 2
     return 1 if "main.rt" in words or "--test" in words else 0
 
