@@ -2,7 +2,8 @@
 # Times `hz schedule` on blocks of 1,024, 2,048 and 4,096 instructions on a machine with one unit: of instructions that depend on
 # none, of a chain that waits a thousand cycles for each, of instructions that depend on all before them, and of instructions that
 # take the unit for 256 cycles each. The least of five runs each, with the greatest memory. Then 4,096 of them, and as many stores
-# of loads that depend on all before them, without bypasses and under a thousand with the guard of stores.
+# of loads that depend on all before them, without bypasses and under a thousand with the guard of stores. Then one instruction, under a
+# bypass that lists its class again and again on both sides.
 hz=$1
 . "$(dirname "$0")/../instructions.sh"
 make_machine u u
@@ -42,4 +43,15 @@ for kind in none chain all stored; do
     plain=$(used "$hz" schedule "$machine" "$data/block_$kind")
     guarded=$(used "$hz" schedule "$data/guarded.md" "$data/block_$kind")
     echo "$kind $(ms "$plain") $(ms "$guarded") $(doubling "$guarded" "$plain")"
+done
+
+block none 1 > "$data/block_listed"
+echo "names_a_side ms doubling"
+before=
+for count in 50000 100000 200000 400000; do
+    cp "$machine" "$data/listed.md"
+    awk -v n="$count" 'BEGIN { for (i = 1; i < n; i++) names = names "one,"; names = names "one"; printf "(define_bypass 2 \"%s\" \"%s\")\n", names, names }' >> "$data/listed.md"
+    time=$(used "$hz" schedule "$data/listed.md" "$data/block_listed")
+    echo "$count $(ms "$time") $(doubling "$time" "$before")"
+    before=$time
 done

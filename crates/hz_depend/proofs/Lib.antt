@@ -17,3 +17,4 @@ pub mod NotedLemmas
 pub mod CandidateLemmas
 pub mod TableLemmas
 pub mod ListLemmas
+pub mod OnceLemmas

@@ -1,7 +1,7 @@
 //! The numbers of bypasses between classes, in a row for each producing class, and the cycles of a true dependence by them.
 
-ghost use Rattle.std.specs.Prelude.{◌≡◌, ◌==◌, ◌<◌, ◌&&◌, not, ℕ, All, Some, None, OnOk, IfOk, List, [], filter, length, map, vec_len, if◌then◌else◌, slice_index};
-ghost use Rattle.std.specs.List.{list_any};
+ghost use Rattle.std.specs.Prelude.{◌≡◌, ◌==◌, ◌<◌, ◌&&◌, not, false, ℕ, All, Some, None, OnOk, IfOk, List, [], filter, length, map, vec_len, if◌then◌else◌, slice_index};
+ghost use Rattle.std.specs.List.{list_any, AllPairs};
 ghost use Rattle.hz_block_model.specs.Dependences.Classes.{bypass_between, number_between};
 ghost use Rattle.hz_check.specs.Faults.Bypasses.{given_in, rows_of, number_at};
 ghost use Rattle.hz_check.specs.Shape.{bypass_of};
@@ -15,6 +15,7 @@ use hz_check::{Checked, CheckedBypass};
 use hz_regexp::NoMemory;
 use hz_rtl::{Insn, store_data_bypass};
 use std::alloc::Global;
+use std::collections::BTreeSet;
 
 /// The numbers of bypasses between classes, in cycles: a row for each producing class, with the number for a consuming class at its
 /// place. A row ends after the last class that has one, or later.
@@ -65,8 +66,45 @@ fn give_in(
     Ok(())
 }
 
-/// Gives its number to the pairs of classes that a bypass lists, which are below so many.
+/// The numbers, each once.
+fn distinct(alloc: Global, numbers: &[u32]) -> Result<Vec<u32>, NoMemory>
+    ensures same { IfOk result (λ v. (n : ℕ) → list_any (λ m. m == n) v.items ≡ list_any (λ m. m == n) numbers.now) }
+    ensures once { IfOk result (λ v. AllPairs (λ earlier later. (earlier == later) ≡ false) v.items) }
+    ensures within { IfOk result (λ v. (n : ℕ) → All (λ i. i < n) numbers.now → All (λ i. i < n) v.items) }
+{
+    let mut seen = BTreeSet::new(alloc);
+    let mut kept = Vec::new(alloc);
+    for number in numbers {
+        if seen.insert(*number)? {
+            kept.push(*number)?;
+        }
+    }
+    Ok(kept)
+}
+
+/// Gives the number to the pairs of these producing and consuming classes, which are below so many.
+fn give_pairs(
+    rows: &mut Vec<Vec<Option<u32>>>,
+    outs: &[u32],
+    ins: &[u32],
+    number: u32,
+    classes: usize,
+) -> Result<(), NoMemory>
+    requires outs { All (λ o. o < vec_len rows.old) outs.now }
+    requires ins { All (λ i. i < classes) ins.now }
+    ensures len { vec_len rows.new ≡ vec_len rows.old }
+    ensures numbers { OnOk result ((out into : ℕ) → number_at (rows_of rows.new.items) out into ≡ (if list_any (λ o. o == out) outs.now && list_any (λ i. i == into) ins.now then Some number else number_at (rows_of rows.old.items) out into)) }
+{
+    for out in outs {
+        let row = &mut rows[*out as usize];
+        give_in(row, ins, number, classes)?;
+    }
+    Ok(())
+}
+
+/// Gives its number to the pairs of classes that a bypass lists, which are below so many. A class that is listed often is taken once.
 fn give_all(
+    alloc: Global,
     rows: &mut Vec<Vec<Option<u32>>>,
     bypass: &CheckedBypass,
     classes: usize,
@@ -76,11 +114,9 @@ fn give_all(
     ensures len { vec_len rows.new ≡ vec_len rows.old }
     ensures numbers { OnOk result ((out into : ℕ) → number_at (rows_of rows.new.items) out into ≡ (if list_any (λ o. o == out) bypass.now.outs.items && list_any (λ i. i == into) bypass.now.ins.items then Some bypass.now.number else number_at (rows_of rows.old.items) out into)) }
 {
-    for out in &bypass.outs {
-        let row = &mut rows[*out as usize];
-        give_in(row, &bypass.ins, bypass.number, classes)?;
-    }
-    Ok(())
+    let outs = distinct(alloc, &bypass.outs)?;
+    let ins = distinct(alloc, &bypass.ins)?;
+    give_pairs(rows, &outs, &ins, bypass.number, classes)
 }
 
 /// Whether a bypass has the guard, or has none, as it is asked.
@@ -104,7 +140,7 @@ fn rows_by(
     for k in (0..bypasses.len()).rev() {
         let bypass = &bypasses[k];
         if is_asked(bypass, guard) {
-            give_all(&mut rows, bypass, classes)?;
+            give_all(alloc, &mut rows, bypass, classes)?;
         }
     }
     Ok(rows)
@@ -194,7 +230,6 @@ impl Numbers {
     ) -> u32
         requires numbers { HoldsNumbers (map bypass_of checked.now.bypasses.items) self.now }
         requires producer { producer_class < length checked.now.classes.items }
-        requires consumer { consumer_class < length checked.now.classes.items }
         ensures { result ≡ number_between (map bypass_of checked.now.bypasses.items) (slice_index (latencies_of checked.now) producer_class) producer_class consumer_class (instruction producer.now) (instruction consumer.now) }
     {
         let guarded = number_in(&self.guarded, producer_class, consumer_class);

@@ -2,12 +2,12 @@ use Rattle.std.proofs.Common.{◌≡◌, ℕ, ◌==◌, ◌&&◌, drop, Some, ve
 use Rattle.std.specs.Prelude.{if◌then◌else◌}
 use Rattle.std.specs.List.{list_any}
 use Rattle.hz_check.specs.Faults.Bypasses.{rows_of, number_at}
-use Rattle.hz_depend.proofs.finding.numbers.give_all.Given as goal
+use Rattle.hz_depend.proofs.finding.numbers.give_pairs.Given as goal
 
 -- with the producing classes that are left, the rows are what they are to be
 abbrev pub invariant-loop-out : goal.invariant-loop-out
 invariant-loop-out l = record {
   len : vec_len l.rows ≡ vec_len l.initial.rows;
-  numbers : (o i : ℕ) → (if list_any (λ p. p == o) (drop l.out-index l.bypass.outs.items) && list_any (λ j. j == i) l.bypass.ins.items then Some l.bypass.number else number_at (rows_of l.rows.items) o i)
-      ≡ (if list_any (λ p. p == o) l.bypass.outs.items && list_any (λ j. j == i) l.bypass.ins.items then Some l.bypass.number else number_at (rows_of l.initial.rows.items) o i);
+  numbers : (o i : ℕ) → (if list_any (λ p. p == o) (drop l.out-index l.outs) && list_any (λ j. j == i) l.ins then Some l.number else number_at (rows_of l.rows.items) o i)
+      ≡ (if list_any (λ p. p == o) l.outs && list_any (λ j. j == i) l.ins then Some l.number else number_at (rows_of l.initial.rows.items) o i);
 }
