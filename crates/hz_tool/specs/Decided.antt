@@ -88,21 +88,21 @@ IsTellable (Paired machine first second slots alone) = pairs.IsInRange machine f
 IsTellable (Overlapped machine graph schedule kernel) = IsKernelInRange machine graph kernel
 IsTellable _ = ⊤
 
--- it is told by a report of one plain line: a limit of states, bytes or instructions, or words, memory or a file
-abbrev pub IsPlainLine : Decision → Type 0
-IsPlainLine (Automaton file name) = ⊤
-IsPlainLine (Bytes file) = ⊤
-IsPlainLine (Insns file) = ⊤
-IsPlainLine Usage = ⊤
-IsPlainLine Memory = ⊤
-IsPlainLine (File name) = ⊤
-IsPlainLine _ = ⊥
+-- it is told by a report that names no line of a file: a limit of states, bytes or instructions, or words, memory or a file
+abbrev pub NamesNoLine : Decision → Type 0
+NamesNoLine (Automaton file name) = ⊤
+NamesNoLine (Bytes file) = ⊤
+NamesNoLine (Insns file) = ⊤
+NamesNoLine Usage = ⊤
+NamesNoLine Memory = ⊤
+NamesNoLine (File name) = ⊤
+NamesNoLine _ = ⊥
 
--- it is told by a report of what was not done: a fault of a text, a limit of a description, or one plain line
+-- it is told by a report of what was not done: a fault of a text, a limit of a description, or what names no line of a file
 abbrev pub IsRefusal : Decision → Type 0
 IsRefusal (Fault file line kind insn first second at) = ⊤
 IsRefusal (Limit file line what name) = ⊤
-IsRefusal decision = IsPlainLine decision
+IsRefusal decision = NamesNoLine decision
 
 -- it is told by a report
 abbrev pub IsReported : Decision → Type 0

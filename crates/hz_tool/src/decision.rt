@@ -3,7 +3,7 @@
 ghost use Rattle.std.specs.Prelude.{◌≡◌, ◌≤◌, ◌<◌, ◌^◌, ◌-◌};
 ghost use Rattle.hz_io.specs.Sink.{Writes};
 ghost use Rattle.hz_report.specs.Reports as reports;
-ghost use Rattle.hz_tool.specs.Decided.{replay_status, status_of, text_of, IsPlainLine, IsRefusal, IsReported, IsTellable};
+ghost use Rattle.hz_tool.specs.Decided.{replay_status, status_of, text_of, IsRefusal, IsReported, IsTellable, NamesNoLine};
 
 use hz_auto::Compiled;
 use hz_bound::{Bound, write_bound};
@@ -160,9 +160,9 @@ impl Decision<'_> {
         }
     }
 
-    /// The report of one plain line: a limit of states, bytes or instructions, or words, memory or a file.
-    fn report_plain_line(&self) -> Report<'_>
-        requires { IsPlainLine self.now }
+    /// The report that names no line of a file: a limit of states, bytes or instructions, or words, memory or a file.
+    fn report_without_line(&self) -> Report<'_>
+        requires { NamesNoLine self.now }
         ensures text { reports.text_of result ≡ text_of self.now }
         ensures range { reports.IsTellable result }
     {
@@ -177,7 +177,7 @@ impl Decision<'_> {
         }
     }
 
-    /// The report of what was not done: a fault of a text, a limit of a description, or one plain line.
+    /// The report of what was not done: a fault of a text, a limit of a description, or what names no line of a file.
     fn report_refusal(&self) -> Report<'_>
         requires { IsRefusal self.now }
         ensures text { reports.text_of result ≡ text_of self.now }
@@ -212,7 +212,7 @@ impl Decision<'_> {
                 what: *what,
                 name,
             },
-            _ => self.report_plain_line(),
+            _ => self.report_without_line(),
         }
     }
 
