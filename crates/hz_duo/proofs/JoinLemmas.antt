@@ -1,6 +1,6 @@
 -- Graphs that are joined can be scheduled.
 use Rattle.std.proofs.Common.{◌≡◌, ℕ, ◌+◌, ◌<◌, ◌≤◌, ⊎_elim, List, ◌++◌, map, length, get_or, All, Contains, sym, ap, ◌∙◌, subst, arith}
-use Rattle.std.proofs.lemmas.List.{length-map, length-append, map-append}
+use Rattle.std.proofs.lemmas.List.{length-map, length-append}
 use Rattle.std.proofs.lemmas.List.Elements.{All-append, All-contains, Contains-get_or, Contains-append_cases}
 use Rattle.hz_base_model.proofs.Elements.{Contains-map, Contains-from_map}
 use Rattle.hz_description_model.specs.Reading.Limits.{latency_limit}

@@ -8,7 +8,7 @@ use hz_depend::Graph;
 use hz_regexp::Name;
 use hz_tables::Machine;
 
-/// The number in its block of the instruction at a place, counted from 0.
+/// The number that its block gives the instruction at a place. Places are counted from 0.
 pub fn number_at(graph: &Graph, place: u32) -> u32
     requires { place < length graph.now.insns.items }
     ensures { result ≡ slice_index (map (λ i. i.number) graph.now.insns.items) place }
