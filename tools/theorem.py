@@ -27,8 +27,9 @@ REQUIRED = {
 # The clauses of `run` in plain words, in the order of the page.
 ENSURED = {
     "exact": "This is the main clause. By the rules, the words and what the files hold have an answer: a status and a text. `run` gives this"
-             " status, or 5 for want of memory. The clause applies if the files are known, no write failed, and no read failed but the"
-             " opening of a name that is not there. Laws say that there is exactly one answer (`some_answer`, `one_answer`).",
+             " status, or 5 for want of memory. The clause applies if the files are known, no write failed, and either no read failed or the"
+             " files are steady: of these only the opening of a name that is not there fails. Laws say that there is exactly one answer"
+             " (`some_answer`, `one_answer`).",
     "complete": "Under the same premises, the status and what is written are that answer, or the status is 5.",
     "range": "The status is a number from 0 to 7.",
     "sink": "The status is 7 exactly if a write failed.",
@@ -299,8 +300,9 @@ def unreached_section(theorem):
 def laws_section(theorem):
     """The laws by name."""
     lines = ["## Laws that say it again in other words", ""]
-    lines.append(f"A law is a proved statement about definitions. There are {len(theorem.laws)}. Who doubts a definition looks here for what"
-                 " follows from it. Each name has its line.")
+    lines.append(f"A law is a proved statement about definitions. The crates of definitions and `hz_laws` have {len(theorem.laws)}; some"
+                 " crates of code have more, on their own pages. Who doubts a definition looks here for what follows from it. Each name has"
+                 " its line.")
     crate = ""
     for path in collections.OrderedDict.fromkeys(law.path for law in theorem.laws):
         if crate_of(path) != crate:
