@@ -1,14 +1,14 @@
 //! Why an issue is refused, and what accepted events leave, as texts.
 
-ghost use Rattle.std.specs.Prelude.{◌≡◌, ◌<◌, ◌++◌, ℕ, List, IfOk, OnOk, vec_len};
+ghost use Rattle.std.specs.Prelude.{◌≡◌, ◌<◌, ◌++◌, ℕ, List, Option, IfOk, OnOk, vec_len};
 ghost use Rattle.hz_check.specs.Parts.{IsPartsOf};
 ghost use Rattle.hz_description_model.specs.Reservations.Automata.{UnitPlace};
 ghost use Rattle.hz_mdread.specs.Shape.{description};
 ghost use Rattle.hz_pipeline_model.specs.Accepting.Events.{Event};
 ghost use Rattle.hz_pipeline_model.specs.Accepting.Replay.{Pipeline, left_by};
 ghost use Rattle.hz_why_model.specs.Answers.{wording_of};
-ghost use Rattle.hz_why_model.specs.Choices.{IsFirstChoice};
-ghost use Rattle.hz_why_model.specs.Explanations.{left_text, refusal_text, TellsRefusal};
+ghost use Rattle.hz_why_model.specs.Explanations.{left_text, refusal_text};
+ghost use Rattle.hz_why_model.specs.Waits.{IsWait};
 ghost use Rattle.hz_reasons.specs.Calendars.{AreUnbroken};
 ghost use Rattle.hz_reasons.specs.Holding.{AreHolders};
 ghost use Rattle.hz_reasons.specs.Plans.{IsPlanOf, IsWide, Stands};
@@ -53,8 +53,9 @@ fn add_refusal(
     Ok(())
 }
 
-/// Why an issue of the class is refused behind the events whose issues hold this, and which leave this reserved: when it fits, what
-/// forbids each of its alternatives, and a picture of what stands reserved. `NoMemory` where there was none.
+/// Why an issue of the class is refused behind the events whose issues hold this, and which leave this reserved, whatever choices
+/// they are by: when it fits, what forbids each of its alternatives, and a picture of what stands reserved. `NoMemory` where there
+/// was none.
 pub fn tell_refusal(
     alloc: Global,
     desc: &Description,
@@ -69,7 +70,7 @@ pub fn tell_refusal(
     requires each { vec_len calendar.grids ≡ vec_len plan.now.rules }
     requires wide { IsWide plan.now }
     requires unbroken { AreUnbroken plan.now.rules.items calendar.grids.items }
-    ensures { IfOk result (λ text. (m : Pipeline UnitPlace) (t : List Event) (lines choices : List ℕ) → IsPlanOf m plan.now → IsFirstChoice m t choices → Stands m calendar.grids.items (left_by m t choices) → AreHolders m t lines choices holders.now.issues.items → TellsRefusal (wording_of (description desc.now)) m t lines class text.items) }
+    ensures { IfOk result (λ text. (m : Pipeline UnitPlace) (t : List Event) (lines choices : List ℕ) → IsPlanOf m plan.now → Stands m calendar.grids.items (left_by m t choices) → AreHolders m t lines choices holders.now.issues.items → (wait : Option ℕ) × IsWait m (left_by m t choices) class wait × (text.items ≡ refusal_text (wording_of (description desc.now)) m t lines choices class wait)) }
 {
     let reasons = reasons(alloc, &calendar, plan, class)?;
     let wait = calendar.wait(plan, class);

@@ -6,7 +6,7 @@ ghost use Rattle.hz_mdread.specs.Shape.{set_kind};
 ghost use Rattle.hz_pipeline_model.specs.Accepting.Replay.{Pipeline, State};
 ghost use Rattle.hz_why_model.specs.Answers.{set_word};
 ghost use Rattle.hz_why_model.specs.Explanations.{wait_line};
-ghost use Rattle.hz_reasons.specs.Plans.{unit_of, IsPlanOf, Stands};
+ghost use Rattle.hz_reasons.specs.Plans.{unit_of, AreFuture, IsPlanOf};
 ghost use Rattle.hz_explain.specs.Telling as told;
 ghost use Rattle.hz_explain.specs.Telling.{AreReasons, wording_in, holder_in, pattern_in, pattern_numbered, pair_told, holder_told, units_told, pattern_told, broken_told, reason_told, alternative_told, alternatives_told, choice_told, later_told};
 ghost use Rattle.hz_reasons.specs.declared.reasons.Reason.TheVariants.{Taken};
@@ -325,7 +325,7 @@ pub(crate) fn reasons(
 ) -> Result<Vec<Option<Reason>>, NoMemory>
     requires class { class < vec_len plan.now.classes }
     requires each { vec_len calendar.now.grids ≡ vec_len plan.now.rules }
-    ensures { IfOk result (λ reasons. (m : Pipeline UnitPlace) (s : State UnitPlace) → IsPlanOf m plan.now → Stands m calendar.now.grids.items s → AreReasons m s class reasons.items) }
+    ensures { IfOk result (λ reasons. (m : Pipeline UnitPlace) (s : State UnitPlace) → IsPlanOf m plan.now → AreFuture calendar.now.grids.items s → AreReasons m s class reasons.items) }
 {
     let count = plan.classes[class as usize].len();
     let mut reasons = Vec::with_capacity(alloc, count)?;

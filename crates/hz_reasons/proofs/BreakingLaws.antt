@@ -10,17 +10,18 @@ use Rattle.std.proofs.lemmas.Option.{unwrap_or-slice_get, slice_get-map, slice_g
 use Rattle.std.proofs.Math.ListN.{drop_of_length-le}
 use Rattle.hz_description_model.specs.Reservations.Automata.{UnitPlace}
 use Rattle.hz_description_model.specs.Reservations.Sets.{SetKind, exclusion, presence, final_presence, absence, final_absence, Statement}
+use Rattle.hz_base_model.specs.Pairs.{Pair}
 use Rattle.hz_pipeline_model.specs.Accepting.Plays.{asks, holds_pattern}
 use Rattle.hz_why_model.specs.Reasons as model
 use Rattle.hz_why_model.specs.Reasons.{or_else, breaking, breaking_pattern, first_whole}
-use Rattle.hz_reasons.specs.Breaking.{looked_in, wants, breaks, patterns_of, pattern_at, broken_with, reason_at, broken_first_by, first_broken_by}
+use Rattle.hz_reasons.specs.Breaking.{looked_in, wants, breaks, patterns_of, pattern_at, broken_with, reason_at, broken_first_by, first_broken_by, number_from, number_in, HasNumber}
 use Rattle.hz_reasons.specs.Plans.{unit_of, statement_of}
 use Rattle.hz_reasons.specs.declared.plan.AutomatonUnit.{AutomatonUnit}
 use Rattle.hz_reasons.specs.declared.plan.Place.{Place}
 use Rattle.hz_reasons.specs.declared.plan.SetStatement.{SetStatement}
 use Rattle.hz_reasons.specs.declared.reasons.Break.{Break}
 use Rattle.hz_reasons.specs.declared.reasons.Reason.TheVariants.{Broken}
-use Rattle.hz_reasons.proofs.Finding.{find_alike, find_mapped, get_mapped, is_some-find, is_some-map}
+use Rattle.hz_reasons.proofs.Finding.{find_mapped, is_some-find, is_some-map, number_finds, number_mapped}
 
 abbrev units_of : Vec AutomatonUnit Global → List UnitPlace
 units_of pattern = map unit_of pattern.items
@@ -31,13 +32,15 @@ module _ (t w : UnitPlace → Bool) (same : t ≡ w) where
   pub found_unit : (units : List AutomatonUnit) (found : Option AutomatonUnit) → found ≡ find (λ u. t (unit_of u)) units → option_map unit_of found ≡ find w (map unit_of units)
   found_unit units found is = ap (option_map unit_of) is ∙ sym (find_mapped unit_of t units) ∙ ap (λ (f : UnitPlace → Bool). find f (map unit_of units)) same
 
-  pub found_whole : (patterns : List (Vec AutomatonUnit Global)) (found : Option ℕ) → option_and_then (slice_get patterns) found ≡ find (λ pattern. list_all (λ u. t (unit_of u)) pattern.items) patterns
-      → option_and_then (slice_get (map units_of patterns)) found ≡ find (λ pattern. list_all w pattern) (map units_of patterns)
-  found_whole patterns found is =
-      get_mapped units_of patterns found
-      ∙ ap (option_map units_of) (is ∙ find_alike _ _ patterns (λ pattern there. sym (list_all-map t unit_of pattern.items)))
-      ∙ sym (find_mapped units_of (λ pattern. list_all t pattern) patterns)
-      ∙ ap (λ (f : UnitPlace → Bool). find (λ pattern. list_all f pattern) (map units_of patterns)) same
+  pub numbered_whole : (patterns : List (Vec AutomatonUnit Global)) (found : Option ℕ) → found ≡ number_from (λ pattern. list_all (λ u. t (unit_of u)) pattern.items) 0 patterns → found ≡ number_from (list_all w) 0 (map units_of patterns)
+  numbered_whole patterns found is =
+      is
+      ∙ number_mapped (list_all t) units_of (λ pattern. list_all (λ u. t (unit_of u)) pattern.items) (λ pattern. sym (list_all-map t unit_of pattern.items)) 0 patterns
+      ∙ ap (λ (f : UnitPlace → Bool). number_from (list_all f) 0 (map units_of patterns)) same
+
+-- the pattern of that number is found
+pub found_of : (t : UnitPlace → Bool) (patterns : List (List UnitPlace)) (found : Option ℕ) → found ≡ number_from (list_all t) 0 patterns → option_and_then (slice_get patterns) found ≡ find (λ pattern. list_all t pattern) patterns
+found_of t patterns found is = ap (option_and_then (slice_get patterns)) is ∙ number_finds (list_all t) patterns
 
 -- a number within a list is that of an item
 some_at : {X : Type 0} (xs : List X) (n : ℕ) → n < length xs → is_some (slice_get xs n) ≡ true
@@ -109,6 +112,16 @@ whole_read t xs ys b e is same told = ap (list_all t) (sym same) ∙ sym is ∙ 
 
 -- ---- the first statement that is broken
 
+-- the statement at a place
+statement_there : (sets : List SetStatement) (number : ℕ) (set : SetStatement) → number < length sets → set ≡ get_or sets number set → (n : ℕ) → n ≡ number → slice_get (map statement_of sets) n ≡ Some (statement_of set)
+statement_there sets number set lt is n at =
+    ap (slice_get (map statement_of sets)) at ∙ slice_get-map statement_of sets number ∙ ap (option_map statement_of) (slice_get_read sets (length sets) number set refl lt is)
+
+pub numbered_here : (sets : List SetStatement) (number : ℕ) (set : SetStatement) → number < length sets → set ≡ get_or sets number set → (grids parts : List (List (Pair ℕ))) (b : Break) → b.statement ≡ number → b.pattern ≡ number_in (statement_of set) grids parts b.cycle
+    → HasNumber (map statement_of sets) grids parts b
+numbered_here sets number set lt is grids parts b at told =
+    ap (option_map (λ (s : Statement UnitPlace). number_in s grids parts b.cycle)) (statement_there sets number set lt is b.statement at) ∙ ap Some (sym told)
+
 module _ (source added result : ℕ → UnitPlace → Bool) (sets : List SetStatement) (pairs : List Place) where
   -- from the statement of a number on
   abbrev pub broken_from : (now number : ℕ) → Option (model.Reason UnitPlace)
@@ -131,9 +144,7 @@ module _ (source added result : ℕ → UnitPlace → Bool) (sets : List SetStat
 
       pub broken_here : (b : Break) → found ≡ Some b → b.statement ≡ number → (now : ℕ) → Some (reason_at (map statement_of sets) now (Broken b)) ≡ broken_from now 0
       broken_here b some at now =
-          let there : slice_get (map statement_of sets) b.statement ≡ Some (statement_of set) =
-          ap (slice_get (map statement_of sets)) at ∙ slice_get-map statement_of sets number ∙ ap (option_map statement_of) (slice_get_read sets (length sets) number set refl lt is) in
-          ap (λ (o : Option (Statement UnitPlace)). Some (broken_with (patterns_of o) now b)) there
+          ap (λ (o : Option (Statement UnitPlace)). Some (broken_with (patterns_of o) now b)) (statement_there sets number set lt is b.statement at)
           ∙ sym (come now ∙ next_broken now number set lt is
           ∙ ap (λ (o : Option (model.Reason UnitPlace)). or_else o (broken_from now (suc number))) (sym (told now) ∙ ap (option_map (broken_with (statement_of set).patterns now)) some))
 

@@ -1,6 +1,6 @@
 -- What forbids an alternative, by automata and by the calendar.
 use Rattle.std.proofs.Common.{◌≡◌, ℕ, suc, ◌+◌, ◌<◌, Bool, not, List, [], ◌∷◌, ◌++◌, map, length, Contains, Option, Some, None, refl, sym, ap, ◌∙◌, subst, arith}
-use Rattle.std.specs.Prelude.{◌&&◌, ◌||◌, ◌==◌, slice_get, unwrap_or}
+use Rattle.std.specs.Prelude.{◌&&◌, ◌||◌, ◌==◌, slice_get, unwrap_or, IfSome}
 use Rattle.std.specs.List.{find, list_any, list_all}
 use Rattle.std.specs.Option.{option_map, option_and_then}
 use Rattle.std.proofs.lemmas.List.Folds.{list_any-append}
@@ -15,10 +15,10 @@ use Rattle.hz_description_model.proofs.Reservations.FitLaws.{holds_moved}
 use Rattle.hz_pipeline_model.specs.Accepting.Plays.{has, holds, holds_pattern, asks}
 use Rattle.hz_pipeline_model.specs.Accepting.Replay.{Pipeline, State, alternatives_at, pairs_at, chosen}
 use Rattle.hz_why_model.specs.Reasons.{taken, broken, or_else, breaking, breaking_pattern, first_whole, is_broken_in, broken_in, broken_first, first_broken, first_reason, reason_of, same_place}
-use Rattle.hz_reasons.specs.Breaking.{reason_at, is_broken_by, broken_by, broken_first_by, first_broken_by, is_held_with}
+use Rattle.hz_reasons.specs.Breaking.{reason_at, is_broken_by, broken_by, broken_first_by, first_broken_by, is_held_with, IsNumbered}
 use Rattle.hz_reasons.specs.Calendars.{parts_of, parts_at}
 use Rattle.hz_reasons.specs.Plans as plans
-use Rattle.hz_reasons.specs.Plans.{place_of, statement_of, in_automaton, choices_at, part_at, IsPlanOf, Stands}
+use Rattle.hz_reasons.specs.Plans.{place_of, statement_of, in_automaton, choices_at, part_at, IsPlanOf, AreFuture}
 use Rattle.hz_reasons.specs.Taken.{is_held, is_reserved}
 use Rattle.hz_reasons.specs.declared.plan.Place.{Place}
 use Rattle.hz_reasons.specs.declared.plan.Choice.{Choice}
@@ -90,12 +90,12 @@ module _ (IsLow : UnitPlace → Type 0) (source added result source2 added2 resu
 
 -- ---- by automata and by the calendar
 
-module _ (m : Pipeline UnitPlace) (plan : Plan) (is : IsPlanOf m plan) (grids : List (List (Pair ℕ))) (each : length grids ≡ length plan.rules.items) (s : State UnitPlace) (stands : Stands m grids s) where
+module _ (m : Pipeline UnitPlace) (plan : Plan) (is : IsPlanOf m plan) (grids : List (List (Pair ℕ))) (each : length grids ≡ length plan.rules.items) (s : State UnitPlace) (future : AreFuture grids s) where
   abbrev IsLow : UnitPlace → Type 0
   IsLow u = u.automaton < length grids
 
   standing : (cycle : ℕ) (u : UnitPlace) → IsLow u → holds same_place s.reserved (s.now + cycle) u ≡ is_held grids cycle u
-  standing cycle u low = held_alike grids s.reserved u cycle (s.now + cycle) (stands.future u.automaton u.unit cycle low)
+  standing cycle u low = held_alike grids s.reserved u cycle (s.now + cycle) (future u.automaton u.unit cycle low)
 
   module _ (k i : ℕ) (lt : i < length (choices_at plan k)) where
     abbrev parts : List (List (Pair ℕ))
@@ -181,11 +181,19 @@ Answers now result statements grids parts pairs =
     option_map (reason_at statements now) result
     ≡ or_else (option_map (λ p. taken (later now (place_of p))) (find (is_reserved grids) pairs)) (first_broken_by (is_held grids) (is_held parts) (is_held_with grids parts) now 0 statements pairs)
 
-pub reason_read : (m : Pipeline UnitPlace) (plan : Plan) → IsPlanOf m plan → (grids : List (List (Pair ℕ))) → length grids ≡ length plan.rules.items → (s : State UnitPlace) → Stands m grids s → (k i : ℕ) → i < length (choices_at plan k) → (a : Alternative UnitPlace) → slice_get (alternatives_at m k) i ≡ Some a
+pub reason_read : (m : Pipeline UnitPlace) (plan : Plan) → IsPlanOf m plan → (grids : List (List (Pair ℕ))) → length grids ≡ length plan.rules.items → (s : State UnitPlace) → AreFuture grids s → (k i : ℕ) → i < length (choices_at plan k) → (a : Alternative UnitPlace) → slice_get (alternatives_at m k) i ≡ Some a
     → (sets : List SetStatement) (read : List (List (Pair ℕ))) (choice : Choice) (result : Option Reason) → sets ≡ plan.sets.items → read ≡ grids → slice_get (choices_at plan k) i ≡ Some choice → Answers s.now result (map statement_of sets) read choice.parts.items choice.pairs.items
     → option_map (reason_at m.statements s.now) result ≡ reason_of same_place place_cmp m.statements s.reserved s.now a
-reason_read m plan is grids each s stands k i lt a there sets read choice result same grid at answers =
+reason_read m plan is grids each s future k i lt a there sets read choice result same grid at answers =
     let first = subst (λ (ts : List (Statement UnitPlace)). Answers s.now result ts read choice.parts.items choice.pairs.items) (ap (map statement_of) same ∙ is.sets) answers in
     let second = subst (λ (gs : List (List (Pair ℕ))). Answers s.now result m.statements gs choice.parts.items choice.pairs.items) grid first in
     let third = subst (λ (o : Option Choice). Answers s.now result m.statements grids (parts_of o) (plans.pairs_of o)) (sym at) second in
-    third ∙ reason_means m plan is grids each s stands k i lt a there
+    third ∙ reason_means m plan is grids each s future k i lt a there
+
+-- the number of a pattern, where the statements, grids and alternative are read
+pub numbered_read : (sets all : List SetStatement) (read grids : List (List (Pair ℕ))) (choices : List Choice) (i : ℕ) (choice : Choice) (result : Option Reason) → sets ≡ all → read ≡ grids → slice_get choices i ≡ Some choice
+    → IfSome result (IsNumbered (map statement_of sets) read choice.parts.items) → IfSome result (IsNumbered (map statement_of all) grids (parts_at choices i))
+numbered_read sets all read grids choices i choice result same grid at told =
+    let first = subst (λ (ts : List SetStatement). IfSome result (IsNumbered (map statement_of ts) read choice.parts.items)) same told in
+    let second = subst (λ (gs : List (List (Pair ℕ))). IfSome result (IsNumbered (map statement_of all) gs choice.parts.items)) grid first in
+    subst (λ (o : Option Choice). IfSome result (IsNumbered (map statement_of all) grids (parts_of o))) (sym at) second

@@ -1,6 +1,6 @@
 -- How set statements are broken, by what stands reserved and what is added in each automaton, with cycles counted from the present one.
-use Rattle.std.specs.Prelude.{ℕ, suc, ◌+◌, Bool, true, false, not, ◌&&◌, ◌||◌, if◌then◌else◌, List, [], ◌∷◌, Option, Some, None, slice_get, slice_index_or}
-use Rattle.std.specs.List.{find}
+use Rattle.std.specs.Prelude.{◌≡◌, ⊤, ℕ, suc, ◌+◌, Bool, true, false, not, ◌&&◌, ◌||◌, if◌then◌else◌, List, [], ◌∷◌, Option, Some, None, slice_get, slice_index_or}
+use Rattle.std.specs.List.{find, list_all}
 use Rattle.std.specs.Option.{option_map, option_and_then}
 use Rattle.hz_base_model.specs.Pairs.{Pair, later}
 use Rattle.hz_description_model.specs.Reservations.Automata.{UnitPlace}
@@ -93,3 +93,23 @@ is_held_with grids parts cycle u = is_held grids cycle u || is_held parts cycle 
 -- which units are held in the cycle
 abbrev pub seen_in : Seen → (grids parts : List (List (Pair ℕ))) → (cycle : ℕ) → UnitPlace → Bool
 seen_in which grids parts cycle = seen which (is_held grids cycle) (is_held parts cycle) (is_held_with grids parts cycle)
+
+-- ---- by which pattern
+
+-- the number of the first item that passes, where the first of these has this number; none where none passes
+abbrev pub number_from : {X : Type 0} → (X → Bool) → (number : ℕ) → List X → Option ℕ
+number_from test number [] = None
+number_from test number (x ∷ xs) = if test x then Some number else number_from test (suc number) xs
+
+-- the number of the first pattern that is wholly where the statement looks for one, in a cycle; none where one is missed
+abbrev pub number_in : Statement UnitPlace → (grids parts : List (List (Pair ℕ))) → (cycle : ℕ) → Option ℕ
+number_in s grids parts cycle = if wants s.kind then None else number_from (list_all (looked_in s.kind (is_held grids cycle) (is_held_with grids parts cycle))) 0 s.patterns
+
+-- the break has the number of that pattern of its statement
+abbrev pub HasNumber : List (Statement UnitPlace) → (grids parts : List (List (Pair ℕ))) → Break → Type 0
+HasNumber statements grids parts b = option_map (λ s. number_in s grids parts b.cycle) (slice_get statements b.statement) ≡ Some b.pattern
+
+-- what forbids an alternative has it, if it is a statement that is broken
+abbrev pub IsNumbered : List (Statement UnitPlace) → (grids parts : List (List (Pair ℕ))) → Reason → Type 0
+IsNumbered statements grids parts (Taken p) = ⊤
+IsNumbered statements grids parts (Broken b) = HasNumber statements grids parts b

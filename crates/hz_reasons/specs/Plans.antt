@@ -71,9 +71,13 @@ pub record IsPlanOf (m : Pipeline UnitPlace) (plan : Plan) : Type 0 where
   pub listed : (k i : ℕ) → i < length (choices_at plan k) → map place_of (pairs_at (choices_at plan k) i) ≡ ascending (chosen m k i)
   pub treatment : m.treatment ≡ (if plan.any_fit then any_fit else first_fit)
 
--- The grids are what stands reserved from the present cycle on, automaton by automaton, and no exclusion is broken.
+-- the grids are what stands reserved from the present cycle on, automaton by automaton
+abbrev pub AreFuture : (grids : List (List (Pair ℕ))) → State UnitPlace → Type 0
+AreFuture grids s = (a unit cycle : ℕ) → a < length grids → Contains (at grids a) (record { unit = unit; cycle = cycle }) ↔ Contains s.reserved (in_automaton a unit (s.now + cycle))
+
+-- The grids are what stands reserved from the present cycle on, and no exclusion is broken.
 pub record Stands (m : Pipeline UnitPlace) (grids : List (List (Pair ℕ))) (s : State UnitPlace) : Type 0 where
-  pub future : (a unit cycle : ℕ) → a < length grids → Contains (at grids a) (record { unit = unit; cycle = cycle }) ↔ Contains s.reserved (in_automaton a unit (s.now + cycle))
+  pub future : AreFuture grids s
   pub unbroken : IsUnbroken m.statements s.reserved
 
 -- what stands reserved behind an issue that takes the alternative of this number

@@ -1,6 +1,6 @@
 //! What forbids an alternative.
 
-ghost use Rattle.std.specs.Prelude.{◌≡◌, ◌<◌, ℕ, length, vec_len, map, slice_get, Some};
+ghost use Rattle.std.specs.Prelude.{◌≡◌, ◌<◌, ℕ, length, vec_len, map, slice_get, Some, IfSome};
 ghost use Rattle.std.specs.List.{find};
 ghost use Rattle.std.specs.Option.{option_map};
 ghost use Rattle.hz_base_model.specs.Pairs.{later};
@@ -8,8 +8,9 @@ ghost use Rattle.hz_description_model.specs.Reservations.Alternatives.{Alternati
 ghost use Rattle.hz_description_model.specs.Reservations.Automata.{UnitPlace, place_cmp};
 ghost use Rattle.hz_pipeline_model.specs.Accepting.Replay.{Pipeline, State, alternatives_at};
 ghost use Rattle.hz_why_model.specs.Reasons.{same_place, reason_of, or_else, taken};
-ghost use Rattle.hz_reasons.specs.Breaking.{reason_at, first_broken_by, is_held_with};
-ghost use Rattle.hz_reasons.specs.Plans.{place_of, statement_of, choices_at, IsPlanOf, Stands};
+ghost use Rattle.hz_reasons.specs.Breaking.{reason_at, first_broken_by, is_held_with, IsNumbered};
+ghost use Rattle.hz_reasons.specs.Calendars.{parts_at};
+ghost use Rattle.hz_reasons.specs.Plans.{place_of, statement_of, choices_at, AreFuture, IsPlanOf};
 ghost use Rattle.hz_reasons.specs.Taken.{is_held, is_reserved};
 
 use crate::calendar::Calendar;
@@ -26,7 +27,7 @@ pub struct Break {
     pub cycle: u16,
     /// The unit of its first string by which it is broken.
     pub unit: AutomatonUnit,
-    /// The number of the pattern by which it is broken; None where a pattern is missed.
+    /// The number of the first pattern by which it is broken; None where a pattern is missed.
     pub pattern: Option<usize>,
 }
 
@@ -60,7 +61,8 @@ fn first_taken(grids: &[Grid], pairs: &[Place]) -> Option<Place>
 /// The first pair of an alternative that stands reserved, or else how the first of the statements is broken that is; None if nothing
 /// forbids it. It takes no memory.
 fn first_reason(grids: &[Grid], sets: &[SetStatement], choice: &Choice) -> Option<Reason>
-    ensures { (now : ℕ) → option_map (reason_at (map statement_of sets.now) now) result ≡ or_else (option_map (λ p. taken (later now (place_of p))) (find (is_reserved grids.now) choice.now.pairs.items)) (first_broken_by (is_held grids.now) (is_held choice.now.parts.items) (is_held_with grids.now choice.now.parts.items) now 0 (map statement_of sets.now) choice.now.pairs.items) }
+    ensures pattern { IfSome result (IsNumbered (map statement_of sets.now) grids.now choice.now.parts.items) }
+    ensures reason { (now : ℕ) → option_map (reason_at (map statement_of sets.now) now) result ≡ or_else (option_map (λ p. taken (later now (place_of p))) (find (is_reserved grids.now) choice.now.pairs.items)) (first_broken_by (is_held grids.now) (is_held choice.now.parts.items) (is_held_with grids.now choice.now.parts.items) now 0 (map statement_of sets.now) choice.now.pairs.items) }
 {
     match first_taken(grids, &choice.pairs) {
         Some(pair) => Some(Reason::Taken(pair)),
@@ -79,7 +81,8 @@ impl Calendar {
         requires class { class < vec_len plan.now.classes }
         requires number { number < length (choices_at plan.now class) }
         requires each { vec_len self.now.grids ≡ vec_len plan.now.rules }
-        ensures { (m : Pipeline UnitPlace) (s : State UnitPlace) (a : Alternative UnitPlace) → IsPlanOf m plan.now → Stands m self.now.grids.items s → slice_get (alternatives_at m class) number ≡ Some a → option_map (reason_at m.statements s.now) result ≡ reason_of same_place place_cmp m.statements s.reserved s.now a }
+        ensures pattern { IfSome result (IsNumbered (map statement_of plan.now.sets.items) self.now.grids.items (parts_at (choices_at plan.now class) number)) }
+        ensures reason { (m : Pipeline UnitPlace) (s : State UnitPlace) (a : Alternative UnitPlace) → IsPlanOf m plan.now → AreFuture self.now.grids.items s → slice_get (alternatives_at m class) number ≡ Some a → option_map (reason_at m.statements s.now) result ≡ reason_of same_place place_cmp m.statements s.reserved s.now a }
     {
         let choices = &plan.classes[class as usize];
         first_reason(&self.grids, &plan.sets, &choices[number])

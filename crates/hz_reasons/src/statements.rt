@@ -6,7 +6,7 @@ ghost use Rattle.std.specs.Option.{option_map, option_and_then};
 ghost use Rattle.hz_description_model.specs.Reservations.Automata.{UnitPlace};
 ghost use Rattle.hz_why_model.specs.Reasons.{breaking, breaking_pattern};
 ghost use Rattle.hz_unitsets.specs.SetRules.{kind_of};
-ghost use Rattle.hz_reasons.specs.Breaking.{seen, seen_in, is_held_with, pattern_at, broken_with, looked_in, wants, breaks, is_broken_by, broken_by, broken_first_by, first_broken_by, reason_at};
+ghost use Rattle.hz_reasons.specs.Breaking.{seen, seen_in, is_held_with, pattern_at, broken_with, looked_in, wants, breaks, is_broken_by, broken_by, broken_first_by, first_broken_by, reason_at, number_from, number_in, HasNumber};
 ghost use Rattle.hz_reasons.specs.Plans.{unit_of, statement_of};
 ghost use Rattle.hz_reasons.specs.Taken.{is_held};
 ghost use Rattle.hz_reasons.specs.declared.reasons.Reason.TheVariants.{Broken};
@@ -95,7 +95,7 @@ fn first_whole(
     patterns: &[Vec<AutomatonUnit>],
 ) -> Option<usize>
     ensures within { IfSome result (λ number. number < length patterns.now) }
-    ensures found { option_and_then (slice_get patterns.now) result ≡ find (λ pattern. list_all (λ u. seen_in which grids.now parts.now cycle (unit_of u)) pattern.items) patterns.now }
+    ensures number { result ≡ number_from (λ pattern. list_all (λ u. seen_in which grids.now parts.now cycle (unit_of u)) pattern.items) 0 patterns.now }
 {
     for (number, pattern) in patterns.iter().enumerate() {
         if is_whole(which, grids, parts, cycle, pattern) {
@@ -163,7 +163,7 @@ fn breaking_unit(
 /// The number of the first pattern that the statement finds in the cycle, where it looks for one. It takes no memory.
 fn found_pattern(set: &SetStatement, grids: &[Grid], parts: &[Usage], cycle: u16) -> Option<usize>
     ensures within { IfSome result (λ number. number < length (statement_of set.now).patterns) }
-    ensures found { option_and_then (slice_get (statement_of set.now).patterns) result ≡ find (λ pattern. list_all (looked_in (kind_of set.now.kind) (is_held grids.now cycle) (is_held_with grids.now parts.now cycle)) pattern) (statement_of set.now).patterns }
+    ensures number { result ≡ number_from (list_all (looked_in (kind_of set.now.kind) (is_held grids.now cycle) (is_held_with grids.now parts.now cycle))) 0 (statement_of set.now).patterns }
 {
     first_whole(pattern_units(set.kind), grids, parts, cycle, &set.patterns)
 }
@@ -178,9 +178,11 @@ fn is_broken(set: &SetStatement, grids: &[Grid], parts: &[Usage], cycle: u16) ->
     is_break(wanted, unit.is_some(), pattern.is_some())
 }
 
-/// The number of the pattern by which the statement is broken in the cycle, if it is: None where one is missed. It takes no memory.
+/// The number of the first pattern by which the statement is broken in the cycle, if it is: None where one is missed. It takes no
+/// memory.
 fn breaking_number(set: &SetStatement, grids: &[Grid], parts: &[Usage], cycle: u16) -> Option<usize>
-    ensures { pattern_at (statement_of set.now).patterns result ≡ breaking_pattern (kind_of set.now.kind) (statement_of set.now).patterns (is_held grids.now cycle) (is_held_with grids.now parts.now cycle) }
+    ensures number { result ≡ number_in (statement_of set.now) grids.now parts.now cycle }
+    ensures pattern { pattern_at (statement_of set.now).patterns result ≡ breaking_pattern (kind_of set.now.kind) (statement_of set.now).patterns (is_held grids.now cycle) (is_held_with grids.now parts.now cycle) }
 {
     if wants_pattern(set.kind) {
         return None;
@@ -197,6 +199,7 @@ fn break_in(
     cycle: u16,
 ) -> Option<Break>
     ensures number { IfSome result (λ b. b.statement ≡ statement) }
+    ensures pattern { IfSome result (λ b. b.pattern ≡ number_in (statement_of set.now) grids.now parts.now b.cycle) }
     ensures broken { (now : ℕ) → option_map (broken_with (statement_of set.now).patterns now) result ≡ broken_by (is_held grids.now) (is_held parts.now) (is_held_with grids.now parts.now) now statement (statement_of set.now) cycle }
 {
     match breaking_unit(set, grids, parts, cycle) {
@@ -235,6 +238,7 @@ fn first_break(
     pairs: &[Place],
 ) -> Option<Break>
     ensures number { IfSome result (λ b. b.statement ≡ statement) }
+    ensures pattern { IfSome result (λ b. b.pattern ≡ number_in (statement_of set.now) grids.now parts.now b.cycle) }
     ensures broken { (now : ℕ) → option_map (broken_with (statement_of set.now).patterns now) result ≡ broken_first_by (is_held grids.now) (is_held parts.now) (is_held_with grids.now parts.now) now statement (statement_of set.now) pairs.now }
 {
     match first_broken_pair(set, grids, parts, pairs) {
@@ -250,7 +254,8 @@ pub(crate) fn first_broken(
     parts: &[Usage],
     pairs: &[Place],
 ) -> Option<Break>
-    ensures { (now : ℕ) → option_map (λ b. reason_at (map statement_of sets.now) now (Broken b)) result ≡ first_broken_by (is_held grids.now) (is_held parts.now) (is_held_with grids.now parts.now) now 0 (map statement_of sets.now) pairs.now }
+    ensures pattern { IfSome result (HasNumber (map statement_of sets.now) grids.now parts.now) }
+    ensures broken { (now : ℕ) → option_map (λ b. reason_at (map statement_of sets.now) now (Broken b)) result ≡ first_broken_by (is_held grids.now) (is_held parts.now) (is_held_with grids.now parts.now) now 0 (map statement_of sets.now) pairs.now }
 {
     for (number, set) in sets.iter().enumerate() {
         match first_break(number, set, grids, parts, pairs) {

@@ -8,14 +8,11 @@ use Rattle.hz_explain.specs.Telling.{AreReasons}
 use Rattle.hz_explain.proofs.explaining.tell_refusal.Goals as goal
 
 pub returns : goal.returns
-returns c = λ m t lines choices is first stands are.
+returns c = λ m t lines choices is stands are.
     let k = c.args.class in
     let here = subst (AreHolders m t lines choices) (sym c.deref.ensures.value) are in
-    let told = subst (AreReasons m (left_by m t choices) k) (sym c.deref-2.ensures.value) (c.in_ok-reasons.ensures m (left_by m t choices) is stands) in
-    record {
-      choices = choices;
-      first = first;
-      wait = c.wait-wait.result;
-      waits = c.wait-wait.ensures m (left_by m t choices) is stands;
-      is = c.in_ok-add_refusal.ensures m t lines choices is told here ∙ ap (λ xs. xs ++ refusal_text (wording_of (description c.args.desc.now)) m t lines choices k c.wait-wait.result) c.new-text.ensures.items;
-    }
+    let told = subst (AreReasons m (left_by m t choices) k) (sym c.deref-2.ensures.value) (c.in_ok-reasons.ensures m (left_by m t choices) is stands.future) in (
+      c.wait-wait.result,
+      c.wait-wait.ensures m (left_by m t choices) is stands,
+      c.in_ok-add_refusal.ensures m t lines choices is told here ∙ ap (λ xs. xs ++ refusal_text (wording_of (description c.args.desc.now)) m t lines choices k c.wait-wait.result) c.new-text.ensures.items,
+    )

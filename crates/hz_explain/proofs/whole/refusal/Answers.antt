@@ -6,4 +6,6 @@ use Rattle.hz_explain.proofs.whole.refusal.Goals as goal
 pub returns-in-Ok : goal.returns-in-Ok
 returns-in-Ok c = if_ok_then _ _ c.tell_refusal.result c.tell_refusal.ensures (λ text told m is frontier.
     let t = events_in c.args.events.now in
-    told m t (lines_in c.args.events.now) (first_of c.args.frontier).choices is (c.in-Ok.ensures.first m is frontier) (c.into_first-calendar.ensures.chosen m t frontier).stands (c.in-Ok.ensures.holders m is frontier))
+    let choices = (first_of c.args.frontier).choices in
+    let by = told m t (lines_in c.args.events.now) choices is (c.into_first-calendar.ensures.chosen m t frontier).stands (c.in-Ok.ensures.holders m is frontier) in
+    record { choices = choices; first = c.in-Ok.ensures.first m is frontier; wait = by.0; waits = by.1; is = by.2 })
