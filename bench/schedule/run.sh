@@ -50,7 +50,9 @@ echo "names_a_side ms doubling"
 before=
 for count in 50000 100000 200000 400000; do
     cp "$machine" "$data/listed.md"
-    awk -v n="$count" 'BEGIN { for (i = 1; i < n; i++) names = names "one,"; names = names "one"; printf "(define_bypass 2 \"%s\" \"%s\")\n", names, names }' >> "$data/listed.md"
+    awk -v n="$count" '
+        function list(i) { printf " \""; for (i = 1; i < n; i++) printf "one,"; printf "one\"" }
+        BEGIN { printf "(define_bypass 2"; list(); list(); print ")" }' >> "$data/listed.md"
     time=$(used "$hz" schedule "$data/listed.md" "$data/block_listed")
     echo "$count $(ms "$time") $(doubling "$time" "$before")"
     before=$time
