@@ -14,7 +14,7 @@ use Rattle.hz_base_model.specs.Pairs.{Pair}
 use Rattle.hz_pipeline_model.specs.Accepting.Plays.{asks, holds_pattern}
 use Rattle.hz_why_model.specs.Reasons as model
 use Rattle.hz_why_model.specs.Reasons.{or_else, breaking, breaking_pattern, first_whole}
-use Rattle.hz_reasons.specs.Breaking.{looked_in, wants, breaks, patterns_of, pattern_at, broken_with, reason_at, broken_first_by, first_broken_by, number_from, number_in, HasNumber}
+use Rattle.hz_reasons.specs.Breaking.{looked_in, wants, breaks, patterns_of, pattern_at, broken_with, reason_at, broken_first_by, first_broken_by, first_number_from, number_in, HasPatternNumber}
 use Rattle.hz_reasons.specs.Plans.{unit_of, statement_of}
 use Rattle.hz_reasons.specs.declared.plan.AutomatonUnit.{AutomatonUnit}
 use Rattle.hz_reasons.specs.declared.plan.Place.{Place}
@@ -32,14 +32,14 @@ module _ (t w : UnitPlace → Bool) (same : t ≡ w) where
   pub found_unit : (units : List AutomatonUnit) (found : Option AutomatonUnit) → found ≡ find (λ u. t (unit_of u)) units → option_map unit_of found ≡ find w (map unit_of units)
   found_unit units found is = ap (option_map unit_of) is ∙ sym (find_mapped unit_of t units) ∙ ap (λ (f : UnitPlace → Bool). find f (map unit_of units)) same
 
-  pub numbered_whole : (patterns : List (Vec AutomatonUnit Global)) (found : Option ℕ) → found ≡ number_from (λ pattern. list_all (λ u. t (unit_of u)) pattern.items) 0 patterns → found ≡ number_from (list_all w) 0 (map units_of patterns)
+  pub numbered_whole : (patterns : List (Vec AutomatonUnit Global)) (found : Option ℕ) → found ≡ first_number_from (λ pattern. list_all (λ u. t (unit_of u)) pattern.items) 0 patterns → found ≡ first_number_from (list_all w) 0 (map units_of patterns)
   numbered_whole patterns found is =
       is
       ∙ number_mapped (list_all t) units_of (λ pattern. list_all (λ u. t (unit_of u)) pattern.items) (λ pattern. sym (list_all-map t unit_of pattern.items)) 0 patterns
-      ∙ ap (λ (f : UnitPlace → Bool). number_from (list_all f) 0 (map units_of patterns)) same
+      ∙ ap (λ (f : UnitPlace → Bool). first_number_from (list_all f) 0 (map units_of patterns)) same
 
 -- the pattern of that number is found
-pub found_of : (t : UnitPlace → Bool) (patterns : List (List UnitPlace)) (found : Option ℕ) → found ≡ number_from (list_all t) 0 patterns → option_and_then (slice_get patterns) found ≡ find (λ pattern. list_all t pattern) patterns
+pub found_of : (t : UnitPlace → Bool) (patterns : List (List UnitPlace)) (found : Option ℕ) → found ≡ first_number_from (list_all t) 0 patterns → option_and_then (slice_get patterns) found ≡ find (λ pattern. list_all t pattern) patterns
 found_of t patterns found is = ap (option_and_then (slice_get patterns)) is ∙ number_finds (list_all t) patterns
 
 -- a number within a list is that of an item
@@ -118,7 +118,7 @@ statement_there sets number set lt is n at =
     ap (slice_get (map statement_of sets)) at ∙ slice_get-map statement_of sets number ∙ ap (option_map statement_of) (slice_get_read sets (length sets) number set refl lt is)
 
 pub numbered_here : (sets : List SetStatement) (number : ℕ) (set : SetStatement) → number < length sets → set ≡ get_or sets number set → (grids parts : List (List (Pair ℕ))) (b : Break) → b.statement ≡ number → b.pattern ≡ number_in (statement_of set) grids parts b.cycle
-    → HasNumber (map statement_of sets) grids parts b
+    → HasPatternNumber (map statement_of sets) grids parts b
 numbered_here sets number set lt is grids parts b at told =
     ap (option_map (λ (s : Statement UnitPlace). number_in s grids parts b.cycle)) (statement_there sets number set lt is b.statement at) ∙ ap Some (sym told)
 

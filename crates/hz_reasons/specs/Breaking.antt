@@ -97,19 +97,20 @@ seen_in which grids parts cycle = seen which (is_held grids cycle) (is_held part
 -- ---- by which pattern
 
 -- the number of the first item that passes, where the first of these has this number; none where none passes
-abbrev pub number_from : {X : Type 0} → (X → Bool) → (number : ℕ) → List X → Option ℕ
-number_from test number [] = None
-number_from test number (x ∷ xs) = if test x then Some number else number_from test (suc number) xs
+abbrev pub first_number_from : {X : Type 0} → (X → Bool) → (number : ℕ) → List X → Option ℕ
+first_number_from test number [] = None
+first_number_from test number (x ∷ xs) = if test x then Some number else first_number_from test (suc number) xs
 
--- the number of the first pattern that is wholly where the statement looks for one, in a cycle; none where one is missed
+-- of a statement that wants no pattern, the number of the first that is wholly where it looks for one in the cycle, if there is one;
+-- none of a statement that wants a pattern
 abbrev pub number_in : Statement UnitPlace → (grids parts : List (List (Pair ℕ))) → (cycle : ℕ) → Option ℕ
-number_in s grids parts cycle = if wants s.kind then None else number_from (list_all (looked_in s.kind (is_held grids cycle) (is_held_with grids parts cycle))) 0 s.patterns
+number_in s grids parts cycle = if wants s.kind then None else first_number_from (list_all (looked_in s.kind (is_held grids cycle) (is_held_with grids parts cycle))) 0 s.patterns
 
--- the break has the number of that pattern of its statement
-abbrev pub HasNumber : List (Statement UnitPlace) → (grids parts : List (List (Pair ℕ))) → Break → Type 0
-HasNumber statements grids parts b = option_map (λ s. number_in s grids parts b.cycle) (slice_get statements b.statement) ≡ Some b.pattern
+-- the break's statement is there, and its pattern has the number that `number_in` gives in its cycle
+abbrev pub HasPatternNumber : List (Statement UnitPlace) → (grids parts : List (List (Pair ℕ))) → Break → Type 0
+HasPatternNumber statements grids parts b = option_map (λ s. number_in s grids parts b.cycle) (slice_get statements b.statement) ≡ Some b.pattern
 
--- what forbids an alternative has it, if it is a statement that is broken
+-- the same of what forbids an alternative, if that is a statement that is broken
 abbrev pub IsNumbered : List (Statement UnitPlace) → (grids parts : List (List (Pair ℕ))) → Reason → Type 0
 IsNumbered statements grids parts (Taken p) = ⊤
-IsNumbered statements grids parts (Broken b) = HasNumber statements grids parts b
+IsNumbered statements grids parts (Broken b) = HasPatternNumber statements grids parts b

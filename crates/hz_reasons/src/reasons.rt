@@ -58,8 +58,8 @@ fn first_taken(grids: &[Grid], pairs: &[Place]) -> Option<Place>
     pairs.iter().copied().find(|pair| is_taken(grids, *pair))
 }
 
-/// The first pair of an alternative that stands reserved, or else how the first of the statements is broken that is; None if nothing
-/// forbids it. It takes no memory.
+/// The first pair of an alternative that stands reserved, or else how the first of the statements is broken that is, in a cycle of its
+/// pairs; None if there is neither. It takes no memory.
 fn first_reason(grids: &[Grid], sets: &[SetStatement], choice: &Choice) -> Option<Reason>
     ensures pattern { IfSome result (IsNumbered (map statement_of sets.now) grids.now choice.now.parts.items) }
     ensures reason { (now : ℕ) → option_map (reason_at (map statement_of sets.now) now) result ≡ or_else (option_map (λ p. taken (later now (place_of p))) (find (is_reserved grids.now) choice.now.pairs.items)) (first_broken_by (is_held grids.now) (is_held choice.now.parts.items) (is_held_with grids.now choice.now.parts.items) now 0 (map statement_of sets.now) choice.now.pairs.items) }
@@ -75,7 +75,8 @@ fn first_reason(grids: &[Grid], sets: &[SetStatement], choice: &Choice) -> Optio
 
 impl Calendar {
     /// What forbids the alternative of this number of a class: the first of its pairs that stands reserved, or else the first statement
-    /// that is broken, in the first cycle of its pairs, by its first unit and its first pattern. None if nothing forbids it. It takes no
+    /// that is broken in a cycle of its pairs: in the first such cycle, by the first unit and the first pattern that break it there.
+    /// None if there is neither; where what stands reserved breaks no exclusion, that is exactly if the alternative fits. It takes no
     /// memory.
     pub fn reason(&self, plan: &Plan, class: u32, number: usize) -> Option<Reason>
         requires class { class < vec_len plan.now.classes }

@@ -6,7 +6,7 @@ ghost use Rattle.std.specs.Option.{option_map, option_and_then};
 ghost use Rattle.hz_description_model.specs.Reservations.Automata.{UnitPlace};
 ghost use Rattle.hz_why_model.specs.Reasons.{breaking, breaking_pattern};
 ghost use Rattle.hz_unitsets.specs.SetRules.{kind_of};
-ghost use Rattle.hz_reasons.specs.Breaking.{seen, seen_in, is_held_with, pattern_at, broken_with, looked_in, wants, breaks, is_broken_by, broken_by, broken_first_by, first_broken_by, reason_at, number_from, number_in, HasNumber};
+ghost use Rattle.hz_reasons.specs.Breaking.{seen, seen_in, is_held_with, pattern_at, broken_with, looked_in, wants, breaks, is_broken_by, broken_by, broken_first_by, first_broken_by, reason_at, first_number_from, number_in, HasPatternNumber};
 ghost use Rattle.hz_reasons.specs.Plans.{unit_of, statement_of};
 ghost use Rattle.hz_reasons.specs.Taken.{is_held};
 ghost use Rattle.hz_reasons.specs.declared.reasons.Reason.TheVariants.{Broken};
@@ -95,7 +95,7 @@ fn first_whole(
     patterns: &[Vec<AutomatonUnit>],
 ) -> Option<usize>
     ensures within { IfSome result (λ number. number < length patterns.now) }
-    ensures number { result ≡ number_from (λ pattern. list_all (λ u. seen_in which grids.now parts.now cycle (unit_of u)) pattern.items) 0 patterns.now }
+    ensures number { result ≡ first_number_from (λ pattern. list_all (λ u. seen_in which grids.now parts.now cycle (unit_of u)) pattern.items) 0 patterns.now }
 {
     for (number, pattern) in patterns.iter().enumerate() {
         if is_whole(which, grids, parts, cycle, pattern) {
@@ -163,7 +163,7 @@ fn breaking_unit(
 /// The number of the first pattern that the statement finds in the cycle, where it looks for one. It takes no memory.
 fn found_pattern(set: &SetStatement, grids: &[Grid], parts: &[Usage], cycle: u16) -> Option<usize>
     ensures within { IfSome result (λ number. number < length (statement_of set.now).patterns) }
-    ensures number { result ≡ number_from (list_all (looked_in (kind_of set.now.kind) (is_held grids.now cycle) (is_held_with grids.now parts.now cycle))) 0 (statement_of set.now).patterns }
+    ensures number { result ≡ first_number_from (list_all (looked_in (kind_of set.now.kind) (is_held grids.now cycle) (is_held_with grids.now parts.now cycle))) 0 (statement_of set.now).patterns }
 {
     first_whole(pattern_units(set.kind), grids, parts, cycle, &set.patterns)
 }
@@ -254,7 +254,7 @@ pub(crate) fn first_broken(
     parts: &[Usage],
     pairs: &[Place],
 ) -> Option<Break>
-    ensures pattern { IfSome result (HasNumber (map statement_of sets.now) grids.now parts.now) }
+    ensures pattern { IfSome result (HasPatternNumber (map statement_of sets.now) grids.now parts.now) }
     ensures broken { (now : ℕ) → option_map (λ b. reason_at (map statement_of sets.now) now (Broken b)) result ≡ first_broken_by (is_held grids.now) (is_held parts.now) (is_held_with grids.now parts.now) now 0 (map statement_of sets.now) pairs.now }
 {
     for (number, set) in sets.iter().enumerate() {

@@ -1,6 +1,6 @@
 use Rattle.std.proofs.Common.{◌≡◌, Bool, false, None, cond, sym, ap, ◌∙◌}
 use Rattle.std.specs.List.{list_all}
-use Rattle.hz_reasons.specs.Breaking.{is_held_with, looked_in, wants, number_from}
+use Rattle.hz_reasons.specs.Breaking.{is_held_with, looked_in, wants, first_number_from}
 use Rattle.hz_reasons.specs.Plans.{statement_of}
 use Rattle.hz_reasons.specs.Taken.{is_held}
 use Rattle.hz_reasons.proofs.BreakingLaws.{pattern_number, the_pattern, found_of}
@@ -12,7 +12,7 @@ returns-clause-number c =
     let source = is_held c.args.grids.now c.args.cycle in
     let result = is_held_with c.args.grids.now c.args.parts.now c.args.cycle in
     let wants_none : wants s.kind ≡ false = sym c.wants_pattern.ensures ∙ c.if-wants_pattern.false in
-    c.found_pattern.ensures.number ∙ sym (ap (λ (b : Bool). cond b None (number_from (list_all (looked_in s.kind source result)) 0 s.patterns)) wants_none)
+    c.found_pattern.ensures.number ∙ sym (ap (λ (b : Bool). cond b None (first_number_from (list_all (looked_in s.kind source result)) 0 s.patterns)) wants_none)
 
 pub returns-clause-pattern : goal.returns-clause-pattern
 returns-clause-pattern c =
