@@ -1,9 +1,12 @@
 #!/usr/bin/env python3
-"""Extracts each pipeline of GCC's back ends with and without --align, gives both to hz, and prints a table of the answers.
+"""Extracts each pipeline of GCC's back ends as it is, with --align, and with --align and --split, gives all to hz, and prints a table of
+the answers.
 
-If both compile, their tables are compared. If only the aligned one does, or these are of other automata, drills of both
-treatments on its tables are compared with a calendar of the other. The machine descriptions are those of Debian's package
-gcc-12-source, unpacked into a folder that is removed, or those of a folder with GCC's source.
+If the first two compile, their tables are compared. If only the aligned one does, or these are of other automata, drills of both
+treatments on its tables are compared with a calendar of the other. Each automaton of the aligned one is compared with those into which
+it is cut, by a search over all their states. Where only the cut one compiles there are drills, as above. Mutants of all are extracted
+too. The machine descriptions are those of Debian's package gcc-12-source, unpacked into a folder that is removed, or those of a folder
+with GCC's source. Then check_built.py compares what genautomata writes of them.
 
 Each run of hz may have 6 GB of addresses. A proved program needs far less; one that is built to be tried without a proof reserves more
 than that, and can't start.
@@ -19,7 +22,10 @@ import sys
 import tarfile
 import tempfile
 
+import check_built
 from extract import Reader, extract
+from fuzz_extract import fuzz
+from extraction import same
 from extraction.calendars import Calendars
 from extraction.forms import Fault
 from extraction.items import Class, Options, Reservation, Units
@@ -30,9 +36,10 @@ from extraction.writing import written
 SOURCES = "/usr/src/gcc-12/gcc-12*.tar.xz"
 MEMORY = 6 << 30
 NUMBER, TURNS = 59, 2000
+PAIRS = 131072
 
-Answer = collections.namedtuple("Answer", "status told seconds states grids text")
-Row = collections.namedtuple("Row", "target name classes plain aligned agreement changes")
+Answer = collections.namedtuple("Answer", "status told seconds states grids size text")
+Row = collections.namedtuple("Row", "target name classes plain aligned agreement changes cut cut_agreement cut_changes")
 
 
 def spent():
@@ -61,12 +68,12 @@ def compiled(hz, items, most):
         text = answer.read().decode("latin-1")
         if status == 0:
             tables = Tables(text)
-            return Answer(status, "compiled", seconds, tables.states(), tables.grids(), text)
-        return Answer(status, text.split("\n")[0].replace(f" {out.name}", ""), seconds, 0, 0, text)
+            return Answer(status, "compiled", seconds, tables.states(), tables.grids(), len(text), text)
+        return Answer(status, text.split("\n")[0].replace(f" {out.name}", ""), seconds, 0, 0, 0, text)
 
 
 def unanswered(why):
-    return Answer(None, why, 0, 0, 0, "")
+    return Answer(None, why, 0, 0, 0, 0, "")
 
 
 def sizes(answer):
@@ -188,18 +195,40 @@ def agreement(hz, plain, aligned, answers, most):
     return "" if answers[0].told == answers[1].told else "another answer"
 
 
+def cut_agreement(hz, plain, cut, answers, most):
+    """How what is cut was compared with what is only aligned: by a search over their states, or by drills."""
+    before, after = answers
+    if after.status != 0:
+        return "" if before.status != 0 else "no longer compiled: DIFFERS"
+    if before.status != 0:
+        return drills(hz, plain, cut, most)
+    try:
+        found = same.difference_of_cut(before.text, after.text, PAIRS)
+        return f"{found[0]} DIFFERS after {', '.join(found[1])}" if found else "same"
+    except same.Undecided as undecided:
+        return f"{undecided}; {drills(hz, plain, cut, most)}"
+
+
 def row(hz, reader, target, name, most, **what):
     """One row of the table: a pipeline or a whole target, with or without --merge."""
     try:
         plain, _ = extract(reader, **what)
         aligned, told = extract(reader, align=True, **what)
+        cut, cut_told = extract(reader, align=True, split="paying", **what)
     except Fault as fault:
-        return Row(target, name, 0, *[unanswered(f"not read: {fault}")] * 2, "", [])
-    answers = [compiled(hz, with_option(items, "stats", True), most) for items in (plain, aligned)]
-    same = agreement(hz, plain, aligned, answers, most)
+        return unread(target, name, fault)
+    answers = [compiled(hz, with_option(items, "stats", True), most) for items in (plain, aligned, cut)]
+    agreed = agreement(hz, plain, aligned, answers[:2], most)
+    cut_same = cut_agreement(hz, plain, cut, answers[1:], most)
     short = [answer._replace(text="") for answer in answers]
     classes = sum(isinstance(item, Class) for item in plain)
-    return Row(target, name, classes, *short, same, [change.kind for change in told])
+    kinds = [[change.kind for change in made] for made in (told, cut_told)]
+    return Row(target, name, classes, *short[:2], agreed, kinds[0], short[2], cut_same, kinds[1])
+
+
+def unread(target, name, fault):
+    """The row of what can't be read."""
+    return Row(target, name, 0, *[unanswered(f"not read: {fault}")] * 2, "", [], unanswered(""), "", [])
 
 
 def rows(hz, config, only, most):
@@ -212,7 +241,7 @@ def rows(hz, config, only, most):
         try:
             found = pipelines(reader, main)
         except Fault as fault:
-            yield Row(target, target, 0, *[unanswered(f"not read: {fault}")] * 2, "", [])
+            yield unread(target, target, fault)
             continue
         tries = [(" ".join(files), {"files": list(files), "defs": [main]}) for files in found]
         if len(found) > 1:
@@ -242,12 +271,14 @@ def kind_of(answer):
 
 def line_of(one):
     return " | ".join([one.name, str(one.classes), one.plain.told, f"{one.plain.seconds:.2f}", sizes(one.plain),
-                       one.aligned.told, f"{one.aligned.seconds:.2f}", sizes(one.aligned), one.agreement, spelled(one.changes)])
+                       one.aligned.told, f"{one.aligned.seconds:.2f}", sizes(one.aligned), one.agreement, spelled(one.changes),
+                       one.cut.told, f"{one.cut.seconds:.2f}", sizes(one.cut), one.cut_agreement, spelled(one.cut_changes),
+                       f"{one.aligned.size} {one.cut.size}"])
 
 
 def summary(title, found):
     print(f"\n{title}: {len(found)}")
-    for way in ("plain", "aligned"):
+    for way in ("plain", "aligned", "cut"):
         answers = [getattr(one, way) for one in found]
         counts = collections.Counter(kind_of(answer) for answer in answers)
         print(f"  {way}: " + ", ".join(f"{count} {kind}" for kind, count in counts.most_common()))
@@ -256,7 +287,9 @@ def summary(title, found):
             print(f"    {answer.seconds:.2f} s {one.name}: {answer.told}, {sizes(answer)}")
     print(f"  the same tables: {sum(one.agreement == 'the same tables' for one in found)}")
     print(f"  drills: {sum('accepted' in one.agreement for one in found)}")
+    print(f"  cut: {sum(one.cut_agreement == 'same' for one in found)} same, {sum('accepted' in one.cut_agreement for one in found)} drills")
     print(f"  changes: {spelled(kind for one in found for kind in one.changes)}")
+    print(f"  changes with the cut: {spelled(kind for one in found for kind in one.cut_changes)}")
 
 
 def better(first, second):
@@ -289,6 +322,22 @@ def by_target(found):
               f"| {largest.aligned.states:,} | {largest.aligned.seconds:.2f} |")
 
 
+def by_cut(found):
+    """The table of docs/GCC.md with the sums of each target over its pipelines that compile aligned: before and after the cut."""
+    targets = collections.defaultdict(dict)
+    for one in found:
+        if not one.name.startswith("all of "):
+            own, name = targets[one.target], one.name.replace(" --merge", "")
+            own[name] = better(own.get(name, one), one)
+    print("\n| target | pipelines | compiled | states | cut | bytes of tables | cut | seconds | cut |")
+    print("|---|---|---|---|---|---|---|---|---|")
+    for target, own in sorted(targets.items()):
+        both = [one for one in own.values() if one.aligned.status == one.cut.status == 0]
+        sums = [sum(getattr(getattr(one, way), what) for one in both) for what in ("states", "size", "seconds") for way in ("aligned", "cut")]
+        print(f"| `{target}` | {len(own)} | {sum(one.cut.status == 0 for one in own.values())} | " + " | ".join(f"{made:,}" for made in sums[:4]) +
+              f" | {sums[4]:.2f} | {sums[5]:.2f} |")
+
+
 def short(name):
     """The first file of a pipeline, without its folder and its ending, and the option that it took."""
     words = name.split()
@@ -299,6 +348,7 @@ def words():
     parser = argparse.ArgumentParser(prog="check_gcc.py", description=__doc__)
     parser.add_argument("--source", default=SOURCES, help="a GCC source, a tar file or a folder; if it is not given, " + SOURCES)
     parser.add_argument("--seconds", type=int, default=300, help="how long hz may take for one description")
+    parser.add_argument("--mutants", type=int, default=10000, help="how many mutated descriptions are extracted; 10000 if it is not given")
     parser.add_argument("hz")
     parser.add_argument("targets", nargs="*", help="back ends; all if none is named")
     return parser.parse_args()
@@ -311,21 +361,27 @@ def main():
         print(f"check-gcc: no {given.source}; Debian's package gcc-12-source has it")
         return 0
     hz, found = os.path.abspath(given.hz), []
-    print("pipeline | classes | answer | seconds | states | aligned | seconds | states | compared | changes")
+    print("pipeline | classes | answer | seconds | states | aligned | seconds | states | compared | changes | "
+          "cut | seconds | states | compared | changes | bytes")
+    source = os.path.abspath(sources[0])
     with tempfile.TemporaryDirectory() as folder:
-        for one in rows(hz, unpack(sources[0], folder), given.targets, given.seconds):
+        config = os.path.abspath(unpack(source, folder))
+        for one in rows(hz, config, given.targets, given.seconds):
             print(line_of(one), flush=True)
             found.append(one)
+        unexplained = check_built.check_source(hz, source, config, given.targets)
         os.chdir("/")
+        odd = fuzz(hz, config, 1, given.mutants)
     merged = [one for one in found if one.name.endswith("--merge")]
     whole = [one for one in found if one.name.startswith("all of") and one not in merged]
     summary("pipelines", [one for one in found if one not in merged + whole])
     summary("whole targets", whole)
     summary("the same, merged", merged)
     by_target(found)
-    wrong = [one for one in found if "DIFFERS" in one.agreement]
-    print(f"\ncheck-gcc: {len(wrong)} differ")
-    return 1 if wrong else 0
+    by_cut(found)
+    wrong = [one for one in found if "DIFFERS" in one.agreement + one.cut_agreement]
+    print(f"\ncheck-gcc: {len(wrong)} differ, {unexplained} automata of builds")
+    return 1 if wrong or odd or unexplained else 0
 
 
 if __name__ == "__main__":

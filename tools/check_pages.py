@@ -21,7 +21,7 @@ def blocks_of(page):
     with open(page, encoding="utf-8") as text:
         pieces = text.read().split(FENCE)[1::2]
     blocks = [piece.strip("\n").split("\n") for piece in pieces]
-    return [block for block in blocks if block[0].startswith(PROMPT) and NOT_HERE not in block[0]]
+    return [block for block in blocks if block[0].startswith(PROMPT) and not any(NOT_HERE in line for line in block)]
 
 
 def commands_of(block):

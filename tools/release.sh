@@ -1,30 +1,35 @@
 #!/bin/sh
-# release.sh dist|deb HZ HZ_WHY: makes a release of the two programs and puts it beside HZ, with its checksum: a tar file, or a Debian
-# package. The file VERSION has the version and its date. In a release every file has that date and belongs to root, and files are in the order of
-# their names. So the same files make the same release.
+# release.sh dist|deb FOLDER: makes a release of the commands of tools/commands.txt and puts it into FOLDER, which has the programs, with its
+# checksum: a tar file, or a Debian package. What was not proved is refused. The file VERSION has the version and its date. In a release every
+# file has that date and belongs to root, and files are in the order of their names. So the same files make the same release.
 kind=$1
-hz=$2
-hz_why=$3
+into=$(cd "$2" && pwd) || exit 2
 cd "$(dirname "$0")/.." || exit 2
-for program in "$hz" "$hz_why"; do
-    [ -x "$program" ] || { echo "release.sh: $program is not there"; exit 2; }
-done
+. tools/commands.sh
+are_proved "$into" || exit 2
 read -r version date < VERSION || exit 2
 grep -qxF "## $version ($date)" CHANGELOG.md || { echo "release.sh: CHANGELOG.md has no '## $version ($date)', by the file VERSION"; exit 2; }
 LC_ALL=C
 SOURCE_DATE_EPOCH=$(date -u -d "$date" +%s) || exit 2
 export LC_ALL SOURCE_DATE_EPOCH
 umask 022
-into=$(dirname "$hz")
+made=
 work=$(mktemp -d) || exit 2
-trap 'rm -rf "$work"' EXIT
+trap 'rm -rf "$work"; [ -z "$made" ] || rm -f "$into/$made" "$into/$made.sha256"' EXIT
+trap 'exit 130' INT TERM HUP
+
+# failed: ends without a release; what could not be written is said above
+failed() {
+    echo "release.sh: no release is made, as the line above says"
+    exit 2
+}
 
 # copy FOLDER FILE..: the files, each at its own path below FOLDER, to be read and not run
 copy() {
     folder=$1
     shift
     for file; do
-        install -D -m 644 "$file" "$folder/$file" || exit 2
+        install -D -m 644 "$file" "$folder/$file" || failed
     done
 }
 
@@ -44,22 +49,22 @@ dated() {
     find "$1" -exec touch -h -d "@$SOURCE_DATE_EPOCH" {} +
 }
 
-# programs FOLDER: the programs, to be run
-programs() {
-    install -D -m 755 "$hz" "$1/hz" && install -D -m 755 "$hz_why" "$1/hz_why" || exit 2
-}
-
-# depends: the packages with the libraries that the programs name, and the oldest C library that has all that they call
+# depends: the packages with the libraries that the programs name, with the oldest C library that has all that they call, and the one that
+# installs only on a processor with SSE4.2, which no processor has without the rest of x86-64-v2
 depends() {
-    glibc=$(grep -aho 'GLIBC_2[.][0-9.]*' "$hz" "$hz_why" | sort -uV | tail -n 1)
+    for name in $(names program); do cat "$into/$name"; done > "$work/programs" || failed
+    glibc=$(grep -aho 'GLIBC_2[.][0-9.]*' "$work/programs" | sort -uV | tail -n 1)
     printf 'libc6%s' "${glibc:+ (>= ${glibc#GLIBC_})}"
-    cat "$hz" "$hz_why" | grep -aq 'libgcc_s[.]so[.]1' && printf ', libgcc-s1'
+    grep -aq 'libgcc_s[.]so[.]1' "$work/programs" && printf ', libgcc-s1'
+    [ "$(uname -m)" != x86_64 ] || printf ', sse4.2-support'
     echo
 }
 
-# ended FILE: says what was made, and writes its checksum
+# ended FILE: puts the release, which is in the folder of work, into its place, writes its checksum, and says so
 ended() {
-    (cd "$into" && sha256sum "$1" > "$1.sha256") || exit 2
+    made=$1
+    cp "$work/$1" "$into/$1" && (cd "$into" && sha256sum "$1" > "$1.sha256") || failed
+    made=
     echo "hz: made $into/$1"
 }
 
@@ -68,15 +73,12 @@ dist() {
     name=hz-$version
     root=$work/$name
     documents "$root"
-    copy "$root" VERSION man/hz.1 man/hz_why.1 tools/extract.py tools/extraction/*.py tools/test.sh tools/test/* \
-        tools/check_gcc.py tools/check_walk.py tools/check_why.py tools/check_bound.py tools/check_modulo.py tools/check_memory.py tools/check_pages.py tools/refuse_memory.c \
-        tools/check_large.py tools/large/*.py
-    programs "$root/bin"
-    sums sha256sum "$root" > "$work/sums" && mv "$work/sums" "$root/SHA256SUMS" || exit 2
-    dated "$root"
+    copy "$root" VERSION tools/test.sh $(find tools/test -type f) tools/check_gcc.py tools/check_walk.py tools/check_why.py tools/check_bound.py tools/check_modulo.py \
+        tools/check_memory.py tools/check_pages.py tools/refuse_memory.c tools/check_large.py tools/large/*.py tools/check_built.py tools/build_genautomata.sh tools/fuzz_extract.py tools/check_sheet.py tools/sheet_check/*.py
+    put_programs "$into" "$root/bin" && put_launchers "$root/bin" ../tools && put_tools "$root/tools" && put_pages "$root/man" || failed
+    sums sha256sum "$root" > "$work/sums" && mv "$work/sums" "$root/SHA256SUMS" && dated "$root" || failed
     file=$name-linux-$(uname -m).tar.gz
-    tar -C "$work" --format=gnu --sort=name --owner=root:0 --group=root:0 --numeric-owner -cf "$work/tar" "$name" || exit 2
-    gzip -9n < "$work/tar" > "$into/$file" || exit 2
+    tar -C "$work" --format=gnu --sort=name --owner=root:0 --group=root:0 --numeric-owner -cf "$work/tar" "$name" && gzip -9n < "$work/tar" > "$work/$file" || failed
     ended "$file"
 }
 
@@ -88,40 +90,37 @@ Architecture: $1
 Maintainer: ${MAINTAINER:-hz <hz@localhost>}
 Installed-Size: $(find "$2/usr" -type f -printf '%s\n' | awk '{ size += int(($1 + 1023) / 1024) } END { print size }')
 Depends: $(depends)
-Suggests: python3
+Recommends: python3
 Section: devel
 Priority: optional
 Description: compile pipeline descriptions of GCC, replay traces, schedule blocks
  hz compiles the pipeline description of a GCC port to tables of states, replays
  issue traces against it, and schedules basic blocks by it. Its answers are
  proved to follow from the rules of the description. hz_why explains why an
- issue of a trace is refused.
+ issue of a trace is refused. hz_extract, in Python and not proved, takes a
+ pipeline out of the files of a port.
  .
- /usr/share/doc/hz has the pages and the examples. /usr/share/hz/tools has
- extract.py, which takes a pipeline out of the files of a port.
+ The programs need a processor of x86-64-v2, that is one with SSE4.2. On another
+ they end with status 127. hz_extract needs Python 3.
+ .
+ /usr/share/doc/hz has the pages and the examples.
 END
 }
 
 deb() {
     root=$work/deb
-    architecture=$(dpkg --print-architecture) || exit 2
+    architecture=$(dpkg --print-architecture) || failed
     documents "$root/usr/share/doc/hz"
-    copy "$root/usr/share/hz" tools/extract.py tools/extraction/*.py
-    ln -s ../../hz/tools "$root/usr/share/doc/hz/tools" || exit 2
-    programs "$root/usr/bin"
-    install -d "$root/usr/share/man/man1" "$root/DEBIAN" || exit 2
-    for page in hz.1 hz_why.1; do
-        gzip -9n < "man/$page" > "$root/usr/share/man/man1/$page.gz" || exit 2
-    done
-    sums md5sum "$root" > "$work/sums" && mv "$work/sums" "$root/DEBIAN/md5sums" || exit 2
-    control "$architecture" "$root" > "$root/DEBIAN/control" || exit 2
-    dated "$root"
+    put_programs "$into" "$root/usr/bin" && put_launchers "$root/usr/bin" ../share/hz/tools && put_tools "$root/usr/share/hz/tools" || failed
+    put_pages "$root/usr/share/man/man1" && gzip -9n "$root"/usr/share/man/man1/*.1 && install -d "$root/DEBIAN" || failed
+    ln -s ../../hz/tools "$root/usr/share/doc/hz/tools" || failed
+    sums md5sum "$root" > "$work/sums" && mv "$work/sums" "$root/DEBIAN/md5sums" && control "$architecture" "$root" > "$root/DEBIAN/control" && dated "$root" || failed
     file=hz_${version}_$architecture.deb
-    dpkg-deb --root-owner-group -Zxz --build "$root" "$into/$file" > "$work/log" || { cat "$work/log"; exit 2; }
+    dpkg-deb --root-owner-group -Zxz --build "$root" "$work/$file" > "$work/log" 2>&1 || { cat "$work/log"; failed; }
     ended "$file"
 }
 
 case $kind in
     dist | deb) "$kind" ;;
-    *) echo "usage: release.sh dist|deb HZ HZ_WHY"; exit 2 ;;
+    *) echo "usage: release.sh dist|deb FOLDER"; exit 2 ;;
 esac

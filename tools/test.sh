@@ -144,4 +144,73 @@ refuses 'bad.md:1: the expression ends too early' '(define_reservation "r" "u*")
 reported=$(python3 "$tools/extract.py" -o core.md core.md 2>&1)
 [ $? = 2 ] && [ "$reported" = 'core.md: an input is not written over' ] || wrong "own input: $reported"
 
+# compares WANT FIRST SECOND [cut]: the tables of two descriptions answer so
+compares() {
+    for each in "$2" "$3"; do
+        "$hz" compile $each.md > $each.tables || wrong "hz on $each.md: status $?"
+    done
+    answer=$(python3 same_tables.py "$tools" "$2.tables" "$3.tables" $4)
+    [ "$answer" = "$1" ] || wrong "$2 and $3: '$answer', wanted '$1'"
+    echo "$2 and $3: $answer"
+}
+
+# a search over lists of states finds the least events, issues and asks
+printf '%s\n' '(define_cpu_unit "u")' '(define_query_cpu_unit "v")' '(define_insn_reservation "x" 1 (const_int 1) "u, v*2")' \
+    '(define_insn_reservation "y" 1 (const_int 1) "u")' > two.md
+sed 's/v\*2/v*3/' two.md > three.md
+sed 's/u, v\*2/u, nothing, v/' two.md > asked.md
+sed 's/"y"/"z"/' two.md > other.md
+compares same two two
+compares 'issue x; advance 1; advance 1; issue x' two three
+compares 'issue x; advance 1; issue x' two asked
+compares 'issue y' two other
+sed 's/query_//' two.md > silent.md
+compares 'ask v' two silent
+
+# automata are cut where nothing ties their units: by a set, by a pattern of a set, by a choice, or by the order of a choice
+cut() {
+    python3 "$tools/extract.py" -o "$1.md" $2 "$3" 2> reported || wrong "$1: status $?"
+    grep -h 'split: \|changes' reported > $1.reported
+    diff $1.cut $1.reported || wrong "$1: cut otherwise"
+    echo "extract.py $2 $3: $(tail -n 1 reported)"
+}
+python3 "$tools/extract.py" -o whole.md tied-port.md 2> reported || wrong "whole: status $?"
+cut tied --split tied-port.md
+compares same whole tied cut
+cut finest --split=all tied-port.md
+compares same whole finest cut
+for each in whole tied; do
+    replays $each 'refused line 1 tied_present' 'issue tied_present'
+    replays $each 'accepted 2 issues 0 cycles' 'issue tied_pattern' 'issue tied_present'
+    replays $each 'accepted 2 issues 1 cycles' 'issue tied_order' 'advance 1' 'issue tied_order'
+    replays $each 'ask line 2 n1 reserved
+accepted 1 issues 0 cycles' 'issue tied_asked' 'ask n1'
+done
+# under ndfa any choice may be taken, and its order ties nothing
+{ sed 's/query_//' tied-port.md; echo '(automata_option "ndfa")'; } > any.md
+cut any-cut --split any.md
+compares same any any-cut cut
+# without automata the new ones are named by their first units
+printf '%s\n' '(define_cpu_unit "a,b,c")' '(define_insn_reservation "x" 1 (const_int 1) "a*3")' \
+    '(define_insn_reservation "y" 1 (const_int 1) "nothing, (b | c)*3")' '(define_insn_reservation "z" 1 (const_int 1) "b*2")' > bare.md
+cut bare-cut --split bare.md
+compares same bare bare-cut cut
+[ "$(grep -c '^row' bare.tables) $(grep -c '^row' bare-cut.tables)" = '44 15' ] || wrong "bare-cut: other states than hz has"
+# of more than 16 automata the cuts that cost least are not made
+python3 -c 'print("(define_automaton \"m,n\")\n" + "".join(f"(define_cpu_unit \"u{at}\" \"{chr(109 + at % 2)}\")\n" + f"(define_insn_reservation "
+    f"\"x{at}\" 1 (const_int 1) \"u{at}*{2 + at % 2}\")\n" for at in range(20)))' > many.md
+cut many-cut --split many.md
+"$hz" compile many-cut.md > many-cut.tables || wrong "many-cut: status $?"
+[ "$(sed -n 3,23p many-cut.tables | grep -c '^class ')" = 20 ] && grep -q '^automata 16$' many-cut.tables || wrong "many-cut: other automata"
+
+# what asks too much, or can't be read by hz: one line of a fault, or the changes that were made
+mkdir hostile && (cd hostile && python3 ../hostile.py "$tools/extract.py" "$hz") || bad=1
+
+# the data sheets of tools/sheet.py
+sh "$tools/test/sheet.sh" "$hz" || bad=1
+
+# what a built GCC walks, and descriptions as genautomata reads them
+sh "$tools/test/built.sh" "$hz" || bad=1
+sh "$tools/test/as_gcc.sh" "$hz" || bad=1
+
 exit $bad

@@ -15,7 +15,7 @@ from contracts.sources import Definition, Library, TOP, Unreadable
 PAGE = "docs/THEOREM.md"
 RUN = ("crates/hz_tool/src/top.rt", "run")
 ANSWERS = "Rattle.hz_answer_model.specs.Answers"
-PHASES = "Rattle.hz_answer_model.specs.Phases"
+PHASES = "Rattle.hz_front_model.specs.Phases"
 COMMANDS = ("compile", "replay", "walk", "schedule", "eval", "drill", "timed", "bound", "duo", "modulo")
 
 # What `run` asks of its caller, in plain words.

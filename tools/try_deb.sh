@@ -1,15 +1,14 @@
 #!/bin/sh
-# try_deb.sh PACKAGE HZ HZ_WHY: tries a Debian package in a folder of its own, and leaves the system as it is. The package unpacks; dpkg
-# installs it; the installed programs are these and answer all installed examples; dpkg removes it, and no file is left.
+# try_deb.sh PACKAGE FOLDER: tries a Debian package in a folder of its own, and leaves the system as it is. The package unpacks; dpkg installs
+# it; the installed programs are those of FOLDER and answer all installed examples, and the tools begin; dpkg removes it, and no file is left.
 package=$(cd "$(dirname "$1")" && pwd)/$(basename "$1")
-hz=$(cd "$(dirname "$2")" && pwd)/$(basename "$2")
-hz_why=$(cd "$(dirname "$3")" && pwd)/$(basename "$3")
-pages=$(cd "$(dirname "$0")/.." && pwd)/man
+from=$(cd "$2" && pwd) || exit 2
+cd "$(dirname "$0")/.." || exit 2
+. tools/commands.sh
 work=$(mktemp -d) || exit 2
 trap 'rm -rf "$work"' EXIT
 PATH=$PATH:/usr/sbin:/sbin
-PYTHONDONTWRITEBYTECODE=1
-export PATH PYTHONDONTWRITEBYTECODE
+export PATH
 system=$work/system
 state=$system/var/lib/dpkg
 
@@ -30,13 +29,19 @@ in_folder() {
     $as_root dpkg --force-not-root --root="$system" --log="$work/dpkg.log" --path-include='/usr/share/*' "$@"
 }
 
-# what the package depends on counts as installed there, as on this machine
+# stanza PACKAGE: what dpkg notes of the package on this machine, or would note of one that is not installed here
+stanza() {
+    dpkg-query -s "$1" 2> /dev/null || printf '%s\n' "Package: $1" 'Status: install ok installed' 'Maintainer: nobody' \
+        "Architecture: $(dpkg --print-architecture)" 'Version: 0' 'Description: not on this machine'
+    echo
+}
+
+# what the package depends on counts as installed there
 prepare() {
     mkdir -p "$state/info" "$state/updates" "$state/triggers" || return 1
     : > "$state/status"
     for needed in $(dpkg-deb -f "$package" Depends | sed 's/([^)]*)//g; s/,/ /g'); do
-        dpkg-query -s "$needed" >> "$state/status" || return 1
-        echo >> "$state/status"
+        stanza "$needed" >> "$state/status" || return 1
         : > "$state/info/$needed.list"
         : > "$state/info/$needed:$(dpkg --print-architecture).list"
     done
@@ -47,15 +52,20 @@ owned() {
     dpkg-deb -c "$package" > "$work/list" && ! grep -v ' root/root .* [.]/\(usr/.*\)\{0,1\}$' "$work/list"
 }
 
-# page FOLDER NAME: the manual page is there as it is here
-page() {
-    gzip -dc "$1/usr/share/man/man1/$2.gz" | cmp - "$pages/$2"
+# whole FOLDER: programs and manual pages are there as they are here, and all sums apply
+whole() {
+    for name in $(names program); do
+        cmp "$from/$name" "$1/usr/bin/$name" || return 1
+    done
+    for name in $(names); do
+        gzip -dc "$1/usr/share/man/man1/$name.1.gz" | cmp - "man/$name.1" || return 1
+    done
+    (cd "$1" && dpkg-deb --ctrl-tarfile "$package" | tar -xOf - ./md5sums | md5sum --quiet -c)
 }
 
-# whole FOLDER: programs and manual pages are there as they are here
-whole() {
-    cmp "$hz" "$1/usr/bin/hz" && cmp "$hz_why" "$1/usr/bin/hz_why" && page "$1" hz.1 && page "$1" hz_why.1 &&
-        (cd "$1" && dpkg-deb --ctrl-tarfile "$package" | tar -xOf - ./md5sums | md5sum --quiet -c)
+# extracts: the installed hz_extract reads an installed example, and hz what it wrote
+extracts() {
+    "$system/usr/bin/hz_extract" -o "$work/out.md" "$system/usr/share/doc/hz/examples/divider/machine.md" && "$system/usr/bin/hz" compile "$work/out.md"
 }
 
 # audited: dpkg has no fault to report of the package
@@ -77,7 +87,8 @@ tried 'what was installed' whole "$system"
 tried 'no fault, by dpkg' audited
 tried 'all examples, by the installed programs' sh "$system/usr/share/doc/hz/examples/check.sh" "$system/usr/bin/hz" "$system/usr/bin/hz_why"
 if command -v python3 > /dev/null; then
-    tried 'extract.py' python3 "$system/usr/share/hz/tools/extract.py" -o "$work/out.md" "$system/usr/share/doc/hz/examples/divider/machine.md"
+    for tool in $(names tool); do tried "$tool" "$system/usr/bin/$tool" --help; done
+    tried 'hz_extract and then hz' extracts
 fi
 tried 'remove' in_folder --purge hz
 tried 'nothing is left' gone

@@ -1,7 +1,10 @@
 #!/bin/sh
 # try_dist.sh FILE: tries a tar file of tools/release.sh in a folder of its own. The checksums apply, and the programs answer all examples,
-# what tools/test.sh asks, and what pages show.
+# what tools/test.sh asks, and what pages show. Each tool begins where it is put.
 file=$(cd "$(dirname "$1")" && pwd)/$(basename "$1")
+cd "$(dirname "$0")/.." || exit 2
+. tools/commands.sh
+tools=$(names tool)
 work=$(mktemp -d) || exit 2
 trap 'rm -rf "$work"' EXIT
 
@@ -21,4 +24,5 @@ tried 'all examples' sh examples/check.sh bin/hz bin/hz_why
 if command -v python3 > /dev/null; then
     tried 'extract.py' sh tools/test.sh bin/hz
     tried 'what pages show' python3 tools/check_pages.py bin/hz bin/hz_why
+    for tool in $tools; do tried "$tool" "bin/$tool" --help; done
 fi

@@ -4,112 +4,69 @@ Units meet only in one cycle. So all reservations of a unit, with those of the u
 moved to earlier cycles by one number: every trace is answered as before. The law is `moved_pipelines_accept_the_same` of
 the crate hz_laws.
 """
-import itertools
-import math
-
 from .changes import Told, of_kind
-from .expressions import Expander, Unexpanded, tree_of
-from .items import Class, Reservation, Units, UnitSet
+from .choices import Choices, lists_in
+from .expressions import Unexpanded, places
+from .items import Class, Units, UnitSet
 from .merging import Joined
-
-
-def cycle_text(units, times):
-    """The units of one cycle, or of so many cycles one after the other."""
-    text = " + ".join(units) or "nothing"
-    if times == 1:
-        return text
-    return f"({text})*{times}" if len(units) > 1 else f"{text}*{times}"
-
-
-def sequence_text(pairs, order):
-    """Pairs of a cycle and a unit as a sequence; cycles that are alike are a repeat."""
-    last = max((cycle for cycle, _ in pairs), default=0)
-    cycles = [[] for _ in range(last + 1)]
-    for cycle, unit in sorted(pairs, key=lambda pair: (pair[0], order[pair[1]])):
-        cycles[cycle].append(unit)
-    return ", ".join(cycle_text(units, len(list(run))) for units, run in itertools.groupby(cycles))
+from .spelling import class_text, longest
+from .writing import BYTES, length_of
 
 
 def cycles_text(cycles):
     return f"{cycles} cycle" + ("s" if cycles > 1 else "")
 
 
-def enclosed(text, marks):
-    """The text in parentheses if it has one of the marks."""
-    return f"({text})" if any(mark in text for mark in marks) else text
-
-
-def list_text(grids, order):
-    """The alternatives in one automaton."""
-    texts = [sequence_text(grid, order) for grid in grids]
-    return texts[0] if len(texts) == 1 else " | ".join(enclosed(text, ",+") for text in texts)
-
-
-def split(alternatives, automata, automaton):
-    """The list of alternatives in each automaton, where each choice in one goes with each in the others.
-
-    An issue takes the first alternative that fits. So one with an earlier choice in some automata, and the same in the
-    others, has to stand before.
-    """
-    cut = [tuple(frozenset(pair for pair in one.pairs if automaton[pair[1]] == name) for name in automata)
-           for one in alternatives]
-    lists = [list(dict.fromkeys(grids)) for grids in zip(*cut)]
-    place = {grids: at for at, grids in reversed(list(enumerate(cut)))}
-    if len(place) < math.prod(len(grids) for grids in lists):
-        raise Unexpanded("a choice in one automaton depends on one in another")
-    for at, grids in enumerate(lists):
-        for first, second in zip(grids, grids[1:]):
-            if any(place[whole] > place[whole[:at] + (second,) + whole[at + 1:]] for whole in place if whole[at] == first):
-                raise Unexpanded("the order of choices in one automaton depends on one in another")
-    return lists
-
-
 class Aligned:
     """The classes of a pipeline, with units that may be moved."""
 
     def __init__(self, items):
-        self.items = items
-        self.automaton = {name: item.automaton for item in of_kind(items, Units) for name in item.names}
-        trees = {item.name: tree_of(item) for item in of_kind(items, Reservation)}
-        self.expander = Expander(self.automaton, trees)
+        self.items, self.choices = items, Choices(items)
+        self.automaton, self.units = self.choices.automaton, self.choices.expander.units
         self.groups = Joined(self.automaton)
         for item in of_kind(items, UnitSet):
-            self.groups.join(unit for unit in item.units + " ".join(item.patterns).split() if unit in self.automaton)
-        self.trees = {id(item): tree_of(item) for item in of_kind(items, Class)}
-        self.automata = list(dict.fromkeys(self.automaton.values()))
-        self.lists, self.broken, self.left = {}, {}, {}
+            self.groups.join(unit for unit in item.named() if unit in self.automaton)
+        self.masks, self.left = self.choices.masks(), dict(self.choices.left)
+        self.lists, self.broken, self.first = {}, {}, {}
         for item in of_kind(items, Class):
-            self.expand(item)
+            if id(item) not in self.left:
+                self.cut(item)
 
-    def expand(self, item):
-        """The lists of a class, or why it is left as it is."""
-        tree = self.trees[id(item)]
+    def cut(self, item):
+        """The lists of a class, and the first cycle in which it takes each unit; or why it is left as it is."""
+        taken, alternatives = self.choices.taken(item), self.choices.alternatives[id(item)]
         try:
-            alternatives = self.expander.of(tree)
-            automata = [name for name in self.automata if name in self.expander.automata(alternatives)]
-            self.lists[id(item)] = split(alternatives, automata, self.automaton)
-            self.broken[id(item)] = self.expander.fault(tree) is not None
+            self.lists[id(item)] = lists_in(alternatives, [mask for mask in self.masks.values() if mask & taken])
         except Unexpanded as why:
             self.left[id(item)] = str(why)
+            return
+        self.broken[id(item)] = self.choices.expander.fault(self.choices.trees[id(item)]) is not None
+        self.first[id(item)] = self.first_cycles(self.lists[id(item)])
 
-    def units_of(self, item):
-        """All units that the class leads to."""
-        names = {node.name for node in self.expander.reached(self.trees[id(item)])}
-        return [unit for unit in self.automaton if unit in names]
+    def first_cycles(self, lists):
+        """The first cycle of each unit in lists."""
+        rows, first, seen = {}, {}, 0
+        for grids in lists:
+            for grid in grids:
+                for cycle, row in enumerate(grid):
+                    rows[cycle] = rows.get(cycle, 0) | row
+        for cycle in sorted(rows):
+            first.update((self.units[place], cycle) for place in places(rows[cycle] & ~seen))
+            seen |= rows[cycle]
+        return first
 
-    def pairs(self, item):
-        """All pairs of the alternatives of a class that is not left as it is."""
-        lists = self.lists.get(id(item), []) if id(item) not in self.left else []
-        return {pair for grids in lists for grid in grids for pair in grid}
+    def taking(self):
+        """The classes that are not left as they are."""
+        return [item for item in of_kind(self.items, Class) if id(item) not in self.left]
 
     def earliest(self):
         """The earliest cycle in which a class takes a unit of each group."""
-        first = {}
-        for item in of_kind(self.items, Class):
-            for cycle, unit in self.pairs(item):
+        found = {}
+        for item in self.taking():
+            for unit, cycle in self.first[id(item)].items():
                 leader = self.groups.find(unit)
-                first[leader] = min(cycle, first.get(leader, cycle))
-        return first
+                found[leader] = min(cycle, found.get(leader, cycle))
+        return found
 
     def staying(self):
         """Why groups stay: a state can be asked for one of their units, or a class is left as it is."""
@@ -120,7 +77,7 @@ class Aligned:
                     why.setdefault(self.groups.find(unit), f"a state can be asked for {unit}")
         for item in of_kind(self.items, Class):
             if id(item) in self.left:
-                for unit in self.units_of(item):
+                for unit in self.choices.units_of(item):
                     why.setdefault(self.groups.find(unit), f"{item.name} is left as it is")
         return why
 
@@ -129,51 +86,53 @@ class Aligned:
         staying = self.staying()
         return {leader: cycle for leader, cycle in self.earliest().items() if cycle and leader not in staying}
 
-    def expression(self, item, moves):
-        """The expression of a class with its units moved; None if none is, and both rules hold by its own form."""
-        if id(item) in self.left:
-            return None
-        if not self.broken[id(item)] and not any(self.groups.find(unit) in moves for _, unit in self.pairs(item)):
-            return None
-        lists = [list_text([self.moved(grid, moves) for grid in grids], self.groups.order) for grids in self.lists[id(item)]]
-        return lists[0] if len(lists) == 1 else " + ".join(enclosed(text, ",|") for text in lists)
+    def is_written(self, item, moves):
+        """Whether a class is written anew: if a unit of it is moved, or a rule on several automata is broken by its form."""
+        return id(item) not in self.left and (
+            self.broken[id(item)] or any(self.groups.find(unit) in moves for unit in self.first[id(item)]))
 
-    def moved(self, grid, moves):
-        """A grid with its units moved."""
-        return frozenset((cycle - moves.get(self.groups.find(unit), 0), unit) for cycle, unit in grid)
+    def moved(self, item, moves):
+        """The lists of a class with its units moved."""
+        masks = {}
+        for unit in self.first[id(item)]:
+            cycles = moves.get(self.groups.find(unit), 0)
+            masks[cycles] = masks.get(cycles, 0) | self.choices.expander.bit[unit]
+        return [[moved_grid(grid, masks) for grid in grids] for grids in self.lists[id(item)]]
 
-    def write(self, fits):
-        """Moves what can be moved; the class with the longest text is left as it is until all fits. Gives what is told."""
-        notes = {id(item): item.notes for item in self.items}
-        before = {id(item): item.expression for item in of_kind(self.items, Class)}
+    def write(self):
+        """Moves what can be moved. Classes with the longest texts are left as they are until all fits. Gives what is told."""
+        least = 1
         while True:
-            moves, lengths = self.moves(), {}
-            for item in self.items:
-                item.notes = list(notes[id(item)])
-            for item in of_kind(self.items, Class):
-                item.expression = before[id(item)]
-                lengths[id(item)] = self.move(item, moves)
-            told = self.tell(moves)
-            longest = max(lengths, key=lengths.get, default=None)
-            if fits(self.items) or longest is None or not lengths[longest]:
-                return told
-            self.left[longest] = "the text would be too long"
+            moves = self.moves()
+            made = {id(item): self.moved(item, moves) for item in self.taking() if self.is_written(item, moves)}
+            lengths = {key: longest(lists, self.units) for key, lists in made.items()}
+            above = length_of(self.items) + sum(lengths.values()) - BYTES
+            if above <= 0 or not lengths:
+                break
+            self.leave_longest(lengths, above, least)
+            least *= 2
+        for item in of_kind(self.items, Class):
+            if id(item) in made:
+                item.notes.append(f"was {item.expression}")
+                item.expression = class_text(made[id(item)], self.units)
+        return self.tell(moves)
 
-    def move(self, item, moves):
-        """Writes a class with its units moved, and gives the length of its expression; 0 if none is moved."""
-        moved = self.expression(item, moves)
-        if moved is None:
-            return 0
-        item.notes.append(f"was {item.expression}")
-        item.expression = moved
-        return len(moved)
+    def leave_longest(self, lengths, above, least):
+        """Leaves classes, those with the longest texts first: at least so many, and until so many bytes are gone."""
+        for count, key in enumerate(sorted(lengths, key=lengths.get, reverse=True)):
+            if count >= least and above <= 0:
+                break
+            self.left[key] = "the text would be too long"
+            above -= lengths[key]
 
     def tell(self, moves):
         """Each group that is moved or stays, and each class that is left as it is."""
-        told, staying, earliest, seen = Told(), self.staying(), self.earliest(), set()
+        told, staying, earliest, seen, members = Told(), self.staying(), self.earliest(), set(), {}
+        for unit in self.automaton:
+            members.setdefault(self.groups.find(unit), []).append(unit)
         for item in of_kind(self.items, Units):
             for leader in dict.fromkeys(self.groups.find(unit) for unit in item.names):
-                names = ", ".join(unit for unit in self.automaton if self.groups.find(unit) == leader)
+                names = ", ".join(members[leader])
                 if leader in seen:
                     continue
                 seen.add(leader)
@@ -189,16 +148,25 @@ class Aligned:
         return told
 
 
+def moved_grid(grid, masks):
+    """A grid with units moved to earlier cycles; `masks` has the units of each number of cycles."""
+    rows = [0] * len(grid)
+    for cycle, row in enumerate(grid):
+        for cycles, mask in masks.items():
+            if row & mask:
+                rows[cycle - cycles] |= row & mask
+    while rows and not rows[-1]:
+        rows.pop()
+    return tuple(rows)
+
+
 def stuck(items):
     """The classes that can't be written automaton by automaton."""
     aligned = Aligned(items)
     return [item for item in of_kind(items, Class) if id(item) in aligned.left]
 
 
-def align_units(items, told, fits):
-    """Each group of units is moved so that the earliest cycle in which a class takes one of them is 0.
-
-    `fits` says whether the text of items is short enough.
-    """
-    told += Aligned(items).write(fits)
+def align_units(items, told):
+    """Each group of units is moved so that the earliest cycle in which a class takes one of them is 0."""
+    told += Aligned(items).write()
     return items

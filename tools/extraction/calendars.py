@@ -2,6 +2,7 @@
 from .changes import of_kind
 from .expressions import Expander, tree_of
 from .items import Class, Reservation, Units, UnitSet
+from .names import words
 
 MOST_STATES = 4096
 
@@ -12,7 +13,7 @@ class Statement:
     def __init__(self, item, bits):
         self.head = item.head
         self.units = sum(bits[unit] for unit in set(item.units))
-        self.patterns = [sum(bits[unit] for unit in set(pattern.split())) for pattern in item.patterns]
+        self.patterns = [sum(bits[unit] for unit in set(words(pattern))) for pattern in item.patterns]
 
     def held(self, units):
         return any(pattern & units == pattern for pattern in self.patterns)

@@ -1,15 +1,19 @@
 """Changes of what hz's profile cannot say, one pass for each kind, each change reported."""
 import dataclasses
-import fnmatch
 import re
 
-from .forms import Form, Place, Text
-from .items import Attribute, Bypass, Class, Options, Units, Values, values_in
+from . import wildcards
+from .expressions import Wrong, is_above, with_single_repeats
+from .forms import Fault, Form, Place, Text
+from .items import Attribute, Bypass, Class, Options, Reservation, Units, Values, trimmed, without_gaps
+from .names import BLANKS, brief, is_name, pieces, shown, words
+from .wildcards import Matcher
 
 NOT_BUILT = ["collapse-ndfa"]
 GUARDS = ["store_data_bypass_p"]
 UNKNOWN = "unknown"
 NUMBER = re.compile(r"-?[0-9]+")
+DEPTH = 64
 
 
 @dataclasses.dataclass(frozen=True)
@@ -20,7 +24,7 @@ class Change:
     what: str
 
     def __str__(self):
-        return f"{self.place}: {self.kind}: {self.what}"
+        return shown(f"{self.place}: {self.kind}: {self.what}")
 
 
 class Told(list):
@@ -35,6 +39,15 @@ def of_kind(items, kind):
     return [item for item in items if isinstance(item, kind)]
 
 
+def tell_left(items, told):
+    """What was left out when the items were read."""
+    for item in items:
+        if not isinstance(item, (Attribute, Values)):
+            for kind, what in item.left:
+                told.tell(item, kind, what)
+    return items
+
+
 def never():
     """The condition that never holds."""
     form = Form(None, "(")
@@ -42,18 +55,62 @@ def never():
     return form
 
 
-def odd_test(condition):
-    """The first test in a condition that hz can't say, or None."""
+def tested_values(text):
+    """The values of a test of an attribute, and whether it is of all others."""
+    negated = text.strip(BLANKS).startswith("!")
+    return (text.strip(BLANKS)[1:] if negated else text), negated
+
+
+def is_test(form):
+    """Whether a form tests an attribute, with strings for its name and its values."""
+    return form.head() == "eq_attr" and len(form) == 3 and all(isinstance(part, Text) for part in form[1:])
+
+
+def cleaned(condition, left):
+    """A condition whose tests have no white space round a name and no empty value; `left` takes what is left out."""
     if not isinstance(condition, Form):
-        return str(condition)
+        return condition
+    made = Form(condition.place, condition.bracket)
+    if is_test(condition):
+        values, negated = tested_values(condition[2])
+        values = ", ".join(without_gaps(values, left))
+        made += [condition[0], Text(trimmed(condition[1], left)), Text(f"!{values}" if negated else values)]
+    else:
+        made += [cleaned(part, left) for part in condition]
+    return made
+
+
+def clean_conditions(items, told):
+    """Conditions lose white space round names, and empty values."""
+    for item in of_kind(items, Class):
+        left = []
+        item.condition = cleaned(item.condition, left)
+        for kind, what in left:
+            told.tell(item, kind, f"in the condition of {item.name}: {what}")
+    return items
+
+
+def odd_test(condition, depth=2):
+    """The first test in a condition that hz can't say, or None. `depth` is how many brackets are open in it."""
+    if not isinstance(condition, Form):
+        return f"`{brief(condition)}`"
+    if depth > DEPTH:
+        return f"more than {DEPTH} open brackets"
     head, operands = condition.head(), condition[1:]
     if head in ("and", "ior") and len(operands) >= 2 or head == "not" and len(operands) == 1:
-        return next((odd for odd in map(odd_test, operands) if odd), None)
-    if head == "eq_attr" and len(operands) == 2 and all(isinstance(part, Text) for part in operands):
+        return next((odd for odd in (odd_test(part, depth + 1) for part in operands) if odd), None)
+    if is_test(condition) and is_name(operands[0]) and all(is_name(value) for value in pieces(tested_values(operands[1])[0])):
         return None
-    if head == "const_int" and len(operands) == 1 and NUMBER.fullmatch(str(operands[0])):
+    if head == "const_int" and len(operands) == 1 and is_integer(operands[0]):
         return None
-    return head or "a vector"
+    return brief(head) if head else "a vector"
+
+
+def is_integer(operand):
+    """Whether an operand is a number that hz reads."""
+    if type(operand) is not str or not NUMBER.fullmatch(operand):
+        return False
+    return not is_above(operand.lstrip("-"), 2 ** 63 if operand.startswith("-") else 2 ** 64 - 1)
 
 
 def change_conditions(items, told):
@@ -63,6 +120,19 @@ def change_conditions(items, told):
         if odd:
             told.tell(item, "condition", f"the condition of {item.name} has {odd}")
             item.condition = never()
+    return items
+
+
+def change_repeats(items, told):
+    """An element with two repeats, one after the other, gets parentheses."""
+    for item in of_kind(items, (Reservation, Class)):
+        try:
+            changed = with_single_repeats(item.expression)
+        except Wrong as wrong:
+            raise Fault(item.place, str(wrong)) from wrong
+        if changed:
+            told.tell(item, "repeat", f"was {' '.join(words(item.expression))}")
+            item.expression = changed
     return items
 
 
@@ -87,25 +157,25 @@ def change_options(items, told):
 
 def change_bypasses(items, told):
     """A bypass with a guard that hz doesn't have goes; wildcards are expanded."""
-    classes, kept = [item.name for item in of_kind(items, Class)], []
+    matcher, kept = Matcher(item.name for item in of_kind(items, Class)), []
     for item in items:
         if not isinstance(item, Bypass):
             kept.append(item)
-        elif item.guard and item.guard not in GUARDS:
+        elif item.guard is not None and item.guard not in GUARDS:
             told.tell(item, "guard", f"the bypass is guarded by {item.guard}")
         else:
-            item.outs = expanded(item, item.outs, classes, told)
-            item.ins = expanded(item, item.ins, classes, told)
+            item.outs = expanded(item, item.outs, matcher, told)
+            item.ins = expanded(item, item.ins, matcher, told)
             kept += [item] if item.outs and item.ins else []
     return kept
 
 
-def expanded(bypass, patterns, classes, told):
+def expanded(bypass, patterns, matcher, told):
     """The classes of a list in a bypass, each once; as GCC does, a name with a wildcard is matched as names of files are."""
     found = []
     for pattern in patterns:
-        if any(mark in pattern for mark in "*?["):
-            matching = [name for name in classes if fnmatch.fnmatchcase(name, pattern)]
+        if any(mark in pattern for mark in wildcards.MARKS):
+            matching = matched(bypass, pattern, matcher)
             told.tell(bypass, "wildcard", f"{pattern} stands for {', '.join(matching) or 'no class'}")
             found += matching
         else:
@@ -113,12 +183,22 @@ def expanded(bypass, patterns, classes, told):
     return list(dict.fromkeys(found))
 
 
+def matched(bypass, pattern, matcher):
+    """The classes that a pattern of a bypass matches. What all patterns stand for is bounded before it is written out."""
+    try:
+        return matcher.matching(pattern)
+    except wildcards.Unclear as unclear:
+        raise Fault(bypass.place, f"`{brief(pattern)}` is no wildcard whose meaning is clear") from unclear
+    except wildcards.TooMuch as too_much:
+        raise Fault(bypass.place, f"`{brief(pattern)}` stands for too much") from too_much
+
+
 def tests_of_attributes(condition):
-    """Each attribute that a condition names, with the values there."""
+    """Each attribute that a condition names, with the values there that are names."""
     if not isinstance(condition, Form):
         return
-    if condition.head() == "eq_attr" and len(condition) == 3:
-        yield str(condition[1]), values_in(condition[2].strip().lstrip("!"))
+    if is_test(condition) and is_name(condition[1]):
+        yield str(condition[1]), [value for value in pieces(tested_values(condition[2])[0]) if is_name(value)]
     for part in condition[1:]:
         yield from tests_of_attributes(part)
 
@@ -128,15 +208,23 @@ def named_attributes(items):
     values, first = {}, {}
     for item in of_kind(items, Class):
         for name, given in tests_of_attributes(item.condition):
-            values.setdefault(name, []).extend(given)
+            values.setdefault(name, {}).update(dict.fromkeys(given))
             first.setdefault(name, item)
     return values, first
+
+
+def enumerations_in(sources):
+    """The values of each enumeration: a later definition of one name adds its own."""
+    found = {}
+    for item in of_kind(sources, Values):
+        found.setdefault(item.name, []).extend(item.names)
+    return found
 
 
 def add_attributes(items, sources, told):
     """Each attribute that a condition names is defined, with the values in the files, before all else."""
     defined = {item.name: item for item in of_kind(reversed(sources), Attribute)}
-    enumerations = {item.name: item.names for item in of_kind(sources, Values)}
+    enumerations = enumerations_in(sources)
     values, first = named_attributes(items)
     made = [complete_attribute(defined.get(name) or Attribute(first[name].place, name, [], None, None),
                                enumerations, values[name], name in defined, told) for name in values]
@@ -145,12 +233,15 @@ def add_attributes(items, sources, told):
 
 def complete_attribute(item, enumerations, tested, is_defined, told):
     """An attribute with the values that conditions test, and a default."""
-    own = item.values + enumerations.get(item.enumeration, [])
-    whole = Attribute(item.place, item.name, [], None, item.default or UNKNOWN)
-    whole.values = list(dict.fromkeys(own + tested + [whole.default]))
+    own = dict.fromkeys(item.values + enumerations.get(item.enumeration, []))
+    default = item.default if item.default is not None and is_name(item.default) else None
+    whole = Attribute(item.place, item.name, [], None, default or UNKNOWN)
+    whole.values = list(dict.fromkeys([*own, *tested, whole.default]))
+    for kind, what in item.left:
+        told.tell(whole, kind, what)
     if not is_defined:
         told.tell(whole, "attribute", f"{item.name} is not defined")
-    elif item.default is None:
+    elif default is None:
         told.tell(whole, "attribute", f"the default of {item.name} is no const_string")
     elif len(whole.values) > len(own):
         told.tell(whole, "attribute", f"{item.name} lacks {', '.join(whole.values[len(own):])}")
@@ -159,7 +250,8 @@ def complete_attribute(item, enumerations, tested, is_defined, told):
 
 def change_all(items, sources, told):
     """The items with all changes; `sources` are all that the files define."""
+    items = clean_conditions(tell_left(items, told), told)
     items = add_attributes(items, sources, told)
-    for change in (change_conditions, change_queries, change_options, change_bypasses):
+    for change in (change_conditions, change_queries, change_options, change_repeats, change_bypasses):
         items = change(items, told)
     return items

@@ -1,11 +1,14 @@
 """Reads the forms of a machine description: lists and vectors of atoms, strings and forms, each with its line."""
-import bisect
-import dataclasses
+import os
 import re
+import typing
+
+from .names import shown
+
+BYTES = 16777216
 
 
-@dataclasses.dataclass(frozen=True)
-class Place:
+class Place(typing.NamedTuple):
     """A line of a file, from 1."""
     file: str
     line: int
@@ -18,7 +21,7 @@ class Fault(Exception):
     """An input that cannot be read: its place, and what is wrong there."""
 
     def __init__(self, place, what):
-        super().__init__(f"{place}: {what}")
+        super().__init__(shown(f"{place}: {what}"))
 
 
 class Text(str):
@@ -37,9 +40,9 @@ class Form(list):
         self.place, self.bracket = place, bracket
 
     def head(self):
-        """The atom that the form begins with, or None."""
-        first = self[0] if self else None
-        return str(first) if type(first) is str else None
+        """The atom that a list begins with, or None."""
+        first = self[0] if self and self.bracket == "(" else None
+        return first if type(first) is str else None
 
 
 BLANK = r"(?:[ \t\n\v\f\r]+|;[^\n]*|/\*.*?\*/)*"
@@ -50,12 +53,12 @@ TOKEN = re.compile(BLANK + r"""(?:
     | (?P<block>  \{ )
     | (?P<atom>   (?: <[^<>]*> | /(?!\*) | [^\s()\[\]{}";/] )+ )
     | (?P<end>    \Z )
-    )?""", re.S | re.X)
+    )?""", re.S | re.X | re.A)
 BRACE = re.compile(r"\\.|[{}]", re.S)
 UNREAD = {'"': "a string that is not closed", "/": "a comment that is not closed", "}": "a brace that closes nothing"}
 CLOSES = {")": "(", "]": "["}
 DEPTH = 200
-ESCAPES = {"\\\n": "", '\\"': '"', "\\\\": "\\"}
+ESCAPES = {"\\\n": "", '\\"': '"', "\\\\": "\\", "\\'": "'", "\\;": "\\n\\t"}
 
 
 class Scanner:
@@ -63,10 +66,13 @@ class Scanner:
 
     def __init__(self, file, text):
         self.file, self.text = file, text
-        self.ends = [found.start() for found in re.finditer("\n", text)]
+        self.at, self.line = 0, 1
 
     def place(self, at):
-        return Place(self.file, bisect.bisect_left(self.ends, at) + 1)
+        """The place of a character that is not before the last one that was asked for."""
+        self.line += self.text.count("\n", self.at, at)
+        self.at = at
+        return Place(self.file, self.line)
 
     def tokens(self):
         """The kind, the first and the last character of each token."""
@@ -95,7 +101,7 @@ class Scanner:
         """The atom, string or block of a token."""
         if kind == "string":
             inner = self.text[start + 1:end - 1]
-            return Text(re.sub(r"\\.", lambda found: ESCAPES.get(found[0], found[0]), inner, flags=re.S))
+            return Text(inner if "\\" not in inner else re.sub(r"\\.", lambda found: ESCAPES.get(found[0], found[0]), inner, flags=re.S))
         return Block(self.text[start:end]) if kind == "block" else self.text[start:end]
 
 
@@ -106,6 +112,8 @@ def read_forms(file, text):
     for kind, start, end in scanner.tokens():
         if kind == "open":
             form = Form(scanner.place(start), text[start])
+            if not open_forms and form.bracket == "[":
+                raise Fault(form.place, "a vector is outside all forms")
             (open_forms[-1] if open_forms else top).append(form)
             open_forms.append(form)
             if len(open_forms) > DEPTH:
@@ -123,10 +131,19 @@ def read_forms(file, text):
     return top
 
 
-def read_file(path, place=None):
-    """The top forms of a file; if it cannot be opened the fault is at the form that includes it."""
+def read_text(path, place=None):
+    """The text of a file, a character for each byte. A fault is at the form that includes it, if one does."""
+    def wrong(why):
+        return Fault(place or path, f"{path}: {why}" if place else why)
     try:
-        with open(path, encoding="latin-1", newline="\n") as file:
-            return read_forms(path, file.read())
+        if place and not os.path.isfile(path) and os.path.exists(path):
+            raise wrong("this is no file")
+        with open(path, "rb") as file:
+            found = file.read(BYTES + 1)
     except OSError as error:
-        raise Fault(place or path, f"{path}: {error.strerror}" if place else error.strerror) from error
+        raise wrong(error.strerror) from error
+    except ValueError as error:
+        raise wrong("no file has a zero byte in its name") from error
+    if len(found) > BYTES:
+        raise wrong(f"more than {BYTES} bytes")
+    return found.decode("latin-1")

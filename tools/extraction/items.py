@@ -1,46 +1,19 @@
 """The forms of a pipeline, each an item: what it defines, what it needs, and its text in the language of hz."""
 import dataclasses
-import re
 import textwrap
 import typing
 
+from .expressions import is_above, names_in
 from .forms import Fault, Form, Place, Text
+from .names import BLANKS, brief, pieces, words
 
-WORD = re.compile(r"[^\s,|+*()]+")
-REPEAT = re.compile(r"\*\s*\d+")
-
-
-def string(form, at):
-    """The string at a place of a form; parentheses may be round it."""
-    value = form[at] if at < len(form) else None
-    if isinstance(value, Form) and len(value) == 1:
-        value = value[0]
-    if not isinstance(value, Text):
-        raise Fault(form.place, f"operand {at} of {form.head()} is no string")
-    return str(value)
+LATENCY = 1000
 
 
-def number(form, at):
-    """The number at a place of a form."""
-    value = form[at] if at < len(form) else None
-    if type(value) is not str or not value.isdecimal():
-        raise Fault(form.place, f"operand {at} of {form.head()} is no number")
-    return int(value)
-
-
-def names(text):
-    """The names of a list, which may be empty."""
-    return [piece.strip() for piece in text.split(",")] if text.strip() else []
-
-
-def values_in(text):
-    """The values of an attribute in a list, as GCC reads it: a comma at the end is none of them."""
-    return [value for value in names(text) if value]
-
-
-def names_in(expression):
-    """The units and reservations that an expression names."""
-    return [name for name in WORD.findall(REPEAT.sub(" ", expression)) if name != "nothing"]
+def quoted(text):
+    """A string in which white space says nothing, over several lines if it is long."""
+    lines = textwrap.wrap(" ".join(words(text)), 100, break_long_words=False, break_on_hyphens=False)
+    return '"' + "\n    ".join(lines).replace("\\", "\\\\").replace('"', '\\"') + '"'
 
 
 def listed(given):
@@ -48,17 +21,83 @@ def listed(given):
     return quoted(", ".join(given))
 
 
-def quoted(text):
-    """A string in which white space says nothing, over several lines if it is long."""
-    lines = textwrap.wrap(" ".join(text.split()), 100, break_long_words=False, break_on_hyphens=False)
-    return '"' + "\n    ".join(lines).replace("\\", "\\\\").replace('"', '\\"') + '"'
+def in_quotes(name):
+    """A string of one name."""
+    return '"' + name.replace("\\", "\\\\").replace('"', '\\"') + '"'
+
+
+class Operands:
+    """The operands of a form as they are read, and what is left out of them."""
+
+    def __init__(self, form, most):
+        if len(form) - 1 > most:
+            raise Fault(form.place, f"{form.head()} has an operand {most + 1}, which is one too many")
+        self.form, self.left = form, []
+
+    def has(self, at):
+        return at < len(self.form)
+
+    def operand(self, at):
+        return self.form[at] if self.has(at) else None
+
+    def string(self, at):
+        """The string at a place; parentheses may be round it."""
+        value = self.operand(at)
+        if isinstance(value, Form) and value.bracket == "(" and len(value) == 1:
+            value = value[0]
+        if not isinstance(value, Text):
+            raise Fault(self.form.place, f"operand {at} of {self.form.head()} is no string")
+        return str(value)
+
+    def number(self, at):
+        """The number at a place, which hz takes from 0 to 1,000."""
+        value = self.operand(at)
+        if type(value) is not str or not value.isdecimal():
+            raise Fault(self.form.place, f"operand {at} of {self.form.head()} is no number")
+        if is_above(value, LATENCY):
+            raise Fault(self.form.place, f"operand {at} of {self.form.head()} is more than {LATENCY}")
+        return int(value)
+
+    def name(self, at):
+        """The one name of a string; white space round it is left out."""
+        return trimmed(self.string(at), self.left)
+
+    def names(self, at):
+        """The names of a list; a comma at its end is left out."""
+        return without_end(self.string(at), self.left)
+
+
+def trimmed(text, left):
+    """A name without the white space round it; `left` takes what is left out."""
+    name = text.strip(BLANKS)
+    if name != text:
+        left.append(("space", f"white space round {brief(name)}"))
+    return name
+
+
+def without_end(text, left):
+    """The names of a list without a comma at its end; `left` takes what is left out."""
+    found = pieces(text)
+    if len(found) > 1 and not found[-1]:
+        left.append(("comma", f"a comma after {brief(found[-2])}"))
+        found.pop()
+    return found
+
+
+def without_gaps(text, left):
+    """The values of a list without empty ones. GCC reads none after a comma at the end; of others `left` takes what is left out."""
+    found = pieces(text)
+    if "" in found[:-1]:
+        left.append(("comma", f"a comma with no value before it in {brief(text)}"))
+    return [value for value in found if value]
 
 
 @dataclasses.dataclass
 class Item:
-    """A form of a pipeline: its place, and notes on what was changed in it."""
+    """A form of a pipeline: its place, notes on what was changed in it, and what was left out when it was read, by kinds."""
     place: Place
     notes: typing.List[str] = dataclasses.field(default_factory=list, init=False)
+    left: typing.List[typing.Tuple[str, str]] = dataclasses.field(default_factory=list, init=False)
 
     def defines(self):
         """What it defines, each a kind and a name."""
@@ -71,6 +110,12 @@ class Item:
     def only(self, wanted):
         """It, with no other definitions than those that are wanted."""
         return self
+
+    def with_names(self, names):
+        """It, with other names."""
+        made = dataclasses.replace(self, names=names)
+        made.notes, made.left = list(self.notes), self.left
+        return made
 
     def text(self):
         """Its form in the language of hz."""
@@ -85,7 +130,7 @@ class Automata(Item):
         return [("automaton", name) for name in self.names]
 
     def only(self, wanted):
-        return Automata(self.place, [name for name in self.names if ("automaton", name) in wanted])
+        return self.with_names([name for name in self.names if ("automaton", name) in wanted])
 
     def text(self):
         return f"(define_automaton {listed(self.names)})"
@@ -104,13 +149,12 @@ class Units(Item):
         return [("automaton", self.automaton)] if self.automaton else []
 
     def only(self, wanted):
-        kept = [name for name in self.names if ("unit", name) in wanted]
-        return Units(self.place, kept, self.automaton, self.query)
+        return self.with_names([name for name in self.names if ("unit", name) in wanted])
 
     def text(self):
-        behind = f' "{self.automaton}"' if self.automaton else ""
+        after = "" if self.automaton is None else f" {in_quotes(self.automaton)}"
         head = "define_query_cpu_unit" if self.query else "define_cpu_unit"
-        return f"({head} {listed(self.names)}{behind})"
+        return f"({head} {listed(self.names)}{after})"
 
 
 @dataclasses.dataclass
@@ -125,7 +169,7 @@ class Reservation(Item):
         return [("unit", name) for name in names_in(self.expression)]
 
     def text(self):
-        return f'(define_reservation "{self.name}"\n  {quoted(self.expression)})'
+        return f"(define_reservation {in_quotes(self.name)}\n  {quoted(self.expression)})"
 
 
 @dataclasses.dataclass
@@ -140,7 +184,7 @@ class Class(Item):
 
     def text(self):
         condition = condition_text(self.condition)
-        return f'(define_insn_reservation "{self.name}" {self.latency}\n  {condition}\n  {quoted(self.expression)})'
+        return f"(define_insn_reservation {in_quotes(self.name)} {self.latency}\n  {condition}\n  {quoted(self.expression)})"
 
 
 @dataclasses.dataclass
@@ -151,7 +195,7 @@ class Bypass(Item):
     guard: typing.Optional[str]
 
     def text(self):
-        guard = f" {quoted(self.guard)}" if self.guard else ""
+        guard = "" if self.guard is None else f" {in_quotes(self.guard)}"
         return f"(define_bypass {self.number} {listed(self.outs)}\n  {listed(self.ins)}{guard})"
 
 
@@ -161,8 +205,12 @@ class UnitSet(Item):
     units: typing.List[str]
     patterns: typing.List[str]
 
+    def named(self):
+        """All units that it names."""
+        return self.units + [name for pattern in self.patterns for name in words(pattern)]
+
     def needs(self):
-        return [("unit", name) for name in self.units + " ".join(self.patterns).split()]
+        return [("unit", name) for name in self.named()]
 
     def text(self):
         return f"({self.head} {listed(self.units)}\n  {listed(self.patterns)})"
@@ -178,7 +226,7 @@ class Options(Item):
 
 @dataclasses.dataclass
 class Values(Item):
-    """The values of a `define_enum`, which some attributes have."""
+    """The values of a `define_enum` or a `define_c_enum`, which some attributes have."""
     name: str
     names: typing.List[str]
 
@@ -192,74 +240,111 @@ class Attribute(Item):
     default: typing.Optional[str]
 
     def text(self):
-        return f'(define_attr "{self.name}"\n  {listed(self.values)}\n  (const_string "{self.default}"))'
+        return f"(define_attr {in_quotes(self.name)}\n  {listed(self.values)}\n  (const_string {in_quotes(self.default)}))"
 
 
 def condition_text(condition):
     """A condition that hz can say."""
-    if condition.head() == "eq_attr":
-        return f'(eq_attr "{condition[1]}" {listed(values_in(condition[2]))})'
-    operands = [condition_text(part) if isinstance(part, Form) else part for part in condition[1:]]
+    operands = [condition_text(part) if isinstance(part, Form) else quoted(part) if isinstance(part, Text) else part
+                for part in condition[1:]]
     return f"({' '.join([condition.head()] + operands)})"
 
 
-def enumeration_values(form):
-    """The values of a `define_enum`, which are in a vector."""
-    values = form[2] if len(form) > 2 else None
-    if not isinstance(values, Form):
-        raise Fault(form.place, "operand 2 of define_enum is no vector")
-    return [str(value) for value in values]
+def value_in(form, part):
+    """The name of a value of an enumeration, which may be with a number in parentheses."""
+    if isinstance(part, Form) and part.bracket == "(" and len(part) == 2:
+        part = part[0]
+    if isinstance(part, (Form, Text)):
+        raise Fault(form.place, f"operand 2 of {form.head()} has a value that is no name")
+    return str(part)
+
+
+def enumeration_in(form):
+    """A `define_enum` or a `define_c_enum`, whose values are in a vector."""
+    operands = Operands(form, 2)
+    values = operands.operand(2)
+    if not isinstance(values, Form) or values.bracket != "[":
+        raise Fault(form.place, f"operand 2 of {form.head()} is no vector")
+    return Values(form.place, operands.name(1), [value_in(form, part) for part in values])
 
 
 def default_in(form):
     """The default of an attribute if it is a `const_string`, else None."""
     default = form[3] if len(form) > 3 else None
-    plain = isinstance(default, Form) and default.head() == "const_string"
-    return string(default, 1) if plain else None
+    if not isinstance(default, Form) or default.head() != "const_string" or len(default) != 2:
+        return None
+    return str(default[1]) if isinstance(default[1], Text) else None
 
 
-def units_in(form):
-    automaton = string(form, 2) if len(form) > 2 else None
-    return Units(form.place, names(string(form, 1)), automaton, form.head() == "define_query_cpu_unit")
+def automata_in(form, operands):
+    return Automata(form.place, operands.names(1))
 
 
-def class_in(form):
-    condition = form[3] if len(form) > 3 else None
+def units_in(form, operands):
+    automaton = operands.name(2) if operands.has(2) else None
+    return Units(form.place, operands.names(1), automaton, form.head() == "define_query_cpu_unit")
+
+
+def reservation_in(form, operands):
+    return Reservation(form.place, operands.name(1), operands.string(2))
+
+
+def class_in(form, operands):
+    condition = operands.operand(3)
     if not isinstance(condition, Form):
         raise Fault(form.place, "operand 3 of define_insn_reservation is no condition")
-    return Class(form.place, string(form, 1), number(form, 2), condition, string(form, 4))
+    return Class(form.place, operands.name(1), operands.number(2), condition, operands.string(4))
 
 
-def bypass_in(form):
-    guard = string(form, 4) if len(form) > 4 else None
-    return Bypass(form.place, number(form, 1), names(string(form, 2)), names(string(form, 3)), guard)
+def bypass_in(form, operands):
+    guard = operands.name(4) if operands.has(4) else None
+    return Bypass(form.place, operands.number(1), operands.names(2), operands.names(3), guard)
 
 
-def set_in(form):
-    return UnitSet(form.place, form.head(), names(string(form, 1)), names(string(form, 2)))
+def set_in(form, operands):
+    return UnitSet(form.place, form.head(), operands.names(1), operands.names(2))
 
 
-def attribute_in(form):
-    listed_values, enumeration = values_in(string(form, 2)), None
+def options_in(form, operands):
+    return Options(form.place, operands.names(1))
+
+
+def attribute_in(form, operands):
+    name, default = operands.name(1), default_in(form)
+    if default is not None:
+        default = trimmed(default, operands.left)
     if form.head() == "define_enum_attr":
-        listed_values, enumeration = [], string(form, 2)
-    return Attribute(form.place, string(form, 1), listed_values, enumeration, default_in(form))
+        return Attribute(form.place, name, [], operands.name(2), default)
+    return Attribute(form.place, name, without_gaps(operands.string(2), operands.left), None, default)
 
 
 KINDS = {
-    "define_automaton": lambda form: Automata(form.place, names(string(form, 1))),
-    "define_cpu_unit": units_in,
-    "define_query_cpu_unit": units_in,
-    "define_reservation": lambda form: Reservation(form.place, string(form, 1), string(form, 2)),
-    "define_insn_reservation": class_in,
-    "define_bypass": bypass_in,
-    "exclusion_set": set_in,
-    "presence_set": set_in,
-    "final_presence_set": set_in,
-    "absence_set": set_in,
-    "final_absence_set": set_in,
-    "automata_option": lambda form: Options(form.place, names(string(form, 1))),
-    "define_attr": attribute_in,
-    "define_enum_attr": attribute_in,
-    "define_enum": lambda form: Values(form.place, string(form, 1), enumeration_values(form)),
+    "define_automaton": (1, automata_in),
+    "define_cpu_unit": (2, units_in),
+    "define_query_cpu_unit": (2, units_in),
+    "define_reservation": (2, reservation_in),
+    "define_insn_reservation": (4, class_in),
+    "define_bypass": (4, bypass_in),
+    "exclusion_set": (2, set_in),
+    "presence_set": (2, set_in),
+    "final_presence_set": (2, set_in),
+    "absence_set": (2, set_in),
+    "final_absence_set": (2, set_in),
+    "automata_option": (1, options_in),
+    "define_attr": (3, attribute_in),
+    "define_enum_attr": (3, attribute_in),
 }
+
+
+def items_in(form):
+    """The item of a form, none if it is no form of a pipeline."""
+    head = form.head()
+    if head in ("define_enum", "define_c_enum"):
+        return [enumeration_in(form)]
+    if head not in KINDS:
+        return []
+    most, make = KINDS[head]
+    operands = Operands(form, most)
+    item = make(form, operands)
+    item.left = operands.left
+    return [item]

@@ -1,7 +1,7 @@
 """Makes one automaton of those that one alternation holds together."""
 from .changes import of_kind
 from .expressions import tree_of
-from .items import Automata, Class, Reservation, Units
+from .items import Automata, Reservation, Units
 
 
 class Joined:
@@ -13,7 +13,7 @@ class Joined:
 
     def find(self, name):
         while self.leader[name] != name:
-            name = self.leader[name]
+            self.leader[name] = name = self.leader[self.leader[name]]
         return name
 
     def join(self, names):

@@ -7,10 +7,10 @@ def is_count(line):
 
 
 class Table:
-    """The table of one automaton: the column of each class, the places of its query units in a row, and the rows."""
+    """The table of an automaton: its name, the column of each class, the places of its query units in a row, and the rows."""
 
-    def __init__(self, columns):
-        self.columns, self.column, self.asks, self.rows, self.grids, self.state = columns, [], {}, [], 0, "0"
+    def __init__(self, name, columns):
+        self.name, self.columns, self.column, self.asks, self.rows, self.grids, self.state = name, columns, [], {}, [], 0, "0"
 
     def after(self, place):
         """The state after an issue of a class, or `-`."""
@@ -25,14 +25,16 @@ class Table:
 
 
 class Tables:
-    """The tables of all automata."""
+    """The classes, and the tables of all automata."""
 
     def __init__(self, text):
-        self.tables = []
+        self.classes, self.tables = [], []
         for line in text.split("\n"):
             fields = line.split(" ")
-            if fields[0] == "automaton":
-                self.tables.append(Table(int(fields[2])))
+            if fields[0] == "class":
+                self.classes.append(fields[1])
+            elif fields[0] == "automaton":
+                self.tables.append(Table(fields[1], int(fields[2])))
             elif fields[0] == "map":
                 self.tables[-1].column = [int(field) for field in fields[1:] if field]
             elif fields[0] == "asks":

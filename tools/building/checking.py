@@ -1,0 +1,191 @@
+"""Compares what genautomata writes of pipelines and whole targets with what hz compiles of them, automaton by automaton."""
+import collections
+import dataclasses
+import re
+import time
+import typing
+
+from extract import extract, gather
+from extraction.forms import Fault
+from extraction.same import Undecided
+from extraction.tables import Tables
+
+from .cases import Names
+from .comparing import Difference, difference, states_of
+from .generating import Unwritten
+from .machine import parts_of, tables_text
+from .raw_forms import RawForms
+from .wanted import TablesNames, wanted_of_names
+
+PLAIN = ({}, {"align": True})
+AS_GCC = ({"as_gcc": True}, {"as_gcc": True, "align": True})
+READINGS = (("patterns joined", r"one pattern of .* suffices"), ("exclusive units together", r".* takes exclusive units together"),
+            ("order of the first", r".* in the order of "), ("each automaton by itself", r".* in each automaton by itself"))
+
+
+@dataclasses.dataclass
+class Compared:
+    """One description against one build: how many automata and states, what differs, and the readings with which nothing does."""
+    target: str
+    name: str
+    build: str
+    mode: str
+    automata: int = 0
+    states: int = 0
+    other_states: int = 0
+    difference: typing.Optional[Difference] = None
+    readings: str = ""
+    left: str = "DIFFERS with --as-gcc too"
+    why: str = ""
+
+    def apart(self):
+        return len(self.difference.automata) if self.difference else 0
+
+    def is_explained(self):
+        return not self.difference or bool(self.readings)
+
+    def line(self):
+        told = self.why or "the same" + (f", {self.other_states} with other states" if self.other_states else "")
+        if self.difference:
+            trace, answers = "; ".join(self.difference.trace), self.difference.answers
+            told = f"{', '.join(self.difference.automata)}: {trace}: hz {answers[0]}, the build {answers[1]}; " + (
+                f"the same with --as-gcc: {self.readings}" if self.readings else self.left)
+        return " | ".join([self.name, self.build, self.mode, str(self.automata), str(self.states), told])
+
+
+def spelled(mode):
+    return " ".join(f"--{name.replace('_', '-')}" for name in mode) or "as it is"
+
+
+class Target:
+    """The descriptions of a target, and the builds that they are compared with."""
+
+    def __init__(self, name, reader, compiled, generator, seconds):
+        self.name, self.reader, self.compiled, self.generator, self.seconds = name, reader, compiled, generator, seconds
+        self.raw = RawForms()
+
+    def tables(self, what, modes):
+        """The first mode in which hz compiles a description, with its tables and the changes; or what hz answers last."""
+        for mode in modes:
+            items, told = extract(self.reader, **mode, **what)
+            answer = self.compiled(items)
+            self.seconds["hz"] += answer.seconds
+            if answer.status == 0:
+                return mode, answer.text, told
+        return None, answer.told, told
+
+    def build(self, what):
+        """What genautomata writes of the forms as they are."""
+        given = {"files": [], "defs": [], "targets": [], **what}
+        return self.generator.build(self.raw.text(gather(self.reader, **given).items))
+
+    def against(self, build, text):
+        """The difference of tables and a build."""
+        began = time.process_time()
+        wanted = wanted_of_names(build, TablesNames("the tables of hz", iter(text.splitlines(True))).read())
+        made = tables_text(wanted, parts_of(build, wanted))
+        read = time.process_time()
+        found = difference(text, made)
+        self.seconds["built"] += read - began
+        self.seconds["compare"] += time.process_time() - read
+        return found, sum(one != other for one, other in zip(states_of(text), states_of(made)))
+
+    def compare(self, name, what, build, word, mode, text):
+        """A row: tables against a build; if they differ, once more as genautomata reads."""
+        tables = Tables(text)
+        row = Compared(self.name, name, word, spelled(mode), len(tables.tables), tables.states())
+        try:
+            row.difference, row.other_states = self.against(build, text)
+            if row.difference and "as_gcc" not in mode:
+                found, other, told = self.tables(what, [{"as_gcc": True, **mode}])
+                if found is None:
+                    row.left = f"not compiled with --as-gcc: {other}"
+                elif self.against(build, other)[0] is None:
+                    row.readings = readings_of(told)
+        except (Fault, Undecided) as why:
+            row.why, row.automata, row.states = f"not compared: {why}", 0, 0
+        return row
+
+
+def readings_of(told):
+    """Which readings were taken, and how often."""
+    counts = collections.Counter()
+    for change in told:
+        if change.kind == "gcc":
+            counts.update(word for word, form in READINGS if re.match(form, change.what))
+    return ", ".join(f"{count} {word}" for word, count in counts.items())
+
+
+def compare_target(target, tries):
+    """The rows of a target: each pipeline against what genautomata writes of it, and against what it writes of the whole target. What hz
+    refuses as it is and aligned is read as genautomata reads it."""
+    known = {}
+    for name, what in tries:
+        try:
+            mode, text, _ = target.tables(what, PLAIN)
+            if mode is None and "AlternationOfTwo" in text:
+                mode, text, _ = target.tables(what, AS_GCC)
+            if mode is None:
+                yield Compared(target.name, name, "-", "-", why=f"not compiled: {text}")
+                continue
+            known[name] = (what, mode, text)
+            yield target.compare(name, what, target.build(what), "itself", mode, text)
+        except (Fault, Unwritten) as why:
+            yield Compared(target.name, name, "itself", "-", why=str(why))
+    yield from compare_whole(target, tries, known)
+
+
+def compare_whole(target, tries, known):
+    """Each pipeline of a target against what genautomata writes of all of it."""
+    whole = f"all of {target.name}"
+    if whole not in dict(tries):
+        return
+    try:
+        build = target.build(dict(tries)[whole])
+    except Unwritten as why:
+        yield Compared(target.name, whole, whole, "-", why=str(why))
+        return
+    for name, (what, mode, text) in known.items():
+        if name != whole and is_within(target, what, dict(tries)[whole]):
+            if "\nautomata 1\nautomaton - " in text and "-" not in [Names(member).automaton for member in build.cases.members]:
+                yield Compared(target.name, name, whole, spelled(mode), why="no unit, and no automaton of the build")
+            else:
+                yield target.compare(name, what, build, whole, mode, text)
+
+
+def is_within(target, what, whole):
+    """Whether all files of a pipeline are of the whole target."""
+    files = {item.place.file for item in gather(target.reader, [], [], whole["targets"]).items}
+    return set(what["files"]) <= files
+
+
+def counts(rows):
+    """Descriptions, automata, those that are the same, and states."""
+    automata = sum(row.automata for row in rows)
+    return len(rows), automata, automata - sum(row.apart() for row in rows), sum(row.states for row in rows)
+
+
+def by_target(rows):
+    """The table of docs/GCC.md: of each target what is compared with builds of its pipelines, and with a build of the whole target."""
+    yield "| target | descriptions | automata | the same | states | against the whole target | automata | the same | states |"
+    yield "|---|---|---|---|---|---|---|---|---|"
+    for target in sorted({row.target for row in rows}):
+        own = [row for row in rows if row.target == target]
+        whole = [row for row in own if row.build.startswith("all of")]
+        alone = [row for row in own if row not in whole]
+        yield "| " + " | ".join([f"`{target}`"] + [f"{count:,}" for count in counts(alone) + counts(whole)]) + " |"
+
+
+def summary(rows, seconds):
+    """Counts of all rows, in lines."""
+    compared = [row for row in rows if not row.why]
+    yield from by_target(compared)
+    whole = counts(compared)
+    yield f"\nbuilds: {whole[0]} compared, {whole[1]} automata, {whole[2]} the same, {whole[3]} states"
+    for word in ("itself", "all of"):
+        own = counts([row for row in compared if row.build.startswith(word)])
+        yield f"  against {word}: {own[0]} compared, {own[1]} automata, {own[2]} the same, {own[3]} states"
+    apart = [row for row in compared if row.difference]
+    yield f"  with another number of states: {sum(row.other_states for row in compared)}"
+    yield f"  that differ: {sum(row.apart() for row in apart)}, of these explained: {sum(row.apart() for row in apart if row.is_explained())}"
+    yield "  seconds of a processor: " + ", ".join(f"{name} {taken:.1f}" for name, taken in seconds.items())

@@ -1,0 +1,101 @@
+#!/usr/bin/env python3
+"""Compares what genautomata writes of each pipeline and each whole target of GCC with what hz compiles of extract.py's text.
+
+Every automaton is compared in all states that are reached. One that differs is compared once more as genautomata reads it (--as-gcc),
+and then has to be the same. genautomata gets the forms of the port's files as they are. It is built of the source, in HZ_GCC if that
+is set, or it is the program that is named.
+"""
+import argparse
+import collections
+import functools
+import glob
+import os
+import sys
+import tempfile
+
+import check_gcc
+from building.checking import Target, compare_target, summary
+from building.generating import Generator, Unwritten, build_genautomata
+from extract import Reader
+from extraction.forms import Fault
+
+SECONDS = 300
+
+
+def tries_of(reader, main, target):
+    """The pipelines of a target, and the whole of it if there are several."""
+    found = check_gcc.pipelines(reader, main)
+    tries = [(" ".join(files), {"files": list(files), "defs": [main]}) for files in found]
+    return tries + ([(f"all of {target}", {"files": [], "targets": [main]})] if len(found) > 1 else [])
+
+
+def rows_of(hz, generator, config, only, most, seconds):
+    """The rows of all back ends."""
+    os.chdir(config)
+    for main in check_gcc.main_files(config):
+        target, reader = os.path.dirname(main), Reader()
+        if only and target not in only:
+            continue
+        compiled = functools.partial(check_gcc.compiled, hz, most=most)
+        try:
+            tries = tries_of(reader, main, target)
+        except Fault:
+            continue
+        yield from compare_target(Target(target, reader, compiled, generator, seconds), tries)
+
+
+def check_builds(hz, program, config, only, most=SECONDS):
+    """Prints all rows and the sums; gives how many differences no reading explains."""
+    seconds, found = collections.Counter(), []
+    generator = Generator(program, most)
+    print("\npipeline | build | mode | automata | states | compared")
+    for row in rows_of(hz, generator, config, only, most, seconds):
+        print(row.line(), flush=True)
+        found.append(row)
+    seconds["genautomata"] = generator.seconds
+    print("", *summary(found, seconds), sep="\n")
+    return sum(row.apart() for row in found if not row.is_explained())
+
+
+def check_source(hz, source, config, only, most=SECONDS):
+    """The same with genautomata built of a GCC source; without what that needs it is said, and nothing is compared."""
+    with tempfile.TemporaryDirectory() as folder:
+        try:
+            program = build_genautomata(source, os.environ.get("HZ_GCC") or folder)
+        except Unwritten as why:
+            print(f"check-gcc: no build is compared: {why}")
+            return 0
+        return check_builds(hz, program, config, only, most)
+
+
+def words():
+    parser = argparse.ArgumentParser(prog="check_built.py", description=__doc__)
+    parser.add_argument("--source", default=check_gcc.SOURCES,
+                        help="a GCC source, a tar file or a folder; if it is not given, " + check_gcc.SOURCES)
+    parser.add_argument("--genautomata", help="the program, if it is built already")
+    parser.add_argument("--seconds", type=int, default=SECONDS, help="how long hz and genautomata may take for one description")
+    parser.add_argument("hz")
+    parser.add_argument("targets", nargs="*", help="back ends; all if none is named")
+    return parser.parse_args()
+
+
+def main():
+    given, folder = words(), tempfile.TemporaryDirectory()
+    sources = glob.glob(given.source)
+    if not sources:
+        print(f"check-built: no {given.source}; Debian's package gcc-12-source has it")
+        return 0
+    hz, source = os.path.abspath(given.hz), os.path.abspath(sources[0])
+    with folder:
+        config = check_gcc.unpack(source, folder.name)
+        if given.genautomata:
+            wrong = check_builds(hz, os.path.abspath(given.genautomata), config, given.targets, given.seconds)
+        else:
+            wrong = check_source(hz, source, config, given.targets, given.seconds)
+        os.chdir("/")
+    print(f"check-built: {wrong} differ")
+    return 1 if wrong else 0
+
+
+if __name__ == "__main__":
+    sys.exit(main())
