@@ -1,7 +1,7 @@
 //! The program `hz`: the words of the command line, the real files and standard output, and the status.
 #![tactic(auto)]
 
-use hz_tool::host::{RealFiles, RealSink, words};
+use hz_front::host::{RealFiles, RealSink, words};
 use hz_tool::run;
 use std::process::ExitCode;
 

@@ -1,8 +1,8 @@
 //! The host's files and its standard output as the system has them.
 ghost use Rattle.std.specs.Prelude.{◌≡◌, ◌-◌, ◌^◌, ◌<◌};
 
+use hz_front::host::{RealFiles, RealSink, read_again};
 use hz_io::{Failed, Files, Sink, SlurpFault, slurp};
-use hz_tool::host::{RealFiles, RealSink, read_again};
 use std::alloc::Global;
 use std::fs;
 use std::io::{self, ErrorKind, Read};

@@ -3,13 +3,15 @@ use Rattle.std.proofs.Common.{◌≡◌, ℕ, zero, suc, ◌+◌, ◌<◌, ◌�
 use Rattle.std.proofs.lemmas.Bool.{cases_lt}
 use Rattle.std.proofs.lemmas.List.Elements.{All-get_or}
 use Rattle.std.proofs.lemmas.Option.{slice_get-get_or, slice_get_within, get_or_from_slice_get}
-use Rattle.hz_answer_model.proofs.AnswerLaws.{ForTexts}
+use Rattle.hz_front_model.proofs.SingleLaws.{ForTexts}
 use Rattle.hz_pipeline_model.proofs.Accepting.AskLaws.{held_or_free}
 use Rattle.hz_pipeline_model.proofs.Traces.NameLaws.{events_of_classes}
 use Rattle.hz_pipeline_model.specs.Compiling.AutomatonPipelines.{query_unit}
 use Rattle.hz_pipeline_model.specs.Tables.MachineNames.{names_of_machine}
-use Rattle.hz_answer_model.specs.AskAnswers.{Tells, trace_names, held_in, told_by}
-use Rattle.hz_answer_model.proofs.AskAnswerLaws.{some_told, told_or_not}
+use Rattle.hz_front_model.specs.Asks.{Tells, trace_names, held_in}
+use Rattle.hz_answer_model.specs.TableAnswers.{told_by, IsTablesOf, WritesTablesOf, HasTables, IsFirstUnwalked, Walks, WalksTrace}
+use Rattle.hz_front_model.proofs.AskLaws.{some_told}
+use Rattle.hz_answer_model.proofs.TableLaws.{told_or_not, walked_or_first, unwalked_issue}
 use Rattle.hz_answer_model.proofs.EventLaws.{issue_named}
 use Rattle.hz_base_model.proofs.Forms.FormsFront.{every_text}
 use Rattle.hz_description_model.proofs.Reading.DescriptionLaws.{every_list}
@@ -19,17 +21,20 @@ use Rattle.hz_description_model.proofs.Check.CheckTotal.{sound_or_fault}
 use Rattle.hz_pipeline_model.proofs.Accepting.AcceptanceLaws.{refused_issue}
 use Rattle.hz_pipeline_model.proofs.Accepting.PlayLaws.{accepted_or_first_refused}
 use Rattle.hz_pipeline_model.proofs.Accepting.Rows.{same_unit, places_tell}
-use Rattle.hz_answer_model.specs.Answers.{Describes, Checks, HasDescription, Compiles, CompilesDescription, DrillsDescription, TimesByDescription, SchedulesTwoByDescription, OverlapsByDescription, Replays, ReplaysTrace, ReplaysDescription, Judges, IsIssueOf, files_of, JudgesOrder, AnswersOrder, Answer}
+use Rattle.hz_front_model.specs.Descriptions.{Describes, Checks, HasDescription}
+use Rattle.hz_answer_model.specs.Answers.{Compiles, CompilesDescription, DrillsDescription, TimesByDescription, SchedulesTwoByDescription, OverlapsByDescription, ReplaysTrace, ReplaysDescription, Judges, files_of, JudgesOrder, AnswersOrder, Answer}
+use Rattle.hz_front_model.specs.Replays.{Replays, IsIssueOf}
 use Rattle.hz_description_model.specs.Check.CheckFaults.{CheckFault, CheckFaultAt, IsSound}
 use Rattle.hz_description_model.specs.Check.Places.{Known, class_names}
 use Rattle.hz_description_model.specs.Reading.DescriptionForms as description_forms
 use Rattle.hz_description_model.specs.Reading.DescriptionShape.{IsWellFormed, IsCheckable}
 use Rattle.hz_description_model.specs.Reading.Descriptions.{Description}
 use Rattle.hz_base_model.specs.Forms.Forms.{form_word}
-use Rattle.hz_pipeline_model.specs.Traces.Traces.{trace_word}
-use Rattle.hz_block_model.specs.Texts.Operands.{rtl_word}
-use Rattle.hz_tabtext_model.specs.Judging.{tables_word}
-use Rattle.hz_answer_model.specs.FaultTexts.{description_line, check_line, check_status, class_line, stuck_line}
+use Rattle.hz_pipeline_model.specs.Traces.Traces.{trace_word, Trace, TraceFault, TraceFaultAt, event_lines}
+use Rattle.hz_block_model.specs.Texts.Operands.{rtl_word, Judged}
+use Rattle.hz_tabtext_model.specs.Judging.{tables_word, Fault}
+use Rattle.hz_front_model.specs.FaultTexts.{description_line, check_line, check_status}
+use Rattle.hz_answer_model.specs.FaultTexts.{class_line, stuck_line}
 use Rattle.hz_base_model.specs.Lines.{lines_of}
 use Rattle.hz_base_model.specs.Forms.Forms as forms
 use Rattle.hz_description_model.specs.Check.CheckedParts.{automaton_names, automaton_count, automata_of, class_parts, bypass_parts, attributes_of}
@@ -37,17 +42,14 @@ use Rattle.hz_description_model.proofs.Check.KeptLaws.{parts_kept}
 use Rattle.hz_pipeline_model.specs.Pipelines.Pipelines.{pipeline_with}
 use Rattle.hz_pipeline_model.specs.Reaching.Counts.{Count}
 use Rattle.hz_pipeline_model.specs.Compiling.DescriptionLimits.{KeepsLimits, AllKeepLimits, PassesLimit, IsFirstPastLimit}
-use Rattle.hz_pipeline_model.specs.Accepting.Replay.{FirstRefused}
+use Rattle.hz_pipeline_model.specs.Accepting.Replay.{FirstRefused, Accepted}
 use Rattle.hz_pipeline_model.specs.Accepting.Events.{Event, issue, cycles_of, issues_of, IsOfClass}
-use Rattle.hz_pipeline_model.specs.Traces.Traces.{Trace, TraceFault, TraceFaultAt, event_lines}
 use Rattle.hz_pipeline_model.proofs.Traces.TraceLaws.{trace_of_every_text, counted_lines}
-use Rattle.hz_answer_model.specs.Texts.{file_line, limit_line, fault_line, refused_line, accepted_line, states_line, insns_line}
+use Rattle.hz_front_model.specs.Texts.{file_line, limit_line, fault_line, refused_line, accepted_line, states_line, insns_line}
 use Rattle.hz_base_model.specs.Forms.Trees.{Trees}
 use Rattle.hz_words_model.specs.Words.{Order, compile, replay, walk, schedule, eval, drill, timed, bound, duo, modulo, order_of, usage_line}
 use Rattle.hz_base_model.specs.Names.{Held}
-use Rattle.hz_answer_model.specs.Phases.{Says, Next, FileWord, OpensAll, HasForms}
-use Rattle.hz_answer_model.specs.TableAnswers.{IsTablesOf, WritesTablesOf, HasTables, IsFirstUnwalked, Walks, WalksTrace}
-use Rattle.hz_answer_model.proofs.TableLaws.{walked_or_first, unwalked_issue}
+use Rattle.hz_front_model.specs.Phases.{Says, Next, FileWord, OpensAll, HasForms}
 use Rattle.hz_answer_model.proofs.DrillLaws.{some_drill}
 use Rattle.hz_answer_model.specs.DrillAnswers.{Drills}
 use Rattle.hz_answer_model.specs.BlockAnswers.{IsBlock, IsState, HasBlock, HasAtMost, Evaluates, JudgesBlock}
@@ -71,7 +73,6 @@ use Rattle.hz_block_model.specs.Scheduled.BlockGraphs.{IsGraphOf, IsFirstClassFa
 use Rattle.hz_block_model.specs.Scheduled.BlockSchedules.{StartsAlone, IsFirstStuck, IsScheduleOf}
 use Rattle.hz_block_model.specs.Scheduling.Schedules.{Graph, Slot}
 use Rattle.hz_block_model.proofs.Scheduling.AlikeGraphs.{legal_there, greedy_there}
-use Rattle.hz_pipeline_model.specs.Accepting.Replay.{Accepted}
 use Rattle.hz_laws.proofs.Leaving.LimitsTold.{are_counted}
 use Rattle.hz_block_model.proofs.Schedulable.ScheduleTotal.{some_schedule_of}
 use Rattle.hz_block_model.proofs.Scheduled.GraphLaws.{HasClass, graphs_alike}
@@ -80,11 +81,9 @@ use Rattle.hz_answer_model.proofs.ListingTotal.{IsFinite, finite_given, finite_r
 use Rattle.hz_block_model.specs.Running.Blocks.{Instruction}
 use Rattle.hz_block_model.specs.Running.Limits.{instruction_limit}
 use Rattle.hz_block_model.specs.Running.States.{State, Store, run, all_stored}
-use Rattle.hz_block_model.specs.Texts.Operands.{Judged}
 use Rattle.hz_block_model.specs.Texts.BlockForms as blocks
 use Rattle.hz_block_model.specs.Texts.StateForms as states
 use Rattle.hz_pipeline_model.specs.Tables.Machines.{Machine, IsMachine, machine_walk}
-use Rattle.hz_tabtext_model.specs.Judging.{Fault}
 use Rattle.hz_tabtext_model.specs.Reading.{tables_in}
 use Rattle.hz_tabtext_model.proofs.MachineLaws.{text_machine}
 use Rattle.hz_tabtext_model.proofs.TextTakes.{tables_take}

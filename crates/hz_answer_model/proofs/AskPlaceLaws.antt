@@ -5,7 +5,7 @@ use Rattle.std.specs.List.{concat}
 use Rattle.std.proofs.lemmas.Option.{none-some, same_Some}
 use Rattle.hz_pipeline_model.specs.Accepting.Events.{Event, issue, advance, ask}
 use Rattle.hz_pipeline_model.specs.Traces.TraceNames.{TraceNames}
-use Rattle.hz_answer_model.specs.AskAnswers.{Reserved, AsksSay}
+use Rattle.hz_front_model.specs.Asks.{Reserved, AsksSay}
 use Rattle.hz_answer_model.specs.AskPlaces.{EventSays, IsToldByPlaces}
 
 -- the number at a place behind the first

@@ -26,7 +26,7 @@ use Rattle.hz_pipeline_model.proofs.Traces.NameLaws.{query_named, no_query_place
 use Rattle.hz_pipeline_model.specs.Compiling.AutomatonPipelines.{query_unit}
 use Rattle.hz_laws.specs.Names.NameFaults.{IsNameSpace}
 use Rattle.hz_laws.proofs.Names.SoundLaws.{no_second_name}
-use Rattle.hz_answer_model.specs.AskAnswers.{trace_names}
+use Rattle.hz_front_model.specs.Asks.{trace_names}
 
 -- an item that a filter keeps stands behind as many others that it keeps
 module _ {A : Type 0} (p : A → Bool) where

@@ -11,11 +11,12 @@ use Rattle.hz_block_model.specs.Running.Blocks.{Instruction}
 use Rattle.hz_block_model.specs.Running.States.{State}
 use Rattle.hz_block_model.specs.Texts.BlockForms as blocks
 use Rattle.hz_block_model.specs.Texts.StateForms as states
-use Rattle.hz_answer_model.specs.Texts.{file_line, limit_line, insns_line}
-use Rattle.hz_answer_model.specs.FaultTexts.{status_by, check_status}
-use Rattle.hz_answer_model.specs.Phases.{Says, Next, HasForms}
+use Rattle.hz_front_model.specs.Texts.{file_line, limit_line, insns_line}
+use Rattle.hz_front_model.specs.FaultTexts.{status_by, check_status}
+use Rattle.hz_front_model.specs.Phases.{Says, Next, HasForms}
 use Rattle.hz_answer_model.specs.BlockAnswers.{IsBlock, HasAtMost, IsState}
-use Rattle.hz_answer_model.specs.Answers.{Describes, Checks, HasDescription, Compiles}
+use Rattle.hz_front_model.specs.Descriptions.{Describes, Checks, HasDescription}
+use Rattle.hz_answer_model.specs.Answers.{Compiles}
 use Rattle.hz_answer_model.specs.ScheduleAnswers.{HasClasses, Starts}
 use Rattle.hz_answer_model.specs.Headline.{IsDescribed}
 

@@ -10,14 +10,15 @@ use Rattle.hz_description_model.specs.Check.Places.{Known}
 use Rattle.hz_description_model.specs.Reading.Descriptions.{Description}
 use Rattle.hz_pipeline_model.specs.Tables.Machines.{Machine}
 use Rattle.hz_tabtext_model.specs.Texts.{TableText}
-use Rattle.hz_answer_model.specs.Answers.{HasDescription, Judges, DrillsDescription, AnswersOrder}
+use Rattle.hz_front_model.specs.Descriptions.{HasDescription}
+use Rattle.hz_answer_model.specs.Answers.{Judges, DrillsDescription, AnswersOrder}
 use Rattle.hz_answer_model.specs.DrillAnswers.{Drills, IsDrillOf}
 use Rattle.hz_answer_model.specs.Headline.{IsDescribed, WritesDrill, ReplayAcceptsEvents}
 use Rattle.hz_base_model.specs.Names.{Held}
 use Rattle.hz_words_model.specs.Words.{compile, drill}
-use Rattle.hz_answer_model.specs.Phases.{Opens, Says}
+use Rattle.hz_front_model.specs.Phases.{Opens, Says}
 use Rattle.hz_answer_model.specs.TableAnswers.{IsTablesOf}
-use Rattle.hz_answer_model.specs.Texts.{accepted_line}
+use Rattle.hz_front_model.specs.Texts.{accepted_line}
 use Rattle.hz_answer_model.proofs.DoneLaws.{IsOpened, opened, IsGiven, given_of, compiled_of}
 use Rattle.hz_answer_model.proofs.DrillLaws.{same_machine, machine_of_tables, drawn_accepted}
 use Rattle.hz_answer_model.proofs.HeadlineLaws.{one_described, opens}
@@ -27,8 +28,8 @@ use Rattle.hz_pipeline_model.specs.Accepting.Replay.{Accepted}
 use Rattle.hz_pipeline_model.specs.Pipelines.Pipelines.{pipeline_with}
 use Rattle.hz_pipeline_model.specs.Traces.Traces.{event_lines}
 use Rattle.hz_base_model.specs.Lines.{lines_of}
-use Rattle.hz_answer_model.specs.AskAnswers.{trace_names, held_in}
-use Rattle.hz_answer_model.proofs.AskAnswerLaws.{last_told, turns_ask_nothing}
+use Rattle.hz_front_model.specs.Asks.{trace_names, held_in}
+use Rattle.hz_front_model.proofs.AskLaws.{last_told, turns_ask_nothing}
 
 module _ (held : Held) (description : List ℕ) (number turns : ℕ) (text : List ℕ) (h : AnswersOrder held (drill description number turns) 0 text) where
   first : IsOpened (held description) description_limit (λ described. HasDescription description described (DrillsDescription description number turns)) text

@@ -4,7 +4,7 @@ use Rattle.std.proofs.lemmas.Option.{none-some, same_Some, slice_get-map}
 use Rattle.std.specs.Option.{option_map}
 use Rattle.hz_pipeline_model.specs.Accepting.Events.{Event, issue}
 use Rattle.hz_pipeline_model.specs.Pipelines.Pipelines.{class_of, pipeline_with}
-use Rattle.hz_answer_model.specs.Answers.{IsIssueOf}
+use Rattle.hz_front_model.specs.Replays.{IsIssueOf}
 use Rattle.hz_description_model.specs.Check.Places.{class_names, Known}
 use Rattle.hz_description_model.specs.Reading.Descriptions.{Description, ClassItem}
 

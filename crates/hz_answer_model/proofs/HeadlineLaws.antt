@@ -2,7 +2,7 @@
 -- exposed pipeline, what `bound` does a bound of it, what `duo` does a schedule that keeps both blocks,
 -- and what `modulo` does a kernel whose turns are good.
 use Rattle.std.proofs.Common.{◌≡◌, ℕ, ◌+◌, inl, Bool, false, List, [], length, Option, Some, MatchOption, MatchBool, nat_lt, ◌≤◌, refl, sym, ap, ◌∙◌, subst, arith, All}
-use Rattle.std.specs.List.{AllPairs}
+use Rattle.std.specs.List.{AllPairs, range_with_len, repeat}
 use Rattle.std.proofs.lemmas.Bool.{le-ltb, ltb-false}
 use Rattle.std.proofs.lemmas.Option.{same_Some}
 use Rattle.hz_base_model.proofs.Forms.FormsLaws.{one_reading}
@@ -28,12 +28,13 @@ use Rattle.hz_block_model.specs.Running.Limits.{instruction_limit}
 use Rattle.hz_block_model.specs.Scheduling.Schedules.{Graph, Slot, present, spell}
 use Rattle.hz_block_model.proofs.Scheduled.BlockLaws.{legal_keeps}
 use Rattle.hz_block_model.proofs.Schedulable.ScheduleTotal.{short_trace}
-use Rattle.hz_answer_model.specs.Texts.{file_line, limit_line, accepted_line}
+use Rattle.hz_front_model.specs.Texts.{file_line, limit_line, accepted_line}
 use Rattle.hz_base_model.specs.Names.{Held}
 use Rattle.hz_words_model.specs.Words.{schedule, timed, bound, duo, modulo}
-use Rattle.hz_answer_model.specs.Phases.{Says, Next, Opens}
+use Rattle.hz_front_model.specs.Phases.{Says, Next, Opens}
 use Rattle.hz_answer_model.specs.BlockAnswers.{block_limit, state_text_limit, HasBlock, HasAtMost, IsBlock, IsState, JudgesBlock}
-use Rattle.hz_answer_model.specs.Answers.{HasDescription, Compiles, Judges, AnswersOrder, SchedulesByDescription, TimesByDescription, SchedulesTwoByDescription, OverlapsByDescription}
+use Rattle.hz_front_model.specs.Descriptions.{HasDescription}
+use Rattle.hz_answer_model.specs.Answers.{Compiles, Judges, AnswersOrder, SchedulesByDescription, TimesByDescription, SchedulesTwoByDescription, OverlapsByDescription}
 use Rattle.hz_answer_model.specs.ScheduleAnswers.{HasClasses, Starts, TellsSchedule, SchedulesBlock}
 use Rattle.hz_answer_model.specs.TimedAnswers.{TellsTimed, Times, TimesFrom, TimesBlock}
 use Rattle.hz_answer_model.specs.BoundAnswers.{TellsBound}
@@ -45,7 +46,6 @@ use Rattle.hz_measure_model.specs.Kernels.KernelTexts.{IsKernelOf}
 use Rattle.hz_answer_model.specs.Headline.{IsDescribed, IsBlockIn, HoldBlock, WritesSchedule, ReplayAccepts, IsStateIn, IsAsEval, KeepsTimed, KeepsBound, KeepsTwo, KeepsTurns, KeepsKernel}
 use Rattle.hz_block_model.specs.Running.States.{State, run}
 use Rattle.hz_block_model.specs.Texts.StateTexts.{IsText}
-use Rattle.std.specs.List.{range_with_len, repeat}
 use Rattle.hz_block_model.specs.Scheduled.BlockGraphs.{IsGraphOf}
 use Rattle.hz_measure_model.specs.Kernels.Turns.{turns}
 use Rattle.hz_answer_model.proofs.ExposedLaws.{leaves_source}
@@ -55,8 +55,8 @@ use Rattle.hz_measure_model.specs.TwoContexts.Joining.{joined}
 use Rattle.hz_answer_model.proofs.DoneLaws.{opened, formed_of, given_of, compiled_of, block_of, state_of, classes_of_block, started_of, few_of}
 use Rattle.hz_pipeline_model.specs.Traces.Traces.{event_lines}
 use Rattle.hz_base_model.specs.Lines.{lines_of}
-use Rattle.hz_answer_model.specs.AskAnswers.{trace_names, held_in}
-use Rattle.hz_answer_model.proofs.AskAnswerLaws.{AsksNothing, last_told, none_of_others}
+use Rattle.hz_front_model.specs.Asks.{trace_names, held_in}
+use Rattle.hz_front_model.proofs.AskLaws.{AsksNothing, last_told, none_of_others}
 
 -- ---- the promise
 

@@ -1,4 +1,3 @@
-pub mod AskAnswerLaws
 pub mod AskPlaceLaws
 pub mod AskedUnits
 pub mod TableLaws

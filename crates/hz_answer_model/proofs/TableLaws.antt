@@ -1,16 +1,16 @@
 -- Walks of machines, and the tables of a description: there is one.
-use Rattle.std.proofs.Common.{◌≡◌, ◌⊎◌, ℕ, zero, suc, add-one, ◌+◌, ◌<◌, ◌≤◌, ⊎_elim, inl, inr, arith, List, [], ◌∷◌, ◌++◌, take, drop, length, replicate, get_or, Option, Some, None, IsSome, slice_get, refl, sym, ap, ◌∙◌, subst}
+use Rattle.std.proofs.Common.{◌≡◌, ◌⊎◌, Bool, true, false, ℕ, zero, suc, add-one, ◌+◌, ◌<◌, ◌≤◌, ⊎_elim, inl, inr, arith, List, [], ◌∷◌, ◌++◌, take, drop, length, replicate, get_or, Option, Some, None, IsSome, slice_get, refl, sym, ap, ◌∙◌, subst}
 use Rattle.std.specs.Option.{option_and_then}
 use Rattle.std.proofs.lemmas.Bool.{cases_lt}
 use Rattle.std.proofs.lemmas.List.{take_more, take_all, take-append-drop, take-take}
-use Rattle.std.proofs.lemmas.Option.{same_Some, slice_get-get_or, slice_get_within, get_or_from_slice_get}
+use Rattle.std.proofs.lemmas.Option.{none-some, same_Some, slice_get-get_or, slice_get_within, get_or_from_slice_get}
 use Rattle.std.proofs.lemmas.List.Elements.{All-get_or}
 use Rattle.hz_pipeline_model.specs.Accepting.Events.{Event, issue, advance, ask}
-use Rattle.hz_pipeline_model.specs.Tables.Machines.{Machine, IsMachine, IsPart, Part, part_walk, word_of, machine_walk, parts_walk, starts_of, advance_of}
+use Rattle.hz_pipeline_model.specs.Tables.Machines.{Machine, IsMachine, states_tell, IsPart, Part, part_walk, word_of, machine_walk, parts_walk, starts_of, advance_of}
 use Rattle.hz_pipeline_model.specs.Tables.Tables.{Table, IsTable, walk, entry}
 use Rattle.hz_pipeline_model.proofs.Tables.TableLaws.{walk-append, walk_stays}
 use Rattle.hz_pipeline_model.proofs.Tables.MachineLaws.{machine_walk-ask, word_of-append, parts_walk-append, machine_walk-each, machine_walk-part, machine_walk-all}
-use Rattle.hz_answer_model.specs.TableAnswers.{IsFirstUnwalked, IsIssueIn}
+use Rattle.hz_answer_model.specs.TableAnswers.{IsFirstUnwalked, IsIssueIn, told_by}
 
 module _ (m : Machine) where
   not_both : (t : List Event) → machine_walk m t ≡ None → IsSome (machine_walk m t) → ⊥
@@ -118,3 +118,19 @@ walked_or_first m events = ⊎_elim
         by_next : IsSome (machine_walk m (take n events)) → (o : Option (List ℕ)) → machine_walk m (take (n + 1) events) ≡ o → IsSome (machine_walk m (take (suc n) events)) ⊎ ((i : ℕ) × (i < length events) × IsFirstUnwalked m events i)
         by_next before (Some states) e = inl (subst (λ (k : ℕ). IsSome (machine_walk m (take k events))) (add-one n) (subst IsSome (sym e) refl))
         by_next before None e = inr (n, omega (arith, few), (before, e))
+
+-- what the states of a machine tell is decided
+pub told_or_not : (m : Machine) (before : List Event) (a u : ℕ) → told_by m before a u ⊎ (told_by m before a u → ⊥)
+told_or_not m before a u = by_walk (machine_walk m before) refl
+  where
+    by_state : (states : List ℕ) → machine_walk m before ≡ Some states → (b : Bool) → states_tell m states a u ≡ b → told_by m before a u ⊎ (told_by m before a u → ⊥)
+    by_state states is true e = inl (states, is, e)
+    by_state states is false e =
+        inr (λ (h : told_by m before a u).
+        let same : states ≡ h.0 = same_Some states h.0 (sym is ∙ h.1) in
+        let tells : states_tell m states a u ≡ true = subst (λ (x : List ℕ). states_tell m x a u ≡ true) (sym same) h.2 in
+        absurd (cc))
+
+    by_walk : (o : Option (List ℕ)) → machine_walk m before ≡ o → told_by m before a u ⊎ (told_by m before a u → ⊥)
+    by_walk None none = inr (λ (h : told_by m before a u). none-some h.0 (sym none ∙ h.1))
+    by_walk (Some states) is = by_state states is (states_tell m states a u) refl

@@ -31,13 +31,15 @@ use Rattle.hz_tabtext_model.specs.Texts.{TableText}
 use Rattle.hz_tabtext_model.proofs.TextAgain.{tables_again}
 use Rattle.hz_tabtext_model.proofs.Steps.{ok_is}
 use Rattle.hz_pipeline_model.specs.Traces.Traces.{Trace, event_lines}
-use Rattle.hz_answer_model.specs.Answers.{HasDescription, Compiles, Replays, ReplaysTrace, ReplaysDescription, Judges, CompilesDescription, AnswersOrder}
+use Rattle.hz_front_model.specs.Descriptions.{HasDescription}
+use Rattle.hz_answer_model.specs.Answers.{Compiles, ReplaysTrace, ReplaysDescription, Judges, CompilesDescription, AnswersOrder}
+use Rattle.hz_front_model.specs.Replays.{Replays}
 use Rattle.hz_answer_model.specs.Headline.{IsDescribed, WritesTables, WalkIsReplay}
 use Rattle.hz_base_model.specs.Names.{Held}
 use Rattle.hz_words_model.specs.Words.{compile}
-use Rattle.hz_answer_model.specs.Phases.{Says, Next, Opens, Traces}
-use Rattle.hz_answer_model.specs.TableAnswers.{tables_limit, IsTablesOf, WritesTablesOf, HasTables, IsFirstUnwalked, WalksTrace, IsIssueIn}
-use Rattle.hz_answer_model.specs.Texts.{file_line, limit_line, accepted_line, refused_line}
+use Rattle.hz_front_model.specs.Phases.{Says, Next, Opens, Traces}
+use Rattle.hz_answer_model.specs.TableAnswers.{tables_limit, IsTablesOf, WritesTablesOf, HasTables, IsFirstUnwalked, WalksTrace, IsIssueIn, told_by}
+use Rattle.hz_front_model.specs.Texts.{file_line, limit_line, accepted_line, refused_line}
 use Rattle.hz_answer_model.proofs.AnswerLaws.{kept_or_past}
 use Rattle.hz_answer_model.proofs.DoneLaws.{IsOpened, opened, IsGiven, given_of, compiled_of}
 use Rattle.hz_answer_model.proofs.EventLaws.{issue_named}
@@ -50,8 +52,8 @@ use Rattle.hz_description_model.specs.Check.CheckedShape.{ask_names}
 use Rattle.hz_pipeline_model.specs.Tables.MachineNames.{names_of_machine}
 use Rattle.hz_pipeline_model.specs.Compiling.Compiled.{Report, IsCompiled}
 use Rattle.hz_pipeline_model.specs.Compiling.AutomatonPipelines.{automaton_at, no_automaton}
-use Rattle.hz_answer_model.specs.AskAnswers.{Tells, trace_names, held_in, told_by}
-use Rattle.hz_answer_model.proofs.AskAnswerLaws.{told_alike}
+use Rattle.hz_front_model.specs.Asks.{Tells, trace_names, held_in}
+use Rattle.hz_front_model.proofs.AskLaws.{told_alike}
 use Rattle.hz_answer_model.proofs.TableLaws.{prefix_walked}
 
 -- ---- one machine, walked and replayed

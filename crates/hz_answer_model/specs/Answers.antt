@@ -1,28 +1,21 @@
 -- What the program answers: this profile, docs/FORMATS.md, 'Answers'.
-use Rattle.std.specs.Prelude.{◌≡◌, ℕ, List, [], ◌∷◌, take, Option, Some, MatchOption, ◌⊎◌, slice_get, slice_index_or}
-use Rattle.hz_description_model.specs.Check.CheckFaults.{CheckFault, CheckFaultAt, IsSound}
+use Rattle.std.specs.Prelude.{ℕ, List, [], ◌∷◌, MatchOption, ◌⊎◌, slice_index_or}
 use Rattle.hz_description_model.specs.Check.Places.{Known}
-use Rattle.hz_description_model.specs.Reading.DescriptionForms.{DescriptionFault}
-use Rattle.hz_description_model.specs.Reading.DescriptionForms as description_forms
 use Rattle.hz_description_model.specs.Reading.Descriptions.{Description}
-use Rattle.hz_answer_model.specs.FaultTexts.{description_line, check_line, check_status}
 use Rattle.hz_description_model.specs.Reading.Limits.{description_limit}
 use Rattle.hz_pipeline_model.specs.Traces.TraceLimits.{trace_limit}
 use Rattle.hz_description_model.specs.Check.CheckedParts.{automaton_names}
 use Rattle.hz_pipeline_model.specs.Pipelines.Pipelines.{pipeline_with}
 use Rattle.hz_pipeline_model.specs.Compiling.DescriptionLimits.{AllKeepLimits, IsFirstPastLimit}
-use Rattle.hz_pipeline_model.specs.Accepting.Events.{Event, issue, issues_of, cycles_of}
-use Rattle.hz_pipeline_model.specs.Accepting.Replay.{Pipeline, Class, Accepted, FirstRefused}
-use Rattle.hz_description_model.specs.Check.Sites.{Site}
 use Rattle.hz_base_model.specs.Lines.{lines_of}
 use Rattle.hz_pipeline_model.specs.Traces.Traces.{event_lines}
-use Rattle.hz_answer_model.specs.Texts.{states_line, accepted_line, refused_line}
-use Rattle.hz_base_model.specs.Forms.Trees.{Trees}
+use Rattle.hz_front_model.specs.Texts.{states_line}
 use Rattle.hz_words_model.specs.Words.{Order, compile, replay, walk, schedule, eval, drill, timed, bound, duo, modulo, order_of, usage_line}
 use Rattle.hz_base_model.specs.Names.{Held}
-use Rattle.hz_pipeline_model.specs.Traces.TraceNames.{TraceNames}
-use Rattle.hz_answer_model.specs.AskAnswers.{Reserved, Tells, trace_names, held_in}
-use Rattle.hz_answer_model.specs.Phases.{Says, Next, FileWord, OpensAll, HasForms, Traces}
+use Rattle.hz_front_model.specs.Descriptions.{HasDescription}
+use Rattle.hz_front_model.specs.Replays.{Replays}
+use Rattle.hz_front_model.specs.Asks.{trace_names, held_in}
+use Rattle.hz_front_model.specs.Phases.{Says, Next, FileWord, OpensAll, Traces}
 use Rattle.hz_answer_model.specs.BlockAnswers.{block_limit, state_text_limit, JudgesBlock}
 use Rattle.hz_answer_model.specs.ScheduleAnswers.{SchedulesBlock}
 use Rattle.hz_answer_model.specs.TimedAnswers.{TimesBlock}
@@ -32,26 +25,6 @@ use Rattle.hz_answer_model.specs.ModuloAnswers.{OverlapsBlock}
 use Rattle.hz_answer_model.specs.DrillAnswers.{Drills}
 use Rattle.hz_answer_model.specs.TableAnswers.{tables_limit, WritesTablesOf, HasTables, WalksTrace}
 
--- the first fault of a form of a description is told
-abbrev pub TellsDescription : List ℕ → Trees → ℕ → List ℕ → Type 0
-TellsDescription name read status text = (fault : DescriptionFault) × (line : ℕ) × description_forms.FaultAt read fault line × Says 2 (description_line name fault line) status text
-
--- the description that forms say, or the first fault of a form
-abbrev pub Describes : List ℕ → Trees → Next Description → ℕ → List ℕ → Type 0
-Describes name read next status text = ((d : Description) × description_forms.Reads read d × next d status text) ⊎ TellsDescription name read status text
-
--- the fault or the limit of a description is told
-abbrev pub TellsCheck : List ℕ → Description → ℕ → List ℕ → Type 0
-TellsCheck name d status text = (fault : CheckFault) × (site : Site) × CheckFaultAt d fault site × Says (check_status fault) (check_line name fault site) status text
-
--- the description is checked: the alternatives of its names, or the fault that is told
-abbrev pub Checks : List ℕ → Description → Next Known → ℕ → List ℕ → Type 0
-Checks name d next status text = ((known : Known) × IsSound d known × next known status text) ⊎ TellsCheck name d status text
-
--- the front of every command on a description: its text is read, and it is checked
-abbrev pub HasDescription : List ℕ → List ℕ → ((d : Description) → Next Known) → ℕ → List ℕ → Type 0
-HasDescription name bytes next = HasForms name bytes (λ read. Describes name read (λ d. Checks name d (next d)))
-
 -- the first automaton that has too many states is told
 abbrev pub TellsLimit : List ℕ → Description → Known → ℕ → List ℕ → Type 0
 TellsLimit name d known status text = (a : ℕ) × IsFirstPastLimit d known a × Says 3 (states_line name (slice_index_or (automaton_names d) a [])) status text
@@ -59,17 +32,6 @@ TellsLimit name d known status text = (a : ℕ) × IsFirstPastLimit d known a ×
 -- The automata of a description are within their limits of states, or the first that is not is told.
 abbrev pub Compiles : List ℕ → Description → Known → (ℕ → List ℕ → Type 0) → ℕ → List ℕ → Type 0
 Compiles name d known next status text = (AllKeepLimits d known × next status text) ⊎ TellsLimit name d known status text
-
--- the class that an event issues
-abbrev pub IsIssueOf : {U : Type 0} → Pipeline U → Option Event → List ℕ → Type 0
-IsIssueOf {U} m e name = (k : ℕ) × (c : Class U) × (e ≡ Some (issue k)) × (slice_get m.classes k ≡ Some c) × (c.name ≡ name)
-
--- The replay of events that stand on these lines of a trace: the asks before the first event that does not fit, or all, are told, and
--- then that all are accepted, or which is refused.
-abbrev pub Replays : {U : Type 0} → Pipeline U → Reserved → TraceNames → List ℕ → List Event → ℕ → List ℕ → Type 0
-Replays m reserved names lines events status text =
-    (Accepted m events × Tells reserved names lines events (Says 0 (accepted_line (issues_of events) (cycles_of events))) status text)
-    ⊎ ((i line : ℕ) × (class : List ℕ) × FirstRefused m events i × (slice_get lines i ≡ Some line) × IsIssueOf m (slice_get events i) class × Tells reserved names lines (take i events) (Says 1 (refused_line line class)) status text)
 
 -- the trace of a description whose names have these alternatives is judged, and replayed
 abbrev pub ReplaysTrace : List ℕ → List ℕ → Description → Known → ℕ → List ℕ → Type 0

@@ -8,8 +8,8 @@ use Rattle.hz_pipeline_model.specs.Traces.TraceNames.{TraceNames}
 use Rattle.hz_pipeline_model.specs.Compiling.AutomatonPipelines.{query_unit}
 use Rattle.hz_description_model.specs.Check.Places.{Known}
 use Rattle.hz_description_model.specs.Reading.Descriptions.{Description}
-use Rattle.hz_answer_model.specs.AskAnswers.{Reserved, AskSays, query_name}
-use Rattle.hz_answer_model.specs.Texts.{ask_line}
+use Rattle.hz_front_model.specs.Asks.{Reserved, AskSays, query_name}
+use Rattle.hz_front_model.specs.Texts.{ask_line}
 
 -- what an event behind these says: an ask its line, any other nothing
 abbrev pub EventSays : Reserved → TraceNames → (before : List Event) → (line : ℕ) → Event → List ℕ → Type 0

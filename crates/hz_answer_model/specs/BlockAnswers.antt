@@ -8,8 +8,8 @@ use Rattle.hz_block_model.specs.Texts.Operands.{rtl_word}
 use Rattle.hz_block_model.specs.Texts.BlockForms as blocks
 use Rattle.hz_block_model.specs.Texts.StateForms as states
 use Rattle.hz_block_model.specs.Texts.StateTexts.{IsText}
-use Rattle.hz_answer_model.specs.Phases.{Says, Next, TellsFault, HasForms}
-use Rattle.hz_answer_model.specs.Texts.{insns_line}
+use Rattle.hz_front_model.specs.Phases.{Says, Next, TellsFault, HasForms}
+use Rattle.hz_front_model.specs.Texts.{insns_line}
 
 -- bytes of a block, at most
 abbrev pub block_limit : ℕ

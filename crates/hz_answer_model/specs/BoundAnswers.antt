@@ -8,7 +8,7 @@ use Rattle.hz_block_model.specs.Scheduled.BlockSchedules.{IsScheduleOf}
 use Rattle.hz_measure_model.specs.Bounds.Bounds.{Bound, IsBoundOf}
 use Rattle.hz_measure_model.specs.Bounds.Texts.{text_of_bound}
 use Rattle.hz_answer_model.specs.BlockAnswers.{HasBlock}
-use Rattle.hz_answer_model.specs.Phases.{Says}
+use Rattle.hz_front_model.specs.Phases.{Says}
 use Rattle.hz_answer_model.specs.ScheduleAnswers.{HasClasses, Starts}
 
 -- the bound of a block is told, with what shows it and the last cycle of the block's schedule

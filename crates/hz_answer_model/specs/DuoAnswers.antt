@@ -9,7 +9,7 @@ use Rattle.hz_block_model.specs.Scheduled.BlockSchedules.{IsScheduleOf}
 use Rattle.hz_measure_model.specs.TwoContexts.Texts.{text_of_two}
 use Rattle.hz_measure_model.specs.TwoContexts.TwoContexts.{IsScheduleOfTwo}
 use Rattle.hz_answer_model.specs.BlockAnswers.{HasBlock, HasAtMost}
-use Rattle.hz_answer_model.specs.Phases.{Says}
+use Rattle.hz_front_model.specs.Phases.{Says}
 use Rattle.hz_answer_model.specs.ScheduleAnswers.{HasClasses, Starts}
 
 -- the schedule of both blocks is told, with the last cycle of each block's own schedule

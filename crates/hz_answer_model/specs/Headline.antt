@@ -34,11 +34,11 @@ use Rattle.hz_measure_model.specs.TwoContexts.Joining.{joined}
 use Rattle.hz_measure_model.specs.TwoContexts.Texts.{text_of_two}
 use Rattle.hz_measure_model.specs.TwoContexts.TwoContexts.{IsScheduleOfTwo, KeepsBoth}
 use Rattle.hz_answer_model.specs.Answers.{AnswersOrder}
-use Rattle.hz_answer_model.specs.AskAnswers.{trace_names}
+use Rattle.hz_front_model.specs.Asks.{trace_names}
 use Rattle.hz_answer_model.specs.DrillAnswers.{IsDrillOf}
 use Rattle.hz_base_model.specs.Names.{Held}
 use Rattle.hz_words_model.specs.Words.{Order, compile, replay, walk, schedule, eval, drill, timed, bound, duo, modulo}
-use Rattle.hz_answer_model.specs.Texts.{accepted_line}
+use Rattle.hz_front_model.specs.Texts.{accepted_line}
 use Rattle.hz_answer_model.specs.ScheduleAnswers.{schedule_text}
 use Rattle.hz_answer_model.specs.TableAnswers.{tables_limit, IsTablesOf}
 

@@ -1,7 +1,5 @@
 pub mod Texts
 pub mod FaultTexts
-pub mod Phases
-pub mod AskAnswers
 pub mod AskPlaces
 pub mod BlockAnswers
 pub mod ScheduleAnswers

@@ -10,7 +10,7 @@ use Rattle.hz_block_model.specs.Scheduled.BlockGraphs.{class_in, IsFirstClassFau
 use Rattle.hz_block_model.specs.Scheduled.BlockSchedules.{StartsAlone, IsFirstStuck, IsScheduleOf}
 use Rattle.hz_answer_model.specs.BlockAnswers.{HasBlock}
 use Rattle.hz_answer_model.specs.FaultTexts.{class_line, stuck_line}
-use Rattle.hz_answer_model.specs.Phases.{Says}
+use Rattle.hz_front_model.specs.Phases.{Says}
 use Rattle.hz_answer_model.specs.Texts.{slot_line, scheduled_line}
 
 -- the line of a slot: its cycle, and the instruction's number and class

@@ -1,5 +1,5 @@
 -- What `compile` and `walk` answer: this profile, docs/FORMATS.md, 'Answers'.
-use Rattle.std.specs.Prelude.{◌≡◌, ℕ, ◌+◌, List, map, All, take, slice_get, Option, Some, None, IsSome, Err, ◌⊎◌}
+use Rattle.std.specs.Prelude.{◌≡◌, ℕ, ◌+◌, true, List, map, All, take, slice_get, Option, Some, None, IsSome, Err, ◌⊎◌}
 use Rattle.hz_pipeline_model.specs.Accepting.Events.{Event, issue, issues_of, cycles_of}
 use Rattle.hz_pipeline_model.specs.Compiling.Compiled.{Report, IsCompiled}
 use Rattle.hz_base_model.specs.Lines.{lines_of}
@@ -7,16 +7,16 @@ use Rattle.hz_description_model.specs.Check.CheckedParts.{automata_of, class_par
 use Rattle.hz_description_model.specs.Check.Places.{Known}
 use Rattle.hz_description_model.specs.Reading.Descriptions.{Description}
 use Rattle.hz_pipeline_model.specs.Single.Told.{ListsAscending}
-use Rattle.hz_pipeline_model.specs.Tables.Machines.{Machine, machine_walk}
+use Rattle.hz_pipeline_model.specs.Tables.Machines.{Machine, machine_walk, states_tell}
 use Rattle.hz_tabtext_model.specs.Judging.{Kind, tables_word}
 use Rattle.hz_tabtext_model.specs.Reading.{tables_in}
 use Rattle.hz_tabtext_model.specs.Said.{tables_said}
 use Rattle.hz_tabtext_model.specs.Texts.{TableText, spelled}
 use Rattle.hz_pipeline_model.specs.Traces.Traces.{event_lines}
 use Rattle.hz_pipeline_model.specs.Tables.MachineNames.{names_of_machine}
-use Rattle.hz_answer_model.specs.AskAnswers.{Tells, told_by}
-use Rattle.hz_answer_model.specs.Phases.{Says, Next, TellsFault, Traces}
-use Rattle.hz_answer_model.specs.Texts.{accepted_line, refused_line}
+use Rattle.hz_front_model.specs.Asks.{Reserved, Tells}
+use Rattle.hz_front_model.specs.Phases.{Says, Next, TellsFault, Traces}
+use Rattle.hz_front_model.specs.Texts.{accepted_line, refused_line}
 
 -- bytes of a tables text, at most
 abbrev pub tables_limit : ℕ
@@ -45,6 +45,10 @@ abbrev pub HasTables : List ℕ → List ℕ → Next Machine → ℕ → List �
 HasTables name bytes next status text =
     ((m : Machine) × TableText bytes m × next m status text)
     ⊎ TellsFault tables_word (TablesFaultAt bytes) name status text
+
+-- whether a query unit is reserved by what the states of a machine tell
+abbrev pub told_by : Machine → Reserved
+told_by m before automaton query = (states : List ℕ) × (machine_walk m before ≡ Some states) × (states_tell m states automaton query ≡ true)
 
 -- the machine walks all events before the one of this place, and not that one
 abbrev pub IsFirstUnwalked : Machine → List Event → ℕ → Type 0

@@ -3,7 +3,8 @@
 ghost use Rattle.std.specs.Prelude.{◌≡◌, ◌↔◌, ℕ, List, [], Contains, Some, IsTrue, slice_get, slice_index_or};
 ghost use Rattle.hz_pipeline_model.specs.Accepting.Events.{Event, ask};
 ghost use Rattle.hz_pipeline_model.specs.Traces.TraceNames.{TraceNames, query_place};
-ghost use Rattle.hz_answer_model.specs.AskAnswers.{AsksSay, held_in, told_by, trace_names};
+ghost use Rattle.hz_front_model.specs.Asks.{AsksSay, held_in, trace_names};
+ghost use Rattle.hz_answer_model.specs.TableAnswers.{told_by};
 ghost use Rattle.hz_answer_model.specs.AskPlaces.{IsToldByPlaces, AskedSays};
 ghost use Rattle.hz_pipeline_model.specs.Compiling.AutomatonPipelines.{query_unit};
 ghost use Rattle.hz_pipeline_model.specs.Tables.Machines.{Machine};

@@ -11,10 +11,10 @@ use Rattle.hz_base_model.specs.Limits.{automaton_limit, class_limit, unit_limit}
 use Rattle.hz_description_model.specs.Reservations.Sets.{Statement}
 use Rattle.hz_description_model.specs.Check.CheckedParts.{AutomatonParts, ClassParts}
 use Rattle.hz_description_model.proofs.Check.QueryPlaces.{names_of_their_own}
-use Rattle.hz_check.specs.declared.checked.Checked.{Checked}
-use Rattle.hz_check.specs.declared.checked.CheckedAutomaton.{CheckedAutomaton}
-use Rattle.hz_check.specs.declared.checked.CheckedClass.{CheckedClass}
-use Rattle.hz_check.specs.Shape.{automaton_of, class_of}
+use Rattle.hz_checked.specs.declared.checked.Checked.{Checked}
+use Rattle.hz_checked.specs.declared.checked.CheckedAutomaton.{CheckedAutomaton}
+use Rattle.hz_checked.specs.declared.checked.CheckedClass.{CheckedClass}
+use Rattle.hz_checked.specs.Shape.{automaton_of, class_of}
 use Rattle.hz_unitsets.specs.SetRules.{statement_of, statements_of, IsInRange}
 use Rattle.hz_tables.specs.declared.part.Part.{Part}
 use Rattle.hz_tables.specs.Parts.{part_of}

@@ -14,11 +14,11 @@ use Rattle.hz_pipeline_model.specs.Accepting.Replay.{first_fit, any_fit}
 use Rattle.hz_description_model.specs.Reading.Descriptions as model
 use Rattle.hz_description_model.specs.Check.CheckedParts.{AutomatonParts, ClassParts}
 use Rattle.hz_description_model.specs.Check.CheckedShape.{ask_names}
-use Rattle.hz_check.specs.declared.checked.Checked.{Checked}
-use Rattle.hz_check.specs.declared.checked.CheckedAutomaton.{CheckedAutomaton}
-use Rattle.hz_check.specs.Shape.{automaton_of, class_of}
+use Rattle.hz_checked.specs.declared.checked.Checked.{Checked}
+use Rattle.hz_checked.specs.declared.checked.CheckedAutomaton.{CheckedAutomaton}
+use Rattle.hz_checked.specs.Shape.{automaton_of, class_of}
 use Rattle.hz_mdread.specs.Shape.{options as options_of}
-use Rattle.hz_check.specs.declared.checked.CheckedClass.{CheckedClass}
+use Rattle.hz_checked.specs.declared.checked.CheckedClass.{CheckedClass}
 use Rattle.hz_unitsets.specs.declared.set_rules.SetRule.{SetRule}
 use Rattle.hz_unitsets.specs.SetRules.{statements_of}
 use Rattle.hz_pipeline_model.specs.Tables.Tables.{IsTable}

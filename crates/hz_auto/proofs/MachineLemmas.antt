@@ -6,9 +6,9 @@ use Rattle.std.proofs.Math.Seq.{get_or-append_seam}
 use Rattle.hz_description_model.specs.Reading.Descriptions.{Options}
 use Rattle.hz_description_model.specs.Check.CheckedParts.{AutomatonParts, ClassParts}
 use Rattle.hz_description_model.specs.Check.CheckedShape.{ask_names}
-use Rattle.hz_check.specs.declared.checked.Checked.{Checked}
+use Rattle.hz_checked.specs.declared.checked.Checked.{Checked}
 use Rattle.hz_auto.proofs.CheckedFacts.{map_twice}
-use Rattle.hz_check.specs.Shape.{automaton_of, class_of}
+use Rattle.hz_checked.specs.Shape.{automaton_of, class_of}
 use Rattle.hz_mdread.specs.Shape.{options as options_of}
 use Rattle.std.specs.Prelude.{if◌then◌else◌}
 use Rattle.std.specs.List.{sum_by, flat_map}

@@ -1,13 +1,13 @@
 //! The query units of an automaton: their names, and the table with a column for each.
 
 ghost use Rattle.std.specs.Prelude.{◌≡◌, ◌<◌, length, All, IfOk, IfErr};
-ghost use Rattle.hz_check.specs.Shape.{automaton_of};
+ghost use Rattle.hz_checked.specs.Shape.{automaton_of};
 ghost use Rattle.hz_description_model.specs.Check.CheckedShape.{ask_names};
 ghost use Rattle.hz_determ.specs.Asking.{IsAsked};
 ghost use Rattle.hz_tables.specs.Rows.{KeepsRows};
 ghost use Rattle.hz_auto.specs.Asks.{IsAskable, HasRoom, IsAskFault};
 
-use hz_check::CheckedAutomaton;
+use hz_checked::CheckedAutomaton;
 use hz_determ::{Caps, Explored, StateFault, with_asks};
 use hz_regexp::{Name, NoMemory};
 use hz_tables::Plain;

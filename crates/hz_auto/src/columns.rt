@@ -4,11 +4,11 @@ ghost use Rattle.std.specs.Prelude.{◌≡◌, ◌<◌, ◌≤◌, ℕ, length, 
 ghost use Rattle.hz_base_model.specs.Limits.{class_limit};
 ghost use Rattle.hz_pipeline_model.specs.Compiling.AutomatonPipelines.{lists_at};
 ghost use Rattle.hz_pipeline_model.specs.Compiling.ClassColumns.{IsColumns};
-ghost use Rattle.hz_check.specs.Shape.{class_of};
+ghost use Rattle.hz_checked.specs.Shape.{class_of};
 ghost use Rattle.hz_determ.specs.Spaces.{lists_of};
 ghost use Rattle.hz_states.specs.Interned.{IsAdded};
 
-use hz_check::CheckedClass;
+use hz_checked::CheckedClass;
 use hz_grid::Grid;
 use hz_states::NoMemory;
 use indexmap::IndexSet;

@@ -2,7 +2,7 @@
 
 ghost use Rattle.std.specs.Prelude.{◌≡◌, ◌<◌, ◌≤◌, ◌^◌, ◌++◌, ◌∷◌, [], length, map, All, IfOk, IfErr, OnOk};
 ghost use Rattle.hz_pipeline_model.specs.Compiling.Compiled.{IsCompiled};
-ghost use Rattle.hz_check.specs.Shape.{automaton_of, class_of};
+ghost use Rattle.hz_checked.specs.Shape.{automaton_of, class_of};
 ghost use Rattle.hz_mdread.specs.Shape.{options as options_of};
 ghost use Rattle.hz_pipeline_model.specs.Tables.Machines.{IsPart};
 ghost use Rattle.hz_tables.specs.Machines.{machine_of};
@@ -13,7 +13,7 @@ ghost use Rattle.hz_auto.specs.Machines.{IsFaultOf, IsFaultAt, AreCompiled, AskQ
 use crate::fault::{AutoFault, kind_of};
 use crate::part::{Automaton, compile_part};
 use crate::report::AutoReport;
-use hz_check::{Checked, CheckedClass};
+use hz_checked::{Checked, CheckedClass};
 use hz_determ::StateFault;
 use hz_mdread::Options;
 use hz_regexp::{Name, NoMemory};

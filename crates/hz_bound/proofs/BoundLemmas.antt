@@ -16,7 +16,7 @@ use Rattle.hz_depend.specs.declared.parts.Edge.{Edge}
 use Rattle.hz_depend.specs.declared.parts.Graph.{Graph}
 use Rattle.hz_depend.specs.declared.parts.GraphInsn.{GraphInsn}
 use Rattle.hz_depend.specs.GraphShape.{edge_of, IsSchedulable}
-use Rattle.hz_check.specs.declared.checked.Checked.{Checked}
+use Rattle.hz_checked.specs.declared.checked.Checked.{Checked}
 use Rattle.hz_sched.specs.Shape.{node_of, graph_of}
 use Rattle.hz_measure_model.specs.Bounds.Paths.{greatest, GoesOn, IsChain}
 use Rattle.hz_measure_model.specs.Bounds.Loads.{Load as ModelLoad, ways_by, load_of as load_by}

@@ -10,8 +10,8 @@ use Rattle.hz_base_model.proofs.Elements.{Contains-from_map}
 use Rattle.hz_measure_model.specs.Bounds.Loads.{Load, least, ways_in, ways_by, load_of}
 use Rattle.hz_measure_model.specs.Bounds.Bounds.{UnitLoad}
 use Rattle.hz_block_model.specs.Running.Limits.{instruction_limit}
-use Rattle.hz_check.specs.declared.checked.CheckedClass.{CheckedClass}
-use Rattle.hz_check.specs.Shape.{class_of}
+use Rattle.hz_checked.specs.declared.checked.CheckedClass.{CheckedClass}
+use Rattle.hz_checked.specs.Shape.{class_of}
 use Rattle.hz_depend.specs.declared.parts.GraphInsn.{GraphInsn}
 use Rattle.hz_description_model.specs.Check.CheckedParts.{ClassParts}
 use Rattle.hz_bound.specs.declared.loads.Total.{Total}

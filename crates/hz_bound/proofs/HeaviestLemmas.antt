@@ -9,9 +9,9 @@ use Rattle.std.proofs.lemmas.List.Elements.{filter_map-append}
 use Rattle.hz_base_model.specs.Limits.{unit_limit}
 use Rattle.hz_description_model.specs.Reservations.Automata.{UnitPlace}
 use Rattle.hz_description_model.specs.Check.CheckedParts.{AutomatonParts}
-use Rattle.hz_check.specs.declared.checked.Checked.{Checked}
-use Rattle.hz_check.specs.declared.checked.CheckedAutomaton.{CheckedAutomaton}
-use Rattle.hz_check.specs.Shape.{automaton_of}
+use Rattle.hz_checked.specs.declared.checked.Checked.{Checked}
+use Rattle.hz_checked.specs.declared.checked.CheckedAutomaton.{CheckedAutomaton}
+use Rattle.hz_checked.specs.Shape.{automaton_of}
 use Rattle.hz_measure_model.specs.Bounds.Paths.{greatest}
 use Rattle.hz_measure_model.specs.Bounds.Loads.{load_of}
 use Rattle.hz_measure_model.specs.Bounds.Bounds.{units_of, units_from, UnitLoad, loads_of, heavier, heaviest}

@@ -2,9 +2,9 @@
 use Rattle.std.specs.Prelude.{ℕ, ◌<◌, List, [], map, length, All, Option, Some, None, slice_index_or}
 use Rattle.std.specs.Option.{option_map}
 use Rattle.hz_base_model.specs.Pairs.{Pair}
-use Rattle.hz_check.specs.declared.checked.Checked.{Checked}
-use Rattle.hz_check.specs.declared.checked.CheckedClass.{CheckedClass}
-use Rattle.hz_check.specs.Shape.{automaton_of, class_of}
+use Rattle.hz_checked.specs.declared.checked.Checked.{Checked}
+use Rattle.hz_checked.specs.declared.checked.CheckedClass.{CheckedClass}
+use Rattle.hz_checked.specs.Shape.{automaton_of, class_of}
 use Rattle.hz_depend.specs.declared.parts.Graph.{Graph}
 use Rattle.hz_measure_model.specs.Bounds.Bounds.{UnitLoad}
 use Rattle.hz_measure_model.specs.Bounds.Bounds as model

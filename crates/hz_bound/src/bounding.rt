@@ -14,7 +14,7 @@ use crate::chain::{chain_of, greatest_of};
 use crate::heaviest::{heaviest_of, value_of};
 use crate::parts::Bound;
 use crate::tails::tails_of;
-use hz_check::Checked;
+use hz_checked::Checked;
 use hz_depend::Graph;
 use hz_regexp::NoMemory;
 use hz_sched::outgoing;

@@ -12,7 +12,7 @@ ghost use Rattle.hz_bound.specs.Sums.{AreTimes, load_by, shown};
 use crate::loads::{Total, load_from, times_of, totals_of};
 use crate::parts::Load;
 use crate::tallies::masks_of;
-use hz_check::Checked;
+use hz_checked::Checked;
 use hz_depend::GraphInsn;
 use hz_grid::Row;
 use hz_regexp::NoMemory;

@@ -1,7 +1,7 @@
 //! The loads of the units of an automaton, in one walk through the pairs of each class that instructions have.
 
 ghost use Rattle.std.specs.Prelude.{◌≡◌, ◌<◌, ◌≤◌, ◌*◌, ◌+◌, ℕ, min, [], length, map, All, IfOk, OnOk, slice_index_or};
-ghost use Rattle.hz_check.specs.Shape.{class_of};
+ghost use Rattle.hz_checked.specs.Shape.{class_of};
 ghost use Rattle.hz_bound.specs.Shape.{lists_in};
 ghost use Rattle.hz_bound.specs.Tallies.{AreMasks, tally_at, forced};
 ghost use Rattle.hz_bound.specs.Sums.{AreTimes, AreJoined, AreTotals, no_total, total_at, load_by};
@@ -9,7 +9,7 @@ ghost use Rattle.hz_bound.specs.Sums as model;
 
 use crate::cycles::{Range, join_ranges};
 use crate::tallies::{Tally, force_of, range_of, tallies_of};
-use hz_check::CheckedClass;
+use hz_checked::CheckedClass;
 use hz_depend::GraphInsn;
 use hz_grid::{Grid, Row};
 use hz_regexp::NoMemory;

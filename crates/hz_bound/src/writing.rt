@@ -10,7 +10,7 @@ ghost use Rattle.hz_measure_model.specs.Bounds.Texts as model;
 ghost use Rattle.hz_bound.specs.Shape.{names_of, load_of, bound_of, IsAmong, IsInRange};
 
 use crate::parts::{Bound, Load};
-use hz_check::Checked;
+use hz_checked::Checked;
 use hz_depend::Graph;
 use hz_io::{Failed, Sink, put_all};
 use hz_regexp::Name;

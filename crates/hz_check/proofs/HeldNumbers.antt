@@ -5,7 +5,7 @@ use Rattle.hz_description_model.specs.Check.CheckFaults.{differs}
 use Rattle.hz_description_model.specs.Reading.Descriptions.{Description, BypassItem}
 use Rattle.hz_base_model.specs.Lines.{place_of}
 use Rattle.hz_description_model.specs.Check.Places.{class_names}
-use Rattle.hz_check.specs.Faults.Bypasses.{number_at, is_other}
+use Rattle.hz_checked.specs.NumberRows.{number_at, is_other}
 
 -- the table has the numbers that these bypasses give, of which none gives a pair another number than an earlier one
 pub record HoldsNumbers (d : Description) (rows : List (List (Option ℕ))) (before : List BypassItem) : Type 0 where

@@ -1,7 +1,7 @@
 -- What is held of a description without a fault.
 use Rattle.std.specs.Prelude.{◌≡◌, map}
-use Rattle.hz_check.specs.declared.checked.Checked.{Checked}
-use Rattle.hz_check.specs.Shape.{automaton_of, class_of, bypass_of, attribute_of}
+use Rattle.hz_checked.specs.declared.checked.Checked.{Checked}
+use Rattle.hz_checked.specs.Shape.{automaton_of, class_of, bypass_of, attribute_of}
 use Rattle.hz_mdread.specs.Shape.{options as options_of}
 use Rattle.hz_description_model.specs.Check.CheckedParts.{automata_of, class_parts, bypass_parts, attributes_of, defaults_of}
 use Rattle.hz_description_model.specs.Check.CheckFaults.{IsSound}

@@ -1,7 +1,6 @@
 -- What the code tells, as what the definitions speak of.
 pub mod Twice
 pub mod PastUnits
-pub mod Bypasses
 pub mod Steps
 use Rattle.std.specs.Prelude.{◌≡◌, ℕ, List, ⊤, Option, Some, None, MatchOption, Result, Ok, Err, IsErr}
 use Rattle.hz_check.specs.declared.fault.LimitName.{LimitName}

@@ -5,7 +5,7 @@ use Rattle.std.specs.Prelude.{◌≡◌, map, All}
 use Rattle.hz_altern.specs.Shapes.{alternatives}
 use Rattle.hz_check.specs.declared.parts.Parts.{Parts}
 use Rattle.hz_check.specs.Parts.Assembly.{placed_statement, IsPlaced}
-use Rattle.hz_check.specs.Shape.{automaton_of, bypass_of}
+use Rattle.hz_checked.specs.Shape.{automaton_of, bypass_of}
 use Rattle.hz_check_reservations.specs.Shape.{lists_of, place_of}
 use Rattle.hz_description_model.specs.Reservations.AlternativeLists.{AreSound}
 use Rattle.hz_description_model.specs.Reservations.Alternatives.{alternatives_of}

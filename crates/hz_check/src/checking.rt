@@ -8,11 +8,11 @@ ghost use Rattle.hz_check.specs.Faults.{Tells, IsToldAt};
 ghost use Rattle.hz_check.specs.Parts.{IsPartsOf};
 ghost use Rattle.hz_description_model.specs.Reading.DescriptionShape.{IsCheckable, SharesAutomaton};
 
-use crate::checked::Checked;
 use crate::fault::CheckFault;
 use crate::parts::assembly::attributes;
 use crate::parts::classes::checked_classes;
 use crate::parts::{Parts, parts_of};
+use hz_checked::Checked;
 use hz_mdread::Description;
 use hz_regexp::NoMemory;
 use std::alloc::Global;

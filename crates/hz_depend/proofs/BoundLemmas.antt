@@ -5,7 +5,7 @@ use Rattle.std.specs.List.{AllPairs}
 use Rattle.std.proofs.lemmas.List.{length-map}
 use Rattle.std.proofs.lemmas.List.Elements.{All-map, All-drop}
 use Rattle.hz_base_model.proofs.Ascending.{AllPairs-map}
-use Rattle.hz_check.proofs.Lists.InOrder.{AllPairs-drop}
+use Rattle.hz_checked.proofs.RowSteps.{AllPairs-drop}
 use Rattle.hz_depend.specs.declared.nodes.Node.{Node}
 use Rattle.hz_depend.specs.declared.parts.Edge.{Edge}
 use Rattle.hz_depend.specs.GraphShape.{edge_of}

@@ -5,7 +5,7 @@ use Rattle.std.specs.Option.{option_map}
 use Rattle.std.specs.Str.{bytes_eq}
 use Rattle.std.specs.declared.alloc.Global.{Global}
 use Rattle.std.specs.declared.vec.Vec.{Vec}
-use Rattle.hz_check.specs.Shape.{attribute_of}
+use Rattle.hz_checked.specs.Shape.{attribute_of}
 use Rattle.hz_block_model.specs.Dependences.Classes as model
 
 pub find_attribute : (defined : List (List ℕ × Vec (List ℕ) Global)) (name : List ℕ) → find (λ attribute. bytes_eq attribute.0 name) (map attribute_of defined) ≡ option_map attribute_of (find (λ attribute. bytes_eq attribute.0 name) defined)

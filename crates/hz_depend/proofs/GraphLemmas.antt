@@ -9,9 +9,9 @@ use Rattle.std.proofs.lemmas.Option.{slice_get-map, get_or_from_slice_get}
 use Rattle.hz_base_model.proofs.Elements.{Contains-head, Contains-tail}
 use Rattle.hz_rtl.specs.declared.block.Insn.{Insn}
 use Rattle.hz_rtl.specs.Shape.{instruction}
-use Rattle.hz_check.specs.declared.checked.Checked.{Checked}
-use Rattle.hz_check.specs.declared.checked.CheckedClass.{CheckedClass}
-use Rattle.hz_check.specs.Shape.{bypass_of, class_of}
+use Rattle.hz_checked.specs.declared.checked.Checked.{Checked}
+use Rattle.hz_checked.specs.declared.checked.CheckedClass.{CheckedClass}
+use Rattle.hz_checked.specs.Shape.{bypass_of, class_of}
 use Rattle.hz_description_model.specs.Check.CheckedParts.{BypassParts}
 use Rattle.hz_block_model.specs.Dependences.Accesses.{access_of}
 use Rattle.hz_block_model.specs.Dependences.Classes.{bypass_between, number_where}

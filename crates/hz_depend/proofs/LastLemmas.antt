@@ -8,7 +8,7 @@ use Rattle.std.proofs.lemmas.Option.{slice_get-map}
 use Rattle.hz_rtl.specs.declared.block.Insn.{Insn}
 use Rattle.hz_rtl.specs.Shape.{instruction}
 use Rattle.hz_block_model.specs.Running.Blocks.{Instruction}
-use Rattle.hz_check.specs.declared.checked.Checked.{Checked}
+use Rattle.hz_checked.specs.declared.checked.Checked.{Checked}
 use Rattle.hz_block_model.specs.Dependences.Dependences.{is_written}
 use Rattle.hz_block_model.proofs.Dependences.WrittenLaws as laws
 use Rattle.hz_depend.specs.Held.{Held, node_for, writes, last_of}

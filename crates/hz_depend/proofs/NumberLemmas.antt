@@ -5,12 +5,12 @@ use Rattle.std.specs.Option.{option_map}
 use Rattle.std.proofs.Math.Path.{fun_ext}
 use Rattle.std.proofs.lemmas.List.{length-map, get_or-map}
 use Rattle.std.proofs.lemmas.Option.{slice_get-map, get_or_from_slice_get}
-use Rattle.hz_check.specs.declared.checked.CheckedBypass.{CheckedBypass}
-use Rattle.hz_check.specs.declared.checked.Checked.{Checked}
-use Rattle.hz_check.specs.declared.checked.CheckedClass.{CheckedClass}
-use Rattle.hz_check.specs.Shape.{bypass_of, class_of}
+use Rattle.hz_checked.specs.declared.checked.CheckedBypass.{CheckedBypass}
+use Rattle.hz_checked.specs.declared.checked.Checked.{Checked}
+use Rattle.hz_checked.specs.declared.checked.CheckedClass.{CheckedClass}
+use Rattle.hz_checked.specs.Shape.{bypass_of, class_of}
 use Rattle.hz_depend.specs.GraphShape.{latencies_of}
-use Rattle.hz_check.specs.Faults.Bypasses.{rows_of, number_at}
+use Rattle.hz_checked.specs.NumberRows.{rows_of, number_at}
 use Rattle.hz_description_model.specs.Check.CheckedParts.{BypassParts}
 use Rattle.hz_block_model.specs.Dependences.Classes.{bypass_between, number_between}
 use Rattle.hz_block_model.specs.Running.Blocks.{Instruction}
@@ -57,15 +57,22 @@ latency_is checked class c lt is = get_or-map (λ (k : CheckedClass). k.latency)
 pub bounded_at : (bypasses : List CheckedBypass) (k n : ℕ) (b : CheckedBypass) → All (λ b. All (λ c. c < n) b.outs.items × All (λ c. c < n) b.ins.items) bypasses → k < length bypasses → b ≡ get_or bypasses k b → All (λ c. c < n) b.outs.items × All (λ c. c < n) b.ins.items
 bounded_at bypasses k n b all lt is = subst (λ (x : CheckedBypass). All (λ c. c < n) x.outs.items × All (λ c. c < n) x.ins.items) (sym is) (all k b lt)
 
--- the number of two instructions by the numbers that are held
-pub ripe_is : (checked : Checked) (numbers : Numbers) (out into : ℕ) (c : CheckedClass) (first second : Instruction) (g p : Option ℕ) (n : ℕ) → HoldsNumbers (map bypass_of checked.bypasses.items) numbers
-    → out < length checked.classes.items → c ≡ get_or checked.classes.items out c → g ≡ number_at (rows_of numbers.guarded.items) out into → p ≡ number_at (rows_of numbers.plain.items) out into
+-- the number of two instructions by those that the bypasses give their classes
+pub ripe_by : (checked : Checked) (out into : ℕ) (c : CheckedClass) (first second : Instruction) (g p : Option ℕ) (n : ℕ) → out < length checked.classes.items → c ≡ get_or checked.classes.items out c
+    → g ≡ bypass_between (filter (λ b. b.guard) (map bypass_of checked.bypasses.items)) out into → p ≡ bypass_between (filter (λ b. not b.guard) (map bypass_of checked.bypasses.items)) out into
     → n ≡ served g p c.latency first second → n ≡ number_between (map bypass_of checked.bypasses.items) (slice_index (latencies_of checked) out) out into first second
-ripe_is checked numbers out into c first second g p n holds lt is with_guard without e =
+ripe_by checked out into c first second g p n lt is with_guard without e =
     let bypasses : List BypassParts = map bypass_of checked.bypasses.items in
     let guarded : Option ℕ = bypass_between (filter (λ b. b.guard) bypasses) out into in
     let plain : Option ℕ = bypass_between (filter (λ b. not b.guard) bypasses) out into in
     e
-    ∙ (ap (λ (o : Option ℕ). served o p c.latency first second) (with_guard ∙ holds.guarded out into)
-    ∙ (ap (λ (o : Option ℕ). served guarded o c.latency first second) (without ∙ holds.plain out into)
+    ∙ (ap (λ (o : Option ℕ). served o p c.latency first second) with_guard
+    ∙ (ap (λ (o : Option ℕ). served guarded o c.latency first second) without
     ∙ ap (λ (l : ℕ). served guarded plain l first second) (sym (latency_is checked out c lt is))))
+
+-- the same by the numbers that are held
+pub ripe_is : (checked : Checked) (numbers : Numbers) (out into : ℕ) (c : CheckedClass) (first second : Instruction) (g p : Option ℕ) (n : ℕ) → HoldsNumbers (map bypass_of checked.bypasses.items) numbers
+    → out < length checked.classes.items → c ≡ get_or checked.classes.items out c → g ≡ number_at (rows_of numbers.guarded.items) out into → p ≡ number_at (rows_of numbers.plain.items) out into
+    → n ≡ served g p c.latency first second → n ≡ number_between (map bypass_of checked.bypasses.items) (slice_index (latencies_of checked) out) out into first second
+ripe_is checked numbers out into c first second g p n holds lt is with_guard without e =
+    ripe_by checked out into c first second g p n lt is (with_guard ∙ holds.guarded out into) (without ∙ holds.plain out into) e

@@ -7,7 +7,7 @@ use Rattle.std.proofs.lemmas.Option.{slice_get-map}
 use Rattle.hz_rtl.specs.declared.block.Insn.{Insn}
 use Rattle.hz_rtl.specs.Shape.{instruction}
 use Rattle.hz_block_model.specs.Running.Blocks.{Value}
-use Rattle.hz_check.specs.declared.checked.Checked.{Checked}
+use Rattle.hz_checked.specs.declared.checked.Checked.{Checked}
 use Rattle.hz_block_model.specs.Dependences.Accesses.{Access, access_of, is_among, based_of}
 use Rattle.hz_block_model.specs.Dependences.Dependences as model
 use Rattle.hz_block_model.specs.Dependences.Dependences.{apart_by, may_meet, is_written, at_places, depends, Timing}

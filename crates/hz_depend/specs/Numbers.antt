@@ -4,7 +4,7 @@ use Rattle.hz_description_model.specs.Check.CheckedParts.{BypassParts}
 use Rattle.hz_block_model.specs.Running.Blocks.{Instruction}
 use Rattle.hz_block_model.specs.Dependences.Classes.{bypass_between}
 use Rattle.hz_block_model.specs.Dependences.Stores.{stores_data}
-use Rattle.hz_check.specs.Faults.Bypasses.{rows_of, number_at}
+use Rattle.hz_checked.specs.NumberRows.{rows_of, number_at}
 use Rattle.hz_depend.specs.declared.finding.numbers.Numbers.{Numbers}
 use Rattle.hz_depend.specs.Held.{Held}
 

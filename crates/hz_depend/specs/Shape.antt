@@ -1,10 +1,10 @@
 -- What the code holds, as what the definitions speak of.
 use Rattle.std.specs.Prelude.{ℕ, List, map, Result}
 use Rattle.hz_description_model.specs.Reading.Descriptions.{Condition}
-use Rattle.hz_check.specs.declared.checked.Checked.{Checked}
-use Rattle.hz_check.specs.declared.checked.CheckedClass.{CheckedClass}
-use Rattle.hz_check.specs.Shape as parts
-use Rattle.hz_check.specs.Shape.{attribute_of}
+use Rattle.hz_checked.specs.declared.checked.Checked.{Checked}
+use Rattle.hz_checked.specs.declared.checked.CheckedClass.{CheckedClass}
+use Rattle.hz_checked.specs.Shape as parts
+use Rattle.hz_checked.specs.Shape.{attribute_of}
 use Rattle.hz_rtl.specs.declared.block.Insn.{Insn}
 use Rattle.hz_block_model.specs.Dependences.Classes.{ClassFault, class_of}
 

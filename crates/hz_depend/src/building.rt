@@ -11,7 +11,7 @@ use crate::fault::DependFault;
 use crate::finding::numbers::Numbers;
 use crate::nodes::{Node, first_class_fault, nodes_of};
 use crate::parts::{Graph, GraphInsn};
-use hz_check::Checked;
+use hz_checked::Checked;
 use hz_regexp::NoMemory;
 use hz_rtl::{Block, Insn};
 use std::alloc::Global;

@@ -5,13 +5,13 @@ ghost use Rattle.std.specs.List.{find, list_any};
 ghost use Rattle.std.specs.Option.{option_map, option_copied};
 ghost use Rattle.std.specs.Str.{bytes_eq};
 ghost use Rattle.hz_base_model.specs.Limits.{class_limit};
-ghost use Rattle.hz_check.specs.Shape.{attribute_of};
+ghost use Rattle.hz_checked.specs.Shape.{attribute_of};
 ghost use Rattle.hz_block_model.specs.Dependences.Classes as model;
 ghost use Rattle.hz_depend.specs.Faults.{fault};
 ghost use Rattle.hz_depend.specs.Shape.{class_for, conditions_of};
 ghost use Rattle.hz_description_model.specs.Reading.Conditions.{value_of};
 
-use hz_check::{Checked, CheckedClass};
+use hz_checked::{Checked, CheckedClass};
 use hz_regexp::Name;
 use hz_rtl::Insn;
 use thiserror::Error;

@@ -3,6 +3,7 @@
 pub(crate) mod access;
 pub(crate) mod by_cell;
 pub(crate) mod by_register;
+pub(crate) mod listed;
 pub(crate) mod marks;
 pub(crate) mod numbers;
 pub(crate) mod pairs;

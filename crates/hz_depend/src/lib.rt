@@ -11,5 +11,6 @@ mod parts;
 pub use building::graph;
 pub use class::{ClassFault, class_of};
 pub use fault::DependFault;
+pub use finding::listed::ripe;
 pub use finding::numbers::Numbers;
 pub use parts::{Edge, Graph, GraphInsn};

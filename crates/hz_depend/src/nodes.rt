@@ -11,7 +11,7 @@ ghost use Rattle.hz_block_model.specs.Running.Limits.{instruction_limit};
 
 use crate::class::{ClassFault, class_of};
 use crate::finding::access::{Access, access_of};
-use hz_check::Checked;
+use hz_checked::Checked;
 use hz_regexp::NoMemory;
 use hz_rtl::Insn;
 use std::alloc::Global;

@@ -18,9 +18,9 @@ use Rattle.hz_pipeline_model.specs.Compiling.AutomatonPipelines.{query_unit, no_
 use Rattle.hz_pipeline_model.specs.Pipelines.Pipelines.{pipeline_with, class_of}
 use Rattle.hz_pipeline_model.proofs.Accepting.AcceptanceLaws.{refused_issue}
 use Rattle.hz_pipeline_model.proofs.Compiling.DescriptionLaws.{automata_count, queries_there}
-use Rattle.hz_answer_model.specs.Answers.{Replays}
-use Rattle.hz_answer_model.specs.AskAnswers.{held_in, trace_names, query_name, AskSays, AsksSay}
-use Rattle.hz_answer_model.specs.Texts.{accepted_line, ask_line, refused_line}
+use Rattle.hz_front_model.specs.Replays.{Replays}
+use Rattle.hz_front_model.specs.Asks.{held_in, trace_names, query_name, AskSays, AsksSay}
+use Rattle.hz_front_model.specs.Texts.{accepted_line, ask_line, refused_line}
 use Rattle.hz_replay.specs.Lines.{event_of}
 use Rattle.hz_replay.specs.Traces.{events_in, lines_in}
 use Rattle.hz_replay.specs.declared.event.Event.{Event as TraceEvent}

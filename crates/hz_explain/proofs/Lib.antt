@@ -8,5 +8,3 @@ pub mod TextLaws
 pub mod AnswerLaws
 pub mod WholeLaws
 pub mod NamingLaws
-pub mod RunLaws
-pub mod JudgeLaws

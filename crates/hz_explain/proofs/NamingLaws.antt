@@ -8,9 +8,9 @@ use Rattle.std.proofs.lemmas.List.Elements.{All-nil, All-cons}
 use Rattle.hz_base_model.specs.Limits.{automaton_limit, class_limit, unit_limit}
 use Rattle.hz_base_model.proofs.Ascending.{AllPairs-tail}
 use Rattle.hz_check.specs.declared.parts.Parts.{Parts}
-use Rattle.hz_check.specs.declared.checked.CheckedAutomaton.{CheckedAutomaton}
+use Rattle.hz_checked.specs.declared.checked.CheckedAutomaton.{CheckedAutomaton}
 use Rattle.hz_check.specs.Parts.{IsPartsOf}
-use Rattle.hz_check.specs.Shape.{automaton_of}
+use Rattle.hz_checked.specs.Shape.{automaton_of}
 use Rattle.hz_description_model.specs.Check.CheckedParts.{AutomatonParts, ClassParts, automata_from, automata_of, automaton_names, attributes_of, bypass_parts, class_parts, places_where, unit_items_in}
 use Rattle.hz_description_model.specs.Check.CheckedShape.{ask_names, IsKept}
 use Rattle.hz_description_model.specs.Check.Places.{class_names}

@@ -11,7 +11,7 @@ use Rattle.hz_altern.specs.Shapes.{alternatives}
 use Rattle.hz_altern.specs.declared.alternative.Alt.{Alt}
 use Rattle.hz_check.specs.declared.parts.Parts.{Parts}
 use Rattle.hz_check.specs.Parts.{IsPartsOf}
-use Rattle.hz_check.specs.Shape.{automaton_of}
+use Rattle.hz_checked.specs.Shape.{automaton_of}
 use Rattle.hz_description_model.specs.Check.CheckedParts.{AutomatonParts, automata_of}
 use Rattle.hz_description_model.specs.Check.CheckedShape.{ask_names}
 use Rattle.hz_description_model.specs.Check.Places.{class_names}
@@ -25,7 +25,7 @@ use Rattle.hz_pipeline_model.specs.Accepting.Replay.{Pipeline, alternatives_at, 
 use Rattle.hz_replay.specs.Lines.{event_of}
 use Rattle.hz_replay.specs.Traces.{events_in, lines_in}
 use Rattle.hz_replay.specs.declared.event.Event.{Event as TraceEvent}
-use Rattle.hz_answer_model.specs.AskAnswers.{trace_names}
+use Rattle.hz_front_model.specs.Asks.{trace_names}
 use Rattle.hz_why_model.specs.Answers.{Explains}
 use Rattle.hz_why_model.specs.Explanations.{Wording, choice_line, wait_line, alternative_lines, reasons, TellsRefusal}
 use Rattle.hz_why_model.specs.Holders.{Entry, entries_of, entries, entries_from}

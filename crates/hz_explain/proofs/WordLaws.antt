@@ -9,10 +9,10 @@ use Rattle.std.proofs.lemmas.List.{length-map}
 use Rattle.std.proofs.lemmas.List.Quantifiers.{position-Some}
 use Rattle.std.proofs.lemmas.Option.{slice_get-map}
 use Rattle.hz_base_model.specs.Lines.{place_of}
-use Rattle.hz_check.specs.declared.checked.CheckedAutomaton.{CheckedAutomaton}
+use Rattle.hz_checked.specs.declared.checked.CheckedAutomaton.{CheckedAutomaton}
 use Rattle.hz_check.specs.declared.parts.Parts.{Parts}
 use Rattle.hz_check.specs.Parts.{IsPartsOf}
-use Rattle.hz_check.specs.Shape.{automaton_of}
+use Rattle.hz_checked.specs.Shape.{automaton_of}
 use Rattle.hz_description_model.specs.Check.CheckedParts.{AutomatonParts, automaton_count, automaton_names, automata_from, automata_of, units_in}
 use Rattle.hz_description_model.specs.Check.Places.{automaton_number}
 use Rattle.hz_description_model.specs.Reading.Descriptions as model

@@ -9,7 +9,7 @@ use Rattle.hz_description_model.specs.Check.Places.{class_names}
 use Rattle.hz_description_model.specs.Reading.Descriptions.{Description}
 use Rattle.hz_pipeline_model.specs.Accepting.Asking.{IsOfQuery}
 use Rattle.hz_pipeline_model.specs.Accepting.Events.{Event, issue, advance, ask, issues_of, cycles_of, IsOfClass}
-use Rattle.hz_answer_model.specs.Texts.{accepted_line, ask_line, refused_line}
+use Rattle.hz_front_model.specs.Texts.{accepted_line, ask_line, refused_line}
 use Rattle.hz_replay.specs.Lines.{event_of}
 use Rattle.hz_replay.specs.Traces.{events_in}
 use Rattle.hz_replay.specs.declared.event.Event.{Event as TraceEvent}

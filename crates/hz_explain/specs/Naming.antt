@@ -2,9 +2,9 @@
 use Rattle.std.specs.Prelude.{◌≢◌, ℕ, ◌<◌, ◌≤◌, List, All, length, map}
 use Rattle.std.specs.List.{AllPairs}
 use Rattle.hz_base_model.specs.Limits.{unit_limit}
-use Rattle.hz_check.specs.declared.checked.CheckedAutomaton.{CheckedAutomaton}
+use Rattle.hz_checked.specs.declared.checked.CheckedAutomaton.{CheckedAutomaton}
 use Rattle.hz_check.specs.declared.parts.Parts.{Parts}
-use Rattle.hz_check.specs.Shape.{automaton_of}
+use Rattle.hz_checked.specs.Shape.{automaton_of}
 use Rattle.hz_description_model.specs.Check.CheckedShape.{ask_names}
 
 -- the query units of an automaton are units of it by their numbers

@@ -4,7 +4,7 @@ use Rattle.std.specs.List.{concat, find, flat_map}
 use Rattle.std.specs.Option.{option_map}
 use Rattle.std.specs.declared.alloc.Global.{Global}
 use Rattle.std.specs.declared.vec.Vec.{Vec}
-use Rattle.hz_check.specs.declared.checked.CheckedAutomaton.{CheckedAutomaton}
+use Rattle.hz_checked.specs.declared.checked.CheckedAutomaton.{CheckedAutomaton}
 use Rattle.hz_check.specs.declared.parts.Parts.{Parts}
 use Rattle.hz_check_reservations.specs.Shape.{place_of}
 use Rattle.hz_description_model.specs.Reservations.Automata.{UnitPlace, place_cmp}

@@ -2,9 +2,9 @@
 
 ghost use Rattle.std.specs.Prelude.{◌≡◌, ◌++◌, ◌<◌, ◌≤◌, ◌^◌, [], OnOk, IfOk, codes, decimal, length, slice_index_or, if◌then◌else◌};
 ghost use Rattle.std.specs.List.{flat_map};
-ghost use Rattle.hz_answer_model.specs.AskAnswers.{held_in, trace_names};
-ghost use Rattle.hz_answer_model.specs.Answers.{Replays};
-ghost use Rattle.hz_answer_model.specs.Texts.{accepted_line, refused_line};
+ghost use Rattle.hz_front_model.specs.Asks.{held_in, trace_names};
+ghost use Rattle.hz_front_model.specs.Replays.{Replays};
+ghost use Rattle.hz_front_model.specs.Texts.{accepted_line, refused_line};
 ghost use Rattle.hz_description_model.specs.Check.Places.{Known};
 ghost use Rattle.hz_description_model.specs.Reading.Descriptions.{Description};
 ghost use Rattle.hz_pipeline_model.specs.Accepting.Events.{issues_of, cycles_of};

@@ -2,8 +2,8 @@
 
 ghost use Rattle.std.specs.Prelude.{◌≡◌, ◌≤◌, ◌<◌, ◌^◌, ◌∷◌, [], IfOk, IfErr, IsTrue, length};
 ghost use Rattle.std.specs.List.{AllPairs};
-ghost use Rattle.hz_answer_model.specs.AskAnswers.{trace_names};
-ghost use Rattle.hz_answer_model.specs.Answers.{Checks, Describes, HasDescription};
+ghost use Rattle.hz_front_model.specs.Asks.{trace_names};
+ghost use Rattle.hz_front_model.specs.Descriptions.{Checks, Describes, HasDescription};
 ghost use Rattle.hz_base_model.specs.Lines.{lines_of};
 ghost use Rattle.hz_check.specs.Parts.{IsPartsOf};
 ghost use Rattle.hz_description_model.specs.Reading.DescriptionForms as description_forms;
@@ -12,18 +12,18 @@ ghost use Rattle.hz_mdread.specs.Shape.{description};
 ghost use Rattle.hz_pipeline_model.specs.Traces.Traces.{Trace, event_lines};
 ghost use Rattle.hz_replay.specs.Traces.{events_in, lines_in};
 ghost use Rattle.hz_sexp.specs.Shape.{trees};
-ghost use Rattle.hz_tool.specs.Decisions.{IsJudged};
+ghost use Rattle.hz_front.specs.Refusals.{IsJudged};
 ghost use Rattle.hz_why_model.specs.Answers.{ExplainsTrace, JudgesTexts, ReplaysAndExplains};
 ghost use Rattle.hz_explain.specs.Deciding.{Answers};
 
 use crate::naming::trace_names;
 use crate::whole::{Explained, explain};
 use hz_check::Parts;
+use hz_front::judging::{judge_description, judge_events, judge_forms, judge_parts};
+use hz_front::refusal::Refusal;
 use hz_mdread::Description;
 use hz_replay::Event;
 use hz_sexp::Form;
-use hz_tool::decision::Decision;
-use hz_tool::phases::judging::{judge_description, judge_events, judge_forms, judge_parts};
 use std::alloc::Global;
 
 /// What is told of the events of a trace.
@@ -33,7 +33,7 @@ fn explain_events<'a>(
     parts: &Parts,
     trace: &[u8],
     events: &[Event],
-) -> Result<Explained, Decision<'a>>
+) -> Result<Explained, Refusal<'a>>
     requires formed { IsCheckable (description desc.now) }
     requires parts { IsPartsOf (description desc.now) parts.now }
     requires read { Trace (trace_names (description desc.now)) trace.now (events_in events.now) }
@@ -45,7 +45,7 @@ fn explain_events<'a>(
     let _bytes = trace.len();
     match explain(alloc, desc, parts, events) {
         Ok(explained) => Ok(explained),
-        Err(_) => Err(Decision::Memory),
+        Err(_) => Err(Refusal::Memory),
     }
 }
 
@@ -56,7 +56,7 @@ fn explain_text<'a>(
     parts: &Parts,
     trace: &'a str,
     traced: &[u8],
-) -> Result<Explained, Decision<'a>>
+) -> Result<Explained, Refusal<'a>>
     requires short { length traced.now < 2 ^ 32 }
     requires formed { IsCheckable (description desc.now) }
     requires parts { IsPartsOf (description desc.now) parts.now }
@@ -65,11 +65,11 @@ fn explain_text<'a>(
     ensures answer { (is : IsPartsOf (description desc.now) parts.now) → Answers (ExplainsTrace trace.entry.now traced.now (description desc.now) is.known) result }
 {
     let Ok(names) = trace_names(alloc, desc, parts) else {
-        return Err(Decision::Memory);
+        return Err(Refusal::Memory);
     };
     match judge_events(alloc, trace, &names, traced) {
         Ok(events) => explain_events(alloc, desc, parts, traced, &events),
-        Err(decision) => Err(decision),
+        Err(refusal) => Err(refusal),
     }
 }
 
@@ -80,7 +80,7 @@ fn explain_checked<'a>(
     desc: &Description,
     trace: &'a str,
     traced: &[u8],
-) -> Result<Explained, Decision<'a>>
+) -> Result<Explained, Refusal<'a>>
     requires short { length traced.now < 2 ^ 32 }
     requires formed { IsCheckable (description desc.now) }
     requires shared { AllPairs SharesAutomaton (description desc.now).units }
@@ -90,7 +90,7 @@ fn explain_checked<'a>(
 {
     match judge_parts(alloc, file, desc) {
         Ok(parts) => explain_text(alloc, desc, &parts, trace, traced),
-        Err(decision) => Err(decision),
+        Err(refusal) => Err(refusal),
     }
 }
 
@@ -101,7 +101,7 @@ fn explain_said<'a>(
     read: &[Form],
     trace: &'a str,
     traced: &[u8],
-) -> Result<Explained, Decision<'a>>
+) -> Result<Explained, Refusal<'a>>
     requires short { length traced.now < 2 ^ 32 }
     requires count { description_forms.form_count (trees read.now) < 2 ^ 32 }
     requires strings { IsTrue (description_forms.strings_below (2 ^ 32) (trees read.now)) }
@@ -111,7 +111,7 @@ fn explain_said<'a>(
 {
     match judge_description(alloc, file, read) {
         Ok(desc) => explain_checked(alloc, file, &desc, trace, traced),
-        Err(decision) => Err(decision),
+        Err(refusal) => Err(refusal),
     }
 }
 
@@ -122,7 +122,7 @@ pub(crate) fn explain_texts<'a>(
     described: &[u8],
     trace: &'a str,
     traced: &[u8],
-) -> Result<Explained, Decision<'a>>
+) -> Result<Explained, Refusal<'a>>
     requires described { length described.now < 2 ^ 32 }
     requires traced { length traced.now < 2 ^ 32 }
     ensures low { IfOk result (λ whole. whole.status ≤ 1) }
@@ -131,6 +131,6 @@ pub(crate) fn explain_texts<'a>(
 {
     match judge_forms(alloc, file, described) {
         Ok(read) => explain_said(alloc, file, &read, trace, traced),
-        Err(decision) => Err(decision),
+        Err(refusal) => Err(refusal),
     }
 }

@@ -3,7 +3,6 @@
 #![tactic(auto)]
 
 mod answering;
-mod decision;
 mod drawing;
 mod explaining;
 mod judging;

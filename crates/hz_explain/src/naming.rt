@@ -1,9 +1,9 @@
 //! The names that the lines of a trace say, and the numbers of query units, by the parts of a description.
 
 ghost use Rattle.std.specs.Prelude.{◌≡◌, ◌<◌, All, IfOk, length, map};
-ghost use Rattle.hz_answer_model.specs.AskAnswers.{trace_names};
+ghost use Rattle.hz_front_model.specs.Asks.{trace_names};
 ghost use Rattle.hz_check.specs.Parts.{IsPartsOf};
-ghost use Rattle.hz_check.specs.Shape.{automaton_of};
+ghost use Rattle.hz_checked.specs.Shape.{automaton_of};
 ghost use Rattle.hz_description_model.specs.Check.CheckedShape.{ask_names};
 ghost use Rattle.hz_description_model.specs.Check.Places.{class_names};
 ghost use Rattle.hz_description_model.specs.Reading.DescriptionShape.{IsCheckable};
@@ -12,7 +12,8 @@ ghost use Rattle.hz_reasons.specs.Walking.{numbers_of};
 ghost use Rattle.hz_explain.specs.Answering.{names_at};
 ghost use Rattle.hz_explain.specs.Naming.{AsksUnits};
 
-use hz_check::{CheckedAutomaton, Parts};
+use hz_check::Parts;
+use hz_checked::CheckedAutomaton;
 use hz_grid::NoMemory;
 use hz_mdread::Description;
 use hz_regexp::Name;

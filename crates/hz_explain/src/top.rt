@@ -1,24 +1,26 @@
 //! The top call: the words, the files, the texts, and then the answer.
 
-ghost use Rattle.std.specs.Prelude.{◌≡◌, ◌⊎◌, ◌↔◌, ℕ, List, ◌-◌, ◌^◌, ◌<◌, ◌≤◌, ◌∷◌, [], IfOk, IfErr, None, Some, All, length};
+ghost use Rattle.std.specs.Prelude.{◌≡◌, ◌⊎◌, ◌↔◌, ℕ, List, ◌-◌, ◌^◌, ◌<◌, ◌≤◌, IfOk, IfErr, None, Some, All, length};
 ghost use Rattle.std.specs.Option.{ForSome};
-ghost use Rattle.hz_answer_model.specs.Texts.{memory_line};
-ghost use Rattle.hz_tool.specs.Decided as decided;
-ghost use Rattle.hz_tool.specs.Decisions as decisions;
-ghost use Rattle.hz_tool.specs.Endings.{AppendsFile, Completes, HasAll, HasRoom, IsAppended, IsCutShort};
-ghost use Rattle.hz_tool.specs.Reading.{texts_in, wanted_in};
+ghost use Rattle.hz_front_model.specs.Texts.{memory_line};
+ghost use Rattle.hz_front.specs.Endings.{AppendsFile, Completes, DecidesWords, HasAll, HasRoom, IsAppended, IsCutShort, IsOrdered};
+ghost use Rattle.hz_front.specs.Reading.{texts_in};
+ghost use Rattle.hz_front.specs.Refusals.{CountsDecided, IsJudged, NamesIn};
 ghost use Rattle.hz_tool_words.specs.Shape.{words_in};
 ghost use Rattle.hz_why_model.specs.Answers.{AnswersFiles, JudgesTexts, WhyAnswer, why_files, why_usage};
-ghost use Rattle.hz_explain.specs.Deciding.{Agrees, Answers, CountsDecision, DecidesWords, IsFileWord, IsOneOf, IsTellable, NamesFile};
+ghost use Rattle.hz_explain.specs.Deciding.{Answers, IsFileWord, IsOneOf, decided_in};
 
-use crate::decision::WhyDecision;
 use crate::judging::explain_texts;
 use crate::whole::Explained;
 use crate::words::files_named;
+use hz_front::ending::finish;
+use hz_front::reading::{description_file, read_all, trace_file};
+use hz_front::refusal::Refusal;
 use hz_io::{Files, Sink};
-use hz_tool::decision::Decision;
-use hz_tool::phases::read::{description_file, read_all, trace_file};
 use std::alloc::Global;
+
+/// The line that answers words that are not two names of files.
+const USAGE: &str = "usage: hz_why DESC TRACE\n";
 
 /// What is told of a trace by the bytes of the two files.
 fn explain_read<'a>(
@@ -26,11 +28,11 @@ fn explain_read<'a>(
     file: &'a str,
     trace: &'a str,
     texts: &[Vec<u8>],
-) -> Result<Explained, Decision<'a>>
+) -> Result<Explained, Refusal<'a>>
     requires count { length texts.now ≡ 2 }
     requires short { All (λ text. length text.items < 2 ^ 32) texts.now }
     ensures low { IfOk result (λ whole. whole.status ≤ 1) }
-    ensures kind { IfErr result decisions.IsJudged }
+    ensures kind { IfErr result IsJudged }
     ensures answer { Answers (JudgesTexts file.entry.now trace.entry.now (texts_in texts.now)) result }
 {
     explain_texts(alloc, file, texts[0].as_slice(), trace, texts[1].as_slice())
@@ -42,39 +44,39 @@ fn explain_files<'a, F: Files>(
     file: &'a str,
     trace: &'a str,
     files: &mut F,
-) -> Result<Explained, Decision<'a>>
+) -> Result<Explained, Refusal<'a>>
     requires { F.faults files.old < 2 ^ 64 - 1 }
-    ensures counts { decisions.CountsRead (F.faults files.old) (F.faults files.new) result }
-    ensures order { IfErr result decisions.IsOfOrder }
-    ensures tells { IfErr result decided.IsTellable }
+    ensures counts { CountsDecided (F.faults files.old) (F.faults files.new) (decided_in result) }
+    ensures order { IsOrdered (decided_in result) }
     ensures low { IfOk result (λ whole. whole.status ≤ 1) }
-    ensures file { IfErr result (decisions.NamesFile (IsOneOf (file.entry.now, trace.entry.now))) }
-    ensures lacks { ForSome (F.held files.old) (λ held. F.steady files.old → IfErr result (decisions.NamesFile (λ name. held name ≡ None))) }
+    ensures file { NamesIn (IsOneOf (file.entry.now, trace.entry.now)) (decided_in result) }
+    ensures lacks { ForSome (F.held files.old) (λ held. F.steady files.old → NamesIn (λ name. held name ≡ None) (decided_in result)) }
     ensures answer { ForSome (F.held files.old) (λ held. (F.faults files.new ≡ F.faults files.old) ⊎ F.steady files.old → Answers (AnswersFiles held (file.entry.now, trace.entry.now)) result) }
 {
     let wanted = [description_file(file), trace_file(trace)];
     match read_all(alloc, files, &wanted) {
         Ok(texts) => explain_read(alloc, file, trace, texts.as_slice()),
-        Err(decision) => Err(decision),
+        Err(refusal) => Err(refusal),
     }
 }
 
 /// What is decided of the words.
-fn decide<'a, F: Files>(alloc: Global, words: &'a [String], files: &mut F) -> WhyDecision<'a>
+fn decide<'a, F: Files>(
+    alloc: Global,
+    words: &'a [String],
+    files: &mut F,
+) -> Result<Explained, Refusal<'a>>
     requires { F.faults files.old < 2 ^ 64 - 1 }
-    ensures counts { CountsDecision (F.faults files.old) (F.faults files.new) result }
-    ensures words { DecidesWords (why_files (words_in words.entry.now)) result }
-    ensures tells { IsTellable result }
-    ensures file { NamesFile (IsFileWord (words_in words.entry.now)) result }
-    ensures lacks { ForSome (F.held files.old) (λ held. F.steady files.old → NamesFile (λ name. held name ≡ None) result) }
-    ensures answer { ForSome (F.held files.old) (λ held. (F.faults files.new ≡ F.faults files.old) ⊎ F.steady files.old → Agrees (WhyAnswer (words_in words.entry.now) held) result) }
+    ensures counts { CountsDecided (F.faults files.old) (F.faults files.new) (decided_in result) }
+    ensures words { DecidesWords ⊥ why_usage (why_files (words_in words.entry.now)) (decided_in result) }
+    ensures low { IfOk result (λ whole. whole.status ≤ 1) }
+    ensures file { NamesIn (IsFileWord (words_in words.entry.now)) (decided_in result) }
+    ensures lacks { ForSome (F.held files.old) (λ held. F.steady files.old → NamesIn (λ name. held name ≡ None) (decided_in result)) }
+    ensures answer { ForSome (F.held files.old) (λ held. (F.faults files.new ≡ F.faults files.old) ⊎ F.steady files.old → Answers (WhyAnswer (words_in words.entry.now) held) result) }
 {
-    let Some((file, trace)) = files_named(words) else {
-        return WhyDecision::Usage;
-    };
-    match explain_files(alloc, file, trace, files) {
-        Ok(explained) => WhyDecision::Explained(explained),
-        Err(decision) => WhyDecision::Told(decision),
+    match files_named(words) {
+        Some((file, trace)) => explain_files(alloc, file, trace, files),
+        None => Err(Refusal::Usage { line: USAGE }),
     }
 }
 
@@ -109,12 +111,8 @@ pub fn run<F: Files, S: Sink>(alloc: Global, words: &[String], files: &mut F, ou
     // file nor the sink fails.
     ensures neither { ForSome (F.held files.old) (λ held. F.steady files.old → HasAll (IsFileWord (words_in words.now)) held → ForSome (S.room out.old) (λ room. HasRoom (WhyAnswer (words_in words.now) held) room → result ≤ 5)) }
 {
-    let decision = decide(alloc, words, files);
-    let status = decision.status();
-    let written = decision.write(alloc, out);
-    drop(decision);
-    match written {
-        Ok(()) => status,
-        Err(_) => 7,
-    }
+    let decided = decide(alloc, words, files);
+    let status = finish(&decided, out);
+    drop(decided);
+    status
 }

@@ -1,8 +1,8 @@
 //! The whole answer on a trace: what `replay` answers, and behind it why.
 
 ghost use Rattle.std.specs.Prelude.{◌≡◌, ◌<◌, ◌≤◌, [], All, IfOk, IfSome, Some, length, slice_get, vec_len};
-ghost use Rattle.hz_answer_model.specs.Answers.{Replays};
-ghost use Rattle.hz_answer_model.specs.AskAnswers.{held_in, trace_names};
+ghost use Rattle.hz_front_model.specs.Replays.{Replays};
+ghost use Rattle.hz_front_model.specs.Asks.{held_in, trace_names};
 ghost use Rattle.hz_check.specs.Parts.{IsPartsOf};
 ghost use Rattle.hz_description_model.specs.Reading.DescriptionShape.{IsCheckable};
 ghost use Rattle.hz_description_model.specs.Reservations.Automata.{UnitPlace};
@@ -29,7 +29,9 @@ use crate::drawing::add;
 use crate::explaining::{tell_left, tell_refusal};
 use crate::naming::{class_names, query_names, query_numbers};
 use hz_check::Parts;
+use hz_front::ending::Ending;
 use hz_grid::NoMemory;
+use hz_io::{Failed, Sink};
 use hz_mdread::Description;
 use hz_reasons::{Frontier, Holders, Plan, Walked, hold, walk};
 use hz_replay::{Event, What};
@@ -42,6 +44,24 @@ pub struct Explained {
     pub status: u8,
     /// What `replay` answers; and behind it what the events leave, or why one is refused.
     pub text: Vec<u8>,
+}
+
+impl Ending for Explained {
+    ghost use Rattle.std.specs.Prelude.{◌≤◌};
+
+    ghost status_of = { λ explained. explained.status };
+
+    ghost text_of = { λ explained. explained.text.items };
+
+    ghost can_tell = { λ explained. explained.status ≤ 1 };
+
+    fn status(&self) -> u8 {
+        self.status
+    }
+
+    fn write<S: Sink>(&self, out: &mut S) -> Result<(), Failed> {
+        out.put(&self.text)
+    }
 }
 
 /// The events are issued into all choices of a plan of the parts.

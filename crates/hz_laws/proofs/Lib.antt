@@ -3,3 +3,5 @@ pub mod Leaving
 pub mod Totality
 pub mod Sizes
 pub mod Moving
+pub mod Grouping
+pub mod Written

@@ -4,7 +4,11 @@
 
 pub mod align_examples;
 pub mod align_laws;
+pub mod bypass_laws;
+pub mod form_laws;
 pub mod leaving_laws;
 pub mod name_laws;
 pub mod size_laws;
+pub mod split_examples;
+pub mod split_laws;
 pub mod totality_laws;

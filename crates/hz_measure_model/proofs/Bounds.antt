@@ -8,3 +8,4 @@ pub mod BoundLaws
 pub mod TotalLaws
 pub mod BlockBounds
 pub mod ListLaws
+pub mod HeaviestLaws

@@ -22,3 +22,6 @@ pub mod SameGraphs
 pub mod SortLaws
 pub mod TextLaws
 pub mod FoundLaws
+pub mod CountLaws
+pub mod HeightLaws
+pub mod LeastLoads

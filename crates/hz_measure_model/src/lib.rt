@@ -5,5 +5,6 @@ pub mod bound_laws;
 pub mod duo_laws;
 pub mod exposed_examples;
 pub mod kernel_examples;
+pub mod load_laws;
 pub mod modulo_laws;
 pub mod timed_laws;

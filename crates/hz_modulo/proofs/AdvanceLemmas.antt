@@ -1,14 +1,10 @@
 -- Advances of a machine's parts.
-use Rattle.std.proofs.Common.{◌+◌, ◌++◌, ◌==◌, true, append-nil, ◌≡◌, ℕ, zero, suc, ◌<◌, List, [], ◌∷◌, length, get_or, Option, Some, None, replicate, refl, sym, ap, ◌∙◌, subst, arith}
-use Rattle.std.specs.Prelude.{All, option_and_then}
-use Rattle.std.specs.List.{list_all}
-use Rattle.std.proofs.lemmas.Bool.{and_parts, eqb-true}
-use Rattle.std.proofs.lemmas.List.{length-replicate, replicate-append-replicate}
-use Rattle.std.proofs.lemmas.List.Elements.{All-get_or, All-head, All-tail}
-use Rattle.hz_pipeline_model.specs.Accepting.Events.{Event, advance}
-use Rattle.hz_pipeline_model.specs.Tables.Machines.{advance_of, Part, Machine, no_part, part_at, part_walk, parts_walk, onto_states, word_of, starts_of, IsPart, IsMachine}
-use Rattle.hz_pipeline_model.proofs.Tables.TableLaws.{walk_stays}
-use Rattle.hz_pipeline_model.proofs.Tables.MachineLaws.{advance_alone, parts_walk-append}
+use Rattle.std.proofs.Common.{◌+◌, ◌++◌, append-nil, ◌≡◌, ℕ, zero, suc, List, [], ◌∷◌, length, Some, replicate, refl, sym, ap, ◌∙◌, subst, arith}
+use Rattle.std.specs.Prelude.{option_and_then}
+use Rattle.std.proofs.lemmas.List.{replicate-append-replicate}
+use Rattle.hz_pipeline_model.specs.Accepting.Events.{advance}
+use Rattle.hz_pipeline_model.specs.Tables.Machines.{advance_of, Part, Machine, parts_walk, onto_states, word_of, starts_of, IsMachine}
+use Rattle.hz_pipeline_model.proofs.Tables.MachineLaws.{parts_walk-append}
 use Rattle.hz_block_model.specs.Scheduling.Machines.{Settles}
 use Rattle.hz_measure_model.proofs.Kernels.CycleLaws.{walks_alike}
 use Rattle.hz_measure_model.proofs.Kernels.SearchLaws.{start_stays}

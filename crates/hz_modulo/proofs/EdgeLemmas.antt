@@ -10,8 +10,8 @@ use Rattle.hz_block_model.specs.Dependences.Classes.{ClassFault, class_of}
 use Rattle.hz_block_model.specs.Dependences.Graphs as model
 use Rattle.hz_measure_model.proofs.Kernels.UnrollLaws.{length-repeat}
 use Rattle.hz_measure_model.proofs.Kernels.RepeatLaws.{map-repeat}
-use Rattle.hz_check.specs.declared.checked.Checked.{Checked}
-use Rattle.hz_check.specs.Shape.{attribute_of}
+use Rattle.hz_checked.specs.declared.checked.Checked.{Checked}
+use Rattle.hz_checked.specs.Shape.{attribute_of}
 use Rattle.hz_rtl.specs.declared.block.Block.{Block}
 use Rattle.hz_rtl.specs.declared.block.Insn.{Insn}
 use Rattle.hz_rtl.specs.Shape.{instruction, instructions}

@@ -26,8 +26,8 @@ use Rattle.hz_measure_model.proofs.Kernels.LegalLaws.{in_body, by_place, in_time
 use Rattle.hz_measure_model.proofs.Kernels.SameGraphs.{repeats_there}
 use Rattle.hz_tables.specs.declared.machine.Machine.{Machine}
 use Rattle.hz_tables.specs.Machines.{machine_of}
-use Rattle.hz_check.specs.declared.checked.Checked.{Checked}
-use Rattle.hz_check.specs.Shape.{bypass_of}
+use Rattle.hz_checked.specs.declared.checked.Checked.{Checked}
+use Rattle.hz_checked.specs.Shape.{bypass_of}
 use Rattle.hz_rtl.specs.declared.block.Block.{Block}
 use Rattle.hz_rtl.specs.declared.block.Insn.{Insn}
 use Rattle.hz_rtl.specs.Shape.{instruction, instructions}
@@ -40,7 +40,9 @@ use Rattle.hz_sched.specs.Shape.{node_of, graph_of, slot_of, slots_of}
 use Rattle.hz_modulo.specs.Walking as turns
 use Rattle.hz_modulo.proofs.RepeatLemmas.{repeats_as_defined, repeats_by_kernel}
 use Rattle.hz_modulo.specs.Costs.{timing_of_copies, AreTurnEdges, least_for, least_of, first_interval}
-use Rattle.hz_modulo.specs.Kernels.{RepeatsIn, IsFirstFrom, IsKernelOf}
+use Rattle.hz_measure_model.proofs.Kernels.HeightLaws.{heights_below}
+use Rattle.hz_modulo.specs.Heights.{LeavesRoom}
+use Rattle.hz_modulo.specs.Kernels.{RepeatsIn, IsRoomyFrom, IsKernelOf}
 use Rattle.hz_modulo.specs.declared.parts.Kernel.{Kernel}
 
 all_of : {X : Type 0} (P : X → Type 0) (xs : List X) → ((x : X) → Contains xs x → P x) → All P xs
@@ -53,6 +55,10 @@ same_least size cycle (e ∷ edges) = λ i. cond (nat_lt (e.from / size) (e.to /
 same_classes_of : (insns : List GraphInsn) → map {A = model.Node} (λ n. n.class) (map node_of insns) ≡ map (λ n. n.class) (map turns.node_of (map (λ i. i.class) insns))
 same_classes_of [] = refl
 same_classes_of (i ∷ insns) = ap (λ (cs : List ℕ). i.class ∷ cs) (same_classes_of insns)
+
+same_numbers : (insns : List GraphInsn) → map {A = model.Node} (λ n. n.class) (map node_of insns) ≡ map (λ i. i.class) insns
+same_numbers [] = refl
+same_numbers (i ∷ insns) = ap (λ (cs : List ℕ). i.class ∷ cs) (same_numbers insns)
 
 pub ok_weaker : {T E : Type 0} (P Q : T → Type 0) (r : Result T E) → ((x : T) → P x → Q x) → IfOk r P → IfOk r Q
 ok_weaker P Q (Ok x) h p = h x p
@@ -155,6 +161,21 @@ module _ (machine : Machine) (checked : Checked) (block : Block) (graph : Graph)
           repeats_there (machine_of machine) (instructions block) (timing_of_copies checked block graph 3) (turns.graph_of classes) (graph_of graph) (slots_of slots) (sym same_nodes) interval a b
           (repeats_as_defined (machine_of machine) machine.kept (turns.graph_of classes) (slots_of slots) within cycles_rise interval some (instructions block) many_nodes (timing_of_copies checked block graph 3) a b few keeps r)
 
+      all_classes : classes_of (graph_of graph) ≡ classes
+      all_classes = same_numbers graph.insns.items ∙ sym are
+
+      -- an interval that repeats leaves room for what turns ask
+      leaves : (interval : ℕ) → 1 ≤ interval → (a b : ℕ) → Repeats (machine_of machine) (instructions block) (timing_of_copies checked block graph 3) (graph_of graph) (slots_of slots) interval a b → LeavesRoom (machine_of machine) classes interval
+      leaves interval some a b r =
+          subst (λ (cs : List ℕ). LeavesRoom (machine_of machine) cs interval) all_classes (record {
+            room = λ part there weight share height are.
+                heights_below (machine_of machine) machine.kept (instructions block) t (graph_of graph) is.edges many (slots_of slots) legal (timing_of_copies checked block graph 3) interval a b some r part there weight share height are;
+          })
+
+      -- so does the long one
+      pub room_in : (last : ℕ) → last ≡ present 0 (slots_of slots) → LeavesRoom (machine_of machine) classes (last + 1000)
+      room_in last e = subst (λ (n : ℕ). LeavesRoom (machine_of machine) classes (n + 1000)) (sym e) (leaves (present 0 (slots_of slots) + 1000) (omega arith) 0 1 long)
+
       pub long_in : (last : ℕ) → last ≡ present 0 (slots_of slots) → RepeatsIn (machine_of machine) (turns.graph_of classes) (slots_of slots) (last + 1000) 0 1
       long_in last e = subst (λ (n : ℕ). RepeatsIn (machine_of machine) (turns.graph_of classes) (slots_of slots) (n + 1000) 0 1) (sym e) (by_kernel (present 0 (slots_of slots) + 1000) (omega arith) 0 1 long)
 
@@ -181,8 +202,8 @@ module _ (machine : Machine) (checked : Checked) (block : Block) (graph : Graph)
             let le = (fit (present 0 (slots_of slots) + 1000) (omega arith)).0 (long.few, long.costs) in
             omega (arith, e, le, last_is)
 
-        -- the first that repeats from there on is the kernel's
-        pub kernel_is : (k : Kernel) → IsFirstFrom (machine_of machine) (turns.graph_of classes) (slots_of slots) first k → IsKernelOf machine checked block graph slots k
+        -- the first that repeats from there on, of those that leave room, is the kernel's
+        pub kernel_is : (k : Kernel) → IsRoomyFrom (machine_of machine) classes (slots_of slots) first k → IsKernelOf machine checked block graph slots k
         kernel_is k x =
             let e = first_least in
             let from = x.from in
@@ -192,7 +213,7 @@ module _ (machine : Machine) (checked : Checked) (block : Block) (graph : Graph)
             record {
               least = found_kernel (machine_of machine) (instructions block) (timing_of_copies checked block graph 3) (graph_of graph) (slots_of slots) order soon (slice_index cycles) told (map edge_of edges) turn.each (present 0 (slots_of slots) + 1000) long.costs
                   k.interval k.first_edge k.second_edge some (as_defined k.interval some kept.0 kept.1 k.first_edge k.second_edge x.is.repeats)
-                  (λ shorter low lt a b r. x.none shorter (omega (arith, low, e)) lt a b (by_kernel shorter (omega (arith, low)) a b r));
+                  (λ shorter low lt a b r. x.none shorter (omega (arith, low, e)) lt (leaves shorter (omega (arith, low)) a b r) a b (by_kernel shorter (omega (arith, low)) a b r));
               stages_are = x.is.stages_are;
               slots_are = x.is.slots_are;
             }

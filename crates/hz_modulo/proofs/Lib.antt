@@ -7,6 +7,8 @@ mod KernelLemmas
 mod WalkingLemmas
 mod AdvanceLemmas
 mod ScanLemmas
+mod DrainLemmas
+mod RoomLemmas
 mod KeptStates
 mod HeldLemmas
 pub mod RepeatLemmas

@@ -1,10 +1,12 @@
 -- The search from one interval on.
 use Rattle.std.proofs.Common.{◌≡◌, ℕ, ◌+◌, ◌<◌, ◌≤◌, List, Option, Some, None, ⊎_elim, sym, subst, arith}
-use Rattle.std.specs.Prelude.{IfNone, IfSome}
+use Rattle.std.specs.Prelude.{IfNone, IfSome, max}
 use Rattle.std.proofs.lemmas.Bool.{cases_lt}
 use Rattle.hz_pipeline_model.specs.Tables.Machines.{Machine}
 use Rattle.hz_block_model.specs.Scheduling.Schedules.{Graph, Slot}
-use Rattle.hz_modulo.specs.Kernels.{RepeatsIn, IsKernelAt, IsFirstFrom}
+use Rattle.hz_modulo.specs.Kernels.{RepeatsIn, IsKernelAt, IsFirstFrom, IsRoomyFrom}
+use Rattle.hz_modulo.specs.Heights.{LeavesRoom, IsLow}
+use Rattle.hz_modulo.specs.Walking.{graph_of}
 use Rattle.hz_modulo.specs.declared.parts.Kernel.{Kernel}
 
 pub if_none : {T : Type 0} (o : Option T) (P : Type 0) → o ≡ None → IfNone o P → P
@@ -29,3 +31,17 @@ is_first m g slots first interval k low before at = record {
   is = subst (λ (n : ℕ). IsKernelAt m g slots n k) (sym at.at) at;
   none = λ shorter le lt. before shorter le (subst (λ (n : ℕ). shorter < n) at.at lt);
 }
+
+-- ---- intervals that leave room
+
+-- the search may begin at the greater of both
+module _ (m : Machine) (classes : List ℕ) (first least begin : ℕ) (is : begin ≡ max first least) (low : IsLow m classes least) where
+  pub near_both : (last : ℕ) → LeavesRoom m classes (last + 1000) → first ≤ last + 1000 → begin ≤ last + 1000
+  near_both last leaves near = let le = low.low (last + 1000) leaves in omega (arith, is, le, near)
+
+  pub is_roomy : (slots : List Slot) (k : Kernel) → IsFirstFrom m (graph_of classes) slots begin k → IsRoomyFrom m classes slots first k
+  is_roomy slots k x = record {
+    from = let le = x.from in omega (arith, is, le);
+    is = x.is;
+    none = λ shorter from lt leaves a b r. let le = low.low shorter leaves in x.none shorter (omega (arith, is, from, le)) lt a b r;
+  }

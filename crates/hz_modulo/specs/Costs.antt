@@ -6,7 +6,7 @@ use Rattle.hz_block_model.specs.Dependences.Graphs as model
 use Rattle.hz_measure_model.specs.Kernels.Repeats.{stage_limit}
 use Rattle.hz_rtl.specs.declared.block.Block.{Block}
 use Rattle.hz_rtl.specs.Shape.{instructions}
-use Rattle.hz_check.specs.declared.checked.Checked.{Checked}
+use Rattle.hz_checked.specs.declared.checked.Checked.{Checked}
 use Rattle.hz_depend.specs.declared.parts.Edge.{Edge}
 use Rattle.hz_depend.specs.declared.parts.Graph.{Graph}
 use Rattle.hz_depend.specs.GraphShape.{edge_of, timing_in}

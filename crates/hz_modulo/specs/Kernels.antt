@@ -7,13 +7,15 @@ use Rattle.hz_measure_model.specs.Kernels.Repeats.{IsKernel}
 use Rattle.hz_measure_model.specs.Kernels.Turns.{stages}
 use Rattle.hz_tables.specs.declared.machine.Machine.{Machine}
 use Rattle.hz_tables.specs.Machines.{machine_of}
-use Rattle.hz_check.specs.declared.checked.Checked.{Checked}
+use Rattle.hz_checked.specs.declared.checked.Checked.{Checked}
 use Rattle.hz_rtl.specs.declared.block.Block.{Block}
 use Rattle.hz_rtl.specs.Shape.{instructions}
 use Rattle.hz_depend.specs.declared.parts.Graph.{Graph}
 use Rattle.hz_sched.specs.declared.parts.Slot.{Slot}
 use Rattle.hz_sched.specs.Shape.{graph_of, slots_of}
 use Rattle.hz_modulo.specs.Walking.{kernel_slot_of}
+use Rattle.hz_modulo.specs.Walking as walking
+use Rattle.hz_modulo.specs.Heights.{LeavesRoom}
 use Rattle.hz_modulo.specs.Repeating.{RepeatsBy}
 use Rattle.hz_modulo.specs.Costs.{timing_of_copies}
 use Rattle.hz_modulo.specs.declared.parts.Kernel.{Kernel}
@@ -50,3 +52,9 @@ pub record IsFirstFrom (m : model.Machine) (g : model_of.Graph) (slots : List mo
   pub from : first ≤ k.interval
   pub is : IsKernelAt m g slots k.interval k
   pub none : (shorter : ℕ) → first ≤ shorter → shorter < k.interval → (a b : ℕ) → RepeatsIn m g slots shorter a b → ⊥
+
+-- It is at the first from one on that repeats, of those that leave room for what turns ask.
+pub record IsRoomyFrom (m : model.Machine) (classes : List ℕ) (slots : List model_of.Slot) (first : ℕ) (k : Kernel) : Type 0 where
+  pub from : first ≤ k.interval
+  pub is : IsKernelAt m (walking.graph_of classes) slots k.interval k
+  pub none : (shorter : ℕ) → first ≤ shorter → shorter < k.interval → LeavesRoom m classes shorter → (a b : ℕ) → RepeatsIn m (walking.graph_of classes) slots shorter a b → ⊥

@@ -1,4 +1,5 @@
 pub mod Costs
+pub mod Heights
 pub mod Ranks
 pub mod Walking
 pub mod Repeating

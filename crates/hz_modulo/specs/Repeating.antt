@@ -33,6 +33,10 @@ pub record RepeatsAt (edge drain : ℕ → Option (List ℕ)) (stages first seco
 abbrev pub RepeatsBy : (m : Machine) (g : Graph) (interval stages : ℕ) (kernel : List KernelSlot) (first second : ℕ) → Type 0
 RepeatsBy m g interval stages kernel = RepeatsAt (edge_by m g interval kernel) (drain_by m g interval kernel stages) stages
 
+-- Two starts are the first that are the same, whatever turns leave at their end.
+abbrev pub MeetsBy : (m : Machine) (g : Graph) (interval stages : ℕ) (kernel : List KernelSlot) (first second : ℕ) → Type 0
+MeetsBy m g interval stages kernel = RepeatsAt (edge_by m g interval kernel) (λ count. Some []) stages
+
 -- the states that are kept, each as a list
 abbrev pub lists_in : List (Vec ℕ) → List (List ℕ)
 lists_in held = map (λ v. v.items) held

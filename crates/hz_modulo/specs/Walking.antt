@@ -1,7 +1,7 @@
 -- How turns are walked on a machine: its states, and one interval of a kernel slot by slot.
-use Rattle.std.specs.Prelude.{◌≡◌, ℕ, zero, suc, ◌+◌, ◌<◌, ◌&&◌, nat_le, if◌then◌else◌, List, [], ◌∷◌, ◌++◌, map, length, Option, Some, None, slice_index, option_and_then}
-use Rattle.hz_pipeline_model.specs.Accepting.Events.{Event, issue, advance}
-use Rattle.hz_pipeline_model.specs.Tables.Machines.{Machine, part_at, parts_walk}
+use Rattle.std.specs.Prelude.{ℕ, zero, suc, ◌+◌, ◌&&◌, nat_le, if◌then◌else◌, List, [], ◌∷◌, ◌++◌, map, Option, option_and_then}
+use Rattle.hz_pipeline_model.specs.Accepting.Events.{issue}
+use Rattle.hz_pipeline_model.specs.Tables.Machines.{Machine, parts_walk}
 use Rattle.hz_block_model.specs.Scheduling.Schedules.{Graph, Node, class_at, advance_to}
 use Rattle.hz_measure_model.specs.Kernels.Kernels as model
 use Rattle.hz_measure_model.specs.Kernels.Kernels.{interval_trace}

@@ -6,7 +6,7 @@ ghost use Rattle.hz_modulo.specs.Costs.{AreTurnEdges};
 ghost use Rattle.hz_measure_model.specs.Kernels.Repeats.{body_limit};
 
 use crate::copies::three_times;
-use hz_check::Checked;
+use hz_checked::Checked;
 use hz_depend::{DependFault, Edge, Graph, graph};
 use hz_regexp::NoMemory;
 use hz_rtl::Block;

@@ -14,8 +14,8 @@ use crate::costs::first_interval;
 use crate::cycles::cycles_of;
 use crate::edges::turn_edges;
 use crate::parts::Kernel;
-use crate::searching::first_kernel;
-use hz_check::Checked;
+use crate::searching::first_with_room;
+use hz_checked::Checked;
 use hz_depend::{Graph, GraphInsn};
 use hz_regexp::NoMemory;
 use hz_rtl::Block;
@@ -59,5 +59,13 @@ pub fn kernel(
     let cycles = cycles_of(alloc, &schedule.slots, graph.insns.len())?;
     let last = schedule.last_cycle();
     let first = first_interval(&cycles, last, &edges);
-    first_kernel(alloc, machine, &classes, &schedule.slots, last, first)
+    first_with_room(
+        alloc,
+        machine,
+        checked,
+        &classes,
+        &schedule.slots,
+        last,
+        first,
+    )
 }

@@ -5,13 +5,17 @@ mod copies;
 mod costs;
 mod cycles;
 mod edges;
+mod heights;
 mod kernels;
+mod loads;
 mod parts;
+mod raising;
 mod repeating;
 mod searching;
 mod sorting;
 pub mod turn_laws;
 mod walking;
+mod weighing;
 mod writing;
 
 pub use kernels::kernel;

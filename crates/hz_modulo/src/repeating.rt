@@ -1,12 +1,13 @@
 //! The first two starts of turns at which a machine is in the same states.
 
-ghost use Rattle.std.specs.Prelude.{◌≡◌, ◌↔◌, ◌<◌, ◌≤◌, ◌-◌, ◌+◌, ◌++◌, ◌∷◌, [], ℕ, IsTrue, IfOk, IfSome, IfNone, length, map, All, nat_lt, if◌then◌else◌};
+ghost use Rattle.std.specs.Prelude.{◌≡◌, ◌↔◌, ◌<◌, ◌≤◌, ◌-◌, ◌+◌, ◌++◌, ◌∷◌, [], ℕ, IsTrue, IfOk, IfSome, IfNone, length, map, All, nat_lt, if◌then◌else◌, true, is_some};
+ghost use Rattle.std.specs.Bool.{OnTrue, OnFalse};
 ghost use Rattle.hz_block_model.specs.Scheduling.Machines.{Settles};
 ghost use Rattle.hz_pipeline_model.specs.Tables.Machines.{starts_of};
 ghost use Rattle.hz_measure_model.specs.Kernels.Repeats.{stage_limit};
 ghost use Rattle.hz_tables.specs.Machines.{machine_of};
 ghost use Rattle.hz_modulo.specs.Walking.{kernel_slot_of, graph_of};
-ghost use Rattle.hz_modulo.specs.Repeating.{RepeatsBy, lists_in, states_at};
+ghost use Rattle.hz_modulo.specs.Repeating.{edge_by, drain_by, RepeatsBy, MeetsBy, lists_in, states_at};
 
 use crate::parts::{KernelSlot, Repeat};
 use crate::walking::{drains, walk_interval};
@@ -64,8 +65,9 @@ fn keep(
     Ok(place)
 }
 
-/// As `first_repeat`, on a machine in its start, while nothing is kept.
-fn repeat_from_start<L: Ledger>(
+/// The first two starts of turns at which a machine is in the same states, on one in its start, while nothing is kept: None if an issue
+/// is not taken before, or after so many turns. No turn is drained.
+fn first_meeting<L: Ledger>(
     alloc: Global,
     walker: &mut Replayer<'_>,
     held: &mut Vec<Vec<u32>>,
@@ -81,15 +83,11 @@ fn repeat_from_start<L: Ledger>(
     requires classes { All (λ c. c < length walker.old.machine.classes) classes.now }
     requires places { All (λ x. x.place < length classes.now) kernel.now }
     requires few { stages ≤ stage_limit }
-    ensures found { IfOk result (λ repeat. IfSome repeat (λ r. RepeatsBy walker.old.machine (graph_of classes.now) interval stages (map kernel_slot_of kernel.now) r.first r.second)) }
-    ensures none { IfOk result (λ repeat. IfNone repeat ((first second : ℕ) → RepeatsBy walker.old.machine (graph_of classes.now) interval stages (map kernel_slot_of kernel.now) first second → ⊥)) }
+    ensures found { IfOk result (λ repeat. IfSome repeat (λ r. MeetsBy walker.old.machine (graph_of classes.now) interval stages (map kernel_slot_of kernel.now) r.first r.second)) }
+    ensures soon { IfOk result (λ repeat. IfSome repeat (λ r. r.second ≤ stages + 1024)) }
+    ensures none { IfOk result (λ repeat. IfNone repeat ((first second : ℕ) → MeetsBy walker.old.machine (graph_of classes.now) interval stages (map kernel_slot_of kernel.now) first second → ⊥)) }
 {
     for turn in 0..stages + MOST_TURNS + 1 {
-        if !drains(
-            alloc, walker, classes, kernel, interval, stages, turn, steps,
-        ) {
-            return Ok(None);
-        }
         if let Some(place) = keep(alloc, held, walker.states(), turn, stages)? {
             return Ok(Some(Repeat {
                 first: stages + place,
@@ -101,6 +99,41 @@ fn repeat_from_start<L: Ledger>(
         }
     }
     Ok(None)
+}
+
+/// Whether each number of turns up to this one is walked to its end, from a machine in its start.
+fn all_drain<L: Ledger>(
+    alloc: Global,
+    walker: &mut Replayer<'_>,
+    classes: &[u32],
+    kernel: &[KernelSlot],
+    interval: u32,
+    stages: u32,
+    turns: u32,
+    steps: &mut Steps<L>,
+) -> bool
+    requires settles { Settles walker.old.machine }
+    requires starts { walker.old.states ≡ starts_of walker.old.machine }
+    requires classes { All (λ c. c < length walker.old.machine.classes) classes.now }
+    requires places { All (λ x. x.place < length classes.now) kernel.now }
+    requires few { stages ≤ stage_limit }
+    requires soon { turns ≤ stages + 1024 }
+    ensures each { OnTrue result ((count : ℕ) → count ≤ turns → is_some (drain_by walker.old.machine (graph_of classes.now) interval (map kernel_slot_of kernel.now) stages count) ≡ true) }
+    ensures stuck { OnFalse result (((count : ℕ) → count ≤ turns → is_some (drain_by walker.old.machine (graph_of classes.now) interval (map kernel_slot_of kernel.now) stages count) ≡ true) → ⊥) }
+{
+    for turn in 0..turns {
+        if !drains(
+            alloc, walker, classes, kernel, interval, stages, turn, steps,
+        ) {
+            return false;
+        }
+        if !walk_interval(walker, classes, kernel, interval, 0, turn, steps) {
+            return false;
+        }
+    }
+    drains(
+        alloc, walker, classes, kernel, interval, stages, turns, steps,
+    )
 }
 
 /// As `first_repeat`, with the steps of a count that begins here.
@@ -126,7 +159,7 @@ fn first_repeat_by<L: Ledger>(
     let mut steps = Steps::<L>::new(blank);
     let mut walker = Replayer::start(alloc, machine);
     let mut held = Vec::new(alloc);
-    repeat_from_start(
+    let found = first_meeting(
         alloc,
         &mut walker,
         &mut held,
@@ -135,7 +168,25 @@ fn first_repeat_by<L: Ledger>(
         interval,
         stages,
         &mut steps,
-    )
+    )?;
+    let Some(repeat) = found else {
+        return Ok(None);
+    };
+    let mut again = Replayer::start(alloc, machine);
+    if all_drain(
+        alloc,
+        &mut again,
+        classes,
+        kernel,
+        interval,
+        stages,
+        repeat.second,
+        &mut steps,
+    ) {
+        Ok(Some(repeat))
+    } else {
+        Ok(None)
+    }
 }
 
 /// The first two starts of turns at which the machine is in the same states, once all stages have begun: None if an issue is not

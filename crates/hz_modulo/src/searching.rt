@@ -8,11 +8,14 @@ ghost use Rattle.hz_measure_model.specs.Kernels.Turns.{stages};
 ghost use Rattle.hz_sched.specs.Shape.{slots_of};
 ghost use Rattle.hz_tables.specs.Machines.{machine_of};
 ghost use Rattle.hz_modulo.specs.Walking.{graph_of};
-ghost use Rattle.hz_modulo.specs.Kernels.{RepeatsIn, IsKernelAt, IsFirstFrom};
+ghost use Rattle.hz_modulo.specs.Heights.{LeavesRoom};
+ghost use Rattle.hz_modulo.specs.Kernels.{RepeatsIn, IsKernelAt, IsFirstFrom, IsRoomyFrom};
 
+use crate::loads::least_room;
 use crate::parts::Kernel;
 use crate::repeating::first_repeat;
 use crate::sorting::kernel_slots;
+use hz_checked::Checked;
 use hz_regexp::NoMemory;
 use hz_sched::Slot;
 use hz_tables::Machine;
@@ -56,7 +59,7 @@ fn kernel_at(
 }
 
 /// The kernel at the first interval from one on at which the turns repeat. One comes at most 1,000 cycles after the last of the slots.
-pub fn first_kernel(
+fn first_kernel(
     alloc: Global,
     machine: &Machine,
     classes: &[u32],
@@ -83,4 +86,33 @@ pub fn first_kernel(
         }
     }
     unreachable!()
+}
+
+/// The kernel at the first interval from one on at which the turns repeat, and which leaves room for what they ask of each part: no other
+/// repeats. One comes at most 1,000 cycles after the last of the slots.
+pub fn first_with_room(
+    alloc: Global,
+    machine: &Machine,
+    checked: &Checked,
+    classes: &[u32],
+    slots: &[Slot],
+    last: u32,
+    first: u32,
+) -> Result<Kernel, NoMemory>
+    requires settles { Settles (machine_of machine.now) }
+    requires classes { All (λ c. c < length machine.now.classes.items) classes.now }
+    requires places { All (λ x. x.place < length classes.now) slots.now }
+    requires last { last ≡ present 0 (slots_of slots.now) }
+    requires rising { All (λ x. x.cycle ≤ last) (slots_of slots.now) }
+    requires small { last < 2 ^ 30 }
+    requires some { 0 < first }
+    requires few { (interval : ℕ) → first ≤ interval → stages interval (slots_of slots.now) ≤ stage_limit }
+    requires near { first ≤ last + 1000 }
+    requires long { RepeatsIn (machine_of machine.now) (graph_of classes.now) (slots_of slots.now) (last + 1000) 0 1 }
+    requires room { LeavesRoom (machine_of machine.now) classes.now (last + 1000) }
+    ensures first { IfOk result (IsRoomyFrom (machine_of machine.now) classes.now (slots_of slots.now) first) }
+    ensures range { IfOk result (λ k. All (λ x. x.place < length classes.now) k.slots.items) }
+{
+    let least = least_room(alloc, machine, checked, classes, first)?;
+    first_kernel(alloc, machine, classes, slots, last, first.max(least))
 }

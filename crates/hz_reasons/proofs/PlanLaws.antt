@@ -13,11 +13,11 @@ use Rattle.std.proofs.lemmas.Option.{none-some, slice_get-map, slice_get-get_or}
 use Rattle.hz_altern.specs.Shapes.{alternatives}
 use Rattle.hz_altern.specs.declared.alternative.Alt.{Alt}
 use Rattle.hz_base_model.specs.Pairs.{Pair}
-use Rattle.hz_check.specs.declared.checked.CheckedAutomaton.{CheckedAutomaton}
+use Rattle.hz_checked.specs.declared.checked.CheckedAutomaton.{CheckedAutomaton}
 use Rattle.hz_check.specs.declared.parts.Parts.{Parts}
 use Rattle.hz_check.specs.Parts.{IsPartsOf}
 use Rattle.hz_check.specs.Parts.Assembly.{placed_statement}
-use Rattle.hz_check.specs.Shape.{automaton_of}
+use Rattle.hz_checked.specs.Shape.{automaton_of}
 use Rattle.hz_check.proofs.Built.PartSteps.{length-automata}
 use Rattle.hz_description_model.specs.Check.CheckedParts.{AutomatonParts, automaton_count, automaton_names, automata_from, automata_of, statements_in}
 use Rattle.hz_base_model.specs.Limits.{automaton_limit, unit_limit}

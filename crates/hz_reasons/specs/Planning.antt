@@ -6,7 +6,7 @@ use Rattle.std.specs.declared.vec.Vec.{Vec}
 use Rattle.hz_altern.specs.Shapes.{alternatives}
 use Rattle.hz_altern.specs.declared.alternative.Alt.{Alt}
 use Rattle.hz_base_model.specs.Pairs.{Pair}
-use Rattle.hz_check.specs.declared.checked.CheckedAutomaton.{CheckedAutomaton}
+use Rattle.hz_checked.specs.declared.checked.CheckedAutomaton.{CheckedAutomaton}
 use Rattle.hz_check.specs.declared.parts.Parts.{Parts}
 use Rattle.hz_check.specs.Parts.{IsPartsOf}
 use Rattle.hz_description_model.specs.Reading.Descriptions.{Description}

@@ -2,13 +2,16 @@
 
 ghost use Rattle.std.specs.Prelude.{◌≡◌, ◌↔◌, ◌<◌, ℕ, List, [], replicate, length, vec_len, IsTrue, IfOk, IfSome, OnOk, All};
 ghost use Rattle.hz_description_model.specs.Reservations.Automata.{UnitPlace};
+ghost use Rattle.hz_description_model.specs.Reservations.Sets.{Fits};
+ghost use Rattle.hz_pipeline_model.specs.Accepting.Fitting.{IsUnbroken};
 ghost use Rattle.hz_pipeline_model.specs.Accepting.Replay.{Pipeline, State, start};
+ghost use Rattle.hz_unitsets.specs.RowRules.{FitsRow};
 ghost use Rattle.hz_why_model.specs.Waits.{after};
 ghost use Rattle.hz_reasons.specs.Plans.{choices_at, IsWide, IsPlanOf, Stands, Issues};
 ghost use Rattle.hz_reasons.specs.Calendars.{at, AllFit, AreUnbroken, IsFirstOf, AreUnited, Takes, IsLaterBy, AreLaterBy};
 
 use crate::plan::{Choice, Plan};
-use hz_grid::{Grid, NoMemory, Usage};
+use hz_grid::{Grid, NoMemory, Row, Usage, UsedRow};
 use hz_unitsets::Rules;
 use std::alloc::Global;
 
@@ -16,6 +19,42 @@ use std::alloc::Global;
 #[derive(Drop)]
 pub struct Calendar {
     pub grids: Vec<Grid>,
+}
+
+/// Whether two cycles have the same rows: what is reserved there, and what is added.
+fn has_same_rows(here: Row<4>, added: Row<4>, there: Row<4>, units: Row<4>) -> bool
+    ensures { IsTrue result → (here ≡ there) × (added ≡ units) }
+{
+    here == there && added == units
+}
+
+/// Whether the units of each cycle of a part fit what is reserved where no exclusion is broken. A cycle with the rows of the one before
+/// is not asked of the rules again. It takes no memory.
+fn fits_rows(rules: &Rules, grid: &Grid, rows: &[UsedRow]) -> bool
+    requires { IsUnbroken rules.now grid.now }
+    ensures { IsTrue result ↔ All (λ row. FitsRow rules.now grid.now row.cycle row.units) rows.now }
+{
+    let mut there = Row::empty();
+    let mut units = Row::empty();
+    for used in rows {
+        let here = grid.row(used.cycle);
+        if !has_same_rows(here, used.units, there, units) {
+            if !rules.fits_row(grid, used.cycle, used.units) {
+                return false;
+            }
+            there = here;
+            units = used.units;
+        }
+    }
+    true
+}
+
+/// Whether a part fits what is reserved in an automaton where no exclusion is broken. It takes no memory.
+fn fits_part(rules: &Rules, grid: &Grid, part: &Usage) -> bool
+    requires { IsUnbroken rules.now grid.now }
+    ensures { IsTrue result ↔ Fits rules.now grid.now part.now 0 }
+{
+    !part.meets(grid) && fits_rows(rules, grid, part.rows())
 }
 
 /// Whether in each automaton the added pairs fit what stands reserved there. It takes no memory.
@@ -26,7 +65,7 @@ fn all_fit(rules: &[Rules], grids: &[Grid], parts: &[Usage]) -> bool
     ensures { IsTrue result ↔ AllFit rules.now grids.now parts.now }
 {
     for automaton in 0..rules.len() {
-        if !rules[automaton].fits_unbroken(&grids[automaton], &parts[automaton]) {
+        if !fits_part(&rules[automaton], &grids[automaton], &parts[automaton]) {
             return false;
         }
     }

@@ -3,7 +3,7 @@ use Rattle.std.proofs.Common.{◌≡◌, ℕ, List, [], ◌∷◌, ◌++◌, cod
 use Rattle.std.proofs.lemmas.List.Folds.{concat-append}
 use Rattle.std.specs.List.{concat}
 use Rattle.std.specs.Prelude.{decimal}
-use Rattle.hz_answer_model.specs.Texts.{insn_words, name_words, at_words, fault_text}
+use Rattle.hz_front_model.specs.Texts.{insn_words, name_words, at_words, fault_text}
 use Rattle.hz_report.specs.Faults.{ending, from_second, from_first, from_insn, head_of}
 
 -- the end of the line, as a piece

@@ -1,7 +1,7 @@
 -- The line of a fault in parts, from left to right.
 use Rattle.std.specs.Prelude.{ℕ, List, [], ◌∷◌, ◌++◌, codes, decimal, Option}
 use Rattle.std.specs.List.{concat}
-use Rattle.hz_answer_model.specs.Texts.{insn_words, name_words, at_words}
+use Rattle.hz_front_model.specs.Texts.{insn_words, name_words, at_words}
 
 -- what a fault begins with
 abbrev pub head_of : (file : List ℕ) → (line : ℕ) → (kind : List ℕ) → List ℕ

@@ -4,8 +4,8 @@ use Rattle.std.specs.Option.{unwrap_or}
 use Rattle.hz_pipeline_model.specs.Accepting.Asking.{IsOfQuery}
 use Rattle.hz_pipeline_model.specs.Accepting.Events as accepting
 use Rattle.hz_pipeline_model.specs.Accepting.Events.{IsOfClass}
-use Rattle.hz_answer_model.specs.AskAnswers.{query_name}
-use Rattle.hz_answer_model.specs.Texts.{accepted_line, ask_line, refused_line}
+use Rattle.hz_front_model.specs.Asks.{query_name}
+use Rattle.hz_front_model.specs.Texts.{accepted_line, ask_line, refused_line}
 use Rattle.hz_pipeline_model.specs.Tables.MachineNames.{names_of_machine}
 use Rattle.hz_pipeline_model.specs.Tables.Machines.{Machine, parts_walk, starts_of, states_tell}
 use Rattle.hz_replay.specs.Lines.{event_of}

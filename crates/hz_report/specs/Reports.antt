@@ -1,7 +1,8 @@
 -- The text of each report.
 use Rattle.std.specs.Prelude.{⊤, ℕ, List, map}
 use Rattle.std.specs.Option.{option_map}
-use Rattle.hz_answer_model.specs.Texts as model
+use Rattle.hz_answer_model.specs.Texts.{drill_text}
+use Rattle.hz_front_model.specs.Texts as model
 use Rattle.hz_check.specs.Faults.{limit_of}
 use Rattle.hz_description_model.specs.Check.CheckFaults.{limit_word}
 use Rattle.hz_base_model.specs.Told.{told_in}
@@ -20,7 +21,7 @@ abbrev pub text_of : Report → List ℕ
 text_of (Replayed machine events outcome) = replay_text (machine_of machine.now) events.now outcome.now
 text_of (Scheduled machine graph schedule) = schedule_by machine.now.classes.items (map (λ i. i.number) graph.now.insns.items) (graph_of graph.now) (slots_of schedule.now.slots.items)
 text_of (After state) = listing_text (listing state.now)
-text_of (Drill turns issues cycles states) = model.drill_text turns issues cycles states.now
+text_of (Drill turns issues cycles states) = drill_text turns issues cycles states.now
 text_of (Fault file line kind insn first second at) = model.fault_text file.now line kind.now insn (option_map (λ n. n.now) first) (option_map (λ n. n.now) second) (told_in at)
 text_of (Bytes file) = model.limit_line file.now
 text_of (Insns file) = model.insns_line file.now

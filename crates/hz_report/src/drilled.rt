@@ -4,6 +4,7 @@ ghost use Rattle.std.specs.Prelude.{◌-◌, ◌^◌, ◌<◌, ◌++◌, codes};
 ghost use Rattle.std.specs.List.{flat_map};
 ghost use Rattle.hz_io.specs.Sink.{Writes};
 ghost use Rattle.hz_answer_model.specs.Texts as model;
+ghost use Rattle.hz_front_model.specs.Texts.{accepted_line};
 
 use super::outcomes::put_accepted;
 use hz_io::{Failed, Sink, put_all};
@@ -69,7 +70,7 @@ fn put_left<S: Sink>(out: &mut S, states: &[u32]) -> Result<(), Failed>
 /// Writes the lines behind the first: the issues and cycles of the trace, and the states that it leaves.
 fn put_trace<S: Sink>(out: &mut S, issues: u64, cycles: u64, states: &[u32]) -> Result<(), Failed>
     requires { S.faults out.old < 2 ^ 64 - 1 }
-    ensures { Writes S.written S.room S.faults out.old out.new (model.accepted_line issues cycles ++ model.left_line states.now) result }
+    ensures { Writes S.written S.room S.faults out.old out.new (accepted_line issues cycles ++ model.left_line states.now) result }
 {
     match put_accepted(out, issues, cycles) {
         Ok(()) => put_left(out, states),

@@ -3,7 +3,7 @@
 ghost use Rattle.std.specs.Prelude.{◌-◌, ◌^◌, ◌<◌};
 ghost use Rattle.std.specs.Option.{option_map};
 ghost use Rattle.hz_io.specs.Sink.{Writes};
-ghost use Rattle.hz_answer_model.specs.Texts.{fault_text};
+ghost use Rattle.hz_front_model.specs.Texts.{fault_text};
 ghost use Rattle.hz_base_model.specs.Told.{told_in};
 ghost use Rattle.hz_report.specs.Faults.{from_first, from_insn, from_second, insn_part, name_part, at_part, ending, head_of};
 

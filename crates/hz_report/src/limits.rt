@@ -2,7 +2,7 @@
 
 ghost use Rattle.std.specs.Prelude.{◌-◌, ◌^◌, ◌<◌};
 ghost use Rattle.hz_io.specs.Sink.{Writes};
-ghost use Rattle.hz_answer_model.specs.Texts as model;
+ghost use Rattle.hz_front_model.specs.Texts as model;
 ghost use Rattle.hz_check.specs.Faults.{limit_of};
 ghost use Rattle.hz_description_model.specs.Check.CheckFaults.{limit_word};
 

@@ -2,7 +2,7 @@
 
 ghost use Rattle.std.specs.Prelude.{◌-◌, ◌^◌, ◌<◌};
 ghost use Rattle.hz_io.specs.Sink.{Writes};
-ghost use Rattle.hz_answer_model.specs.Texts as model;
+ghost use Rattle.hz_front_model.specs.Texts as model;
 ghost use Rattle.hz_words_model.specs.Words.{usage_line};
 
 use hz_io::{Failed, Sink, put_all};

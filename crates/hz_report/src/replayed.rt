@@ -4,8 +4,8 @@ ghost use Rattle.std.specs.Prelude.{◌≡◌, ℕ, ◌-◌, ◌^◌, ◌<◌, �
 ghost use Rattle.std.specs.Bool.{OnFalse};
 ghost use Rattle.hz_pipeline_model.specs.Accepting.Asking.{IsOfQuery};
 ghost use Rattle.hz_pipeline_model.specs.Accepting.Events.{issue, IsOfClass};
-ghost use Rattle.hz_answer_model.specs.AskAnswers.{query_name};
-ghost use Rattle.hz_answer_model.specs.Texts as model;
+ghost use Rattle.hz_front_model.specs.Asks.{query_name};
+ghost use Rattle.hz_front_model.specs.Texts as model;
 ghost use Rattle.hz_pipeline_model.specs.Tables.MachineNames.{names_of_machine};
 ghost use Rattle.hz_pipeline_model.specs.Tables.Machines.{machine_walk, part_at, starts_of};
 ghost use Rattle.hz_io.specs.Pages.{Adds};

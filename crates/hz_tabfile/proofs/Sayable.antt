@@ -2,8 +2,8 @@
 use Rattle.std.proofs.Common.{◌≡◌, map, sym, subst}
 use Rattle.hz_mdread.specs.declared.options.Options.{Options}
 use Rattle.hz_mdread.specs.Shape.{options as options_of}
-use Rattle.hz_check.specs.declared.checked.Checked.{Checked}
-use Rattle.hz_check.specs.Shape.{automaton_of, class_of, bypass_of, attribute_of}
+use Rattle.hz_checked.specs.declared.checked.Checked.{Checked}
+use Rattle.hz_checked.specs.Shape.{automaton_of, class_of, bypass_of, attribute_of}
 use Rattle.hz_tables.specs.Machines.{machine_of}
 use Rattle.hz_auto.specs.declared.compiled.Compiled.{Compiled}
 use Rattle.hz_auto.specs.Machines.{reports_of}

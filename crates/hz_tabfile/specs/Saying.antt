@@ -5,9 +5,9 @@ use Rattle.hz_base_model.specs.Limits.{class_limit, unit_limit}
 use Rattle.hz_auto.specs.declared.compiled.Compiled.{Compiled}
 use Rattle.hz_auto.specs.declared.report.AutoReport.{AutoReport}
 use Rattle.hz_auto.specs.Machines.{reports_of}
-use Rattle.hz_check.specs.declared.checked.Checked.{Checked}
-use Rattle.hz_check.specs.declared.checked.CheckedAutomaton.{CheckedAutomaton}
-use Rattle.hz_check.specs.Shape.{automaton_of}
+use Rattle.hz_checked.specs.declared.checked.Checked.{Checked}
+use Rattle.hz_checked.specs.declared.checked.CheckedAutomaton.{CheckedAutomaton}
+use Rattle.hz_checked.specs.Shape.{automaton_of}
 use Rattle.hz_mdread.specs.Shape.{options as options_of}
 use Rattle.hz_tables.specs.declared.part.Part as kept
 use Rattle.hz_tables.specs.Parts.{part_of}

@@ -16,7 +16,7 @@ mod rows;
 mod shown;
 
 use hz_auto::Compiled;
-use hz_check::Checked;
+use hz_checked::Checked;
 use hz_io::page::{Page, flush};
 use hz_io::{Failed, Sink};
 use parts::add_tables;

@@ -1,6 +1,6 @@
 -- What the code holds, as what the definitions speak of.
 use Rattle.std.specs.Prelude.{◌≡◌, ℕ, ◌<◌, List, ◌++◌, map, length, All, Option, Some, None}
-use Rattle.hz_check.specs.declared.checked.Checked.{Checked}
+use Rattle.hz_checked.specs.declared.checked.Checked.{Checked}
 use Rattle.hz_rtl.specs.declared.block.Block.{Block}
 use Rattle.hz_rtl.specs.Shape.{instructions}
 use Rattle.hz_rtl.specs.States.{words}

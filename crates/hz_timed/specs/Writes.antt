@@ -5,7 +5,7 @@ use Rattle.std.specs.Ordering.{nat_cmp}
 use Rattle.std.specs.BTreeMap.{get, IsOrdered}
 use Rattle.hz_block_model.specs.Running.States as model
 use Rattle.hz_block_model.specs.Running.States.{same_place}
-use Rattle.hz_check.specs.Shape.{bypass_of}
+use Rattle.hz_checked.specs.Shape.{bypass_of}
 use Rattle.hz_depend.specs.Numbers.{HoldsNumbers}
 use Rattle.hz_timed.specs.Notes.{Note}
 use Rattle.hz_rtl.specs.declared.state.State.{State}

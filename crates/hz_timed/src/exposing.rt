@@ -11,7 +11,7 @@ use crate::leaving::state_after;
 use crate::parts::Timed;
 use crate::timing::run_slots;
 use crate::waits::Waits;
-use hz_check::Checked;
+use hz_checked::Checked;
 use hz_depend::{Graph, Numbers};
 use hz_regexp::NoMemory;
 use hz_rtl::{Block, State};

@@ -5,7 +5,7 @@ ghost use Rattle.hz_rtl.specs.Shape.{instruction, instructions};
 ghost use Rattle.hz_timed.specs.Writes.{number_by, place_count, CanWait};
 
 use crate::write::Write;
-use hz_check::Checked;
+use hz_checked::Checked;
 use hz_depend::{Graph, Numbers};
 use hz_rtl::{Block, Insn};
 use hz_sched::Slot;

@@ -7,10 +7,10 @@ use Rattle.std.specs.Option.{option_map_or}
 use Rattle.std.specs.Str.{bytes_eq}
 use Rattle.std.proofs.lemmas.List.{length-map}
 use Rattle.std.proofs.lemmas.List.Elements.{All-nil, All-cons, All-head, All-tail}
-use Rattle.hz_check.specs.declared.checked.Checked.{Checked}
-use Rattle.hz_check.specs.declared.checked.CheckedClass.{CheckedClass}
+use Rattle.hz_checked.specs.declared.checked.Checked.{Checked}
+use Rattle.hz_checked.specs.declared.checked.CheckedClass.{CheckedClass}
 use Rattle.hz_check.specs.Checked.{IsCheckedOf}
-use Rattle.hz_check.specs.Shape.{attribute_of, bypass_of, class_of}
+use Rattle.hz_checked.specs.Shape.{attribute_of, bypass_of, class_of}
 use Rattle.hz_description_model.specs.Check.CheckedParts.{ClassParts, BypassParts, class_parts, attributes_of, defaults_of}
 use Rattle.hz_depend.specs.declared.parts.Graph as declared
 use Rattle.hz_depend.specs.declared.parts.GraphInsn.{GraphInsn}

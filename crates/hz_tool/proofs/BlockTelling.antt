@@ -5,9 +5,9 @@ use Rattle.std.specs.Borrow.{Bor}
 use Rattle.std.specs.Option.{option_map}
 use Rattle.std.proofs.lemmas.Option.{slice_get-map}
 use Rattle.hz_answer_model.specs.FaultTexts.{class_line}
-use Rattle.hz_answer_model.specs.Phases.{Says}
+use Rattle.hz_front_model.specs.Phases.{Says}
 use Rattle.hz_answer_model.specs.ScheduleAnswers.{HasClasses, Starts}
-use Rattle.hz_answer_model.specs.Texts.{fault_text}
+use Rattle.hz_front_model.specs.Texts.{fault_text}
 use Rattle.hz_base_model.specs.Told.{told_in}
 use Rattle.hz_block_model.specs.Dependences.Classes.{ClassFault, class_word, classes_named}
 use Rattle.hz_block_model.specs.Running.Blocks.{Instruction}

@@ -8,7 +8,7 @@ use Rattle.hz_measure_model.specs.Bounds.Bounds.{Bound, IsBoundBy, IsBoundOf, un
 use Rattle.hz_measure_model.specs.Bounds.Loads.{ways_by}
 use Rattle.hz_measure_model.specs.Bounds.Texts.{bound_text, text_of_bound}
 use Rattle.hz_check.specs.Checked.{IsCheckedOf}
-use Rattle.hz_check.specs.declared.checked.Checked.{Checked}
+use Rattle.hz_checked.specs.declared.checked.Checked.{Checked}
 use Rattle.hz_depend.specs.declared.parts.Graph as depend
 use Rattle.hz_description_model.specs.Check.CheckedParts.{AutomatonParts, ClassParts, class_parts}
 use Rattle.hz_description_model.specs.Reading.Descriptions.{Description}

@@ -8,7 +8,7 @@ use Rattle.hz_answer_model.specs.DrillAnswers.{Drills}
 use Rattle.hz_answer_model.specs.Texts.{drill_text}
 use Rattle.hz_auto.specs.declared.compiled.Compiled.{Compiled}
 use Rattle.hz_auto.specs.Machines.{reports_of}
-use Rattle.hz_check.specs.declared.checked.Checked.{Checked}
+use Rattle.hz_checked.specs.declared.checked.Checked.{Checked}
 use Rattle.hz_check.specs.Checked.{IsCheckedOf}
 use Rattle.hz_pipeline_model.specs.Traces.Drills.{Drawn}
 use Rattle.hz_pipeline_model.proofs.Traces.DrillLaws.{drawn_there, draws_counts}

@@ -9,9 +9,9 @@ use Rattle.hz_pipeline_model.specs.Pipelines.Pipelines.{pipeline_with}
 use Rattle.hz_answer_model.proofs.WalkLaws.{map_twice}
 use Rattle.hz_answer_model.specs.BlockAnswers.{HasAtMost}
 use Rattle.hz_answer_model.specs.DuoAnswers.{StartsTwo, TellsTwo}
-use Rattle.hz_answer_model.specs.Phases.{Says}
+use Rattle.hz_front_model.specs.Phases.{Says}
 use Rattle.hz_answer_model.specs.ScheduleAnswers.{Starts}
-use Rattle.hz_answer_model.specs.Texts.{insns_line}
+use Rattle.hz_front_model.specs.Texts.{insns_line}
 use Rattle.hz_pipeline_model.specs.Tables.Machines.{Machine, IsWalked}
 use Rattle.hz_block_model.proofs.Scheduling.SameSchedules.{legal_there, greedy_there}
 use Rattle.hz_block_model.proofs.Scheduling.StuckLaws.{first_stuck as stuck_first}

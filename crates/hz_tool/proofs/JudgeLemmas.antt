@@ -1,8 +1,8 @@
 -- What is decided in the phases of judging a description is what is to be answered.
 use Rattle.std.specs.Prelude.{Ok}
 use Rattle.std.proofs.Common.{◌≡◌, ℕ, All, List, inl, inr, ⊎_elim, ap, ◌∙◌}
-use Rattle.hz_answer_model.specs.Answers.{TellsDescription, Describes, TellsCheck, Checks, HasDescription}
-use Rattle.hz_answer_model.specs.Phases.{Says, Next, TellsFault, HasForms}
+use Rattle.hz_front_model.specs.Descriptions.{TellsDescription, Describes, TellsCheck, Checks, HasDescription}
+use Rattle.hz_front_model.specs.Phases.{Says, Next, TellsFault, HasForms}
 use Rattle.hz_answer_model.specs.ScheduleAnswers.{HasClasses, Starts}
 use Rattle.hz_block_model.specs.Dependences.Classes.{ClassFault}
 use Rattle.hz_block_model.specs.Scheduled.BlockGraphs.{class_in, IsFirstClassFault}
@@ -24,7 +24,7 @@ use Rattle.hz_block_model.specs.Texts.StateForms as states
 use Rattle.hz_answer_model.specs.Headline.{IsBlockIn, IsStateIn}
 use Rattle.hz_tool.specs.Blocks.{Nothing}
 use Rattle.hz_tool.proofs.AnswerLemmas.{agrees_weaker}
-use Rattle.hz_check.specs.declared.checked.Checked.{Checked}
+use Rattle.hz_checked.specs.declared.checked.Checked.{Checked}
 use Rattle.hz_tool.specs.Fronts.{IsCheckedIn, TellsDescribed}
 use Rattle.hz_tool.specs.Decisions.{Agrees}
 use Rattle.hz_tool.specs.declared.decision.Decision.{Decision}

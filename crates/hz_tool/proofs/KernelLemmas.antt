@@ -8,7 +8,7 @@ use Rattle.hz_block_model.specs.Running.Blocks.{Instruction}
 use Rattle.hz_block_model.specs.Scheduling.Schedules.{Node, Slot, present}
 use Rattle.hz_block_model.specs.Scheduled.BlockGraphs.{timing_in}
 use Rattle.hz_check.specs.Checked.{IsCheckedOf}
-use Rattle.hz_check.specs.declared.checked.Checked.{Checked}
+use Rattle.hz_checked.specs.declared.checked.Checked.{Checked}
 use Rattle.hz_depend.specs.declared.parts.Graph.{Graph}
 use Rattle.hz_description_model.specs.Check.Places.{class_names}
 use Rattle.hz_description_model.specs.Reading.Descriptions.{Description}

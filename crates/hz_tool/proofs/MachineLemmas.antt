@@ -6,12 +6,12 @@ use Rattle.hz_pipeline_model.specs.Traces.TraceNames.{TraceNames}
 use Rattle.hz_answer_model.specs.Answers.{ReplaysTrace, TellsLimit, Compiles}
 use Rattle.hz_answer_model.specs.TableAnswers.{WalksTrace}
 use Rattle.hz_answer_model.proofs.WalkLaws.{machine_names, map_twice, told_is_held, traced_both}
-use Rattle.hz_answer_model.specs.Texts.{states_line}
+use Rattle.hz_front_model.specs.Texts.{states_line}
 use Rattle.hz_pipeline_model.specs.Compiling.Compiled.{IsCompiled, IsFirstPast, Report as Told}
 use Rattle.hz_pipeline_model.proofs.Compiling.DescriptionLaws.{machine_accepts, all_keep, first_past}
-use Rattle.hz_check.specs.declared.checked.Checked.{Checked}
+use Rattle.hz_checked.specs.declared.checked.Checked.{Checked}
 use Rattle.hz_check.specs.Checked.{IsCheckedOf}
-use Rattle.hz_check.specs.Shape.{automaton_of, class_of}
+use Rattle.hz_checked.specs.Shape.{automaton_of, class_of}
 use Rattle.hz_description_model.specs.Check.CheckedParts.{AutomatonParts, ClassParts, automaton_names, automata_from, automata_of, class_parts}
 use Rattle.hz_description_model.specs.Check.Places.{Known, class_names}
 use Rattle.hz_mdread.specs.Shape.{options as options_of}

@@ -8,8 +8,8 @@ use Rattle.std.specs.Option.{ForSome}
 use Rattle.std.specs.Borrow.{Bor}
 use Rattle.std.proofs.lemmas.Bool.{le-ltb, lt-ltb}
 use Rattle.hz_base_model.specs.Names.{Held}
-use Rattle.hz_answer_model.specs.Phases.{FileWord, Next, Opens, OpensAll, Says}
-use Rattle.hz_answer_model.specs.Texts.{file_line, limit_line}
+use Rattle.hz_front_model.specs.Phases.{FileWord, Next, Opens, OpensAll, Says}
+use Rattle.hz_front_model.specs.Texts.{file_line, limit_line}
 use Rattle.hz_io.specs.Slurp.{SlurpCounts, Tells, LacksOnFailed}
 use Rattle.hz_io.specs.declared.faults.SlurpFault.{SlurpFault}
 use Rattle.hz_io.specs.declared.faults.SlurpFault.TheVariants.{Failed, Long, NoMemory}

@@ -10,7 +10,7 @@ use Rattle.hz_auto.specs.Machines.{reports_of}
 use Rattle.hz_pipeline_model.specs.Tables.Machines.{Machine, machine_walk}
 use Rattle.hz_pipeline_model.proofs.Compiling.DescriptionLaws.{unwalked_refused}
 use Rattle.hz_check.specs.Checked.{IsCheckedOf}
-use Rattle.hz_check.specs.declared.checked.Checked.{Checked}
+use Rattle.hz_checked.specs.declared.checked.Checked.{Checked}
 use Rattle.hz_description_model.specs.Check.Places.{Known}
 use Rattle.hz_description_model.specs.Reading.Descriptions.{Description}
 use Rattle.hz_replay.specs.Replaying.{IsOutcome}

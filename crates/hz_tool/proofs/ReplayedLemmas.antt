@@ -6,9 +6,9 @@ use Rattle.std.proofs.lemmas.List.Elements.{All-get_or}
 use Rattle.std.proofs.lemmas.Option.{same_Some, slice_get-get_or, get_or_from_slice_get}
 use Rattle.hz_pipeline_model.specs.Accepting.Events.{Event, issue, advance, ask, IsOfClass}
 use Rattle.hz_pipeline_model.specs.Traces.TraceNames.{TraceNames}
-use Rattle.hz_answer_model.specs.AskAnswers.{AskSays, AsksSay, query_name, told_by}
-use Rattle.hz_answer_model.specs.TableAnswers.{Walks}
-use Rattle.hz_answer_model.specs.Texts.{accepted_line, ask_line, refused_line}
+use Rattle.hz_front_model.specs.Asks.{AskSays, AsksSay, query_name}
+use Rattle.hz_answer_model.specs.TableAnswers.{told_by, Walks}
+use Rattle.hz_front_model.specs.Texts.{accepted_line, ask_line, refused_line}
 use Rattle.hz_answer_model.proofs.TableLaws.{prefix_walked}
 use Rattle.hz_pipeline_model.specs.Tables.MachineNames.{names_of_machine}
 use Rattle.hz_pipeline_model.specs.Tables.Machines.{Machine, Part, machine_walk, onto_states, parts_walk, starts_of, states_tell}

@@ -2,13 +2,14 @@
 use Rattle.std.proofs.Common.{◌≡◌, ℕ, ◌<◌, ◌≤◌, ◌⊎◌, inl, inr, List, length, Option, Some, None, MatchOption, refl, subst, arith}
 use Rattle.hz_answer_model.specs.Answers.{Answer, AnswersOrder}
 use Rattle.hz_base_model.specs.Names.{Held}
-use Rattle.hz_answer_model.specs.Phases.{Says}
+use Rattle.hz_front_model.specs.Phases.{Says}
 use Rattle.hz_words_model.specs.Words.{Order, order_of, usage_line}
 use Rattle.hz_replay.specs.declared.outcome.Outcome.{Outcome}
 use Rattle.hz_replay.specs.declared.outcome.Outcome.TheVariants.{Accepted, Refused}
 use Rattle.hz_tool.specs.Decided.{replay_status, text_of, status_of}
 use Rattle.hz_tool.specs.Decisions.{Agrees, CountsDecision, DecidesWords, NamesFile}
-use Rattle.hz_tool.specs.Endings.{IsAppended, AppendsPromised, SaysFile, Completes, HasAll, HasRoom, MayWrite}
+use Rattle.hz_front.specs.Endings.{IsAppended, SaysFile, Completes, HasAll, HasRoom, MayWrite}
+use Rattle.hz_tool.specs.Endings.{AppendsPromised}
 use Rattle.hz_tool.specs.declared.decision.Decision.{Decision}
 use Rattle.hz_tool.specs.declared.decision.Decision.TheVariants.{Memory, File, Replayed, Usage}
 use Rattle.hz_answer_model.proofs.PromiseLaws.{promised}

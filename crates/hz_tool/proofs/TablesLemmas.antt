@@ -1,15 +1,15 @@
 -- Tables that are written, and tables that are read.
 use Rattle.std.proofs.Common.{◌≡◌, ℕ, List, All, map, inl, inr, refl, ap, ◌∙◌}
 use Rattle.hz_answer_model.specs.Answers.{CompilesDescription}
-use Rattle.hz_answer_model.specs.Phases.{Next, TellsFault}
+use Rattle.hz_front_model.specs.Phases.{Next, TellsFault}
 use Rattle.hz_answer_model.specs.TableAnswers.{TablesFaultAt, HasTables}
 use Rattle.hz_tabtext_model.specs.Judging.{tables_word}
 use Rattle.hz_auto.specs.declared.compiled.Compiled.{Compiled}
 use Rattle.hz_auto.specs.Machines.{reports_of}
 use Rattle.hz_pipeline_model.proofs.Compiling.DescriptionLaws.{all_keep}
-use Rattle.hz_check.specs.declared.checked.Checked.{Checked}
+use Rattle.hz_checked.specs.declared.checked.Checked.{Checked}
 use Rattle.hz_check.specs.Checked.{IsCheckedOf}
-use Rattle.hz_check.specs.Shape.{automaton_of}
+use Rattle.hz_checked.specs.Shape.{automaton_of}
 use Rattle.hz_description_model.specs.Check.CheckedParts.{AutomatonParts}
 use Rattle.hz_mdread.specs.Shape.{options as options_of}
 use Rattle.hz_description_model.specs.Reading.Descriptions.{Description, Options}

@@ -4,10 +4,10 @@ use Rattle.std.proofs.lemmas.Option.{same_Some}
 use Rattle.std.specs.Prelude.{⊤, IfOk, option_and_then}
 use Rattle.std.specs.Borrow.{Bor}
 use Rattle.std.specs.Option.{option_map}
-use Rattle.hz_answer_model.specs.Answers.{TellsDescription, TellsCheck}
-use Rattle.hz_answer_model.specs.FaultTexts.{told_line, status_by}
-use Rattle.hz_answer_model.specs.Phases.{TellsFault}
-use Rattle.hz_answer_model.specs.Texts.{fault_text, passed_line}
+use Rattle.hz_front_model.specs.Descriptions.{TellsDescription, TellsCheck}
+use Rattle.hz_front_model.specs.FaultTexts.{told_line, status_by}
+use Rattle.hz_front_model.specs.Phases.{TellsFault}
+use Rattle.hz_front_model.specs.Texts.{fault_text, passed_line}
 use Rattle.hz_auto.specs.Faults.{count_of}
 use Rattle.hz_auto.specs.Machines.{IsFaultOf}
 use Rattle.hz_auto.specs.declared.fault.AutoFault.{AutoFault}
@@ -17,8 +17,8 @@ use Rattle.hz_pipeline_model.specs.Reaching.Counts.{Count}
 use Rattle.hz_base_model.specs.Forms.Trees.{Trees}
 use Rattle.hz_base_model.specs.Told.{told_by, told_in}
 use Rattle.hz_check.specs.Faults.{IsToldAt, limit_of}
-use Rattle.hz_check.specs.Shape.{automaton_of, class_of}
-use Rattle.hz_check.specs.declared.checked.Checked.{Checked}
+use Rattle.hz_checked.specs.Shape.{automaton_of, class_of}
+use Rattle.hz_checked.specs.declared.checked.Checked.{Checked}
 use Rattle.hz_check.specs.declared.fault.LimitName.{LimitName}
 use Rattle.hz_description_model.specs.Check.CheckFaults.{CheckFault, check_word, limit_passed, limit_word}
 use Rattle.hz_description_model.specs.Check.Sites.{Site}

@@ -7,7 +7,7 @@ use Rattle.hz_block_model.specs.Scheduling.Schedules.{Node}
 use Rattle.hz_block_model.specs.Scheduled.BlockGraphs.{timing_in, classes_of}
 use Rattle.hz_block_model.specs.Texts.StateTexts.{listing_text}
 use Rattle.hz_check.specs.Checked.{IsCheckedOf}
-use Rattle.hz_check.specs.declared.checked.Checked.{Checked}
+use Rattle.hz_checked.specs.declared.checked.Checked.{Checked}
 use Rattle.hz_depend.specs.GraphShape as depend
 use Rattle.hz_depend.specs.declared.parts.Graph.{Graph}
 use Rattle.hz_description_model.specs.Reading.Descriptions.{Description}

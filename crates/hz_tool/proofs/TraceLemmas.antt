@@ -5,7 +5,7 @@ use Rattle.std.specs.Option.{option_map}
 use Rattle.std.proofs.lemmas.List.{length-map}
 use Rattle.std.proofs.lemmas.Option.{slice_get-map, slice_get-get_or}
 use Rattle.hz_pipeline_model.specs.Accepting.Events.{Event}
-use Rattle.hz_answer_model.specs.Phases.{TellsFault, Traces}
+use Rattle.hz_front_model.specs.Phases.{TellsFault, Traces}
 use Rattle.std.specs.List.{onto_first}
 use Rattle.hz_base_model.specs.Lines.{lines_of}
 use Rattle.hz_replay.specs.declared.event.Event.{Event as Placed}

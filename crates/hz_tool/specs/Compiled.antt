@@ -3,8 +3,8 @@ use Rattle.std.specs.Prelude.{◌≡◌, map}
 use Rattle.hz_auto.specs.declared.compiled.Compiled.{Compiled}
 use Rattle.hz_auto.specs.Machines.{reports_of}
 use Rattle.hz_pipeline_model.specs.Compiling.Compiled.{IsCompiled}
-use Rattle.hz_check.specs.declared.checked.Checked.{Checked}
-use Rattle.hz_check.specs.Shape.{automaton_of, class_of}
+use Rattle.hz_checked.specs.declared.checked.Checked.{Checked}
+use Rattle.hz_checked.specs.Shape.{automaton_of, class_of}
 use Rattle.hz_mdread.specs.Shape.{options as options_of}
 use Rattle.hz_tables.specs.Machines.{machine_of}
 

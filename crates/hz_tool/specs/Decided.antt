@@ -1,6 +1,7 @@
 -- The text and the status of what is decided.
 use Rattle.std.specs.Prelude.{⊤, ℕ, List, map}
-use Rattle.hz_answer_model.specs.Texts as model
+use Rattle.hz_answer_model.specs.Texts.{drill_text}
+use Rattle.hz_front_model.specs.Texts as model
 use Rattle.hz_block_model.specs.Scheduling.Schedules.{present}
 use Rattle.hz_block_model.specs.Texts.StateTexts.{listing_text}
 use Rattle.hz_bound.specs.Shape.{names_of, bound_of}
@@ -39,7 +40,7 @@ text_of (Timed block schedule timed) = timed_text block schedule timed
 text_of (Bounded checked graph schedule bound) = bound_text (names_of checked) (map (λ i. i.number) graph.insns.items) (bound_of bound) (present 0 (slots_of schedule.slots.items))
 text_of (Paired machine first second slots alone) = duo_text machine.classes.items (map (λ i. i.number) first.insns.items) (map (λ i. i.number) second.insns.items) (graph_of first) (graph_of second) (map context_slot slots.items) alone.0 alone.1
 text_of (Overlapped machine graph schedule kernel) = text_of_slots machine.classes.items (map (λ i. i.number) graph.insns.items) (graph_of graph) (map kernel_slot_of kernel.slots.items) kernel.interval kernel.stages kernel.first_edge kernel.second_edge (present 0 (slots_of schedule.slots.items))
-text_of (Drilled turns issues cycles states) = model.drill_text turns issues cycles states.items
+text_of (Drilled turns issues cycles states) = drill_text turns issues cycles states.items
 text_of (After state) = listing_text (listing state)
 text_of (Fault file line kind insn first second at) = model.fault_text file.now line kind.now insn first second (told_in at)
 text_of (Limit file line what name) = model.passed_line file.now line (limit_word (limit_of what)) name

@@ -3,7 +3,7 @@ use Rattle.std.specs.Prelude.{◌≡◌, ◌⊎◌, ℕ, ◌+◌, ◌<◌, ⊤, 
 use Rattle.std.specs.declared.alloc.Global.{Global}
 use Rattle.std.specs.declared.vec.Vec.{Vec}
 use Rattle.hz_answer_model.specs.Answers.{files_of}
-use Rattle.hz_answer_model.specs.Phases.{FileWord}
+use Rattle.hz_front_model.specs.Phases.{FileWord}
 use Rattle.hz_base_model.specs.Names.{Held}
 use Rattle.hz_words_model.specs.Words.{Order, order_of}
 use Rattle.hz_tool.specs.Decided.{IsTellable, status_of, text_of}

@@ -1,9 +1,9 @@
 -- What the phases on a description give to those after them.
 use Rattle.std.specs.Prelude.{◌⊎◌, ℕ, List}
-use Rattle.hz_answer_model.specs.Answers.{TellsDescription, TellsCheck}
-use Rattle.hz_answer_model.specs.Phases.{TellsFault}
+use Rattle.hz_front_model.specs.Descriptions.{TellsDescription, TellsCheck}
+use Rattle.hz_front_model.specs.Phases.{TellsFault}
 use Rattle.hz_check.specs.Checked.{IsCheckedOf}
-use Rattle.hz_check.specs.declared.checked.Checked.{Checked}
+use Rattle.hz_checked.specs.declared.checked.Checked.{Checked}
 use Rattle.hz_description_model.specs.Reading.DescriptionForms as description_forms
 use Rattle.hz_description_model.specs.Reading.Descriptions.{Description}
 use Rattle.hz_base_model.specs.Forms.Forms.{form_word}

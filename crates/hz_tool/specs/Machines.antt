@@ -4,7 +4,8 @@ use Rattle.hz_pipeline_model.specs.Accepting.Asking.{IsOfQuery}
 use Rattle.hz_pipeline_model.specs.Accepting.Events.{Event, ask, IsOfClass}
 use Rattle.hz_pipeline_model.specs.Accepting.Replay.{Accepted}
 use Rattle.hz_pipeline_model.specs.Pipelines.Pipelines.{pipeline_with}
-use Rattle.hz_answer_model.specs.AskAnswers.{held_in, told_by, trace_names}
+use Rattle.hz_front_model.specs.Asks.{held_in, trace_names}
+use Rattle.hz_answer_model.specs.TableAnswers.{told_by}
 use Rattle.hz_pipeline_model.specs.Compiling.DescriptionLimits.{AllKeepLimits}
 use Rattle.hz_pipeline_model.specs.Tables.MachineNames.{names_of_machine}
 use Rattle.hz_pipeline_model.specs.Tables.Machines.{Machine, machine_walk}

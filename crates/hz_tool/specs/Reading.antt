@@ -3,8 +3,8 @@ use Rattle.std.specs.Prelude.{ℕ, List, map}
 use Rattle.std.specs.Borrow.{Bor}
 use Rattle.std.specs.declared.alloc.Global.{Global}
 use Rattle.std.specs.declared.vec.Vec.{Vec}
-use Rattle.hz_answer_model.specs.Phases as model
-use Rattle.hz_answer_model.specs.Phases.{OpensAll}
+use Rattle.hz_front_model.specs.Phases as model
+use Rattle.hz_front_model.specs.Phases.{OpensAll}
 use Rattle.hz_base_model.specs.Names.{Held}
 use Rattle.hz_tool.specs.declared.phases.read.FileWord.{FileWord}
 

@@ -1,8 +1,8 @@
 -- What is decided of each fault of the crates below.
 use Rattle.std.specs.Prelude.{◌≡◌, ℕ, List, Option, Some, None, Result, Ok, Err, slice_get}
 use Rattle.std.specs.Borrow.{Bor}
-use Rattle.hz_answer_model.specs.FaultTexts.{class_line}
-use Rattle.hz_answer_model.specs.Phases.{Says}
+use Rattle.hz_answer_model.specs.FaultTexts.{class_line, stuck_line}
+use Rattle.hz_front_model.specs.Phases.{Says}
 use Rattle.hz_auto.specs.declared.fault.AutoFault.{AutoFault}
 use Rattle.hz_auto.specs.declared.fault.AutoFault.TheVariants as auto_fault
 use Rattle.hz_check.specs.declared.fault.LimitName.{LimitName}
@@ -11,7 +11,6 @@ use Rattle.hz_depend.specs.declared.fault.DependFault.{DependFault}
 use Rattle.hz_depend.specs.declared.fault.DependFault.TheVariants as depend
 use Rattle.hz_io.specs.declared.faults.SlurpFault.{SlurpFault}
 use Rattle.hz_io.specs.declared.faults.SlurpFault.TheVariants as slurp
-use Rattle.hz_answer_model.specs.FaultTexts.{stuck_line}
 use Rattle.hz_rtl.specs.Shape.{instruction}
 use Rattle.hz_rtl.specs.declared.block.Insn.{Insn}
 use Rattle.hz_sched.specs.declared.fault.SchedFault.{SchedFault}

@@ -7,7 +7,8 @@ ghost use Rattle.hz_tool.specs.Decided.{replay_status, status_of, text_of, IsRef
 
 use hz_auto::Compiled;
 use hz_bound::{Bound, write_bound};
-use hz_check::{Checked, LimitName};
+use hz_check::LimitName;
+use hz_checked::Checked;
 use hz_depend::Graph;
 use hz_duo::{DuoSlot, write_duo};
 use hz_io::{Failed, Sink};

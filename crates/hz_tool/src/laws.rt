@@ -5,7 +5,7 @@ ghost use Rattle.hz_pipeline_model.specs.Accepting.Events.{Event, IsOfClass};
 ghost use Rattle.hz_pipeline_model.specs.Pipelines.Pipelines.{pipeline_with};
 ghost use Rattle.hz_auto.specs.declared.compiled.Compiled.{Compiled};
 ghost use Rattle.hz_check.specs.Checked.{IsCheckedOf};
-ghost use Rattle.hz_check.specs.declared.checked.Checked.{Checked};
+ghost use Rattle.hz_checked.specs.declared.checked.Checked.{Checked};
 ghost use Rattle.hz_description_model.specs.Reading.Descriptions.{Description};
 ghost use Rattle.hz_replay.specs.Replaying.{IsOutcome};
 ghost use Rattle.hz_replay.specs.declared.outcome.Outcome.{Outcome};

@@ -3,7 +3,6 @@
 
 mod commands;
 pub mod decision;
-pub mod host;
 pub mod laws;
 pub mod phases;
 mod top;

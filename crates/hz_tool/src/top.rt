@@ -4,13 +4,14 @@ ghost use Rattle.std.specs.Prelude.{◌≡◌, ◌⊎◌, ◌↔◌, ℕ, List, 
 ghost use Rattle.std.specs.Option.{ForSome};
 ghost use Rattle.hz_answer_model.specs.Answers.{Answer, AnswersOrder, JudgesOrder, files_of};
 ghost use Rattle.hz_answer_model.specs.BlockAnswers.{block_limit};
-ghost use Rattle.hz_answer_model.specs.Texts.{memory_line};
+ghost use Rattle.hz_front_model.specs.Texts.{memory_line};
 ghost use Rattle.hz_description_model.specs.Reading.Limits.{description_limit};
 ghost use Rattle.hz_words_model.specs.Words as model;
 ghost use Rattle.hz_words_model.specs.Words.{usage_line};
 ghost use Rattle.hz_tool.specs.Decided.{IsTellable};
 ghost use Rattle.hz_tool.specs.Decisions.{Agrees, CountsDecision, DecidesWords, IsFileOf, IsFileWord, IsJudged, IsOfOrder, NamesFile};
-ghost use Rattle.hz_tool.specs.Endings.{AppendsFile, AppendsPromised, Completes, HasAll, HasRoom, IsAppended, IsCutShort};
+ghost use Rattle.hz_front.specs.Endings.{AppendsFile, Completes, HasAll, HasRoom, IsAppended, IsCutShort};
+ghost use Rattle.hz_tool.specs.Endings.{AppendsPromised};
 ghost use Rattle.hz_tool.specs.Reading.{texts_in, wanted_in, word_of};
 ghost use Rattle.hz_tool_words.specs.Shape.{words_in, order_in};
 

@@ -2,14 +2,11 @@
 use Rattle.std.proofs.Common.{◌≡◌, ℕ, ◌+◌, ◌-◌, ◌<◌, ◌≤◌, take, drop, length-drop, ◌↔◌, ◌⊎◌, inl, inr, List, map, get_or, length, All, Contains, refl, sym, ◌∙◌, subst, arith, ⊎_elim}
 use Rattle.std.proofs.lemmas.Bool.{cases_lt}
 use Rattle.std.proofs.lemmas.List.{get_or-drop, get_or-take, length-take-le}
-use Rattle.std.proofs.lemmas.List.Elements.{All-drop, All-contains, Contains-append_cases, Contains-append_left, All-take}
-use Rattle.hz_base_model.specs.Pairs.{Pair}
+use Rattle.std.proofs.lemmas.List.Elements.{All-drop, All-contains, All-take}
 use Rattle.hz_base_model.proofs.Elements.{Contains-from_map}
 use Rattle.hz_description_model.specs.Reservations.Sets.{Statement, exclusion, presence, final_presence, absence, final_absence, AllowsIn, HoldsSome, HoldsPattern}
 use Rattle.hz_description_model.proofs.Reservations.FitLaws.{pattern_with}
 use Rattle.hz_grid.specs.Rows.{HasUnit, RowsMeet, IsWithin}
-use Rattle.hz_grid.specs.declared.usage.UsedRow.{UsedRow}
-use Rattle.hz_grid.specs.Used.{AreRowsOf, HasUnitsOf}
 use Rattle.hz_grid.specs.Stored.{units_of}
 use Rattle.hz_unitsets.specs.declared.set_rules.SetKind.{SetKind}
 use Rattle.hz_unitsets.specs.declared.set_rules.SetKind.TheVariants.{Exclusion, Presence, FinalPresence, Absence, FinalAbsence}
@@ -17,8 +14,8 @@ use Rattle.hz_unitsets.specs.declared.row_rules.Rule.{Rule}
 use Rattle.hz_unitsets.specs.SetRules.{kind_of}
 use Rattle.hz_unitsets.specs.declared.rules.Asked.{Asked}
 use Rattle.hz_unitsets.specs.declared.rules.Block.{Block}
-use Rattle.hz_unitsets.specs.RowRules.{statement_in, asked_statement, AllowsRows, Breaks, BreaksRow, IsRow, IsBounded, IsAsked, HasKey, AreKeys, IsWanted, IsSummed, IsBlock, IsPast, PassesRows, HasStanding, Between, AllowBetween}
-use Rattle.hz_unitsets.proofs.Cycles.{allows_untouched, allows_untriggered, allows_used, rows_untriggered, FirstHold}
+use Rattle.hz_unitsets.specs.RowRules.{statement_in, asked_statement, AllowsRows, BreaksRow, IsRow, IsBounded, IsAsked, HasKey, AreKeys, IsWanted, IsSummed, IsBlock, PassesRows, Between}
+use Rattle.hz_unitsets.proofs.Cycles.{rows_untriggered, FirstHold}
 use Rattle.hz_unitsets.proofs.RowUnits.{Contains-units_of, unit_from_units_in}
 
 -- ---- one rule
@@ -83,20 +80,17 @@ none_met keys row apart unit key h = apart (unit, key, h)
 pub summed_forbidding : (rule : Rule) (keys wanted : ℕ) → IsBounded rule → ((statement_in rule).kind ≡ presence → ⊥) → ((statement_in rule).kind ≡ final_presence → ⊥) → AreKeys rule.patterns.items rule.units keys → IsSummed (statement_in rule) keys wanted
 summed_forbidding rule keys wanted is other last are = record {
   allowed_rows = λ there added stands adds _. forbidding_allowed _ _ _ (λ u h. h) (λ u h. inl h) rule keys is other last are (none_met keys there stands) (none_met keys added adds);
-  allowed = λ source add cycle stands adds _. forbidding_allowed _ _ _ (λ u h. Contains-append_cases source add _ h) (λ u h. Contains-append_left source add _ h) rule keys is other last are stands adds;
 }
 
 -- of a rule that wants one
 pub summed_wanting : (rule : Rule) (keys wanted : ℕ) → Wants rule.kind → IsWanted (statement_in rule) rule.units keys wanted → IsSummed (statement_in rule) keys wanted
 summed_wanting rule keys wanted wants is = record {
   allowed_rows = λ there added _ adds stands. wanting_allowed _ _ _ (λ u h. h) (λ u h. inl h) rule keys wanted wants is (none_met keys added adds) stands;
-  allowed = λ source add cycle _ adds stands. wanting_allowed _ _ _ (λ u h. Contains-append_cases source add _ h) (λ u h. Contains-append_left source add _ h) rule keys wanted wants is adds stands;
 }
 
 pub summed_wider : (s : Statement ℕ) (keys wanted keys' wanted' : ℕ) → IsWithin keys keys' → IsWithin wanted wanted' → IsSummed s keys wanted → IsSummed s keys' wanted'
 summed_wider s keys wanted keys' wanted' more all is = record {
   allowed_rows = λ there added stood adds stands. is.allowed_rows there added (λ m. stood (m.0, more m.0 m.1, m.2)) (λ m. adds (m.0, more m.0 m.1, m.2)) (λ u want. stands u (all u want));
-  allowed = λ source add cycle there added stands. is.allowed source add cycle (λ u key. there u (more u key)) (λ u key. added u (more u key)) (λ u want. stands u (all u want));
 }
 
 -- ---- a block
@@ -144,22 +138,7 @@ one_so_far rules from to triggers keys wanted triggers' keys' wanted' more_keys 
       (cases_lt k to);
 }
 
--- rules that a block passes over allow each cycle
-pub past_allows : (rules : List Asked) (block : Block) (source add : List (Pair ℕ)) (rows : List UsedRow) (there units : ℕ) → All IsAsked rules → IsBlock rules block → All (λ asked. ¬ Breaks (asked_statement asked) source) rules → AreRowsOf add rows → HasStanding source rows there → HasUnitsOf add units
-    → IsPast block source rows there units → AllowBetween rules source add block.from block.to
-past_allows rules block source add rows there units asked is unbroken are stands has past k d low high =
-    let within : k < length rules = omega (arith, high, is.within) in
-    let triggers = (asked k d within).triggers in
-    let wider = is.triggers k d low high in
-    ⊎_elim
-    (λ apart. allows_untouched _ source add (get_or rules k d).triggers units (unbroken k d within) triggers has (λ m. apart (m.0, wider m.0 m.1, m.2)))
-    (λ h. allows_used _ source add rows (unbroken k d within) are (λ j e inside. ⊎_elim
-    (λ apart. allows_untriggered _ source add (get_or rows j e).cycle (unbroken k d within) (λ unit trigger held. apart (unit, wider unit (triggers unit trigger), ((are.each j e inside).units unit).1 held)))
-    (λ wanted. (is.summed k d low high).allowed source add (get_or rows j e).cycle (λ u key held. h.0 (u, key, stands j e inside u held)) (λ u key held. h.1 (u, key, has.units u _ held)) wanted)
-    (h.2 j e inside)))
-    past
-
--- and so of one cycle
+-- rules that a block passes over allow the cycle
 pub passes_allow : (rules : List Asked) (block : Block) (there added : ℕ) → All IsAsked rules → IsBlock rules block → All (λ asked. ¬ BreaksRow (asked_statement asked) there) rules → PassesRows block there added → Between (λ asked. AllowsRows (asked_statement asked) there added) rules block.from block.to
 passes_allow rules block there added asked is unbroken passes k d low high =
     let within : k < length rules = omega (arith, high, is.within) in
@@ -202,7 +181,3 @@ between_hold P rules from to order within = (
       subst P (sym (between_at rules from to j d inside))
       (h (from + j) d (omega arith) (omega (arith, inside, order))),
 )
-
--- where all rules have it, those between do
-pub all_hold_between : (P : Asked → Type 0) (rules : List Asked) (from to : ℕ) → to ≤ length rules → All P rules → Between P rules from to
-all_hold_between P rules from to within h k d low high = h k d (omega (arith, high, within))

@@ -20,7 +20,7 @@ use Rattle.hz_unitsets.specs.declared.set_rules.SetKind.TheVariants.{Exclusion, 
 use Rattle.hz_unitsets.specs.declared.row_rules.Rule.{Rule}
 use Rattle.hz_unitsets.specs.declared.rules.Asked.{Asked}
 use Rattle.hz_unitsets.specs.SetRules.{kind_of}
-use Rattle.hz_unitsets.specs.RowRules.{statement_in, asked_statement, AllowsAt, AllowsRows, Allows, Breaks, BreaksRow, IsTrigger, IsAsked, AreAsked, ClearsIn, IsClear, HasStanding}
+use Rattle.hz_unitsets.specs.RowRules.{statement_in, asked_statement, AllowsAt, AllowsRows, Allows, Breaks, BreaksRow, IsTrigger, IsAsked, AreAsked}
 
 -- ---- where no added unit may break a statement
 
@@ -58,22 +58,6 @@ final_presence_alone FinalAbsence e = absurd (cc)
 
 -- ---- one cycle, by rows
 
-result_rows : (source add : List (Pair ℕ)) (cycle there added all : ℕ) → ((u : ℕ) → HasUnit there u ↔ Holds source cycle u) → ((u : ℕ) → HasUnit added u ↔ Holds add cycle u) → ((u : ℕ) → HasUnit all u ↔ (HasUnit there u ⊎ HasUnit added u)) → (u : ℕ) → HasUnit all u ↔ Holds (source ++ add) cycle u
-result_rows source add cycle there added all is_there is_added is_all u = (
-  λ h. ⊎_elim
-      (λ l. Contains-append_left source add _ ((is_there u).0 l))
-      (λ r. Contains-append_right source add _ ((is_added u).0 r))
-      ((is_all u).0 h),
-  λ h. (is_all u).1 (⊎_elim (λ l. inl ((is_there u).1 l)) (λ r. inr ((is_added u).1 r)) (Contains-append_cases source add _ h)),
-)
-
-pub allows_by_rows : (s : Statement ℕ) (source add : List (Pair ℕ)) (cycle there added all : ℕ) → ((u : ℕ) → HasUnit there u ↔ Holds source cycle u) → ((u : ℕ) → HasUnit added u ↔ Holds add cycle u) → ((u : ℕ) → HasUnit all u ↔ (HasUnit there u ⊎ HasUnit added u)) → AllowsIn s (HasUnit there) (HasUnit added) (HasUnit all) ↔ AllowsAt s source add cycle
-allows_by_rows s source add cycle there added all is_there is_added is_all =
-    let is_result = result_rows source add cycle there added all is_there is_added is_all in (
-      allows_same s _ _ _ _ _ _ is_there is_added is_result,
-      allows_same s _ _ _ _ _ _ (λ u. iff_back _ _ (is_there u)) (λ u. iff_back _ _ (is_added u)) (λ u. iff_back _ _ (is_result u)),
-    )
-
 -- what stands in a cycle or is among the units that are added there
 pub both_units : (source add : List (Pair ℕ)) (cycle units : ℕ) → ((u : ℕ) → HasUnit units u ↔ Holds add cycle u) → (u : ℕ) → (Holds source cycle u ⊎ HasUnit units u) ↔ Holds (source ++ add) cycle u
 both_units source add cycle units is u = (
@@ -82,11 +66,6 @@ both_units source add cycle units is u = (
 )
 
 -- ---- all cycles
-
-pub allows_untouched : (s : Statement ℕ) (source add : List (Pair ℕ)) (triggers units : ℕ) → (Breaks s source → ⊥) → ((unit : ℕ) → IsTrigger s unit → HasUnit triggers unit) → HasUnitsOf add units → (RowsMeet triggers units → ⊥) → Allows s source add
-allows_untouched s source add triggers units unbroken has all apart = record {
-  at = λ cycle. allows_untriggered s source add cycle unbroken (λ unit is h. apart (unit, has unit is, all.units unit cycle h));
-}
 
 -- by the cycles in which a unit is added
 pub allows_used : (s : Statement ℕ) (source add : List (Pair ℕ)) (rows : List UsedRow) → (Breaks s source → ⊥) → AreRowsOf add rows → All (λ row. AllowsAt s source add row.cycle) rows → Allows s source add
@@ -97,50 +76,6 @@ allows_used s source add rows unbroken are each = record { at = λ cycle. here c
         let (row, there, at) = row_at_cycle cycle rows e in
         subst (AllowsAt s source add) at (All-contains (λ (r : UsedRow). AllowsAt s source add r.cycle) rows row each there)
     here cycle false e = allows_untriggered s source add cycle unbroken (λ unit _ h. let t = are.whole unit cycle h in absurd (cc))
-
--- ---- all cycles, by the whole of what stands in them
-
-cleared_at : (s : Statement ℕ) (source add : List (Pair ℕ)) (cycle there units : ℕ) → ((u : ℕ) → Holds source cycle u → HasUnit there u) → ((u : ℕ) → Holds add cycle u → HasUnit units u)
-    → ClearsIn s (HasUnit there) (HasUnit units) (λ u. HasUnit there u ⊎ HasUnit units u) → AllowsAt s source add cycle
-cleared_at s source add cycle there units stands adds clear = record {
-  excluded = λ e some pattern. clear.excluded e (some_with s.units _ _ both some) (pattern_with s.patterns _ _ both pattern);
-  present = λ e some. absurd (clear.present e (some_with s.units _ _ adds some));
-  finally_present = λ e some. absurd (clear.finally_present e (some_with s.units _ _ adds some));
-  absent = λ e some pattern. clear.absent e (some_with s.units _ _ adds some) (pattern_with s.patterns _ _ stands pattern);
-  finally_absent = λ e some pattern. clear.finally_absent e (some_with s.units _ _ adds some) (pattern_with s.patterns _ _ both pattern);
-}
-  where
-    both : (u : ℕ) → Holds (source ++ add) cycle u → (HasUnit there u ⊎ HasUnit units u)
-    both u h = ⊎_elim (λ l. inl (stands u l)) (λ r. inr (adds u r)) (Contains-append_cases source add _ h)
-
-pub allows_cleared : (s : Statement ℕ) (source add : List (Pair ℕ)) (rows : List UsedRow) (there units : ℕ) → (Breaks s source → ⊥) → AreRowsOf add rows → HasStanding source rows there → HasUnitsOf add units → IsClear s there units → Allows s source add
-allows_cleared s source add rows there units unbroken are stands has clear = ⊎_elim
-    (λ clears. allows_used s source add rows unbroken are (λ k d low. cleared_at s source add _ there units (stands k d low) (λ u. has.units u _) clears))
-    (λ none. record { at = λ cycle. allows_untriggered s source add cycle unbroken (λ unit is h. none unit is (has.units unit cycle h)) })
-    clear
-
--- the row has what stands in the cycles of the first rows
-abbrev pub StandsBefore : List (Pair ℕ) → List UsedRow → ℕ → ℕ → Type 0
-StandsBefore source rows cycles there = (k : ℕ) (d : UsedRow) → k < cycles → (unit : ℕ) → Holds source (get_or rows k d).cycle unit → HasUnit there unit
-
-pub standing_more : (source : List (Pair ℕ)) (rows : List UsedRow) (cycles old here new : ℕ) (used : UsedRow) → StandsBefore source rows cycles old → ((e : UsedRow) → used ≡ get_or rows cycles e)
-    → ((u : ℕ) → HasUnit here u ↔ Holds source used.cycle u) → ((u : ℕ) → HasUnit new u ↔ (HasUnit old u ⊎ HasUnit here u)) → StandsBefore source rows (cycles + 1) new
-standing_more source rows cycles old here new used before read is_here is_new k d low unit h = ⊎_elim
-    (λ (less : k < cycles). (is_new unit).1 (inl (before k d less unit h)))
-    (λ (same : cycles ≤ k).
-    let is : k ≡ cycles = omega (arith, low, same) in
-    let there = subst (λ (n : ℕ). Holds source (get_or rows n d).cycle unit) is h in
-    (is_new unit).1 (inr ((is_here unit).1 (subst (λ (r : UsedRow). Holds source r.cycle unit) (sym (read d)) there))))
-    (cases_lt k cycles)
-
-pub clears_joined : (s : Statement ℕ) (there added all : ℕ) → ((u : ℕ) → HasUnit all u ↔ (HasUnit there u ⊎ HasUnit added u)) → ClearsIn s (HasUnit there) (HasUnit added) (HasUnit all) → ClearsIn s (HasUnit there) (HasUnit added) (λ u. HasUnit there u ⊎ HasUnit added u)
-clears_joined s there added all is_all clear = record {
-  excluded = λ e some pattern. clear.excluded e (some_with s.units _ _ (λ u. (is_all u).1) some) (pattern_with s.patterns _ _ (λ u. (is_all u).1) pattern);
-  present = clear.present;
-  finally_present = clear.finally_present;
-  absent = clear.absent;
-  finally_absent = λ e some pattern. clear.finally_absent e some (pattern_with s.patterns _ _ (λ u. (is_all u).1) pattern);
-}
 
 -- ---- one cycle, by what stands there and what is added alone
 
@@ -172,70 +107,11 @@ allows_joined s there added all is_all = (
   allows_same s _ _ _ _ _ _ (λ u. (λ x. x, λ x. x)) (λ u. (λ x. x, λ x. x)) (λ u. iff_back _ _ (is_all u)),
 )
 
--- rows that are those of two grids in a cycle
-module _ (source add : List (Pair ℕ)) (cycle there added : ℕ) (is_there : (u : ℕ) → HasUnit there u ↔ Holds source cycle u) (is_added : (u : ℕ) → HasUnit added u ↔ Holds add cycle u) where
-  both_rows : (u : ℕ) → (HasUnit there u ⊎ HasUnit added u) ↔ Holds (source ++ add) cycle u
-  both_rows u = (
-    λ h. ⊎_elim (λ l. Contains-append_left source add _ ((is_there u).0 l)) (λ r. Contains-append_right source add _ ((is_added u).0 r)) h,
-    λ h. ⊎_elim (λ l. inl ((is_there u).1 l)) (λ r. inr ((is_added u).1 r)) (Contains-append_cases source add _ h),
-  )
-
-  pub rows_at : (s : Statement ℕ) → AllowsRows s there added ↔ AllowsAt s source add cycle
-  rows_at s = (
-    allows_same s _ _ _ _ _ _ is_there is_added both_rows,
-    allows_same s _ _ _ _ _ _ (λ u. iff_back _ _ (is_there u)) (λ u. iff_back _ _ (is_added u)) (λ u. iff_back _ _ (both_rows u)),
-  )
-
-  pub all_rows_at : (rules : List Asked) → All (λ asked. AllowsRows (asked_statement asked) there added) rules ↔ All (λ asked. AllowsAt (asked_statement asked) source add cycle) rules
-  all_rows_at rules = (
-    λ h k d within. (rows_at (asked_statement (get_or rules k d))).0 (h k d within),
-    λ h k d within. (rows_at (asked_statement (get_or rules k d))).1 (h k d within),
-  )
-
-pub rows_unbroken : (rules : List Asked) (source : List (Pair ℕ)) (cycle there : ℕ) → ((u : ℕ) → HasUnit there u ↔ Holds source cycle u) → All (λ asked. ¬ Breaks (asked_statement asked) source) rules → All (λ asked. ¬ BreaksRow (asked_statement asked) there) rules
-rows_unbroken rules source cycle there is_there unbroken k d within b =
-    let s = asked_statement (get_or rules k d) in
-    unbroken k d within (b.0, (cycle, some_with s.units _ _ (λ u. (is_there u).0) b.1, pattern_with s.patterns _ _ (λ u. (is_there u).0) b.2))
-
--- ---- rules, cycle by cycle
-
--- each rule allows each of the first cycles
-abbrev pub AllowBefore : List Asked → List (Pair ℕ) → List (Pair ℕ) → List UsedRow → ℕ → Type 0
-AllowBefore rules source add rows cycles = (k : ℕ) (d : UsedRow) → k < cycles → All (λ asked. AllowsAt (asked_statement asked) source add (get_or rows k d).cycle) rules
-
-pub allow_more : (rules : List Asked) (source add : List (Pair ℕ)) (rows : List UsedRow) (cycles : ℕ) (used : UsedRow) → AllowBefore rules source add rows cycles → ((e : UsedRow) → used ≡ get_or rows cycles e)
-    → All (λ asked. AllowsAt (asked_statement asked) source add used.cycle) rules → AllowBefore rules source add rows (cycles + 1)
-allow_more rules source add rows cycles used before read here k d low = ⊎_elim
-    (λ (less : k < cycles). before k d less)
-    (λ (same : cycles ≤ k).
-    let is : cycles ≡ k = omega (arith, low, same) in
-    subst (λ (n : ℕ). All (λ asked. AllowsAt (asked_statement asked) source add (get_or rows n d).cycle) rules) is
-    (subst (λ (r : UsedRow). All (λ asked. AllowsAt (asked_statement asked) source add r.cycle) rules) (read d) here))
-    (cases_lt k cycles)
-
--- by the cycles in which a unit is added
-pub all_allow_used : (rules : List Asked) (source add : List (Pair ℕ)) (rows : List UsedRow) → All (λ asked. ¬ Breaks (asked_statement asked) source) rules → AreRowsOf add rows → AllowBefore rules source add rows (length rows)
-    → All (λ asked. Allows (asked_statement asked) source add) rules
-all_allow_used rules source add rows unbroken are before i e within = allows_used _ source add rows (unbroken i e within) are (λ k d low. before k d low i e within)
-
 -- ---- rules, one by one
 
 -- each of the first rules has it
 abbrev pub FirstHold : (Asked → Type 0) → List Asked → ℕ → Type 0
 FirstHold P rules count = (k : ℕ) (d : Asked) → k < count → P (get_or rules k d)
-
--- each of the first rules allows each cycle
-abbrev pub FirstAllow : List Asked → List (Pair ℕ) → List (Pair ℕ) → ℕ → Type 0
-FirstAllow rules source add count = FirstHold (λ asked. Allows (asked_statement asked) source add) rules count
-
-pub first_more : (rules : List Asked) (source add : List (Pair ℕ)) (count : ℕ) (asked : Asked) → FirstAllow rules source add count → ((e : Asked) → asked ≡ get_or rules count e) → Allows (asked_statement asked) source add → FirstAllow rules source add (count + 1)
-first_more rules source add count asked before read here k d low = ⊎_elim
-    (λ (less : k < count). before k d less)
-    (λ (same : count ≤ k).
-    let is : count ≡ k = omega (arith, low, same) in
-    subst (λ (n : ℕ). Allows (asked_statement (get_or rules n d)) source add) is
-    (subst (λ (a : Asked). Allows (asked_statement a) source add) (read d) here))
-    (cases_lt k count)
 
 -- the rules from that place on
 abbrev pub rest_of : List Asked → ℕ → List Asked
@@ -305,12 +181,6 @@ module _ (rules : List Asked) (source : List (Pair ℕ)) where
   pub rules_unbroken : IsUnbroken (map asked_statement rules) source → All (λ asked. ¬ Breaks (asked_statement asked) source) rules
   rules_unbroken h = λ k d within breaks. h.excluded _ (Contains-map asked_statement rules (get_or rules k d) (Contains-get_or rules k d within)) breaks.0 breaks.1.0 breaks.1.1 breaks.1.2
 
-  pub allow_rules : (add : List (Pair ℕ)) → All (λ asked. Allows (asked_statement asked) source add) rules ↔ All (λ s. Allows s source add) (map asked_statement rules)
-  allow_rules add = (
-    λ h. All-map (λ s. Allows s source add) asked_statement rules h,
-    λ h k d within. All-contains (λ s. Allows s source add) (map asked_statement rules) _ h (Contains-map asked_statement rules (get_or rules k d) (Contains-get_or rules k d within)),
-  )
-
 -- the same of one cycle
 module _ (rules : List Asked) (there : ℕ) where
   pub rows_of_statements : All (λ s. ¬ BreaksRow s there) (map asked_statement rules) → All (λ asked. ¬ BreaksRow (asked_statement asked) there) rules
@@ -326,12 +196,6 @@ module _ (rules : List Asked) (there : ℕ) where
 pub none_touched_rows : (rules : List Asked) (all there added : ℕ) → AreAsked rules all → All (λ asked. ¬ BreaksRow (asked_statement asked) there) rules → (RowsMeet all added → ⊥) → All (λ asked. AllowsRows (asked_statement asked) there added) rules
 none_touched_rows rules all there added are unbroken apart k d within =
     rows_untriggered _ there added (unbroken k d within) (λ unit is h. apart (unit, are.triggers k d within unit ((are.each k d within).triggers unit is), h))
-
--- where no unit is added that may break a rule, all allow each cycle
-pub none_touched : (rules : List Asked) (all units : ℕ) (source add : List (Pair ℕ)) → AreAsked rules all → All (λ asked. ¬ Breaks (asked_statement asked) source) rules → HasUnitsOf add units → (RowsMeet all units → ⊥)
-    → All (λ asked. Allows (asked_statement asked) source add) rules
-none_touched rules all units source add are unbroken of apart k d within =
-    allows_untouched _ source add (get_or rules k d).triggers units (unbroken k d within) (are.each k d within).triggers of (λ m. apart (m.0, are.triggers k d within m.0 m.1, m.2))
 
 -- one more rule
 pub asked_more : (rules : List Asked) (asked : Asked) (old new : ℕ) → AreAsked rules old → IsAsked asked → ((unit : ℕ) → HasUnit new unit ↔ (HasUnit old unit ⊎ HasUnit asked.triggers unit)) → AreAsked (rules ++ asked ∷ []) new

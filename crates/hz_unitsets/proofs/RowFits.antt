@@ -1,5 +1,6 @@
 -- What fits, cycle by cycle.
-use Rattle.std.proofs.Common.{ℕ, ◌↔◌, ◌⊎◌, inl, inr, ⊎_elim, List, ◌++◌, All, get_or}
+use Rattle.std.proofs.Common.{ℕ, ◌<◌, ◌≤◌, ◌↔◌, ◌⊎◌, inl, inr, ⊎_elim, List, ◌++◌, All, get_or, arith}
+use Rattle.std.proofs.lemmas.Bool.{cases_lt}
 use Rattle.std.proofs.lemmas.List.Elements.{All-contains, Contains-get_or}
 use Rattle.hz_base_model.specs.Pairs.{Pair}
 use Rattle.hz_description_model.specs.Reservations.Sets.{Statement, Holds, Fits}
@@ -9,8 +10,8 @@ use Rattle.hz_grid.specs.Rows.{HasUnit, RowsMeet}
 use Rattle.hz_grid.specs.declared.usage.UsedRow.{UsedRow}
 use Rattle.hz_grid.specs.Used.{IsRowOf, AreRowsOf}
 use Rattle.hz_grid.proofs.UsedLemmas.{meets_by_rows}
-use Rattle.hz_unitsets.specs.RowRules.{AllowsRows, BreaksRow, FitsRow}
-use Rattle.hz_unitsets.proofs.Cycles.{allows_used, fits_grids, grids_apart, grids_allowed, both_units}
+use Rattle.hz_unitsets.specs.RowRules.{AllowsRows, BreaksRow, FitsRow, FitsAt}
+use Rattle.hz_unitsets.proofs.Cycles.{allows_untriggered, allows_used, fits_grids, grids_apart, grids_allowed, both_units}
 
 -- ---- the row that stands in the cycle
 
@@ -60,3 +61,26 @@ module _ (statements : List (Statement ℕ)) (source add : List (Pair ℕ)) wher
       fit.apart meets)
       (λ i s low. allows_used _ source add rows (λ b. unbroken.excluded _ (Contains-get_or statements i s low) b.0 b.1.0 b.1.1 b.1.2) are
       (λ j d inside. allows_same _ _ _ _ _ _ _ (λ u. (λ x. x, λ x. x)) (are.each j d inside).units (result (get_or rows j d) (are.each j d inside)) ((each j d inside).allowed i s low)))
+
+  -- the units that are added in a cycle fit, and so do the pairs of that cycle
+  pub fits_at : (cycle units : ℕ) → ((unit : ℕ) → HasUnit units unit ↔ Holds add cycle unit) → FitsRow statements source cycle units → FitsAt statements source add cycle
+  fits_at cycle units is h = record {
+    apart = λ unit there here. h.apart (unit, there, (is unit).1 here);
+    allowed = λ k d within. allows_same _ _ _ _ _ _ _ (λ u. (λ x. x, λ x. x)) is (both_units source add cycle units is) (h.allowed k d within);
+  }
+
+  -- and where pairs fit, the units of each cycle do
+  pub row_of_cycle : (cycle units : ℕ) → ((unit : ℕ) → HasUnit units unit ↔ Holds add cycle unit) → Fits statements source add 0 → FitsRow statements source cycle units
+  row_of_cycle cycle units is h = row_of_fitting (record { cycle = cycle; units = units }) (record { units = is }) h
+
+  -- where the pairs of each cycle fit a source that breaks no exclusion, all pairs do
+  pub fits_of_cycles : (end : ℕ) → IsUnbroken statements source → ((unit cycle : ℕ) → Holds add cycle unit → cycle < end) → ((cycle : ℕ) → cycle < end → FitsAt statements source add cycle) → Fits statements source add 0
+  fits_of_cycles end unbroken above each = fits_grids statements source add
+      (λ m. let (p, there, here) = m in (each p.cycle (above p.unit p.cycle here)).apart p.unit there here)
+      (λ i s low. record {
+        at = λ cycle. ⊎_elim
+            (λ (before : cycle < end). (each cycle before).allowed i s low)
+            (λ (past : end ≤ cycle). allows_untriggered _ source add cycle (λ b. unbroken.excluded _ (Contains-get_or statements i s low) b.0 b.1.0 b.1.1 b.1.2)
+            (λ unit _ held. let lt = above unit cycle held in omega (arith, lt, past)))
+            (cases_lt cycle end);
+      })

@@ -4,7 +4,6 @@ use Rattle.hz_base_model.specs.Pairs.{Pair}
 use Rattle.hz_description_model.specs.Reservations.Sets.{Statement, exclusion, presence, final_presence, absence, final_absence, Holds, HoldsSome, HoldsPattern, AllowsIn}
 use Rattle.hz_grid.specs.declared.rows.TheConstants.{UNITS}
 use Rattle.hz_grid.specs.Rows.{HasUnit, RowsMeet, IsWithin}
-use Rattle.hz_grid.specs.declared.usage.UsedRow.{UsedRow}
 use Rattle.hz_grid.specs.Used.{MeetsIn}
 use Rattle.hz_unitsets.specs.declared.row_rules.Rule.{Rule}
 use Rattle.hz_unitsets.specs.declared.rules.Asked.{Asked}
@@ -57,23 +56,6 @@ BreaksRow s row = (s.kind ≡ exclusion) × HoldsSome s.units (HasUnit row) × H
 abbrev pub IsTrigger : Statement ℕ → ℕ → Type 0
 IsTrigger s unit = Contains s.units unit ⊎ ((s.kind ≡ exclusion) × (pattern : List ℕ) × Contains s.patterns pattern × Contains pattern unit)
 
--- In no cycle with parts of these units the statement is broken: what it forbids is not in all of them, and what it wants is
--- not asked for.
-pub record ClearsIn (s : Statement ℕ) (there added all : ℕ → Type 0) : Type 0 where
-  pub excluded : s.kind ≡ exclusion → HoldsSome s.units all → HoldsPattern s.patterns all → ⊥
-  pub present : s.kind ≡ presence → HoldsSome s.units added → ⊥
-  pub finally_present : s.kind ≡ final_presence → HoldsSome s.units added → ⊥
-  pub absent : s.kind ≡ absence → HoldsSome s.units added → HoldsPattern s.patterns there → ⊥
-  pub finally_absent : s.kind ≡ final_absence → HoldsSome s.units added → HoldsPattern s.patterns all → ⊥
-
--- The same of rows, what stands and what is added. Or no unit is added that may break the statement.
-abbrev pub IsClear : Statement ℕ → ℕ → ℕ → Type 0
-IsClear s there added = ClearsIn s (HasUnit there) (HasUnit added) (λ unit. HasUnit there unit ⊎ HasUnit added unit) ⊎ ((unit : ℕ) → IsTrigger s unit → HasUnit added unit → ⊥)
-
--- the row has the units that the pairs hold in the cycles of the rows
-abbrev pub HasStanding : List (Pair ℕ) → List UsedRow → ℕ → Type 0
-HasStanding pairs rows there = All (λ row. (unit : ℕ) → Holds pairs row.cycle unit → HasUnit there unit) rows
-
 -- the statement of a rule that is asked
 abbrev pub asked_statement : Asked → Statement ℕ
 asked_statement asked = statement_in asked.rule
@@ -109,10 +91,9 @@ AreKeys patterns units keys = All (λ pattern. HasKey pattern keys) patterns ⊎
 abbrev pub IsWanted : Statement ℕ → ℕ → ℕ → ℕ → Type 0
 IsWanted s units keys wanted = HoldsPattern s.patterns (HasUnit wanted) ⊎ IsWithin units keys
 
--- The statement allows a cycle where no key stands and none is added, and all that is wanted stands: of pairs, and of rows.
+-- The statement allows a cycle of these rows where no key is in either, and all that is wanted is reserved.
 pub record IsSummed (s : Statement ℕ) (keys wanted : ℕ) : Type 0 where
   pub allowed_rows : (there added : ℕ) → (RowsMeet keys there → ⊥) → (RowsMeet keys added → ⊥) → IsWithin wanted there → AllowsRows s there added
-  pub allowed : (source add : List (Pair ℕ)) (cycle : ℕ) → ((unit : ℕ) → HasUnit keys unit → Holds source cycle unit → ⊥) → ((unit : ℕ) → HasUnit keys unit → Holds add cycle unit → ⊥) → ((unit : ℕ) → HasUnit wanted unit → Holds source cycle unit) → AllowsAt s source add cycle
 
 -- the block speaks of each rule from its first to its last
 pub record IsBlock (rules : List Asked) (block : Block) : Type 0 where
@@ -121,35 +102,24 @@ pub record IsBlock (rules : List Asked) (block : Block) : Type 0 where
   pub triggers : (k : ℕ) (d : Asked) → block.from ≤ k → k < block.to → IsWithin (get_or rules k d).triggers block.triggers
   pub summed : (k : ℕ) (d : Asked) → block.from ≤ k → k < block.to → IsSummed (asked_statement (get_or rules k d)) block.keys block.wanted
 
--- all that the block wants stands in the row's cycle, if a unit is added there that may break one of its rules
-abbrev pub StandsHere : Block → List (Pair ℕ) → UsedRow → Type 0
-StandsHere block pairs row = (RowsMeet block.triggers row.units → ⊥) ⊎ ((unit : ℕ) → HasUnit block.wanted unit → Holds pairs row.cycle unit)
-
--- the same in each cycle of the rows
-abbrev pub StandsInEach : Block → List (Pair ℕ) → List UsedRow → Type 0
-StandsInEach block pairs rows = All (StandsHere block pairs) rows
-
--- It is seen that no rule of the block is broken: no unit is added that may break one, or no key stands or is added and all
--- that is wanted stands.
-abbrev pub IsPast : Block → List (Pair ℕ) → List UsedRow → ℕ → ℕ → Type 0
-IsPast block source rows there units = (RowsMeet block.triggers units → ⊥) ⊎ ((RowsMeet block.keys there → ⊥) × (RowsMeet block.keys units → ⊥) × StandsInEach block source rows)
-
--- the same of one cycle with these rows, what stands there and what is added
+-- It is seen that no rule of the block is broken in a cycle with these rows, what is reserved there and what is added: no unit is
+-- added that may break one, or no key is in either and all that is wanted is reserved.
 abbrev pub PassesRows : Block → ℕ → ℕ → Type 0
 PassesRows block there added = (RowsMeet block.triggers added → ⊥) ⊎ ((RowsMeet block.keys there → ⊥) × (RowsMeet block.keys added → ⊥) × IsWithin block.wanted there)
 
--- the same holds of each rule from one place to another
+-- this holds of each rule from one place to another
 abbrev pub Between : (Asked → Type 0) → List Asked → ℕ → ℕ → Type 0
 Between holds rules from to = (k : ℕ) (d : Asked) → from ≤ k → k < to → holds (get_or rules k d)
-
--- each rule from one place to another allows each cycle
-abbrev pub AllowBetween : List Asked → List (Pair ℕ) → List (Pair ℕ) → ℕ → ℕ → Type 0
-AllowBetween rules source add from to = Between (λ asked. Allows (asked_statement asked) source add) rules from to
 
 -- Units that are added in a cycle fit the source: none stands there, and each statement allows the cycle.
 pub record FitsRow (statements : List (Statement ℕ)) (source : List (Pair ℕ)) (cycle units : ℕ) : Type 0 where
   pub apart : MeetsIn source cycle units → ⊥
   pub allowed : All (λ s. AllowsIn s (Holds source cycle) (HasUnit units) (λ unit. Holds source cycle unit ⊎ HasUnit units unit)) statements
+
+-- Pairs that are added fit the source in that cycle: none is in both, and each statement allows the cycle.
+pub record FitsAt (statements : List (Statement ℕ)) (source add : List (Pair ℕ)) (cycle : ℕ) : Type 0 where
+  pub apart : (unit : ℕ) → Holds source cycle unit → Holds add cycle unit → ⊥
+  pub allowed : All (λ s. AllowsAt s source add cycle) statements
 
 -- rules that are asked, with their blocks
 pub record AreBuilt (rules : List Asked) (blocks : List Block) (all : ℕ) : Type 0 where

@@ -4,7 +4,7 @@ ghost use Rattle.std.specs.Prelude.{◌≡◌, ◌↔◌, ◌<◌, ℕ, map, All
 ghost use Rattle.hz_description_model.specs.Reservations.Sets.{AllowsIn, HoldsSome, HoldsPattern};
 ghost use Rattle.hz_grid.specs.Rows.{HasUnit, IsWithin};
 ghost use Rattle.hz_unitsets.specs.SetRules.{statement_of, IsInRange, in_order, ordered};
-ghost use Rattle.hz_unitsets.specs.RowRules.{statement_in, IsRow, IsBounded, IsTrigger, Breaks, ClearsIn, StandsIn, StandsAt, HasKey, AreKeys, IsWanted, IsSummed};
+ghost use Rattle.hz_unitsets.specs.RowRules.{statement_in, IsRow, IsBounded, IsTrigger, Breaks, StandsIn, StandsAt, HasKey, AreKeys, IsWanted, IsSummed};
 ghost use Rattle.hz_grid.specs.Stored.{units_of};
 
 use crate::set_rules::{SetKind, SetRule};
@@ -61,20 +61,6 @@ impl Rule {
         }
     }
 
-    /// Whether no cycle in which no more than these rows stands, is added and is there in all, can break the rule. A presence
-    /// is broken where its pattern is missing, so only what is added can clear it.
-    pub(crate) fn clears_rows(&self, source: Row<4>, added: Row<4>, all: Row<4>) -> bool
-        requires { IsBounded self.now }
-        ensures { IsTrue result → ClearsIn (statement_in self.now) (HasUnit source) (HasUnit added) (HasUnit all) }
-    {
-        match self.kind {
-            SetKind::Exclusion => !self.holds_some(all) || !self.holds_pattern(all),
-            SetKind::Presence | SetKind::FinalPresence => !self.holds_some(added),
-            SetKind::Absence => !self.holds_some(added) || !self.holds_pattern(source),
-            SetKind::FinalAbsence => !self.holds_some(added) || !self.holds_pattern(all),
-        }
-    }
-
     /// Whether the source breaks the rule: it is an exclusion, and in some cycle a unit stands with a pattern of it.
     pub(crate) fn is_broken(&self, source: &Grid) -> bool
         requires { IsBounded self.now }
@@ -84,11 +70,6 @@ impl Rule {
             SetKind::Exclusion => self.stands_in(source),
             _ => false,
         }
-    }
-
-    /// How many patterns it has.
-    pub(crate) fn pattern_count(&self) -> usize {
-        self.patterns.len()
     }
 
     // Whether in some cycle a unit of the rule stands with a pattern of it.

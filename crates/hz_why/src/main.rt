@@ -2,7 +2,7 @@
 #![tactic(auto)]
 
 use hz_explain::run;
-use hz_tool::host::{RealFiles, RealSink, words};
+use hz_front::host::{RealFiles, RealSink, words};
 use std::process::ExitCode;
 
 fn main(rt: HostRuntime) -> ExitCode {

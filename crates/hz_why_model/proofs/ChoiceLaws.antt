@@ -1,5 +1,5 @@
 -- Of the lists of choices that accept events one comes first.
-use Rattle.std.proofs.Common.{Ordering, ◌≡◌, ℕ, List, refl, sym, ap, ◌∙◌, subst}
+use Rattle.std.proofs.Common.{Ordering, ◌≡◌, ℕ, List, refl, ap, ◌∙◌, subst}
 use Rattle.std.specs.Ordering.{nat_cmp, ordering_reverse}
 use Rattle.std.specs.Cmp.Lexicographic.{slice_cmp, lists_total}
 use Rattle.std.specs.FinMap.{nat_cmp-IsAntisymmetric, slice_cmp-IsAntisymmetric}

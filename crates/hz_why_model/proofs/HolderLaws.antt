@@ -1,11 +1,11 @@
 -- Entries are the calendar, and each pair has one holder.
-use Rattle.std.proofs.Common.{◌≡◌, ℕ, suc, ◌+◌, ◌<◌, ◌⊎◌, ⊎_elim, List, [], ◌∷◌, ◌++◌, drop, map, length, slice_index, Contains, refl, sym, ap, ◌∙◌, subst, arith}
+use Rattle.std.proofs.Common.{◌≡◌, ℕ, suc, ◌+◌, ◌<◌, ⊎_elim, List, [], ◌∷◌, ◌++◌, drop, length, slice_index, Contains, refl, sym, ap, ◌∙◌, subst, arith}
 use Rattle.std.proofs.lemmas.List.{drop_more}
 use Rattle.std.proofs.lemmas.List.Elements.{Contains-append_left, Contains-append_right, Contains-append_cases}
 use Rattle.hz_base_model.specs.Pairs.{Pair, placed}
 use Rattle.hz_base_model.proofs.Elements.{Contains-nil, Contains-from_map}
 use Rattle.hz_pipeline_model.specs.Accepting.Events.{Event, issue, advance, ask, issues_of, cycles_of}
-use Rattle.hz_pipeline_model.specs.Accepting.Replay.{Pipeline, chosen, calendar, IsChoice, left_by}
+use Rattle.hz_pipeline_model.specs.Accepting.Replay.{Pipeline, chosen, calendar, IsChoice}
 use Rattle.hz_pipeline_model.proofs.Accepting.ReplayLaws.{issues_of-append, calendar-append, same_first, same_rest}
 use Rattle.hz_why_model.specs.Holders.{Entry, entries_of, entries, pairs_in}
 

@@ -4,5 +4,4 @@ pub mod Taking
 pub mod WaitLaws
 pub mod HolderLaws
 pub mod ChoiceLaws
-pub mod FrontLaws
 pub mod SingleLaws

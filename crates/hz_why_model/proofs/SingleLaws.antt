@@ -1,5 +1,5 @@
 -- What is told of a trace is told in one way.
-use Rattle.std.proofs.Common.{◌≡◌, ℕ, List, [], ◌∷◌, ◌++◌, inl, inr, Option, Some, None, MatchOption, take, refl, sym, ap, ◌∙◌, subst}
+use Rattle.std.proofs.Common.{◌≡◌, ℕ, List, [], ◌∷◌, ◌++◌, inl, inr, Option, Some, None, MatchOption, take, sym, ap, ◌∙◌, subst}
 use Rattle.std.specs.Prelude.{slice_get}
 use Rattle.std.proofs.lemmas.Option.{same_Some}
 use Rattle.hz_base_model.specs.Lines.{lines_of}
@@ -14,9 +14,9 @@ use Rattle.hz_pipeline_model.specs.Pipelines.Pipelines.{pipeline_with}
 use Rattle.hz_pipeline_model.specs.Traces.TraceLimits.{trace_limit}
 use Rattle.hz_pipeline_model.specs.Traces.Traces.{event_lines}
 use Rattle.hz_pipeline_model.proofs.Accepting.AcceptanceLaws.{one_refused, accepted_or_refused}
-use Rattle.hz_answer_model.specs.AskAnswers.{held_in, trace_names}
-use Rattle.hz_answer_model.specs.Phases.{FileWord, Says}
-use Rattle.hz_answer_model.proofs.AnswerLaws.{IsSingle, says_single, replays_single, traces_single, description_single, files_single}
+use Rattle.hz_front_model.specs.Asks.{held_in, trace_names}
+use Rattle.hz_front_model.specs.Phases.{Says}
+use Rattle.hz_front_model.proofs.SingleLaws.{IsSingle, says_single, replays_single, traces_single, description_single, files_single}
 use Rattle.hz_why_model.specs.Answers.{wording_of, Explains, ReplaysAndExplains, ExplainsTrace, why_usage, why_files, JudgesTexts, AnswersFiles, WhyAnswer}
 use Rattle.hz_why_model.specs.Explanations.{Wording, TellsLeft, TellsRefusal, left_text, refusal_text}
 use Rattle.hz_why_model.specs.Waits.{IsWait}

@@ -1,6 +1,5 @@
 -- What the program that explains answers: what `replay` answers, and behind it why. This profile, docs/FORMATS.md, 'Explanations'.
 use Rattle.std.specs.Prelude.{◌≡◌, ◌⊎◌, ℕ, List, [], ◌∷◌, ◌++◌, take, codes, Option, Some, None, MatchOption, slice_get, slice_index_or, if◌then◌else◌}
-use Rattle.std.specs.List.{concat}
 use Rattle.hz_base_model.specs.Lines.{lines_of}
 use Rattle.hz_base_model.specs.Names.{Held}
 use Rattle.hz_description_model.specs.Check.CheckedParts.{units_in}
@@ -13,13 +12,12 @@ use Rattle.hz_pipeline_model.specs.Accepting.Events.{Event, issue}
 use Rattle.hz_pipeline_model.specs.Accepting.Replay.{Pipeline, Accepted, FirstRefused}
 use Rattle.hz_pipeline_model.specs.Pipelines.Pipelines.{pipeline_with}
 use Rattle.hz_pipeline_model.specs.Traces.TraceLimits.{trace_limit}
-use Rattle.hz_pipeline_model.specs.Traces.TraceNames.{TraceNames}
 use Rattle.hz_pipeline_model.specs.Traces.Traces.{event_lines}
 use Rattle.hz_words_model.specs.Words.{has_option}
-use Rattle.hz_answer_model.specs.Answers.{HasDescription, Replays}
-use Rattle.hz_answer_model.specs.AskAnswers.{Reserved, trace_names, held_in}
-use Rattle.hz_answer_model.specs.Phases.{Says, Next, OpensAll, FileWord, Traces}
-use Rattle.hz_answer_model.specs.Texts.{states_line}
+use Rattle.hz_front_model.specs.Descriptions.{HasDescription}
+use Rattle.hz_front_model.specs.Replays.{Replays}
+use Rattle.hz_front_model.specs.Asks.{trace_names, held_in}
+use Rattle.hz_front_model.specs.Phases.{Says, Next, OpensAll, Traces}
 use Rattle.hz_why_model.specs.Explanations.{Wording, TellsLeft, TellsRefusal}
 use Rattle.hz_why_model.specs.Reasons.{same_place}
 
@@ -97,11 +95,3 @@ AnswersFiles held files =
 -- that is not held.
 abbrev pub WhyAnswer : List (List ℕ) → Held → ℕ → List ℕ → Type 0
 WhyAnswer words held status text = MatchOption (why_files words) (Says 4 why_usage status text) (λ files. AnswersFiles held files status text)
-
--- ---- beside what `replay` answers
-
--- The text begins with an answer of this status; or else it is answered that an automaton of the description of this name has too many
--- states.
-abbrev pub Begins : (description : List ℕ) → (answers : ℕ → List ℕ → Type 0) → ℕ → List ℕ → Type 0
-Begins description answers status text =
-    ((answer rest : List ℕ) × (answers status answer × (text ≡ answer ++ rest))) ⊎ ((automaton : List ℕ) × answers 3 (states_line description automaton))

@@ -8,12 +8,8 @@ use Rattle.std.specs.List.{AllPairs}
 use Rattle.std.specs.Option.{option_map}
 use Rattle.hz_check.specs.Names.First.{first_of}
 use Rattle.hz_base_model.proofs.Ascending.{AllPairs-head, AllPairs-tail}
+use Rattle.hz_checked.proofs.RowSteps.{AllPairs-drop}
 use Rattle.hz_description_model.specs.Check.Sites.{Site, earlier, earliest}
-
-pub AllPairs-drop : {A : Type 0} (R : A → A → Type 0) (n : ℕ) (xs : List A) → AllPairs R xs → AllPairs R (drop n xs)
-AllPairs-drop R zero xs h = h
-AllPairs-drop R (suc n) [] h = h
-AllPairs-drop R (suc n) (x ∷ xs) h = AllPairs-drop R n xs (AllPairs-tail R x xs h)
 
 abbrev Before : Site → Site → Type 0
 Before s t = s.form ≤ t.form

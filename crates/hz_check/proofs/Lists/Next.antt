@@ -15,9 +15,6 @@ pub flat_map-map : {A B C : Type 0} (g : B → List C) (f : A → B) (xs : List 
 flat_map-map g f [] = refl
 flat_map-map g f (x ∷ xs) = ap (λ (ys : List _). g (f x) ++ ys) (flat_map-map g f xs)
 
-pub drop_number : (xs : List ℕ) (i : ℕ) → i < length xs → drop i xs ≡ get_or xs i 0 ∷ drop (i + 1) xs
-drop_number xs i lt = drop-cons xs i 0 lt ∙ ap (λ (n : ℕ). get_or xs i 0 ∷ drop n xs) (sym (add-one i))
-
 -- what is done with one item more
 pub done_next : {A B : Type 0} (f : A → B) (xs : List A) (i : ℕ) (x : A) → x ≡ get_or xs i x → i < length xs → map f (take (i + 1) xs) ≡ map f (take i xs) ++ f x ∷ []
 done_next {A} f xs i x is lt = ap (map f) (take_more xs i x lt ∙ ap (λ (y : A). take i xs ++ y ∷ []) (sym is)) ∙ map-append f (take i xs) (x ∷ [])

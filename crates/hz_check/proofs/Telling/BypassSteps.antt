@@ -10,7 +10,7 @@ use Rattle.std.proofs.lemmas.Slice.Eq.{bytes_eq-Decides}
 use Rattle.std.specs.List.{list_any}
 use Rattle.std.specs.Option.{option_map}
 use Rattle.std.specs.Str.{bytes_eq}
-use Rattle.hz_check.specs.Faults.Bypasses.{number_at, is_other}
+use Rattle.hz_checked.specs.NumberRows.{number_at, is_other}
 use Rattle.hz_check.proofs.HeldNumbers.{HoldsNumbers}
 use Rattle.hz_check.specs.Names.First.{first_of}
 use Rattle.hz_check.proofs.Lists.Earliest.{earliest-append, earlier-earlier}

@@ -17,7 +17,8 @@ use Rattle.hz_check_reservations.specs.declared.listing.unit_place.UnitPlace.{Un
 use Rattle.hz_check_reservations.specs.Shape.{place_of}
 use Rattle.hz_check.specs.Faults.PastUnits.{IsWithin}
 use Rattle.hz_check.proofs.Lists.Earliest.{earlier-earlier}
-use Rattle.hz_check.proofs.Lists.InOrder.{AllPairs-drop, earlier_one}
+use Rattle.hz_check.proofs.Lists.InOrder.{earlier_one}
+use Rattle.hz_checked.proofs.RowSteps.{AllPairs-drop}
 use Rattle.hz_check.proofs.Lists.Next.{drop_next}
 use Rattle.hz_base_model.proofs.Ascending.{AllPairs-head}
 use Rattle.hz_description_model.specs.Reservations.Automata.{UnitPlace}

@@ -2,7 +2,7 @@
 
 ghost use Rattle.std.specs.Prelude.{◌≡◌, ◌==◌, ◌<◌, ◌&&◌, ℕ, Bool, All, Some, None, OnOk, OnErr, IfOk, List, [], length, vec_len, if◌then◌else◌, filter};
 ghost use Rattle.std.specs.List.{list_any};
-ghost use Rattle.hz_check.specs.Faults.Bypasses.{given_in, rows_of, number_at, is_other, has_other};
+ghost use Rattle.hz_checked.specs.NumberRows.{given_in, rows_of, number_at, is_other, has_other};
 ghost use Rattle.hz_check.specs.Names.First.{first_of};
 
 use hz_regexp::NoMemory;

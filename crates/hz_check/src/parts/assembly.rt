@@ -3,16 +3,16 @@
 ghost use Rattle.std.specs.Prelude.{◌≡◌, ◌<◌, ◌≤◌, ℕ, All, IfOk, codes, length, map};
 ghost use Rattle.hz_mdread.specs.Shape.{description, bypass_item};
 ghost use Rattle.hz_check.specs.Parts.Assembly.{placed_statement, IsPlaced};
-ghost use Rattle.hz_check.specs.Shape.{automaton_of, bypass_of, attribute_of};
+ghost use Rattle.hz_checked.specs.Shape.{automaton_of, bypass_of, attribute_of};
 ghost use Rattle.hz_description_model.specs.Check.CheckedParts.{units_in, queries_in, automaton_parts, automata_from, automata_of, bypass_parts, class_numbers};
 ghost use Rattle.hz_base_model.specs.Limits as limits;
 ghost use Rattle.hz_description_model.specs.Check.Places.{statement_of};
 
-use crate::checked::{CheckedAutomaton, CheckedBypass};
 use crate::names::Names;
 use crate::names::class_numbers::class_numbers;
 use crate::parts::placed_sets::PlacedSet;
 use crate::parts::rules::rules;
+use hz_checked::{CheckedAutomaton, CheckedBypass};
 use hz_mdread::{AttrItem, BypassItem};
 use hz_regexp::{Name, NoMemory};
 use std::alloc::Global;

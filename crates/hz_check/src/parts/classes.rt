@@ -3,7 +3,7 @@
 ghost use Rattle.std.specs.Prelude.{◌≡◌, ◌≤◌, IfOk, All, length, map, vec_len};
 ghost use Rattle.hz_altern.specs.Shapes.{alternatives};
 ghost use Rattle.hz_mdread.specs.Shape.{class_item};
-ghost use Rattle.hz_check.specs.Shape.{class_of};
+ghost use Rattle.hz_checked.specs.Shape.{class_of};
 ghost use Rattle.hz_check.specs.Parts.Classes.{lists_in, class_with, classes_with};
 ghost use Rattle.hz_description_model.specs.Reservations.AlternativeLists.{IsCuttable};
 ghost use Rattle.hz_description_model.specs.Reservations.Alternatives.{alternatives_of};
@@ -13,8 +13,8 @@ ghost use Rattle.hz_description_model.specs.Check.CheckedParts.{automaton_count,
 ghost use Rattle.hz_description_model.specs.Reading.Descriptions as model;
 ghost use Rattle.hz_base_model.specs.Limits.{automaton_limit};
 
-use crate::checked::CheckedClass;
 use hz_altern::{Alt, project};
+use hz_checked::CheckedClass;
 use hz_grid::Grid;
 use hz_mdread::ClassItem;
 use hz_regexp::NoMemory;

@@ -3,15 +3,15 @@
 ghost use Rattle.std.specs.Prelude.{◌≡◌, ◌==◌, ◌<◌, ◌&&◌, not, false, ℕ, All, Some, None, OnOk, IfOk, List, [], filter, length, map, vec_len, if◌then◌else◌, slice_index};
 ghost use Rattle.std.specs.List.{list_any, AllPairs};
 ghost use Rattle.hz_block_model.specs.Dependences.Classes.{bypass_between, number_between};
-ghost use Rattle.hz_check.specs.Faults.Bypasses.{given_in, rows_of, number_at};
-ghost use Rattle.hz_check.specs.Shape.{bypass_of};
+ghost use Rattle.hz_checked.specs.NumberRows.{given_in, rows_of, number_at};
+ghost use Rattle.hz_checked.specs.Shape.{bypass_of};
 ghost use Rattle.hz_depend.specs.GraphShape.{latencies_of};
 ghost use Rattle.hz_depend.specs.Held.{held};
 ghost use Rattle.hz_depend.specs.Numbers.{has_guard, served, numbers_in, HoldsNumbers};
 ghost use Rattle.hz_rtl.specs.Shape.{instruction};
 
 use crate::nodes::Node;
-use hz_check::{Checked, CheckedBypass};
+use hz_checked::{Checked, CheckedBypass};
 use hz_regexp::NoMemory;
 use hz_rtl::{Insn, store_data_bypass};
 use std::alloc::Global;
@@ -120,7 +120,7 @@ fn give_all(
 }
 
 /// Whether a bypass has the guard, or has none, as it is asked.
-fn is_asked(bypass: &CheckedBypass, guard: bool) -> bool
+pub(crate) fn is_asked(bypass: &CheckedBypass, guard: bool) -> bool
     ensures { result ≡ has_guard guard (bypass_of bypass.now) }
 {
     if guard { bypass.guard } else { !bypass.guard }
@@ -170,7 +170,7 @@ fn number_in(rows: &[Vec<Option<u32>>], out: u32, into: u32) -> Option<u32>
 /// The cycles of a true dependence of two instructions, by the numbers of the bypasses of their classes, and by the latency of the
 /// first. What the second stores is only asked where a bypass with the guard lists both.
 #[tactic(auto, using(crate::proofs::NumberLemmas::none_served))]
-fn served(
+pub(crate) fn served(
     guarded: Option<u32>,
     plain: Option<u32>,
     latency: u32,

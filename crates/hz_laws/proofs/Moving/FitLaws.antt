@@ -11,9 +11,9 @@ use Rattle.hz_laws.specs.Moving.{moved_pair, moved_pairs, IsLate, IsTied}
 
 module _ {U : Type 0} where
   -- both hold the same of the units that the statement names
-  record Agrees (s : Statement U) (held other : U → Type 0) : Type 0 where
-    units : (u : U) → Contains s.units u → held u ↔ other u
-    patterns : (pattern : List U) → Contains s.patterns pattern → (u : U) → Contains pattern u → held u ↔ other u
+  pub record Agrees (s : Statement U) (held other : U → Type 0) : Type 0 where
+    pub units : (u : U) → Contains s.units u → held u ↔ other u
+    pub patterns : (pattern : List U) → Contains s.patterns pattern → (u : U) → Contains pattern u → held u ↔ other u
 
   agrees_back : (s : Statement U) (held other : U → Type 0) → Agrees s held other → Agrees s other held
   agrees_back s held other h = record {
@@ -28,7 +28,7 @@ module _ {U : Type 0} where
   pattern_there s held other h (pattern, there, all) = (pattern, there, λ u is. (h.patterns pattern there u is).0 (all u is))
 
   -- a statement depends on which of its units are held
-  allows_agreed : (s : Statement U) (source added result source' added' result' : U → Type 0) → Agrees s source source' → Agrees s added added' → Agrees s result result' → AllowsIn s source added result → AllowsIn s source' added' result'
+  pub allows_agreed : (s : Statement U) (source added result source' added' result' : U → Type 0) → Agrees s source source' → Agrees s added added' → Agrees s result result' → AllowsIn s source added result → AllowsIn s source' added' result'
   allows_agreed s source added result source' added' result' so ad re h =
       let so' = agrees_back s source source' so in
       let ad' = agrees_back s added added' ad in

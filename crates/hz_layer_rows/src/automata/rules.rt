@@ -7,7 +7,7 @@ ghost use Rattle.std.specs.Prelude.{◌<◌, All, IsTrue};
 ghost use Rattle.hz_unitsets.specs.SetRules.{IsInRange};
 
 use crate::automata::texts::{grid_of, units_of};
-use hz_grid::{Grid, UNITS, Usage};
+use hz_grid::UNITS;
 use hz_unitsets::{Rules, SetKind, SetRule};
 use std::alloc::Global;
 
@@ -78,20 +78,10 @@ pub fn rules_of(alloc: Global, text: &str) -> Option<Rules> {
     None
 }
 
-/// Whether the second grid fits the first under rules. Where the first breaks no exclusion, both calls say so.
-fn fits(rules: &Rules, source: &Grid, added: &Usage) -> Option<bool> {
-    let fits = rules.fits(source, added);
-    if rules.is_unbroken(source) && rules.fits_unbroken(source, added) != fits {
-        return None;
-    }
-    Some(fits)
-}
-
 /// Whether the grid behind a `/` fits the one before it under rules.
 fn judge(alloc: Global, rules: &Rules, text: &str) -> Option<bool> {
     let (source, added) = text.split_once('/')?;
-    let added = Usage::of(alloc, grid_of(alloc, added)?).ok()?;
-    fits(rules, &grid_of(alloc, source)?, &added)
+    Some(rules.fits(&grid_of(alloc, source)?, &grid_of(alloc, added)?))
 }
 
 /// Whether the grid behind a `/` fits the one before it under the statements beside.

@@ -4,7 +4,7 @@ ghost use Rattle.std.specs.Prelude.{◌≡◌, ◌≤◌, ◌<◌, ◌^◌, leng
 
 use crate::texts::forms::MOST_BYTES;
 use crate::texts::given::{Given, read_given};
-use hz_check::Checked;
+use hz_checked::Checked;
 use hz_depend::{GraphInsn, graph};
 use hz_io::MemSink;
 use hz_rtl::{Block, State, read_state};

@@ -10,7 +10,7 @@ ghost use Rattle.hz_tables.specs.Machines.{machine_of};
 
 use crate::texts::given::{Given, read_given};
 use hz_auto::compile;
-use hz_check::Checked;
+use hz_checked::Checked;
 use hz_depend::{Graph, graph};
 use hz_replay::{Event, Outcome, What, replay};
 use hz_rtl::Block;

@@ -3,7 +3,7 @@
 use crate::texts::checks::checked_of;
 use crate::texts::forms::MOST_BYTES;
 use hz_auto::{AutoReport, Compiled, Shown, compile};
-use hz_check::Checked;
+use hz_checked::Checked;
 use hz_tables::Table;
 use std::alloc::Global;
 use std::fmt::Write;

@@ -4,7 +4,7 @@ ghost use Rattle.hz_tabfile.specs.Saying.{IsSayable};
 
 use crate::tables::compiling::described;
 use hz_auto::{Compiled, compile};
-use hz_check::Checked;
+use hz_checked::Checked;
 use hz_io::MemSink;
 use hz_tabfile::write_tables;
 use std::alloc::Global;

@@ -4,7 +4,8 @@ ghost use Rattle.std.specs.Prelude.{◌<◌, ◌^◌, length};
 
 use crate::texts::forms::MOST_BYTES;
 use crate::written::text_of;
-use hz_check::{CheckFault, Checked, check};
+use hz_check::{CheckFault, check};
+use hz_checked::Checked;
 use hz_mdread::read_description;
 use hz_regexp::Name;
 use hz_sexp::read_forms;

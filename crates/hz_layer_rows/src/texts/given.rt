@@ -4,7 +4,7 @@ ghost use Rattle.std.specs.Prelude.{◌<◌, ◌^◌, length};
 
 use crate::texts::checks::checked_of;
 use crate::texts::forms::MOST_BYTES;
-use hz_check::Checked;
+use hz_checked::Checked;
 use hz_rtl::{Block, read_block};
 use hz_sexp::read_forms;
 use std::alloc::Global;

@@ -20,7 +20,7 @@ use Rattle.hz_measure_model.proofs.Bounds.LoadLaws.{load_below}
 use Rattle.hz_measure_model.proofs.Bounds.ChainLaws.{chain_costs}
 use Rattle.hz_measure_model.proofs.Bounds.PathLaws.{path_below}
 
-greatest_below : (ns : List ℕ) (limit : ℕ) → ((n : ℕ) → Contains ns n → n ≤ limit) → greatest ns ≤ limit
+pub greatest_below : (ns : List ℕ) (limit : ℕ) → ((n : ℕ) → Contains ns n → n ≤ limit) → greatest ns ≤ limit
 greatest_below [] limit all = omega arith
 greatest_below (n ∷ ns) limit all = let rest = greatest_below ns limit (λ m there. all m (Contains-tail n m ns there)) in let here = all n (Contains-head n ns) in omega (arith, rest, here)
 

@@ -21,7 +21,7 @@ use Rattle.hz_pipeline_model.specs.Accepting.Replay.{Pipeline, alternatives_at, 
 use Rattle.hz_block_model.specs.Scheduling.Schedules.{Node, Graph, Slot, class_at, places, present, advance_to, spelled, spell, Legal}
 use Rattle.hz_block_model.proofs.Scheduling.TraceLaws.{cycles_spelled}
 use Rattle.hz_measure_model.specs.Bounds.Paths.{greatest}
-use Rattle.hz_measure_model.specs.Bounds.Loads.{least, takes, cycles_in, ways, Load, force, users, cycles_of_users, asked_load, load_of}
+use Rattle.hz_measure_model.specs.Bounds.Loads.{least, takes, cycles_in, ways, Load, force, users, cycles_of_users, count, span, asked_load, load_of}
 use Rattle.hz_measure_model.proofs.Bounds.Numbers.{Differs, greatest_above, least_below, least_low}
 use Rattle.hz_pipeline_model.proofs.Decidable.FlatLists.{in_flat_map}
 use Rattle.hz_measure_model.proofs.Bounds.Held.{asked, Offers, room}
@@ -75,7 +75,7 @@ module _ (u : UnitPlace) (a : Alternative UnitPlace) where
 
 -- ---- traces of slots
 
-spelled_issues : (g : Graph) (cycle : ℕ) (slots : List Slot) (k : ℕ) → Contains (spelled g cycle slots) (issue k) → (x : Slot) × Contains slots x × (class_at g x.place ≡ k)
+pub spelled_issues : (g : Graph) (cycle : ℕ) (slots : List Slot) (k : ℕ) → Contains (spelled g cycle slots) (issue k) → (x : Slot) × Contains slots x × (class_at g x.place ≡ k)
 spelled_issues g cycle [] k there = absurd (Contains-nil (issue k) there)
 spelled_issues g cycle (x ∷ slots) k there = ⊎_elim
     (λ (h : Contains (advance_to cycle x.cycle) (issue k)). absurd (no_advance (nat_lt cycle x.cycle) h))
@@ -102,7 +102,7 @@ module _ (force : ℕ → ℕ) where
   asked-append (advance n ∷ xs) ys = asked-append xs ys
   asked-append (ask a q ∷ xs) ys = asked-append xs ys
 
-  asked_spelled : (g : Graph) (cycle : ℕ) (slots : List Slot) → asked force (spelled g cycle slots) ≡ sum_by (λ p. force (class_at g p)) (places slots)
+  pub asked_spelled : (g : Graph) (cycle : ℕ) (slots : List Slot) → asked force (spelled g cycle slots) ≡ sum_by (λ p. force (class_at g p)) (places slots)
   asked_spelled g cycle [] = refl
   asked_spelled g cycle (x ∷ slots) = omega (
     arith,
@@ -141,7 +141,7 @@ module _ (force : ℕ → ℕ) where
       (Contains-cons_cases q p ps there)
 
   -- classes of places from one on, all of which an order holds
-  sum_held : (classes : List ℕ) (first : ℕ) (class : ℕ → ℕ) → ((i d : ℕ) → i < length classes → class (first + i) ≡ get_or classes i d) → (order : List ℕ) → ((i : ℕ) → i < length classes → Contains order (first + i)) → sum_by force classes ≤ sum_by (λ p. force (class p)) order
+  pub sum_held : (classes : List ℕ) (first : ℕ) (class : ℕ → ℕ) → ((i d : ℕ) → i < length classes → class (first + i) ≡ get_or classes i d) → (order : List ℕ) → ((i : ℕ) → i < length classes → Contains order (first + i)) → sum_by force classes ≤ sum_by (λ p. force (class p)) order
   sum_held [] first class is order there = omega arith
   sum_held (c ∷ classes) first class is order there =
       let w = without order (first + 0) (λ p. force (class p)) (there 0 (omega arith)) in
@@ -193,7 +193,7 @@ module _ (m : Pipeline UnitPlace) (u : UnitPlace) (classes : List ℕ) where
       rw n.is (offered_by k n.item there inside)
 
 -- the count of the users is that of all
-count_all : (f : ℕ → ℕ) (classes : List ℕ) → sum_by f (filter (λ k. nat_lt 0 (f k)) classes) ≡ sum_by f classes
+pub count_all : (f : ℕ → ℕ) (classes : List ℕ) → sum_by f (filter (λ k. nat_lt 0 (f k)) classes) ≡ sum_by f classes
 count_all f [] = refl
 count_all f (k ∷ classes) = go (nat_lt 0 (f k)) refl (count_all f classes)
   where
@@ -232,6 +232,10 @@ module _ (m : Pipeline UnitPlace) (g : Graph) (slots : List Slot) (legal : Legal
     where
       at : (i d : ℕ) → i < length classes → class_at g (0 + i) ≡ get_or classes i d
       at i d lt = rw zero-add (get_or_default classes i 0 d lt)
+
+  -- what all ask for finds room
+  pub count_below : count (ways m u) classes ≤ present 0 slots + span (ways m u) classes + 1
+  count_below = omega (arith, asked_for, all_held, count_all f classes)
 
   pub load_below : (load : Load) → load_of (ways m u) classes ≡ Some load → load.value ≤ present 0 slots
   load_below load is = go (nat_lt 0 (length (users (ways m u) classes))) is

@@ -170,6 +170,10 @@ module _ (accepts : List Event → Type 0) (body : List Instruction) (t : Timing
         stand_copied
         (n * interval + (present 0 slots + 1))
 
+    -- cycles of turns don't fall
+    pub turns_rise : AllPairs Rises (turns (length body) interval slots n)
+    turns_rise = pairs_weaker Earlier Rises (turns (length body) interval slots n) (λ a b e. e.rises) ordered
+
     -- each place of the copies is issued
     issued : (i : ℕ) → i < n * length body → (x : Slot) × Contains (turns (length body) interval slots n) x × (x.place ≡ i)
     issued i lt =
@@ -225,7 +229,7 @@ module _ (accepts : List Event → Type 0) (body : List Instruction) (t : Timing
       pub turns_legal : map (λ node. node.class) h.nodes ≡ map (λ node. node.class) (repeated g n).nodes → accepts (spell (repeated g n) (turns (length body) interval slots n)) → Legal accepts h (turns (length body) interval slots n)
       turns_legal classes accepted = record {
         order = rw all turns_order;
-        rising = pairs_weaker Earlier Rises (turns (length body) interval slots n) (λ a b e. e.rises) ordered;
+        rising = turns_rise;
         kept = kept;
         accepted = subst accepts (sym (spelled_alike (repeated g n) h classes 0 (turns (length body) interval slots n))) accepted;
       }

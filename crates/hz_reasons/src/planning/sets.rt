@@ -9,8 +9,9 @@ ghost use Rattle.hz_reasons.specs.Planning.{AreRulesUpTo};
 ghost use Rattle.hz_reasons.specs.Plans.{unit_of, statement_of};
 
 use crate::plan::{AutomatonUnit, SetStatement};
-use hz_check::{CheckedAutomaton, PlacedSet};
+use hz_check::PlacedSet;
 use hz_check_reservations::UnitPlace;
+use hz_checked::CheckedAutomaton;
 use hz_grid::NoMemory;
 use hz_unitsets::Rules;
 use std::alloc::Global;

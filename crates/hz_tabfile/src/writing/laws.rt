@@ -2,8 +2,8 @@
 
 ghost use Rattle.std.specs.Prelude.{◌≡◌, map};
 ghost use Rattle.hz_mdread.specs.Shape.{options as options_of};
-ghost use Rattle.hz_check.specs.Shape.{automaton_of, class_of};
-ghost use Rattle.hz_check.specs.declared.checked.Checked.{Checked};
+ghost use Rattle.hz_checked.specs.Shape.{automaton_of, class_of};
+ghost use Rattle.hz_checked.specs.declared.checked.Checked.{Checked};
 ghost use Rattle.hz_tables.specs.Machines.{machine_of};
 ghost use Rattle.hz_auto.specs.declared.compiled.Compiled.{Compiled};
 ghost use Rattle.hz_auto.specs.Machines.{reports_of};

@@ -8,7 +8,7 @@ ghost use Rattle.hz_pipeline_model.specs.Tables.Tables.{IsTable};
 ghost use Rattle.hz_pipeline_model.specs.Tables.Machines.{advance_of};
 ghost use Rattle.hz_tables.specs.Parts.{part_of};
 ghost use Rattle.hz_tables.specs.Machines.{machine_of};
-ghost use Rattle.hz_check.specs.Shape.{automaton_of};
+ghost use Rattle.hz_checked.specs.Shape.{automaton_of};
 ghost use Rattle.hz_tabtext_model.specs.Texts.{line_text, header_line, treatment_line, class_line, part_lines, spelled};
 ghost use Rattle.hz_tabtext_model.specs.Said.{part_said};
 ghost use Rattle.hz_auto.specs.Reports.{shown_of, report_of};
@@ -19,7 +19,7 @@ ghost use Rattle.hz_tabfile.specs.Saying.{IsWritable, IsSayable, AreWritable, pa
 use crate::writing::lines::{add_asks, add_class, add_count, add_counts, add_head, add_map};
 use crate::writing::rows::{add_states, all_columns};
 use hz_auto::{AutoReport, Compiled};
-use hz_check::{Checked, CheckedAutomaton};
+use hz_checked::{Checked, CheckedAutomaton};
 use hz_io::page::{Page, add};
 use hz_io::{Failed, Sink};
 use hz_regexp::Name;

@@ -6,7 +6,7 @@ ghost use Rattle.hz_base_model.specs.Names.{is_name};
 ghost use Rattle.hz_pipeline_model.specs.Tables.StateLimits.{state_limit};
 ghost use Rattle.hz_tables.specs.Parts.{rows_of};
 ghost use Rattle.hz_tables.specs.Machines.{machine_of};
-ghost use Rattle.hz_check.specs.Shape.{automaton_of};
+ghost use Rattle.hz_checked.specs.Shape.{automaton_of};
 ghost use Rattle.hz_auto.specs.Reports.{shown_of, report_of};
 ghost use Rattle.hz_auto.specs.Machines.{reports_of};
 ghost use Rattle.hz_grid.specs.Grids.{IsGrid};
@@ -15,7 +15,7 @@ ghost use Rattle.hz_tabtext_model.specs.Texts.{AreCounts};
 ghost use Rattle.hz_tabtext_model.specs.Said.{counts_said, IsInRange};
 
 use hz_auto::{AutoReport, Compiled, Shown};
-use hz_check::{Checked, CheckedAutomaton};
+use hz_checked::{Checked, CheckedAutomaton};
 use hz_grid::Grid;
 use hz_regexp::Name;
 use hz_tables::{Part, Table};

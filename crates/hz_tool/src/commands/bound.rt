@@ -1,7 +1,8 @@
 //! The phases of `bound`, in their order: the description, its machine, the block, its classes, and its bound beside its schedule.
 
 ghost use Rattle.std.specs.Prelude.{◌≡◌, ◌<◌, ◌^◌, length};
-ghost use Rattle.hz_answer_model.specs.Answers.{BoundsByDescription, HasDescription};
+ghost use Rattle.hz_answer_model.specs.Answers.{BoundsByDescription};
+ghost use Rattle.hz_front_model.specs.Descriptions.{HasDescription};
 ghost use Rattle.hz_answer_model.specs.BoundAnswers.{Bounds};
 ghost use Rattle.hz_check.specs.Checked.{IsCheckedOf};
 ghost use Rattle.hz_depend.specs.GraphShape.{IsGraphOf, IsSchedulable};
@@ -17,7 +18,7 @@ use crate::phases::blocks::{decide_sched, judge_block_text, judge_graph};
 use crate::phases::compiling::judge_states;
 use crate::phases::describing::judge_described;
 use hz_bound::bound;
-use hz_check::Checked;
+use hz_checked::Checked;
 use hz_depend::Graph;
 use hz_rtl::Block;
 use hz_sched::schedule;

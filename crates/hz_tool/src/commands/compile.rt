@@ -1,7 +1,8 @@
 //! The phases of `compile`, in their order: the description, its machine, and its tables.
 
 ghost use Rattle.std.specs.Prelude.{ℕ, List, ◌<◌, ◌^◌, length};
-ghost use Rattle.hz_answer_model.specs.Answers.{CompilesDescription, HasDescription};
+ghost use Rattle.hz_answer_model.specs.Answers.{CompilesDescription};
+ghost use Rattle.hz_front_model.specs.Descriptions.{HasDescription};
 ghost use Rattle.hz_check.specs.Checked.{IsCheckedOf};
 ghost use Rattle.hz_description_model.specs.Reading.Descriptions.{Description};
 ghost use Rattle.hz_tool.specs.Compiled.{IsCompiledBy};
@@ -11,7 +12,7 @@ use crate::decision::Decision;
 use crate::phases::compiling::judge_compiled;
 use crate::phases::describing::judge_described;
 use hz_auto::Compiled;
-use hz_check::Checked;
+use hz_checked::Checked;
 use hz_tabfile::text_stands;
 use hz_tool_words::order::CompileOrder;
 use std::alloc::Global;

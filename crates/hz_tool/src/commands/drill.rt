@@ -2,7 +2,8 @@
 
 ghost use Rattle.std.specs.Prelude.{◌≡◌, ◌<◌, ◌^◌, IfOk, Some, length};
 ghost use Rattle.hz_pipeline_model.specs.Accepting.Events.{issues_of};
-ghost use Rattle.hz_answer_model.specs.Answers.{DrillsDescription, HasDescription};
+ghost use Rattle.hz_answer_model.specs.Answers.{DrillsDescription};
+ghost use Rattle.hz_front_model.specs.Descriptions.{HasDescription};
 ghost use Rattle.hz_answer_model.specs.DrillAnswers.{Drills};
 ghost use Rattle.hz_check.specs.Checked.{IsCheckedOf};
 ghost use Rattle.hz_pipeline_model.specs.Traces.Drills.{Drawn};
@@ -19,7 +20,7 @@ use crate::decision::Decision;
 use crate::phases::compiling::judge_compiled;
 use crate::phases::describing::judge_described;
 use hz_auto::Compiled;
-use hz_check::Checked;
+use hz_checked::Checked;
 use hz_regexp::NoMemory;
 use hz_replay::{Event, Replayer, What, drill_from};
 use hz_tables::{Machine, Steps};

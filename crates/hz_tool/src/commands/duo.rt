@@ -2,7 +2,8 @@
 //! classes, and their schedule.
 
 ghost use Rattle.std.specs.Prelude.{◌≡◌, ◌<◌, ◌≤◌, ◌+◌, ◌^◌, IfOk, length, map, nat_lt};
-ghost use Rattle.hz_answer_model.specs.Answers.{SchedulesTwoByDescription, HasDescription};
+ghost use Rattle.hz_answer_model.specs.Answers.{SchedulesTwoByDescription};
+ghost use Rattle.hz_front_model.specs.Descriptions.{HasDescription};
 ghost use Rattle.hz_answer_model.specs.DuoAnswers.{SchedulesTwo, StartsTwo};
 ghost use Rattle.hz_block_model.specs.Running.Limits.{instruction_limit};
 ghost use Rattle.hz_block_model.specs.Scheduled.BlockGraphs.{IsGraphOf};
@@ -22,7 +23,7 @@ use crate::decision::Decision;
 use crate::phases::blocks::{decide_sched, judge_block_text, judge_graph};
 use crate::phases::compiling::judge_states;
 use crate::phases::describing::judge_described;
-use hz_check::Checked;
+use hz_checked::Checked;
 use hz_depend::Graph;
 use hz_duo::{DuoFault, duo};
 use hz_rtl::Block;

@@ -2,7 +2,8 @@
 //! the kernel of its schedule.
 
 ghost use Rattle.std.specs.Prelude.{◌≡◌, ◌<◌, ◌≤◌, ◌^◌, List, length, map, nat_lt};
-ghost use Rattle.hz_answer_model.specs.Answers.{OverlapsByDescription, HasDescription};
+ghost use Rattle.hz_answer_model.specs.Answers.{OverlapsByDescription};
+ghost use Rattle.hz_front_model.specs.Descriptions.{HasDescription};
 ghost use Rattle.hz_answer_model.specs.ModuloAnswers.{Overlaps, OverlapsBody};
 ghost use Rattle.hz_pipeline_model.specs.Compiling.Compiled.{IsCompiled, Report as Told};
 ghost use Rattle.hz_pipeline_model.specs.Tables.Machines.{IsMachine};
@@ -22,7 +23,7 @@ use crate::decision::Decision;
 use crate::phases::blocks::{decide_sched, judge_block_text, judge_graph};
 use crate::phases::compiling::judge_compiled;
 use crate::phases::describing::judge_described;
-use hz_check::Checked;
+use hz_checked::Checked;
 use hz_depend::Graph;
 use hz_modulo::kernel;
 use hz_rtl::Block;

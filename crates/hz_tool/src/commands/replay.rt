@@ -18,7 +18,7 @@ use crate::decision::Decision;
 use crate::phases::compiling::judge_states;
 use crate::phases::describing::judge_described;
 use crate::phases::judging::judge_trace;
-use hz_check::Checked;
+use hz_checked::Checked;
 use hz_replay::{Event, Outcome, replay};
 use hz_tables::{Machine, Steps};
 use hz_tool_words::order::ReplayOrder;

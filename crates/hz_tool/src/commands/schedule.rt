@@ -1,7 +1,8 @@
 //! The phases of `schedule`, in their order: the description, its machine, the block, its classes, and its schedule.
 
 ghost use Rattle.std.specs.Prelude.{◌≡◌, ◌<◌, ◌^◌, length, map};
-ghost use Rattle.hz_answer_model.specs.Answers.{SchedulesByDescription, HasDescription};
+ghost use Rattle.hz_answer_model.specs.Answers.{SchedulesByDescription};
+ghost use Rattle.hz_front_model.specs.Descriptions.{HasDescription};
 ghost use Rattle.hz_answer_model.specs.ScheduleAnswers.{Schedules};
 ghost use Rattle.hz_check.specs.Checked.{IsCheckedOf};
 ghost use Rattle.hz_description_model.specs.Check.Places.{Known};
@@ -19,7 +20,7 @@ use crate::decision::Decision;
 use crate::phases::blocks::{decide_sched, judge_block_text, judge_graph};
 use crate::phases::compiling::judge_states;
 use crate::phases::describing::judge_described;
-use hz_check::Checked;
+use hz_checked::Checked;
 use hz_depend::Graph;
 use hz_rtl::Block;
 use hz_sched::schedule;

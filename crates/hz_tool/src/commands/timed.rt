@@ -2,7 +2,8 @@
 //! schedule reads and leaves on an exposed pipeline.
 
 ghost use Rattle.std.specs.Prelude.{◌≡◌, ◌<◌, ◌≤◌, ◌^◌, length};
-ghost use Rattle.hz_answer_model.specs.Answers.{TimesByDescription, HasDescription};
+ghost use Rattle.hz_answer_model.specs.Answers.{TimesByDescription};
+ghost use Rattle.hz_front_model.specs.Descriptions.{HasDescription};
 ghost use Rattle.hz_answer_model.specs.ScheduleAnswers.{HasClasses};
 ghost use Rattle.hz_answer_model.specs.TimedAnswers.{Times};
 ghost use Rattle.hz_block_model.specs.Running.Limits.{instruction_limit};
@@ -21,7 +22,7 @@ use crate::phases::blocks::{decide_sched, judge_block_text, judge_graph};
 use crate::phases::compiling::judge_states;
 use crate::phases::describing::judge_described;
 use crate::phases::states::judge_state_text;
-use hz_check::Checked;
+use hz_checked::Checked;
 use hz_depend::Graph;
 use hz_rtl::{Block, State};
 use hz_sched::schedule;

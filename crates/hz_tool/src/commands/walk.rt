@@ -3,7 +3,7 @@
 ghost use Rattle.std.specs.Prelude.{◌<◌, ◌^◌, IfOk, IfErr, length};
 ghost use Rattle.hz_answer_model.specs.TableAnswers.{TablesFaultAt, HasTables, WalksTrace};
 ghost use Rattle.hz_tables.specs.Machines.{machine_of};
-ghost use Rattle.hz_answer_model.specs.Phases.{TellsFault};
+ghost use Rattle.hz_front_model.specs.Phases.{TellsFault};
 ghost use Rattle.hz_tabtext_model.specs.Judging.{tables_word};
 ghost use Rattle.hz_tabtext_model.specs.Texts.{TableText};
 ghost use Rattle.hz_tool.specs.Decisions.{Agrees, IsJudged};

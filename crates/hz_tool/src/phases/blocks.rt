@@ -4,7 +4,7 @@ ghost use Rattle.std.specs.Prelude.{◌≡◌, ◌<◌, ◌≤◌, ◌^◌, [], 
 ghost use Rattle.hz_answer_model.specs.BlockAnswers.{HasBlock};
 ghost use Rattle.hz_answer_model.specs.FaultTexts.{class_line};
 ghost use Rattle.hz_answer_model.specs.Headline.{IsBlockIn};
-ghost use Rattle.hz_answer_model.specs.Phases.{Says};
+ghost use Rattle.hz_front_model.specs.Phases.{Says};
 ghost use Rattle.hz_answer_model.specs.ScheduleAnswers.{HasClasses};
 ghost use Rattle.hz_block_model.specs.Running.Limits.{instruction_limit};
 ghost use Rattle.hz_check.specs.Checked.{IsCheckedOf};
@@ -20,7 +20,7 @@ ghost use Rattle.hz_tool.specs.Telling.{TellsDepend, TellsStuck};
 use crate::decision::Decision;
 use crate::phases::judging::{judge_block, judge_forms};
 use crate::phases::telling::{decide_ambiguous, decide_insn};
-use hz_check::Checked;
+use hz_checked::Checked;
 use hz_depend::{ClassFault, DependFault, Graph, graph};
 use hz_regexp::{Name, NoMemory};
 use hz_rtl::{Block, Insn};

@@ -14,7 +14,7 @@ ghost use Rattle.hz_tool.specs.Machines.{IsMachineFor};
 use crate::decision::Decision;
 use crate::phases::telling::{decide_states, limited};
 use hz_auto::{AutoFault, Compiled, compile};
-use hz_check::Checked;
+use hz_checked::Checked;
 use hz_regexp::{Name, NoMemory};
 use hz_tables::Machine;
 use std::alloc::Global;

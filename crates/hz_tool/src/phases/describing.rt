@@ -10,7 +10,7 @@ ghost use Rattle.hz_tool.specs.Fronts.{IsCheckedIn, TellsSaid, TellsDescribed};
 
 use crate::decision::Decision;
 use crate::phases::judging::{judge_check, judge_description, judge_forms};
-use hz_check::Checked;
+use hz_checked::Checked;
 use hz_sexp::Form;
 use std::alloc::Global;
 

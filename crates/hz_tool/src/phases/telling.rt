@@ -1,7 +1,7 @@
 //! What is decided of each fault of the crates below: one function a text.
 
 ghost use Rattle.std.specs.Prelude.{◌≡◌};
-ghost use Rattle.hz_answer_model.specs.Answers.{TellsCheck};
+ghost use Rattle.hz_front_model.specs.Descriptions.{TellsCheck};
 ghost use Rattle.hz_check.specs.Faults.{IsToldAt, Tells};
 ghost use Rattle.hz_description_model.specs.Reading.Descriptions.{Description};
 ghost use Rattle.hz_tool.specs.Decisions.{Agrees, IsJudged};

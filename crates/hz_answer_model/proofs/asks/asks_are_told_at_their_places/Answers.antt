@@ -1,4 +1,5 @@
-use Rattle.hz_answer_model.specs.AskAnswers.{held_in, told_by}
+use Rattle.hz_front_model.specs.Asks.{held_in}
+use Rattle.hz_answer_model.specs.TableAnswers.{told_by}
 use Rattle.hz_answer_model.proofs.AskPlaceLaws.{told_by_places}
 use Rattle.hz_answer_model.proofs.asks.asks_are_told_at_their_places.Goals as goal
 

@@ -2,8 +2,8 @@ use Rattle.std.proofs.Common.{◌<◌, ◌++◌, ◌∷◌, [], length, map, tak
 use Rattle.std.proofs.lemmas.List.{length_push, length-take-le}
 use Rattle.hz_pipeline_model.specs.Compiling.AutomatonPipelines.{lists_at}
 use Rattle.hz_pipeline_model.specs.Compiling.ClassColumns.{IsColumns}
-use Rattle.hz_check.specs.declared.checked.CheckedClass.{CheckedClass}
-use Rattle.hz_check.specs.Shape.{class_of}
+use Rattle.hz_checked.specs.declared.checked.CheckedClass.{CheckedClass}
+use Rattle.hz_checked.specs.Shape.{class_of}
 use Rattle.hz_auto.proofs.CheckedFacts.{lists_more, list_held, lists_count}
 use Rattle.hz_auto.proofs.ColumnLemmas.{columns_pushed, few_columns}
 use Rattle.hz_auto.proofs.columns.columns_of.Goals as goal

@@ -1,7 +1,7 @@
 use Rattle.std.proofs.Common.{take, map}
 use Rattle.hz_pipeline_model.specs.Compiling.AutomatonPipelines.{lists_at}
 use Rattle.hz_pipeline_model.specs.Compiling.ClassColumns.{IsColumns}
-use Rattle.hz_check.specs.Shape.{class_of}
+use Rattle.hz_checked.specs.Shape.{class_of}
 use Rattle.hz_auto.proofs.columns.columns_of.Given as goal
 
 abbrev pub invariant-loop-class : goal.invariant-loop-class

@@ -6,7 +6,7 @@ use Rattle.hz_pipeline_model.specs.Accepting.Replay.{first_fit, any_fit}
 use Rattle.hz_unitsets.specs.SetRules.{IsInRange}
 use Rattle.hz_determ.specs.Explored.{IsBuilt, AreWithin, PassesCap}
 use Rattle.hz_determ.specs.Spaces.{pipeline_of, lists_of}
-use Rattle.hz_check.specs.Shape.{automaton_of}
+use Rattle.hz_checked.specs.Shape.{automaton_of}
 use Rattle.hz_auto.specs.Parts.{IsCapped, IsWhole}
 use Rattle.hz_auto.proofs.CheckedFacts.{have_lists, sets_in_range, queries_below}
 use Rattle.hz_auto.proofs.ExploredLemmas.{columns_now, asks_now, columns_few, past, members_told, grids_told, numbers_there, askable, past_asked, kept, has_table, whole_compiled, both_then}

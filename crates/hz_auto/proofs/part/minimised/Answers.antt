@@ -1,6 +1,6 @@
 use Rattle.std.proofs.Common.{length, map, sym, subst}
 use Rattle.hz_mdread.specs.Shape.{options as options_of}
-use Rattle.hz_check.specs.Shape.{automaton_of, class_of}
+use Rattle.hz_checked.specs.Shape.{automaton_of, class_of}
 use Rattle.hz_auto.specs.Parts.{found_part_of}
 use Rattle.hz_pipeline_model.specs.Compiling.Compiled.{IsCompiledPart}
 use Rattle.hz_auto.specs.Reports.{report_of}

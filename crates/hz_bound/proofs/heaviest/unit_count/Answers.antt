@@ -1,5 +1,5 @@
 use Rattle.std.proofs.Common.{List, length, ap, arith, ℕ}
-use Rattle.hz_check.specs.declared.checked.CheckedAutomaton.{CheckedAutomaton}
+use Rattle.hz_checked.specs.declared.checked.CheckedAutomaton.{CheckedAutomaton}
 use Rattle.hz_bound.proofs.HeaviestLemmas.{names_at, units_few}
 use Rattle.hz_bound.proofs.heaviest.unit_count.Goals as goal
 

@@ -1,7 +1,7 @@
 use Rattle.std.proofs.Common.{ℕ, ◌<◌, List, [], length, sym, ap, ◌∙◌, subst, arith}
 use Rattle.std.specs.Prelude.{slice_index_or}
 use Rattle.std.proofs.lemmas.List.{get_or_default}
-use Rattle.hz_check.specs.declared.checked.CheckedAutomaton.{CheckedAutomaton}
+use Rattle.hz_checked.specs.declared.checked.CheckedAutomaton.{CheckedAutomaton}
 use Rattle.hz_bound.proofs.HeaviestLemmas.{names_at, names_long}
 use Rattle.hz_bound.proofs.writing.unit_name.Goals as goal
 

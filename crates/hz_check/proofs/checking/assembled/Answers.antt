@@ -2,7 +2,7 @@ use Rattle.std.proofs.Common.{◌≡◌, length, map, refl, sym, ap, ◌∙◌, 
 use Rattle.std.proofs.lemmas.List.{length-map}
 use Rattle.hz_altern.specs.Shapes.{alternatives}
 use Rattle.hz_mdread.specs.Shape.{description, class_item, attribute_item}
-use Rattle.hz_check.specs.Shape.{automaton_of}
+use Rattle.hz_checked.specs.Shape.{automaton_of}
 use Rattle.hz_check.proofs.Lists.Next.{map-map}
 use Rattle.hz_check.proofs.Built.PartSteps.{length-automata, kept_of}
 use Rattle.hz_description_model.proofs.Check.KeptLaws.{parts_kept}

@@ -1,5 +1,5 @@
 use Rattle.std.proofs.Common.{◌≡◌, drop, map}
-use Rattle.hz_check.specs.Shape.{attribute_of}
+use Rattle.hz_checked.specs.Shape.{attribute_of}
 use Rattle.hz_block_model.specs.Dependences.Classes as model
 use Rattle.hz_depend.proofs.class.first_fault.Given as goal
 

@@ -1,7 +1,7 @@
 use Rattle.std.proofs.Common.{◌≡◌, ℕ, List, ◌++◌, sym, ap, ◌∙◌, subst}
 use Rattle.std.specs.List.{flat_map}
-use Rattle.hz_answer_model.specs.Answers.{Replays}
-use Rattle.hz_answer_model.specs.AskAnswers.{held_in, trace_names}
+use Rattle.hz_front_model.specs.Replays.{Replays}
+use Rattle.hz_front_model.specs.Asks.{held_in, trace_names}
 use Rattle.hz_pipeline_model.specs.Pipelines.Pipelines.{pipeline_with}
 use Rattle.hz_replay.specs.Traces.{events_in, lines_in}
 use Rattle.hz_explain.specs.Answering.{names_at, asked_line, end_line, replay_text, status_of}

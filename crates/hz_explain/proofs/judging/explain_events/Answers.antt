@@ -1,5 +1,5 @@
 use Rattle.std.proofs.Common.{ℕ, List, subst}
-use Rattle.hz_answer_model.specs.AskAnswers.{trace_names}
+use Rattle.hz_front_model.specs.Asks.{trace_names}
 use Rattle.hz_mdread.specs.Shape.{description}
 use Rattle.hz_pipeline_model.proofs.Traces.NameLaws.{events_of_classes, events_of_queries}
 use Rattle.hz_replay.specs.Traces.{events_in}

@@ -1,15 +1,15 @@
 use Rattle.std.proofs.Common.{◌<◌, List, IsTrue, sym, subst}
-use Rattle.hz_answer_model.specs.Answers.{Checks, Describes}
-use Rattle.hz_answer_model.specs.Phases.{Next}
+use Rattle.hz_front_model.specs.Descriptions.{Checks, Describes}
+use Rattle.hz_front_model.specs.Phases.{Next}
 use Rattle.hz_base_model.specs.Forms.Trees.{Trees}
 use Rattle.hz_description_model.proofs.Reading.FormSizes.{forms_few, strings_short}
 use Rattle.hz_description_model.specs.Reading.DescriptionForms.{form_count, strings_below}
 use Rattle.hz_sexp.specs.Shape.{trees}
 use Rattle.hz_sexp.specs.declared.form.Form.{Form}
-use Rattle.hz_tool.proofs.JudgeLemmas.{forms_refused}
+use Rattle.hz_front.proofs.JudgeLemmas.{forms_refused}
 use Rattle.hz_why_model.specs.Answers.{ExplainsTrace}
-use Rattle.hz_explain.specs.Deciding.{Answers}
-use Rattle.hz_explain.proofs.JudgeLaws.{forms_on}
+use Rattle.hz_explain.specs.Deciding.{Answers, decided_in}
+use Rattle.hz_front.proofs.JudgeLemmas.{forms_on}
 use Rattle.hz_explain.proofs.judging.explain_texts.Goals as goal
 
 pub explain_said-requires-clause-count : goal.explain_said-requires-clause-count
@@ -23,9 +23,9 @@ explain_said-requires-clause-strings c =
 pub returns-in-Ok-clause-answer : goal.returns-in-Ok-clause-answer
 returns-in-Ok-clause-answer c =
     let says : Next Trees = λ read. Describes c.args.file.now read (λ d. Checks c.args.file.now d (ExplainsTrace c.args.trace.now c.args.traced.now d)) in
-    forms_on c.args.file.now c.args.described.now (trees c.in-Ok.read.items) says c.explain_said.result c.in-Ok.ensures.ok
+    forms_on c.args.file.now c.args.described.now (trees c.in-Ok.read.items) says (decided_in c.explain_said.result) c.in-Ok.ensures.ok
     (subst (λ (fs : List Form). Answers (says (trees fs)) c.explain_said.result) c.deref.ensures.value c.explain_said.ensures.answer)
 
 pub returns-in-Err-clause-answer : goal.returns-in-Err-clause-answer
 returns-in-Err-clause-answer c =
-    forms_refused c.args.file.now c.args.described.now (λ read. Describes c.args.file.now read (λ d. Checks c.args.file.now d (ExplainsTrace c.args.trace.now c.args.traced.now d))) c.in-Err.decision c.in-Err.ensures.err
+    forms_refused c.args.file.now c.args.described.now (λ read. Describes c.args.file.now read (λ d. Checks c.args.file.now d (ExplainsTrace c.args.trace.now c.args.traced.now d))) c.in-Err.refusal c.in-Err.ensures.err

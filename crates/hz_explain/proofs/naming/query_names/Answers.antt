@@ -1,6 +1,6 @@
 use Rattle.std.proofs.Common.{map, ap, sym, ◌∙◌, arith}
 use Rattle.std.proofs.lemmas.List.{take_all}
-use Rattle.hz_check.specs.Shape.{automaton_of}
+use Rattle.hz_checked.specs.Shape.{automaton_of}
 use Rattle.hz_description_model.specs.Check.CheckedShape.{ask_names}
 use Rattle.hz_reasons.proofs.PlanLaws.{map_twice}
 use Rattle.hz_explain.proofs.naming.query_names.Goals as goal

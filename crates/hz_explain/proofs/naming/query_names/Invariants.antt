@@ -1,5 +1,5 @@
 use Rattle.std.proofs.Common.{◌≡◌, map, take}
-use Rattle.hz_check.specs.Shape.{automaton_of}
+use Rattle.hz_checked.specs.Shape.{automaton_of}
 use Rattle.hz_description_model.specs.Check.CheckedShape.{ask_names}
 use Rattle.hz_explain.specs.Answering.{names_at}
 use Rattle.hz_explain.proofs.naming.query_names.Given as goal

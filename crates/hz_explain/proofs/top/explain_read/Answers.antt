@@ -1,5 +1,5 @@
 use Rattle.std.proofs.Common.{ℕ, List, subst}
-use Rattle.hz_tool.proofs.ReadLemmas.{two_texts}
+use Rattle.hz_front.proofs.ReadLemmas.{two_texts}
 use Rattle.hz_why_model.specs.Answers.{JudgesTexts}
 use Rattle.hz_explain.specs.Deciding.{Answers}
 use Rattle.hz_explain.proofs.top.explain_read.Goals as goal

@@ -1,5 +1,5 @@
 use Rattle.std.proofs.Common.{ℕ, List, [], All, map, ap, sym, subst, ◌∙◌}
-use Rattle.hz_check.specs.Shape.{automaton_of}
+use Rattle.hz_checked.specs.Shape.{automaton_of}
 use Rattle.hz_description_model.specs.Check.CheckedShape.{ask_names}
 use Rattle.hz_mdread.specs.Shape.{description}
 use Rattle.hz_pipeline_model.specs.Pipelines.Pipelines.{pipeline_with}

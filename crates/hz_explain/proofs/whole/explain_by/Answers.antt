@@ -1,6 +1,6 @@
 use Rattle.std.proofs.Common.{ℕ, ◌≤◌, List, ap, sym, subst, ◌∙◌, ◌++◌, arith}
-use Rattle.hz_answer_model.specs.Answers.{Replays}
-use Rattle.hz_answer_model.specs.AskAnswers.{held_in, trace_names}
+use Rattle.hz_front_model.specs.Replays.{Replays}
+use Rattle.hz_front_model.specs.Asks.{held_in, trace_names}
 use Rattle.hz_mdread.specs.Shape.{description}
 use Rattle.hz_pipeline_model.specs.Pipelines.Pipelines.{pipeline_with}
 use Rattle.hz_replay.specs.Traces.{events_in, lines_in}

@@ -14,8 +14,9 @@ use Rattle.hz_sched.specs.Shape.{slots_of}
 use Rattle.hz_tables.specs.Machines.{machine_of}
 use Rattle.hz_modulo.specs.Walking as turns
 use Rattle.hz_modulo.specs.Costs.{first_interval}
-use Rattle.hz_modulo.specs.Kernels.{RepeatsIn, IsFirstFrom}
-use Rattle.hz_modulo.proofs.KernelLemmas.{ok_weaker, places_within, cycles_rise, cycles_once, last_small, cycles_small, many_in_block, many_classes, long_in, first_some, few_from, first_near, kernel_is}
+use Rattle.hz_modulo.specs.Heights.{LeavesRoom}
+use Rattle.hz_modulo.specs.Kernels.{RepeatsIn, IsRoomyFrom}
+use Rattle.hz_modulo.proofs.KernelLemmas.{ok_weaker, places_within, cycles_rise, cycles_once, last_small, cycles_small, many_in_block, many_classes, long_in, room_in, first_some, few_from, first_near, kernel_is}
 use Rattle.hz_modulo.proofs.kernels.kernel.Goals as goal
 
 pub cycles_of-requires-clause-small : goal.cycles_of-requires-clause-small
@@ -39,14 +40,14 @@ first_interval-first-requires-clause-inside c =
     (subst (λ (es : List Edge). All (λ e. (e.from < e.to) × (e.to < 3 * length c.in_ok-cycles.cycles.items) × (e.cost ≤ latency_limit)) es) (sym c.deref-4.ensures.value)
     (subst (λ (n : ℕ). All (λ e. (e.from < e.to) × (e.to < 3 * n) × (e.cost ≤ latency_limit)) c.in_ok-edges.edges.items) (sym (size ∙ many_in_block c.args.machine.now c.args.checked.now c.args.block.now c.args.graph.now c.args.schedule.now.slots.items c.requires.graph c.requires.legal)) c.in_ok-edges.ensures.inside))
 
-pub first_kernel-requires-clause-settles : goal.first_kernel-requires-clause-settles
-first_kernel-requires-clause-settles c = c.requires.settles
+pub first_with_room-requires-clause-settles : goal.first_with_room-requires-clause-settles
+first_with_room-requires-clause-settles c = c.requires.settles
 
-pub first_kernel-requires-clause-last : goal.first_kernel-requires-clause-last
-first_kernel-requires-clause-last c = c.last_cycle-last.ensures ∙ ap (λ (xs : List Slot). present 0 (slots_of xs)) (sym c.deref-6.ensures.value)
+pub first_with_room-requires-clause-last : goal.first_with_room-requires-clause-last
+first_with_room-requires-clause-last c = c.last_cycle-last.ensures ∙ ap (λ (xs : List Slot). present 0 (slots_of xs)) (sym c.deref-6.ensures.value)
 
-pub first_kernel-requires-clause-some : goal.first_kernel-requires-clause-some
-first_kernel-requires-clause-some c =
+pub first_with_room-requires-clause-some : goal.first_with_room-requires-clause-some
+first_with_room-requires-clause-some c =
     let are : c.in_ok-classes.classes.items ≡ map (λ i. i.class) c.args.graph.now.insns.items = c.in_ok-classes.ensures ∙ ap (map (λ (i : GraphInsn). i.class)) c.deref.ensures.value in
     let last = c.last_cycle-last.ensures in
     let size : length c.in_ok-cycles.cycles.items ≡ length c.args.graph.now.insns.items = c.in_ok-cycles.ensures.size ∙ (c.len.ensures ∙ c.args.graph.now.insns.ok.0) in
@@ -55,8 +56,8 @@ first_kernel-requires-clause-some c =
     c.first_interval-first.ensures ∙ (λ i. first_interval (length (c.deref-3.ensures.value i)) (slice_index (c.deref-3.ensures.value i)) c.last_cycle-last.result (map edge_of (c.deref-4.ensures.value i))) in
     first_some c.args.machine.now c.args.checked.now c.args.block.now c.args.graph.now c.args.schedule.now.slots.items c.requires.graph c.requires.legal c.requires.settles c.requires.schedulable c.in_ok-edges.edges.items c.in_ok-edges.ensures c.in_ok-classes.classes.items are c.in_ok-cycles.cycles.items size told c.last_cycle-last.result c.first_interval-first.result last first
 
-pub first_kernel-requires-clause-few : goal.first_kernel-requires-clause-few
-first_kernel-requires-clause-few c =
+pub first_with_room-requires-clause-few : goal.first_with_room-requires-clause-few
+first_with_room-requires-clause-few c =
     let are : c.in_ok-classes.classes.items ≡ map (λ i. i.class) c.args.graph.now.insns.items = c.in_ok-classes.ensures ∙ ap (map (λ (i : GraphInsn). i.class)) c.deref.ensures.value in
     let last = c.last_cycle-last.ensures in
     let size : length c.in_ok-cycles.cycles.items ≡ length c.args.graph.now.insns.items = c.in_ok-cycles.ensures.size ∙ (c.len.ensures ∙ c.args.graph.now.insns.ok.0) in
@@ -77,34 +78,34 @@ cycles_of-requires-clause-once c =
     subst (λ (xs : List Slot). (a b : model.Slot) → Contains (slots_of xs) a → Contains (slots_of xs) b → a.place ≡ b.place → a.cycle ≡ b.cycle) (sym c.deref-2.ensures.value)
     (cycles_once c.args.machine.now c.args.checked.now c.args.block.now c.args.graph.now c.args.schedule.now.slots.items c.requires.graph c.requires.legal)
 
-pub first_kernel-requires-clause-classes : goal.first_kernel-requires-clause-classes
-first_kernel-requires-clause-classes c =
+pub first_with_room-requires-clause-classes : goal.first_with_room-requires-clause-classes
+first_with_room-requires-clause-classes c =
     let are : c.in_ok-classes.classes.items ≡ map (λ i. i.class) c.args.graph.now.insns.items = c.in_ok-classes.ensures ∙ ap (map (λ (i : GraphInsn). i.class)) c.deref.ensures.value in
     subst (λ (xs : List ℕ). All (λ k. k < length c.args.machine.now.classes.items) xs) (sym (c.deref-5.ensures.value ∙ are))
     (All-map (λ k. k < length c.args.machine.now.classes.items) (λ (i : GraphInsn). i.class) c.args.graph.now.insns.items c.requires.schedulable.classes)
 
-pub first_kernel-requires-clause-places : goal.first_kernel-requires-clause-places
-first_kernel-requires-clause-places c =
+pub first_with_room-requires-clause-places : goal.first_with_room-requires-clause-places
+first_with_room-requires-clause-places c =
     let are : c.in_ok-classes.classes.items ≡ map (λ i. i.class) c.args.graph.now.insns.items = c.in_ok-classes.ensures ∙ ap (map (λ (i : GraphInsn). i.class)) c.deref.ensures.value in
     let many = many_classes c.args.machine.now c.args.checked.now c.args.block.now c.args.graph.now c.args.schedule.now.slots.items c.requires.graph c.requires.legal c.requires.settles c.requires.schedulable c.in_ok-edges.edges.items c.in_ok-edges.ensures c.in_ok-classes.classes.items are in
     subst (λ (xs : List Slot). All (λ x. x.place < length c.deref-5.result.now) xs) (sym c.deref-6.ensures.value)
     (subst (λ (n : ℕ). All (λ x. x.place < n) c.args.schedule.now.slots.items) (sym (ap length c.deref-5.ensures.value ∙ many))
     (places_within c.args.machine.now c.args.checked.now c.args.block.now c.args.graph.now c.args.schedule.now.slots.items c.requires.graph c.requires.legal))
 
-pub first_kernel-requires-clause-rising : goal.first_kernel-requires-clause-rising
-first_kernel-requires-clause-rising c =
+pub first_with_room-requires-clause-rising : goal.first_with_room-requires-clause-rising
+first_with_room-requires-clause-rising c =
     let last = c.last_cycle-last.ensures in
     subst (λ (xs : List Slot). All (λ x. x.cycle ≤ c.last_cycle-last.result) (slots_of xs)) (sym c.deref-6.ensures.value)
     (subst (λ (n : ℕ). All (λ x. x.cycle ≤ n) (slots_of c.args.schedule.now.slots.items)) (sym last)
     (cycles_rise c.args.machine.now c.args.checked.now c.args.block.now c.args.graph.now c.args.schedule.now.slots.items c.requires.graph c.requires.legal))
 
-pub first_kernel-requires-clause-small : goal.first_kernel-requires-clause-small
-first_kernel-requires-clause-small c =
+pub first_with_room-requires-clause-small : goal.first_with_room-requires-clause-small
+first_with_room-requires-clause-small c =
     let last = c.last_cycle-last.ensures in
     subst (λ (n : ℕ). n < 2 ^ 30) (sym last) (last_small c.args.machine.now c.args.checked.now c.args.block.now c.args.graph.now c.args.schedule.now.slots.items c.requires.graph c.requires.legal c.requires.few c.requires.soon)
 
-pub first_kernel-requires-clause-near : goal.first_kernel-requires-clause-near
-first_kernel-requires-clause-near c =
+pub first_with_room-requires-clause-near : goal.first_with_room-requires-clause-near
+first_with_room-requires-clause-near c =
     let are : c.in_ok-classes.classes.items ≡ map (λ i. i.class) c.args.graph.now.insns.items = c.in_ok-classes.ensures ∙ ap (map (λ (i : GraphInsn). i.class)) c.deref.ensures.value in
     let last = c.last_cycle-last.ensures in
     let size : length c.in_ok-cycles.cycles.items ≡ length c.args.graph.now.insns.items = c.in_ok-cycles.ensures.size ∙ (c.len.ensures ∙ c.args.graph.now.insns.ok.0) in
@@ -113,13 +114,20 @@ first_kernel-requires-clause-near c =
     c.first_interval-first.ensures ∙ (λ i. first_interval (length (c.deref-3.ensures.value i)) (slice_index (c.deref-3.ensures.value i)) c.last_cycle-last.result (map edge_of (c.deref-4.ensures.value i))) in
     first_near c.args.machine.now c.args.checked.now c.args.block.now c.args.graph.now c.args.schedule.now.slots.items c.requires.graph c.requires.legal c.requires.settles c.requires.schedulable c.in_ok-edges.edges.items c.in_ok-edges.ensures c.in_ok-classes.classes.items are c.in_ok-cycles.cycles.items size told c.last_cycle-last.result c.first_interval-first.result last first
 
-pub first_kernel-requires-clause-long : goal.first_kernel-requires-clause-long
-first_kernel-requires-clause-long c =
+pub first_with_room-requires-clause-long : goal.first_with_room-requires-clause-long
+first_with_room-requires-clause-long c =
     let are : c.in_ok-classes.classes.items ≡ map (λ i. i.class) c.args.graph.now.insns.items = c.in_ok-classes.ensures ∙ ap (map (λ (i : GraphInsn). i.class)) c.deref.ensures.value in
     let last = c.last_cycle-last.ensures in
     subst (λ (ks : List ℕ). RepeatsIn (machine_of c.args.machine.now) (turns.graph_of ks) (slots_of c.deref-6.result.now) (c.last_cycle-last.result + 1000) 0 1) (sym c.deref-5.ensures.value)
     (subst (λ (xs : List Slot). RepeatsIn (machine_of c.args.machine.now) (turns.graph_of c.in_ok-classes.classes.items) (slots_of xs) (c.last_cycle-last.result + 1000) 0 1) (sym c.deref-6.ensures.value)
     (long_in c.args.machine.now c.args.checked.now c.args.block.now c.args.graph.now c.args.schedule.now.slots.items c.requires.graph c.requires.legal c.requires.settles c.requires.schedulable c.in_ok-edges.edges.items c.in_ok-edges.ensures c.in_ok-classes.classes.items are c.last_cycle-last.result last))
+
+pub first_with_room-requires-clause-room : goal.first_with_room-requires-clause-room
+first_with_room-requires-clause-room c =
+    let are : c.in_ok-classes.classes.items ≡ map (λ i. i.class) c.args.graph.now.insns.items = c.in_ok-classes.ensures ∙ ap (map (λ (i : GraphInsn). i.class)) c.deref.ensures.value in
+    let last = c.last_cycle-last.ensures in
+    subst (λ (ks : List ℕ). LeavesRoom (machine_of c.args.machine.now) ks (c.last_cycle-last.result + 1000)) (sym c.deref-5.ensures.value)
+    (room_in c.args.machine.now c.args.checked.now c.args.block.now c.args.graph.now c.args.schedule.now.slots.items c.requires.graph c.requires.legal c.requires.settles c.requires.schedulable c.in_ok-edges.edges.items c.in_ok-edges.ensures c.in_ok-classes.classes.items are c.last_cycle-last.result last)
 
 pub returns-clause-kernel : goal.returns-clause-kernel
 returns-clause-kernel c =
@@ -129,13 +137,13 @@ returns-clause-kernel c =
     let told = subst (λ (xs : List Slot). (x : model.Slot) → Contains (slots_of xs) x → slice_index c.in_ok-cycles.cycles.items x.place ≡ x.cycle) c.deref-2.ensures.value c.in_ok-cycles.ensures.told in
     let first : c.first_interval-first.result ≡ first_interval (length c.in_ok-cycles.cycles.items) (slice_index c.in_ok-cycles.cycles.items) c.last_cycle-last.result (map edge_of c.in_ok-edges.edges.items) =
     c.first_interval-first.ensures ∙ (λ i. first_interval (length (c.deref-3.ensures.value i)) (slice_index (c.deref-3.ensures.value i)) c.last_cycle-last.result (map edge_of (c.deref-4.ensures.value i))) in
-    ok_weaker _ _ c.first_kernel.result (λ k x. kernel_is c.args.machine.now c.args.checked.now c.args.block.now c.args.graph.now c.args.schedule.now.slots.items c.requires.graph c.requires.legal c.requires.settles c.requires.schedulable c.in_ok-edges.edges.items c.in_ok-edges.ensures c.in_ok-classes.classes.items are c.in_ok-cycles.cycles.items size told c.last_cycle-last.result c.first_interval-first.result last first k
-    (subst (λ (ks : List ℕ). IsFirstFrom (machine_of c.args.machine.now) (turns.graph_of ks) (slots_of c.args.schedule.now.slots.items) c.first_interval-first.result k) c.deref-5.ensures.value
-    (subst (λ (xs : List Slot). IsFirstFrom (machine_of c.args.machine.now) (turns.graph_of c.deref-5.result.now) (slots_of xs) c.first_interval-first.result k) c.deref-6.ensures.value x)))
-    c.first_kernel.ensures.first
+    ok_weaker _ _ c.first_with_room.result (λ k x. kernel_is c.args.machine.now c.args.checked.now c.args.block.now c.args.graph.now c.args.schedule.now.slots.items c.requires.graph c.requires.legal c.requires.settles c.requires.schedulable c.in_ok-edges.edges.items c.in_ok-edges.ensures c.in_ok-classes.classes.items are c.in_ok-cycles.cycles.items size told c.last_cycle-last.result c.first_interval-first.result last first k
+    (subst (λ (ks : List ℕ). IsRoomyFrom (machine_of c.args.machine.now) ks (slots_of c.args.schedule.now.slots.items) c.first_interval-first.result k) c.deref-5.ensures.value
+    (subst (λ (xs : List Slot). IsRoomyFrom (machine_of c.args.machine.now) c.deref-5.result.now (slots_of xs) c.first_interval-first.result k) c.deref-6.ensures.value x)))
+    c.first_with_room.ensures.first
 
 pub returns-clause-range : goal.returns-clause-range
 returns-clause-range c =
     let are : c.in_ok-classes.classes.items ≡ map (λ i. i.class) c.args.graph.now.insns.items = c.in_ok-classes.ensures ∙ ap (map (λ (i : GraphInsn). i.class)) c.deref.ensures.value in
     let many = many_classes c.args.machine.now c.args.checked.now c.args.block.now c.args.graph.now c.args.schedule.now.slots.items c.requires.graph c.requires.legal c.requires.settles c.requires.schedulable c.in_ok-edges.edges.items c.in_ok-edges.ensures c.in_ok-classes.classes.items are in
-    ok_weaker _ _ c.first_kernel.result (λ k x. subst (λ (n : ℕ). All (λ x. x.place < n) k.slots.items) (ap length c.deref-5.ensures.value ∙ many) x) c.first_kernel.ensures.range
+    ok_weaker _ _ c.first_with_room.result (λ k x. subst (λ (n : ℕ). All (λ x. x.place < n) k.slots.items) (ap length c.deref-5.ensures.value ∙ many) x) c.first_with_room.ensures.range

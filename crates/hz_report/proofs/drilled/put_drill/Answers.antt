@@ -1,5 +1,6 @@
 use Rattle.std.proofs.Common.{◌++◌}
-use Rattle.hz_answer_model.specs.Texts.{accepted_line, left_line}
+use Rattle.hz_front_model.specs.Texts.{accepted_line}
+use Rattle.hz_answer_model.specs.Texts.{left_line}
 use Rattle.hz_io.proofs.Writing.{cut_before, writes_then}
 use Rattle.hz_report.proofs.drilled.put_drill.Goals as goal
 

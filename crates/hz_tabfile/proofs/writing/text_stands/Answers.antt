@@ -1,5 +1,5 @@
 use Rattle.std.proofs.Common.{map}
-use Rattle.hz_check.specs.Shape.{automaton_of}
+use Rattle.hz_checked.specs.Shape.{automaton_of}
 use Rattle.hz_mdread.specs.Shape.{options as options_of}
 use Rattle.hz_auto.specs.Machines.{reports_of}
 use Rattle.hz_tables.specs.Machines.{machine_of}

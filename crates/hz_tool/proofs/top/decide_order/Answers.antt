@@ -1,7 +1,7 @@
 use Rattle.std.proofs.Common.{◌≡◌, List, map, ap, ◌∙◌, subst}
 use Rattle.std.specs.Prelude.{Contains}
 use Rattle.hz_answer_model.specs.Answers.{JudgesOrder, files_of}
-use Rattle.hz_answer_model.specs.Phases.{FileWord}
+use Rattle.hz_front_model.specs.Phases.{FileWord}
 use Rattle.hz_tool.proofs.ReadLemmas.{read_names, reads_all, refuses_all}
 use Rattle.hz_tool.specs.Decisions.{Agrees, AreRead, IsReadDecision}
 use Rattle.hz_tool.specs.Reading.{Refuses, texts_in, wanted_in}

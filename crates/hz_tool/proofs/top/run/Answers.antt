@@ -4,7 +4,7 @@ use Rattle.hz_answer_model.specs.Answers.{Answer}
 use Rattle.hz_tool.proofs.RunLemmas.{says_file, may_write, status_exact, file_answer, completes, appends_promised, no_file, fits_room, no_order}
 use Rattle.hz_answer_model.proofs.AnswerLaws.{answer_single}
 use Rattle.hz_tool.specs.Decisions.{IsFileWord}
-use Rattle.hz_tool.specs.Endings.{Completes}
+use Rattle.hz_front.specs.Endings.{Completes}
 use Rattle.hz_tool_words.specs.Shape.{words_in}
 use Rattle.hz_tool.proofs.top.run.Goals as goal
 

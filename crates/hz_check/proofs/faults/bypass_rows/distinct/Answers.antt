@@ -2,7 +2,7 @@ use Rattle.std.proofs.Common.{◌<◌, ◌++◌, ◌∷◌, [], filter, drop, ge
 use Rattle.std.proofs.lemmas.Grind.{common_steps}
 use Rattle.std.proofs.lemmas.List.Elements.{All-push}
 use Rattle.hz_check.specs.Names.First.{first_of}
-use Rattle.hz_check.proofs.Lists.Next.{drop_number}
+use Rattle.hz_checked.proofs.RowSteps.{drop_number}
 use Rattle.hz_check.proofs.Telling.RowSteps.{stands_before}
 use Rattle.hz_check.proofs.faults.bypass_rows.distinct.Goals as goal
 use Rattle.hz_check.proofs.faults.bypass_rows.distinct.Goals.{then-branch+in_ok-push, else-branch}

@@ -1,6 +1,6 @@
 use Rattle.std.proofs.Common.{◌≡◌, drop, filter}
 use Rattle.std.specs.List.{list_any}
-use Rattle.hz_check.specs.Faults.Bypasses.{rows_of, number_at, is_other}
+use Rattle.hz_checked.specs.NumberRows.{rows_of, number_at, is_other}
 use Rattle.hz_check.specs.Names.First.{first_of}
 use Rattle.hz_check.proofs.faults.bypass_rows.first_other.Given as goal
 

@@ -1,5 +1,5 @@
 use Rattle.std.proofs.Common.{get_or, refl, arith}
-use Rattle.hz_check.proofs.Telling.RowSteps.{given_next, row_at}
+use Rattle.hz_checked.proofs.RowSteps.{given_next, row_at}
 use Rattle.hz_check.proofs.faults.bypass_rows.give_all.Goals as goal
 
 pub loop-out-preserved : goal.loop-out-preserved

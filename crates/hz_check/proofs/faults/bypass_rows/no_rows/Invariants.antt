@@ -1,5 +1,5 @@
 use Rattle.std.proofs.Common.{◌≡◌, ℕ, [], get_or, vec_len}
-use Rattle.hz_check.specs.Faults.Bypasses.{rows_of}
+use Rattle.hz_checked.specs.NumberRows.{rows_of}
 use Rattle.hz_check.proofs.faults.bypass_rows.no_rows.Given as goal
 
 abbrev pub invariant-loop : goal.invariant-loop

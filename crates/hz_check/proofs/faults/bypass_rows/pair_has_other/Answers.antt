@@ -1,6 +1,6 @@
 use Rattle.std.proofs.Common.{sym, ap, ◌∙◌}
-use Rattle.hz_check.specs.Faults.Bypasses.{has_other}
-use Rattle.hz_check.proofs.Telling.RowSteps.{row_at}
+use Rattle.hz_checked.specs.NumberRows.{has_other}
+use Rattle.hz_checked.proofs.RowSteps.{row_at}
 use Rattle.hz_check.proofs.faults.bypass_rows.pair_has_other.Goals as goal
 
 pub returns : goal.returns

@@ -6,11 +6,11 @@ use Rattle.hz_mdread.specs.declared.items.BypassItem.{BypassItem as StoredBypass
 use Rattle.hz_mdread.specs.declared.items.ClassItem.{ClassItem as StoredClass}
 use Rattle.hz_mdread.specs.declared.description.Description.{Description as StoredDescription}
 use Rattle.hz_mdread.specs.Shape.{description, bypass_item, class_item}
-use Rattle.hz_check.specs.Faults.Bypasses.{rows_of, number_at, is_other}
+use Rattle.hz_checked.specs.NumberRows.{rows_of, number_at, is_other}
 use Rattle.hz_check.proofs.HeldNumbers.{HoldsNumbers}
 use Rattle.hz_check.specs.Names.First.{first_of}
 use Rattle.hz_check.proofs.Telling.BypassSteps.{told_here, not_here, holds_next}
-use Rattle.hz_check.proofs.Lists.InOrder.{AllPairs-drop}
+use Rattle.hz_checked.proofs.RowSteps.{AllPairs-drop}
 use Rattle.hz_check.proofs.Tables.KnownNames.{known_bypass, first_holds, item_at}
 use Rattle.hz_check.proofs.Lists.Next.{drop_next, done_next}
 use Rattle.hz_base_model.proofs.Ascending.{AllPairs-head}

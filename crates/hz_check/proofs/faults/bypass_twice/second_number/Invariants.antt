@@ -1,6 +1,6 @@
 use Rattle.std.proofs.Common.{◌≡◌, map, take, drop, vec_len}
 use Rattle.hz_mdread.specs.Shape.{description, bypass_item}
-use Rattle.hz_check.specs.Faults.Bypasses.{rows_of}
+use Rattle.hz_checked.specs.NumberRows.{rows_of}
 use Rattle.hz_check.proofs.HeldNumbers.{HoldsNumbers}
 use Rattle.hz_description_model.specs.Check.CheckFaults.{renumbered_behind, second_numbers}
 use Rattle.hz_description_model.specs.Reading.Descriptions.{unguarded}

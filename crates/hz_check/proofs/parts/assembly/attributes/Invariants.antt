@@ -1,6 +1,6 @@
 use Rattle.std.proofs.Common.{◌≡◌, ◌++◌, map}
 use Rattle.std.specs.Vec.Iter.{into_iter_items}
-use Rattle.hz_check.specs.Shape.{attribute_of}
+use Rattle.hz_checked.specs.Shape.{attribute_of}
 use Rattle.hz_check.proofs.parts.assembly.attributes.Given as goal
 
 abbrev pub invariant-loop-item : goal.invariant-loop-item

@@ -1,5 +1,5 @@
 use Rattle.hz_mdread.specs.Shape.{description, bypass_item}
-use Rattle.hz_check.specs.Shape.{bypass_of}
+use Rattle.hz_checked.specs.Shape.{bypass_of}
 use Rattle.hz_check.proofs.Lists.Next.{push_all}
 use Rattle.hz_description_model.specs.Check.CheckedParts.{bypass_parts}
 use Rattle.hz_check.proofs.parts.assembly.bypasses.Goals as goal

@@ -1,6 +1,6 @@
 use Rattle.std.proofs.Common.{◌≡◌, map, take}
 use Rattle.hz_mdread.specs.Shape.{description, bypass_item}
-use Rattle.hz_check.specs.Shape.{bypass_of}
+use Rattle.hz_checked.specs.Shape.{bypass_of}
 use Rattle.hz_description_model.specs.Check.CheckedParts.{bypass_parts}
 use Rattle.hz_check.proofs.parts.assembly.bypasses.Given as goal
 

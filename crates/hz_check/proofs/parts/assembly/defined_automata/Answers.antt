@@ -1,6 +1,6 @@
 use Rattle.std.proofs.Common.{◌++◌, ◌∷◌, ◌+◌, map, drop, sym, ap, ◌∙◌, add-one}
 use Rattle.hz_mdread.specs.Shape.{description, automaton_item}
-use Rattle.hz_check.specs.Shape.{automaton_of}
+use Rattle.hz_checked.specs.Shape.{automaton_of}
 use Rattle.hz_check.proofs.Lists.Next.{push_before, drop_next}
 use Rattle.hz_description_model.specs.Check.CheckedParts.{automata_from, automaton_parts}
 use Rattle.hz_check.proofs.parts.assembly.defined_automata.Goals as goal

@@ -1,6 +1,6 @@
 use Rattle.std.proofs.Common.{◌≡◌, ◌++◌, map, drop}
 use Rattle.hz_mdread.specs.Shape.{description, automaton_item}
-use Rattle.hz_check.specs.Shape.{automaton_of}
+use Rattle.hz_checked.specs.Shape.{automaton_of}
 use Rattle.hz_description_model.specs.Check.CheckedParts.{automata_from}
 use Rattle.hz_check.proofs.parts.assembly.defined_automata.Given as goal
 

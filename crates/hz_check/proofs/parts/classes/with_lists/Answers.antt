@@ -5,7 +5,7 @@ use Rattle.std.proofs.lemmas.List.{map-append, length_push}
 use Rattle.std.proofs.lemmas.List.Elements.{All-same}
 use Rattle.hz_altern.specs.Shapes.{alternatives}
 use Rattle.hz_mdread.specs.Shape.{class_item}
-use Rattle.hz_check.specs.Shape.{class_of}
+use Rattle.hz_checked.specs.Shape.{class_of}
 use Rattle.hz_check.specs.Parts.Classes.{class_with, classes_with}
 use Rattle.hz_check.proofs.Built.ClassLists.{classes_next}
 use Rattle.hz_description_model.specs.Reservations.AlternativeLists.{IsCuttable}

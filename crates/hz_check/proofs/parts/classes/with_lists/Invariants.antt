@@ -1,7 +1,7 @@
 use Rattle.std.proofs.Common.{◌≡◌, map, take, length, vec_len}
 use Rattle.hz_altern.specs.Shapes.{alternatives}
 use Rattle.hz_mdread.specs.Shape.{class_item}
-use Rattle.hz_check.specs.Shape.{class_of}
+use Rattle.hz_checked.specs.Shape.{class_of}
 use Rattle.hz_check.specs.Parts.Classes.{classes_with}
 use Rattle.hz_check.proofs.parts.classes.with_lists.Given as goal
 

@@ -2,7 +2,7 @@ use Rattle.std.proofs.Common.{◌<◌, ◌++◌, ◌∷◌, ◌==◌, [], drop, 
 use Rattle.std.proofs.lemmas.Grind.{common_steps}
 use Rattle.std.proofs.lemmas.List.Elements.{All-push}
 use Rattle.std.specs.List.{list_any}
-use Rattle.hz_check.proofs.Lists.Next.{drop_number}
+use Rattle.hz_checked.proofs.RowSteps.{drop_number}
 use Rattle.hz_depend.proofs.OnceLemmas.{listed_before, once_next}
 use Rattle.hz_depend.proofs.finding.numbers.distinct.Goals as goal
 use Rattle.hz_depend.proofs.finding.numbers.distinct.Goals.{then-branch+in_ok-push, else-branch}

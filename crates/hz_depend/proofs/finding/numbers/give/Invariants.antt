@@ -1,7 +1,7 @@
 use Rattle.std.proofs.Common.{◌≡◌, ℕ, ◌==◌, length, drop, Some}
 use Rattle.std.specs.Prelude.{if◌then◌else◌}
 use Rattle.std.specs.List.{list_any}
-use Rattle.hz_check.specs.Faults.Bypasses.{given_in}
+use Rattle.hz_checked.specs.NumberRows.{given_in}
 use Rattle.hz_depend.proofs.finding.numbers.give.Given as goal
 
 -- with the classes that are left, the row is what it is to be

@@ -1,5 +1,5 @@
 use Rattle.std.proofs.Common.{◌<◌, length, get_or, refl, arith}
-use Rattle.hz_check.proofs.Telling.RowSteps.{given_next, row_at}
+use Rattle.hz_checked.proofs.RowSteps.{given_next, row_at}
 use Rattle.hz_depend.proofs.finding.numbers.give_pairs.Goals as goal
 
 pub loop-out-preserved : goal.loop-out-preserved

@@ -1,7 +1,7 @@
 use Rattle.std.proofs.Common.{◌≡◌, ℕ, ◌==◌, ◌&&◌, drop, Some, vec_len}
 use Rattle.std.specs.Prelude.{if◌then◌else◌}
 use Rattle.std.specs.List.{list_any}
-use Rattle.hz_check.specs.Faults.Bypasses.{rows_of, number_at}
+use Rattle.hz_checked.specs.NumberRows.{rows_of, number_at}
 use Rattle.hz_depend.proofs.finding.numbers.give_pairs.Given as goal
 
 -- with the producing classes that are left, the rows are what they are to be

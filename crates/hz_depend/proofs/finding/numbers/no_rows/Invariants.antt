@@ -1,5 +1,5 @@
 use Rattle.std.proofs.Common.{◌≡◌, ℕ, [], get_or, vec_len}
-use Rattle.hz_check.specs.Faults.Bypasses.{rows_of}
+use Rattle.hz_checked.specs.NumberRows.{rows_of}
 use Rattle.hz_depend.proofs.finding.numbers.no_rows.Given as goal
 
 abbrev pub invariant-loop : goal.invariant-loop

@@ -1,6 +1,6 @@
 use Rattle.std.proofs.Common.{◌≡◌, ℕ, drop, filter, map, vec_len}
-use Rattle.hz_check.specs.Faults.Bypasses.{rows_of, number_at}
-use Rattle.hz_check.specs.Shape.{bypass_of}
+use Rattle.hz_checked.specs.NumberRows.{rows_of, number_at}
+use Rattle.hz_checked.specs.Shape.{bypass_of}
 use Rattle.hz_block_model.specs.Dependences.Classes.{bypass_between}
 use Rattle.hz_depend.specs.Numbers.{has_guard}
 use Rattle.hz_depend.proofs.finding.numbers.rows_by.Given as goal

@@ -5,7 +5,7 @@ use Rattle.hz_pipeline_model.specs.Accepting.Events.{Event, IsOfClass, cycles_of
 use Rattle.hz_mdread.specs.Shape.{options as options_of}
 use Rattle.hz_description_model.specs.Check.CheckedParts.{ClassParts}
 use Rattle.hz_depend.specs.GraphShape.{IsSchedulable}
-use Rattle.hz_check.specs.Shape.{automaton_of, class_of, bypass_of, attribute_of}
+use Rattle.hz_checked.specs.Shape.{automaton_of, class_of, bypass_of, attribute_of}
 use Rattle.hz_tables.specs.Machines.{machine_of}
 use Rattle.hz_auto.specs.Machines.{reports_of}
 use Rattle.hz_block_model.proofs.Settling.SettleLaws.{machine_settles}

@@ -1,7 +1,7 @@
 use Rattle.std.proofs.Common.{◌<◌, length, sym, ap, ◌∙◌, arith}
 use Rattle.std.specs.List.{flat_map}
 use Rattle.hz_io.proofs.Adding.{each_added_as, each_stopped_as, each_done}
-use Rattle.hz_check.specs.declared.checked.CheckedAutomaton.{CheckedAutomaton}
+use Rattle.hz_checked.specs.declared.checked.CheckedAutomaton.{CheckedAutomaton}
 use Rattle.hz_tabtext_model.specs.Texts.{PartText, line_text, part_lines}
 use Rattle.hz_tabfile.specs.Saying.{parts_says}
 use Rattle.hz_tabfile.proofs.PartsThere.{said_there, writable_there, says_length}

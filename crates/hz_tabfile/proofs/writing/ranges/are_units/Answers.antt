@@ -1,7 +1,7 @@
 use Rattle.std.proofs.Common.{ℕ, List, subst, arith}
 use Rattle.std.specs.Prelude.{All, IsTrue}
 use Rattle.hz_base_model.specs.Names.{is_name}
-use Rattle.hz_check.specs.declared.checked.CheckedAutomaton.{CheckedAutomaton}
+use Rattle.hz_checked.specs.declared.checked.CheckedAutomaton.{CheckedAutomaton}
 use Rattle.hz_tabfile.proofs.Ranges.{all_more, all_done}
 use Rattle.hz_tabfile.proofs.writing.ranges.are_units.Goals as goal
 

@@ -4,8 +4,8 @@ use Rattle.std.specs.Option.{ForSome}
 use Rattle.hz_base_model.specs.Limits.{cycle_limit}
 use Rattle.hz_base_model.specs.Names.{is_name}
 use Rattle.hz_base_model.specs.Pairs.{Pair, IsAscendingBy}
-use Rattle.hz_check.specs.declared.checked.CheckedAutomaton.{CheckedAutomaton}
-use Rattle.hz_check.specs.Shape.{automaton_of}
+use Rattle.hz_checked.specs.declared.checked.CheckedAutomaton.{CheckedAutomaton}
+use Rattle.hz_checked.specs.Shape.{automaton_of}
 use Rattle.hz_description_model.specs.Check.CheckedParts.{AutomatonParts}
 use Rattle.hz_tables.specs.declared.part.Part.{Part}
 use Rattle.hz_tables.specs.Parts.{rows_of, part_of}

@@ -1,5 +1,5 @@
 use Rattle.std.proofs.Common.{◌∙◌, map}
-use Rattle.hz_check.specs.Shape.{bypass_of}
+use Rattle.hz_checked.specs.Shape.{bypass_of}
 use Rattle.hz_depend.specs.GraphShape.{latencies_of}
 use Rattle.hz_rtl.specs.Shape.{instruction, instructions}
 use Rattle.hz_timed.proofs.WaitLemmas.{number_is}

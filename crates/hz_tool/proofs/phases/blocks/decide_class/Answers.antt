@@ -1,6 +1,6 @@
 use Rattle.std.proofs.Common.{sym, ap, ◌∙◌, subst}
 use Rattle.hz_answer_model.specs.FaultTexts.{class_line}
-use Rattle.hz_answer_model.specs.Phases.{Says}
+use Rattle.hz_front_model.specs.Phases.{Says}
 use Rattle.hz_depend.specs.Faults.{fault as fault_of, classes_in}
 use Rattle.hz_rtl.specs.Shape.{instruction}
 use Rattle.hz_tool.proofs.BlockTelling.{ambiguous_judged, class_told, classes_told}

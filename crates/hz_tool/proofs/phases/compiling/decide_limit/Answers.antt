@@ -1,7 +1,7 @@
 use Rattle.std.proofs.Common.{map, sym, subst, ◌∙◌, [], arith}
 use Rattle.std.specs.Prelude.{slice_index_or}
 use Rattle.std.proofs.lemmas.List.{length-map}
-use Rattle.hz_check.specs.Shape.{automaton_of}
+use Rattle.hz_checked.specs.Shape.{automaton_of}
 use Rattle.hz_tool.proofs.MachineLemmas.{limit_told}
 use Rattle.hz_tool.proofs.TellingLemmas.{limited_past, states_told, states_judged}
 use Rattle.hz_tool.proofs.ToldStates.{IsStatesTold}

@@ -1,6 +1,6 @@
 use Rattle.std.proofs.Common.{map}
 use Rattle.hz_auto.specs.Machines.{reports_of}
-use Rattle.hz_check.specs.Shape.{automaton_of, class_of, bypass_of, attribute_of}
+use Rattle.hz_checked.specs.Shape.{automaton_of, class_of, bypass_of, attribute_of}
 use Rattle.hz_mdread.specs.Shape.{options}
 use Rattle.hz_block_model.proofs.Settling.SettleLaws.{machine_settles}
 use Rattle.hz_tables.specs.Machines.{machine_of}

@@ -1,7 +1,7 @@
 use Rattle.std.proofs.Common.{List, subst}
 use Rattle.std.specs.Prelude.{IfOk, IfErr}
 use Rattle.hz_answer_model.specs.BlockAnswers.{IsState}
-use Rattle.hz_answer_model.specs.Phases.{TellsFault}
+use Rattle.hz_front_model.specs.Phases.{TellsFault}
 use Rattle.hz_block_model.specs.Texts.StateForms as states
 use Rattle.hz_block_model.specs.Texts.Operands.{rtl_word}
 use Rattle.hz_rtl.specs.States.{words}

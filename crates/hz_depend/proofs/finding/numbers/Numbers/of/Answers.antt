@@ -1,6 +1,6 @@
 use Rattle.std.proofs.Common.{List, IfOk, map, ◌∙◌, subst}
-use Rattle.hz_check.specs.declared.checked.CheckedBypass.{CheckedBypass}
-use Rattle.hz_check.specs.Shape.{bypass_of}
+use Rattle.hz_checked.specs.declared.checked.CheckedBypass.{CheckedBypass}
+use Rattle.hz_checked.specs.Shape.{bypass_of}
 use Rattle.hz_depend.specs.Numbers.{HoldsNumbers}
 use Rattle.hz_depend.proofs.NumberLemmas.{held_classes}
 use Rattle.hz_depend.proofs.finding.numbers.Numbers.of.Goals as goal

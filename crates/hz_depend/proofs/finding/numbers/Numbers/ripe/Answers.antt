@@ -1,5 +1,5 @@
 use Rattle.std.proofs.Common.{ap, ◌∙◌}
-use Rattle.hz_check.specs.Faults.Bypasses.{rows_of, number_at}
+use Rattle.hz_checked.specs.NumberRows.{rows_of, number_at}
 use Rattle.hz_rtl.specs.Shape.{instruction}
 use Rattle.hz_depend.proofs.NumberLemmas.{ripe_is}
 use Rattle.hz_depend.proofs.finding.numbers.Numbers.ripe.Goals as goal

@@ -1,0 +1,5 @@
+pub mod GroupFits
+pub mod GroupTakes
+pub mod GroupRuns
+pub mod WrongGroups
+pub mod Renaming

@@ -1,0 +1,3 @@
+pub mod NamesBack
+pub mod ConditionsBack
+pub mod FormsBack

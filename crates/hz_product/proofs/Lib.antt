@@ -1,0 +1,10 @@
+pub mod Adding
+pub mod AddedStates
+pub mod ComparedLemmas
+pub mod EventLists
+pub mod FirstPair
+pub mod GroupEnds
+pub mod GroupSteps
+pub mod SearchLemmas
+pub mod SearchSteps
+pub mod SearchEnds

@@ -1,0 +1,5 @@
+pub mod Words
+pub mod Common
+pub mod Telling
+pub mod Products
+pub mod Groups
