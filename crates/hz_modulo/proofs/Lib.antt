@@ -10,5 +10,7 @@ mod ScanLemmas
 mod DrainLemmas
 mod RoomLemmas
 mod KeptStates
+mod JumpLemmas
+mod LaneLemmas
 mod HeldLemmas
 pub mod RepeatLemmas

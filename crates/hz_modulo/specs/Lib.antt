@@ -4,3 +4,4 @@ pub mod Ranks
 pub mod Walking
 pub mod Repeating
 pub mod Kernels
+pub mod Lanes

@@ -9,8 +9,10 @@ ghost use Rattle.hz_sched.specs.Shape.{slots_of};
 ghost use Rattle.hz_tables.specs.Machines.{machine_of};
 ghost use Rattle.hz_modulo.specs.Walking.{graph_of};
 ghost use Rattle.hz_modulo.specs.Heights.{LeavesRoom};
+ghost use Rattle.hz_modulo.specs.Lanes.{IsLaneOf};
 ghost use Rattle.hz_modulo.specs.Kernels.{RepeatsIn, IsKernelAt, IsFirstFrom, IsRoomyFrom};
 
+use crate::lanes::{Lane, lanes_of, stuck_lane};
 use crate::loads::least_room;
 use crate::parts::Kernel;
 use crate::repeating::first_repeat;
@@ -24,7 +26,8 @@ use std::alloc::Global;
 /// So many cycles after the last of the schedule each wait is over, and the machine is in its start again.
 const MOST_WAIT: u32 = 1_000;
 
-/// The kernel at an interval, if the turns repeat there. `last` is the last cycle of the slots.
+/// The kernel at an interval, if the turns repeat there. `last` is the last cycle of the slots. The part that is likely to refuse is asked
+/// first; it becomes the one that refuses.
 fn kernel_at(
     alloc: Global,
     machine: &Machine,
@@ -32,7 +35,10 @@ fn kernel_at(
     slots: &[Slot],
     last: u32,
     interval: u32,
+    lanes: &[Lane<'_>],
+    likely: &mut usize,
 ) -> Result<Option<Kernel>, NoMemory>
+    requires lanes { All (IsLaneOf (machine_of machine.now)) lanes.now }
     requires settles { Settles (machine_of machine.now) }
     requires classes { All (λ c. c < length machine.now.classes.items) classes.now }
     requires places { All (λ x. x.place < length classes.now) slots.now }
@@ -46,6 +52,10 @@ fn kernel_at(
 {
     let stages = last / interval;
     let slots = kernel_slots(alloc, slots, interval)?;
+    if let Some(lane) = stuck_lane(lanes, *likely, classes, &slots, interval, stages) {
+        *likely = lane;
+        return Ok(None);
+    }
     match first_repeat(alloc, machine, classes, &slots, interval, stages)? {
         Some(repeat) => Ok(Some(Kernel {
             interval,
@@ -80,8 +90,19 @@ fn first_kernel(
     ensures first { IfOk result (IsFirstFrom (machine_of machine.now) (graph_of classes.now) (slots_of slots.now) first) }
     ensures range { IfOk result (λ k. All (λ x. x.place < length classes.now) k.slots.items) }
 {
+    let lanes = lanes_of(alloc, machine)?;
+    let mut likely: usize = 0;
     for interval in first..last + MOST_WAIT + 1 {
-        if let Some(kernel) = kernel_at(alloc, machine, classes, slots, last, interval)? {
+        if let Some(kernel) = kernel_at(
+            alloc,
+            machine,
+            classes,
+            slots,
+            last,
+            interval,
+            &lanes,
+            &mut likely,
+        )? {
             return Ok(kernel);
         }
     }

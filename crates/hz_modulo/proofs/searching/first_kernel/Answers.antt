@@ -1,8 +1,10 @@
-use Rattle.std.proofs.Common.{◌+◌, ◌<◌, length, All, arith}
+use Rattle.std.proofs.Common.{◌+◌, ◌<◌, List, length, All, sym, subst, arith}
+use Rattle.hz_pipeline_model.specs.Tables.Machines.{Machine}
 use Rattle.hz_sched.specs.Shape.{slots_of}
 use Rattle.hz_tables.specs.Machines.{machine_of}
 use Rattle.hz_modulo.specs.Walking.{graph_of}
 use Rattle.hz_modulo.specs.Kernels.{RepeatsIn, IsKernelAt}
+use Rattle.hz_modulo.specs.Lanes.{IsLaneOf}
 use Rattle.hz_modulo.proofs.SearchLemmas.{if_none, if_some, none_yet, is_first}
 use Rattle.hz_modulo.proofs.searching.first_kernel.Goals as goal
 
@@ -45,3 +47,6 @@ returns-in-Some-clause-first c =
 
 pub returns-in-Some-clause-range : goal.returns-in-Some-clause-range
 returns-in-Some-clause-range c = if_some c.in_ok-kernel.field-0 (λ k. All (λ x. x.place < length c.args.classes.now) k.slots.items) c.in-Some.kernel c.in-Some.is c.in_ok-kernel.ensures.range
+
+pub kernel_at-requires-clause-lanes : goal.kernel_at-requires-clause-lanes
+kernel_at-requires-clause-lanes c = subst (λ (lanes : List Machine). All (IsLaneOf (machine_of c.args.machine.now)) lanes) (sym c.deref.ensures.value) c.in_ok-lanes.ensures
