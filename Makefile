@@ -12,7 +12,7 @@ endif
 # needs COMMAND: ends the target if the command is not there
 needs = @command -v $(1) > /dev/null || { echo "hz: $(1) is not on the path; make $@ needs it"; exit 2; }
 
-.PHONY: all try quick quick-kit test examples check-walk check-why check-bound check-modulo check-memory check-large check-gcc check-sheet bench install uninstall dist deb clean
+.PHONY: all try quick quick-kit test examples check-walk check-why check-same check-bound check-modulo check-memory check-large check-limits check-gcc check-sheet bench install uninstall dist deb clean
 
 # Each program in bin is proved, with all crates that it needs. A kit whose `rt ci` takes names of crates keeps what it passed: there `rt ci`
 # proves, so that `make test` proves nothing of it again.
@@ -46,10 +46,10 @@ test:
 
 # each example and each status of the programs, the manual pages, what tools/extract.py writes and what pages show, against what is expected
 examples: all
-	@sh examples/check.sh bin/hz bin/hz_why
-	@sh examples/statuses.sh bin/hz bin/hz_why
+	@sh examples/check.sh bin/hz bin/hz_why bin/hz_same
+	@sh examples/statuses.sh bin/hz bin/hz_why bin/hz_same
 	@sh man/check.sh
-	@if command -v python3 > /dev/null; then sh tools/test.sh bin/hz && python3 tools/check_pages.py bin/hz bin/hz_why; \
+	@if command -v python3 > /dev/null; then sh tools/test.sh bin/hz && python3 tools/check_pages.py bin/hz bin/hz_why bin/hz_same; \
 		else echo "no python3: tools/test.sh and tools/check_pages.py are not run"; fi
 
 # compile and then walk, beside replay and a calendar: on all examples, and on descriptions and traces with asks that a seed makes
@@ -73,9 +73,17 @@ check-memory: all
 	$(call needs,cc)
 	@python3 tools/check_memory.py bin/hz bin/hz_why
 
-# each command at the ends of sizes, and just past them: files of up to 1 GB in the folder for what is temporary, and ample memory
+# each command and hz_why at the ends of sizes, and just past them: files of up to 1 GB in the folder for what is temporary, and ample memory
 check-large: all
-	@python3 tools/check_large.py bin/hz
+	@python3 tools/check_large.py bin/hz bin/hz_why
+
+# hz at each limit and one past it, and both programs on the largest inputs of the calls that can want memory
+check-limits: all
+	@python3 tools/check_limits.py --each bin/hz bin/hz_why
+
+# hz_same beside a plain search, on machines that a seed makes, and on GCC's pipelines with and without --align and --merge
+check-same: all
+	@python3 tools/check_same.py --source '$(GCC_SOURCE)' bin/hz bin/hz_same
 
 # each pipeline of GCC's back ends, 10,000 mutants of their files, and what genautomata writes of them; GCC_SOURCE is what Debian's package gcc-12-source installs, or a folder
 check-gcc: all
@@ -97,6 +105,7 @@ bench: all
 	@sh bench/walk/run.sh bin/hz
 	@sh bench/asks/run.sh bin/hz
 	@sh bench/why/run.sh bin/hz bin/hz_why
+	@sh bench/same/run.sh bin/hz bin/hz_same
 	@sh bench/schedule/run.sh bin/hz
 	@sh bench/bound/run.sh bin/hz
 	@sh bench/duo/run.sh bin/hz

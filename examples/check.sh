@@ -1,10 +1,11 @@
 #!/bin/sh
-# check.sh HZ HZ_WHY: asks the programs for the answer to each example, and compares it with the file of the answer: the status on the first
+# check.sh HZ HZ_WHY HZ_SAME: asks the programs for the answer to each example, and compares it with the file of the answer: the status on the first
 # line, then the text. Which file is asked of which command is in examples/README.md, and so is what else is tried.
 # The trace of each schedule is replayed on its machine, and so are 40 turns of each loop. What is left after the reads is what the block
 # leaves. Each .tables file is the text that its description compiles to.
 hz=$1
 hz_why=$2
+hz_same=$(cd "$(dirname "$3")" && pwd)/$(basename "$3")
 cd "$(dirname "$0")/.." || exit 2
 work=$(mktemp -d) || exit 2
 trap 'rm -rf "$work"' EXIT
@@ -32,6 +33,25 @@ explained() {
     shift 2
     "$hz_why" "$@" > "$work/text"
     ends $? hz_why
+}
+
+# rewritten ANSWER: hz_same ends as the answer has it, on the tables of the machine beside it and of the description of its name
+rewritten() {
+    answer=$1
+    example=$1
+    name=$(basename "$1" .same)
+    { "$hz" compile "$(dirname "$1")/machine.md" > "$work/machine.tables" && "$hz" compile "${1%.same}.md" > "$work/$name.tables"; } ||
+        { echo "compile ${1%.same}.md: status $?"; bad=1; }
+    (cd "$work" && "$hz_same" machine.tables "$name.tables") > "$work/text"
+    ends $? hz_same
+    # a trace that it writes is walked on one of the two, and refused at its last event on the other
+    refused=$(sed -n 's/^; refused by \(.*\), accepted by .*/\1/p' "$answer")
+    [ -n "$refused" ] || return
+    agree walk "$1 on $refused" "$("$hz" walk "$work/$refused" "$work/text" | sed 's/ line / /')" \
+        "$(awk '!/^;/ { line = NR; class = $2 } END { print "refused", line, class }' "$work/text")"
+    accepted=$(sed -n 's/^; refused by .*, accepted by \(.*\)/\1/p' "$answer")
+    agree walk "$1 on $accepted" "$("$hz" walk "$work/$accepted" "$work/text")" \
+        "$(awk '/^issue / { issues++ } /^advance / { cycles += $2 } END { print "accepted", issues, "issues", cycles + 0, "cycles" }' "$work/text")"
 }
 
 # ends STATUS COMMAND: the command, which has written `text`, ended as the answer of the example has it
@@ -154,6 +174,7 @@ awk 'BEGIN {
     for (unit = 0; unit < 15; unit++) print "issue any"
 }' > "$work/trace"
 agree hz_why '375 events under ndfa' "$(begins "$hz_why" "$work/machine" "$work/trace")" "$(begins "$hz" replay "$work/machine" "$work/trace")"
+for same in examples/*/*.same; do rewritten "$same"; done
 for drill in examples/*/*.drill; do
     # its words are the number and the turns
     compare "$drill" drill "$(dirname "$drill")/machine.md" $(cat "$drill")

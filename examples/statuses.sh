@@ -1,9 +1,10 @@
 #!/bin/sh
-# statuses.sh HZ HZ_WHY: shows each status of each command and of hz_why on real files, and each kind of fault of a tables text, and compares
+# statuses.sh HZ HZ_WHY HZ_SAME: shows each status of each command, of hz_why and of hz_same on real files, and each kind of fault of a tables text, and compares
 # status and text. The programs are proved ones: one that is built to be tried without a proof can't start in the little memory that some
 # runs are given.
 hz=$(cd "$(dirname "$1")" && pwd)/$(basename "$1")
 hz_why=$(cd "$(dirname "$2")" && pwd)/$(basename "$2")
+hz_same=$(cd "$(dirname "$3")" && pwd)/$(basename "$3")
 work=$(mktemp -d) || exit 2
 trap 'rm -rf "$work"' EXIT
 cd "$work" || exit 2
@@ -86,6 +87,14 @@ expect_pipe() {
 why() {
     kept=$hz
     hz=$hz_why
+    "$@"
+    hz=$kept
+}
+
+# same FUNCTION WORD..: the same for hz_same
+same() {
+    kept=$hz
+    hz=$hz_same
     "$@"
     hz=$kept
 }
@@ -564,6 +573,55 @@ why once bad 2 'fault /dev/stdin line 2 BadLine' d /dev/stdin
 why once never 1 "$(printf 'refused line 1 x\nnever fits\nalternative 1: presence_set line 2, v in cycle 0 without a pattern\ncycle   0\nv       .')" \
     /dev/stdin t
 
+# hz_same: `other` is `k` with one entry changed, `renamed` with a class of another name, `turned` with its classes in the other order,
+# and `parts` the same machine in two automata
+sed '10s/2 -/2 0/' k > other
+sed '5s/y/z/' k > renamed
+sed '4s/x/y/; 5s/y/x/; 8s/0 1/1 0/' k > turned
+lines parts 'hazard-tables 1' 'treatment first' 'classes 2' 'class x' 'class y' 'automata 2' \
+    'automaton - 2 3' 'map 0 1' 'row 1 1 0' 'row 2 - 0' 'row - - 0' \
+    'automaton n 2 3' 'map 0 1' 'row 1 2 0' 'row 1 2 0' 'row 2 2 0' end
+# `free` is `asked` with the unit free in state 2
+sed '11s/row 3 2 0/row 3 - 0/' asked > free
+lines no_class_but_x 'hazard-tables 1' 'treatment first' 'classes 1' 'class x' 'automata 1' 'automaton - 1 1' 'map 0' 'row 0 0' end
+# counters of as many cycles as each other have, whose pairs are more than 1,048,576: each goes back to its start at an issue of its own
+counter() {
+    printf 'hazard-tables 1\ntreatment first\nclasses 1\nclass x\nautomata 1\nautomaton %s 1 %s\nmap 0\n' "$1" "$2"
+    awk -v states="$2" 'BEGIN { for (state = 0; state < states; state++) print "row -", (state + 1) % states }'
+    echo end
+}
+counter a 1031 > short_counter
+counter b 1033 > long_counter
+same expect 0 same k k
+same expect 0 same k turned
+same expect 0 same turned k
+same expect 0 same k parts
+same expect 0 same parts k
+same expect 0 same asked asked
+same expect 1 "$(printf 'issue x\nissue y\n; refused by k, accepted by other')" k other
+same expect 1 "$(printf 'issue x\nissue y\n; refused by k, accepted by other')" other k
+same expect 1 "$(printf '; class y is of k alone\n; class z is of renamed alone\n; else the same')" k renamed
+same expect 1 "$(printf '; class z is of renamed alone\n; class y is of k alone\n; else the same')" renamed k
+same expect 1 "$(printf 'issue x\nadvance 1\nask a\n; reserved in asked, free in free')" asked free
+same expect 1 "$(printf 'issue x\nadvance 1\nask a\n; reserved in asked, free in free')" free asked
+same expect 1 "$(printf '; class y is of k alone\nissue x\nissue x\nissue x\n; refused by k, accepted by no_class_but_x')" k no_class_but_x
+same expect 1 "$(printf '; ask a is of asked alone\nissue x\nissue x\n; refused by asked, accepted by no_class_but_x')" asked no_class_but_x
+same expect 2 'fault header line 1 BadHeader' header cut
+same expect 2 'fault cut line 12 Truncated' k cut
+same expect 2 'fault cut line 12 Truncated' cut header
+same expect 2 'fault other_row line 9 OutOfRange' asked other_row
+same expect 2 'fault d line 1 BadHeader' k d
+same expect 2 'fault longest_tables line 1 Truncated' longest_tables k
+same expect 3 'limit pairs' short_counter long_counter
+same expect 3 'limit long_tables bytes' long_tables header
+same expect 3 'limit long_tables bytes' header long_tables
+same expect 6 'file missing could not be read' missing header
+same expect 6 'file missing could not be read' header missing
+same expect 6 'file folder could not be read' k folder
+same expect_memory 65536 longest_tables k
+same expect_sink k k
+same expect_sink k other
+
 # words
 expect 4 "$usage"
 expect 4 "$usage" compile
@@ -626,6 +684,17 @@ why expect 4 "$why_usage" missing --trace
 why expect 4 "$why_usage" --help
 why expect 4 "$why_usage" d "$(printf '\377')"
 
+same_usage='usage: hz_same TABLES TABLES'
+same expect 4 "$same_usage"
+same expect 4 "$same_usage" k
+same expect 4 "$same_usage" k k k
+same expect 4 "$same_usage" same k k
+same expect 4 "$same_usage" -k k
+same expect 4 "$same_usage" k -
+same expect 4 "$same_usage" missing --tables
+same expect 4 "$same_usage" --help
+same expect 4 "$same_usage" k "$(printf '\377')"
+
 # a file that fails after as many bytes as are allowed: it gives words of eight bytes alone, and no single byte
 words=/proc/self/pagemap
 if [ -r "$words" ]; then
@@ -642,6 +711,8 @@ if [ -r "$words" ]; then
     expect 6 "file $words could not be read" drill "$words" 1 4
     why expect 6 "file $words could not be read" "$words" missing
     why expect 6 "file $words could not be read" d "$words"
+    same expect 6 "file $words could not be read" "$words" missing
+    same expect 6 "file $words could not be read" k "$words"
 fi
 
 # a file that may not be read, where the user may not read all files

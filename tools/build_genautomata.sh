@@ -39,6 +39,11 @@ else
 fi
 [ -e "$source/gcc/genautomata.cc" ] || [ -e "$source/gcc/genautomata.c" ] || fail "$1 has no gcc/genautomata.cc"
 
+# its configure asks for three libraries, installed or in folders of the source
+for word in gmp mpfr mpc; do
+    [ -d "$source/$word" ] || echo "#include <$word.h>" | gcc -E - > /dev/null 2>&1 || fail "no header $word.h"
+done
+
 # 2. GCC's own configure, for a target that has a pipeline description
 made=$folder/made
 log=$folder/log

@@ -9,7 +9,7 @@ import re
 import sys
 
 TOP = pathlib.Path(__file__).resolve().parent.parent
-MOST_CRATES, MOST_SUMS = 52, 3200
+MOST_CRATES, MOST_SUMS = 54, 3200
 
 
 def listed():

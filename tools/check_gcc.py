@@ -2,9 +2,9 @@
 """Extracts each pipeline of GCC's back ends as it is, with --align, and with --align and --split, gives all to hz, and prints a table of
 the answers.
 
-If the first two compile, their tables are compared. If only the aligned one does, or these are of other automata, drills of both
-treatments on its tables are compared with a calendar of the other. Each automaton of the aligned one is compared with those into which
-it is cut, by a search over all their states. Where only the cut one compiles there are drills, as above. Mutants of all are extracted
+What compiles is compared by hz_same, or, where that is not built, by a search over all pairs of states in Python: the aligned one with the
+one as it is, and the cut one with the aligned one. If only the aligned one compiles, drills of both treatments on its tables are compared
+with a calendar of the other. So it is where only the cut one compiles, or where too many pairs would be needed. Mutants of all are extracted
 too. The machine descriptions are those of Debian's package gcc-12-source, unpacked into a folder that is removed, or those of a folder
 with GCC's source. Then check_built.py compares what genautomata writes of them.
 
@@ -23,12 +23,13 @@ import tarfile
 import tempfile
 
 import check_built
+from building.comparing import comparer_of
 from extract import Reader, extract
 from fuzz_extract import fuzz
-from extraction import same
 from extraction.calendars import Calendars
 from extraction.forms import Fault
 from extraction.items import Class, Options, Reservation, Units
+from extraction.same import Undecided
 from extraction.shared import needed
 from extraction.tables import Tables, is_count
 from extraction.writing import written
@@ -36,9 +37,9 @@ from extraction.writing import written
 SOURCES = "/usr/src/gcc-12/gcc-12*.tar.xz"
 MEMORY = 6 << 30
 NUMBER, TURNS = 59, 2000
-PAIRS = 131072
 
 Answer = collections.namedtuple("Answer", "status told seconds states grids size text")
+Programs = collections.namedtuple("Programs", "hz comparer")
 Row = collections.namedtuple("Row", "target name classes plain aligned agreement changes cut cut_agreement cut_changes")
 
 
@@ -175,41 +176,29 @@ def drills(hz, plain, aligned, most):
     return "; ".join(f"{'ndfa' if is_any else 'first'}: {drills_agree(hz, plain, aligned, is_any, most)}" for is_any in (False, True))
 
 
-def automata(answer):
-    """The names of the automata of tables."""
-    return [line.split()[1] for line in answer.text.split("\n") if line.startswith("automaton ")]
+def compared(comparer, before, after):
+    """Whether two answers that compile are the same, or how they differ."""
+    texts = ["\n".join(line for line in answer.text.split("\n") if not is_count(line)) for answer in (before, after)]
+    if texts[0] == texts[1]:
+        return "the same tables"
+    found = comparer.told(before.text, after.text)
+    return f"DIFFERS: {'; '.join(found.trace)}: {found.answers[0]}, {found.answers[1]}" if found else "the same"
 
 
-def agreement(hz, plain, aligned, answers, most):
-    """How both ways were compared: by their tables, or by drills if these are not there or are of other automata, of which --merge joins
-    less if what is aligned needs less."""
-    texts = ["\n".join(line for line in answer.text.split("\n") if not is_count(line)) for answer in answers]
-    if answers[0].status == answers[1].status == 0:
-        if texts[0] == texts[1]:
-            return "the same tables"
-        if automata(answers[0]) == automata(answers[1]):
-            return "other tables: DIFFERS"
-        return f"other automata; {drills(hz, plain, aligned, most)}"
-    if answers[0].status != 0 and answers[1].status == 0:
-        return drills(hz, plain, aligned, most)
-    return "" if answers[0].told == answers[1].told else "another answer"
-
-
-def cut_agreement(hz, plain, cut, answers, most):
-    """How what is cut was compared with what is only aligned: by a search over their states, or by drills."""
+def agreement(programs, plain, aligned, answers, most):
+    """How two ways were compared: by their tables, or by drills if the first is not compiled, or has too many pairs of states."""
     before, after = answers
     if after.status != 0:
-        return "" if before.status != 0 else "no longer compiled: DIFFERS"
+        return "" if before.told == after.told else "no longer compiled: DIFFERS" if before.status == 0 else "another answer"
     if before.status != 0:
-        return drills(hz, plain, cut, most)
+        return drills(programs.hz, plain, aligned, most)
     try:
-        found = same.difference_of_cut(before.text, after.text, PAIRS)
-        return f"{found[0]} DIFFERS after {', '.join(found[1])}" if found else "same"
-    except same.Undecided as undecided:
-        return f"{undecided}; {drills(hz, plain, cut, most)}"
+        return compared(programs.comparer, before, after)
+    except Undecided as undecided:
+        return f"{undecided}; {drills(programs.hz, plain, aligned, most)}"
 
 
-def row(hz, reader, target, name, most, **what):
+def row(programs, reader, target, name, most, **what):
     """One row of the table: a pipeline or a whole target, with or without --merge."""
     try:
         plain, _ = extract(reader, **what)
@@ -217,9 +206,9 @@ def row(hz, reader, target, name, most, **what):
         cut, cut_told = extract(reader, align=True, split="paying", **what)
     except Fault as fault:
         return unread(target, name, fault)
-    answers = [compiled(hz, with_option(items, "stats", True), most) for items in (plain, aligned, cut)]
-    agreed = agreement(hz, plain, aligned, answers[:2], most)
-    cut_same = cut_agreement(hz, plain, cut, answers[1:], most)
+    answers = [compiled(programs.hz, with_option(items, "stats", True), most) for items in (plain, aligned, cut)]
+    agreed = agreement(programs, plain, aligned, answers[:2], most)
+    cut_same = agreement(programs, plain, cut, answers[1:], most)
     short = [answer._replace(text="") for answer in answers]
     classes = sum(isinstance(item, Class) for item in plain)
     kinds = [[change.kind for change in made] for made in (told, cut_told)]
@@ -231,7 +220,7 @@ def unread(target, name, fault):
     return Row(target, name, 0, *[unanswered(f"not read: {fault}")] * 2, "", [], unanswered(""), "", [])
 
 
-def rows(hz, config, only, most):
+def rows(programs, config, only, most):
     """The rows of all back ends, each printed as it comes."""
     os.chdir(config)
     for main in main_files(config):
@@ -247,10 +236,10 @@ def rows(hz, config, only, most):
         if len(found) > 1:
             tries.append((f"all of {target}", {"files": [], "targets": [main]}))
         for name, what in tries:
-            first = row(hz, reader, target, name, most, **what)
+            first = row(programs, reader, target, name, most, **what)
             yield first
             if "AlternationOfTwo" in first.plain.told:
-                yield row(hz, reader, target, name + " --merge", most, merge=True, **what)
+                yield row(programs, reader, target, name + " --merge", most, merge=True, **what)
 
 
 def spelled(kinds):
@@ -285,9 +274,10 @@ def summary(title, found):
         for one in sorted(found, key=lambda one: -getattr(one, way).seconds)[:3]:
             answer = getattr(one, way)
             print(f"    {answer.seconds:.2f} s {one.name}: {answer.told}, {sizes(answer)}")
-    print(f"  the same tables: {sum(one.agreement == 'the same tables' for one in found)}")
-    print(f"  drills: {sum('accepted' in one.agreement for one in found)}")
-    print(f"  cut: {sum(one.cut_agreement == 'same' for one in found)} same, {sum('accepted' in one.cut_agreement for one in found)} drills")
+    for way in ("agreement", "cut_agreement"):
+        told = [getattr(one, way) for one in found]
+        print(f"  {way.replace('_', ' ')}: {told.count('the same tables')} the same tables, {told.count('the same')} the same otherwise, "
+              f"{sum('accepted' in one for one in told)} drills")
     print(f"  changes: {spelled(kind for one in found for kind in one.changes)}")
     print(f"  changes with the cut: {spelled(kind for one in found for kind in one.cut_changes)}")
 
@@ -348,7 +338,8 @@ def words():
     parser = argparse.ArgumentParser(prog="check_gcc.py", description=__doc__)
     parser.add_argument("--source", default=SOURCES, help="a GCC source, a tar file or a folder; if it is not given, " + SOURCES)
     parser.add_argument("--seconds", type=int, default=300, help="how long hz may take for one description")
-    parser.add_argument("--mutants", type=int, default=10000, help="how many mutated descriptions are extracted; 10000 if it is not given")
+    parser.add_argument("--same", metavar="HZ_SAME", help="the program hz_same; if it is not given, hz_same beside hz, if that is there")
+    parser.add_argument("--mutants", type=int, default=10000, help="how many mutated descriptions are extracted; 10000 if it is not given; a fifth as many texts of genautomata")
     parser.add_argument("hz")
     parser.add_argument("targets", nargs="*", help="back ends; all if none is named")
     return parser.parse_args()
@@ -361,15 +352,16 @@ def main():
         print(f"check-gcc: no {given.source}; Debian's package gcc-12-source has it")
         return 0
     hz, found = os.path.abspath(given.hz), []
+    programs = Programs(hz, comparer_of(hz, given.same))
     print("pipeline | classes | answer | seconds | states | aligned | seconds | states | compared | changes | "
           "cut | seconds | states | compared | changes | bytes")
     source = os.path.abspath(sources[0])
     with tempfile.TemporaryDirectory() as folder:
         config = os.path.abspath(unpack(source, folder))
-        for one in rows(hz, config, given.targets, given.seconds):
+        for one in rows(programs, config, given.targets, given.seconds):
             print(line_of(one), flush=True)
             found.append(one)
-        unexplained = check_built.check_source(hz, source, config, given.targets)
+        unexplained = check_built.check_source(hz, source, programs.comparer, config, given.targets, mutants=given.mutants // 5)
         os.chdir("/")
         odd = fuzz(hz, config, 1, given.mutants)
     merged = [one for one in found if one.name.endswith("--merge")]

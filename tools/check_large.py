@@ -1,5 +1,5 @@
 #!/usr/bin/env python3
-"""Runs hz at the ends of sizes, where want of memory is free and a body could give up: once within each limit, and once past it where that
+"""Runs hz and hz_why at the ends of sizes, where want of memory is free and a body could give up: once within each limit, and once past it where that
 is cheap. Statuses and whole texts are compared with what tools/large makes of the rules by itself."""
 import argparse
 import copy
@@ -11,6 +11,7 @@ import sys
 import tempfile
 import time
 
+from large import explained
 from large.blocks import Block, Insn, listing, two_scheduled
 from large.machines import Calendar, Kind, Machine, lengthened, many_classes, one_that_waits, several_classes, sixteen_automata, \
     subsets, two_ports
@@ -54,9 +55,11 @@ def difference(stream, pieces):
     return place if stream.read(1) else None
 
 
-def run(hz, folder, words, status, pieces):
-    """What is wrong with the answer of hz, or none."""
-    with subprocess.Popen([hz, *words], cwd=folder.path, stdout=subprocess.PIPE, stderr=subprocess.STDOUT) as done:
+def run(programs, folder, words, status, pieces):
+    """What is wrong with the answer of hz, or of hz_why if it is the first word, or none."""
+    hz, hz_why = programs
+    command = [hz_why, *words[1:]] if words[0] == "hz_why" else [hz, *words]
+    with subprocess.Popen(command, cwd=folder.path, stdout=subprocess.PIPE, stderr=subprocess.STDOUT) as done:
         place = difference(done.stdout, pieces)
         while done.stdout.read(2**20):
             pass
@@ -326,13 +329,58 @@ def past_classes(folder):
     yield "walk: a class more", ("walk", "past.tables", "empty.text"), 2, ["fault past.tables line 3 OutOfRange\n"]
 
 
-GROUPS = (traces, large_tables, longest_tables, full_blocks, large_states, all_classes, past_classes)
+# ---- hz_why
+
+def why_rows(folder, shown, machine, lines):
+    """A row of hz_why on a description and the lines of a trace."""
+    folder.write("why.md", machine)
+    folder.write("why.trace", "".join(f"{line}\n" for line in lines))
+    status, text = explained.answer(os.path.join(folder.path, "why.md"), explained.issues(lines))
+    yield f"hz_why: {shown}", ("hz_why", "why.md", "why.trace"), status, [text]
+
+
+def why_traces(folder):
+    """Traces of as many bytes as may be: of as many events as may be, and drawn, with an issue at the end that is refused."""
+    waits, ports = one_that_waits(), two_ports()
+    folder.write("waits.md", waits.text())
+    events = TRACE // len("issue x\n")
+    folder.write("events.trace", itertools.repeat("issue x\n", events))
+    shown = f"hz_why: a trace of {TRACE:,} bytes and {events:,} events"
+    yield shown, ("hz_why", "waits.md", "events.trace"), 0, [f"accepted {events} issues 0 cycles\n"]
+    folder.write("longer.trace", itertools.chain(itertools.repeat("issue x\n", events), ["\n"]))
+    yield "hz_why: a byte more", ("hz_why", "waits.md", "longer.trace"), 3, ["limit longer.trace bytes\n"]
+
+    folder.write("ports.md", ports.text())
+    pieces, _, left = drawn_trace(ports, TRACE, 1)
+    last = ["issue first\n"] * 3
+    folder.write("refused.trace", itertools.chain(pieces, [";" * (left - sum(map(len, last)) - 1) + "\n"], last))
+    # what was issued more than 64 lines before is past: each class takes three cycles at most, and each cycle has few issues
+    begin = len(pieces) - 64
+    lines = explained.issues(pieces[begin:], begin + 1) + explained.issues(last, len(pieces) + 2)
+    status, text = explained.answer(os.path.join(folder.path, "ports.md"), lines)
+    yield f"hz_why: a drawn trace of {TRACE:,} bytes, refused at its end", ("hz_why", "ports.md", "refused.trace"), status, [text]
+
+
+def why_sizes(folder):
+    """As many alternatives, classes and set statements as may be, or many."""
+    machine = explained.choices(16, 3)
+    yield from why_rows(folder, "4,096 alternatives, refused after one that takes all", machine, ["issue all", "advance 1", "issue all", "issue any"])
+    yield from why_rows(folder, "4,096 alternatives, 16 issues", machine, ["issue any"] * 16)
+    yield from why_rows(folder, "4,096 alternatives, refused after 16 others", machine, ["issue any"] * 16 + ["issue any"])
+    yield from why_rows(folder, "4,096 alternatives, of which one fits", machine, ["issue last", "issue last"])
+    machine = many_classes(CLASSES).text()
+    yield from why_rows(folder, f"{CLASSES} classes", machine, ["issue c1", f"issue c{CLASSES - 1}"])
+    yield from why_rows(folder, "30,000 set statements", explained.statements(30_000), ["issue first", "issue second"])
+
+
+GROUPS = (traces, large_tables, longest_tables, full_blocks, large_states, all_classes, past_classes, why_traces, why_sizes)
 
 
 def main():
     """Runs the rows of all groups, or of those that are named."""
     parser = argparse.ArgumentParser(description=__doc__)
     parser.add_argument("hz", help="the program")
+    parser.add_argument("hz_why", help="the program that explains")
     parser.add_argument("groups", nargs="*", choices=[[], *(group.__name__ for group in GROUPS)], help="only rows of these")
     parser.add_argument("--only", default="", help="only rows that are shown with this text")
     given = parser.parse_args()
@@ -346,7 +394,7 @@ def main():
                 if given.only not in shown:
                     continue
                 begun = time.monotonic()
-                found = run(os.path.abspath(given.hz), folder, words, status, pieces)
+                found = run([os.path.abspath(given.hz), os.path.abspath(given.hz_why)], folder, words, status, pieces)
                 print(f"{shown}: {found or 'as wanted'}, {time.monotonic() - begun:.1f} s", flush=True)
                 wrong, count = wrong + bool(found), count + 1
     print(f"{count} rows, {wrong} wrong")

@@ -24,6 +24,7 @@ from extraction.writing import written  # noqa: E402
 from sheet_check.browser import Browser, Failed, find_browser  # noqa: E402
 from sheet_check.comparing import compare_page  # noqa: E402
 from sheet_check.reading import shown_by  # noqa: E402
+from sheet_check.scripts import FILTER, HARD, WIDE  # noqa: E402
 
 TOOLS = os.path.dirname(os.path.abspath(__file__))
 TOP = os.path.dirname(TOOLS)
@@ -32,38 +33,9 @@ PIPELINES = ("m68k/cf", "i386/btver2", "i386/athlon", "i386/znver1", "s390/2827"
 WIDTHS = (1280, 390)
 MOST_BYTES = 5000000
 MOST_SECONDS = 10
-
-# what is wider than the window: text that no part holds which scrolls, and these parts themselves
-WIDE = """(function () {
-  var wide = [], most = window.innerWidth + 0.5, range = document.createRange(), node;
-  function judge(rects, text) {
-    for (var i = 0; i < rects.length; i++)
-      if (rects[i].right > most || rects[i].left < -0.5) { wide.push(text.trim().slice(0, 60)); return; }
-  }
-  var walker = document.createTreeWalker(document.body, NodeFilter.SHOW_TEXT | NodeFilter.SHOW_ELEMENT, function (node) {
-    if (node.nodeType === 3) return node.data.trim() ? NodeFilter.FILTER_ACCEPT : NodeFilter.FILTER_REJECT;
-    if (node.matches("script, .sr, .skip")) return NodeFilter.FILTER_REJECT;
-    if (!node.matches(".scroll, .lines, .columns, .groups")) return NodeFilter.FILTER_SKIP;
-    judge(node.getClientRects(), "a part that scrolls: " + node.className);
-    return NodeFilter.FILTER_REJECT;
-  });
-  while ((node = walker.nextNode())) {
-    range.selectNodeContents(node);
-    judge(range.getClientRects(), node.data);
-  }
-  if (document.documentElement.scrollWidth > window.innerWidth) wide.push("the page: " + document.documentElement.scrollWidth);
-  return wide;
-})()"""
-# types a name into the field of the filter, and counts the cards that are left
-FILTER = """(function (name) {
-  var field = document.getElementById("filter");
-  field.value = name;
-  field.dispatchEvent(new Event("input"));
-  var left = document.querySelectorAll(".card:not([hidden])").length;
-  field.value = "";
-  field.dispatchEvent(new Event("input"));
-  return [left, document.querySelectorAll(".card:not([hidden])").length];
-})"""
+# names that mean something in HTML, in a template, in a graph of dot, or in a text of hz
+ODD_NAMES = ("<b>", "</script>", "</style>", "&lt;", "&amp", "<!--", "-->", "{{x}}", "{%if%}", "\\N", "\\\\", "'q'", "%s", "-", "0", "[x]", "a;b", "X", "cycle",
+             "javascript:x", "<img/src=x/onerror=alert`1`>")
 
 
 class Check:
@@ -138,6 +110,8 @@ class Check:
                         self.say(f"{name}: asks for {url}")
                 for line in self.browser.run(WIDE):
                     self.say(f"{name}: wider than {width}: {line}")
+                for line in self.browser.run(HARD)[:5]:
+                    self.say(f"{name}: at {width}, {'dark' if dark else 'light'}: {line}")
                 if self.given.pictures:
                     shade = "dark" if dark else "light"
                     self.browser.picture(os.path.join(self.given.pictures, f"{re.sub('[^A-Za-z0-9]+', '-', name)}-{width}-{shade}.png"))
@@ -203,6 +177,20 @@ def gcc(check, folder):
             check.say(f"{name}: {fault!r}")
 
 
+def odd(check, folder):
+    """A page of odd names; they are those of automata, units and classes."""
+    written_names = [name.replace("\\", "\\\\") for name in ODD_NAMES]
+    text = f'(define_attr "<i>" "{", ".join(written_names)}" (const_string "<b>"))\n(define_automaton "{", ".join(written_names[:7])}")\n'
+    for place, name in enumerate(written_names):
+        text += f'(define_cpu_unit "{name}" "{written_names[place % 7]}")\n'
+    for place, name in enumerate(written_names):
+        text += f'(define_insn_reservation "{name}" {place} (eq_attr "<i>" "{name}") "{name}, {written_names[place - 1]}*2")\n'
+    trace = "".join(f"issue {name}\nadvance 1\n" for name in ODD_NAMES) + "issue <b>\nissue <b>\n"
+    block = "".join(f'(insn {place} (set (reg {place}) (reg {place - 1})) (set_attr "<i>" "{name}"))\n' for place, name in enumerate(written_names, 1))
+    path = write(folder, "<odd> & 'named'.md", text)
+    check.page("odd names", path, [write(folder, "<odd>.block", block)], [write(folder, "<odd>.trace", trace)])
+
+
 def made(check, folder):
     """Pages of descriptions, traces and blocks that a seed makes. Those that hz does not compile give no page."""
     maker = WhyMaker(check.given.seed)
@@ -241,7 +229,7 @@ def words():
     parser.add_argument("--pictures", metavar="FOLDER", help="where pictures of all pages are kept")
     parser.add_argument("--seed", type=int, default=83)
     parser.add_argument("--file-alone", action="store_true", help="compare the files of pages, without chromium")
-    parser.add_argument("--only", metavar="NAME", help="only examples and pipelines with this in their name")
+    parser.add_argument("--only", metavar="NAME", help="only pages of examples, of odd names and of pipelines with this in their name")
     parser.add_argument("--made", type=int, default=40, help="how many descriptions a seed makes")
     parser.add_argument("hz")
     parser.add_argument("hz_why")
@@ -259,6 +247,8 @@ def main():
         check = Check(given, folder)
         try:
             examples(check)
+            if (given.only or "") in "odd names":
+                odd(check, folder)
             gcc(check, folder)
             made(check, folder)
         except Failed as failed:

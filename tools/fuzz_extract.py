@@ -22,7 +22,7 @@ from extraction.forms import Fault, read_forms, read_text
 from extraction.writing import handed_out
 
 SECONDS, LONGEST, EDITS = 10, 20000, [1, 1, 1, 2, 3]
-OPTIONS = [{}, {"align": True}, {"merge": True}, {"split": "all"}, {"merge": True, "align": True, "split": "all"}]
+OPTIONS = [{}, {"align": True}, {"merge": True}, {"split": "all"}, {"merge": True, "align": True, "split": "all"}, {"align": True, "split": "paying"}]
 PIECES = ["(", ")", "[", "]", "{", "}", '"', "\\", ",", "|", "+", "*", "*0", "*3", "*2*2", "*511", "*60000", "*1000000000", "nothing", "nothing*512",
           ";", "/*", "*/", "\0", "\t", "\n", " ", "\xff", "\xa0", "!", "?", "[^a]", "[!a]", "[[:x:]]", "-", "9" * 5000, "(" * 70, ")" * 70,
           '(include "x.md")', "(const_int 99999999999999999999)", "(not (const_int 1))", '(eq_attr "type" (a))', '(eq_attr " type" "a,,b,")',

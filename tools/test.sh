@@ -186,6 +186,8 @@ for each in whole tied; do
     replays $each 'ask line 2 n1 reserved
 accepted 1 issues 0 cycles' 'issue tied_asked' 'ask n1'
 done
+# the checks of pages
+python3 "$tools/test/test_pages.py" || bad=1
 # under ndfa any choice may be taken, and its order ties nothing
 { sed 's/query_//' tied-port.md; echo '(automata_option "ndfa")'; } > any.md
 cut any-cut --split any.md
@@ -196,6 +198,16 @@ printf '%s\n' '(define_cpu_unit "a,b,c")' '(define_insn_reservation "x" 1 (const
 cut bare-cut --split bare.md
 compares same bare bare-cut cut
 [ "$(grep -c '^row' bare.tables) $(grep -c '^row' bare-cut.tables)" = '44 15' ] || wrong "bare-cut: other states than hz has"
+# of a, b and c each two choose by themselves, and all three do not; f is taken in step with no other, and would have too many states alone
+printf '%s\n' '(define_automaton "m,n")' '(define_cpu_unit "a,b,c,d,e" "m")' '(define_cpu_unit "f,g" "n")' \
+    '(define_insn_reservation "x" 1 (const_int 1) "(nothing | a + b | a + c | b + c) + (d | e)")' \
+    '(define_insn_reservation "y" 1 (const_int 1) "a*2")' '(define_insn_reservation "z" 1 (const_int 1) "g + f")' > parity.md
+for each in 5 10 20; do
+    echo "(define_insn_reservation \"f$each\" 1 (const_int 1) \"g*$each, f\")" >> parity.md
+done
+cut parity-cut --split=all parity.md
+cut stays-cut --split parity.md
+compares same parity stays-cut cut
 # of more than 16 automata the cuts that cost least are not made
 python3 -c 'print("(define_automaton \"m,n\")\n" + "".join(f"(define_cpu_unit \"u{at}\" \"{chr(109 + at % 2)}\")\n" + f"(define_insn_reservation "
     f"\"x{at}\" 1 (const_int 1) \"u{at}*{2 + at % 2}\")\n" for at in range(20)))' > many.md
@@ -206,11 +218,17 @@ cut many-cut --split many.md
 # what asks too much, or can't be read by hz: one line of a fault, or the changes that were made
 mkdir hostile && (cd hostile && python3 ../hostile.py "$tools/extract.py" "$hz") || bad=1
 
+# the lists of tools/check_limits.py, beside pages and sources
+sh "$tools/test/limits.sh" || bad=1
+
 # the data sheets of tools/sheet.py
 sh "$tools/test/sheet.sh" "$hz" || bad=1
 
 # what a built GCC walks, and descriptions as genautomata reads them
 sh "$tools/test/built.sh" "$hz" || bad=1
 sh "$tools/test/as_gcc.sh" "$hz" || bad=1
+
+# the search beside which hz_same is looked at
+python3 test_same.py "$tools" || bad=1
 
 exit $bad

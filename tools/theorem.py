@@ -1,19 +1,20 @@
 #!/usr/bin/env python3
-"""Writes docs/THEOREM.md: the clauses of `run` in plain words, and under each the definitions that a reader must believe.
+"""Writes docs/THEOREM.md: the clauses of both calls `run` in plain words, and under each the definitions that a reader must believe.
 
 It reads the sources alone, and proves nothing. A name that it cannot follow ends it with status 2, and so does a clause
 of `run` without a sentence here, or a sentence without its clause."""
 import argparse
 import collections
 import os
-import re
 import sys
 
 from contracts.naming import case_citations, citations, function_clauses, laws_of, reach
+from contracts.screen import command_section, first_screen
 from contracts.sources import Definition, Library, TOP, Unreadable
 
 PAGE = "docs/THEOREM.md"
 RUN = ("crates/hz_tool/src/top.rt", "run")
+WHY = ("crates/hz_explain/src/top.rt", "run")
 ANSWERS = "Rattle.hz_answer_model.specs.Answers"
 PHASES = "Rattle.hz_front_model.specs.Phases"
 COMMANDS = ("compile", "replay", "walk", "schedule", "eval", "drill", "timed", "bound", "duo", "modulo")
@@ -67,19 +68,35 @@ ENSURED = {
                 " Of `replay`, `walk` and `eval` nothing more is promised than the answer.",
 }
 
-INTRODUCTION = """# What one must read to believe `run`
+# The clauses of `run` of `hz_why` that say something else than those of `hz` of the same name, and the one that `hz` has not.
+WHY_ENSURED = {
+    name: ENSURED[name] for name in ("exact", "complete", "range", "sink", "file", "lacks", "rises", "fails")
+} | {
+    "words": "The status is 4 only if the words are not two names of files.",
+    "no_files": "If the words are not two names of files and no write failed, the status is 4.",
+} | {
+    name: ENSURED[name] for name in ("usage", "memory", "file_line", "cut", "neither")
+} | {
+    "exact": "This is the main clause. By the rules, the words and what the files hold have at most one answer (law `one_explanation`): what"
+             " `replay` answers, and after it why the first issue that does not fit is refused, or what the events leave. If there is one,"
+             " `run` gives its status, or 5 for want of memory. The clause applies if the files are known, no write failed, and either no"
+             " read failed or the files are steady.",
+    "file_line": "With status 6 one line is written. It names one of the two files.",
+}
+
+INTRODUCTION = """## How to read this page
 
 `python3 tools/theorem.py` makes this page from the sources, and the gate compares it. Do not edit it.
 
-The program `hz` calls one function, `run`. Its contract is all that is promised of the program. The toolchain checks that the code keeps
-the contract, so nobody needs to read code or proofs. A reader judges whether the contract says the right thing. For that one reads:
+The program `hz` calls one function, `run`, and so does `hz_why`, another of the same name. Its contract is all that is promised of the
+program. The toolchain checks that the code keeps the contract, so nobody needs to read code or proofs. A reader judges whether the contract says the right thing. For that one reads:
 
-1. the clauses of `run`: each is below under its name, in plain words and then as the source has it;
+1. the clauses of `run`: each is below under its name, in plain words and then as the source has it, those of `hz` before those of `hz_why`;
 2. the definitions that a clause names, those that these name, and so on. Each is listed once, under the first clause that needs it.
 
 Read the lists from top to bottom: what is used comes before what uses it. Hold each definition against [RULES.md](RULES.md) and
-[FORMATS.md](FORMATS.md); [GLOSSARY.md](GLOSSARY.md) has the words. `name 10-12` means lines 10 to 12 of the file. Comments and empty lines
-are not counted."""
+[FORMATS.md](FORMATS.md); [GLOSSARY.md](GLOSSARY.md) has the words. A file is in `specs` or `src` of its crate.
+`name 10-12` means lines 10 to 12 of the file, `all 6` all six definitions in it. Comments and empty lines are not counted."""
 
 SIGNS = """## The words of a clause
 
@@ -94,29 +111,25 @@ SIGNS = """## The words of a clause
 | `S.written`, `S.room` | what was written so far, and how many bytes still fit |
 | `ForSome v (λ x. P)` | P of x, if v is known to be x; nothing otherwise |
 | `Answer words held status text` | by the rules, these words over these files have this status and this text |
+| `WhyAnswer words held status text` | the same of `hz_why` |
 
 Files in memory are known: contracts have what they hold. A clause that begins with `ForSome (F.held ..)` is about known files, and what is
 written is said of known sinks. The host's files and standard output are not known: no contract can have their bytes. `run` is the same code
 for every kind of files and sinks; [GUARANTEES.md](GUARANTEES.md) says what is proved of it over the host's."""
 
-UNREACHED = """Nobody must believe these to believe `hz`. They are words of laws, and words to prove with. Who believes `hz_why` reads `WhyAnswer` of
-`hz_why_model`, and what it names there and in `Plays`: `run` of `hz_explain` promises it
-([GUARANTEES.md](GUARANTEES.md#what-hz_why-answers), 'What `hz_why` answers')."""
+UNREACHED = """Nobody must believe these to believe `hz` or `hz_why`. They are words of laws, and words to prove with."""
 
 
-class Theorem:
-    """The clauses of `run`, and what each needs."""
+class Contract:
+    """The clauses of a function with their sentences, and what each needs."""
 
-    def __init__(self):
-        self.library = Library()
-        clauses = function_clauses(self.library, *RUN)
+    def __init__(self, library, place, ensured):
+        self.place, self.ensured = place, ensured
+        clauses = function_clauses(library, *place)
         self.asked = self.named(clauses, "requires", REQUIRED)
-        self.promised = self.named(clauses, "ensures", ENSURED)
-        self.needs = {name: reach(self.library, self.promised[name].cited) for name in ENSURED}
+        self.promised = self.named(clauses, "ensures", ensured)
+        self.needs = {name: reach(library, self.promised[name].cited) for name in ensured}
         self.all = set().union(*(items for items, _ in self.needs.values()))
-        self.models = [crate for crate in self.library.crates if crate.endswith(("_model", "_laws"))]
-        self.laws = laws_of(self.library, self.models)
-        self.order = self.order_of_files()
 
     @staticmethod
     def named(clauses, word, sentences):
@@ -129,6 +142,19 @@ class Theorem:
             if name not in found:
                 raise Unreadable(f"the sentence of `{name}` in tools/theorem.py is of no clause of run")
         return found
+
+
+class Theorem:
+    """Both contracts of `run`, and what they need."""
+
+    def __init__(self):
+        self.library = Library()
+        self.run = Contract(self.library, RUN, ENSURED)
+        self.why = Contract(self.library, WHY, WHY_ENSURED)
+        self.all = self.run.all | self.why.all
+        self.models = [crate for crate in self.library.crates if crate.endswith(("_model", "_laws"))]
+        self.laws = laws_of(self.library, self.models)
+        self.order = self.order_of_files()
 
     def order_of_files(self):
         """The files that are reached: crate by crate, and before each file those that it uses."""
@@ -175,8 +201,8 @@ def crate_of(path):
 
 
 def link(path):
-    """A link to a file, by its folder and name inside its crate."""
-    return f"[{'/'.join(path.split('/')[3:]).rsplit('.', 1)[0]}](../{path})"
+    """A file by its folder and name inside the `specs` or `src` of its crate."""
+    return f"`{'/'.join(path.split('/')[3:]).rsplit('.', 1)[0]}`"
 
 
 def table(head, rows):
@@ -185,7 +211,9 @@ def table(head, rows):
 
 
 def places_of(items):
-    """Definitions of one file by name and lines."""
+    """Definitions of one file by name and lines, or that it is all of them."""
+    if len(items) == len(getattr(items[0].source, "definitions", ())):
+        return f"all {len(items)}"
     return ", ".join(f"`{item.name}` {item.place()}" for item in sorted(items, key=lambda item: min(item.numbers())))
 
 
@@ -216,26 +244,34 @@ def roots_of(library, command):
     return library.find(PHASES, "OpensAll") + [found for item in cases for found in case_citations(library, item, command)]
 
 
+def clause_rows(contract, prefix, before):
+    """How much each clause needs, and how much of that is not listed before it."""
+    rows, before = [], set(before)
+    for name, (items, _) in contract.needs.items():
+        rows.append((f"[{name}](#{prefix}{name})",) + size(items) + (len(items - before),))
+        before |= items
+    return rows + [("all clauses",) + size(contract.all) + (len(before),)]
+
+
 def counts_section(theorem):
     """How much there is to read, in all, by clause and by command."""
-    rows, before = [], set()
-    for name in ENSURED:
-        items = theorem.needs[name][0]
-        rows.append((f"[{name}](#{name})",) + size(items) + (len(items - before),))
-        before |= items
-    rows.append(("all clauses",) + size(theorem.all) + (len(theorem.all),))
+    head = ("clause", "definitions", "lines", "files", "listed there")
+    lines = ["## How much there is", "", "Of `run` of `hz`:", ""] + table(head, clause_rows(theorem.run, "", set()))
     commands = []
     for name in COMMANDS:
         commands.append((f"`{name}`",) + size(reach(theorem.library, roots_of(theorem.library, name))[0]))
-    lines = ["## How much there is", ""] + table(("clause", "definitions", "lines", "files", "listed there"), rows)
-    lines += ["", "Who uses one command alone needs less. This is what its files and its case of `JudgesOrder` need:", ""]
-    return lines + table(("command", "definitions", "lines", "files"), commands)
+    lines += ["", "Who uses one command alone needs less: what its files and its case of `JudgesOrder` need,"
+              " listed [below](#what-to-read-for-one-command).", ""]
+    lines += table(("command", "definitions", "lines", "files"), commands)
+    only = theorem.why.all - theorem.run.all
+    lines += ["", f"Of `run` of `hz_why`. Not needed for `hz` are {in_words(size(only))}:", ""]
+    return lines + table(head, clause_rows(theorem.why, "hz_why-", theorem.run.all))
 
 
-def clause_section(theorem, name, before):
+def clause_section(theorem, contract, prefix, name, before):
     """A clause, and what it needs beyond what is listed before it."""
-    clause, items = theorem.promised[name], theorem.needs[name][0]
-    lines = ["", f"### {name}", "", ENSURED[name], "", f"Line {clause.line}:", "", "```", clause.text, "```", ""]
+    clause, items = contract.promised[name], contract.needs[name][0]
+    lines = ["", f"### {prefix}{name}", "", contract.ensured[name], "", f"Line {clause.line}:", "", "```", clause.text, "```", ""]
     counts, new = size(items), size(items - before)
     if not items:
         return lines + ["It needs no definition."]
@@ -246,23 +282,30 @@ def clause_section(theorem, name, before):
     return lines + [f"It needs {in_words(counts)}. {new[0]} with {new[1]} lines are not listed above:"] + listed(theorem, items - before)
 
 
-def clauses_section(theorem):
-    """All clauses of `run`."""
-    lines = ["## What `run` asks", ""]
+def contract_section(theorem, contract, program, prefix, before):
+    """All clauses of the `run` of a program."""
+    lines = [f"## What `run` of `{program}` asks", ""]
     for name, sentence in REQUIRED.items():
-        lines.append(f"- `{name}`, line {theorem.asked[name].line}: {sentence} `{theorem.asked[name].text}`")
-    lines += ["", "## What `run` promises", "", f"The clauses are in {link(RUN[0])} of `{crate_of(RUN[0])}`."]
-    before = set()
-    for name in ENSURED:
-        lines += clause_section(theorem, name, before)
-        before |= theorem.needs[name][0]
+        lines.append(f"- `{name}`, line {contract.asked[name].line}: {sentence} `{contract.asked[name].text}`")
+    path = contract.place[0]
+    lines += ["", f"## What `run` of `{program}` promises", "", f"The clauses are in {link(path)} of `{crate_of(path)}`."]
+    before = set(before)
+    for name in contract.ensured:
+        lines += clause_section(theorem, contract, prefix, name, before)
+        before |= contract.needs[name][0]
     return lines
+
+
+def clauses_section(theorem):
+    """All clauses of both calls `run`."""
+    return contract_section(theorem, theorem.run, "hz", "", set()) + [""] + contract_section(theorem, theorem.why, "hz_why", "hz_why ", theorem.run.all)
 
 
 def words_section(theorem):
     """The words of libraries that definitions use."""
     modules = collections.defaultdict(set)
-    for word in set().union(*(words for _, words in theorem.needs.values())):
+    needs = [*theorem.run.needs.values(), *theorem.why.needs.values()]
+    for word in set().union(*(words for _, words in needs)):
         modules[word.module.replace("Rattle.", "", 1).replace(".specs", "", 1)].add(word.name)
     count = sum(len(names) for names in modules.values())
     lines = ["## Words of the toolchain", ""]
@@ -270,30 +313,17 @@ def words_section(theorem):
     return lines + [f"- `{module}`: " + " ".join(f"`{name}`" for name in sorted(modules[module])) for module in sorted(modules)]
 
 
-def first_sentence(path):
-    """The first sentence of the comment that a file begins with."""
-    words = []
-    with open(os.path.join(TOP, path), encoding="utf-8") as file:
-        for line in file:
-            if not line.startswith("--"):
-                break
-            words.append(line[2:].strip())
-    return re.split(r"(?<=[.:]) ", " ".join(words))[0].rstrip(".:")
-
-
 def unreached_section(theorem):
     """The definitions that no clause reaches: whole files, and single ones."""
-    needed = [reach(theorem.library, [item for clause in law.clauses for item in clause.cited])[0] for law in theorem.laws]
-    files, others = [], []
+    files, others = collections.OrderedDict(), []
     for source in theorem.model_files():
         free = [item for item in source.definitions.values() if item not in theorem.all]
         if len(free) == len(source.definitions):
-            laws = sum(1 for items in needed if not items.isdisjoint(free))
-            files.append((f"`{crate_of(source.path)}` {link(source.path)}", len(free), laws or "none", first_sentence(source.path)))
+            files.setdefault(crate_of(source.path), []).append(f"{link(source.path)} {len(free)}")
         elif free:
             others.append((f"`{crate_of(source.path)}` {link(source.path)}", places_of(free)))
-    lines = ["## Definitions that no clause reaches", "", UNREACHED, ""]
-    lines += table(("file", "definitions", "laws that need it", "what it says"), files)
+    lines = ["## Definitions that no clause reaches", "", UNREACHED, "", "Whole files, with how many definitions they have:", ""]
+    lines += [f"- `{crate}`: {', '.join(found)}" for crate, found in files.items()]
     return lines + ["", "Single ones, in files of which a clause reaches others:", ""] + table(("file", "definitions"), others)
 
 
@@ -315,7 +345,9 @@ def laws_section(theorem):
 def page():
     """The whole page."""
     theorem = Theorem()
-    sections = [[INTRODUCTION], counts_section(theorem), [SIGNS], clauses_section(theorem), words_section(theorem),
+    reached = {name: reach(theorem.library, roots_of(theorem.library, name))[0] for name in COMMANDS}
+    commands = command_section(theorem.order, reached, theorem.all, by_file)
+    sections = [[first_screen(theorem.library, table)], [INTRODUCTION], counts_section(theorem), [SIGNS], clauses_section(theorem), [commands], words_section(theorem),
                 unreached_section(theorem), laws_section(theorem)]
     return "\n\n".join("\n".join(section) for section in sections) + "\n"
 

@@ -85,7 +85,7 @@ tried 'a folder to install in' prepare
 tried 'install' in_folder --install "$package"
 tried 'what was installed' whole "$system"
 tried 'no fault, by dpkg' audited
-tried 'all examples, by the installed programs' sh "$system/usr/share/doc/hz/examples/check.sh" "$system/usr/bin/hz" "$system/usr/bin/hz_why"
+tried 'all examples, by the installed programs' sh "$system/usr/share/doc/hz/examples/check.sh" "$system/usr/bin/hz" "$system/usr/bin/hz_why" "$system/usr/bin/hz_same"
 if command -v python3 > /dev/null; then
     for tool in $(names tool); do tried "$tool" "$system/usr/bin/$tool" --help; done
     tried 'hz_extract and then hz' extracts

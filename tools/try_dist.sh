@@ -20,9 +20,9 @@ tried() {
 tar -C "$work" -xzf "$file" || exit 1
 cd "$work"/hz-* || exit 1
 tried 'checksums' sha256sum --quiet -c SHA256SUMS
-tried 'all examples' sh examples/check.sh bin/hz bin/hz_why
+tried 'all examples' sh examples/check.sh bin/hz bin/hz_why bin/hz_same
 if command -v python3 > /dev/null; then
     tried 'extract.py' sh tools/test.sh bin/hz
-    tried 'what pages show' python3 tools/check_pages.py bin/hz bin/hz_why
+    tried 'what pages show' python3 tools/check_pages.py bin/hz bin/hz_why bin/hz_same
     for tool in $tools; do tried "$tool" "bin/$tool" --help; done
 fi

@@ -38,3 +38,12 @@ for kind in memory_pipe superscalar; do
         beside "$kind $treatment" "$machine" "$data/trace_refused" refused
     done
 done
+
+# what asks much of hz_why, by processor time
+echo
+echo "family replay_ms why_ms"
+for family in $(python3 bench/why/families.py "$data"); do
+    replayed=$(used "$hz" replay "$data/$family.md" "$data/$family.trace")
+    explained=$(used "$hz_why" "$data/$family.md" "$data/$family.trace")
+    echo "$family $(ms "$replayed") $(ms "$explained")"
+done

@@ -114,8 +114,8 @@ class Build:
         return any(step.member == member for step in self.cases.steps.get(code, ()))
 
     def units_of_text(self):
-        """The query units and their numbers."""
-        text, found = self.source.text, {}
+        """The query units and their numbers; `unit_places` is where they are."""
+        text, found, self.unit_places = self.source.text, {}, {}
         start = text.find(UNITS)
         if start < 0:
             return {}
@@ -125,7 +125,7 @@ class Build:
             unit = UNIT.fullmatch(line[:-1]) if line else None
             if not unit or unit[1] in found:
                 raise Fault(self.source.place(at), f"`{line.strip()}` is no query unit")
-            found[unit[1]] = int(unit[2])
+            found[unit[1]], self.unit_places[unit[1]] = int(unit[2]), self.source.place(at)
             at += len(line)
         if sorted(found.values()) != list(range(len(found))):
             raise Fault(self.source.place(start), "the query units are not numbered from 0")

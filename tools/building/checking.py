@@ -11,12 +11,13 @@ from extraction.same import Undecided
 from extraction.tables import Tables
 
 from .cases import Names
-from .comparing import Difference, difference, states_of
+from .comparing import Difference, difference, other_states
 from .generating import Unwritten
 from .machine import parts_of, tables_text
 from .raw_forms import RawForms
 from .wanted import TablesNames, wanted_of_names
 
+SHORT, SAMPLES = 60000, 2
 PLAIN = ({}, {"align": True})
 AS_GCC = ({"as_gcc": True}, {"as_gcc": True, "align": True})
 READINGS = (("patterns joined", r"one pattern of .* suffices"), ("exclusive units together", r".* takes exclusive units together"),
@@ -47,9 +48,10 @@ class Compared:
     def line(self):
         told = self.why or "the same" + (f", {self.other_states} with other states" if self.other_states else "")
         if self.difference:
-            trace, answers = "; ".join(self.difference.trace), self.difference.answers
-            told = f"{', '.join(self.difference.automata)}: {trace}: hz {answers[0]}, the build {answers[1]}; " + (
-                f"the same with --as-gcc: {self.readings}" if self.readings else self.left)
+            told = "; ".join(f"{name}: {own.line()}" for name, own in self.difference.automata.items())
+            whole = self.difference.whole
+            told += f"; all together: {whole.line() if whole else 'the same'}" if len(self.difference.automata) > 1 or not whole else ""
+            told += f"; the same with --as-gcc: {self.readings}" if self.readings else f"; {self.left}"
         return " | ".join([self.name, self.build, self.mode, str(self.automata), str(self.states), told])
 
 
@@ -60,9 +62,10 @@ def spelled(mode):
 class Target:
     """The descriptions of a target, and the builds that they are compared with."""
 
-    def __init__(self, name, reader, compiled, generator, seconds):
-        self.name, self.reader, self.compiled, self.generator, self.seconds = name, reader, compiled, generator, seconds
-        self.raw = RawForms()
+    def __init__(self, name, reader, compiled, generator, comparer, seconds):
+        self.name, self.reader, self.compiled, self.generator, self.comparer = name, reader, compiled, generator, comparer
+        self.seconds = seconds
+        self.raw, self.samples = RawForms(), []
 
     def tables(self, what, modes):
         """The first mode in which hz compiles a description, with its tables and the changes; or what hz answers last."""
@@ -79,16 +82,19 @@ class Target:
         given = {"files": [], "defs": [], "targets": [], **what}
         return self.generator.build(self.raw.text(gather(self.reader, **given).items))
 
+    def keep(self, build, text):
+        """Keeps a short text of genautomata, with the tables of hz, as a sample to mutate."""
+        if len(build.source.text) < SHORT and len(self.samples) < SAMPLES:
+            self.samples.append((build.source.text, text))
+
     def against(self, build, text):
         """The difference of tables and a build."""
         began = time.process_time()
         wanted = wanted_of_names(build, TablesNames("the tables of hz", iter(text.splitlines(True))).read())
         made = tables_text(wanted, parts_of(build, wanted))
-        read = time.process_time()
-        found = difference(text, made)
-        self.seconds["built"] += read - began
-        self.seconds["compare"] += time.process_time() - read
-        return found, sum(one != other for one, other in zip(states_of(text), states_of(made)))
+        self.seconds["built"] += time.process_time() - began
+        found = difference(self.comparer, text, made)
+        return found, other_states(text, made, found)
 
     def compare(self, name, what, build, word, mode, text):
         """A row: tables against a build; if they differ, once more as genautomata reads."""
@@ -129,7 +135,9 @@ def compare_target(target, tries):
                 yield Compared(target.name, name, "-", "-", why=f"not compiled: {text}")
                 continue
             known[name] = (what, mode, text)
-            yield target.compare(name, what, target.build(what), "itself", mode, text)
+            build = target.build(what)
+            target.keep(build, text)
+            yield target.compare(name, what, build, "itself", mode, text)
         except (Fault, Unwritten) as why:
             yield Compared(target.name, name, "itself", "-", why=str(why))
     yield from compare_whole(target, tries, known)
@@ -170,16 +178,42 @@ def by_target(rows):
     yield "| target | descriptions | automata | the same | states | against the whole target | automata | the same | states |"
     yield "|---|---|---|---|---|---|---|---|---|"
     for target in sorted({row.target for row in rows}):
-        own = [row for row in rows if row.target == target]
-        whole = [row for row in own if row.build.startswith("all of")]
-        alone = [row for row in own if row not in whole]
-        yield "| " + " | ".join([f"`{target}`"] + [f"{count:,}" for count in counts(alone) + counts(whole)]) + " |"
+        yield target_line(f"`{target}`", [row for row in rows if row.target == target])
+    yield target_line("all", rows)
+
+
+def target_line(name, rows):
+    whole = [row for row in rows if row.build.startswith("all of")]
+    alone = [row for row in rows if not row.build.startswith("all of")]
+    return "| " + " | ".join([name] + [f"{count:,}" for count in counts(alone) + counts(whole)]) + " |"
+
+
+def by_difference(rows):
+    """The table of docs/GCC.md of automata that differ, each with its shortest trace, by itself; once, where several builds show the same."""
+    yield "\n| automaton | trace | hz | the build | reading | with `--as-gcc` |"
+    yield "|---|---|---|---|---|---|"
+    lines = []
+    for row in rows:
+        for name, told in (row.difference.automata if row.difference else {}).items():
+            trace = ", ".join(f"`{line}`" for line in told.trace)
+            after = "the same" if row.readings else row.left
+            lines.append(f"| `{name}` of `{row.name.replace('.md', '')}` | {trace} | {' | '.join(told.answers)} | {row.readings} | {after} |")
+    yield from dict.fromkeys(lines)
+
+
+def not_compared(rows):
+    """Rows of builds that are there and could not be compared, though hz compiles the description."""
+    return [row for row in rows if row.why.startswith("not compared")]
 
 
 def summary(rows, seconds):
     """Counts of all rows, in lines."""
     compared = [row for row in rows if not row.why]
     yield from by_target(compared)
+    yield from by_difference(compared)
+    for row in rows:
+        if row.why:
+            yield f"left: {row.line()}"
     whole = counts(compared)
     yield f"\nbuilds: {whole[0]} compared, {whole[1]} automata, {whole[2]} the same, {whole[3]} states"
     for word in ("itself", "all of"):

@@ -27,7 +27,7 @@ def wanted_of_build(build):
     place = build.cases.place
     if build.unnamed():
         raise Fault(place, f"the code {build.first_unnamed()} has no case, so its class has no name; --as gives names")
-    for name, found in build.cases.names.values():
+    for name, found in [*build.cases.names.values(), *build.unit_places.items()]:
         if not NAME.fullmatch(name):
             raise Fault(found, f"`{name}` is no name")
     asks = {member: {} for member in build.cases.members}

@@ -4,7 +4,7 @@ A text that passes is never answered with a fault of the text or of a form.
 """
 import re
 
-from .expressions import Parser, Wrong, is_above
+from .expressions import Wrong, is_above, is_doubled
 from .forms import Fault, Form, Text
 from .names import brief, is_name, pieces, words
 
@@ -89,11 +89,10 @@ def number(value):
 
 def expression(value):
     try:
-        parser = Parser(string(value))
-        parser.whole()
+        doubled = is_doubled(string(value))
     except Wrong as wrong:
         raise Odd(str(wrong)) from wrong
-    if parser.doubled:
+    if doubled:
         raise Odd("two `*` follow one element")
 
 

@@ -10,7 +10,7 @@ from .forms import Fault
 from .names import BLANKS, NAME_BYTES, brief, is_name
 
 TOKEN = re.compile(f"[{NAME_BYTES}]+|[^{BLANKS}]")
-MARKS = ",|+"
+MARKS = {",", "|", "+"}
 DEPTH = 64
 TIMES = 65535
 ALTERNATIVES = 4096
@@ -28,10 +28,12 @@ class Node:
     times: int = 1
 
     def walk(self):
-        """It and all nodes below."""
-        yield self
-        for part in self.parts:
-            yield from part.walk()
+        """It and all nodes below, from the left."""
+        waiting = [self]
+        while waiting:
+            node = waiting.pop()
+            yield node
+            waiting += reversed(node.parts)
 
     def names(self):
         """The units and reservations that it names, from the left, each once."""
@@ -39,6 +41,17 @@ class Node:
 
 
 NOTHING = Node("nothing")
+
+
+@functools.lru_cache(maxsize=65536)
+def named(name):
+    """The node of a name."""
+    return Node("name", name)
+
+
+def marked(mark, parts):
+    """A node of parts; one part is itself."""
+    return parts[0] if len(parts) == 1 else Node(mark, parts=tuple(parts))
 
 
 class Wrong(Exception):
@@ -59,7 +72,7 @@ class Parser:
         self.tokens, self.at, self.open, self.doubled = TOKEN.findall(text), 0, 0, []
 
     def whole(self):
-        found = self.parts(0)
+        found = self.parts()
         if self.at < len(self.tokens):
             raise self.unexpected()
         return found
@@ -72,15 +85,23 @@ class Parser:
         token = self.next()
         return Wrong("the expression ends too early" if token is None else f"`{brief(token)}` continues no expression")
 
-    def parts(self, level):
-        """Parts with a mark of this level, or of a later one, between them."""
-        if level == len(MARKS):
-            return self.repeat()
-        found = [self.parts(level + 1)]
-        while self.next() == MARKS[level]:
-            self.at += 1
-            found.append(self.parts(level + 1))
-        return found[0] if len(found) == 1 else Node(MARKS[level], parts=tuple(found))
+    def parts(self):
+        """Parts with marks between them: `+` binds more than `|`, and `|` more than `,`."""
+        sequence, choices, together = [], [], []
+        while True:
+            together.append(self.repeat())
+            mark = self.next()
+            self.at += mark in MARKS
+            if mark == "+":
+                continue
+            choices.append(marked("+", together))
+            together = []
+            if mark == "|":
+                continue
+            sequence.append(marked("|", choices))
+            choices = []
+            if mark != ",":
+                return marked(",", sequence)
 
     def repeat(self):
         start, found = self.at, self.element()
@@ -111,7 +132,7 @@ class Parser:
             if self.open > DEPTH:
                 raise Wrong(f"more than {DEPTH} parentheses are open")
             self.at += 1
-            found = self.parts(0)
+            found = self.parts()
             if self.next() != ")":
                 raise self.unexpected()
             self.at += 1
@@ -120,29 +141,34 @@ class Parser:
         if token is None or not is_name(token):
             raise self.unexpected()
         self.at += 1
-        return NOTHING if token == "nothing" else Node("name", token)
+        return NOTHING if token == "nothing" else named(token)
 
 
 @functools.lru_cache(maxsize=65536)
 def parsed(text):
-    """The tree of an expression."""
-    return Parser(text).whole()
+    """The tree of an expression, and the parser that read it."""
+    parser = Parser(text)
+    return parser.whole(), parser
+
+
+def is_doubled(text):
+    """Whether an expression has two repeats after one element."""
+    return bool(parsed(text)[1].doubled)
 
 
 def tree_of(item):
     """The expression of a reservation or of a class."""
     try:
-        return parsed(item.expression)
+        return parsed(item.expression)[0]
     except Wrong as wrong:
         raise Fault(item.place, str(wrong)) from wrong
 
 
 def with_single_repeats(text):
     """An expression with at most one repeat after an element, by parentheses round what is repeated again; None if it is one already."""
-    parser = Parser(text)
-    parser.whole()
-    if not parser.doubled:
+    if not is_doubled(text):
         return None
+    parser = parsed(text)[1]
     before, after = collections.Counter(start for start, _ in parser.doubled), {end for _, end in parser.doubled}
     return "".join("(" * before[at] + token + ")" * (at + 1 in after) + " " * (token == ",") for at, token in enumerate(parser.tokens))
 
@@ -263,6 +289,7 @@ class Expander:
         self.automaton, self.trees = automaton, trees
         self.units = tuple(automaton)
         self.bit = {unit: 1 << place for place, unit in enumerate(self.units[:UNITS])}
+        self.of_units = {name: Measure(1, 1, 1, frozenset([name])) for name in automaton.values()}
         self.measured, self.known, self.room = {}, {}, SIZES
 
     def of(self, tree):
@@ -316,7 +343,7 @@ class Expander:
     def measure_name(self, name):
         """The measure of a unit or of a reservation."""
         if name in self.automaton:
-            return Measure(1, 1, 1, frozenset([self.automaton[name]]))
+            return self.of_units[self.automaton[name]]
         if name not in self.trees:
             raise Unexpanded(f"{name} is not defined")
         if isinstance(self.measured[name], Unexpanded):
@@ -396,6 +423,8 @@ class Expander:
         """One for each choice; halves are joined, so that no long front is made anew for each part."""
         if len(lists) == 1:
             return lists[0]
+        if join is followed_by and all(len(one) == 1 for one in lists):
+            return self.each_choice(lambda rows, _: rows, [tuple(itertools.chain.from_iterable(one[0] for one in lists))], [()])
         half = len(lists) // 2
         return self.each_choice(join, self.joined(join, lists[:half]), self.joined(join, lists[half:]))
 

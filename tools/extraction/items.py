@@ -1,18 +1,22 @@
 """The forms of a pipeline, each an item: what it defines, what it needs, and its text in the language of hz."""
 import dataclasses
-import textwrap
 import typing
 
 from .expressions import is_above, names_in
 from .forms import Fault, Form, Place, Text
 from .names import BLANKS, brief, pieces, words
 
-LATENCY = 1000
+LATENCY, WIDTH = 1000, 100
 
 
 def quoted(text):
     """A string in which white space says nothing, over several lines if it is long."""
-    lines = textwrap.wrap(" ".join(words(text)), 100, break_long_words=False, break_on_hyphens=False)
+    lines = []
+    for word in words(text):
+        if lines and len(lines[-1]) + len(word) < WIDTH:
+            lines[-1] += " " + word
+        else:
+            lines.append(word)
     return '"' + "\n    ".join(lines).replace("\\", "\\\\").replace('"', '\\"') + '"'
 
 

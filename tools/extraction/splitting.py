@@ -4,11 +4,12 @@ Two units are tied if a set statement names both, or if some class chooses betwe
 to be the product of its lists in the groups. The order of the list has to keep the order of each of these, so that the first that fits is
 the first of each group; under `ndfa` the product is enough.
 """
+import heapq
 import itertools
 import math
 
 from .changes import of_kind
-from .choices import Choices, Cut, cut, lists_in
+from .choices import Choices, Cut, Effort, Splitter, check_product, finest, joined
 from .expressions import Unexpanded
 from .items import Automata, Class, Options, Units, UnitSet
 from .merging import Joined
@@ -17,68 +18,27 @@ from .states import MOST, Counter, Part
 from .writing import BYTES, length_of
 
 AUTOMATA = 16
-WORK = 1048576
 TRIES, NEAREST = 32, 4
 
 
-def dependent(made, is_any):
-    """Sets of groups of a cut list, by their places: those of one set have to be one group. None if nothing ties them."""
-    choosing = made.choosing()
-    if not made.is_product():
-        return least_steps(made) or [least_dependent(made, choosing)]
-    if is_any:
-        return []
-    return [(at, turning(made, whole, at, choosing)) for whole, at in itertools.islice(made.swaps(), 1)]
-
-
-def least_steps(made):
-    """Where one combination is left for another: the groups in which it changes, if no other changes fewer of them, and not one alone.
-
-    In groups that nothing ties each change can be made alone. So a least one is within groups that are tied.
-    """
-    first = next(iter(made.place))
-    steps = {frozenset(at for at, (one, other) in enumerate(zip(first, whole)) if one != other) for whole in made.place}
-    least = []
-    for step in sorted(steps, key=len):
-        if step and not any(known <= step for known in least):
-            least.append(step)
-    return [sorted(step) for step in least if len(step) > 1]
-
-
-def least_dependent(made, choosing):
-    """The fewest groups whose choices do not go with each other; all of them if that is too much to look for."""
-    work = WORK
-    for size in range(2, len(choosing)):
-        for groups in itertools.combinations(choosing, size):
-            work -= len(made.place)
-            if work < 0:
-                return choosing
-            together = {tuple(whole[at] for at in groups) for whole in made.place}
-            if len(together) < math.prod(len(made.lists[at]) for at in groups):
-                return groups
-    return choosing
-
-
-def turning(made, whole, at, choosing):
-    """A group whose choice decides the order of two choices in another, of which a combination has the later one first."""
-    def is_kept(combination):
-        before = combination[:at] + (combination[at] - 1,) + combination[at + 1:]
-        return made.place[before] < made.place[combination]
-    kept = next(other for other in made.place if other[at] == whole[at] and is_kept(other))
-    for group in choosing:
-        if group != at:
-            whole = whole[:group] + (kept[group],) + whole[group + 1:]
-            if is_kept(whole):
-                return group
-    raise AssertionError("two combinations differ in no group")
-
-
 class Ties:
-    """The units of one automaton in groups, the finest for which all classes and set statements allow a cut."""
+    """The units of one automaton in groups, the finest for which all classes and set statements allow a cut.
 
-    def __init__(self, name, units, bits, is_any):
-        self.name, self.units, self.bits, self.is_any = name, units, bits, is_any
-        self.joined, self.lists, self.why = Joined(units), {}, []  # of each class it and its list
+    What set statements tie are its atoms: classes are cut into these, and tie them to each other.
+    """
+
+    def __init__(self, name, units, bits, is_any, effort):
+        self.name, self.units, self.is_any, self.effort = name, units, is_any, effort
+        self.bits = {unit: bits.get(unit, 0) for unit in units}
+        self.joined, self.why = Joined(units), []
+        self.atoms, self.lists, self.taking = {}, {}, {}  # the atom of each unit; of each class it and its list; the classes that take an atom
+        self.closed = {}  # in how many groups each class chose when its ties were last looked for
+
+    def take(self, item, made):
+        """Takes the list of a class."""
+        self.lists[id(item)] = item, made
+        for atom in made.choices:
+            self.taking.setdefault(atom, []).append(id(item))
 
     def tie(self, units, why):
         """Ties units of the automaton; `why` is kept if they were not."""
@@ -99,64 +59,65 @@ class Ties:
         """Ties the groups between which classes choose, until none is left."""
         grown = True
         while grown:
-            grown = any([self.tie_class(item, grids) for item, grids in self.lists.values() if len(grids) > 1])
+            grown = any([self.tie_class(key) for key in self.lists])
 
-    def tie_class(self, item, grids):
+    def tie_class(self, key):
         """Ties groups between which one class chooses. Gives whether there are any."""
-        taken = 0
-        for grid in grids:
-            for row in grid:
-                taken |= row
-        groups = [units for units in self.groups() if self.mask(units) & taken]
-        found = dependent(Cut(grids, [self.mask(units) for units in groups]), self.is_any) if len(groups) > 1 else []
-        for together in found:
-            self.tie([groups[at][0] for at in together], f"the choices of {item.name}")
-        return bool(found)
+        item, made = self.lists[key]
+        parts = {}
+        for atom in made.columns:
+            parts.setdefault(self.joined.find(atom), []).append(atom)
+        if len(parts) < 2 or self.closed.get(key) == len(parts):
+            return False
+        columns, leaders = [joined([made.columns[atom] for atom in atoms]) for atoms in parts.values()], list(parts)
+        sets = finest(columns, self.is_any, self.effort)
+        beyond = ", which are more than are looked at" if self.effort.left < 0 else ""
+        for own in sets:
+            self.tie([leaders[at] for at in own], f"the choices of {item.name}{beyond}")
+        self.closed[key] = len(sets)
+        return len(sets) < len(parts)
 
-    def taken(self):
-        """All units that a class takes, as bits."""
-        found = 0
-        for _, grids in self.lists.values():
-            for grid in grids:
-                for row in grid:
-                    found |= row
-        return found
+    def join_idle(self):
+        """Joins units that no class takes to the first group of others: they make no states there."""
+        busy = {self.joined.find(atom) for atom in self.taking}
+        idle = [units[0] for units in self.groups() if units[0] not in busy]
+        self.joined.join(idle + sorted(busy, key=self.joined.order.get)[:1])
 
     def list_in(self, key, units):
-        """The list of a class in some of the units."""
-        mask = self.mask(units)
-        return list(dict.fromkeys(cut(grid, mask) for grid in self.lists[key][1]))
+        """The list of a class in some of the units, which are whole groups."""
+        return self.lists[key][1].rows_in(dict.fromkeys(self.atoms[unit] for unit in units))
 
 
 class Plan:
     """How an automaton may be cut: its groups, and how many least states each has; None if they were not counted."""
 
     def __init__(self, ties, statements, queries, counter):
-        self.ties, self.statements, self.queries, self.counter = ties, statements, queries, counter
-        self.known, self.weights = {}, {}
+        self.ties, self.queries, self.counter, self.known, self.bounds = ties, queries, counter, {}, {}
+        self.statements = {}
+        for item in statements:
+            if item.units and all(unit in ties.atoms for unit in item.named()):
+                self.statements.setdefault(ties.atoms[item.units[0]], []).append(item)
         ties.close()
-        self.groups = self.without_idle(ties.groups())
+        ties.join_idle()
+        self.groups, self.weights = ties.groups(), []
         self.most, self.why = len(self.groups), f"there are at most {AUTOMATA} automata"
-
-    def without_idle(self, groups):
-        """The groups, with units that no class takes in the first of them: they make no states there."""
-        taken = self.ties.taken()
-        busy = [units for units in groups if self.ties.mask(units) & taken]
-        idle = {unit for units in groups if not self.ties.mask(units) & taken for unit in units}
-        if not busy:
-            return [self.ties.units]
-        first = set(busy[0]) | idle
-        return [[unit for unit in self.ties.units if unit in first]] + busy[1:]
 
     def states(self, units):
         """The least states of some of the units."""
         key = tuple(units)
         if key not in self.known:
-            lists = [self.ties.list_in(class_, units) for class_ in self.ties.lists]
-            statements = [item for item in self.statements if set(item.named()) <= set(units)]
-            queries = [unit for unit in units if unit in self.queries]
-            self.known[key] = self.counter.count(Part(units, self.ties.bits, lists, statements, queries), self.ties.is_any)
+            self.known[key], self.bounds[key] = self.count(units)
         return self.known[key]
+
+    def count(self, units):
+        """The same, counted; None if that is too much. And a number that they are not below."""
+        atoms = dict.fromkeys(self.ties.atoms[unit] for unit in units)
+        lists = [self.ties.list_in(key, units) for key in dict.fromkeys(key for atom in atoms for key in self.ties.taking.get(atom, ()))]
+        statements = [item for atom in atoms for item in self.statements.get(atom, ())]
+        if not self.counter.allows(sum(map(len, lists)) * sum(len(item.named()) for item in statements)):
+            return None, 0
+        queries = [unit for unit in units if unit in self.queries]
+        return self.counter.count(Part(units, self.ties.bits, lists, statements, queries), self.ties.is_any)
 
     def whole(self):
         return self.states(self.ties.units)
@@ -167,9 +128,9 @@ class Plan:
         return None if None in counts else sum(counts)
 
     def pays(self):
-        """Whether the groups have fewer states than the whole, which may be more than can be counted."""
-        made = self.sum()
-        return made is not None and (self.whole() is None or made < self.whole())
+        """Whether the groups have fewer states than the whole; if that is more than is counted, fewer than it has at least."""
+        made, whole = self.sum(), self.whole()
+        return made is not None and made < (self.bounds[tuple(self.ties.units)] if whole is None else whole)
 
     def together(self, one, other):
         """The units of two groups, in their order."""
@@ -191,7 +152,8 @@ class Plan:
             others = sorted((at for at in range(len(counts)) if at != large), key=lambda at: -(counts[at] or MOST))[:NEAREST]
             tries -= len(others)
             made = [(self.states(self.together(large, at)) or math.inf, place, at) for place, at in enumerate(others)]
-            self.join(large, min(made)[2])
+            self.why = f"{', '.join(self.groups[large])} alone would have {counted(None)}"
+            self.join([self.groups[large], self.groups[min(made)[2]]])
 
     def stay_whole(self):
         """Makes no cut, and says why."""
@@ -205,25 +167,33 @@ class Plan:
             return groups
         return f"{groups}; {counted(self.whole())} before, {counted(self.sum())} after"
 
-    def weight(self, units):
-        """The states of a group, or how many they may be: of groups that were joined the product."""
-        return self.weights[tuple(units)] if tuple(units) in self.weights else self.states(units) or MOST
-
-    def cheapest(self):
-        """The two groups with the fewest states, which have the least product, with what their joining may cost."""
-        (few, one), (more, other) = sorted((self.weight(units), at) for at, units in enumerate(self.groups))[:2]
-        return few * more - few - more, one, other
-
-    def join(self, one, other):
-        """Joins two groups, and what has to be joined with them."""
-        before = {tuple(units): self.weight(units) for units in self.groups}
-        self.ties.joined.join([self.groups[one][0], self.groups[other][0]])
-        for units in self.groups:
-            self.ties.joined.join(units)
+    def join(self, together):
+        """Joins groups, and what has to be joined with them."""
+        self.ties.joined.join([units[0] for units in together])
         self.ties.close()
         self.groups = self.ties.groups()
-        for units in self.groups:
-            self.weights[tuple(units)] = math.prod(weight for own, weight in before.items() if own[0] in units)
+
+    def weigh(self):
+        """Weighs each group by its states, or by how many they may be."""
+        self.weights = [(self.states(units) or MOST, at, [units]) for at, units in enumerate(self.groups)]
+        heapq.heapify(self.weights)
+
+    def cheapest(self):
+        """What it may cost to join the two groups with the fewest states, which have the least product."""
+        few, more = self.weights[0][0], min(self.weights[1:3])[0]
+        return few * more - few - more
+
+    def join_cheapest(self):
+        """Makes one of the two groups with the fewest states."""
+        few, at, units = heapq.heappop(self.weights)
+        more, _, others = heapq.heappop(self.weights)
+        heapq.heappush(self.weights, (few * more, at, units + others))
+
+    def join_weighed(self):
+        """Joins what was made one."""
+        for _, _, together in self.weights:
+            if len(together) > 1:
+                self.join(together)
 
 
 def plural(count, word):
@@ -244,12 +214,12 @@ class Splitting:
         units = {name: [] for name in self.defined()}
         for unit, automaton in choices.automaton.items():
             units.setdefault(automaton, []).append(unit)
-        self.ties = {name: Ties(name, own, choices.expander.bit, self.is_any) for name, own in units.items() if own}
+        effort = Effort()
+        self.ties = {name: Ties(name, own, choices.expander.bit, self.is_any, effort) for name, own in units.items() if own}
         statements = of_kind(items, UnitSet)
         for item in statements:
             self.tie(item.named(), f"the {item.head} of {item.place}")
-        for item in of_kind(items, Class):
-            self.take(item)
+        self.take_all(effort)
         counter = Counter()
         self.plans = [Plan(ties, statements, self.queries, counter) for ties in self.ties.values()]
 
@@ -260,20 +230,33 @@ class Splitting:
         for ties in self.ties.values():
             ties.tie(units, why)
 
-    def take(self, item):
-        """The list of a class in each automaton. If there is none it is left as it is, and its units in one automaton are tied."""
-        taken, key = self.choices.taken(item), id(item)
-        names = [name for name, mask in self.masks.items() if mask & taken]
-        try:
-            if key in self.choices.left:
-                raise Unexpanded(self.choices.left[key])
-            lists = lists_in(self.choices.alternatives[key], [self.masks[name] for name in names], self.is_any)
-        except Unexpanded as why:
-            self.left[key], lists = str(why), []
+    def take_all(self, effort):
+        """The list of each class in each automaton, cut into what set statements tie."""
+        atoms = [(ties, units) for ties in self.ties.values() for units in ties.groups()]
+        for ties, units in atoms:
+            ties.atoms.update((unit, units[0]) for unit in units)
+        splitter = Splitter([ties.mask(units) for ties, units in atoms])
+        for item in of_kind(self.items, Class):
+            try:
+                self.take(item, atoms, splitter, effort)
+            except Unexpanded as why:
+                self.left[id(item)] = str(why)
+                self.tie(self.choices.units_of(item), f"{item.name}, which is left as it is: {why}")
+
+    def take(self, item, atoms, splitter, effort):
+        """The list of one class. If there is none it is left as it is, and its units in one automaton are tied."""
+        key, own = id(item), {}
         if key in self.left:
-            self.tie(self.choices.units_of(item), f"{item.name}, which is left as it is: {self.left[key]}")
-        for name, grids in zip(names, lists):
-            self.ties[name].lists[key] = (item, grids)
+            raise Unexpanded(self.left[key])
+        made = Cut.of(self.choices.alternatives[key], splitter, effort)
+        for at in made.choices:
+            own.setdefault(id(atoms[at][0]), (atoms[at][0], []))[1].append(at)
+        columns = [[made.columns[at] for at in places if at in made.columns] for _, places in own.values()]
+        check_product([joined(several) for several in columns if several], self.is_any)
+        for ties, places in own.values():
+            found = made.within(places)
+            ties.take(item, Cut({atoms[at][1][0]: choices for at, choices in found.choices.items()},
+                                {atoms[at][1][0]: column for at, column in found.columns.items()}))
 
     def count(self):
         """How many automata there are, those without units too."""
@@ -285,13 +268,22 @@ class Splitting:
             for plan in self.plans:
                 plan.groups = [plan.ties.units]
         self.keep_paying(is_all)
-        while self.count() > AUTOMATA:
-            cheapest = [(plan.cheapest(), at) for at, plan in enumerate(self.plans) if len(plan.groups) > 1]
-            if not cheapest:
+        if self.count() > AUTOMATA:
+            self.join_most(self.count() - AUTOMATA)
+            self.keep_paying(is_all)
+
+    def join_most(self, above):
+        """Joins the groups whose joining may cost least, so many of them."""
+        cut = [plan for plan in self.plans if len(plan.groups) > 1]
+        for plan in cut:
+            plan.weigh()
+        for _ in range(above):
+            left = [plan for plan in cut if len(plan.weights) > 1]
+            if not left:
                 break
-            (_, one, other), at = min(cheapest)
-            self.plans[at].join(one, other)
-        self.keep_paying(is_all)
+            min(left, key=Plan.cheapest).join_cheapest()
+        for plan in cut:
+            plan.join_weighed()
 
     def keep_paying(self, is_all):
         """Undoes cuts that don't pay."""
@@ -396,6 +388,9 @@ def split_automata(items, told, is_all):
         above, lengths = made.above()
         if above <= 0 or not lengths:
             return made.write(told)
-        for key in sorted(lengths, key=lengths.get, reverse=True)[:least]:
+        for count, key in enumerate(sorted(lengths, key=lengths.get, reverse=True)):
+            if count >= least and above <= 0:
+                break
             left[key] = "the text would be too long"
-        least *= 2
+            above -= lengths[key]
+        least *= 4

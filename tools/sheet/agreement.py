@@ -3,9 +3,10 @@ import itertools
 import os
 
 from .derived import MOST_BYTES, chunks, spelled_text
-from .holders import picture
+from .holders import rows_left
 from .machines import Machine
-from .programs import Stop, accepted
+from .programs import Stop, accepted_own
+from .reasons import is_picture_of, parts_of
 
 NUMBERS = itertools.count()
 
@@ -34,7 +35,7 @@ def agreed(runs):
     share a column exactly if their lists of alternatives are equal, their order included."""
     names = set()
     for group, run in runs:
-        machine = Machine(accepted(run.result()).text)
+        machine = Machine(accepted_own(run.result()).text)
         for place, (one, _) in enumerate(group):
             if any(table.column[2 * place] != table.column[2 * place + 1] for table in machine.tables):
                 raise Stop(f"hz reads the expression of class {one.name} otherwise than this tool; no page is written")
@@ -56,17 +57,17 @@ def spread(items, most):
 
 
 def start_pictures(programs, description, path, events, prefixes, folder, most):
-    """Begins the runs of `hz_why` on prefixes of events, and gives with each the picture that this tool draws of it."""
+    """Begins the runs of `hz_why` on prefixes of events, and gives with each what this tool finds held after it."""
     runs = []
     for length in spread(sorted(prefixes), most):
         trace = write(folder, f"prefix{next(NUMBERS)}.trace", trace_text(events[:length]))
-        runs.append((picture(description, events[:length], prefixes[length]), programs.start("hz_why", path, trace)))
+        runs.append((rows_left(description, events[:length], prefixes[length]), programs.start("hz_why", path, trace)))
     return runs
 
 
 def compare_pictures(runs):
-    """Stops unless `hz_why` draws each picture as this tool does. How many it drew."""
-    for drawn, run in runs:
-        if drawn not in accepted(run.result()).text:
+    """Stops unless `hz_why` draws in each picture what this tool finds held. How many pictures there are."""
+    for rows, run in runs:
+        if not is_picture_of(parts_of(accepted_own(run.result()).text)[3], rows):
             raise Stop("hz_why draws what is held otherwise than this tool; no page is written")
     return len(runs)

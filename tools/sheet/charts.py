@@ -2,6 +2,8 @@
 import dataclasses
 import typing
 
+from .descriptions import bits_in
+
 BAND = 40
 RUN = 5
 
@@ -83,17 +85,13 @@ def alternative_chart(description, alternative):
 
 def alternative_line(description, alternative):
     """The same as one line of text: each unit with its cycles."""
-    taken = 0
-    for units in alternative:
-        taken |= units
-    parts = []
-    for unit in description.named(taken):
-        runs = []
-        for cycle, units in enumerate(alternative):
-            if units & unit.bit:
-                if runs and runs[-1][1] == cycle - 1:
-                    runs[-1][1] = cycle
-                else:
-                    runs.append([cycle, cycle])
-        parts.append(unit.name + " " + ",".join(str(first) if first == last else f"{first}–{last}" for first, last in runs))
+    found = {}
+    for cycle, units in enumerate(alternative):
+        for bit in bits_in(units):
+            runs = found.setdefault(bit, [])
+            if runs and runs[-1].last == cycle - 1:
+                runs[-1].last = cycle
+            else:
+                runs.append(Column(cycle, cycle))
+    parts = [unit.name + " " + ",".join(run.label() for run in found[unit.bit]) for unit in description.named(sum(found))]
     return "; ".join(parts) or "no unit"

@@ -3,8 +3,9 @@ from extraction.forms import Form, Text
 
 from .expressions import names_in, parse
 
-# of the alternatives of the classes in one text, and of the text
+# of the alternatives of the classes in one text, and in all texts for each automaton; and of the text
 MOST_PAIRS = 200000
+MOST_OF_ALL = 4000000
 MOST_BYTES = 4194304
 
 
@@ -28,13 +29,13 @@ def unit_forms(description, kept):
     """The automata and units of a description, no unit a query unit. In each automaton every issue that takes a unit is refused, so its
     table has one state."""
     lines = []
-    if description.automata != ["-"]:
+    if description.has_automata:
         lines.append(f"(define_automaton {listed(description.automata)})")
     for automaton in description.automata:
         names = [unit.name for unit in description.units if unit.automaton == automaton]
         if names:
-            behind = "" if automaton == "-" else f" {quoted(automaton)}"
-            lines.append(f"(define_cpu_unit {listed(names)}{behind})")
+            named = f" {quoted(automaton)}" if description.has_automata else ""
+            lines.append(f"(define_cpu_unit {listed(names)}{named})")
             lines.append(f"(presence_set {listed(names)} {listed(names)})")
     return lines + [f"(define_reservation {quoted(name)} {quoted(text)})" for name, text in description.reservations.items() if name in kept]
 
@@ -89,11 +90,12 @@ def reached(description, classes):
 
 def chunks(description):
     """Classes in groups whose description is within the limits, each with its spelled expression; those that are too large are left out."""
-    group, size, length = [], 0, 0
+    group, size, length, left = [], 0, 0, MOST_OF_ALL // len(description.automata)
     for one in description.classes:
         own = size_of(one)
-        if own > MOST_PAIRS:
+        if own > min(MOST_PAIRS, left):
             continue
+        left -= own
         text = spelled_class(description, one)
         more = len(text) + len(one.expression) + 100
         if group and (len(group) == 500 or size + own > MOST_PAIRS or length + more > MOST_BYTES // 4):

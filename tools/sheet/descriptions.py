@@ -36,6 +36,13 @@ class InsnClass:
         return " ".join(condition_text(self.condition).split())
 
 
+def bits_in(bits):
+    """The bits of a number, from the lowest on."""
+    while bits:
+        yield bits & -bits
+        bits &= bits - 1
+
+
 def plain_numbers(form):
     """A form without a sign before a zero, which `hz` reads and the reader of items does not."""
     for at, part in enumerate(form):
@@ -52,7 +59,10 @@ class Description:
     def __init__(self, path, text):
         self.text = text
         items = [item for form in read_forms(path, text) for item in items_in(plain_numbers(form))]
-        self.automata = [name for item in items if isinstance(item, Automata) for name in item.names] or ["-"]
+        self.automata = [name for item in items if isinstance(item, Automata) for name in item.names]
+        # without a definition there is one automaton, which is written `-`
+        self.has_automata = bool(self.automata)
+        self.automata = self.automata or ["-"]
         self.units = self.read_units(items)
         self.bits = {unit.name: unit.bit for unit in self.units}
         self.reservations = {item.name: item.expression for item in items if isinstance(item, Reservation)}
@@ -79,4 +89,4 @@ class Description:
 
     def named(self, bits):
         """The units whose bits are there, in the order of the file."""
-        return [unit for unit in self.units if unit.bit & bits]
+        return [self.units[bit.bit_length() - 1] for bit in bits_in(bits)]

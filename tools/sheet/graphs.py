@@ -5,13 +5,14 @@ import shutil
 import subprocess
 
 MOST_STATES = 60
-# of a processor, so that a busy machine draws the same graphs; and by the clock
-SECONDS = 4
+# of a processor, so that a busy machine draws the same graphs, for one graph and for all; and by the clock
+SECONDS, ALL_SECONDS = 4, 16
 MOST_SECONDS = 300
 
 
 def quoted(text):
-    return '"' + text.replace("\\", "\\\\").replace('"', '\\"') + '"'
+    """A label. `dot` reads escapes and the entities of HTML in it."""
+    return '"' + text.replace("&", "&amp;").replace("\\", "\\\\").replace('"', '\\"') + '"'
 
 
 def edges_of(table):
@@ -52,29 +53,30 @@ def wrapped(labels):
     return "\n".join(lines + [line])
 
 
-def draw(table, labels):
-    """The picture as an element of SVG, and why there is none."""
+def draw(table, labels, graphs=1):
+    """The picture as an element of SVG, and why there is none. `graphs` is how many are drawn."""
     dot = shutil.which("dot")
     if dot is None:
         return None, "The program dot of graphviz is missing (Debian: graphviz), so there is no graph here."
     try:
-        status, svg = run(dot, text_of(table, labels))
+        seconds = max(1, min(SECONDS, ALL_SECONDS // graphs))
+        status, svg = run(dot, text_of(table, labels), seconds)
     except subprocess.TimeoutExpired:
         return None, f"The program dot took more than {MOST_SECONDS} seconds, so there is no graph here."
     except OSError as error:
         return None, f"The program dot could not be run ({error.strerror}), so there is no graph here."
     if status < 0:
-        return None, f"The program dot took more than {SECONDS} seconds, so there is no graph here."
+        return None, f"The program dot took more than {seconds} seconds, so there is no graph here."
     if status > 0:
         return None, f"The program dot ended with status {status}, so there is no graph here."
     return cleaned(svg), None
 
 
-def run(dot, text):
+def run(dot, text, seconds):
     """The status of `dot` and what it writes; it is ended after some seconds of a processor."""
     with subprocess.Popen([dot, "-Tsvg"], stdin=subprocess.PIPE, stdout=subprocess.PIPE, stderr=subprocess.DEVNULL) as process:
         try:
-            resource.prlimit(process.pid, resource.RLIMIT_CPU, (SECONDS, SECONDS))
+            resource.prlimit(process.pid, resource.RLIMIT_CPU, (seconds, seconds))
             svg, _ = process.communicate(text.encode("utf-8"), MOST_SECONDS)
         except BaseException:
             process.kill()

@@ -2,9 +2,13 @@
 import dataclasses
 import typing
 
+from .descriptions import bits_in
+from .machines import Budget
+
+# of lists of choices, of tests of set statements in a cycle, and of pairs that are held
 MOST_STATES = 4096
-LINE_COLUMNS = 120
-NAME_COLUMNS = 32
+MOST_TESTS = 5000000
+MOST_PAIRS = 400000
 
 
 class Demand:
@@ -14,6 +18,9 @@ class Demand:
         self.head = statement.head
         self.units = bits_of(statement.units, bits)
         self.patterns = [bits_of(pattern, bits) for pattern in statement.patterns]
+        # what is added breaks the statement by one of these units alone, if it was not broken before
+        named = [name for pattern in statement.patterns for name in pattern] if self.head == "exclusion_set" else []
+        self.judged = self.units | bits_of(named, bits)
 
     def held(self, units):
         return any(pattern & units == pattern for pattern in self.patterns)
@@ -63,22 +70,35 @@ class Calendar:
         self.description = description
         self.demands = [Demand(statement, description.bits) for statement in description.statements]
         self.lists = {(): ()}
+        self.budget, self.known = Budget(MOST_TESTS), {}
 
     def fits(self, state, added):
         for cycle, units in enumerate(added):
             if not units:
                 continue
             source = state[cycle] if cycle < len(state) else 0
-            if source & units or not all(demand.allows(source, units) for demand in self.demands):
+            if source & units:
+                return False
+            demands = self.demands_on(units)
+            self.budget.left(len(demands))
+            if not all(demand.allows(source, units) for demand in demands):
                 return False
         return True
 
+    def demands_on(self, units):
+        """The statements by which units may be forbidden."""
+        if units not in self.known:
+            self.known[units] = [demand for demand in self.demands if demand.judged & units]
+        return self.known[units]
+
     def issue(self, name):
-        """Whether an issue is accepted; None if there are too many states to follow."""
+        """Whether an issue is accepted; None if there is too much to follow."""
         found = {}
         alternatives = self.description.classes[self.description.places[name]].alternatives
         for state, choices in self.lists.items():
             for number, added in enumerate(alternatives):
+                if not self.budget.left():
+                    return None
                 if self.fits(state, added):
                     found.setdefault(stripped(united(state, added)), (choices, number))
                     if not self.description.is_any:
@@ -109,30 +129,20 @@ class Holders:
     def __init__(self, description):
         self.description, self.held, self.now, self.last = description, {}, 0, -1
 
-    def take(self, place, event, number):
-        """Takes what the alternative of this number reserves for an event."""
-        one = self.description.classes[self.description.places[event.name]]
-        for cycle, units in enumerate(one.alternatives[number]):
-            while units:
-                bit = units & -units
-                self.held[self.now + cycle, bit] = place
-                self.last = max(self.last, self.now + cycle)
-                units &= units - 1
-
     def play(self, events, choices):
         """Takes what events reserve that are accepted by these choices."""
-        left = iter(choices)
-        for place, event in enumerate(events):
-            if event.name is None:
-                self.now += event.cycles
-            else:
-                self.take(place, event, next(left))
+        for place, now, alternative in issues_of(self.description, events, choices):
+            for cycle, units in enumerate(alternative, now):
+                for bit in bits_in(units):
+                    self.held[cycle, bit] = place
+                    self.last = max(self.last, cycle)
+        self.now = sum(event.cycles for event in events)
         return self
 
 
 def play(description, events):
     """Plays events up to the first issue that is refused. Gives how many are accepted, and the choices of each prefix that ends a cycle
-    or all of them, by its length. None if there are too many states to follow."""
+    or all of them, by its length. None if there is too much to follow."""
     calendar, found = Calendar(description), {}
     for place, event in enumerate(events):
         if event.name is None:
@@ -147,28 +157,36 @@ def play(description, events):
                 found[place] = calendar.choices()
                 return place, found
     found[len(events)] = calendar.choices()
+    if pairs_of(description, events, found[len(events)]) > MOST_PAIRS:
+        return None
     return len(events), found
 
 
-def picture(description, events, choices):
-    """The picture that `hz_why` draws of what accepted events leave: a row for each unit, a column for each cycle."""
-    holders = Holders(description).play(events, choices)
-    lines = {(cycle - holders.now, bit): events[place].line for (cycle, bit), place in holders.held.items() if cycle >= holders.now}
-    shown = {bit for _, bit in lines}
-    if not shown:
-        return ""
-    rows = [unit for unit in description.units if unit.bit in shown]
-    cycles = 1 + max(cycle for cycle, _ in lines)
-    name = min(NAME_COLUMNS, max(len("cycle"), *(len(unit.name) for unit in rows)))
-    longest = max(len(str(number)) for number in [cycles - 1, *lines.values()])
-    room = LINE_COLUMNS - name - 2
-    cell = min(longest, max(1, room // cycles - 1))
-    columns = range(min(cycles, room // (cell + 1)))
+def issues_of(description, events, choices):
+    """The issues of accepted events: the place of each, the cycle, and the alternative that it takes."""
+    left, now = iter(choices), 0
+    for place, event in enumerate(events):
+        if event.name is None:
+            now += event.cycles
+        else:
+            yield place, now, description.classes[description.places[event.name]].alternatives[next(left)]
 
-    def line(left, texts):
-        return left[:name].ljust(name) + "  " + "".join(" " + text[-cell:].rjust(cell) for text in texts) + "\n"
 
-    drawn = line("cycle", map(str, columns))
-    for unit in rows:
-        drawn += line(unit.name, [str(lines.get((cycle, unit.bit), ".")) for cycle in columns])
-    return drawn + (f"cut after cycle {len(columns) - 1}\n" if len(columns) < cycles else "")
+def pairs_of(description, events, choices):
+    """How many pairs accepted events reserve."""
+    sizes, count = {}, 0
+    for _, _, alternative in issues_of(description, events, choices):
+        if id(alternative) not in sizes:
+            sizes[id(alternative)] = sum(bin(units).count("1") for units in alternative)
+        count += sizes[id(alternative)]
+    return count
+
+
+def rows_left(description, events, choices):
+    """What accepted events leave: the name of each unit that holds something, and the lines of the issues by cycles from the present one."""
+    lines, end = {}, sum(event.cycles for event in events)
+    for place, now, alternative in issues_of(description, events, choices):
+        for cycle in range(end - now, len(alternative)):
+            for bit in bits_in(alternative[cycle]):
+                lines.setdefault(bit, {})[cycle + now - end] = str(events[place].line)
+    return [(unit.name, lines[unit.bit]) for unit in description.named(sum(lines))]

@@ -7,10 +7,10 @@ from .agreement import agreed, start_spelled, write
 from .blocks import read_block
 from .descriptions import Description
 from .machines import Machine, Walks
-from .programs import Stop, accepted
+from .programs import Stop, accepted, accepted_own
 from .timelines import MOST_INSNS, Timeline, bound_in, kernel_in, schedule_in
 from .traces import sheet_of
-from .writing import read_bytes
+from .writing import read_bytes, shown
 
 STATS = '\n(automata_option "stats")\n'
 LONGEST = 4194304
@@ -42,7 +42,7 @@ class Page:
         if len(text) + len(STATS) > LONGEST:
             self.notes.append("The description has no room for the option stats, so there are no counts from before minimisation.")
             return Machine(tables)
-        counted = accepted(self.programs.ask("compile", write(self.folder, "counted.md", text + STATS))).text
+        counted = accepted_own(self.programs.start("compile", write(self.folder, "counted.md", text + STATS)).result()).text
         machine = Machine(counted)
         if "stats " not in tables and counted_away(counted) != tables:
             raise Stop("hz compiles the description otherwise with the option stats; no page is written")
@@ -53,8 +53,8 @@ class Page:
         schedule, bound, modulo = answers
         insns = read_block(path, read_bytes(path))
         slots, length = schedule_in(schedule.text)
-        found = {"path": path, "insns": insns, "slots": slots, "length": length, "bound": bound_in(bound.text),
-                 "kernel": None if is_too_long(modulo) else kernel_in(modulo.text), "limit": modulo.text.strip(),
+        found = {"path": shown(path), "insns": insns, "slots": slots, "length": length, "bound": bound_in(bound.text),
+                 "kernel": None if is_too_long(modulo) else kernel_in(modulo.text), "limit": modulo.text.strip().encode("latin-1").decode("utf-8", "replace"),
                  "left": max(0, len(insns) - MOST_INSNS)}
         timeline = Timeline(self.programs, description, self.desc, insns, slots, self.folder)
         timeline.explain(found["bound"])
@@ -65,9 +65,9 @@ class Page:
 
     def trace(self, description, path, answer):
         """What is shown of a trace."""
-        sheet = sheet_of(self.programs, description, self.desc, path, read_bytes(path), answer, self.folder)
+        sheet = sheet_of(self.programs, description, self.desc, read_bytes(path), answer, self.folder)
         bands, cut = page.trace_bands(description, sheet) if sheet.holders else ([], None)
-        return {"sheet": sheet, "bands": bands, "cut": cut}
+        return {"sheet": sheet, "path": shown(path), "bands": bands, "cut": cut}
 
     def context(self, blocks, traces):
         """All that the templates show."""
@@ -80,15 +80,16 @@ class Page:
         groups, of_class = page.groups_of(walks)
         rows, more = page.rows_of_matrix(groups, of_class)
         names = agreed(spelled)
+        unmet, unjudged = remarks.unmet(description)
         return {
-            "desc": self.desc, "size": len(text), "sha256": page.sha256(text), "description": description, "machine": machine,
+            "desc": shown(self.desc), "size": len(text), "sha256": page.sha256(text), "description": description, "machine": machine,
             "tables": len(tables), "states": sum(table.states() for table in machine.tables), "groups": groups,
             "rows": rows, "more_rows": max(0, more),
             "limits": page.limits_of(description), "notes": self.notes,
             "never": [name for group in groups if group.is_never for name in group.names],
             "not_alone": [name for group in groups if group.in_one_cycle == 0 and not group.is_never for name in group.names],
             "alike": [group.names for group in groups if len(group.names) > 1],
-            "untaken": remarks.untaken(description), "unmet": remarks.unmet(description), "idle": remarks.idle_statements(description),
+            "untaken": remarks.untaken(description), "unmet": unmet, "unjudged": unjudged, "idle": remarks.idle_statements(description),
             "cards": page.cards_of(description, names, groups, of_class), "unsure": len(description.classes) - len(names),
             "automata": page.automata_parts(description, machine, self.programs.pool),
             "blocks": [self.block(description, path, answers) for path, answers in zip(blocks, block_answers)],
@@ -109,5 +110,6 @@ def is_too_long(answer):
 
 def make_page(programs, desc, blocks, traces):
     """The page of a description, with blocks and traces."""
+    template = page.load_template()
     with tempfile.TemporaryDirectory(prefix="hz_sheet-") as folder:
-        return page.render(Page(programs, desc, os.path.abspath(folder)).context(blocks, traces))
+        return template.render(Page(programs, desc, os.path.abspath(folder)).context(blocks, traces))

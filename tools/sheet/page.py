@@ -6,7 +6,7 @@ import typing
 
 from .charts import alternative_chart, alternative_line, bands, columns_of, sparse_columns
 from .graphs import MOST_STATES, draw
-from .machines import ways_back, ways_there
+from .machines import Budget, ways_back, ways_there
 from .programs import Stop
 
 # classes up to this number are each a row of the matrix; more are grouped
@@ -17,6 +17,8 @@ MOST_CELLS = 60000
 MOST_LINES = 1200000
 MOST_COLUMNS = 400
 MOST_COLUMN_CELLS = 40000
+# of the tables of automata that are too large to draw
+MOST_ENTRIES = 8000000
 
 
 @dataclasses.dataclass
@@ -86,7 +88,7 @@ def limits_of(description):
     for unit in description.units:
         units[unit.automaton] += 1
     most = max(units, key=units.get)
-    limits += [Limit("units" if most == "-" else f"units of {most}", units[most], 256), Limit("classes", len(description.classes), 1024)]
+    limits += [Limit(f"units of {most}" if description.has_automata else "units", units[most], 256), Limit("classes", len(description.classes), 1024)]
     if description.classes:
         many = max(description.classes, key=lambda one: len(one.alternatives))
         long = max(description.classes, key=lambda one: max(map(len, one.alternatives)))
@@ -170,8 +172,8 @@ def labels_of(table, classes):
     return [str(column) for column in range(table.columns)]
 
 
-def automaton_part(description, machine, table):
-    """What is shown of an automaton, without its graph."""
+def automaton_part(description, machine, table, budget):
+    """What is shown of an automaton, without its graph. Ways are looked for while the budget lasts."""
     classes = [[] for _ in range(table.columns)]
     for name, column in zip(machine.classes, table.column):
         classes[column].append(name)
@@ -181,13 +183,16 @@ def automaton_part(description, machine, table):
     if table.states() <= MOST_STATES:
         part.rows = [table.row(state) for state in range(table.states())]
     else:
-        ways = ways_there(table, [state for state, _ in longest])
+        is_left = budget.left(table.states() * (table.columns + 1))
+        ways = ways_there(table, [state for state, _ in longest]) if is_left else [None] * len(longest)
         part.ways = [(state, cycles, way_text(way, classes)) for (state, cycles), way in zip(longest, ways)]
     return part
 
 
 def way_text(way, classes):
     """A way from the start: the first class of each column, and cycles."""
+    if way is None:
+        return "not looked for, because the tables are large"
     found = []
     for column in way:
         if column is None and found and found[-1][0] is None:
@@ -200,9 +205,10 @@ def way_text(way, classes):
 
 def automata_parts(description, machine, pool):
     """What is shown of each automaton. Graphs are drawn beside one another."""
-    parts = [automaton_part(description, machine, table) for table in machine.tables]
+    budget = Budget(MOST_ENTRIES)
+    parts = [automaton_part(description, machine, table, budget) for table in machine.tables]
     small = [part for part in parts if part.rows]
-    drawn = pool.map(lambda part: draw(part.table, labels_of(part.table, part.classes)), small)
+    drawn = pool.map(lambda part: draw(part.table, labels_of(part.table, part.classes), len(small)), small)
     for part, (svg, missing) in zip(small, drawn):
         part.svg, part.missing = svg, missing
     return parts
@@ -243,8 +249,8 @@ def trace_bands(description, sheet):
     return bands(columns[:most], units, lambda unit, cycle: contents.get(cycle, {}).get(unit.bit, "")), cut
 
 
-def render(context):
-    """The page."""
+def load_template():
+    """The template of the page."""
     try:
         import jinja2
     except ImportError as error:
@@ -254,7 +260,7 @@ def render(context):
                                 undefined=jinja2.StrictUndefined)
     loader.globals.update(heat=heat)
     loader.filters["thousands"] = lambda number: f"{number:,}"
-    return loader.get_template("sheet.html").render(context)
+    return loader.get_template("sheet.html")
 
 
 def sha256(text):

@@ -1,14 +1,14 @@
 """What `hz schedule`, `bound` and `modulo` answer to a block, and why each instruction waits."""
 import collections
 import dataclasses
-import re
 import typing
 
 from .agreement import compare_pictures, start_pictures, trace_text, write
 from .blocks import Costs, Dependences, longest_path
 from .derived import costs_text, quoted
 from .holders import Event, Holders, play
-from .programs import Stop, accepted
+from .programs import Stop, accepted_own
+from .reasons import reasons_in
 
 MOST_INSNS = 400
 MOST_QUESTIONS = 150
@@ -80,22 +80,6 @@ def slot_events(slots):
     return events, lines
 
 
-REASON = re.compile(r"alternative (\d+): (\S+) in cycle (\d+) is held since line (\d+), ")
-
-
-def reason_in(text, lines):
-    """Why an issue is refused, in the words of `hz_why`, with the instruction in place of the line of the trace."""
-    found = []
-    for line in text.split("\n"):
-        held = REASON.match(line)
-        if held:
-            found.append(f"{held[2]} is held by insn {lines[int(held[4])].number}")
-        elif line.startswith("alternative "):
-            found.append(line.split(": ", 1)[1])
-    found = list(dict.fromkeys(found))
-    return ", ".join(found[:4]) + (f" and {len(found) - 4} more" if len(found) > 4 else "")
-
-
 class Timeline:
     """The schedule of a block with the causes of its waits."""
 
@@ -161,10 +145,10 @@ class Timeline:
     def take_refusals(self, runs):
         """Takes why instructions don't fit, cycles with one reason together."""
         for row, cycle, lines, run in runs:
-            answer = accepted(run.result(), most=1)
+            answer = accepted_own(run.result(), most=1)
             if answer.status == 0:
                 raise Stop("hz_why accepts an issue that this tool finds ready and hz issues later; no page is written")
-            why = reason_in(answer.text, lines)
+            why = reasons_in(answer.text, lines)
             if row.held and row.held[-1].why == why and row.held[-1].last == cycle - 1:
                 row.held[-1] = row.held[-1]._replace(last=cycle)
             else:
@@ -187,7 +171,7 @@ class Timeline:
         self.find_waits()
         costs, refusals = self.start_costs(), self.start_refusals()
         for first, second, cost, run in costs:
-            if bound_in(accepted(run.result()).text).path != cost:
+            if bound_in(accepted_own(run.result()).text).path != cost:
                 raise Stop(f"hz reads the cost of {second} after {first} otherwise than this tool; no page is written")
         self.take_refusals(refusals)
         if len(self.rows) == len(self.insns) and self.path_of_block() != bound.path:

@@ -5,6 +5,8 @@ import typing
 
 from .agreement import compare_pictures, start_pictures
 from .holders import Event, Holders, play
+from .programs import Stop
+from .reasons import parts_of
 
 MOST_EVENTS = 2000
 MOST_PICTURES = 48
@@ -13,7 +15,6 @@ MOST_PICTURES = 48
 @dataclasses.dataclass
 class TraceSheet:
     """What the page shows of a trace. `events` are those up to the first that is refused, or that is too far."""
-    path: str
     answer: typing.List[str]
     asks: typing.List[str]
     reasons: typing.List[str]
@@ -38,26 +39,13 @@ def events_in(text, most):
     return events, None
 
 
-def parts_of(text):
-    """The answer of `hz_why` in parts: lines of asks, the line that decides, reasons, and the picture."""
-    asks, decided, reasons, drawn = [], [], [], []
-    for line in text.split("\n")[:-1]:
-        if drawn or re.match(r"cycle +0\b", line):
-            drawn.append(line)
-        elif decided:
-            reasons.append(line)
-        elif line.startswith(("accepted ", "refused ")):
-            decided.append(line)
-        else:
-            asks.append(line)
-    return asks, decided, reasons, drawn
-
-
-def sheet_of(programs, description, desc, path, text, answer, folder):
+def sheet_of(programs, description, desc, text, answer, folder):
     """What the page shows of a trace, by the answer of `hz_why` to it."""
     asks, decided, reasons, drawn = parts_of(answer.text)
+    if not decided:
+        raise Stop("hz_why neither accepts nor refuses; no page is written")
     events, cut = events_in(text, MOST_EVENTS)
-    sheet = TraceSheet(path, decided, asks, reasons, drawn, events, cut=cut)
+    sheet = TraceSheet(decided, asks, reasons, drawn, events, cut=cut)
     refused = re.match(r"refused line (\d+) ", decided[0])
     if refused:
         before = [event for event in events if event.line < int(refused[1])]

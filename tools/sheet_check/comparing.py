@@ -115,7 +115,7 @@ class Comparison:
         for other, cost in re.findall(r"insn (\d+) \([^)]*, cost (\d+)\)", why):
             self.same(f"{number} is ready", ready, issued[other][0] + int(cost))
         self.same(f"{number} has a cause", bool(why), cycle > 0)
-        waited = re.search(r"in cycles? (\d+)", why)
+        waited = re.search(r"(?:in|from) cycles? (\d+)", why)
         self.same(f"{number} waits for a unit", int(waited[1]) if waited else cycle, ready)
 
 

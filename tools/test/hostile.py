@@ -21,6 +21,11 @@ CLASSES = "".join(CLASS.format(f"class{at}", "u") for at in range(1000))
 WILD = UNIT + CLASSES + "".join(f'(define_bypass {at % 7} "class{at % 1000}*" "*{at % 10}")\n' for at in range(200000))
 MISSES = UNIT + CLASSES + "".join(f'(define_bypass 1 "*{at}x*y" "class1")\n' for at in range(30000))
 
+PAIRS = " + ".join(f"(a{at}|b{at})" for at in range(12))
+UNITS = '(define_automaton "m")\n(define_cpu_unit "{}" "m")\n'
+TWELVE = UNITS.format(",".join([f"a{at},b{at}" for at in range(12)] + [f"u{at}" for at in range(200)])) + CLASS.format("x", f"({PAIRS}), nothing*480")
+STRANGE = UNITS.format("a,b,c") + '(presence_set "a" "b v")\n(exclusion_set "v" "a")\n' + CLASS.format("x", "a*2") + CLASS.format("y", "(b|c), b")
+
 # Of each input: its name, its text, the options, and the last line of the answer; a fault has a line, and changes have none.
 TRIED = [
     ("tab", UNIT + CLASS.format("x\t", "u"), [], "1 classes, 1 changes: 1 space"),
@@ -65,6 +70,8 @@ TRIED = [
     ("nested", UNIT + CLASS.format("x", "(((u*60)*60)*60)*60"), ["--align"], "1 classes, 1 changes: 1 unaligned"),
     ("sizes", UNIT + "".join(CLASS.format(f"x{at}", "(u|nothing)*12,nothing*400") for at in range(9)), ["--align"],
      "9 classes, 8 changes: 8 unaligned"),
+    ("twelve", TWELVE, ["--align", "--split=all"], "1 classes, 1 changes: 1 split"),
+    ("strange", STRANGE, ["--split"], "2 classes, 1 changes: 1 unsplit"),
     ("wild", WILD, ["--align"], MANY),
     ("misses", MISSES, [], MANY),
     ("set", UNIT + CLASS.format("x", "u") + CLASS.format("y", "u") + '(define_bypass 2 "[^y]" "[!x]")\n', [],

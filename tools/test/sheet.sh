@@ -87,6 +87,19 @@ refuses 2 "$work: Is a directory" -o "$work" machine.md
 refuses 2 '/dev/null: is no regular file' -o page.html --trace /dev/null machine.md
 refuses 2 './no_hz: no such program' --hz ./no_hz -o page.html machine.md
 refuses 2 './no_why: no such program' --hz-why ./no_why -o page.html machine.md
+refuses 2 '-o: the name of the page is empty' -o '' machine.md
+refuses 2 '/dev/full: No space left on device' -o /dev/full machine.md
+cp machine.md ./-m.md
+refuses 2 '-m.md: a name that begins with - is given as ./-m.md' -o page.html -- -m.md
+odd=$(printf 'm\377.md')
+cp machine.md "$odd"
+refuses 2 "$odd: the name is no UTF-8, and hz takes no other" -o page.html "$odd"
+cp wrong.md 'é.md'
+LC_ALL=C refuses 2 'fault é.md line 2 UnknownName v' -o page.html 'é.md'
+refuses 2 'hz compile answers no tables; no page is written' --hz "$(command -v true)" -o page.html machine.md
+refuses 2 'hz_why neither accepts nor refuses; no page is written' --hz-why "$(command -v true)" -o page.html --trace port.trace machine.md
+said=$("$python" -S "$tools/sheet.py" --hz "$hz" --hz-why "$hz_why" -o page.html machine.md 2>&1)
+[ "$?:$said" = '2:no Jinja2 for this python3 (Debian: python3-jinja2)' ] && [ ! -e page.html ] || wrong "without Jinja2: $said"
 printf '#!/bin/sh\nkill -9 $$\n' > killed
 chmod +x killed
 refuses 2 'killed: ended by signal 9' --hz ./killed -o page.html machine.md
@@ -94,6 +107,29 @@ refuses 2 'killed: ended by signal 9' --hz ./killed -o page.html machine.md
 echo old > page.kept
 sheet -o page.kept wrong.md 2> /dev/null
 [ "$(cat page.kept)" = old ] || wrong "page.kept was written"
+# a page goes to a pipe too, and an end by a signal leaves nothing
+sheet -o /dev/stdout machine.md | grep -q '^</html>' || wrong "no page in a pipe"
+mkdir own
+printf '#!/bin/sh\nexec sleep 30\n' > slow
+chmod +x slow
+TMPDIR=$work/own "$python" "$tools/sheet.py" --hz ./slow --hz-why "$hz_why" -o page.html machine.md &
+tool=$!
+tries=0
+while [ -z "$(ls -A own)" ] && [ $tries -lt 200 ]; do
+    sleep 0.1
+    tries=$((tries + 1))
+done
+kill $tool
+wait $tool
+[ "$?" = 143 ] && [ -z "$(ls -A own)" ] && [ ! -e page.html ] || wrong "ended by a signal: $(ls -A own)"
+# a body of a loop that is too long has no kernel, and the page says so
+place=0
+while [ $place -lt 257 ]; do
+    place=$((place + 1))
+    echo "(insn $place (set (reg $((place % 8))) (const_int 1)))"
+done > loop.block
+sheet -o loop.html --block loop.block machine.md || wrong "a long body: status $?"
+shows loop.html '<code>hz modulo</code> answers: <code>limit loop.block insns</code>'
 # without dot the page says so
 PATH=$work "$python" "$tools/sheet.py" --hz "$hz" --hz-why "$hz_why" -o plain.html machine.md || wrong "without dot: status $?"
 shows plain.html 'The program dot of graphviz is missing (Debian: graphviz), so there is no graph here.'

@@ -4,6 +4,7 @@ import sys
 import tempfile
 import types
 import unittest
+import unittest.mock
 
 sys.dont_write_bytecode = True
 sys.path.insert(0, os.path.join(os.path.dirname(os.path.abspath(__file__)), os.pardir))
@@ -15,12 +16,13 @@ from sheet.charts import alternative_chart, alternative_line, columns_of, sparse
 from sheet.derived import spelled_class  # noqa: E402
 from sheet.descriptions import Description  # noqa: E402
 from sheet.expressions import Expander  # noqa: E402
-from sheet.holders import Event, Holders, picture, play  # noqa: E402
+from sheet.holders import Event, Holders, play, rows_left  # noqa: E402
 from sheet.machines import Machine, Walks, ways_back, ways_there  # noqa: E402
 from sheet.page import way_text  # noqa: E402
 from sheet.programs import Stop, find_program  # noqa: E402
-from sheet.timelines import bound_in, kernel_in, reason_in, schedule_in, slot_events  # noqa: E402
-from sheet.traces import events_in, parts_of  # noqa: E402
+from sheet.reasons import is_picture_of, parts_of, reasons_in  # noqa: E402
+from sheet.timelines import bound_in, kernel_in, schedule_in, slot_events  # noqa: E402
+from sheet.traces import events_in  # noqa: E402
 from sheet.writing import check_output, write_page  # noqa: E402
 
 CORE = """\
@@ -105,10 +107,22 @@ class Descriptions(unittest.TestCase):
     def test_a_sign_before_zero(self):
         self.assertEqual(description('(define_insn_reservation "x" -0 (const_int -0) "nothing")').classes[0].latency, 0)
 
+    def test_conditions(self):
+        """A condition of many attributes is judged, and one of too many cases is not."""
+        attributes = "".join(f'(define_attr "a{place}" "p,q" (const_string "p"))' for place in range(60))
+        tests = " ".join(f'(ior (eq_attr "a{place}" "p") (eq_attr "a{place}" "q"))' for place in range(60))
+        pairs = " ".join(f'(ior (eq_attr "a{place}" "p") (eq_attr "a{place + 1}" "p"))' for place in range(0, 60, 2))
+        impossible = '(eq_attr "a59" "!p, q")'
+        for condition, found in (
+                (f"(and {tests} (const_int 1))", ([], [])), (f"(not (and {tests} {impossible}))", ([], [])),
+                (f"(and {impossible} {tests})", (["x"], [])), (f"(and {pairs} {impossible} {tests})", ([], ["x"]))):
+            text = f'{attributes}(define_insn_reservation "x" 1 {condition} "nothing")'
+            self.assertEqual(remarks.unmet(description(text)), found)
+
     def test_remarks(self):
         core = description()
         self.assertEqual([unit.name for unit in remarks.untaken(core)], ["idle"])
-        self.assertEqual(remarks.unmet(core), ["none"])
+        self.assertEqual(remarks.unmet(core), (["none"], []))
         self.assertEqual([(statement.line, names) for statement, names in remarks.idle_statements(core)], [(5, ["idle"])])
 
 
@@ -204,9 +218,21 @@ class Calendars(unittest.TestCase):
         self.assertEqual(holders.held, {(0, 1): 0, (0, 2): 0, (1, 2): 0, (2, 2): 0, (1, 1): 2, (1, 4): 3})
 
     def test_pictures(self):
-        self.assertEqual(picture(description(), self.EVENTS, [0, 0, 1]),
-                         "cycle     0 1\nslot      3 .\ndivider   1 1\nport      4 .\n")
-        self.assertEqual(picture(description(), [], []), "")
+        rows = rows_left(description(), self.EVENTS, [0, 0, 1])
+        self.assertEqual(rows, [("slot", {0: "3"}), ("divider", {0: "1", 1: "1"}), ("port", {0: "4"})])
+        self.assertTrue(is_picture_of(["cycle     0 1", "slot      3 .", "divider   1 1", "port      4 ."], rows))
+        self.assertFalse(is_picture_of(["cycle     0 1", "slot      3 .", "divider   1 .", "port      4 ."], rows))
+        self.assertFalse(is_picture_of(["cycle     0 1", "slot      3 .", "divider   1 1"], rows))
+        self.assertFalse(is_picture_of(["cycle     0", "slot      3", "divider   1", "port      4"], rows))
+        self.assertEqual(rows_left(description(), [], []), [])
+        self.assertTrue(is_picture_of([], []))
+
+    def test_pictures_that_are_cut(self):
+        rows = [("long_name_of_a_unit", {9: "112", 11: "7"})]
+        texts = " . . . . . . . . . 2"
+        self.assertTrue(is_picture_of(["cycle       0 1 2 3 4 5 6 7 8 9", "long_name  " + texts, "cut after cycle 9"], rows))
+        self.assertFalse(is_picture_of(["cycle       0 1 2 3 4 5 6 7 8 9", "long_name  " + texts], rows))
+        self.assertFalse(is_picture_of(["cycle       0 1 2 3 4 5 6 7 8 9", "other      " + texts, "cut after cycle 9"], rows))
 
     def test_any_choice(self):
         core = description('(automata_option "ndfa")(define_cpu_unit "a,b")(define_insn_reservation "x" 1 (const_int 1) "a|b")'
@@ -232,7 +258,18 @@ class Answers(unittest.TestCase):
         lines = {2: types.SimpleNamespace(number=7)}
         text = "refused line 3 x\nfits 1 cycle later\nalternative 1: port in cycle 1 is held since line 2, y\n" \
             "alternative 2: absence_set line 9, a in cycle 0 with b\ncycle 0\n"
-        self.assertEqual(reason_in(text, lines), "port is held by insn 7, absence_set line 9, a in cycle 0 with b")
+        self.assertEqual(reasons_in(text, lines), "port 1 cycle later is held by insn 7, absence_set line 9, a with b")
+
+    def test_reasons_of_groups(self):
+        lines = {2: types.SimpleNamespace(number=7), 9: types.SimpleNamespace(number=8)}
+        text = "fits 2 cycles later\nalternatives 1-2, 4: port in cycle 0 is held since line 2, y\n" \
+            "alternative 3: port in cycle 2 is planned by line 9, z\n" \
+            "alternative 5: exclusion_set line 9, a (line 2, y) in cycle 0 with b (asked)\n" \
+            "alternatives 6, 8 ..: presence_set line 9, a (asked) in cycle 3 without b or ..\n" \
+            "alternative 1 takes port 0-2\nline 2 y in cycle -1 took alternative 1\ncycle 0\n"
+        self.assertEqual(reasons_in(text, lines, 9), "port is held by insn 7, port 2 cycles later is planned by insn 8, "
+                         "exclusion_set line 9, a (insn 7) with b (asked), presence_set line 9, a (asked) 3 cycles later without b or ..")
+        self.assertEqual(reasons_in(text, lines, 1), "port is held by insn 7 and 3 more")
 
     def test_traces(self):
         self.assertEqual(events_in("; no\n\tissue\t add \r\nask u\nadvance 007\nissue x", 2), ([Event(2, "add"), Event(4, None, 7)], 5))
@@ -256,8 +293,9 @@ class Writing(unittest.TestCase):
             write_page(page, "two")
             with open(page, encoding="utf-8") as file:
                 self.assertEqual(file.read(), "two")
-            with self.assertRaises(UnicodeEncodeError):
-                write_page(page, "three \ud800")
+            with unittest.mock.patch("os.replace", side_effect=OSError(28, "No space left on device")), self.assertRaises(Stop) as stopped:
+                write_page(page, "three")
+            self.assertEqual(stopped.exception.text, f"{page}: No space left on device")
             self.assertEqual(os.listdir(folder), ["page.html"])
             for wrong in (folder, os.path.join(folder, "none", "page.html")):
                 with self.assertRaises(Stop):

@@ -27,6 +27,10 @@ with_classes x statements = record {
   treatment = first_fit;
 }
 
+-- `a0`
+abbrev pub first_alone : Expression
+first_alone = named (codes "a0")
+
 -- `(a0|a1)+(b0|b1)`, written out: the first group's list counts most
 abbrev pub first_counts : Expression
 first_counts = one_of (four (both (codes "a0") (codes "b0")) (both (codes "a0") (codes "b1")) (both (codes "a1") (codes "b0")) (both (codes "a1") (codes "b1")))

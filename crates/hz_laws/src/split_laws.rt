@@ -5,7 +5,7 @@ ghost use Rattle.hz_base_model.specs.Pairs.{SamePairs};
 ghost use Rattle.hz_pipeline_model.specs.Accepting.Events.{Event};
 ghost use Rattle.hz_pipeline_model.specs.Accepting.Replay.{Pipeline, first_fit, IsChoice, Accepted, FirstRefused, calendar};
 ghost use Rattle.hz_pipeline_model.specs.Accepting.Asking.{IsHeld};
-ghost use Rattle.hz_laws.specs.Grouping.{GroupLists, AreOfGroups, IsOneToOne, renamed};
+ghost use Rattle.hz_laws.specs.Grouping.{GroupLists, AreOfGroups, IsOneToOne, renamed_pairs, renamed};
 
 /// Two pipelines of the same groups accept and refuse the same, and for each choice of the one there is a choice of the other that
 /// reserves the same pairs, whatever the groups.
@@ -30,10 +30,11 @@ pub fn renamed_pipelines_accept_the_same<U, V>()
 {}
 
 /// So the automata of a description may be cut into those of its groups: units get their places in the new automata, and each class
-/// the product of its groups' lists. The same events are accepted, the same is refused first, and in the first treatment the same
-/// units are held.
+/// the product of its groups' lists. The same events are accepted, the same is refused first, each choice has one that reserves the
+/// same, and in the first treatment the same units are held.
 pub fn cut_pipelines_accept_the_same<U, V>()
     ensures acceptance { (rename : U → V) (group : V → ℕ) (lists : ℕ → GroupLists V) (m : Pipeline U) (o : Pipeline V) → IsOneToOne rename → AreOfGroups group lists (renamed rename m) o → (t : List Event) → Accepted m t ↔ Accepted o t }
     ensures refused { (rename : U → V) (group : V → ℕ) (lists : ℕ → GroupLists V) (m : Pipeline U) (o : Pipeline V) → IsOneToOne rename → AreOfGroups group lists (renamed rename m) o → (t : List Event) (i : ℕ) → FirstRefused m t i ↔ FirstRefused o t i }
+    ensures choices { (rename : U → V) (group : V → ℕ) (lists : ℕ → GroupLists V) (m : Pipeline U) (o : Pipeline V) → IsOneToOne rename → AreOfGroups group lists (renamed rename m) o → (t : List Event) (choices : List ℕ) → IsChoice m t choices → (others : List ℕ) × IsChoice o t others × SamePairs (renamed_pairs rename (calendar m 0 t choices)) (calendar o 0 t others) }
     ensures held { (rename : U → V) (group : V → ℕ) (lists : ℕ → GroupLists V) (m : Pipeline U) (o : Pipeline V) → IsOneToOne rename → AreOfGroups group lists (renamed rename m) o → m.treatment ≡ first_fit → (t : List Event) (unit : U) → IsHeld m t unit ↔ IsHeld o t (rename unit) }
 {}

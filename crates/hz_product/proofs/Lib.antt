@@ -1,4 +1,5 @@
 pub mod Adding
+pub mod AlongLemmas
 pub mod AddedStates
 pub mod ComparedLemmas
 pub mod EventLists

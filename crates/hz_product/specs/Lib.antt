@@ -4,3 +4,4 @@ pub mod Searching
 pub mod Looking
 pub mod Symbols
 pub mod Comparing
+pub mod Along

@@ -45,15 +45,15 @@ fn class_of(machine: &Machine, name: &Name) -> Option<u32>
     place_of(&machine.classes, name)
 }
 
-// Whether a machine has a class of a name.
-fn has_class(machine: &Machine, name: &Name) -> bool
+/// Whether a machine has a class of a name.
+pub fn has_class(machine: &Machine, name: &Name) -> bool
     ensures { result ≡ common.has_class (machine_of machine.now) name.now }
 {
     class_of(machine, name).is_some()
 }
 
-// Whether a machine has a query unit of a name.
-fn has_ask(machine: &Machine, name: &Name) -> bool
+/// Whether a machine has a query unit of a name.
+pub fn has_ask(machine: &Machine, name: &Name) -> bool
     ensures { result ≡ common.has_ask (machine_of machine.now) name.now }
 {
     machine.find_ask(name).is_some()

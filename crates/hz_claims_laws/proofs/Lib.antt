@@ -1,0 +1,11 @@
+mod Words
+mod FirstUnits
+mod TwoNumbers
+mod TablesLines
+mod OtherGuards
+mod TraceTexts
+mod ScheduleLines
+mod BoundLines
+mod ReadLines
+mod WholeTexts
+mod LoadCounts

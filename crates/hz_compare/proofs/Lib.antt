@@ -1,0 +1,4 @@
+pub mod LineLaws
+pub mod NameLaws
+pub mod TraceLaws
+pub mod FoundLaws

@@ -1,0 +1,2 @@
+pub mod SingleLaws
+pub mod DecidingLaws

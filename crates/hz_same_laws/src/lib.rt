@@ -1,0 +1,4 @@
+//! What machines that are compared say of the descriptions that they are compiled of.
+#![tactic(auto)]
+
+pub mod descriptions;

@@ -1,0 +1,1 @@
+"""What the pages of the repository must be: links that lead somewhere, names that are there, and a manual that lacks nothing."""
