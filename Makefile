@@ -38,11 +38,11 @@ try:
 	@cd crates/hz && rt try --data machine.md=../../examples/divider/machine.md --data busy.trace=../../examples/divider/busy.trace \
 		-- replay machine.md busy.trace 2>&1 | grep -v '^run=\|^checked' || true
 
-# the whole gate
+# the whole gate, with as many checks in parallel as `make` has
 test:
 	@sh tools/check_kit.sh
 	@[ ! -e bin/copies ] || { echo "hz: make was ended, and left bin/copies; run it again, or remove that folder"; exit 2; }
-	@.ci/run
+	@RT_JOBS=$${RT_JOBS:-$(beside)} .ci/run
 
 # each example and each status of the programs, the manual pages, what tools/extract.py writes and what pages show, against what is expected
 examples: all
@@ -68,14 +68,14 @@ check-bound: all
 check-modulo: all
 	@python3 tools/check_modulo.py bin/hz
 
-# memory refused to each command and to hz_why, one request at a time: each run reports it, or answers as before
+# memory refused to each command, to hz_why and to hz_same, one request at a time: each run reports it, or answers as before
 check-memory: all
 	$(call needs,cc)
-	@python3 tools/check_memory.py bin/hz bin/hz_why
+	@python3 tools/check_memory.py bin/hz bin/hz_why bin/hz_same
 
-# each command and hz_why at the ends of sizes, and just past them: files of up to 1 GB in the folder for what is temporary, and ample memory
+# each command, hz_why and hz_same at the ends of sizes, and just past them: files of up to 1 GB in the folder for what is temporary, and ample memory
 check-large: all
-	@python3 tools/check_large.py bin/hz bin/hz_why
+	@python3 tools/check_large.py bin/hz bin/hz_why bin/hz_same
 
 # hz at each limit and one past it, and both programs on the largest inputs of the calls that can want memory
 check-limits: all

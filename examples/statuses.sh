@@ -425,14 +425,14 @@ why expect 0 "$(printf 'accepted 2 issues 1 cycles\ncycle   0\na       3\nb     
 why expect 0 "$(printf 'accepted 2 issues 0 cycles\nby one of the choices\ncycle   0\na       2\nb       1')" ndfa both
 why expect 0 "$(printf 'accepted 1 issues 0 cycles\ncycle    0  1  2  3  4  5  6  7  8  9 10 11 12 13 14 15 16
 u        .  .  .  .  .  .  .  .  .  .  .  .  .  .  .  .  1')" states late_unit
-held='alternative 1: a in cycle 1 is held since line'
+held='alternative 1: a in cycle 1 is planned by line'
 why expect 1 "$(printf 'refused line 2 x\nfits 1 cycle later\n%s 1, x\ncycle   0 1\na       . 1' "$held")" d twice
 why expect 1 "$(printf '%s\nfits 1 cycle later\n%s 5, x\ncycle   0 1\na       1 5' "$told" "$held")" query asks
-why expect 1 "$(printf 'refused line 1 x\nnever fits\nalternative 1: presence_set line 2, v in cycle 0 without a pattern\ncycle   0\nv       .')" \
+why expect 1 "$(printf 'refused line 1 x\nfits in no later cycle\nalternative 1: presence_set line 2, v in cycle 0 without a pattern\ncycle   0\nv       .')" \
     never twice
-why expect 1 "$(printf 'refused line 2 x\nfits 60 cycles later\nalternative 1: u in cycle 0 is held since line 1, x\ncycle  '
-    for j in $(seq 0 55); do printf ' %s' $((j % 10)); done; printf '\nu      '; for j in $(seq 0 55); do printf ' 1'; done
-    printf '\ncut after cycle 55')" sixty twice
+why expect 1 "$(printf 'refused line 2 x\nfits 60 cycles later\nalternative 1: u in cycle 0 is held from line 1, x\ncycle  '
+    for j in $(seq 0 35); do printf ' %s' $((j % 10)); done; printf '\nu      '; for j in $(seq 0 35); do printf ' 1'; done
+    printf '\ncut after cycle 35')" sixty twice
 why expect 2 'fault no_unit line 3 UnknownUnit' query no_unit
 why expect 2 'fault query_ndfa line 1 QueryUnderNdfa a' query_ndfa asks
 why expect 2 'fault unclosed line 1 Unclosed' unclosed t
@@ -496,7 +496,7 @@ expect 3 "limit late_limit line 50001 Cycles $long_name" replay late_limit t
 expect 1 "refused line 50002 $long_name" replay late_class late_issues
 row=$(head -c 32 /dev/zero | tr '\0' n)
 why expect 1 "$(printf 'refused line 50002 %s\nfits 1 cycle later\n' "$long_name"
-    printf 'alternative 1: %s in cycle 0 is held since line 50001, %s\n' "$long_name" "$long_name"
+    printf 'alternative 1: %s in cycle 0 is held from line 50001, %s\n' "$long_name" "$long_name"
     printf '%-32s       0\n%s   50001' cycle "$row")" late_class late_issues
 expect 2 'fault late_trace line 50001 BadLine' replay d late_trace
 why expect 2 'fault late_trace line 50001 BadLine' d late_trace
@@ -570,7 +570,7 @@ once b 2 'fault /dev/stdin line 1 BadShape' eval b /dev/stdin
 once circle 2 'fault /dev/stdin line 1 CircularReservation r' drill /dev/stdin 1 4
 why once alternatives 3 'limit /dev/stdin line 2 Alternatives x' /dev/stdin t
 why once bad 2 'fault /dev/stdin line 2 BadLine' d /dev/stdin
-why once never 1 "$(printf 'refused line 1 x\nnever fits\nalternative 1: presence_set line 2, v in cycle 0 without a pattern\ncycle   0\nv       .')" \
+why once never 1 "$(printf 'refused line 1 x\nfits in no later cycle\nalternative 1: presence_set line 2, v in cycle 0 without a pattern\ncycle   0\nv       .')" \
     /dev/stdin t
 
 # hz_same: `other` is `k` with one entry changed, `renamed` with a class of another name, `turned` with its classes in the other order,
@@ -584,14 +584,15 @@ lines parts 'hazard-tables 1' 'treatment first' 'classes 2' 'class x' 'class y' 
 # `free` is `asked` with the unit free in state 2
 sed '11s/row 3 2 0/row 3 - 0/' asked > free
 lines no_class_but_x 'hazard-tables 1' 'treatment first' 'classes 1' 'class x' 'automata 1' 'automaton - 1 1' 'map 0' 'row 0 0' end
-# counters of as many cycles as each other have, whose pairs are more than 1,048,576: each goes back to its start at an issue of its own
+# two counters side by side, of 1,031 and of 1,033 cycles, reach 1,065,023 pairs with the one state of `always`: more than 1,048,576. Both
+# accept every trace of advances alone
 counter() {
-    printf 'hazard-tables 1\ntreatment first\nclasses 1\nclass x\nautomata 1\nautomaton %s 1 %s\nmap 0\n' "$1" "$2"
+    printf 'automaton %s 1 %s\nmap 0\n' "$1" "$2"
     awk -v states="$2" 'BEGIN { for (state = 0; state < states; state++) print "row -", (state + 1) % states }'
-    echo end
 }
-counter a 1031 > short_counter
-counter b 1033 > long_counter
+head='hazard-tables 1\ntreatment first\nclasses 1\nclass x\nautomata %s\n'
+{ printf "$head" 2; counter a 1031; counter b 1033; echo end; } > counters
+{ printf "$head" 1; counter c 1; echo end; } > always
 same expect 0 same k k
 same expect 0 same k turned
 same expect 0 same turned k
@@ -612,7 +613,8 @@ same expect 2 'fault cut line 12 Truncated' cut header
 same expect 2 'fault other_row line 9 OutOfRange' asked other_row
 same expect 2 'fault d line 1 BadHeader' k d
 same expect 2 'fault longest_tables line 1 Truncated' longest_tables k
-same expect 3 'limit pairs' short_counter long_counter
+same expect 3 'limit pairs' counters always
+same expect 3 'limit pairs' always counters
 same expect 3 'limit long_tables bytes' long_tables header
 same expect 3 'limit long_tables bytes' header long_tables
 same expect 6 'file missing could not be read' missing header

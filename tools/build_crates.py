@@ -177,6 +177,8 @@ def why(log, status):
     say(*text.splitlines()[-20:])
     if "No space left on device" in text:
         return "no space left on the disk of bin, or of what is temporary"
+    if re.search("address space|[Oo]ut of memory|bad_alloc|MemoryError", text):
+        return "there is too little memory; a crate takes up to 4 GB"
     if status in KILLED:
         return "it was killed, most likely for want of memory; a crate takes up to 4 GB"
     return f"rt ended with status {status}; {log} has what it says"
@@ -320,13 +322,14 @@ class Build:
         self.copy_texts(copy, self.wanted)
         os.makedirs(f"{copy}/.git")
         with open(log, "wb") as file:
-            jobs = {**os.environ, "RT_JOBS": str(self.beside)}
+            jobs, proved = {**os.environ, "RT_JOBS": str(self.beside)}, 0
             ran = self.begin("gate", ["rt", "ci"], cwd=copy, stdout=subprocess.PIPE, stderr=subprocess.STDOUT, env=jobs)
             for line in ran.stdout:
                 file.write(line)
                 file.flush()
-                if re.fullmatch(rb"hz\w* proved\s*", line):
-                    say(f"hz: {line.decode().strip()} after {(time.monotonic() - began) / 60:.1f} minutes")
+                if ended := re.fullmatch(rb"rt: (hz\w*) (?:proved|is kept: .*)\s*", line):
+                    proved += 1
+                    say(f"hz: {ended[1].decode()} proved after {(time.monotonic() - began) / 60:.1f} minutes, {proved} of {len(self.wanted)}")
         ran.wait()
         self.running.clear()
         if ran.returncode:

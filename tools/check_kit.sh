@@ -1,5 +1,6 @@
 #!/bin/sh
-# check_kit.sh: looks for the Rattle kit. Without one, or with one that is too old, a line says what is missing, and the status is 2.
+# check_kit.sh: looks for the Rattle kit. Without one, or with one that is too old, or without Python, a line says what is missing, and the
+# status is 2.
 oldest=rattle-kit-13b
 
 missing() {
@@ -7,6 +8,7 @@ missing() {
     exit 2
 }
 
+command -v python3 > /dev/null || missing "python3 is not on the path: the Rattle kit needs it"
 command -v rt > /dev/null || missing "rt is not on the path: the Rattle kit is needed, $oldest or later"
 kit=$(rt version 2>&1 | head -n 1)
 name=${kit%% *}

@@ -1,5 +1,5 @@
 #!/usr/bin/env python3
-"""Runs hz and hz_why at the ends of sizes, where want of memory is free and a body could give up: once within each limit, and once past it where that
+"""Runs hz, hz_why and hz_same at the ends of sizes, where want of memory is free and a body could give up: once within each limit, and once past it where that
 is cheap. Statuses and whole texts are compared with what tools/large makes of the rules by itself."""
 import argparse
 import copy
@@ -17,7 +17,7 @@ from large.machines import Calendar, Kind, Machine, lengthened, many_classes, on
     subsets, two_ports
 
 TRACE, TABLES, TEXT = 67_108_864, 536_870_912, 4_194_304
-INSNS, BODY, CLASSES, TURNS = 4096, 256, 1024, 1_000_000
+INSNS, BODY, CLASSES, TURNS, STATES = 4096, 256, 1024, 1_000_000, 65_536
 SEED = 2**31 - 1
 
 
@@ -56,9 +56,8 @@ def difference(stream, pieces):
 
 
 def run(programs, folder, words, status, pieces):
-    """What is wrong with the answer of hz, or of hz_why if it is the first word, or none."""
-    hz, hz_why = programs
-    command = [hz_why, *words[1:]] if words[0] == "hz_why" else [hz, *words]
+    """What is wrong with the answer of hz, or of another program if that is the first word, or none."""
+    command = [programs[words[0]], *words[1:]] if words[0] in programs else [programs["hz"], *words]
     with subprocess.Popen(command, cwd=folder.path, stdout=subprocess.PIPE, stderr=subprocess.STDOUT) as done:
         place = difference(done.stdout, pieces)
         while done.stdout.read(2**20):
@@ -373,7 +372,25 @@ def why_sizes(folder):
     yield from why_rows(folder, "30,000 set statements", explained.statements(30_000), ["issue first", "issue second"])
 
 
-GROUPS = (traces, large_tables, longest_tables, full_blocks, large_states, all_classes, past_classes, why_traces, why_sizes)
+# ---- hz_same
+
+def counter(states, last):
+    """The tables of an automaton that counts cycles, in which the last state alone takes the class, or none does."""
+    head = f"hazard-tables 1\ntreatment first\nclasses 1\nclass x\nautomata 1\nautomaton - 1 {states}\nmap 0\n"
+    return itertools.chain([head], (f"row - {state}\n" for state in range(1, states)), [f"row {last} 0\nend\n"])
+
+
+def same_sizes(folder):
+    """Machines of as many states as may be, which are the same, or differ in the last."""
+    folder.write("first.tables", counter(STATES, "0"))
+    folder.write("again.tables", counter(STATES, "0"))
+    folder.write("second.tables", counter(STATES, "-"))
+    yield f"hz_same: {STATES:,} states", ("hz_same", "first.tables", "again.tables"), 0, ["same\n"]
+    text = f"advance {STATES - 1}\nissue x\n; refused by second.tables, accepted by first.tables\n"
+    yield f"hz_same: {STATES:,} states, of which the last differs", ("hz_same", "first.tables", "second.tables"), 1, [text]
+
+
+GROUPS = (traces, large_tables, longest_tables, full_blocks, large_states, all_classes, past_classes, why_traces, why_sizes, same_sizes)
 
 
 def main():
@@ -381,9 +398,11 @@ def main():
     parser = argparse.ArgumentParser(description=__doc__)
     parser.add_argument("hz", help="the program")
     parser.add_argument("hz_why", help="the program that explains")
+    parser.add_argument("hz_same", help="the program that compares")
     parser.add_argument("groups", nargs="*", choices=[[], *(group.__name__ for group in GROUPS)], help="only rows of these")
     parser.add_argument("--only", default="", help="only rows that are shown with this text")
     given = parser.parse_args()
+    programs = {name: os.path.abspath(getattr(given, name)) for name in ("hz", "hz_why", "hz_same")}
     wrong = count = 0
     for group in GROUPS:
         if given.groups and group.__name__ not in given.groups:
@@ -394,7 +413,7 @@ def main():
                 if given.only not in shown:
                     continue
                 begun = time.monotonic()
-                found = run([os.path.abspath(given.hz), os.path.abspath(given.hz_why)], folder, words, status, pieces)
+                found = run(programs, folder, words, status, pieces)
                 print(f"{shown}: {found or 'as wanted'}, {time.monotonic() - begun:.1f} s", flush=True)
                 wrong, count = wrong + bool(found), count + 1
     print(f"{count} rows, {wrong} wrong")

@@ -1,7 +1,7 @@
 #!/usr/bin/env python3
 """Runs hz at each number of the table 'Limits' of docs/RULES.md and one past it, and compares statuses and whole texts. The list of
 tools/limits has each number of the table and no other, and each number is that of the definition beside it. Each public call that can want
-memory is listed with the largest input that a run gives it. With both programs these runs are made too, and docs/LIMITS.md shows both lists."""
+memory is listed with the largest input that a run gives it. With both programs these runs are made too. docs/LIMITS.md shows the ends."""
 import argparse
 import os
 import subprocess
@@ -9,7 +9,7 @@ import sys
 import tempfile
 import time
 
-from limits.calls import call_faults, listed_calls
+from limits.calls import call_faults
 from limits.ends import ends
 from limits.largest import Front, largest
 from limits.page import PAGE, Wrong, limits_of, value_of, values_of
@@ -17,13 +17,15 @@ from limits.page import PAGE, Wrong, limits_of, value_of, values_of
 LIMITS = "docs/LIMITS.md"
 INTRODUCTION = """# Limits, from both sides
 
-`python3 tools/check_limits.py --page` makes this page. Do not edit it; the gate compares it, and runs the first table.
+`python3 tools/check_limits.py --page` makes this page. The gate compares it, and makes the runs.
 
-At each number of [RULES](RULES.md), 'Limits', hz is run once at the number and once past it. Statuses and whole texts are those that
-`tools/limits` makes of the rules by itself. A run shows its words, its status, and the last line of its answer. The number is the nearest
-that there can be: one more, but for the entries of a table, which are 4,194,305 of 10,565 states with 397 entries each."""
-CALLS = """Want of memory is free in every clause, so a body that gives up where an input is large meets them all. These are the largest inputs that
-runs give to each public call that can want memory: a run of `tools/limits`, or a file of rows. `make check-limits` makes all runs."""
+At each number of [RULES](RULES.md), 'Limits', hz runs once at the number and once past it. `tools/limits` makes the wanted statuses and
+texts from the rules by itself. A run shows its words, its status, and the last line of its answer. Past a number is one more; only the
+entries of a table are 4,194,305, of 10,565 states with 397 entries each. `A`: `accepted 0 issues 0 cycles`. `usage`: the usage line."""
+CALLS = """Every contract allows an answer for want of memory, as status 5. So a body that gives up on large inputs meets its contract; only runs show
+that none does. [calls.txt](../tools/limits/calls.txt) lists each public call that can want memory, with the largest input that a run gives
+it, the limit of that input, and the run: one of `tools/limits`, or a file of rows. `make check-limits` makes all of them."""
+ACCEPTED = "accepted 0 issues 0 cycles"
 TOP = os.path.dirname(os.path.dirname(os.path.abspath(__file__)))
 
 
@@ -88,23 +90,28 @@ def run_all(programs, runs, shown):
     return count, wrong
 
 
+def table(head, rows):
+    """A table of Markdown. A first cell as in the row before is left out."""
+    lines, before = ["|" + "|".join(head) + "|", "|" + "---|" * len(head)], None
+    for row in rows:
+        first = "" if row[0] == before else row[0]
+        lines.append("|" + "|".join((first,) + row[1:]) + "|")
+        before = row[0]
+    return lines
+
+
 def made_page(found):
-    """The page of both lists."""
-    lines = [INTRODUCTION, "", "## Ends", "", "| what | end | at it | past it |", "|---|---|---|---|"]
-    for end in found:
-        lines.append(f"| {end.what} | {end.end} | {shown(end.at)} | {shown(end.past)} |")
-    lines += ["", "## Calls that can want memory", "", CALLS, "", "| call | largest input | its limit | run |", "|---|---|---|---|"]
-    for call in listed_calls(TOP):
-        run = call.run if ".rows:" not in call.run else "rows of " + call.run.split(":")[0].removeprefix("crates/")
-        lines.append(f"| `{call.crate}::{call.name}` | {call.input} | {call.limit} | {run} |")
-    return "\n".join(lines) + "\n"
+    """The page of the ends."""
+    lines = [INTRODUCTION, "", "## Ends", ""]
+    lines += table(("what", "end", "at it", "past it"), [(end.what, end.end, shown(end.at), shown(end.past)) for end in found])
+    return "\n".join(lines + ["", "## Calls that can want memory", "", CALLS]) + "\n"
 
 
 def shown(run):
     """A run in a cell: its words, its status, and the last line of the answer."""
     last = (run.text.rstrip("\n").split("\n")[-1])
-    last = "the usage line" if last.startswith("usage") else f"`{last}`" if last else "no text"
-    return f"`{run.words}`: {run.status}, {last}"
+    last = "usage" if last.startswith("usage") else "A" if last == ACCEPTED else f"`{last}`" if last else "no text"
+    return f"`{run.words}` {run.status} {last}"
 
 
 def runs_of(found, programs):

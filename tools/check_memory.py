@@ -1,5 +1,5 @@
 #!/usr/bin/env python3
-"""Refuses memory to hz, one request at a time, from the first to the last, on each command, and to hz_why. Each run must end in one of three
+"""Refuses memory to hz, one request at a time, from the first to the last, on each command, and to hz_why and hz_same. Each run must end in one of three
 ways: with status 5 and the line `memory`, with status 5 and nothing while the words are still got, or with the command's own status and
 text. The first two must occur.
 
@@ -78,8 +78,28 @@ def answer(name):
     return int(status), text
 
 
-# in the place of a command: the program that has none
-WHY = "hz_why"
+# in the place of a command: the programs that have none
+WHY, SAME = "hz_why", "hz_same"
+
+# the tables of two ports, of which an ask differs, and in two automata, one of which differs
+SECOND_ASK = TABLES.replace("row - - 2 2 0", "row - - 2 - 0")
+TWO_PARTS = """\
+hazard-tables 1
+treatment first
+classes 2
+class x
+class y
+automata 2
+automaton a 2 2
+map 0 1
+row 1 0 0
+row - 0 0
+automaton b 2 2
+map 0 1
+row 0 1 0
+row 1 - 0
+end
+"""
 
 # what is shown, the command, the texts of its files, the status and the text, and the words after the files
 ROWS = (
@@ -176,6 +196,20 @@ ROWS = (
         (example("refusals/machine.md"), example("refusals/accepted.trace")),
         *answer("refusals/accepted.why"),
     ),
+    (
+        "an ask on which two machines differ",
+        SAME,
+        (TABLES, SECOND_ASK),
+        1,
+        "issue x\nissue x\nask b\n; reserved in file0, free in file1\n",
+    ),
+    (
+        "an automaton that two machines have in other states",
+        SAME,
+        (TWO_PARTS, TWO_PARTS.replace("automaton b 2 2", "automaton b 2 3").replace("row 1 - 0", "row 2 - 0\nrow 1 - 0")),
+        0,
+        "same\n",
+    ),
 )
 
 MEMORY = (5, b"memory\n", b"")
@@ -185,16 +219,16 @@ NO_WORDS = (5, b"", b"")
 class Refuser:
     """Runs a program with one request for memory refused."""
 
-    def __init__(self, hz, hz_why, library, folder):
+    def __init__(self, hz, others, library, folder):
         self.hz = hz
-        self.hz_why = hz_why
+        self.others = others
         self.library = library
         self.report = os.path.join(folder, "report")
         self.folder = folder
 
     def start_of(self, command):
         """The program of a command, and the words before those of its files."""
-        return [self.hz_why] if command == WHY else [self.hz, command]
+        return [self.others[command]] if command in self.others else [self.hz, command]
 
     def run(self, words, number):
         """How a program ends if the request of this number is refused, how many it made, and whether one was refused."""
@@ -260,12 +294,14 @@ def main():
     parser.add_argument("--most", type=int, default=sys.maxsize, help="leave out what makes more requests")
     parser.add_argument("hz", help="the program")
     parser.add_argument("hz_why", help="the program that explains")
+    parser.add_argument("hz_same", help="the program that compares")
     given = parser.parse_args()
     source = os.path.join(os.path.dirname(os.path.abspath(__file__)), "refuse_memory.c")
     with tempfile.TemporaryDirectory() as folder:
         library = os.path.join(folder, "refuse_memory.so")
         subprocess.run(["cc", "-O2", "-shared", "-fPIC", "-o", library, source], check=True)
-        refuser = Refuser(os.path.abspath(given.hz), os.path.abspath(given.hz_why), library, folder)
+        others = {WHY: os.path.abspath(given.hz_why), SAME: os.path.abspath(given.hz_same)}
+        refuser = Refuser(os.path.abspath(given.hz), others, library, folder)
         # all rows are shown, also after one that is wrong
         good = [check(refuser, row, given.most) for row in ROWS]
     return 0 if all(good) else 1

@@ -16,14 +16,14 @@ from extraction.changes import of_kind
 from extraction.expressions import Expander, tree_of
 from extraction.items import Automata, Class, Reservation, Units, UnitSet
 
-LINE_COLUMNS = 120
+LINE_COLUMNS = 80
 NAME_COLUMNS = 32
 MOST_STATES = 4096
 
 Statement = collections.namedtuple("Statement", "head line units patterns")
 Holder = collections.namedtuple("Holder", "line name")
-# what `replay` answers, how many of the events are accepted, and by which choices
-Played = collections.namedtuple("Played", "status text place choices")
+# what `replay` answers, how many of the events are accepted, what all choices leave of them, and which are the first
+Played = collections.namedtuple("Played", "status text place states choices")
 
 
 class Machine:
@@ -118,7 +118,7 @@ class Play:
         asked = []
         if played.status == 1:
             name = events[played.place][2]
-            told += self.refusal(held, now, name)
+            told += wait_line(self.wait(played.states, now, name)) + self.refusal(held, now, name)
             asked = [pair for pairs in self.machine.classes[name] for pair in pairs]
         return played.status, played.text, told + picture(self.machine.units, after(held, now), asked)
 
@@ -134,12 +134,12 @@ class Play:
             else:
                 longer = first_lists(self.issued(lists, what, now))
                 if not longer:
-                    return Played(1, f"{told}refused line {line} {what}\n", place, next(iter(lists.values())))
+                    return Played(1, f"{told}refused line {line} {what}\n", place, list(lists), next(iter(lists.values())))
                 if len(longer) > MOST_STATES:
                     return None
                 lists = longer
         issues = sum(word == "issue" for _, word, _ in events)
-        return Played(0, f"{told}accepted {issues} issues {now} cycles\n", len(events), next(iter(lists.values())))
+        return Played(0, f"{told}accepted {issues} issues {now} cycles\n", len(events), list(lists), next(iter(lists.values())))
 
     def issued(self, lists, name, now):
         """What an issue leaves of each state, with the choices behind those before."""
@@ -158,24 +158,25 @@ class Play:
         return held, now
 
     def refusal(self, held, now, name):
-        """When the class fits, and what forbids each of its alternatives."""
-        told = wait_line(self.wait(held, now, name))
+        """What forbids each alternative of the class."""
+        told = ""
         for number in range(len(self.machine.classes[name])):
             (cycle, unit), broken = self.machine.reason(held.keys(), self.machine.added(name, number, now))
             told += f"alternative {number + 1}: "
             at = f"{unit} in cycle {cycle - now}"
             if broken is None:
-                told += f"{at} is held since line {held[cycle, unit].line}, {held[cycle, unit].name}\n"
+                told += f"{at} {'is held from' if cycle == now else 'is planned by'} line {held[cycle, unit].line}, {held[cycle, unit].name}\n"
             else:
                 statement, pattern = broken
                 behind = f"with {' '.join(pattern)}" if pattern else "without a pattern"
                 told += f"{statement.head} line {statement.line}, {at} {behind}\n"
         return told
 
-    def wait(self, held, now, name):
-        """The least number of cycles after which the class fits, or None. Behind the last pair nothing stands reserved."""
-        last = max((cycle for cycle, _ in held), default=now)
-        return next((later - now for later in range(now, max(now, last) + 2) if self.machine.fitting(held.keys(), name, later)), None)
+    def wait(self, states, now, name):
+        """The least number of cycles after which the class fits in any state, or None. Behind the last pair nothing stands reserved."""
+        last = max((cycle for held in states for cycle, _ in held), default=now)
+        return next((later - now for later in range(now, max(now, last) + 2)
+                     if any(self.machine.fitting(held, name, later) for held in states)), None)
 
 
 def first_lists(states):
@@ -188,7 +189,7 @@ def first_lists(states):
 
 def wait_line(wait):
     if wait is None:
-        return "never fits\n"
+        return "fits in no later cycle\n"
     return "fits 1 cycle later\n" if wait == 1 else f"fits {wait} cycles later\n"
 
 
@@ -257,15 +258,23 @@ CHOICE = """\
 (define_insn_reservation "y" 1 (const_int 1) "a")
 """
 
-# a description, a trace and what is told: the texts that the prover computes in crates/hz_why_model/src/examples.rt
+EITHER = """\
+(define_cpu_unit "a,b,c")
+(automata_option "ndfa")
+(presence_set "c" "a")
+(define_insn_reservation "x" 1 (const_int 1) "nothing,(b|a)")
+(define_insn_reservation "y" 1 (const_int 1) "c")
+"""
+
+# a description, a trace and what is told: but for `EITHER` the texts that the prover computes in crates/hz_why_model/src/examples.rt
 WORKED = (
     (SUPERSCALAR, "\nissue simple\n\n\nissue simple\nissue simple\n", """\
 refused line 6 simple
 fits 1 cycle later
-alternative 1: i0_pipeline in cycle 0 is held since line 2, simple
-alternative 2: i0_pipeline in cycle 0 is held since line 2, simple
-alternative 3: i1_pipeline in cycle 0 is held since line 5, simple
-alternative 4: i1_pipeline in cycle 0 is held since line 5, simple
+alternative 1: i0_pipeline in cycle 0 is held from line 2, simple
+alternative 2: i0_pipeline in cycle 0 is held from line 2, simple
+alternative 3: i1_pipeline in cycle 0 is held from line 5, simple
+alternative 4: i1_pipeline in cycle 0 is held from line 5, simple
 cycle         0 1
 i0_pipeline   2 .
 i1_pipeline   5 .
@@ -288,7 +297,7 @@ slot1   1
 """),
     (slots('(presence_set "slot1" "slot0")', ("x", "slot0 + slot1")), "issue x\n", """\
 refused line 1 x
-never fits
+fits in no later cycle
 alternative 1: presence_set line 9, slot1 in cycle 0 without a pattern
 cycle   0
 slot0   .
@@ -304,11 +313,21 @@ e       . .
 f1      . 3
 f2      . .
 """),
+    # the first of the choices takes b; by the other y fits a cycle later, and by the first in no cycle
+    (EITHER, "issue x\nissue y\n", """\
+refused line 2 y
+by one of the choices
+fits 1 cycle later
+alternative 1: presence_set line 3, c in cycle 0 without a pattern
+cycle   0 1
+b       . 1
+c       . .
+"""),
     (CHOICE, "issue x\nissue x\nissue y\n", """\
 refused line 3 y
 by one of the choices
 fits 1 cycle later
-alternative 1: a in cycle 0 is held since line 1, x
+alternative 1: a in cycle 0 is held from line 1, x
 cycle   0
 a       1
 b       2
@@ -364,13 +383,14 @@ class WhyMaker(Maker):
 
 # what the texts must have shown, each at least once
 KINDS = {
-    "held pairs": r": \S+ in cycle \d+ is held since line \d+, ",
+    "held pairs": r": \S+ in cycle 0 is held from line \d+, ",
+    "planned pairs": r": \S+ in cycle [1-9]\d* is planned by line \d+, ",
     "exclusions": r": exclusion_set line .* with ",
     "presences": r": presence_set line .* without a pattern",
     "final presences": r": final_presence_set line .* without a pattern",
     "absences": r": absence_set line .* with ",
     "final absences": r": final_absence_set line .* with ",
-    "issues that never fit": r"never fits",
+    "issues that fit in no cycle": r"fits in no later cycle",
     "one of the choices": r"by one of the choices",
     "pictures": r"cycle +0",
     "pictures that are cut": r"cut after cycle",

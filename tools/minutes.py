@@ -89,18 +89,23 @@ def table(paths):
     for path in paths:
         for key, seconds in sums(path).items():
             most[key] = max(most[key], seconds)
-    print("| crate | lines of src, specs and proofs | edits | minutes of its proof | of a program | of its edits, with the check before them |")
+    print("|crate|lines|edits|proof|program|checks of edits|")
     print("|---|---|---|---|---|---|")
-    whole = [0, 0, 0.0, 0.0, 0.0]
+    whole, small, count = [0, 0, 0.0, 0.0, 0.0], [0, 0, 0.0, 0.0, 0.0], 0
     for crate in crates():
         row = [lines_of(crate), edits_of(crate)] + [most[crate, column] / 60 for column in range(3)]
         whole = [a + b for a, b in zip(whole, row)]
-        print(told(f"`{crate}`", row))
-    print(told("all", whole))
+        if sum(row[2:]) < 1:
+            small, count = [a + b for a, b in zip(small, row)], count + 1
+        else:
+            print(row_of(f"`{crate}`", row))
+    print(row_of(f"{count} others, each below one", small))
+    print(row_of("all", whole))
 
 
-def told(name, row):
-    return f"| {name} | {row[0]:,} | {row[1]} | " + " | ".join(f"{one:.1f}" if one >= 0.05 else "" for one in row[2:]) + " |"
+def row_of(name, row):
+    """A row of the table."""
+    return f"|{name}|{row[0]:,}|{row[1] or ''}|" + "|".join(f"{one:.1f}" if one >= 0.05 else "" for one in row[2:]) + "|"
 
 
 if len(sys.argv) == 3 and sys.argv[1] == "sample":

@@ -208,6 +208,10 @@ done
 cut parity-cut --split=all parity.md
 cut stays-cut --split parity.md
 compares same parity stays-cut cut
+# all groups apart and all together have more states than two of three together
+python3 "$tools/extract.py" -o between.md between-port.md 2> reported || wrong "between: status $?"
+cut between-cut --split between-port.md
+compares same between between-cut cut
 # of more than 16 automata the cuts that cost least are not made
 python3 -c 'print("(define_automaton \"m,n\")\n" + "".join(f"(define_cpu_unit \"u{at}\" \"{chr(109 + at % 2)}\")\n" + f"(define_insn_reservation "
     f"\"x{at}\" 1 (const_int 1) \"u{at}*{2 + at % 2}\")\n" for at in range(20)))' > many.md
@@ -227,6 +231,9 @@ sh "$tools/test/sheet.sh" "$hz" || bad=1
 # what a built GCC walks, and descriptions as genautomata reads them
 sh "$tools/test/built.sh" "$hz" || bad=1
 sh "$tools/test/as_gcc.sh" "$hz" || bad=1
+
+# the search for sets of groups
+python3 test_grouping.py "$tools" || bad=1
 
 # the search beside which hz_same is looked at
 python3 test_same.py "$tools" || bad=1

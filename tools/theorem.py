@@ -1,18 +1,20 @@
 #!/usr/bin/env python3
 """Writes docs/THEOREM.md: the clauses of both calls `run` in plain words, and under each the definitions that a reader must believe.
 
-It reads the sources alone, and proves nothing. A name that it cannot follow ends it with status 2, and so does a clause
-of `run` without a sentence here, or a sentence without its clause."""
+It reads the sources, and of RULES.md and GUARANTEES.md which laws they name. It proves nothing. A name that it cannot follow ends it with
+status 2, and so does a clause of `run` without a sentence here, or a sentence without its clause."""
 import argparse
 import collections
 import os
+import re
 import sys
 
 from contracts.naming import case_citations, citations, function_clauses, laws_of, reach
-from contracts.screen import command_section, first_screen
+from contracts.screen import command_lists, first_screen, names_in_code, names_of, place_in
 from contracts.sources import Definition, Library, TOP, Unreadable
 
 PAGE = "docs/THEOREM.md"
+PAGES_OF_LAWS = ("docs/RULES.md", "docs/GUARANTEES.md")
 RUN = ("crates/hz_tool/src/top.rt", "run")
 WHY = ("crates/hz_explain/src/top.rt", "run")
 ANSWERS = "Rattle.hz_answer_model.specs.Answers"
@@ -47,25 +49,10 @@ ENSURED = {
     "cut": "With status 7 only the front of a text is written, and the whole text is longer than the room for it. The text is an answer by"
            " the rules, the line `memory`, or after a failed read the line of a file.",
     "neither": "The status is at most 5 if only the opening of a name that is not there can fail, each file that the words name is there, and"
-               " the sink has room for each answer and for the line `memory`. So such files and such a sink never fail.",
-    "promised": "With status 0 what is written keeps what is promised of the command (`Promised`, by its cases)."
-                " `compile` writes tables of the machine that the description means. `walk` on them answers every trace as `replay` does on"
-                " the description, with the same status and text, if they are within their limit of bytes."
-                " `schedule` writes a schedule that keeps its block: each instruction once, no sooner than latencies and bypasses allow;"
-                " `replay` accepts it, and from every state it leaves what the order of the source leaves."
-                " `drill` reports a trace that is drawn by what the description accepts; the description accepts it, and so does `replay`, and"
-                " its states are those that it leaves in the tables that `compile` writes."
-                " `timed` writes what a schedule that keeps the block reads of a state on a pipeline without interlocks, and the state that it"
-                " leaves there, which is what `eval` answers for the block and the state."
-                " `bound` reports a cycle before which no legal schedule of the block ends, with what shows it, beside the last cycle of a"
-                " schedule that keeps the block."
-                " `duo` writes a schedule of two blocks in one pipeline, which `replay` accepts: each instruction of each block once, no sooner"
-                " than the latencies and bypasses of its block allow; from every pair of states it leaves each context what its block leaves in"
-                " the order of the source."
-                " `modulo` writes the kernel of a loop: the least interval at which the body's schedule repeats. Every number of turns at this"
-                " interval is a legal schedule of so many copies of the body, which `replay` accepts; from every state it leaves what the body"
-                " leaves, so many times in the order of its source."
-                " Of `replay`, `walk` and `eval` nothing more is promised than the answer.",
+               " the sink has room for each answer and for the line `memory`. So these files and this sink never fail.",
+    "promised": "With status 0 what is written keeps what is promised of the command (`Promised`, by its cases). [GUARANTEES.md](GUARANTEES.md),"
+                " 'What status 0 also promises', has each case in plain words. Of `replay`, `walk` and `eval` nothing more is promised than the"
+                " answer.",
 }
 
 # The clauses of `run` of `hz_why` that say something else than those of `hz` of the same name, and the one that `hz` has not.
@@ -88,15 +75,16 @@ INTRODUCTION = """## How to read this page
 
 `python3 tools/theorem.py` makes this page from the sources, and the gate compares it. Do not edit it.
 
-The program `hz` calls one function, `run`, and so does `hz_why`, another of the same name. Its contract is all that is promised of the
-program. The toolchain checks that the code keeps the contract, so nobody needs to read code or proofs. A reader judges whether the contract says the right thing. For that one reads:
+`hz` calls one function, `run`; `hz_why` calls another of that name. Its contract is all that is promised of the program. The toolchain
+checks that the code keeps the contract, so nobody needs to read code or proofs. You judge whether the contract says the right thing:
 
-1. the clauses of `run`: each is below under its name, in plain words and then as the source has it, those of `hz` before those of `hz_why`;
-2. the definitions that a clause names, those that these name, and so on. Each is listed once, under the first clause that needs it.
+1. read the clauses of `run`, each in plain words and as the source has it;
+2. read the definitions that a clause names, those that these name, and so on. Each is listed once, under the first clause that needs it.
 
-Read the lists from top to bottom: what is used comes before what uses it. Hold each definition against [RULES.md](RULES.md) and
-[FORMATS.md](FORMATS.md); [GLOSSARY.md](GLOSSARY.md) has the words. A file is in `specs` or `src` of its crate.
-`name 10-12` means lines 10 to 12 of the file, `all 6` all six definitions in it. Comments and empty lines are not counted."""
+Read a list from left to right: what is used comes before what uses it. Hold each definition against [RULES.md](RULES.md) and
+[FORMATS.md](FORMATS.md); [GLOSSARY.md](GLOSSARY.md) has the words. A list has files by their crates, in `specs` or `src`. If a file has no
+names, all its definitions are needed but those that another list or the section 'Definitions that no clause reaches' names. Lines are
+counted without comments and empty lines. A clause without a list needs only definitions that are listed above it."""
 
 SIGNS = """## The words of a clause
 
@@ -155,6 +143,7 @@ class Theorem:
         self.models = [crate for crate in self.library.crates if crate.endswith(("_model", "_laws"))]
         self.laws = laws_of(self.library, self.models)
         self.order = self.order_of_files()
+        self.reached = {name: reach(self.library, roots_of(self.library, name))[0] for name in COMMANDS}
 
     def order_of_files(self):
         """The files that are reached: crate by crate, and before each file those that it uses."""
@@ -192,7 +181,7 @@ def size(items):
 def in_words(counts):
     """Definitions, lines and files in words."""
     parts = [f"{number:,} {word}{'' if number == 1 else 's'}" for number, word in zip(counts, ("definition", "line", "file"))]
-    return f"{parts[0]} with {parts[1]} in {parts[2]}"
+    return ", ".join(parts)
 
 
 def crate_of(path):
@@ -201,8 +190,8 @@ def crate_of(path):
 
 
 def link(path):
-    """A file by its folder and name inside the `specs` or `src` of its crate."""
-    return f"`{'/'.join(path.split('/')[3:]).rsplit('.', 1)[0]}`"
+    """A file in code."""
+    return f"`{place_in(path)}`"
 
 
 def table(head, rows):
@@ -210,11 +199,9 @@ def table(head, rows):
     return ["| " + " | ".join(head) + " |", "|" + "---|" * len(head)] + ["| " + " | ".join(map(str, row)) + " |" for row in rows]
 
 
-def places_of(items):
-    """Definitions of one file by name and lines, or that it is all of them."""
-    if len(items) == len(getattr(items[0].source, "definitions", ())):
-        return f"all {len(items)}"
-    return ", ".join(f"`{item.name}` {item.place()}" for item in sorted(items, key=lambda item: min(item.numbers())))
+def chosen_of(items):
+    """Nothing for all definitions of a file; else their names."""
+    return "" if len(items) == len(getattr(items[0].source, "definitions", items)) else f" ({names_of(items)})"
 
 
 def by_file(items):
@@ -227,15 +214,11 @@ def by_file(items):
 
 def listed(theorem, items):
     """Definitions by crate and file, in the order of reading."""
-    files, rows = by_file(items), collections.OrderedDict()
+    files, found = by_file(items), collections.OrderedDict()
     for path in theorem.order:
         if path in files:
-            rows.setdefault(crate_of(path), []).append((link(path), size(files[path])[1], places_of(files[path])))
-    lines = []
-    for crate, found in rows.items():
-        subject = theorem.library.subjects[crate]
-        lines += ["", f"`{crate}`: {subject}" if subject else f"`{crate}`", ""] + table(("file", "lines", "definitions"), found)
-    return lines
+            found.setdefault(crate_of(path), []).append(place_in(path) + chosen_of(files[path]))
+    return [""] + [f"- `{crate}`: {', '.join(places)}" for crate, places in found.items()]
 
 
 def roots_of(library, command):
@@ -244,61 +227,65 @@ def roots_of(library, command):
     return library.find(PHASES, "OpensAll") + [found for item in cases for found in case_citations(library, item, command)]
 
 
-def clause_rows(contract, prefix, before):
-    """How much each clause needs, and how much of that is not listed before it."""
-    rows, before = [], set(before)
-    for name, (items, _) in contract.needs.items():
-        rows.append((f"[{name}](#{prefix}{name})",) + size(items) + (len(items - before),))
-        before |= items
-    return rows + [("all clauses",) + size(contract.all) + (len(before),)]
-
-
 def counts_section(theorem):
-    """How much there is to read, in all, by clause and by command."""
-    head = ("clause", "definitions", "lines", "files", "listed there")
-    lines = ["## How much there is", "", "Of `run` of `hz`:", ""] + table(head, clause_rows(theorem.run, "", set()))
-    commands = []
-    for name in COMMANDS:
-        commands.append((f"`{name}`",) + size(reach(theorem.library, roots_of(theorem.library, name))[0]))
-    lines += ["", "Who uses one command alone needs less: what its files and its case of `JudgesOrder` need,"
-              " listed [below](#what-to-read-for-one-command).", ""]
-    lines += table(("command", "definitions", "lines", "files"), commands)
-    only = theorem.why.all - theorem.run.all
-    lines += ["", f"Of `run` of `hz_why`. Not needed for `hz` are {in_words(size(only))}:", ""]
-    return lines + table(head, clause_rows(theorem.why, "hz_why-", theorem.run.all))
+    """How much there is to read, in all and by command."""
+    head = ("command", "definitions", "lines", "files")
+    commands = [(f"`{name}`",) + size(items) for name, items in theorem.reached.items()]
+    commands += [("all of `hz`",) + size(theorem.run.all), ("all of `hz_why`",) + size(theorem.why.all),
+                 ("of these not of `hz`",) + size(theorem.why.all - theorem.run.all)]
+    lines = ["## How much there is", "", "What a command needs by its files and its case of `JudgesOrder`, and all clauses:", ""]
+    return lines + table(head, commands)
+
+
+def said_by(clause):
+    """What a clause says, without its kind and its name."""
+    return clause.text[clause.text.index("{") + 1:clause.text.rindex("}")].strip()
 
 
 def clause_section(theorem, contract, prefix, name, before):
     """A clause, and what it needs beyond what is listed before it."""
     clause, items = contract.promised[name], contract.needs[name][0]
-    lines = ["", f"### {prefix}{name}", "", contract.ensured[name], "", f"Line {clause.line}:", "", "```", clause.text, "```", ""]
-    counts, new = size(items), size(items - before)
+    lines = ["", f"### {prefix}{name}", "", contract.ensured[name], "", "```", said_by(clause), "```", ""]
     if not items:
-        return lines + ["It needs no definition."]
-    if new == counts:
-        return lines + [f"It needs {in_words(counts)}."] + listed(theorem, items)
-    if not new[0]:
-        return lines + [f"It needs {in_words(counts)}, all of them listed above."]
-    return lines + [f"It needs {in_words(counts)}. {new[0]} with {new[1]} lines are not listed above:"] + listed(theorem, items - before)
+        return lines + [f"Line {clause.line}; no definition."]
+    needs = f"Line {clause.line}; {in_words(size(items))}"
+    if not before:
+        lists = command_lists(theorem.order, theorem.reached, items, by_file)
+        return lines + [f"{needs}, by the commands whose files or case of `JudgesOrder` need them:", ""] + lists
+    if not items - before:
+        return lines + [needs + "."]
+    return lines + [f"{needs}. Not listed above:"] + listed(theorem, items - before)
 
 
-def contract_section(theorem, contract, program, prefix, before):
-    """All clauses of the `run` of a program."""
-    lines = [f"## What `run` of `{program}` asks", ""]
-    for name, sentence in REQUIRED.items():
-        lines.append(f"- `{name}`, line {contract.asked[name].line}: {sentence} `{contract.asked[name].text}`")
-    path = contract.place[0]
-    lines += ["", f"## What `run` of `{program}` promises", "", f"The clauses are in {link(path)} of `{crate_of(path)}`."]
-    before = set(before)
+def repeated_clauses(contract, earlier):
+    """The clauses with the sentence and the text of one of an earlier contract, but for the name of answers."""
+    there = earlier.promised if earlier else {}
+    return [name for name in contract.ensured if name in there and contract.ensured[name] == earlier.ensured[name]
+            and contract.promised[name].text.replace("WhyAnswer", "Answer") == there[name].text]
+
+
+def contract_section(theorem, contract, program, before, earlier=None):
+    """All clauses of the `run` of a program. Those that repeat one of an earlier contract come last, by name."""
+    path, prefix = contract.place[0], f"{program} " if earlier else ""
+    lines = [f"## What `run` of `{program}` promises", "", f"The clauses are in {link(path)} of `{crate_of(path)}`. It asks of its caller:", ""]
+    lines += [f"- `{name}`, line {contract.asked[name].line}: {sentence} `{said_by(contract.asked[name])}`" for name, sentence in REQUIRED.items()]
+    before, repeated = set(before), repeated_clauses(contract, earlier)
     for name in contract.ensured:
-        lines += clause_section(theorem, contract, prefix, name, before)
-        before |= contract.needs[name][0]
+        if name not in repeated:
+            lines += clause_section(theorem, contract, prefix, name, before)
+            before |= contract.needs[name][0]
+    if repeated:
+        if set().union(*(contract.needs[name][0] for name in repeated)) - before:
+            raise Unreadable(f"{path}: a clause that is as one of another `run` needs a definition that is not listed")
+        lines += ["", "The others say what those of `hz` say, with `WhyAnswer` in place of `Answer`. They need only what is listed above:", ""]
+        lines += table(("clause", "line", "definitions", "lines", "files"),
+                       [(f"[{name}](#{name})", contract.promised[name].line) + size(contract.needs[name][0]) for name in repeated])
     return lines
 
 
 def clauses_section(theorem):
     """All clauses of both calls `run`."""
-    return contract_section(theorem, theorem.run, "hz", "", set()) + [""] + contract_section(theorem, theorem.why, "hz_why", "hz_why ", theorem.run.all)
+    return contract_section(theorem, theorem.run, "hz", set()) + [""] + contract_section(theorem, theorem.why, "hz_why", theorem.run.all, theorem.run)
 
 
 def words_section(theorem):
@@ -308,47 +295,55 @@ def words_section(theorem):
     for word in set().union(*(words for _, words in needs)):
         modules[word.module.replace("Rattle.", "", 1).replace(".specs", "", 1)].add(word.name)
     count = sum(len(names) for names in modules.values())
-    lines = ["## Words of the toolchain", ""]
-    lines += [f"The definitions use {count} words of the toolchain's library. They are trusted, and not followed here.", ""]
-    return lines + [f"- `{module}`: " + " ".join(f"`{name}`" for name in sorted(modules[module])) for module in sorted(modules)]
+    lines = ["## Words of the toolchain", "", f"The definitions use {count} words of the toolchain's library. They are trusted.", ""]
+    return lines + [f"- `{module}`: {names_in_code(sorted(modules[module]))}" for module in sorted(modules)]
 
 
 def unreached_section(theorem):
-    """The definitions that no clause reaches: whole files, and single ones."""
+    """The definitions that no clause reaches, in files of which a clause reaches others; and how many there are in other files."""
     files, others = collections.OrderedDict(), []
     for source in theorem.model_files():
         free = [item for item in source.definitions.values() if item not in theorem.all]
         if len(free) == len(source.definitions):
-            files.setdefault(crate_of(source.path), []).append(f"{link(source.path)} {len(free)}")
+            others += free
         elif free:
-            others.append((f"`{crate_of(source.path)}` {link(source.path)}", places_of(free)))
-    lines = ["## Definitions that no clause reaches", "", UNREACHED, "", "Whole files, with how many definitions they have:", ""]
-    lines += [f"- `{crate}`: {', '.join(found)}" for crate, found in files.items()]
-    return lines + ["", "Single ones, in files of which a clause reaches others:", ""] + table(("file", "definitions"), others)
+            files.setdefault(crate_of(source.path), []).append(f"{place_in(source.path)} ({names_of(free)})")
+    lines = ["## Definitions that no clause reaches", "", f"{UNREACHED} In files that no list above has there are"
+             f" {in_words(size(others))}. In the other files:", ""]
+    return lines + [f"- `{crate}`: {', '.join(found)}" for crate, found in files.items()]
+
+
+def named_in_pages():
+    """The words of the pages that name laws by what they are of."""
+    words = set()
+    for page_of_laws in PAGES_OF_LAWS:
+        with open(os.path.join(TOP, page_of_laws), encoding="utf-8") as file:
+            words.update(re.findall(r"\w+", file.read()))
+    return words
 
 
 def laws_section(theorem):
-    """The laws by name."""
-    lines = ["## Laws that say it again in other words", ""]
-    lines.append(f"A law is a proved statement about definitions. The crates of definitions and `hz_laws` have {len(theorem.laws)}; some"
-                 " crates of code have more, on their own pages. Who doubts a definition looks here for what follows from it. Each name has"
-                 " its line.")
-    crate = ""
-    for path in collections.OrderedDict.fromkeys(law.path for law in theorem.laws):
-        if crate_of(path) != crate:
-            crate = crate_of(path)
-            lines += ["", f"`{crate}`", ""]
-        lines.append(f"- {link(path)}: " + ", ".join(f"`{law.name}` {law.line}" for law in theorem.laws if law.path == path))
-    return lines
+    """The laws that no other page names, by name."""
+    lines, elsewhere = ["## Laws that say it again in other words", ""], named_in_pages()
+    files = collections.OrderedDict()
+    for law in theorem.laws:
+        if law.name not in elsewhere:
+            files.setdefault(law.path, []).append(law.name)
+    count = len(theorem.laws) - sum(map(len, files.values()))
+    lines.append(f"A law is a proved statement about definitions. The crates of definitions and of laws have {len(theorem.laws)}, in `src`; some"
+                 " crates of code have more, on their own pages. If you doubt a definition, look here for what follows from it."
+                 f" [RULES.md](RULES.md) and [GUARANTEES.md](GUARANTEES.md) name {count} of them by what they are of. The others:")
+    crates = collections.OrderedDict()
+    for path, names in files.items():
+        crates.setdefault(crate_of(path), []).append(f"{place_in(path)} {names_in_code(names)}")
+    return lines + [""] + [f"- `{crate}`: {', '.join(found)}" for crate, found in crates.items()]
 
 
 def page():
     """The whole page."""
     theorem = Theorem()
-    reached = {name: reach(theorem.library, roots_of(theorem.library, name))[0] for name in COMMANDS}
-    commands = command_section(theorem.order, reached, theorem.all, by_file)
-    sections = [[first_screen(theorem.library, table)], [INTRODUCTION], counts_section(theorem), [SIGNS], clauses_section(theorem), [commands], words_section(theorem),
-                unreached_section(theorem), laws_section(theorem)]
+    sections = [[first_screen(theorem.library, table)], [INTRODUCTION], counts_section(theorem), [SIGNS], clauses_section(theorem),
+                words_section(theorem), unreached_section(theorem), laws_section(theorem)]
     return "\n\n".join("\n".join(section) for section in sections) + "\n"
 
 

@@ -1,7 +1,7 @@
 #!/bin/sh
 # Times `hz_same`, by processor time, the least of five runs each, with the most memory. Two texts of an automaton of 65,536 states and 64
-# columns beside what `walk` takes to read both: wanted at most 4 times that. Two counters without a common factor, whose pairs are 1,000,000:
-# wanted under 10 seconds and 500 MB. And texts of eight automata with the same names, which are compared group by group.
+# columns beside what `walk` takes to read both: wanted at most 4 times that. Two counters without a common factor beside one automaton of
+# one state, so that 1,000,000 pairs are searched: wanted under 10 seconds and 500 MB. And texts of eight automata with the same names, which are compared group by group.
 hz=$1
 hz_same=$2
 . "$(dirname "$0")/../common.sh"
@@ -63,9 +63,9 @@ echo "what walk_both_ms same_ms times peak_kB"
 wide a 65536 > "$data/wide_a"
 wide b 65536 > "$data/wide_b"
 compared '65,536 states of 64 columns' "$data/wide_a" "$data/wide_b"
-counters a 997 > "$data/counter_a"
-counters b 1003 > "$data/counter_b"
-compared '999,991 pairs of two parts' "$data/counter_a" "$data/counter_b"
+counters a 997 1003 > "$data/counter_a"
+counters b 1 > "$data/counter_b"
+compared '999,991 pairs of two automata and one' "$data/counter_a" "$data/counter_b"
 counters a 997 991 983 977 971 967 953 947 > "$data/groups_a"
 counters a 997 991 983 977 971 967 953 947 > "$data/groups_b"
 compared 'eight groups by name' "$data/groups_a" "$data/groups_b"

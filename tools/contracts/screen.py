@@ -1,12 +1,12 @@
-"""The first screen of docs/THEOREM.md: the three promises in the words of ten definitions, and what to read for each command."""
+"""The first screen of docs/THEOREM.md, the three promises in the words of ten definitions; and lists of definitions by commands."""
 import os
 
 TITLE = "# What one must read to believe `run`"
 
 # The ten definitions of the first screen: each by its module, its name, and what it says.
 CORE = (
-    ("hz_description_model.specs.Reservations.Meanings", "Alts",
-     "an expression has these alternatives: sets of pairs of a unit and a cycle"),
+    ("hz_description_model.specs.Reservations.Alternatives", "alternatives_of",
+     "an expression has these alternatives in this order, if each name's are known: sets of pairs of a unit and a cycle"),
     ("hz_pipeline_model.specs.Pipelines.Pipelines", "pipeline_with",
      "what a description means to a replay: the alternatives of each class, the set statements, the treatment"),
     ("hz_pipeline_model.specs.Accepting.Replay", "calendar",
@@ -59,19 +59,13 @@ function for all kinds of files and sinks, proved once.
 words: `compiled_machines_are_descriptions`, `automata_choose_by_themselves`, `walk_is_replay`, `legal_schedules_keep_the_block` and those of
 the [last section](#laws-that-say-it-again-in-other-words)."""
 
-ONE_COMMAND = """## What to read for one command
-
-The definitions that the files of a command and its case of `JudgesOrder` need, by crates and files. Read a list from left to right. Of a
-file without names all definitions are read that any clause needs; the lists under the clauses have them, with their lines."""
-
-
 def core_rows(library):
     """The ten definitions with their places."""
     rows = []
     for module, name, says in CORE:
         item = library.find("Rattle." + module, name)[0]
         path = item.source.path
-        rows.append((f"`{name}`", f"[{os.path.basename(path)[:-5]}](../{path}) {item.place()} of `{path.split('/')[1]}`", says))
+        rows.append((f"`{name}`", f"[{os.path.basename(path)[:-5]}](../{path}) {item.place()}", says))
     return rows
 
 
@@ -80,19 +74,53 @@ def first_screen(library, table):
     return "\n".join([TITLE, "", PROMISES, ""] + table(("definition", "place", "says"), core_rows(library)))
 
 
+def place_in(path):
+    """A file by its folder and name inside the `specs` or `src` of its crate."""
+    return "/".join(path.split("/")[3:]).rsplit(".", 1)[0]
+
+
+def names_in_code(names):
+    """Names, separated by spaces."""
+    return "`" + " ".join(names) + "`"
+
+
 def names_of(items):
     """The names of definitions of one file, in the order of their lines."""
-    return ", ".join(f"`{item.name}`" for item in sorted(items, key=lambda item: min(item.numbers())))
+    return names_in_code(item.name for item in sorted(items, key=lambda item: min(item.numbers())))
 
 
-def command_section(order, reached, all_items, by_file):
-    """What to read for each command. `order` has the files from first to last, `reached` the definitions of each command by its name."""
-    whole, lines = by_file(all_items), [ONE_COMMAND]
-    for command, items in reached.items():
-        files, crates = by_file(items), {}
+def users_of(reached, items):
+    """Definitions by the commands that need them, those of most commands first."""
+    groups = {}
+    for item in items:
+        groups.setdefault(tuple(name for name in reached if item in reached[name]), []).append(item)
+    order = list(reached)
+    return dict(sorted(groups.items(), key=lambda group: (-len(group[0]), [order.index(name) for name in group[0]])))
+
+
+def group_title(commands, every):
+    """The commands of a list."""
+    others = [name for name in every if name not in commands]
+    if not commands:
+        return "The clause by itself"
+    if not others:
+        return "All commands"
+    if len(others) < 4:
+        return "All but " + ", ".join(others)
+    return ", ".join(commands)
+
+
+def command_lists(order, reached, items, by_file):
+    """Each definition in one list, by the commands that need it. `order` has the files from first to last, `reached` the definitions of each
+    command by its name."""
+    groups = {commands: by_file(found) for commands, found in users_of(reached, items).items()}
+    most = {path: max(groups, key=lambda commands: len(groups[commands].get(path, ()))) for path in order}
+    lines = []
+    for commands, files in groups.items():
+        crates = {}
         for path in (path for path in order if path in files):
-            names = "" if len(files[path]) == len(whole[path]) else f" ({names_of(files[path])})"
-            crates.setdefault(path.split("/")[1], []).append("/".join(path.split("/")[3:])[:-5] + names)
-        lines += ["", f"### {command}", ""]
-        lines += [f"- `{crate}`: " + "; ".join(found) for crate, found in crates.items()]
-    return "\n".join(lines)
+            names = "" if most[path] == commands else f" ({names_of(files[path])})"
+            crates.setdefault(path.split("/")[1], []).append(place_in(path) + names)
+        lists = "; ".join(f"`{crate}` " + ", ".join(found) for crate, found in crates.items())
+        lines.append(f"- **{group_title(commands, reached)}**: {lists}")
+    return lines

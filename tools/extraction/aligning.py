@@ -5,7 +5,7 @@ moved to earlier cycles by one number: every trace is answered as before. The la
 the crate hz_laws.
 """
 from .changes import Told, of_kind
-from .choices import Choices, Effort, lists_in
+from .choices import Choices, Effort, Splitter, lists_in
 from .expressions import Unexpanded, places
 from .items import Class, Units, UnitSet
 from .merging import Joined
@@ -26,7 +26,7 @@ class Aligned:
         self.groups = Joined(self.automaton)
         for item in of_kind(items, UnitSet):
             self.groups.join(unit for unit in item.named() if unit in self.automaton)
-        self.masks, self.left = self.choices.masks(), dict(self.choices.left)
+        self.splitter, self.left = Splitter(self.choices.masks().values()), dict(self.choices.left)
         self.lists, self.broken, self.first, self.effort = {}, {}, {}, Effort()
         for item in of_kind(items, Class):
             if id(item) not in self.left:
@@ -34,9 +34,8 @@ class Aligned:
 
     def cut(self, item):
         """The lists of a class, and the first cycle in which it takes each unit; or why it is left as it is."""
-        taken, alternatives = self.choices.taken(item), self.choices.alternatives[id(item)]
         try:
-            self.lists[id(item)] = lists_in(alternatives, [mask for mask in self.masks.values() if mask & taken], self.effort)
+            self.lists[id(item)] = lists_in(self.choices.alternatives[id(item)], self.splitter, self.effort)
         except Unexpanded as why:
             self.left[id(item)] = str(why)
             return
@@ -110,7 +109,7 @@ class Aligned:
             if above <= 0 or not lengths:
                 break
             self.leave_longest(lengths, above, least)
-            least *= 2
+            least *= 8
         for item in of_kind(self.items, Class):
             if id(item) in made:
                 item.notes.append(f"was {item.expression}")

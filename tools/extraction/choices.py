@@ -7,10 +7,10 @@ import collections
 import math
 
 from .changes import of_kind
-from .expressions import Expander, Unexpanded, places, tree_of
+from .expressions import SIZES, Expander, Unexpanded, places, tree_of
 from .items import Class, Reservation, Units
 
-NUMBERS = 16777216
+NUMBERS, BYTE, SIZE = 16777216, 10, 3
 
 
 class Effort:
@@ -87,6 +87,14 @@ class Cut:
             if len(known) > 1:
                 columns[group] = column
         return Cut(choices, columns)
+
+    def length(self):
+        """How many alternatives there are."""
+        return len(next(iter(self.columns.values()), [0]))
+
+    def size(self):
+        """How many cycles with units of one group all alternatives have at most."""
+        return self.length() * sum(max(map(len, choices)) for choices in self.choices.values())
 
     def within(self, groups):
         """The same in some of the groups, where alternatives that are alike are one."""
@@ -193,15 +201,15 @@ def finest(columns, is_any, effort):
     return sets
 
 
-def lists_in(alternatives, masks, effort, is_any=False):
-    """The list of alternatives in each group of units, where each choice in one goes with each in the others.
+def lists_in(alternatives, splitter, effort, is_any=False):
+    """The list of alternatives in each group of units that they take, where each choice in one goes with each in the others.
 
     An issue takes the first alternative that fits. So one with an earlier choice in some groups, and the same in the
     others, has to come before; with `is_any` an issue takes any.
     """
-    made = Cut.of(alternatives, Splitter(masks), effort)
+    made = Cut.of(alternatives, splitter, effort)
     check_product(list(made.columns.values()), is_any)
-    return [made.rows_in([at]) for at in range(len(masks))]
+    return [made.rows_in([at]) for at in made.choices]
 
 
 def check_product(columns, is_any):
@@ -236,19 +244,16 @@ class Choices:
         except Unexpanded as why:
             self.left[id(item)] = str(why)
 
+    def work(self):
+        """How much work it was to read and to expand all, as entries of a table are counted."""
+        read = sum(len(item.expression) for item in self.items if isinstance(item, (Reservation, Class)))
+        return BYTE * read + SIZE * (SIZES - self.expander.room)
+
     def masks(self):
         """The units of each automaton as bits, in the order of the file."""
         found = {}
         for unit, bit in self.expander.bit.items():
             found[self.automaton[unit]] = found.get(self.automaton[unit], 0) | bit
-        return found
-
-    def taken(self, item):
-        """All units that the alternatives of a class take, as bits."""
-        found = 0
-        for rows in self.alternatives.get(id(item), ()):
-            for row in rows:
-                found |= row
         return found
 
     def units_of(self, item):

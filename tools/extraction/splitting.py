@@ -11,14 +11,14 @@ import math
 from .changes import of_kind
 from .choices import Choices, Cut, Effort, Splitter, check_product, finest, joined
 from .expressions import Unexpanded
+from .grouping import Search, members
 from .items import Automata, Class, Options, Units, UnitSet
 from .merging import Joined
 from .spelling import class_text, longest
 from .states import MOST, Counter, Part
 from .writing import BYTES, length_of
 
-AUTOMATA = 16
-TRIES, NEAREST = 32, 4
+AUTOMATA, GROUPS = 16, 64
 
 
 class Ties:
@@ -89,7 +89,7 @@ class Ties:
 
 
 class Plan:
-    """How an automaton may be cut: its groups, and how many least states each has; None if they were not counted."""
+    """How an automaton may be cut: its finest groups, those that are chosen, each of one or more of them, and the least states of groups."""
 
     def __init__(self, ties, statements, queries, counter):
         self.ties, self.queries, self.counter, self.known, self.bounds = ties, queries, counter, {}, {}
@@ -99,23 +99,26 @@ class Plan:
                 self.statements.setdefault(ties.atoms[item.units[0]], []).append(item)
         ties.close()
         ties.join_idle()
-        self.groups, self.weights = ties.groups(), []
-        self.most, self.why = len(self.groups), f"there are at most {AUTOMATA} automata"
+        self.finest = self.groups = ties.groups()
+        self.bit = {unit: 1 << at for at, units in enumerate(self.finest) for unit in units}
+        self.weights, self.why = [], f"there are at most {AUTOMATA} automata"
 
     def states(self, units):
-        """The least states of some of the units."""
+        """The least states of some of the units; None if they are not counted."""
         key = tuple(units)
         if key not in self.known:
             self.known[key], self.bounds[key] = self.count(units)
         return self.known[key]
 
     def count(self, units):
-        """The same, counted; None if that is too much. And a number that they are not below."""
+        """The same, counted, and a number that they are not below."""
         atoms = dict.fromkeys(self.ties.atoms[unit] for unit in units)
-        lists = [self.ties.list_in(key, units) for key in dict.fromkeys(key for atom in atoms for key in self.ties.taking.get(atom, ()))]
+        keys = dict.fromkeys(key for atom in atoms for key in self.ties.taking.get(atom, ()))
         statements = [item for atom in atoms for item in self.statements.get(atom, ())]
-        if not self.counter.allows(sum(map(len, lists)) * sum(len(item.named()) for item in statements)):
+        names = sum(len(item.named()) for item in statements)
+        if not self.counter.allows(sum(made.size() + made.length() * names for _, made in map(self.ties.lists.get, keys))):
             return None, 0
+        lists = [self.ties.list_in(key, units) for key in keys]
         queries = [unit for unit in units if unit in self.queries]
         return self.counter.count(Part(units, self.ties.bits, lists, statements, queries), self.ties.is_any)
 
@@ -132,28 +135,29 @@ class Plan:
         made, whole = self.sum(), self.whole()
         return made is not None and made < (self.bounds[tuple(self.ties.units)] if whole is None else whole)
 
-    def together(self, one, other):
-        """The units of two groups, in their order."""
-        both = set(self.groups[one]) | set(self.groups[other])
-        return [unit for unit in self.ties.units if unit in both]
+    def fewest(self):
+        """The states of the whole or of the groups, if they are counted."""
+        return min(math.inf if count is None else count for count in (self.sum(), self.whole()))
 
-    def settle(self):
-        """Joins groups with more states than are counted to others, until all are counted or there are none left.
+    def united(self, groups):
+        """The units of a set of the finest groups, in their order."""
+        return [unit for unit in self.ties.units if self.bit[unit] & groups]
 
-        Units of such a group are kept in step by what other groups refuse. Of the groups with most states the one is taken with which it
-        has fewest.
-        """
-        tries = TRIES
-        while len(self.groups) > 1 and tries > 0:
-            counts = [self.states(units) for units in self.groups]
-            if None not in counts:
-                return
-            large = counts.index(None)
-            others = sorted((at for at in range(len(counts)) if at != large), key=lambda at: -(counts[at] or MOST))[:NEAREST]
-            tries -= len(others)
-            made = [(self.states(self.together(large, at)) or math.inf, place, at) for place, at in enumerate(others)]
-            self.why = f"{', '.join(self.groups[large])} alone would have {counted(None)}"
-            self.join([self.groups[large], self.groups[min(made)[2]]])
+    def beside(self):
+        """Of each of the finest groups those that a class takes together with it."""
+        found = {1 << at: 1 << at for at in range(len(self.finest))}
+        for _, made in self.ties.lists.values():
+            together = sum({self.bit[atom] for atom in made.choices})
+            for group in members(together):
+                found[group] |= together
+        return found
+
+    def look(self):
+        """Chooses the sets of the finest groups with the fewest states that are found."""
+        if 1 < len(self.finest) <= GROUPS:
+            found = Search(lambda groups: self.states(self.united(groups)), self.beside()).best()
+            if len(found) > 1:
+                self.groups = [self.united(groups) for groups in sorted(found, key=lambda groups: groups & -groups)]
 
     def stay_whole(self):
         """Makes no cut, and says why."""
@@ -168,10 +172,10 @@ class Plan:
         return f"{groups}; {counted(self.whole())} before, {counted(self.sum())} after"
 
     def join(self, together):
-        """Joins groups, and what has to be joined with them."""
-        self.ties.joined.join([units[0] for units in together])
-        self.ties.close()
-        self.groups = self.ties.groups()
+        """Makes one of several groups."""
+        units = set().union(*together)
+        made = [unit for unit in self.ties.units if unit in units]
+        self.groups = [made if group[0] == made[0] else group for group in self.groups if group[0] == made[0] or group[0] not in units]
 
     def weigh(self):
         """Weighs each group by its states, or by how many they may be."""
@@ -207,21 +211,19 @@ def counted(states):
 class Splitting:
     """The automata of items, each with its plan, and the classes that are left as they are."""
 
-    def __init__(self, items, choices, left):
-        self.items, self.choices, self.left, self.masks = items, choices, dict(left), choices.masks()
+    def __init__(self, items, choices, left, effort, counter):
+        self.items, self.choices, self.left, self.counter = items, choices, dict(left), counter
         self.is_any = any("ndfa" in item.names for item in of_kind(items, Options))
         self.queries = {unit for item in of_kind(items, Units) if item.query for unit in item.names}
         units = {name: [] for name in self.defined()}
         for unit, automaton in choices.automaton.items():
             units.setdefault(automaton, []).append(unit)
-        effort = Effort()
         self.ties = {name: Ties(name, own, choices.expander.bit, self.is_any, effort) for name, own in units.items() if own}
         statements = of_kind(items, UnitSet)
         for item in statements:
             self.tie(item.named(), f"the {item.head} of {item.place}")
         self.take_all(effort)
-        counter = Counter()
-        self.plans = [Plan(ties, statements, self.queries, counter) for ties in self.ties.values()]
+        self.plans, self.made = [Plan(ties, statements, self.queries, counter) for ties in self.ties.values()], {}
 
     def defined(self):
         return [name for item in of_kind(self.items, Automata) for name in item.names]
@@ -267,10 +269,19 @@ class Splitting:
         if len(set(self.defined()) | set(self.ties)) >= AUTOMATA:
             for plan in self.plans:
                 plan.groups = [plan.ties.units]
-        self.keep_paying(is_all)
+        elif not is_all:
+            self.look()
         if self.count() > AUTOMATA:
             self.join_most(self.count() - AUTOMATA)
-            self.keep_paying(is_all)
+            if not is_all:
+                self.keep_paying()
+
+    def look(self):
+        """Chooses the groups of each automaton, of those with most states first: each may take half of the work that is left."""
+        for plan in sorted(self.plans, key=Plan.fewest, reverse=True):
+            with self.counter.half():
+                plan.look()
+        self.keep_paying()
 
     def join_most(self, above):
         """Joins the groups whose joining may cost least, so many of them."""
@@ -285,12 +296,10 @@ class Splitting:
         for plan in cut:
             plan.join_weighed()
 
-    def keep_paying(self, is_all):
+    def keep_paying(self):
         """Undoes cuts that don't pay."""
         for plan in self.plans:
-            if not is_all:
-                plan.settle()
-            if not is_all and len(plan.groups) > 1 and not plan.pays():
+            if len(plan.groups) > 1 and not plan.pays():
                 plan.stay_whole()
 
     def names(self):
@@ -306,8 +315,14 @@ class Splitting:
                                      for at, units in enumerate(plan.groups, 1)]
         return found
 
-    def made_lists(self, item):
+    def lists_of(self, item):
         """The lists of a class in each automaton after the cuts, or None if it stays as it is."""
+        if id(item) not in self.made:
+            self.made[id(item)] = self.make_lists(item)
+        return self.made[id(item)]
+
+    def make_lists(self, item):
+        """The same, made."""
         key = id(item)
         if key in self.left:
             return None
@@ -327,7 +342,7 @@ class Splitting:
         of_unit = {unit: name for plan in self.plans if plan.ties.name in names
                    for name, units in zip(names[plan.ties.name], plan.groups) for unit in units}
         for item in of_kind(self.items, Class):
-            lists = self.made_lists(item)
+            lists = self.lists_of(item)
             if lists is not None:
                 if self.is_broken(item):
                     told.tell(item, "split", f"{item.name} is written automaton by automaton")
@@ -347,14 +362,14 @@ class Splitting:
             form, name = forms.get(plan.ties.name, first), plan.ties.name or "-"
             if plan.ties.name in names:
                 told.tell(form, "split", f"{name} into {plan.told(names[plan.ties.name])}")
-            elif plan.most > 1:
+            elif len(plan.finest) > 1:
                 told.tell(form, "unsplit", f"{name} stays whole, as {plan.why}")
             elif plan.ties.why:
                 told.tell(form, "unsplit", f"{name} can't be cut: its units are tied by {several(plan.ties.why)}")
 
     def above(self):
         """By how many bytes the text may be too long, and how long the text of each class that is written may be."""
-        made = {id(item): self.made_lists(item) for item in of_kind(self.items, Class)}
+        made = {id(item): self.lists_of(item) for item in of_kind(self.items, Class)}
         lengths = {key: longest(lists, self.choices.expander.units) for key, lists in made.items() if lists is not None}
         return length_of(self.items) + sum(lengths.values()) - BYTES, lengths
 
@@ -380,10 +395,10 @@ def with_automata(item, names, of_unit):
 
 def split_automata(items, told, is_all):
     """Cuts automata; of classes whose texts would be too long none is cut."""
-    choices, left, least = Choices(items), {}, 1
-    left.update(choices.left)
+    choices, effort, least = Choices(items), Effort(), 1
+    left, counter = dict(choices.left), Counter(choices.work())
     while True:
-        made = Splitting(items, choices, left)
+        made = Splitting(items, choices, left, effort, counter)
         made.choose(is_all)
         above, lengths = made.above()
         if above <= 0 or not lengths:
@@ -393,4 +408,4 @@ def split_automata(items, told, is_all):
                 break
             left[key] = "the text would be too long"
             above -= lengths[key]
-        least *= 4
+        least *= 16

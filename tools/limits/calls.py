@@ -8,7 +8,7 @@ from limits.page import Wrong
 
 LIST = "tools/limits/calls.txt"
 # Calls that answer by a status, of which one is for want of memory.
-BY_STATUS = [("hz_tool", "run"), ("hz_explain", "run")]
+BY_STATUS = [("hz_tool", "run"), ("hz_explain", "run"), ("hz_same_top", "run")]
 
 # Crates without calls of their own, or whose calls are those of another crate.
 NO_CODE = ("_model", "_laws", "_rows")

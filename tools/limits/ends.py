@@ -168,14 +168,23 @@ def query_units(count):
     return "".join(f'(define_query_cpu_unit "u{number}")\n' for number in range(count)) + class_of("x", taken) + "\n"
 
 
+def asking(count):
+    """The tables of these: a class that takes all of so many query units."""
+    return ("hazard-tables 2\ntreatment first\nclasses 1\nclass x\nautomata 1\nautomaton - 1 2\nmap 0\n"
+            f"asks{''.join(f' u{number}' for number in range(count))}\nrow 1{' -' * count} 0\nrow -{' 1' * count} 0\nend\n")
+
+
 def items():
     """Counts of a description's items."""
     automata = '(define_automaton "a{}")\n'.format
     yield End("automata", "16", described(lines(16, automata)), refused(lines(17, automata), "Automata", "a17"))
     asked = "issue x\nask u0\nask u255\nadvance 1\nask u255\n"
     told = "ask line 2 u0 reserved\nask line 3 u255 reserved\nask line 5 u255 free\naccepted 1 issues 1 cycles\n"
-    yield End("units of one automaton", "256", Run(*replayed(query_units(256), asked), 0, told),
-              refused(query_units(257), "Units", "u256", 257))
+    what = "units of one automaton"
+    yield End(what, "256", Run(*replayed(query_units(256), asked), 0, told), refused(query_units(257), "Units", "u256", 257))
+    yield End(what, "256", Run("compile d", {"d": query_units(256)}, 0, asking(256)),
+              Run("compile d", {"d": query_units(257)}, 3, "limit d line 257 Units u256\n"))
+    yield End(what, "256", Run("walk k t", {"k": asking(256), "t": asked}, 0, told), wrong(("walk k t", {"k": asking(257), "t": ""}), "k", 8, "OutOfRange"))
     classes = '(define_insn_reservation "x{}" 1 (const_int 1) "nothing")\n'.format
     yield End("classes", "1,024", described(lines(1024, classes)), refused(lines(1025, classes), "Classes", "x1025"))
 

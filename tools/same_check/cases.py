@@ -125,8 +125,8 @@ def grouped():
 
 
 def at_limit(states):
-    """Automata with no name in common, of which so many pairs are reached: 1,024 times as many as one has states."""
-    return machine(2, counter("a", 1024, 2)), machine(2, stepper("b", states, 2, 1))
+    """Two automata against one, with no name in common, of which so many pairs are reached: 1,024 times as many as one has states."""
+    return machine(2, counter("a", 1024, 2), stepper("b", states, 2, 1)), machine(2, counter("c", 1, 2))
 
 
 SAME, LIMIT = (0, "same\n"), (3, "limit pairs\n")

@@ -38,7 +38,7 @@ def reasons_in(text, lines, most=4):
     for line in text.split("\n"):
         group = GROUP.fullmatch(line)
         if group:
-            reason = re.sub(r"\bsince (?=insn )", "by ", HELD.sub(insn, group[1]))
+            reason = re.sub(r"\bfrom (?=insn )", "by ", HELD.sub(insn, group[1]))
             found.append(CYCLE.sub(later, reason))
     found = list(dict.fromkeys(found))
     return ", ".join(found[:most]) + (f" and {len(found) - most} more" if len(found) > most else "")

@@ -34,7 +34,6 @@ tells docs/LIMITS.md '1s/Limits/Ends/' \
     "docs/LIMITS.md: not as the list says; make it again with \`python3 tools/check_limits.py --page > docs/LIMITS.md\`" "$(ended 1)"
 line=$(grep -n '^hz_io slurp' "$work/tools/limits/calls.txt" | cut -d: -f1)
 tells tools/limits/calls.txt "${line}s/slurp/sip/" "tools/limits/calls.txt: 0 lines of \`hz_io slurp\`, 1 is wanted" \
-    "tools/limits/calls.txt:$line: no public call \`sip\` of hz_io can want memory" \
-    "docs/LIMITS.md: not as the list says; make it again with \`python3 tools/check_limits.py --page > docs/LIMITS.md\`" "$(ended 3)"
+    "tools/limits/calls.txt:$line: no public call \`sip\` of hz_io can want memory" "$(ended 2)"
 tells tools/limits/calls.txt "${line}s/ | .*//" "check_limits.py: tools/limits/calls.txt:$line: \`crate call | input | limit | run\` is wanted"
 exit $bad

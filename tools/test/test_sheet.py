@@ -256,13 +256,13 @@ class Answers(unittest.TestCase):
 
     def test_reasons(self):
         lines = {2: types.SimpleNamespace(number=7)}
-        text = "refused line 3 x\nfits 1 cycle later\nalternative 1: port in cycle 1 is held since line 2, y\n" \
+        text = "refused line 3 x\nfits 1 cycle later\nalternative 1: port in cycle 1 is planned by line 2, y\n" \
             "alternative 2: absence_set line 9, a in cycle 0 with b\ncycle 0\n"
-        self.assertEqual(reasons_in(text, lines), "port 1 cycle later is held by insn 7, absence_set line 9, a with b")
+        self.assertEqual(reasons_in(text, lines), "port 1 cycle later is planned by insn 7, absence_set line 9, a with b")
 
     def test_reasons_of_groups(self):
         lines = {2: types.SimpleNamespace(number=7), 9: types.SimpleNamespace(number=8)}
-        text = "fits 2 cycles later\nalternatives 1-2, 4: port in cycle 0 is held since line 2, y\n" \
+        text = "fits 2 cycles later\nalternatives 1-2, 4: port in cycle 0 is held from line 2, y\n" \
             "alternative 3: port in cycle 2 is planned by line 9, z\n" \
             "alternative 5: exclusion_set line 9, a (line 2, y) in cycle 0 with b (asked)\n" \
             "alternatives 6, 8 ..: presence_set line 9, a (asked) in cycle 3 without b or ..\n" \
@@ -273,8 +273,8 @@ class Answers(unittest.TestCase):
 
     def test_traces(self):
         self.assertEqual(events_in("; no\n\tissue\t add \r\nask u\nadvance 007\nissue x", 2), ([Event(2, "add"), Event(4, None, 7)], 5))
-        self.assertEqual(parts_of("ask line 1 u free\nrefused line 2 x\nnever fits\ncycle   0\nu       .\n"),
-                         (["ask line 1 u free"], ["refused line 2 x"], ["never fits"], ["cycle   0", "u       ."]))
+        self.assertEqual(parts_of("ask line 1 u free\nrefused line 2 x\nfits in no later cycle\ncycle   0\nu       .\n"),
+                         (["ask line 1 u free"], ["refused line 2 x"], ["fits in no later cycle"], ["cycle   0", "u       ."]))
 
     def test_spread(self):
         self.assertEqual(spread(list(range(10)), 3), [3, 6, 9])

@@ -9,3 +9,5 @@ mod BoundLines
 mod ReadLines
 mod WholeTexts
 mod LoadCounts
+mod FormTexts
+mod WrittenDescriptions

@@ -1,5 +1,5 @@
 -- What a load counts, and that its value is the greatest that counting gives.
-use Rattle.std.proofs.Common.{◌≡◌, ℕ, ◌+◌, ◌<◌, ◌≤◌, min, max, Bool, true, false, cond, List, [], ◌∷◌, map, length, Contains, Some, None, refl, sym, ap, ◌∙◌, subst, arith, ⊎_elim, nat_lt, sum_by}
+use Rattle.std.proofs.Common.{◌≡◌, ℕ, ◌+◌, ◌<◌, ◌≤◌, min, max, Bool, true, false, cond, List, [], ◌∷◌, map, length, Contains, Some, None, refl, sym, ap, ◌∙◌, subst, arith, ⊎_elim, eq-zero-or-pos, nat_lt, sum_by}
 use Rattle.std.specs.List.{flat_map}
 use Rattle.std.proofs.lemmas.Bool.{ltb-true, ltb-false, lt-ltb}
 use Rattle.std.proofs.lemmas.List.Elements.{Contains-append_left, Contains-append_right, Contains-append_cases}
@@ -70,11 +70,23 @@ module _ (taken : ℕ → List (List ℕ)) where
       by_test true g k = ltb-true 0 (length (users taken classes)) g
       by_test false g k = absurd (cc)
 
+  -- without a load no instruction asks for a cycle
+  pub unasked : (classes : List ℕ) (k : ℕ) → load_of taken classes ≡ None → Contains classes k → force taken k ≡ 0
+  unasked classes k e there = ⊎_elim (λ (none : force taken k ≡ 0). none) (λ (some : 0 < force taken k). absurd (by_users (users taken classes) (Contains-filter (λ k. nat_lt 0 (force taken k)) k (lt-ltb 0 (force taken k) some) classes there) e)) (eq-zero-or-pos (force taken k))
+    where
+      by_test : (t : Bool) → t ≡ true → cond t (Some (asked_load taken classes)) None ≡ None → ⊥
+      by_test true g h = absurd (cc)
+      by_test false g h = absurd (cc)
+
+      by_users : (us : List ℕ) → Contains us k → cond (nat_lt 0 (length us)) (Some (asked_load taken classes)) None ≡ None → ⊥
+      by_users [] c h = Contains-nil k c
+      by_users (u ∷ us) c h = by_test (nat_lt 0 (length (u ∷ us))) (lt-ltb 0 (length (u ∷ us)) (omega arith)) h
+
   -- all instructions together ask for the count
   pub counted : (classes : List ℕ) (l : Load) → load_of taken classes ≡ Some l → l.count ≡ sum_by (force taken) classes
   counted classes l e = sym (ap (λ (l : Load). l.count) (load_is classes l e)) ∙ count_all (force taken) classes
 
-  -- in the cycles up to the value, and the span behind it, there is room for the count
+  -- in the cycles up to the value, and the span after it, there is room for the count
   pub room : (classes : List ℕ) (l : Load) → load_of taken classes ≡ Some l → l.count ≤ l.value + (l.span + 1)
   room classes l e = subst (λ (l : Load). l.count ≤ l.value + (l.span + 1)) (load_is classes l e) (omega arith)
 

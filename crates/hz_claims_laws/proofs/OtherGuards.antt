@@ -13,10 +13,10 @@ use Rattle.hz_description_model.specs.Reading.Limits as limits
 use Rattle.hz_description_model.specs.Reservations.Sets.{SetKind}
 use Rattle.hz_claims_laws.specs.Guards.{IsWithAnotherGuard}
 
--- ---- each such form is told
+-- ---- each of these forms has the fault
 
-pub told : (read : List ℕ → Said) (n : ℕ) (form : Tree) → IsWithAnotherGuard form → form_says read n form ≡ Err unknown_guard
-told read n form h =
+pub each : (read : List ℕ → Said) (n : ℕ) (form : Tree) → IsWithAnotherGuard form → form_says read n form ≡ Err unknown_guard
+each read n form h =
     let other = false_from_ne_true (bytes_eq h.guard (codes "store_data_bypass_p")) (λ e. h.other ((bytes_eq-Decides h.guard (codes "store_data_bypass_p")).0 e)) in
     subst (λ (t : Tree). form_says read n t ≡ Err unknown_guard) (sym h.is) (rw (other) refl)
 

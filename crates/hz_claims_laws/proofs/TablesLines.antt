@@ -20,9 +20,9 @@ among f (y ∷ xs) x h = ⊎_elim
     record { front = f y ++ is.front; back = is.back; parts = ap (λ (ls : List (List (List ℕ))). f y ++ ls) is.parts ∙ sym (append_assoc (f y) is.front (f x ++ is.back)) })
     (Contains-cons_cases y x xs h)
 
--- what is behind the asks
-behind : (part : PartText) (others : List (List (List ℕ))) → BeginsWithCountsOrRow part ((counts_lines part.counts ++ flat_map row_lines part.rows) ++ others)
-behind part others = by_counts part.counts refl
+-- what follows the asks
+follows : (part : PartText) (others : List (List (List ℕ))) → BeginsWithCountsOrRow part ((counts_lines part.counts ++ flat_map row_lines part.rows) ++ others)
+follows part others = by_counts part.counts refl
   where
     by_rows : part.counts ≡ None → (rows : List RowText) → part.rows ≡ rows → BeginsWithCountsOrRow part (flat_map row_lines rows ++ others)
     by_rows none [] e = no_row none e
@@ -42,7 +42,7 @@ module _ (says : TablesText) where
   whole = ap (λ (ls : List (List (List ℕ))). header_line says.asked ∷ treatment_line says.ndfa ∷ (codes "classes" ∷ decimal (length says.classes) ∷ []) ∷ ls)
       (sym (append_assoc (map class_line says.classes) ((codes "automata" ∷ decimal (length says.parts) ∷ []) ∷ []) (flat_map (part_lines says.asked) says.parts ++ (codes "end" ∷ []) ∷ [])))
 
-  -- the lines of a part, with those before and behind them
+  -- the lines of a part, with those before and after them
   pub of_part : (part : PartText) → Contains says.parts part → (front : List (List (List ℕ))) × (back : List (List (List ℕ))) × (tables_lines says ≡ front ++ (part_lines says.asked part ++ back))
   of_part part h =
       let is = among (part_lines says.asked) says.parts part h in
@@ -54,18 +54,18 @@ module _ (says : TablesText) where
             ∙ sym (append_assoc head is.front (part_lines says.asked part ++ (is.back ++ last))),
       )
 
-pub asks_behind : (says : TablesText) (part : PartText) → says.asked ≡ true → Contains says.parts part →
-    (front : List (List (List ℕ))) × (behind : List (List (List ℕ)))
-    × (tables_lines says ≡ front ++ (codes "automaton" ∷ part.name ∷ decimal part.columns ∷ decimal (length part.rows) ∷ []) ∷ (codes "map" ∷ map decimal part.map) ∷ (codes "asks" ∷ part.asks) ∷ behind)
-    × BeginsWithCountsOrRow part behind
-asks_behind says part asked h =
+pub asks_follow : (says : TablesText) (part : PartText) → says.asked ≡ true → Contains says.parts part →
+    (front : List (List (List ℕ))) × (rest : List (List (List ℕ)))
+    × (tables_lines says ≡ front ++ (codes "automaton" ∷ part.name ∷ decimal part.columns ∷ decimal (length part.rows) ∷ []) ∷ (codes "map" ∷ map decimal part.map) ∷ (codes "asks" ∷ part.asks) ∷ rest)
+    × BeginsWithCountsOrRow part rest
+asks_follow says part asked h =
     let is = of_part says part h in
-    (is.0, (counts_lines part.counts ++ flat_map row_lines part.rows) ++ is.1, is.2 ∙ ap (λ (t : Bool). is.0 ++ (part_lines t part ++ is.1)) asked, behind part is.1)
+    (is.0, (counts_lines part.counts ++ flat_map row_lines part.rows) ++ is.1, is.2 ∙ ap (λ (t : Bool). is.0 ++ (part_lines t part ++ is.1)) asked, follows part is.1)
 
-pub none_behind : (says : TablesText) (part : PartText) → says.asked ≡ false → Contains says.parts part →
-    (front : List (List (List ℕ))) × (behind : List (List (List ℕ)))
-    × (tables_lines says ≡ front ++ (codes "automaton" ∷ part.name ∷ decimal part.columns ∷ decimal (length part.rows) ∷ []) ∷ (codes "map" ∷ map decimal part.map) ∷ behind)
-    × BeginsWithCountsOrRow part behind
-none_behind says part asked h =
+pub none_follow : (says : TablesText) (part : PartText) → says.asked ≡ false → Contains says.parts part →
+    (front : List (List (List ℕ))) × (rest : List (List (List ℕ)))
+    × (tables_lines says ≡ front ++ (codes "automaton" ∷ part.name ∷ decimal part.columns ∷ decimal (length part.rows) ∷ []) ∷ (codes "map" ∷ map decimal part.map) ∷ rest)
+    × BeginsWithCountsOrRow part rest
+none_follow says part asked h =
     let is = of_part says part h in
-    (is.0, (counts_lines part.counts ++ flat_map row_lines part.rows) ++ is.1, is.2 ∙ ap (λ (t : Bool). is.0 ++ (part_lines t part ++ is.1)) asked, behind part is.1)
+    (is.0, (counts_lines part.counts ++ flat_map row_lines part.rows) ++ is.1, is.2 ∙ ap (λ (t : Bool). is.0 ++ (part_lines t part ++ is.1)) asked, follows part is.1)

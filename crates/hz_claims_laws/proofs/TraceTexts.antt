@@ -1,11 +1,11 @@
 -- The lines of traces are read back.
 use Rattle.std.proofs.Common.{◌≡◌, ℕ, ◌^◌, ◌<◌, Bool, true, false, cond, List, [], ◌∷◌, ◌++◌, codes, decimal, Option, Some, refl, sym, ap, ◌∙◌, append-nil}
 use Rattle.hz_front_model.specs.Texts.{accepted_line, refused_line, ask_line}
-use Rattle.hz_claims_laws.specs.Reading.{IsWord, n, Told, read_answer, an_acceptance, a_refusal, an_ask}
+use Rattle.hz_claims_laws.specs.Reading.{IsWord, n, LineMeaning, read_answer, an_acceptance, a_refusal, an_ask}
 use Rattle.hz_claims_laws.proofs.Words.{number_back, number_word, literal, line_told}
 
 -- a text alone is a text before nothing
-pub alone : (text : List ℕ) (t : Option Told) → ((rest : List ℕ) → read_answer (text ++ rest) ≡ t ∷ read_answer rest) → read_answer text ≡ t ∷ []
+pub alone : (text : List ℕ) (t : Option LineMeaning) → ((rest : List ℕ) → read_answer (text ++ rest) ≡ t ∷ read_answer rest) → read_answer text ≡ t ∷ []
 alone text t h = ap read_answer (sym (append-nil text)) ∙ h []
 
 pub accepted_told : (issues cycles : ℕ) (rest : List ℕ) → issues < 2 ^ 64 → cycles < 2 ^ 64 → read_answer (accepted_line issues cycles ++ rest) ≡ Some (an_acceptance issues cycles) ∷ read_answer rest

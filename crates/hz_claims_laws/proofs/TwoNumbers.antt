@@ -11,7 +11,7 @@ use Rattle.hz_description_model.specs.Reading.Descriptions.{Description, BypassI
 use Rattle.hz_description_model.proofs.Check.ToldLaws.{second_numbers_told}
 use Rattle.hz_claims_laws.specs.Numbers.{GiveTwoNumbers}
 
--- a list is what is before an item, the item, and what is behind it
+-- a list is what is before an item, the item, and what follows it
 record Parts {A : Type 0} (xs : List A) (x : A) : Type 0 where
   front : List A
   back : List A
@@ -24,7 +24,7 @@ parts_of {A} (y ∷ xs) x h = ⊎_elim
     (λ (k : Contains xs x). let is = parts_of xs x k in record { front = y ∷ is.front; back = is.back; parts = ap (λ (zs : List A). y ∷ zs) is.parts })
     (Contains-cons_cases y x xs h)
 
--- what stands before an item that is kept is what is kept of what stood before it
+-- what comes before an item that is kept is what is kept of what came before it
 record Kept (bs before : List BypassItem) (b : BypassItem) : Type 0 where
   front : List BypassItem
   back : List BypassItem
@@ -76,7 +76,7 @@ between d s t =
       earlier = (t.pair).earlier;
       between = earlier.back;
       later = t.b;
-      behind = later.back;
+      rest = later.back;
       file = later.parts ∙ ap (λ (xs : List BypassItem). xs ++ t.b ∷ later.back) earlier.parts ∙ append_assoc earlier.front ((t.pair).earlier ∷ earlier.back) (t.b ∷ later.back);
       earlier_free = not-true ((t.pair).earlier).guard found.1;
       later_free = later.free;
@@ -96,12 +96,12 @@ free_first b bs g = ap (λ (t : Bool). cond (not t) (b ∷ filter (λ b. not b.g
 told_again : (d : Description) (s : Site) → GiveTwoNumbers d s → TellsSecondNumber (unguarded d.bypasses) s
 told_again d s t =
     let front : List BypassItem = t.before ++ t.earlier ∷ t.between in
-    let whole : d.bypasses ≡ front ++ t.later ∷ t.behind = t.file ∙ sym (append_assoc t.before (t.earlier ∷ t.between) (t.later ∷ t.behind)) in
+    let whole : d.bypasses ≡ front ++ t.later ∷ t.rest = t.file ∙ sym (append_assoc t.before (t.earlier ∷ t.between) (t.later ∷ t.rest)) in
     record {
       before = filter (λ b. not b.guard) front;
       b = t.later;
-      after = filter (λ b. not b.guard) t.behind;
-      parts = ap (filter (λ b. not b.guard)) whole ∙ filter-append (λ b. not b.guard) front (t.later ∷ t.behind) ∙ ap (λ (xs : List BypassItem). filter (λ b. not b.guard) front ++ xs) (free_first t.later t.behind t.later_free);
+      after = filter (λ b. not b.guard) t.rest;
+      parts = ap (filter (λ b. not b.guard)) whole ∙ filter-append (λ b. not b.guard) front (t.later ∷ t.rest) ∙ ap (λ (xs : List BypassItem). filter (λ b. not b.guard) front ++ xs) (free_first t.later t.rest t.later_free);
       pair = record {
         earlier = t.earlier;
         consumer = t.consumer;

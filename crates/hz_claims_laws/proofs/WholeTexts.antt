@@ -1,5 +1,5 @@
 -- Whole texts are read back, line by line.
-use Rattle.std.proofs.Common.{◌≡◌, ℕ, zero, suc, ◌^◌, ◌<◌, ◌==◌, Bool, true, false, cond, List, [], ◌∷◌, ◌++◌, map, length, get_or, All, codes, decimal, Option, Some, None, refl, sym, ap, ◌∙◌, append-nil, append_assoc, arith}
+use Rattle.std.proofs.Common.{◌≡◌, ℕ, zero, suc, ◌^◌, ◌<◌, ◌==◌, Bool, true, false, cond, List, [], ◌∷◌, ◌+◌, ◌++◌, map, length, get_or, All, codes, decimal, Option, Some, None, refl, sym, ap, ◌∙◌, append-nil, append_assoc, arith}
 use Rattle.std.specs.Prelude.{slice_index, slice_index_or}
 use Rattle.std.specs.List.{concat, flat_map}
 use Rattle.std.proofs.lemmas.List.Elements.{All-nil, All-cons, All-head, All-tail}
@@ -8,19 +8,21 @@ use Rattle.hz_description_model.specs.Reading.Descriptions.{Description}
 use Rattle.hz_block_model.specs.Running.Blocks.{Instruction}
 use Rattle.hz_block_model.specs.Running.States.{Place, reg, cell}
 use Rattle.hz_block_model.specs.Scheduling.Schedules.{Graph, Slot, class_at, present}
-use Rattle.hz_measure_model.specs.Bounds.Bounds.{UnitLoad, Bound}
-use Rattle.hz_measure_model.specs.Bounds.Texts.{unit_name, number_field, path_word, path_line, heaviest_line, bound_line, cycles_line, bound_text}
-use Rattle.hz_measure_model.specs.Exposed.Exposed.{Read}
-use Rattle.hz_measure_model.specs.Exposed.Texts.{read_line, writer_text, line_of_read, reads_text}
-use Rattle.hz_measure_model.specs.Kernels.Kernels.{KernelSlot}
-use Rattle.hz_measure_model.specs.Kernels.KernelTexts.{line_of_kernel, interval_lines, edge_lines, text_of_slots}
-use Rattle.hz_measure_model.specs.TwoContexts.Joining.{ContextSlot}
-use Rattle.hz_measure_model.specs.TwoContexts.Texts.{line_of_own, line_of_either, together_line, alone_line, last_cycle, duo_text}
+use Rattle.hz_measure_model.specs.Bounds.Bounds.{UnitLoad, Bound, unit_names}
+use Rattle.hz_measure_model.specs.Bounds.Texts.{unit_name, number_field, path_word, path_line, heaviest_line, bound_line, cycles_line, bound_text, text_of_bound}
+use Rattle.hz_measure_model.specs.Exposed.Exposed.{Read, Timed}
+use Rattle.hz_measure_model.specs.Exposed.Texts.{read_line, writer_text, line_of_read, reads_text, IsTimedText}
+use Rattle.hz_measure_model.specs.Kernels.Kernels.{KernelSlot, kernel_slots}
+use Rattle.hz_measure_model.specs.Kernels.KernelTexts.{line_of_kernel, interval_lines, edge_lines, text_of_slots, text_of_kernel}
+use Rattle.hz_measure_model.specs.Kernels.Turns.{stages}
+use Rattle.hz_measure_model.specs.TwoContexts.Joining.{ContextSlot, in_contexts}
+use Rattle.hz_measure_model.specs.TwoContexts.Texts.{line_of_own, line_of_either, together_line, alone_line, last_cycle, duo_text, text_of_two}
 use Rattle.hz_answer_model.specs.ScheduleAnswers.{line_of_slot, schedule_text}
+use Rattle.hz_block_model.specs.Texts.StateTexts.{IsText}
 use Rattle.hz_front_model.specs.Texts.{accepted_line}
 use Rattle.hz_answer_model.specs.Texts.{scheduled_line, turns_line, state_field, left_line, drill_text}
-use Rattle.hz_claims_laws.specs.Lines.{AreSmall, HaveSmallCycles, slot_tells, own_tells, kernel_tells, load_tells, writer_word, place_tells, read_tells, IsSmallPlace, IsSmallLoad}
-use Rattle.hz_claims_laws.specs.Reading.{IsWord, n, Told, read_answer, an_end, an_end_of_two, both_alone, a_path, no_load, a_bound, a_last_cycle, an_interval, some_stages, some_edges, a_list, some_turns, some_states, an_acceptance}
+use Rattle.hz_claims_laws.specs.Lines.{AreSmall, HaveSmallCycles, numbers_of, slot_tells, own_tells, kernel_tells, load_tells, writer_word, place_tells, read_tells, IsSmallPlace, IsSmallLoad}
+use Rattle.hz_claims_laws.specs.Reading.{IsWord, n, LineMeaning, read_answer, an_end, an_end_of_two, both_alone, a_path, no_load, a_bound, a_last_cycle, an_interval, some_stages, some_edges, a_list, some_turns, some_states, an_acceptance}
 use Rattle.hz_claims_laws.proofs.Words.{AreWords, number_back, number_word, literal, spaced, onto, concat_onto, line_told, words_told, each_told}
 use Rattle.hz_claims_laws.proofs.TraceTexts.{alone, accepted_told}
 use Rattle.hz_claims_laws.proofs.ScheduleLines.{slot_told, scheduled_told, issue_told, kernel_told, together_told, alone_told, interval_told, stages_told, edges_told, list_told}
@@ -40,6 +42,10 @@ small_at numbers h k = found (λ m. m < 2 ^ 64) 0 (omega arith) numbers h k
 word_at : (names : List (List ℕ)) → All IsWord names → (k : ℕ) → IsWord (slice_index_or names k [])
 word_at names h k = found IsWord [] (literal [] refl) names h k
 
+cycles_small : (slots : List Slot) → HaveSmallCycles slots → AreSmall (map (λ x. x.cycle) slots)
+cycles_small [] h = All-nil (λ m. m < 2 ^ 64)
+cycles_small (x ∷ slots) h = All-cons (λ m. m < 2 ^ 64) x.cycle (map (λ x. x.cycle) slots) (All-head (λ x. x.cycle < 2 ^ 64) x slots h) (cycles_small slots (All-tail (λ x. x.cycle < 2 ^ 64) x slots h))
+
 present_small : (cycle : ℕ) → cycle < 2 ^ 64 → (slots : List Slot) → HaveSmallCycles slots → present cycle slots < 2 ^ 64
 present_small cycle low [] h = low
 present_small cycle low (x ∷ slots) h = present_small x.cycle (All-head (λ x. x.cycle < 2 ^ 64) x slots h) slots (All-tail (λ x. x.cycle < 2 ^ 64) x slots h)
@@ -53,7 +59,7 @@ schedule_back d block g slots names numbers cycles few =
     each_told (line_of_slot d block g) (slot_tells (class_names d) (map (λ i. i.number) block) g) (λ x. x.cycle < 2 ^ 64)
     (λ x rest low. slot_told x.cycle (slice_index (map (λ i. i.number) block) x.place) (slice_index_or (class_names d) (class_at g x.place) []) rest low (small_at (map (λ i. i.number) block) numbers x.place) (word_at (class_names d) names (class_at g x.place)))
     slots last cycles
-    ∙ ap (λ (ls : List (Option Told)). map (λ x. Some (slot_tells (class_names d) (map (λ i. i.number) block) g x)) slots ++ ls)
+    ∙ ap (λ (ls : List (Option LineMeaning)). map (λ x. Some (slot_tells (class_names d) (map (λ i. i.number) block) g x)) slots ++ ls)
     (alone last (Some (an_end (length slots) (present 0 slots))) (λ rest. scheduled_told (length slots) (present 0 slots) rest few (present_small 0 (omega arith) slots cycles)))
 
 -- ---- two contexts
@@ -63,8 +69,8 @@ last_small cycle low [] h = low
 last_small cycle low (x ∷ slots) h = last_small x.cycle (All-head (λ x. (x.cycle < 2 ^ 64) × (x.context < 2 ^ 64)) x slots h).0 slots (All-tail (λ x. (x.cycle < 2 ^ 64) × (x.context < 2 ^ 64)) x slots h)
 
 -- two lines alone
-alone_two : (first second : List ℕ) (t u : Option Told) → ((rest : List ℕ) → read_answer (first ++ rest) ≡ t ∷ read_answer rest) → ((rest : List ℕ) → read_answer (second ++ rest) ≡ u ∷ read_answer rest) → read_answer (first ++ second) ≡ t ∷ u ∷ []
-alone_two first second t u h k = h second ∙ ap (λ (ls : List (Option Told)). t ∷ ls) (alone second u k)
+alone_two : (first second : List ℕ) (t u : Option LineMeaning) → ((rest : List ℕ) → read_answer (first ++ rest) ≡ t ∷ read_answer rest) → ((rest : List ℕ) → read_answer (second ++ rest) ≡ u ∷ read_answer rest) → read_answer (first ++ second) ≡ t ∷ u ∷ []
+alone_two first second t u h k = h second ∙ ap (λ (ls : List (Option LineMeaning)). t ∷ ls) (alone second u k)
 
 module _ (names : List (List ℕ)) (first second : List ℕ) (g h : Graph) where
   own : (numbers : List ℕ) (one : Graph) (x : ContextSlot) (rest : List ℕ) → All IsWord names → AreSmall numbers → (x.cycle < 2 ^ 64) × (x.context < 2 ^ 64)
@@ -81,7 +87,7 @@ module _ (names : List (List ℕ)) (first second : List ℕ) (g h : Graph) where
       each_told (line_of_either names first second g h) (λ x. cond (x.context == 1) (own_tells names first g x) (own_tells names second h x)) (λ x. (x.cycle < 2 ^ 64) × (x.context < 2 ^ 64))
       (λ x rest within. by_context x rest within (x.context == 1))
       slots last low
-      ∙ ap (λ (ls : List (Option Told)). map (λ x. Some (cond (x.context == 1) (own_tells names first g x) (own_tells names second h x))) slots ++ ls)
+      ∙ ap (λ (ls : List (Option LineMeaning)). map (λ x. Some (cond (x.context == 1) (own_tells names first g x) (own_tells names second h x))) slots ++ ls)
       (alone_two (together_line (length first) (length second) (last_cycle 0 slots)) (alone_line alone_first alone_second) (Some (an_end_of_two (length first) (length second) (last_cycle 0 slots))) (Some (both_alone alone_first alone_second))
       (λ rest. together_told (length first) (length second) (last_cycle 0 slots) rest few more (last_small 0 (omega arith) slots low))
       (λ rest. alone_told alone_first alone_second rest one two))
@@ -102,14 +108,14 @@ begin_told : (interval stages : ℕ) (rest : List ℕ) → interval < 2 ^ 64 →
 begin_told interval stages rest h k =
     ap read_answer (both_lines (codes "interval " ∷ decimal interval ∷ codes "\nstages " ∷ decimal stages ∷ codes "\n" ∷ []) (codes "interval " ∷ decimal interval ∷ codes "\n" ∷ []) (codes "stages " ∷ decimal stages ∷ codes "\n" ∷ []) rest refl)
     ∙ interval_told interval (concat (codes "stages " ∷ decimal stages ∷ codes "\n" ∷ []) ++ rest) h
-    ∙ ap (λ (ls : List (Option Told)). Some (an_interval interval) ∷ ls) (stages_told stages rest k)
+    ∙ ap (λ (ls : List (Option LineMeaning)). Some (an_interval interval) ∷ ls) (stages_told stages rest k)
 
 edge_told : (first second last : ℕ) → first < 2 ^ 64 → second < 2 ^ 64 → last < 2 ^ 64 → read_answer (edge_lines first second last) ≡ Some (some_edges first second) ∷ Some (a_list last) ∷ []
 edge_told first second last h k m =
     ap read_answer (sym (append-nil (edge_lines first second last)) ∙ both_lines (codes "edge " ∷ decimal first ∷ codes " equals edge " ∷ decimal second ∷ codes "\nlist " ∷ decimal last ∷ codes " cycles\n" ∷ [])
     (codes "edge " ∷ decimal first ∷ codes " equals edge " ∷ decimal second ∷ codes "\n" ∷ []) (codes "list " ∷ decimal last ∷ codes " cycles\n" ∷ []) [] refl)
     ∙ edges_told first second (concat (codes "list " ∷ decimal last ∷ codes " cycles\n" ∷ []) ++ []) h k
-    ∙ ap (λ (ls : List (Option Told)). Some (some_edges first second) ∷ ls) (list_told last [] m)
+    ∙ ap (λ (ls : List (Option LineMeaning)). Some (some_edges first second) ∷ ls) (list_told last [] m)
 
 pub kernel_back : (names : List (List ℕ)) (numbers : List ℕ) (g : Graph) (kernel : List KernelSlot) (interval stages first second last : ℕ)
     → All IsWord names → AreSmall numbers → All (λ x. (x.offset < 2 ^ 64) × (x.stage < 2 ^ 64)) kernel → interval < 2 ^ 64 → stages < 2 ^ 64 → first < 2 ^ 64 → second < 2 ^ 64 → last < 2 ^ 64
@@ -117,15 +123,15 @@ pub kernel_back : (names : List (List ℕ)) (numbers : List ℕ) (g : Graph) (ke
     ≡ Some (an_interval interval) ∷ Some (some_stages stages) ∷ (map (λ x. Some (kernel_tells names numbers g x)) kernel ++ Some (some_edges first second) ∷ Some (a_list last) ∷ [])
 kernel_back names numbers g kernel interval stages first second last words small low h k a b m =
     begin_told interval stages (flat_map (line_of_kernel names numbers g) kernel ++ edge_lines first second last) h k
-    ∙ ap (λ (ls : List (Option Told)). Some (an_interval interval) ∷ Some (some_stages stages) ∷ ls)
+    ∙ ap (λ (ls : List (Option LineMeaning)). Some (an_interval interval) ∷ Some (some_stages stages) ∷ ls)
     (each_told (line_of_kernel names numbers g) (kernel_tells names numbers g) (λ x. (x.offset < 2 ^ 64) × (x.stage < 2 ^ 64))
     (λ x rest within. kernel_told x.offset x.stage (slice_index numbers x.place) (slice_index_or names (class_at g x.place) []) rest within.0 within.1 (small_at numbers small x.place) (word_at names words (class_at g x.place)))
     kernel (edge_lines first second last) low
-    ∙ ap (λ (ls : List (Option Told)). map (λ x. Some (kernel_tells names numbers g x)) kernel ++ ls) (edge_told first second last a b m))
+    ∙ ap (λ (ls : List (Option LineMeaning)). map (λ x. Some (kernel_tells names numbers g x)) kernel ++ ls) (edge_told first second last a b m))
 
 -- ---- bounds
 
--- numbers behind a first word
+-- numbers after a first word
 numbers_onto : (first : List ℕ) (numbers : List ℕ) (rest : List ℕ) → first ++ (flat_map number_field numbers ++ 10 ∷ rest) ≡ spaced first (map decimal numbers) rest
 numbers_onto first [] rest = refl
 numbers_onto first (m ∷ numbers) rest =
@@ -169,9 +175,9 @@ pub bound_back : (names : List (List (List ℕ))) (numbers : List ℕ) (b : Boun
     → read_answer (bound_text names numbers b cycle) ≡ Some (a_path b.path (map (slice_index numbers) b.chain)) ∷ Some (load_tells names b.load) ∷ Some (a_bound b.value) ∷ Some (a_last_cycle cycle) ∷ []
 bound_back names numbers b cycle small path value low load =
     path_told b.path (map (slice_index numbers) b.chain) (heaviest_line names b.load ++ (bound_line b.value ++ cycles_line cycle)) path (mapped_small numbers b.chain small)
-    ∙ ap (λ (ls : List (Option Told)). Some (a_path b.path (map (slice_index numbers) b.chain)) ∷ ls)
+    ∙ ap (λ (ls : List (Option LineMeaning)). Some (a_path b.path (map (slice_index numbers) b.chain)) ∷ ls)
     (heaviest_told names b.load (bound_line b.value ++ cycles_line cycle) load
-    ∙ ap (λ (ls : List (Option Told)). Some (load_tells names b.load) ∷ ls)
+    ∙ ap (λ (ls : List (Option LineMeaning)). Some (load_tells names b.load) ∷ ls)
     (alone_two (bound_line b.value) (cycles_line cycle) (Some (a_bound b.value)) (Some (a_last_cycle cycle)) (λ rest. bound_told b.value rest value) (λ rest. last_told cycle rest low)))
 
 -- ---- reads
@@ -218,7 +224,7 @@ turns_told turns rest h =
     (number_word turns h, (literal (codes "turns") refl, tt))
     (ap (λ (k : ℕ). Some (some_turns k)) (number_back turns h))
 
--- states behind a first word
+-- states after a first word
 states_onto : (first : List ℕ) (states : List ℕ) (rest : List ℕ) → first ++ (flat_map state_field states ++ 10 ∷ rest) ≡ spaced first (map decimal states) rest
 states_onto first [] rest = refl
 states_onto first (m ∷ states) rest =
@@ -237,5 +243,32 @@ pub drill_back : (turns issues cycles : ℕ) (states : List ℕ) → turns < 2 ^
     → read_answer (drill_text turns issues cycles states) ≡ Some (some_turns turns) ∷ Some (an_acceptance issues cycles) ∷ Some (some_states states) ∷ []
 drill_back turns issues cycles states h k m low =
     turns_told turns (accepted_line issues cycles ++ left_line states) h
-    ∙ ap (λ (ls : List (Option Told)). Some (some_turns turns) ∷ ls)
-    (accepted_told issues cycles (left_line states) k m ∙ ap (λ (ls : List (Option Told)). Some (an_acceptance issues cycles) ∷ ls) (left_told states low))
+    ∙ ap (λ (ls : List (Option LineMeaning)). Some (some_turns turns) ∷ ls)
+    (accepted_told issues cycles (left_line states) k m ∙ ap (λ (ls : List (Option LineMeaning)). Some (an_acceptance issues cycles) ∷ ls) (left_told states low))
+
+-- ---- the same of blocks, with their descriptions
+
+pub timed_of_block : (block : List Instruction) (slots : List Slot) (t : Timed) (text : List ℕ) → IsTimedText block slots t text → AreSmall (numbers_of block) → HaveSmallCycles slots → All (λ r. IsSmallPlace r.what) t.reads
+    → (tail : List ℕ) × IsText t.state tail × (read_answer text ≡ map (λ r. Some (read_tells (numbers_of block) (map (λ x. x.place) slots) (map (λ x. x.cycle) slots) r)) t.reads ++ read_answer tail)
+timed_of_block block slots t text is small cycles places =
+    (is.tail, is.state_is, ap read_answer is.text_is ∙ reads_back (numbers_of block) (map (λ x. x.place) slots) (map (λ x. x.cycle) slots) t.reads is.tail small (cycles_small slots cycles) places)
+
+pub bound_of_block : (d : Description) (block : List Instruction) (b : Bound) (slots : List Slot) → AreSmall (numbers_of block) → b.path < 2 ^ 64 → b.value < 2 ^ 64 → HaveSmallCycles slots → IsSmallLoad (unit_names d) b.load
+    → read_answer (text_of_bound d block b slots) ≡ Some (a_path b.path (map (slice_index (numbers_of block)) b.chain)) ∷ Some (load_tells (unit_names d) b.load) ∷ Some (a_bound b.value) ∷ Some (a_last_cycle (present 0 slots)) ∷ []
+bound_of_block d block b slots small path value cycles load = bound_back (unit_names d) (numbers_of block) b (present 0 slots) small path value (present_small 0 (omega arith) slots cycles) load
+
+pub duo_of_blocks : (d : Description) (first second : List Instruction) (g h : Graph) (slots alone other : List Slot) → All IsWord (class_names d) → AreSmall (numbers_of first) → AreSmall (numbers_of second)
+    → All (λ x. (x.cycle < 2 ^ 64) × (x.context < 2 ^ 64)) (in_contexts (length first) slots) → length (numbers_of first) < 2 ^ 64 → length (numbers_of second) < 2 ^ 64 → HaveSmallCycles alone → HaveSmallCycles other
+    → read_answer (text_of_two d first second g h slots alone other)
+    ≡ map (λ x. Some (cond (x.context == 1) (own_tells (class_names d) (numbers_of first) g x) (own_tells (class_names d) (numbers_of second) h x))) (in_contexts (length first) slots)
+    ++ Some (an_end_of_two (length (numbers_of first)) (length (numbers_of second)) (last_cycle 0 (in_contexts (length first) slots))) ∷ Some (both_alone (present 0 alone) (present 0 other)) ∷ []
+duo_of_blocks d first second g h slots alone other words small more low few fewer one two =
+    duo_back (class_names d) (numbers_of first) (numbers_of second) g h (in_contexts (length first) slots) (present 0 alone) (present 0 other) words small more low few fewer
+    (present_small 0 (omega arith) alone one) (present_small 0 (omega arith) other two)
+
+pub kernel_of_block : (d : Description) (block : List Instruction) (g : Graph) (slots : List Slot) (interval first second : ℕ)
+    → All IsWord (class_names d) → AreSmall (numbers_of block) → All (λ x. (x.offset < 2 ^ 64) × (x.stage < 2 ^ 64)) (kernel_slots interval slots) → interval < 2 ^ 64 → stages interval slots + 1 < 2 ^ 64 → first < 2 ^ 64 → second < 2 ^ 64 → HaveSmallCycles slots
+    → read_answer (text_of_kernel d block g slots interval first second)
+    ≡ Some (an_interval interval) ∷ Some (some_stages (suc (stages interval slots))) ∷ (map (λ x. Some (kernel_tells (class_names d) (numbers_of block) g x)) (kernel_slots interval slots) ++ Some (some_edges first second) ∷ Some (a_list (present 0 slots)) ∷ [])
+kernel_of_block d block g slots interval first second words small low within few a b cycles =
+    kernel_back (class_names d) (numbers_of block) g (kernel_slots interval slots) interval (suc (stages interval slots)) first second (present 0 slots) words small low within (omega (arith, few)) a b (present_small 0 (omega arith) slots cycles)

@@ -9,7 +9,7 @@ use Rattle.std.proofs.lemmas.List.Splits.{slice_split_none, slice_split_at}
 use Rattle.std.proofs.lemmas.Str.Parse.{IsNumeralModel, numerals_by_fold}
 use Rattle.std.specs.Prelude.{⊤, nat_le, ◌&&◌}
 use Rattle.hz_base_model.specs.Lines.{lines_of, number_from}
-use Rattle.hz_claims_laws.specs.Reading.{words_of, IsWord, n, Told, told, told_of_number, read_answer}
+use Rattle.hz_claims_laws.specs.Reading.{words_of, IsWord, n, LineMeaning, line_meaning, meaning_of_number, read_answer}
 
 own : IsNumeralModel (λ ds. list_all is_ascii_digit ds ≡ true) (number_from 0)
 own = numerals_by_fold _ (search rules) number_from (search rules)
@@ -113,30 +113,30 @@ literal word h = record {
         let parts = and_parts (not (b == 32) && not (b == 10)) (list_all (λ b. not (b == 32) && not (b == 10)) bytes) k in
         All-cons P b bytes (is b parts.0) (each P is bytes parts.1)
 
--- ---- lines that are told
+-- ---- lines with their meanings
 
 -- a line of pieces that are these words tells what the words tell
-pub line_told : (pieces : List (List ℕ)) (word : List ℕ) (words : List (List ℕ)) (rest : List ℕ) (t : Option Told)
-    → onto pieces rest ≡ spaced word words rest → IsWord word → AreWords words → told (word ∷ words) ≡ t → read_answer (concat pieces ++ rest) ≡ t ∷ read_answer rest
+pub line_told : (pieces : List (List ℕ)) (word : List ℕ) (words : List (List ℕ)) (rest : List ℕ) (t : Option LineMeaning)
+    → onto pieces rest ≡ spaced word words rest → IsWord word → AreWords words → line_meaning (word ∷ words) ≡ t → read_answer (concat pieces ++ rest) ≡ t ∷ read_answer rest
 line_told pieces word words rest t same h k e =
     ap read_answer (concat_onto pieces rest ∙ same)
-    ∙ ap (map told) (line_back word words rest h (all_words words k))
-    ∙ ap (λ (o : Option Told). o ∷ read_answer rest) e
+    ∙ ap (map line_meaning) (line_back word words rest h (all_words words k))
+    ∙ ap (λ (o : Option LineMeaning). o ∷ read_answer rest) e
 
 -- a line of words tells what the words tell
-pub words_told : (word : List ℕ) (words : List (List ℕ)) (rest : List ℕ) (t : Option Told) → IsWord word → AreWords words → told (word ∷ words) ≡ t → read_answer (spaced word words rest) ≡ t ∷ read_answer rest
-words_told word words rest t h k e = ap (map told) (line_back word words rest h (all_words words k)) ∙ ap (λ (o : Option Told). o ∷ read_answer rest) e
+pub words_told : (word : List ℕ) (words : List (List ℕ)) (rest : List ℕ) (t : Option LineMeaning) → IsWord word → AreWords words → line_meaning (word ∷ words) ≡ t → read_answer (spaced word words rest) ≡ t ∷ read_answer rest
+words_told word words rest t h k e = ap (map line_meaning) (line_back word words rest h (all_words words k)) ∙ ap (λ (o : Option LineMeaning). o ∷ read_answer rest) e
 
 -- a line that begins with a number
-pub first_number : (m : ℕ) (words : List (List ℕ)) → m < 2 ^ 64 → told (decimal m ∷ words) ≡ told_of_number (decimal m) words
+pub first_number : (m : ℕ) (words : List (List ℕ)) → m < 2 ^ 64 → line_meaning (decimal m ∷ words) ≡ meaning_of_number (decimal m) words
 first_number m words low = rw (are_digits m low) refl
 
 -- a line for each item, and then a rest
-pub each_told : {A : Type 0} (line : A → List ℕ) (tell : A → Told) (IsIn : A → Type 0)
+pub each_told : {A : Type 0} (line : A → List ℕ) (tell : A → LineMeaning) (IsIn : A → Type 0)
     → ((x : A) (rest : List ℕ) → IsIn x → read_answer (line x ++ rest) ≡ Some (tell x) ∷ read_answer rest)
     → (xs : List A) (rest : List ℕ) → All IsIn xs → read_answer (flat_map line xs ++ rest) ≡ map (λ x. Some (tell x)) xs ++ read_answer rest
 each_told line tell IsIn one [] rest h = refl
 each_told {A} line tell IsIn one (x ∷ xs) rest h =
     ap read_answer (append_assoc (line x) (flat_map line xs) rest)
     ∙ one x (flat_map line xs ++ rest) (All-head IsIn x xs h)
-    ∙ ap (λ (os : List (Option Told)). Some (tell x) ∷ os) (each_told line tell IsIn one xs rest (All-tail IsIn x xs h))
+    ∙ ap (λ (os : List (Option LineMeaning)). Some (tell x) ∷ os) (each_told line tell IsIn one xs rest (All-tail IsIn x xs h))

@@ -1,3 +1,4 @@
+pub mod Files
 pub mod Guards
 pub mod Lines
 pub mod Numbers

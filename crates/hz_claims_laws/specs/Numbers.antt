@@ -12,8 +12,8 @@ pub record GiveTwoNumbers (d : Description) (s : Site) : Type 0 where
   pub earlier : BypassItem
   pub between : List BypassItem
   pub later : BypassItem
-  pub behind : List BypassItem
-  pub file : d.bypasses ≡ before ++ earlier ∷ (between ++ later ∷ behind)
+  pub rest : List BypassItem
+  pub file : d.bypasses ≡ before ++ earlier ∷ (between ++ later ∷ rest)
   pub earlier_free : earlier.guard ≡ false
   pub later_free : later.guard ≡ false
   pub consumer : List ℕ

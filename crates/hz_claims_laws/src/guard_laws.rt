@@ -8,6 +8,6 @@ ghost use Rattle.hz_claims_laws.specs.Guards.{IsWithAnotherGuard};
 /// A form whose guard is unknown is `define_bypass` with three operands or more before a string that is not `store_data_bypass_p`, and each
 /// such form is so, whatever else it has.
 pub fn another_guard_is_unknown()
-    ensures told { (read : List ℕ → Said) (n : ℕ) (form : Tree) → IsWithAnotherGuard form → form_says read n form ≡ Err unknown_guard }
+    ensures each { (read : List ℕ → Said) (n : ℕ) (form : Tree) → IsWithAnotherGuard form → form_says read n form ≡ Err unknown_guard }
     ensures only { (read : List ℕ → Said) (n : ℕ) (form : Tree) → form_says read n form ≡ Err unknown_guard → IsWithAnotherGuard form }
 {}

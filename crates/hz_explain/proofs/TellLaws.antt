@@ -6,7 +6,7 @@ use Rattle.std.specs.Option.{option_map}
 use Rattle.std.specs.declared.alloc.Global.{Global}
 use Rattle.std.specs.declared.vec.Vec.{Vec}
 use Rattle.std.proofs.Math.Path.{fun_ext}
-use Rattle.std.proofs.lemmas.Bool.{cases_lt, lt-ltb, le-ltb, eqb-true, false_from_ne_true, and_parts}
+use Rattle.std.proofs.lemmas.Bool.{cases_lt, lt-ltb, le-ltb, eqb-true, eq-eqb, false_from_ne_true, and_parts}
 use Rattle.std.proofs.lemmas.List.{append-nil, drop_more, drop_all, map_more, map_push}
 use Rattle.std.proofs.lemmas.List.Elements.{Contains-append_cases}
 use Rattle.std.proofs.lemmas.List.Folds.{concat-append}
@@ -17,7 +17,7 @@ use Rattle.hz_description_model.specs.Reservations.Automata.{UnitPlace}
 use Rattle.hz_description_model.specs.Reservations.Sets.{Statement}
 use Rattle.hz_pipeline_model.specs.Accepting.Events.{Event, issue, advance, ask, cycles_of}
 use Rattle.hz_pipeline_model.specs.Accepting.Replay.{Pipeline, chosen, any_fit, first_fit}
-use Rattle.hz_why_model.specs.Explanations.{Wording, choice_line, pair_words, holder_words, pattern_words, reason_words, alternative_line, alternative_lines}
+use Rattle.hz_why_model.specs.Explanations.{Wording, held_word, choice_line, pair_words, holder_words, pattern_words, reason_words, alternative_line, alternative_lines}
 use Rattle.hz_why_model.specs.Holders.{Entry, entries, entry_at, entry_from, entries_from}
 use Rattle.hz_why_model.specs.Reasons.{same_place}
 use Rattle.hz_reasons.specs.Breaking.{reason_at, patterns_of, pattern_at}
@@ -161,13 +161,23 @@ pattern_is sets statements same b =
 
 -- ---- lines
 
+differ : (a b : ℕ) → (a ≡ b → ⊥) → (a == b) ≡ false
+differ a b apart = false_from_ne_true _ (λ e. apart (eqb-true a b e))
+
+-- a cycle is the present one where it is cycle 0 from there
+at_present : (now cycle : ℕ) → (now + cycle == now) ≡ (cycle == 0)
+at_present now cycle = ⊎_elim
+    (λ (past : 0 < cycle). differ (now + cycle) now (λ e. omega arith) ∙ sym (differ cycle 0 (λ e. omega arith)))
+    (λ (none : cycle ≤ 0). eq-eqb (now + cycle) now (omega arith) ∙ sym (eq-eqb cycle 0 (omega arith)))
+    (cases_lt 0 cycle)
+
 module _ (w : Wording UnitPlace) (now : ℕ) (held : List (Entry UnitPlace)) where
   pair_is : (u : AutomatonUnit) (cycle : ℕ) → concat (pair_words w now held (pair_in now u cycle)) ≡ pair_told w u cycle
   pair_is u cycle = let same : now + cycle - now ≡ cycle = omega arith in ap (λ (n : ℕ). concat (w.unit (unit_of u) ∷ codes " in cycle " ∷ decimal n ∷ [])) same
 
-  holder_is : (p : Pair UnitPlace) (o : Option Holder) → concat (holder_words w now held (option_map (entry_with p) o)) ≡ holder_told w o
-  holder_is p None = refl
-  holder_is p (Some h) = refl
+  holder_is : (u : AutomatonUnit) (cycle : ℕ) (o : Option Holder) → concat (holder_words w now held (option_map (entry_with (pair_in now u cycle)) o)) ≡ holder_told w cycle o
+  holder_is u cycle None = refl
+  holder_is u cycle (Some h) = ap (λ (present : Bool). concat (held_word present ∷ decimal h.line ∷ codes ", " ∷ w.class h.class ∷ [])) (at_present now cycle)
 
   units_are : (us : List AutomatonUnit) → concat (flat_map (λ v. codes " " ∷ w.unit v ∷ []) (map unit_of us)) ≡ units_told w us
   units_are [] = refl
@@ -189,7 +199,7 @@ module _ (w : Wording UnitPlace) (now : ℕ) (held : List (Entry UnitPlace)) whe
         concat-append (pair_words w now held q) (holder_words w now held (entry_at w.same held q))
         ∙ (ap (λ (t : List ℕ). t ++ concat (holder_words w now held (entry_at w.same held q))) (pair_is (unit_in p) p.cycle)
         ∙ ap (λ (t : List ℕ). pair_told w (unit_in p) p.cycle ++ t)
-        (ap (λ (o : Option (Entry UnitPlace)). concat (holder_words w now held o)) (at_same q ∙ sym (holders (unit_of (unit_in p)) p.cycle)) ∙ holder_is q (holder_in plan issues (unit_of (unit_in p)) p.cycle)))
+        (ap (λ (o : Option (Entry UnitPlace)). concat (holder_words w now held o)) (at_same q ∙ sym (holders (unit_of (unit_in p)) p.cycle)) ∙ holder_is (unit_in p) p.cycle (holder_in plan issues (unit_of (unit_in p)) p.cycle)))
     reason_is (Broken b) =
         let q : Pair UnitPlace = pair_in now b.unit b.cycle in
         let pattern : List UnitPlace = pattern_at (patterns_of (slice_get statements b.statement)) b.pattern in

@@ -1,5 +1,5 @@
 -- What is told of a refusal, by what the code holds: its reasons, and the issues that hold what stands reserved.
-use Rattle.std.specs.Prelude.{◌≡◌, ℕ, suc, Bool, nat_lt, List, [], ◌∷◌, ◌++◌, length, map, codes, decimal, Option, Some, None, slice_get, if◌then◌else◌}
+use Rattle.std.specs.Prelude.{◌≡◌, ◌==◌, ℕ, suc, Bool, nat_lt, List, [], ◌∷◌, ◌++◌, length, map, codes, decimal, Option, Some, None, slice_get, if◌then◌else◌}
 use Rattle.std.specs.List.{concat, find, flat_map}
 use Rattle.std.specs.Option.{option_map}
 use Rattle.std.specs.declared.alloc.Global.{Global}
@@ -14,7 +14,7 @@ use Rattle.hz_mdread.specs.declared.items.ClassItem.{ClassItem}
 use Rattle.hz_mdread.specs.declared.items.SetItem.{SetItem}
 use Rattle.hz_pipeline_model.specs.Accepting.Replay.{Pipeline, State, alternatives_at}
 use Rattle.hz_why_model.specs.Answers.{set_word}
-use Rattle.hz_why_model.specs.Explanations.{Wording}
+use Rattle.hz_why_model.specs.Explanations.{Wording, held_word}
 use Rattle.hz_why_model.specs.Reasons.{reason_of, same_place}
 use Rattle.hz_reasons.specs.Breaking.{reason_at}
 use Rattle.hz_reasons.specs.Holding.{is_holder_of}
@@ -115,10 +115,10 @@ module _ (w : Wording UnitPlace) where
   abbrev pub pair_told : AutomatonUnit → (cycle : ℕ) → List ℕ
   pair_told u cycle = concat (w.unit (unit_of u) ∷ codes " in cycle " ∷ decimal cycle ∷ [])
 
-  -- who holds it
-  abbrev pub holder_told : Option Holder → List ℕ
-  holder_told None = []
-  holder_told (Some h) = concat (codes " is held since line " ∷ decimal h.line ∷ codes ", " ∷ w.class h.class ∷ [])
+  -- who holds it in a cycle
+  abbrev pub holder_told : (cycle : ℕ) → Option Holder → List ℕ
+  holder_told cycle None = []
+  holder_told cycle (Some h) = concat (held_word (cycle == 0) ∷ decimal h.line ∷ codes ", " ∷ w.class h.class ∷ [])
 
   -- units, each after a blank
   abbrev pub units_told : List AutomatonUnit → List ℕ
@@ -136,7 +136,7 @@ module _ (w : Wording UnitPlace) where
   module _ (plan : Plan) (issues : List Holder) where
     -- what forbids an alternative
     abbrev pub reason_told : Reason → List ℕ
-    reason_told (Taken p) = pair_told (unit_in p) p.cycle ++ holder_told (holder_in plan issues (unit_of (unit_in p)) p.cycle)
+    reason_told (Taken p) = pair_told (unit_in p) p.cycle ++ holder_told p.cycle (holder_in plan issues (unit_of (unit_in p)) p.cycle)
     reason_told (Broken b) = broken_told plan b
 
     -- the line of the alternative of this number; none if nothing forbids it

@@ -9,7 +9,7 @@ use hz_grid::NoMemory;
 use itoa::Buffer;
 
 /// The columns of a line, at most.
-pub(crate) const LINE: usize = 120;
+pub(crate) const LINE: usize = 80;
 
 /// The columns of a name, at most.
 const NAME: usize = 32;

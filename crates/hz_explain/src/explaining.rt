@@ -8,10 +8,10 @@ ghost use Rattle.hz_pipeline_model.specs.Accepting.Events.{Event};
 ghost use Rattle.hz_pipeline_model.specs.Accepting.Replay.{Pipeline, left_by};
 ghost use Rattle.hz_why_model.specs.Answers.{wording_of};
 ghost use Rattle.hz_why_model.specs.Explanations.{left_text, refusal_text};
-ghost use Rattle.hz_why_model.specs.Waits.{IsWait};
-ghost use Rattle.hz_reasons.specs.Calendars.{AreUnbroken};
+ghost use Rattle.hz_why_model.specs.Waits.{IsLeastWait};
+ghost use Rattle.hz_reasons.specs.Frontiers.{AreEntriesOf, IsFrontier, first_of};
 ghost use Rattle.hz_reasons.specs.Holding.{AreHolders};
-ghost use Rattle.hz_reasons.specs.Plans.{IsPlanOf, IsWide, Stands};
+ghost use Rattle.hz_reasons.specs.Plans.{IsPlanOf, IsWide};
 ghost use Rattle.hz_explain.specs.Telling.{AreReasons};
 
 use crate::picture::add_shown;
@@ -19,7 +19,7 @@ use crate::telling::{add_alternatives, add_choice, add_wait, reasons};
 use hz_check::Parts;
 use hz_grid::NoMemory;
 use hz_mdread::Description;
-use hz_reasons::{Calendar, Holder, Holders, Plan, Reason};
+use hz_reasons::{Frontier, Holder, Holders, Plan, Reason};
 use std::alloc::Global;
 
 /// Adds why an issue of the class is refused behind the events whose issues hold this: when it fits, what forbids each of its
@@ -53,27 +53,25 @@ fn add_refusal(
     Ok(())
 }
 
-/// Why an issue of the class is refused behind the events whose issues hold this, and which leave this reserved, whatever choices
-/// they are by: when it fits, what forbids each of its alternatives, and a picture of what stands reserved. `NoMemory` where there
-/// was none.
+/// Why an issue of the class is refused behind the events of all these choices, of which the first hold this: when it fits by any of
+/// them, and by the first what forbids each of its alternatives, and a picture of what stands reserved. `NoMemory` where there was none.
 pub fn tell_refusal(
     alloc: Global,
     desc: &Description,
     parts: &Parts,
     plan: &Plan,
-    calendar: Calendar,
+    frontier: Frontier,
     holders: &Holders,
     class: u32,
 ) -> Result<Vec<u8>, NoMemory>
     requires parts { IsPartsOf (description desc.now) parts.now }
     requires class { class < vec_len plan.now.classes }
-    requires each { vec_len calendar.grids ≡ vec_len plan.now.rules }
     requires wide { IsWide plan.now }
-    requires unbroken { AreUnbroken plan.now.rules.items calendar.grids.items }
-    ensures { IfOk result (λ text. (m : Pipeline UnitPlace) (t : List Event) (lines choices : List ℕ) → IsPlanOf m plan.now → Stands m calendar.grids.items (left_by m t choices) → AreHolders m t lines choices holders.now.issues.items → (wait : Option ℕ) × IsWait m (left_by m t choices) class wait × (text.items ≡ refusal_text (wording_of (description desc.now)) m t lines choices class wait)) }
+    requires entries { AreEntriesOf plan.now frontier }
+    ensures { IfOk result (λ text. (m : Pipeline UnitPlace) (t : List Event) (lines : List ℕ) → IsPlanOf m plan.now → IsFrontier m t frontier → AreHolders m t lines (first_of frontier).choices holders.now.issues.items → (wait : Option ℕ) × IsLeastWait m t class wait × (text.items ≡ refusal_text (wording_of (description desc.now)) m t lines (first_of frontier).choices class wait)) }
 {
-    let reasons = reasons(alloc, &calendar, plan, class)?;
-    let wait = calendar.wait(plan, class);
+    let reasons = reasons(alloc, frontier.first(), plan, class)?;
+    let wait = frontier.wait(alloc, plan, class)?;
     let mut text = Vec::new(alloc);
     add_refusal(
         alloc,

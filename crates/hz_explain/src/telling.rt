@@ -5,7 +5,7 @@ ghost use Rattle.hz_description_model.specs.Reservations.Automata.{UnitPlace};
 ghost use Rattle.hz_mdread.specs.Shape.{set_kind};
 ghost use Rattle.hz_pipeline_model.specs.Accepting.Replay.{Pipeline, State};
 ghost use Rattle.hz_why_model.specs.Answers.{set_word};
-ghost use Rattle.hz_why_model.specs.Explanations.{wait_line};
+ghost use Rattle.hz_why_model.specs.Explanations.{held_word, wait_line};
 ghost use Rattle.hz_reasons.specs.Plans.{unit_of, AreFuture, IsPlanOf};
 ghost use Rattle.hz_explain.specs.Telling as told;
 ghost use Rattle.hz_explain.specs.Telling.{AreReasons, wording_in, holder_in, pattern_in, pattern_numbered, pair_told, holder_told, units_told, pattern_told, broken_told, reason_told, alternative_told, alternatives_told, choice_told, later_told};
@@ -144,33 +144,45 @@ fn add_class(text: &mut Vec<u8>, desc: &Description, class: u32) -> Result<(), N
     add(text, class_name(desc, class))
 }
 
-/// Adds which issue holds something.
+/// Adds whether something is held in the present cycle, or planned for a later one.
+fn add_held(text: &mut Vec<u8>, present: bool) -> Result<(), NoMemory>
+    ensures { OnOk result (text.new.items ≡ text.old.items ++ held_word present) }
+{
+    if present {
+        return add(text, b" is held from line ");
+    }
+    add(text, b" is planned by line ")
+}
+
+/// Adds which issue holds something in a cycle.
 fn add_since(
     text: &mut Vec<u8>,
     desc: &Description,
     parts: &Parts,
+    cycle: u16,
     holder: Holder,
 ) -> Result<(), NoMemory>
-    ensures { OnOk result (text.new.items ≡ text.old.items ++ holder_told (wording_in desc.now parts.now) (Some holder)) }
+    ensures { OnOk result (text.new.items ≡ text.old.items ++ holder_told (wording_in desc.now parts.now) cycle (Some holder)) }
 {
-    add(text, b" is held since line ")?;
+    add_held(text, cycle == 0)?;
     add_number(text, holder.line)?;
     add(text, b", ")?;
     add_class(text, desc, holder.class)?;
     Ok(())
 }
 
-/// Adds which issue holds something, if one does.
+/// Adds which issue holds something in a cycle, if one does.
 fn add_holder(
     text: &mut Vec<u8>,
     desc: &Description,
     parts: &Parts,
+    cycle: u16,
     holder: Option<Holder>,
 ) -> Result<(), NoMemory>
-    ensures { OnOk result (text.new.items ≡ text.old.items ++ holder_told (wording_in desc.now parts.now) holder) }
+    ensures { OnOk result (text.new.items ≡ text.old.items ++ holder_told (wording_in desc.now parts.now) cycle holder) }
 {
     match holder {
-        Some(holder) => add_since(text, desc, parts, holder),
+        Some(holder) => add_since(text, desc, parts, cycle, holder),
         None => Ok(()),
     }
 }
@@ -223,7 +235,8 @@ fn add_taken(
         unit: pair.unit,
     };
     add_pair(text, desc, parts, unit, pair.cycle)?;
-    add_holder(text, desc, parts, holder(plan, issues, unit, pair.cycle))
+    let holder = holder(plan, issues, unit, pair.cycle);
+    add_holder(text, desc, parts, pair.cycle, holder)
 }
 
 /// Adds a set statement that is broken.
@@ -372,12 +385,12 @@ fn add_cycles_later(text: &mut Vec<u8>, cycles: u32) -> Result<(), NoMemory>
     add_later(text, cycles, cycles == 1)
 }
 
-/// Adds when a class fits; None if it never does.
+/// Adds when a class fits; None if it fits in no cycle.
 pub(crate) fn add_wait(text: &mut Vec<u8>, wait: Option<u32>) -> Result<(), NoMemory>
     ensures { OnOk result (text.new.items ≡ text.old.items ++ wait_line wait) }
 {
     match wait {
         Some(cycles) => add_cycles_later(text, cycles),
-        None => add(text, b"never fits\n"),
+        None => add(text, b"fits in no later cycle\n"),
     }
 }

@@ -138,7 +138,7 @@ fn left(
     tell_left(alloc, desc, parts, plan, &holders)
 }
 
-/// Why an issue of the class is refused behind accepted events, by the first choices.
+/// Why an issue of the class is refused behind accepted events.
 fn refusal(
     alloc: Global,
     desc: &Description,
@@ -155,12 +155,8 @@ fn refusal(
     requires entries { AreEntriesOf plan.now frontier }
     ensures { IfOk result (λ text. (m : Pipeline UnitPlace) → IsPlanOf m plan.now → IsFrontier m (events_in events.now) frontier → TellsRefusal (wording_of (description desc.now)) m (events_in events.now) (lines_in events.now) class text.items) }
 {
-    let holders = first_holders(alloc, plan, events, &frontier);
-    let calendar = frontier.into_first();
-    match holders {
-        Ok(holders) => tell_refusal(alloc, desc, parts, plan, calendar, &holders, class),
-        Err(NoMemory) => Err(NoMemory),
-    }
+    let holders = first_holders(alloc, plan, events, &frontier)?;
+    tell_refusal(alloc, desc, parts, plan, frontier, &holders, class)
 }
 
 /// The class of the issue at a place.

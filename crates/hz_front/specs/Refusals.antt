@@ -92,9 +92,9 @@ abbrev pub status_in : Decided → ℕ
 status_in (done status text) = status
 status_in (refused refusal) = status_of refusal
 
--- what is done has status 0 or 1
+-- what is done has a status of at most 3
 abbrev pub IsDoneLow : Decided → Type 0
-IsDoneLow (done status text) = status ≤ 1
+IsDoneLow (done status text) = status ≤ 3
 IsDoneLow (refused refusal) = ⊤
 
 -- what is decided is what is to be answered; want of memory may come in its place

@@ -19,11 +19,11 @@ pub trait Ending {
 
     ghost can_tell: { Self → Type 0 };
 
-    /// The status: 0, or 1 where a trace is refused.
+    /// The status, at most 3: what 0 to 3 mean is the program's own.
     fn status(&self) -> u8
         requires { can_tell self.now }
         ensures value { result ≡ status_of self.now }
-        ensures range { result ≤ 1 };
+        ensures range { result ≤ 3 };
 
     /// Writes the text: all of it, or a front of it if the sink failed, with one more fault. It takes no memory.
     fn write<S: Sink>(&self, out: &mut S) -> Result<(), Failed>
@@ -42,8 +42,8 @@ fn status_written(status: u8, written: Result<(), Failed>) -> u8
     }
 }
 
-/// Writes what is decided, and gives its status: 0 or 1 where it is done, 2 a fault, 3 a limit, 4 words, 5 memory, 6 a file. Where it is
-/// not written whole the status is 7.
+/// Writes what is decided, and gives its status: the program's own where it is done, else 2 a fault, 3 a limit, 4 words, 5 memory, 6 a
+/// file. Where it is not written whole the status is 7.
 pub fn finish<E: Ending, S: Sink>(decided: &Result<E, Refusal<'_>>, out: &mut S) -> u8
     requires sink { S.faults out.old < 2 ^ 64 - 1 }
     requires range { IfOk decided.now E.can_tell }

@@ -9,3 +9,5 @@ pub mod GroupSteps
 pub mod SearchLemmas
 pub mod SearchSteps
 pub mod SearchEnds
+pub mod JoinLaws
+pub mod AlikeLaws

@@ -5,3 +5,5 @@ pub mod Looking
 pub mod Symbols
 pub mod Comparing
 pub mod Along
+pub mod Grouping
+pub mod Joining

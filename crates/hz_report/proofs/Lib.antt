@@ -1,3 +1,2 @@
 pub mod BehindLemmas
-pub mod FaultLines
 pub mod ReplayLemmas

@@ -1,5 +1,3 @@
 pub mod Behind
-pub mod Faults
 pub mod Replays
-pub mod Reports
 pub mod Schedules

@@ -78,13 +78,14 @@ fn put_trace<S: Sink>(out: &mut S, issues: u64, cycles: u64, states: &[u32]) -> 
     }
 }
 
-/// Writes the text of a drill.
-pub fn put_drill<S: Sink>(
-    out: &mut S,
+/// Writes the text of a drill: its turns, the issues and cycles of its trace, and the state in which the trace leaves each automaton; all
+/// of it, or a front of it if the sink failed, with one more fault. It takes no memory. Source: this profile, docs/FORMATS.md, 'Answers'.
+pub fn write_drill<S: Sink>(
     turns: u32,
     issues: u64,
     cycles: u64,
     states: &[u32],
+    out: &mut S,
 ) -> Result<(), Failed>
     requires { S.faults out.old < 2 ^ 64 - 1 }
     ensures { Writes S.written S.room S.faults out.old out.new (model.drill_text turns issues cycles states.now) result }

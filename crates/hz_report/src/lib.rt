@@ -1,15 +1,12 @@
-//! The texts of the program: what it answers, as it is lent to be written, and the one call that writes it.
+//! The texts of replays, schedules and drills: one call each.
 #![tactic(auto)]
 
 mod behind;
 mod drilled;
-mod faults;
-mod limits;
 mod outcomes;
 mod replayed;
-mod report;
 mod scheduled;
-mod writing;
 
-pub use report::Report;
-pub use writing::write_report;
+pub use drilled::write_drill;
+pub use replayed::write_replay;
+pub use scheduled::write_schedule;

@@ -220,12 +220,14 @@ fn put_end<S: Sink>(
     }
 }
 
-/// Writes the text of a replay. The parts that are asked are walked once more up to their last ask.
-pub fn put_replayed<S: Sink>(
-    out: &mut S,
+/// Writes the text of a replay: all of it, or a front of it if the sink failed, with one more fault. The machine has the names of its
+/// classes and of its units that are asked for, the events their lines. The parts that are asked are walked once more up to their last
+/// ask. It takes no memory. Source: this profile, docs/FORMATS.md, 'Answers'.
+pub fn write_replay<S: Sink>(
     machine: &Machine,
     events: &[Event],
     outcome: &Outcome,
+    out: &mut S,
 ) -> Result<(), Failed>
     requires sink { S.faults out.old < 2 ^ 64 - 1 }
     requires replay { IsReplay machine.now events.now outcome.now }

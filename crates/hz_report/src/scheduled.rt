@@ -101,12 +101,13 @@ fn put_end<S: Sink>(out: &mut S, count: u64, cycle: u32) -> Result<(), Failed>
     )
 }
 
-/// Writes the text of a schedule.
-pub fn put_schedule<S: Sink>(
-    out: &mut S,
+/// Writes the text of a schedule: all of it, or a front of it if the sink failed, with one more fault. The machine has the names of its
+/// classes, the graph its instructions. It takes no memory. Source: this profile, docs/FORMATS.md, 'Answers'.
+pub fn write_schedule<S: Sink>(
     machine: &Machine,
     graph: &Graph,
     schedule: &Schedule,
+    out: &mut S,
 ) -> Result<(), Failed>
     requires sink { S.faults out.old < 2 ^ 64 - 1 }
     requires range { IsInRange machine.now graph.now schedule.now }

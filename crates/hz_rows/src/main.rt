@@ -1,4 +1,4 @@
-//! The rows: what `run` answers, over files and a sink in memory. The arguments name the files of rows, which stand in
+//! The rows: what `run` answers, over files and a sink in memory, that of `hz` or of `hz_same`. The arguments name the files of rows, which stand in
 //! `data`. Each row whose answer differs is printed, and each line that cannot be read; the last line counts rows and runs.
 //!
 //! An empty line says nothing, nor does one that begins with `;`. Rows are said by these lines:
@@ -6,7 +6,8 @@
 //! ```text
 //! group NAME         what is said before its first row holds for each of its rows
 //! row NAME           a row: what it says replaces what its group says
-//! words WORD WORD .. what `run` is given; `""` is a word without a letter. Several lines: each of them in turn
+//! words WORD WORD .. what `run` is given; `""` is a word without a letter. Several lines: each of them in turn. If the first is
+//!                    `hz_same`, it is for that program, and the others are what its `run` is given
 //! file NAME          a file, whose text follows. There are three at most
 //! reads COUNT        the most bytes that a read gives, 64 if it is not said
 //! fail CALL CALL     each call from the first number to the last fails, in a run of its own

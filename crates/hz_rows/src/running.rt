@@ -94,7 +94,7 @@ fn files_of(alloc: Global, files: &[Input], fail: Option<u64>, reads: usize) -> 
 }
 
 impl Run<'_> {
-    /// The status, and the sink with what was written.
+    /// The status, and the sink with what was written: by `hz_same` if the first word is that, else by `hz`.
     pub fn answer(&self, alloc: Global) -> io::Result<(u8, MemSink)> {
         if self.reads == 0 {
             return Err(unreadable());
@@ -102,7 +102,11 @@ impl Run<'_> {
         let words = words_of(alloc, self.words)?;
         let mut files = files_of(alloc, self.files, self.fail, self.reads)?;
         let mut out = MemSink::new(alloc, self.room)?;
-        let status = run(alloc, words.as_slice(), &mut files, &mut out);
+        let status = if words.is_empty() || words[0].as_str() != "hz_same" {
+            run(alloc, words.as_slice(), &mut files, &mut out)
+        } else {
+            hz_same_top::run(alloc, &words[1..], &mut files, &mut out)
+        };
         Ok((status, out))
     }
 }

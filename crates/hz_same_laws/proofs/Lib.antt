@@ -1,1 +1,3 @@
 pub mod WalkLaws
+pub mod ExampleLaws
+pub mod WrittenLaws

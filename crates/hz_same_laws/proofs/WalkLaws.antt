@@ -1,6 +1,6 @@
 -- What two machines walk of a word, and what their descriptions accept.
 use Rattle.std.proofs.Common.{◌≡◌, ◌⊎◌, ⊎_elim, inl, inr, ℕ, ◌<◌, ◌≤◌, Bool, true, false, List, [], ◌∷◌, ◌++◌, length, map, get_or, All, Option, Some, None, is_some, refl, sym, ap, ◌∙◌, subst, arith}
-use Rattle.std.specs.Prelude.{◌↔◌, ◌≢◌, option_and_then, unwrap_or, IsSome}
+use Rattle.std.specs.Prelude.{◌↔◌, ◌≢◌, option_and_then, unwrap_or, slice_index_or, IsSome}
 use Rattle.std.proofs.lemmas.Bool.{cases_lt}
 use Rattle.std.proofs.lemmas.List.{get_or_past, length-map, map-append}
 use Rattle.std.proofs.lemmas.List.Elements.{All-nil, All-cons, All-append, All-head, All-tail, All-get_or, All-filter, All-from_get_or, filter_passes, Contains-get_or}
@@ -10,21 +10,27 @@ use Rattle.hz_description_model.specs.Check.CheckFaults.{IsSound}
 use Rattle.hz_description_model.specs.Check.CheckedParts.{ClassParts, automata_of, class_parts}
 use Rattle.hz_description_model.specs.Check.Places.{Known}
 use Rattle.hz_description_model.specs.Reading.Descriptions.{Description}
-use Rattle.hz_pipeline_model.specs.Accepting.Events.{advance, IsOfClass}
+use Rattle.hz_pipeline_model.specs.Accepting.Asking.{IsOfQuery}
+use Rattle.hz_pipeline_model.specs.Accepting.Events.{Event, issue, advance, ask, IsOfClass}
 use Rattle.hz_pipeline_model.specs.Accepting.Replay.{Accepted}
 use Rattle.hz_pipeline_model.specs.Compiling.Compiled.{Report, IsCompiled}
 use Rattle.hz_pipeline_model.specs.Pipelines.Pipelines.{pipeline_with}
 use Rattle.hz_pipeline_model.specs.Tables.MachineNames.{names_of_machine}
-use Rattle.hz_pipeline_model.specs.Tables.Machines.{Machine, parts_walk, machine_walk, starts_of, names_of}
-use Rattle.hz_pipeline_model.specs.Traces.TraceNames.{query_place}
+use Rattle.hz_pipeline_model.specs.Tables.Machines.{Machine, parts_walk, machine_walk, starts_of, states_tell, names_of}
+use Rattle.hz_pipeline_model.specs.Traces.TraceNames.{TraceNames, query_place}
 use Rattle.hz_pipeline_model.proofs.Compiling.DescriptionLaws.{machine_accepts}
 use Rattle.hz_pipeline_model.proofs.Tables.MachineLaws.{parts_walk-append}
-use Rattle.hz_pipeline_model.proofs.Traces.NameLaws.{place_named}
+use Rattle.hz_pipeline_model.proofs.Traces.NameLaws.{place_named, query_named}
+use Rattle.hz_front_model.specs.Asks.{trace_names}
+use Rattle.hz_tabtext_model.specs.Texts.{TableText}
+use Rattle.hz_answer_model.specs.TableAnswers.{IsTablesOf}
+use Rattle.hz_answer_model.proofs.WalkLaws.{machine_names, told_is_held}
+use Rattle.hz_same_model.proofs.SingleLaws.{one_machine}
 use Rattle.hz_same_model.specs.Common.{Common, has_class, has_ask, common_of, issue_of, ask_at, ask_of, events_of, event_at, events_at, advance_symbol}
 use Rattle.hz_same_model.specs.Telling.{answer_in, AnswerTheSame, TellsApart}
 use Rattle.hz_same_model.proofs.NamedTraces.{has_own_class}
 use Rattle.hz_same_model.proofs.ProductLaws.{has_own, next_leads, answer_is, length-walked, walked_nothing, length-starts}
-use Rattle.hz_same_laws.specs.Shown.{IsShown}
+use Rattle.hz_same_laws.specs.Shown.{AcceptTheSame, IsShown, Takes}
 
 -- ---- events of classes
 
@@ -64,6 +70,34 @@ module _ (common : Common) (m : Machine) (held : All (λ name. has_class m name 
   word_within [] = All-nil (IsOfClass (length m.classes))
   word_within (symbol ∷ word) = All-cons (IsOfClass (length m.classes)) (event_at common m symbol) (events_at common m word) (event_within symbol) (word_within word)
 
+-- ---- asks of query units
+
+ask_of_query : (m : Machine) (o : Option (ℕ × ℕ)) (name : List ℕ) → query_place (names_of_machine m) name ≡ o → is_some o ≡ true → IsOfQuery (names_of_machine m).queries (ask_at m o)
+ask_of_query m None name e some = cc
+ask_of_query m (Some place) name e some =
+    slice_get_within (slice_index_or (names_of_machine m).queries place.0 []) place.1 name (query_named (names_of_machine m) name place.0 place.1 e)
+
+issues_of_query : (m : Machine) (names : List (List ℕ)) → All (IsOfQuery (names_of_machine m).queries) (map (issue_of m) names)
+issues_of_query m [] = All-nil (IsOfQuery (names_of_machine m).queries)
+issues_of_query m (name ∷ names) = All-cons (IsOfQuery (names_of_machine m).queries) (issue_of m name) (map (issue_of m) names) tt (issues_of_query m names)
+
+asks_of_query : (m : Machine) (names : List (List ℕ)) → All (λ name. has_ask m name ≡ true) names → All (IsOfQuery (names_of_machine m).queries) (map (ask_of m) names)
+asks_of_query m [] all = All-nil (IsOfQuery (names_of_machine m).queries)
+asks_of_query m (name ∷ names) all =
+    All-cons (IsOfQuery (names_of_machine m).queries) (ask_of m name) (map (ask_of m) names) (ask_of_query m (query_place (names_of_machine m) name) name refl (All-head (λ n. has_ask m n ≡ true) name names all))
+    (asks_of_query m names (All-tail (λ n. has_ask m n ≡ true) name names all))
+
+event_of_query : (common : Common) (m : Machine) → All (λ name. has_ask m name ≡ true) common.asks → (symbol : ℕ) → IsOfQuery (names_of_machine m).queries (event_at common m symbol)
+event_of_query common m held symbol = ⊎_elim
+    (λ (low : symbol < length (events_of common m)). All-get_or (IsOfQuery queries) (events_of common m) symbol (advance 0) low
+    (All-append (IsOfQuery queries) (map (issue_of m) common.classes) (advance 1 ∷ map (ask_of m) common.asks) (issues_of_query m common.classes)
+    (All-cons (IsOfQuery queries) (advance 1) (map (ask_of m) common.asks) tt (asks_of_query m common.asks held))))
+    (λ (high : length (events_of common m) ≤ symbol). subst (IsOfQuery queries) (sym (get_or_past (events_of common m) symbol (advance 0) high)) tt)
+    (cases_lt symbol (length (events_of common m)))
+  where
+    queries : List (List (List ℕ))
+    queries = (names_of_machine m).queries
+
 -- ---- what both machines walk
 
 is_there : (o o' : Option (List ℕ)) → is_some o ≡ is_some o' → IsSome o → IsSome o'
@@ -75,7 +109,7 @@ same_bool false false h = refl
 same_bool true false h = absurd (h (λ (e : true ≡ false). cc))
 same_bool false true h = absurd (h (λ (e : false ≡ true). cc))
 
-walked_more : (m : Machine) (common : Common) (u : List ℕ) (symbol : ℕ) (states : List ℕ) → machine_walk m (events_at common m u) ≡ Some states
+pub walked_more : (m : Machine) (common : Common) (u : List ℕ) (symbol : ℕ) (states : List ℕ) → machine_walk m (events_at common m u) ≡ Some states
     → machine_walk m (events_at common m (u ++ symbol ∷ [])) ≡ parts_walk m.parts states (event_at common m symbol ∷ [])
 walked_more m common u symbol states one =
     ap (machine_walk m) (map-append (event_at common m) u (symbol ∷ []))
@@ -89,25 +123,25 @@ module _ (first second : Machine) where
   abbrev IsLow : ℕ → Type 0
   IsLow s = s ≤ advance_symbol common
 
-  first_asks : All (λ name. has_ask first name ≡ true) common.asks
+  pub first_asks : All (λ name. has_ask first name ≡ true) common.asks
   first_asks = All-filter (has_ask second) (λ name. has_ask first name ≡ true) (names_of first.parts)
       (All-from_get_or (λ name. has_ask first name ≡ true) (names_of first.parts) [] (λ i low. has_own first (get_or (names_of first.parts) i []) (Contains-get_or (names_of first.parts) i [] low)))
 
-  second_asks : All (λ name. has_ask second name ≡ true) common.asks
+  pub second_asks : All (λ name. has_ask second name ≡ true) common.asks
   second_asks = filter_passes (has_ask second) (names_of first.parts)
 
-  first_classes : All (λ name. has_class first name ≡ true) common.classes
+  pub first_classes : All (λ name. has_class first name ≡ true) common.classes
   first_classes = All-filter (has_class second) (λ name. has_class first name ≡ true) first.classes
       (All-from_get_or (λ name. has_class first name ≡ true) first.classes [] (λ i low. has_own_class first (get_or first.classes i []) (Contains-get_or first.classes i [] low)))
 
-  second_classes : All (λ name. has_class second name ≡ true) common.classes
+  pub second_classes : All (λ name. has_class second name ≡ true) common.classes
   second_classes = filter_passes (has_class second) first.classes
 
   -- an answer to an issue or a cycle is whether it is walked
-  first_answer : (states : List ℕ) (symbol : ℕ) → IsLow symbol → length states ≡ length first.parts → answer_in first states (event_at common first symbol) ≡ is_some (parts_walk first.parts states (event_at common first symbol ∷ []))
+  pub first_answer : (states : List ℕ) (symbol : ℕ) → IsLow symbol → length states ≡ length first.parts → answer_in first states (event_at common first symbol) ≡ is_some (parts_walk first.parts states (event_at common first symbol ∷ []))
   first_answer states symbol low same = sym (answer_is common first first_asks symbol states (omega arith) same) ∙ ap is_some (next_leads common first first_asks symbol states low)
 
-  second_answer : (states : List ℕ) (symbol : ℕ) → IsLow symbol → length states ≡ length second.parts → answer_in second states (event_at common second symbol) ≡ is_some (parts_walk second.parts states (event_at common second symbol ∷ []))
+  pub second_answer : (states : List ℕ) (symbol : ℕ) → IsLow symbol → length states ≡ length second.parts → answer_in second states (event_at common second symbol) ≡ is_some (parts_walk second.parts states (event_at common second symbol ∷ []))
   second_answer states symbol low same = sym (answer_is common second second_asks symbol states (omega arith) same) ∙ ap is_some (next_leads common second second_asks symbol states low)
 
   module _ (answers : AnswerTheSame first second) where
@@ -150,61 +184,129 @@ module _ (first second : Machine) where
 
 -- ---- of descriptions
 
+pub no_yes : false ≡ true → ⊥
+no_yes h = cc
+
+some_states : (o : Option (List ℕ)) → IsSome o → (states : List ℕ) × (o ≡ Some states)
+some_states None h = absurd (no_yes h)
+some_states (Some states) h = (states, refl)
+
+some_same : (xs ys : List ℕ) → Some xs ≡ Some ys → xs ≡ ys
+some_same xs ys h = cc
+
+module _ (common : Common) (m : Machine) (held : All (λ name. has_class m name ≡ true) common.classes) (held_asks : All (λ name. has_ask m name ≡ true) common.asks)
+    (d : Description) (known : Known) (sound : IsSound d known) (reports : List Report) (is : IsCompiled d.options (automata_of d) (map (class_parts d known) d.classes) m reports) where
+  count : length m.classes ≡ length d.classes
+  count = ap length is.names ∙ (length-map (map (class_parts d known) d.classes) (λ (c : ClassParts). c.name) ∙ length-map d.classes (class_parts d known))
+
+  in_classes : (word : List ℕ) → All (IsOfClass (length d.classes)) (events_at common m word)
+  in_classes word = subst (λ (k : ℕ). All (IsOfClass k) (events_at common m word)) count (word_within common m held word)
+
+  accepts : (word : List ℕ) → IsSome (machine_walk m (events_at common m word)) ↔ Accepted (pipeline_with d known) (events_at common m word)
+  accepts word = machine_accepts d known m reports is (events_at common m word) (in_classes word) sound
+
+  -- what the machine answers is what the description says
+  takes : (before : List ℕ) (last : ℕ) (states : List ℕ) → machine_walk m (events_at common m before) ≡ Some states → (answer_in m states (event_at common m last) ≡ true) ↔ Takes d known (events_at common m before) (event_at common m last)
+  takes before last states one =
+      by_event (event_at common m last) (event_within common m held last)
+      (subst (λ (names : TraceNames). IsOfQuery names.queries (event_at common m last)) (machine_names d known m reports is) (event_of_query common m held_asks last))
+    where
+      t : List Event
+      t = events_at common m before
+
+      walks : (e : Event) → machine_walk m (t ++ e ∷ []) ≡ parts_walk m.parts states (e ∷ [])
+      walks e = parts_walk-append m.parts (starts_of m) t (e ∷ []) ∙ ap (option_and_then (λ next. parts_walk m.parts next (e ∷ []))) one
+
+      accepted : (e : Event) → IsOfClass (length m.classes) e → IsSome (machine_walk m (t ++ e ∷ [])) ↔ Accepted (pipeline_with d known) (t ++ e ∷ [])
+      accepted e of_class =
+          machine_accepts d known m reports is (t ++ e ∷ [])
+          (All-append (IsOfClass (length d.classes)) t (e ∷ []) (in_classes before) (All-cons (IsOfClass (length d.classes)) e [] (subst (λ (k : ℕ). IsOfClass k e) count of_class) (All-nil (IsOfClass (length d.classes))))) sound
+
+      by_event : (e : Event) → IsOfClass (length m.classes) e → IsOfQuery (trace_names d).queries e → (answer_in m states e ≡ true) ↔ Takes d known t e
+      by_event (issue class) of_class of_query =
+          let both = accepted (issue class) of_class in
+          (λ h. both.0 (ap is_some (walks (issue class)) ∙ h), λ h. sym (ap is_some (walks (issue class))) ∙ both.1 h)
+      by_event (advance cycles) of_class of_query =
+          let both = accepted (advance cycles) of_class in
+          (λ h. both.0 (ap is_some (walks (advance cycles)) ∙ h), λ h. sym (ap is_some (walks (advance cycles))) ∙ both.1 h)
+      by_event (ask a query) of_class of_query =
+          let both = told_is_held d known m reports is sound t a query (ap is_some one) (in_classes before) of_query in
+          (λ h. both.0 (states, one, h), λ h. let told = both.1 h in subst (λ (xs : List ℕ). states_tell m xs a query ≡ true) (some_same told.0 states (sym told.1 ∙ one)) told.2)
+
 module _ (d e : Description) (known also : Known) (sound : IsSound d known) (sound' : IsSound e also) (m n : Machine) (reports others : List Report)
     (is : IsCompiled d.options (automata_of d) (map (class_parts d known) d.classes) m reports) (is' : IsCompiled e.options (automata_of e) (map (class_parts e also) e.classes) n others) where
   abbrev shared : Common
   shared = common_of m n
 
-  count : length m.classes ≡ length d.classes
-  count = ap length is.names ∙ (length-map (map (class_parts d known) d.classes) (λ (c : ClassParts). c.name) ∙ length-map d.classes (class_parts d known))
+  accepts_one : (word : List ℕ) → IsSome (machine_walk m (events_at shared m word)) ↔ Accepted (pipeline_with d known) (events_at shared m word)
+  accepts_one = accepts shared m (first_classes m n) (first_asks m n) d known sound reports is
 
-  count' : length n.classes ≡ length e.classes
-  count' = ap length is'.names ∙ (length-map (map (class_parts e also) e.classes) (λ (c : ClassParts). c.name) ∙ length-map e.classes (class_parts e also))
+  accepts_other : (word : List ℕ) → IsSome (machine_walk n (events_at shared n word)) ↔ Accepted (pipeline_with e also) (events_at shared n word)
+  accepts_other = accepts shared n (second_classes m n) (second_asks m n) e also sound' others is'
 
-  accepts : (word : List ℕ) → IsSome (machine_walk m (events_at shared m word)) ↔ Accepted (pipeline_with d known) (events_at shared m word)
-  accepts word = machine_accepts d known m reports is (events_at shared m word) (subst (λ (k : ℕ). All (IsOfClass k) (events_at shared m word)) count (word_within shared m (first_classes m n) word)) sound
+  takes_one : (before : List ℕ) (last : ℕ) (states : List ℕ) → machine_walk m (events_at shared m before) ≡ Some states → (answer_in m states (event_at shared m last) ≡ true) ↔ Takes d known (events_at shared m before) (event_at shared m last)
+  takes_one = takes shared m (first_classes m n) (first_asks m n) d known sound reports is
 
-  accepts' : (word : List ℕ) → IsSome (machine_walk n (events_at shared n word)) ↔ Accepted (pipeline_with e also) (events_at shared n word)
-  accepts' word = machine_accepts e also n others is' (events_at shared n word) (subst (λ (k : ℕ). All (IsOfClass k) (events_at shared n word)) count' (word_within shared n (second_classes m n) word)) sound'
+  takes_other : (before : List ℕ) (last : ℕ) (states : List ℕ) → machine_walk n (events_at shared n before) ≡ Some states → (answer_in n states (event_at shared n last) ≡ true) ↔ Takes e also (events_at shared n before) (event_at shared n last)
+  takes_other = takes shared n (second_classes m n) (second_asks m n) e also sound' others is'
 
-  pub accept_same : AnswerTheSame m n → (word : List ℕ) → All (λ s. s ≤ advance_symbol shared) word → Accepted (pipeline_with d known) (events_at shared m word) ↔ Accepted (pipeline_with e also) (events_at shared n word)
-  accept_same answers word low =
-      let same = walk_same m n answers word low in (
-        (λ h. (accepts' word).0 (is_there (machine_walk m (events_at shared m word)) (machine_walk n (events_at shared n word)) same ((accepts word).1 h))),
-        (λ h. (accepts word).0 (is_there (machine_walk n (events_at shared n word)) (machine_walk m (events_at shared m word)) (sym same) ((accepts' word).1 h))),
-      )
-
-  some_walk : (o : Option (List ℕ)) (xs : List ℕ) → o ≡ Some xs → IsSome o
-  some_walk o xs e = ap is_some e
-
-  none_walk : (o : Option (List ℕ)) → is_some o ≡ false → IsSome o → ⊥
-  none_walk o e h = no_yes (sym e ∙ h)
-    where
-      no_yes : false ≡ true → ⊥
-      no_yes k = cc
-
-  yes_walk : (o : Option (List ℕ)) → is_some o ≡ true → IsSome o
-  yes_walk o e = e
-
-  pub shows : (before : List ℕ) (last : ℕ) → TellsApart m n before last → last ≤ advance_symbol shared → IsShown (pipeline_with d known) (pipeline_with e also) shared m n before last
-  shows before last t low = record {
-    one = (accepts before).0 (some_walk (machine_walk m (events_at shared m before)) t.states t.one);
-    other = (accepts' before).0 (some_walk (machine_walk n (events_at shared n before)) t.others t.other);
-    exactly = by_answers (is_some (machine_walk m (events_at shared m whole))) (is_some (machine_walk n (events_at shared n whole))) refl refl;
+  pub shows : (before : List ℕ) (last : ℕ) → TellsApart m n before last → IsShown d known e also m n before last
+  shows before last t = record {
+    one = (accepts_one before).0 (ap is_some t.one);
+    other = (accepts_other before).0 (ap is_some t.other);
+    exactly = by_answers (answer_in m t.states (event_at shared m last)) (answer_in n t.others (event_at shared n last)) refl refl;
   }
     where
-      whole : List ℕ
-      whole = before ++ last ∷ []
+      Own : Type 0
+      Own = Takes d known (events_at shared m before) (event_at shared m last)
 
-      walked : is_some (machine_walk m (events_at shared m whole)) ≡ answer_in m t.states (event_at shared m last)
-      walked = ap is_some (walked_more m shared before last t.states t.one) ∙ sym (first_answer m n t.states last low (length-walked m.parts (starts_of m) (events_at shared m before) t.states t.one))
+      Other : Type 0
+      Other = Takes e also (events_at shared n before) (event_at shared n last)
 
-      walked' : is_some (machine_walk n (events_at shared n whole)) ≡ answer_in n t.others (event_at shared n last)
-      walked' = ap is_some (walked_more n shared before last t.others t.other) ∙ sym (second_answer m n t.others last low (length-walked n.parts (starts_of n) (events_at shared n before) t.others t.other))
+      own : (answer_in m t.states (event_at shared m last) ≡ true) ↔ Own
+      own = takes_one before last t.states t.one
 
-      by_answers : (a b : Bool) → is_some (machine_walk m (events_at shared m whole)) ≡ a → is_some (machine_walk n (events_at shared n whole)) ≡ b
-          → (Accepted (pipeline_with d known) (events_at shared m whole) × (Accepted (pipeline_with e also) (events_at shared n whole) → ⊥)) ⊎ ((Accepted (pipeline_with d known) (events_at shared m whole) → ⊥) × Accepted (pipeline_with e also) (events_at shared n whole))
-      by_answers true true x y = absurd (t.otherwise (sym walked ∙ (x ∙ (sym y ∙ walked'))))
-      by_answers false false x y = absurd (t.otherwise (sym walked ∙ (x ∙ (sym y ∙ walked'))))
-      by_answers true false x y = inl ((accepts whole).0 (yes_walk (machine_walk m (events_at shared m whole)) x), λ h. none_walk (machine_walk n (events_at shared n whole)) y ((accepts' whole).1 h))
-      by_answers false true x y = inr ((λ h. none_walk (machine_walk m (events_at shared m whole)) x ((accepts whole).1 h)), (accepts' whole).0 (yes_walk (machine_walk n (events_at shared n whole)) y))
+      other : (answer_in n t.others (event_at shared n last) ≡ true) ↔ Other
+      other = takes_other before last t.others t.other
+
+      by_answers : (a b : Bool) → answer_in m t.states (event_at shared m last) ≡ a → answer_in n t.others (event_at shared n last) ≡ b → (Own × (Other → ⊥)) ⊎ ((Own → ⊥) × Other)
+      by_answers true true x y = absurd (t.otherwise (x ∙ sym y))
+      by_answers false false x y = absurd (t.otherwise (x ∙ sym y))
+      by_answers true false x y = inl (own.0 x, λ h. no_yes (sym y ∙ other.1 h))
+      by_answers false true x y = inr ((λ h. no_yes (sym x ∙ own.1 h)), other.0 y)
+
+  -- the machines answer the same exactly if the descriptions accept the same
+  pub accept_same : AnswerTheSame m n ↔ AcceptTheSame d known e also m n
+  accept_same = (to, from)
+    where
+      to : AnswerTheSame m n → AcceptTheSame d known e also m n
+      to answers = record {
+        accepts = λ word low.
+            let same = walk_same m n answers word low in (
+              (λ h. (accepts_other word).0 (is_there (machine_walk m (events_at shared m word)) (machine_walk n (events_at shared n word)) same ((accepts_one word).1 h))),
+              (λ h. (accepts_one word).0 (is_there (machine_walk n (events_at shared n word)) (machine_walk m (events_at shared m word)) (sym same) ((accepts_other word).1 h))),
+            );
+        takes = λ before last low there one other.
+            let states = some_states (machine_walk m (events_at shared m before)) ((accepts_one before).1 one) in
+            let others = some_states (machine_walk n (events_at shared n before)) ((accepts_other before).1 other) in
+            let same : answer_in m states.0 (event_at shared m last) ≡ answer_in n others.0 (event_at shared n last) =
+            same_bool (answer_in m states.0 (event_at shared m last)) (answer_in n others.0 (event_at shared n last))
+            (λ apart. answers before last (record { walked = low; there = there; states = states.0; others = others.0; one = states.1; other = others.1; otherwise = apart })) in
+            let own = takes_one before last states.0 states.1 in
+            let its = takes_other before last others.0 others.1 in
+            (λ h. its.0 (sym same ∙ own.1 h), λ h. own.0 (same ∙ its.1 h));
+      }
+
+      from : AcceptTheSame d known e also m n → AnswerTheSame m n
+      from accept before last t =
+          let shown = shows before last t in
+          let both = accept.takes before last t.walked t.there shown.one shown.other in
+          ⊎_elim (λ own. own.1 (both.0 own.0)) (λ other. other.0 (both.1 other.1)) shown.exactly
+
+-- ---- of texts
+
+pub texts_same : (d e : Description) (known also : Known) → IsSound d known → IsSound e also → (text other : List ℕ) → IsTablesOf d known text → IsTablesOf e also other → (m n : Machine) → TableText text m → TableText other n → AnswerTheSame m n ↔ AcceptTheSame d known e also m n
+texts_same d e known also sound sound' text other is is' m n reads reads' =
+    subst (λ (x : Machine). AnswerTheSame x n ↔ AcceptTheSame d known e also x n) (one_machine text is.machine m is.stands reads)
+    (subst (λ (y : Machine). AnswerTheSame is.machine y ↔ AcceptTheSame d known e also is.machine y) (one_machine other is'.machine n is'.stands reads')
+    (accept_same d e known also sound sound' is.machine is'.machine is.reports is'.reports is.compiled is'.compiled))

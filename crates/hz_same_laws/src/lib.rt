@@ -2,3 +2,5 @@
 #![tactic(auto)]
 
 pub mod descriptions;
+pub mod examples;
+pub mod written;

@@ -5,3 +5,5 @@ pub mod GroupLaws
 pub mod TellingLaws
 pub mod NamedTraces
 pub mod SameLaws
+pub mod SingleLaws
+pub mod DecidingLaws

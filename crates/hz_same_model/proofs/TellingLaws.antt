@@ -1,11 +1,11 @@
 -- What tells machines apart: there is one least trace, and a machine answers as itself.
-use Rattle.std.proofs.Common.{◌≡◌, ℕ, ◌<◌, List, length, All, Some, sym, ap, ◌∙◌, subst, ⊎_elim}
+use Rattle.std.proofs.Common.{◌≡◌, ℕ, List, Some, sym, ap, ◌∙◌, subst, ⊎_elim}
 use Rattle.hz_pipeline_model.specs.Tables.Machines.{Machine}
 use Rattle.hz_same_model.specs.Words.{IsEarlier}
 use Rattle.hz_same_model.specs.Common.{common_of, events_of, event_at}
 use Rattle.hz_same_model.specs.Telling.{IsLeast, AnswerTheSame, answer_in}
-use Rattle.hz_same_model.specs.Products.{HasNoDifference, move_of, start_of, product_of}
-use Rattle.hz_same_model.specs.Groups.{group_of}
+use Rattle.hz_same_model.specs.Products.{product_of}
+use Rattle.hz_same_model.specs.Groups.{AreGrouped}
 use Rattle.hz_same_model.proofs.WordLaws.{earlier_or}
 use Rattle.hz_same_model.proofs.ProductLaws.{difference_of_trace, length-components}
 use Rattle.hz_same_model.proofs.GroupLaws.{no_group_differs}
@@ -30,9 +30,8 @@ answers_itself m before last t =
     some_same : (a b : List ℕ) → Some a ≡ Some b → a ≡ b
     some_same a b h = cc
 
-pub groups_answer : (first second : Machine) (groups others : List ℕ) (count : ℕ) → length first.parts ≡ length groups → length second.parts ≡ length others → All (λ g. g < count) groups → All (λ g. g < count) others
-    → ((group : ℕ) → group < count → HasNoDifference (move_of (group_of (product_of first second) groups others group)) (product_of first second).symbols (start_of (group_of (product_of first second) groups others group))) → AnswerTheSame first second
-groups_answer first second groups others count e e' all all' none before last t =
-    no_group_differs (product_of first second) groups others
-    (length-components (events_of (common_of first second) first) 0 first.parts ∙ e) (length-components (events_of (common_of first second) second) 0 second.parts ∙ e')
-    count all all' none before last (difference_of_trace first second before last t)
+pub groups_answer : (first second : Machine) → AreGrouped first second → AnswerTheSame first second
+groups_answer first second g before last t =
+    no_group_differs (product_of first second) g.groups g.others
+    (length-components (events_of (common_of first second) first) 0 first.parts ∙ g.each) (length-components (events_of (common_of first second) second) 0 second.parts ∙ g.each_other)
+    g.count g.low g.low_others g.same before last (difference_of_trace first second before last t)

@@ -1,11 +1,10 @@
 //! Laws of what tells machines apart.
 
-ghost use Rattle.std.specs.Prelude.{◌≡◌, ◌<◌, ◌++◌, ◌∷◌, [], ℕ, List, length, All};
+ghost use Rattle.std.specs.Prelude.{◌≡◌, [], ℕ, List};
 ghost use Rattle.hz_pipeline_model.specs.Tables.Machines.{Machine};
-ghost use Rattle.hz_same_model.specs.Words.{IsEarlier};
-ghost use Rattle.hz_same_model.specs.Telling.{TellsApart, IsLeast, AnswerTheSame};
-ghost use Rattle.hz_same_model.specs.Products.{HasNoDifference, move_of, start_of, product_of};
-ghost use Rattle.hz_same_model.specs.Groups.{group_of};
+ghost use Rattle.hz_same_model.specs.Common.{asks_alone, classes_alone};
+ghost use Rattle.hz_same_model.specs.Telling.{IsLeast, AnswerTheSame, AreSame};
+ghost use Rattle.hz_same_model.specs.Groups.{AreGrouped};
 
 /// There is at most one least trace: none tells machines apart where they answer the same, and no two are the least.
 pub fn one_least_trace()
@@ -18,7 +17,9 @@ pub fn machines_answer_as_themselves()
     ensures { (m : Machine) → AnswerTheSame m m }
 {}
 
-/// Machines answer the same where the automata of both are in groups, each of which has no difference by itself.
+/// Machines answer the same where the automata of both are in groups, each of which has no difference by itself, whatever the groups are.
+/// If no name is of one alone, they are the same.
 pub fn machines_of_groups_answer_the_same()
-    ensures { (first second : Machine) (groups others : List ℕ) (count : ℕ) → length first.parts ≡ length groups → length second.parts ≡ length others → All (λ g. g < count) groups → All (λ g. g < count) others → ((group : ℕ) → group < count → HasNoDifference (move_of (group_of (product_of first second) groups others group)) (product_of first second).symbols (start_of (group_of (product_of first second) groups others group))) → AnswerTheSame first second }
+    ensures answers { (first second : Machine) → AreGrouped first second → AnswerTheSame first second }
+    ensures same { (first second : Machine) → AreGrouped first second → classes_alone first second ≡ [] → classes_alone second first ≡ [] → asks_alone first second ≡ [] → asks_alone second first ≡ [] → AreSame first second }
 {}

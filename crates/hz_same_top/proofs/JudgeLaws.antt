@@ -12,10 +12,10 @@ use Rattle.hz_front.specs.Refusals.{Agrees, Answers, Decided, done}
 use Rattle.hz_front.specs.declared.refusal.Refusal.{Refusal}
 use Rattle.hz_front.proofs.AnswerLemmas.{agrees_weaker, answers_weaker}
 use Rattle.hz_front.proofs.ReadLemmas.{reads_all, refuses_all}
-use Rattle.hz_compare_model.proofs.DecidingLaws.{decides, may_exact}
+use Rattle.hz_same_model.proofs.DecidingLaws.{decides, may_exact}
 use Rattle.hz_front.specs.Endings.{Completes}
-use Rattle.hz_compare_model.specs.Answers.{AreCompared, Decides, Compares, ComparesFiles, JudgesTables, MayAnswer, PassPairs, PassesPairs, SameAnswer, same_files, same_usage}
-use Rattle.hz_compare.specs.Telling.{MayCompare, Or}
+use Rattle.hz_same_model.specs.Answers.{AreCompared, Decides, Compares, ComparesFiles, JudgesTables, MayAnswer, PassPairs, PassesPairs, SameAnswer, same_files, same_usage}
+use Rattle.hz_same_top.specs.Telling.{MayCompare, Or}
 use Rattle.hz_same_top.specs.Deciding.{MayCompareFiles, MayCompareWith, MayJudge, MayJudgeAll, TextsPass}
 
 or_map : (answers others : ℕ → List ℕ → Type 0) (pass after : Type 0) (s : ℕ) (t : List ℕ) → (answers s t → others s t) → (pass → after) → Or answers pass s t → Or others after s t

@@ -1,2 +1,5 @@
-pub mod RunLemmas
 pub mod JudgeLaws
+pub mod LineLaws
+pub mod NameLaws
+pub mod TraceLaws
+pub mod FoundLaws

@@ -1,15 +1,15 @@
 -- What is decided before anything is written: what is found of two machines, or a refusal.
-use Rattle.std.specs.Prelude.{◌≡◌, ⊤, ℕ, ◌≤◌, List, [], ◌∷◌, Some, Result, MatchOption, Contains, length}
+use Rattle.std.specs.Prelude.{◌≡◌, ℕ, ◌≤◌, List, [], ◌∷◌, Some, Result, MatchOption, Contains, length}
 use Rattle.hz_base_model.specs.Names.{Held}
-use Rattle.hz_front.specs.Refusals.{Decided, done, refused, decided_by}
+use Rattle.hz_front.specs.Refusals.{Decided, decided_by}
 use Rattle.hz_front.specs.Refusals as refusals
 use Rattle.hz_front.specs.declared.refusal.Refusal.{Refusal}
 use Rattle.hz_pipeline_model.specs.Tables.Machines.{Machine}
 use Rattle.hz_tabtext_model.specs.Texts.{TableText}
 use Rattle.hz_answer_model.specs.TableAnswers.{tables_limit, HasTables}
-use Rattle.hz_compare_model.specs.Answers.{same_files, Compares, ComparesFiles, PassPairs, JudgesTables}
-use Rattle.hz_compare.specs.Telling.{Or}
-use Rattle.hz_compare.specs.declared.telling.Compared.{Compared}
+use Rattle.hz_same_model.specs.Answers.{same_files, Compares, ComparesFiles, PassPairs, JudgesTables}
+use Rattle.hz_same_top.specs.Telling.{Or}
+use Rattle.hz_same_top.specs.declared.telling.Compared.{Compared}
 
 -- what is decided, by the status and the text of what is found
 abbrev pub decided_in : Result Compared Refusal → Decided
@@ -18,11 +18,6 @@ decided_in result = decided_by (λ compared. compared.status) (λ compared. comp
 -- what is decided is what is to be answered; want of memory may come in its place
 abbrev pub Answers : (ℕ → List ℕ → Type 0) → Result Compared Refusal → Type 0
 Answers answers result = refusals.Answers answers (decided_in result)
-
--- what is done has a status of at most 3
-abbrev pub IsDoneFew : Decided → Type 0
-IsDoneFew (done status text) = status ≤ 3
-IsDoneFew (refused refusal) = ⊤
 
 -- one of the two files
 abbrev pub IsOneOf : List ℕ × List ℕ → List ℕ → Type 0

@@ -9,9 +9,9 @@ ghost use Rattle.hz_tabtext_model.specs.Texts.{TableText};
 ghost use Rattle.hz_front.specs.Refusals as refusals;
 ghost use Rattle.hz_front.specs.Refusals.{IsJudged};
 ghost use Rattle.hz_same_top.specs.Deciding.{Answers, MayCompareWith, MayJudge};
-ghost use Rattle.hz_compare.specs.Telling.{MayCompare};
+ghost use Rattle.hz_same_top.specs.Telling.{MayCompare};
 
-use hz_compare::{Compared, compare_machines};
+use crate::telling::{Compared, compare_machines};
 use hz_front::refusal::Refusal;
 use hz_front::refusing::refuse_fault;
 use hz_tabfile::read_tables;

@@ -1,9 +1,12 @@
-//! The top call of the program that compares two tables texts.
+//! The top call of the program that compares two tables texts, and the text of what is found.
 #![tactic(auto)]
 
-mod ending;
+mod adding;
+mod alone;
 mod judging;
+mod telling;
 mod top;
+mod tracing;
 mod words;
 
 pub use top::run;

@@ -9,13 +9,13 @@ ghost use Rattle.hz_front.specs.Endings.{AppendsFile, Completes, DecidesWords, H
 ghost use Rattle.hz_front.specs.Reading.{texts_in, word_of};
 ghost use Rattle.hz_front.specs.Refusals.{CountsDecided, IsJudged, NamesIn};
 ghost use Rattle.hz_tool_words.specs.Shape.{words_in};
-ghost use Rattle.hz_compare_model.specs.Answers.{AreCompared, Decides, MayAnswer, PassesPairs, SameAnswer, same_files, same_usage};
+ghost use Rattle.hz_same_model.specs.Answers.{AreCompared, Decides, MayAnswer, PassesPairs, SameAnswer, same_files, same_usage};
 ghost use Rattle.hz_same_top.specs.Deciding.{Answers, IsFileWord, IsOneOf, MayCompareFiles, MayJudgeAll, decided_in};
 
-use crate::ending::finish;
 use crate::judging::compare_texts;
+use crate::telling::Compared;
 use crate::words::files_named;
-use hz_compare::Compared;
+use hz_front::ending::finish;
 use hz_front::reading::{FileWord, read_all};
 use hz_front::refusal::Refusal;
 use hz_io::{Files, Sink};

@@ -2,7 +2,7 @@
 
 ghost use Rattle.std.specs.Prelude.{◌≡◌};
 ghost use Rattle.std.specs.Option.{option_map};
-ghost use Rattle.hz_compare_model.specs.Answers.{same_files};
+ghost use Rattle.hz_same_model.specs.Answers.{same_files};
 ghost use Rattle.hz_tool_words.specs.Shape.{pair_in, words_in};
 
 use hz_tool_words::has_option;

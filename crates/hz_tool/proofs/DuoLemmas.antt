@@ -1,5 +1,5 @@
 -- The schedule that is made of two blocks is the one by the description, and its text is told; or the first that can't be issued is.
-use Rattle.std.proofs.Common.{◌≡◌, ◌⊎◌, ⊎_elim, inl, inr, ℕ, ◌<◌, Bool, true, false, List, length, map, All, Option, Some, None, MatchBool, nat_lt, refl, sym, ap, ◌∙◌, subst, arith}
+use Rattle.std.proofs.Common.{◌≡◌, ◌⊎◌, ⊎_elim, inl, inr, ℕ, ◌<◌, List, length, map, All, Option, Some, None, MatchBool, refl, sym, ap, ◌∙◌, subst, arith}
 use Rattle.std.specs.Prelude.{Err, ◌==◌, unwrap_or}
 use Rattle.std.specs.Borrow.{Bor}
 use Rattle.std.proofs.lemmas.List.Elements.{All-append}
@@ -7,17 +7,13 @@ use Rattle.hz_pipeline_model.specs.Accepting.Events.{Event, IsOfClass}
 use Rattle.hz_pipeline_model.specs.Accepting.Replay.{Accepted}
 use Rattle.hz_pipeline_model.specs.Pipelines.Pipelines.{pipeline_with}
 use Rattle.hz_answer_model.proofs.WalkLaws.{map_twice}
-use Rattle.hz_answer_model.specs.BlockAnswers.{HasAtMost}
 use Rattle.hz_answer_model.specs.DuoAnswers.{StartsTwo, TellsTwo}
-use Rattle.hz_front_model.specs.Phases.{Says}
 use Rattle.hz_answer_model.specs.ScheduleAnswers.{Starts}
-use Rattle.hz_front_model.specs.Texts.{insns_line}
 use Rattle.hz_pipeline_model.specs.Tables.Machines.{Machine, IsWalked}
 use Rattle.hz_block_model.proofs.Scheduling.SameSchedules.{legal_there, greedy_there}
 use Rattle.hz_block_model.proofs.Scheduling.StuckLaws.{first_stuck as stuck_first}
 use Rattle.hz_block_model.specs.Running.Blocks.{Instruction}
 use Rattle.hz_block_model.specs.Scheduled.BlockGraphs.{IsGraphOf}
-use Rattle.hz_block_model.specs.Scheduled.BlockSchedules.{StartsAlone}
 use Rattle.hz_block_model.specs.Scheduling.Machines.{cannot_start_alone}
 use Rattle.hz_block_model.specs.Scheduling.Schedules.{Graph, Node, Slot, Legal, Greedy, present}
 use Rattle.hz_depend.specs.declared.parts.Graph as depend
@@ -36,27 +32,15 @@ use Rattle.hz_rtl.specs.declared.block.Block.{Block}
 use Rattle.hz_rtl.specs.declared.block.Insn.{Insn}
 use Rattle.hz_sched.specs.Shape.{graph_of}
 use Rattle.hz_sched.specs.declared.fault.SchedFault.TheVariants as sched
-use Rattle.hz_tool.proofs.AnswerLemmas.{agrees_weaker}
-use Rattle.hz_tool.proofs.BlockTelling.{stuck_told}
+use Rattle.hz_front.proofs.AnswerLemmas.{agrees_weaker}
+use Rattle.hz_front.specs.Refusals.{Agrees}
+use Rattle.hz_front.specs.declared.refusal.Refusal.{Refusal}
+use Rattle.hz_tool.proofs.BlockRefusals.{stuck_told}
+use Rattle.hz_tool.proofs.JudgeLemmas.{starts_then}
 use Rattle.hz_tool.proofs.StartLemmas.{each_starts, first_stuck}
-use Rattle.hz_tool.specs.Decisions.{Agrees}
 use Rattle.hz_tool.specs.Machines.{IsMachineFor}
 use Rattle.hz_tool.specs.Pairs.{IsStuckOfTwo, TellsStuckOfTwo}
-use Rattle.hz_tool.specs.Telling.{TellsStuck}
-use Rattle.hz_tool.specs.declared.decision.Decision.{Decision}
-use Rattle.hz_tool.specs.declared.decision.Decision.TheVariants as decision
-
--- ---- how many instructions there are
-
--- instructions that are few enough lead on
-pub few_on : (most count : ℕ) (name : List ℕ) (next : ℕ → List ℕ → Type 0) (told : Decision) → nat_lt most count ≡ false → Agrees next told → Agrees (HasAtMost most count name next) told
-few_on most count name next told low =
-    agrees_weaker next (HasAtMost most count name next) (λ s t h. subst (λ (b : Bool). MatchBool b (Says 3 (insns_line name) s t) (next s t)) (sym low) h) told
-
--- of too many the block is told
-pub many_told : (most count : ℕ) (file : Bor (List ℕ)) (next : ℕ → List ℕ → Type 0) → nat_lt most count ≡ true → Agrees (HasAtMost most count file.now next) (decision.Insns file)
-many_told most count file next high =
-    subst (λ (b : Bool). MatchBool b (Says 3 (insns_line file.now) 3 (insns_line file.now)) (next 3 (insns_line file.now))) (sym high) (refl, refl)
+use Rattle.hz_tool.specs.Refusing.{TellsStuck}
 
 -- ---- which instruction is told
 
@@ -83,15 +67,11 @@ pair_within n k m g h (duo.CannotStartAlone c place) one other e =
     (first_told (cannot_start_alone m g) (cannot_start_alone m h) c place e)
 pair_within n k m g h duo.NoMemory one other e = tt
 
--- instructions that can be issued from the start lead on
-starts_on : (name : List ℕ) (d : Description) (known : Known) (block : List Instruction) (next : ℕ → List ℕ → Type 0) (told : Decision) → All (StartsAlone d known) block → Agrees next told → Agrees (Starts name d known block next) told
-starts_on name d known block next told all = agrees_weaker next (Starts name d known block next) (λ s t h. inl (all, h)) told
-
 module _ (d : Description) (known : Known) (m : Machine) (is : IsMachineFor d known m) where
   module _ (one other : List Insn) (g h : Graph) (first_graph : IsGraphOf d (map instruction one) g) (second_graph : IsGraphOf d (map instruction other) h)
       (mine : All (λ n. n.class < length d.classes) g.nodes) (yours : All (λ n. n.class < length d.classes) h.nodes) where
     -- what is told is the answer, where what is told first can't be issued
-    pub pair_refused : (first second : Bor (List ℕ)) (fault : DuoFault) (told : Decision) → stuck_in (Err fault) ≡ stuck_of_two m g h → TellsStuckOfTwo first second one other fault told
+    pub pair_refused : (first second : Bor (List ℕ)) (fault : DuoFault) (told : Refusal) → stuck_in (Err fault) ≡ stuck_of_two m g h → TellsStuckOfTwo first second one other fault told
         → Agrees (StartsTwo first.now second.now d known (map instruction one) (map instruction other)) told
     pair_refused first second (duo.CannotStartAlone c place) told e tells =
         ⊎_elim
@@ -100,7 +80,8 @@ module _ (d : Description) (known : Known) (m : Machine) (is : IsMachineFor d kn
         (λ p i at there. first_stuck d known m is g (map instruction one) first_graph mine p i (a.1 ∙ at) there)
         (subst (λ (c : ℕ). MatchBool (c == 1) (Of first one) (Of second other)) a.0 tells))
         (λ (b : (c ≡ 2) × (cannot_start_alone m g ≡ None) × (cannot_start_alone m h ≡ Some place)).
-        starts_on first.now d known (map instruction one) (Starts second.now d known (map instruction other) both) told (each_starts d known m is g (map instruction one) first_graph mine b.1)
+        agrees_weaker (Starts second.now d known (map instruction other) both) (StartsTwo first.now second.now d known (map instruction one) (map instruction other))
+        (starts_then first.now d (map instruction one) (Starts second.now d known (map instruction other) both) known (each_starts d known m is g (map instruction one) first_graph mine b.1)) told
         (stuck_told second d known other both (sched.CannotStartAlone place) told
         (λ p i at there. first_stuck d known m is h (map instruction other) second_graph yours p i (b.2 ∙ at) there)
         (subst (λ (c : ℕ). MatchBool (c == 1) (Of first one) (Of second other)) b.0 tells)))

@@ -1,9 +1,9 @@
 -- The machine of a checked description.
-use Rattle.std.proofs.Common.{◌≡◌, ℕ, suc, List, [], ◌∷◌, length, map, inl, inr, refl, sym, ap, ◌∙◌, subst}
+use Rattle.std.proofs.Common.{◌≡◌, ℕ, suc, List, [], ◌∷◌, length, map, refl, sym, ap, ◌∙◌, subst}
 use Rattle.std.specs.Prelude.{slice_index_or}
 use Rattle.std.proofs.lemmas.List.{length-map}
 use Rattle.hz_pipeline_model.specs.Traces.TraceNames.{TraceNames}
-use Rattle.hz_answer_model.specs.Answers.{ReplaysTrace, TellsLimit, Compiles}
+use Rattle.hz_answer_model.specs.Answers.{ReplaysTrace, TellsLimit}
 use Rattle.hz_answer_model.specs.TableAnswers.{WalksTrace}
 use Rattle.hz_answer_model.proofs.WalkLaws.{machine_names, map_twice, told_is_held, traced_both}
 use Rattle.hz_front_model.specs.Texts.{states_line}
@@ -18,12 +18,11 @@ use Rattle.hz_mdread.specs.Shape.{options as options_of}
 use Rattle.hz_description_model.specs.Reading.Descriptions.{Description, Options}
 use Rattle.hz_pipeline_model.specs.Reaching.Counts.{Count}
 use Rattle.hz_pipeline_model.specs.Tables.Machines.{Machine}
-use Rattle.hz_tool.proofs.AnswerLemmas.{agrees_weaker}
-use Rattle.hz_tool.specs.Decisions.{Agrees}
+use Rattle.hz_front.specs.Refusals.{Agrees}
 use Rattle.hz_tool.proofs.ToldStates.{IsStatesTold}
 use Rattle.hz_tool.specs.Machines.{IsMachineFor}
-use Rattle.hz_tool.specs.declared.decision.Decision.{Decision}
-use Rattle.hz_tool.specs.declared.decision.Decision.TheVariants.{Automaton, Memory}
+use Rattle.hz_front.specs.declared.refusal.Refusal.{Refusal}
+use Rattle.hz_front.specs.declared.refusal.Refusal.TheVariants.{Automaton, Memory}
 
 -- the names of its classes
 pub classes_named : {d : Description} {known : Known} {m : Machine} → IsMachineFor d known m → m.classes ≡ class_names d
@@ -34,8 +33,8 @@ pub classes_count : (d : Description) (known : Known) (m : Machine) → IsMachin
 classes_count d known m is = ap length (classes_named is) ∙ length-map d.classes (λ c. c.name)
 
 -- a walk of the machine of a description is a replay by it
-pub walked_on : (d : Description) (known : Known) (m : Machine) → IsMachineFor d known m → (trace traced : List ℕ) (report : Decision) → Agrees (WalksTrace trace traced m) report → Agrees (ReplaysTrace trace traced d known) report
-walked_on d known m is trace traced report h = agrees_weaker (WalksTrace trace traced m) (ReplaysTrace trace traced d known) (λ s t. (traced_both d known m is.names is.walks is.tells trace traced s t).0) report h
+pub walk_replays : (d : Description) (known : Known) (m : Machine) → IsMachineFor d known m → (trace traced : List ℕ) (s : ℕ) (t : List ℕ) → WalksTrace trace traced m s t → ReplaysTrace trace traced d known s t
+walk_replays d known m is trace traced s t = (traced_both d known m is.names is.walks is.tells trace traced s t).0
 
 module _ (d : Description) (checked : Checked) (is : IsCheckedOf d checked) where
   abbrev parts : List ClassParts
@@ -76,16 +75,8 @@ module _ (d : Description) (checked : Checked) (is : IsCheckedOf d checked) wher
 
   -- a limit of its states is told
   pub limit_told : (name : List ℕ) (a : ℕ) (kind : Count) → IsFirstPast (options_of checked.options) (map automaton_of checked.automata.items) (map class_of checked.classes.items) a kind
-      → (told : Decision) → IsStatesTold name (slice_index_or (map (λ x. x.name) checked.automata.items) a []) told → Agrees (TellsLimit name d is.known) told
+      → (told : Refusal) → IsStatesTold name (slice_index_or (map (λ x. x.name) checked.automata.items) a []) told → Agrees (TellsLimit name d is.known) told
   limit_told name a kind first (Automaton file at) (same, named) =
       (a, first_past d is.known a kind (first_of a kind first), (refl, ap (λ (f : List ℕ). states_line f at) same ∙ ap (states_line name) (named ∙ ap (λ ns. slice_index_or ns a []) names_held)))
   limit_told name a kind first Memory h = tt
   limit_told name a kind first _ h = absurd h
-
--- a description that is compiled leads on
-pub compiled_on : (name : List ℕ) (d : Description) (known : Known) (m : Machine) → IsMachineFor d known m → (next : ℕ → List ℕ → Type 0) (report : Decision) → Agrees next report → Agrees (Compiles name d known next) report
-compiled_on name d known m is next report h = agrees_weaker next (Compiles name d known next) (λ s t x. inl (is.keeps, x)) report h
-
--- a limit of its states is an answer
-pub limit_refused : (name : List ℕ) (d : Description) (known : Known) (next : ℕ → List ℕ → Type 0) (told : Decision) → Agrees (TellsLimit name d known) told → Agrees (Compiles name d known next) told
-limit_refused name d known next told = agrees_weaker (TellsLimit name d known) (Compiles name d known next) (λ s t h. inr h) told

@@ -20,8 +20,8 @@ use Rattle.hz_replay.specs.declared.event.Event.{Event as Placed}
 use Rattle.hz_replay.specs.declared.outcome.Outcome.{Outcome}
 use Rattle.hz_replay.specs.declared.outcome.Outcome.TheVariants.{Accepted, Refused}
 use Rattle.hz_report.specs.Replays.{asks_from, behind, issued_name, no_event, refused_by, replay_text, told_on}
-use Rattle.hz_tool.specs.Decided.{replay_status}
-use Rattle.hz_tool.proofs.TraceLemmas.{event_there, line_there}
+use Rattle.hz_front.proofs.TraceLemmas.{event_there, line_there}
+use Rattle.hz_tool.specs.Deciding.{replay_status}
 
 module _ (m : Machine) where
   abbrev names : TraceNames

@@ -1,15 +1,11 @@
 -- What is known of a block by a description.
-use Rattle.std.specs.Prelude.{⊤, ℕ, ◌<◌, List}
+use Rattle.std.specs.Prelude.{⊤, ℕ, ◌<◌}
 use Rattle.hz_depend.specs.Faults.{fault as fault_of}
 use Rattle.hz_depend.specs.declared.fault.DependFault.{DependFault}
 use Rattle.hz_depend.specs.declared.fault.DependFault.TheVariants as depend
 use Rattle.hz_block_model.specs.Dependences.Classes.{ClassFault, ambiguous}
 use Rattle.hz_sched.specs.declared.fault.SchedFault.{SchedFault}
 use Rattle.hz_sched.specs.declared.fault.SchedFault.TheVariants as sched
-
--- no answer
-abbrev pub Nothing : ℕ → List ℕ → Type 0
-Nothing status text = ⊥
 
 -- the classes that a fault names are below a number
 abbrev pub IsFaultIn : ℕ → ClassFault → Type 0

@@ -1,29 +1,21 @@
--- What the phases on a description give to those after them.
-use Rattle.std.specs.Prelude.{◌⊎◌, ℕ, List}
-use Rattle.hz_front_model.specs.Descriptions.{TellsDescription, TellsCheck}
-use Rattle.hz_front_model.specs.Phases.{TellsFault}
-use Rattle.hz_check.specs.Checked.{IsCheckedOf}
-use Rattle.hz_checked.specs.declared.checked.Checked.{Checked}
-use Rattle.hz_description_model.specs.Reading.DescriptionForms as description_forms
-use Rattle.hz_description_model.specs.Reading.Descriptions.{Description}
-use Rattle.hz_base_model.specs.Forms.Forms.{form_word}
-use Rattle.hz_base_model.specs.Forms.Forms as forms
-use Rattle.hz_base_model.specs.Forms.Trees.{Trees}
-use Rattle.hz_tool.specs.Decisions.{Agrees}
-use Rattle.hz_tool.specs.declared.decision.Decision.{Decision}
+-- What every command on a description begins with.
+use Rattle.std.specs.Prelude.{◌≡◌, ℕ, List, length}
+use Rattle.hz_answer_model.specs.Answers.{Compiles}
+use Rattle.hz_block_model.specs.Scheduling.Machines.{Settles}
+use Rattle.hz_front.specs.Fronts.{IsCheckedIn}
+use Rattle.hz_front_model.specs.Descriptions.{HasDescription}
+use Rattle.hz_tables.specs.Machines.{machine_of}
+use Rattle.hz_tool.specs.Compiled.{IsCompiledBy}
+use Rattle.hz_tool.specs.Deciding.{Nothing}
+use Rattle.hz_tool.specs.declared.phases.compiling.Front.{Front}
 
--- What is held is what the description gives that bytes say.
-pub record IsCheckedIn (bytes : List ℕ) (checked : Checked) : Type 0 where
-  pub read : Trees
-  pub d : Description
-  pub forms : forms.Reads bytes read
-  pub says : description_forms.Reads read d
-  pub is : IsCheckedOf d checked
+-- What is held is what the description gives that bytes say, and what is compiled of it.
+pub record IsFrontOf (bytes : List ℕ) (front : Front) : Type 0 where
+  pub checked : IsCheckedIn bytes front.checked
+  pub compiled : IsCompiledBy front.checked front.compiled
+  pub classes : length front.compiled.machine.classes.items ≡ length front.checked.classes.items
+  pub settles : Settles (machine_of front.compiled.machine)
 
--- what is wrong with the description that forms say: the first wrong form, or what is wrong with what they say
-abbrev pub TellsSaid : List ℕ → Trees → Decision → Type 0
-TellsSaid name read told = Agrees (TellsDescription name read) told ⊎ ((d : Description) × description_forms.Reads read d × Agrees (TellsCheck name d) told)
-
--- what is wrong with the description that bytes say
-abbrev pub TellsDescribed : List ℕ → List ℕ → Decision → Type 0
-TellsDescribed name bytes told = Agrees (TellsFault form_word (forms.FaultAt bytes) name) told ⊎ ((read : Trees) × forms.Reads bytes read × TellsSaid name read told)
+-- a description is judged, checked and compiled
+abbrev pub Compiling : (name bytes : List ℕ) → ℕ → List ℕ → Type 0
+Compiling name bytes = HasDescription name bytes (λ d known. Compiles name d known Nothing)

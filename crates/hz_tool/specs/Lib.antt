@@ -1,12 +1,10 @@
 pub mod Blocks
 pub mod Compiled
-pub mod Decided
-pub mod Decisions
-pub mod Endings
+pub mod Deciding
 pub mod Fronts
 pub mod Kernels
 pub mod Machines
 pub mod Pairs
-pub mod Reading
+pub mod Refusing
 pub mod Replays
-pub mod Telling
+pub mod Scheduled

@@ -7,9 +7,9 @@ use Rattle.hz_duo.specs.declared.fault.DuoFault.{DuoFault}
 use Rattle.hz_duo.specs.declared.fault.DuoFault.TheVariants as duo
 use Rattle.hz_rtl.specs.declared.block.Insn.{Insn}
 use Rattle.hz_sched.specs.declared.fault.SchedFault.TheVariants as sched
-use Rattle.hz_tool.specs.Telling.{TellsStuck}
-use Rattle.hz_tool.specs.declared.decision.Decision.{Decision}
-use Rattle.hz_tool.specs.declared.decision.Decision.TheVariants as decision
+use Rattle.hz_front.specs.declared.refusal.Refusal.{Refusal}
+use Rattle.hz_front.specs.declared.refusal.Refusal.TheVariants as refusal
+use Rattle.hz_tool.specs.Refusing.{TellsStuck}
 
 -- The cycle is the last of a schedule of the graph that is legal and greedy on a machine.
 pub record IsLastOf (m : Machine) (g : Graph) (cycle : ℕ) : Type 0 where
@@ -23,8 +23,8 @@ abbrev pub IsStuckOfTwo : ℕ → ℕ → DuoFault → Type 0
 IsStuckOfTwo n m (duo.CannotStartAlone context place) = ((context ≡ 1) × (place < n)) ⊎ ((context ≡ 2) × (place < m))
 IsStuckOfTwo n m duo.NoMemory = ⊤
 
--- What is decided of two blocks without a schedule, by the instruction at the place of the block of the context.
-abbrev pub TellsStuckOfTwo : Bor (List ℕ) → Bor (List ℕ) → List Insn → List Insn → DuoFault → Decision → Type 0
+-- What is refused of two blocks without a schedule, by the instruction at the place of the block of the context.
+abbrev pub TellsStuckOfTwo : Bor (List ℕ) → Bor (List ℕ) → List Insn → List Insn → DuoFault → Refusal → Type 0
 TellsStuckOfTwo first second one other (duo.CannotStartAlone context place) told =
     MatchBool (context == 1) (TellsStuck first one (sched.CannotStartAlone place) told) (TellsStuck second other (sched.CannotStartAlone place) told)
-TellsStuckOfTwo first second one other duo.NoMemory told = told ≡ decision.Memory
+TellsStuckOfTwo first second one other duo.NoMemory told = told ≡ refusal.Memory

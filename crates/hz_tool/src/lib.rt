@@ -2,9 +2,9 @@
 #![tactic(auto)]
 
 mod commands;
-pub mod decision;
+mod done;
 pub mod laws;
-pub mod phases;
+mod phases;
 mod top;
 
 pub use top::run;

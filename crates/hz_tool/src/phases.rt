@@ -1,9 +1,7 @@
-//! The phases that commands share: files read, texts judged, machines compiled, and what is decided of each fault.
+//! The phases that commands share: which files there are, texts judged, machines compiled, blocks scheduled, and refusals.
 
 pub(crate) mod blocks;
 pub(crate) mod compiling;
-pub(crate) mod describing;
-pub mod judging;
-pub mod read;
+pub(crate) mod reading;
+pub(crate) mod refusing;
 pub(crate) mod states;
-pub mod telling;

@@ -1,6 +1,6 @@
 //! The top call: the words, the files, the texts, and then the answer.
 
-ghost use Rattle.std.specs.Prelude.{◌≡◌, ◌⊎◌, ◌↔◌, ℕ, List, ◌-◌, ◌^◌, ◌<◌, ◌≤◌, ◌∷◌, [], IfOk, None, Some, All, length};
+ghost use Rattle.std.specs.Prelude.{◌≡◌, ◌⊎◌, ◌↔◌, ℕ, List, ◌-◌, ◌^◌, ◌<◌, ◌≤◌, ◌∷◌, [], ⊤, IfOk, None, Some, All, length};
 ghost use Rattle.std.specs.Option.{ForSome};
 ghost use Rattle.hz_answer_model.specs.Answers.{Answer, AnswersOrder, JudgesOrder, files_of};
 ghost use Rattle.hz_answer_model.specs.BlockAnswers.{block_limit};
@@ -8,11 +8,10 @@ ghost use Rattle.hz_front_model.specs.Texts.{memory_line};
 ghost use Rattle.hz_description_model.specs.Reading.Limits.{description_limit};
 ghost use Rattle.hz_words_model.specs.Words as model;
 ghost use Rattle.hz_words_model.specs.Words.{usage_line};
-ghost use Rattle.hz_tool.specs.Decided.{IsTellable};
-ghost use Rattle.hz_tool.specs.Decisions.{Agrees, CountsDecision, DecidesWords, IsFileOf, IsFileWord, IsJudged, IsOfOrder, NamesFile};
-ghost use Rattle.hz_front.specs.Endings.{AppendsFile, Completes, HasAll, HasRoom, IsAppended, IsCutShort};
-ghost use Rattle.hz_tool.specs.Endings.{AppendsPromised};
-ghost use Rattle.hz_tool.specs.Reading.{texts_in, wanted_in, word_of};
+ghost use Rattle.hz_front.specs.Endings.{AppendsFile, Completes, DecidesWords, HasAll, HasRoom, IsAppended, IsCutShort, IsOrdered};
+ghost use Rattle.hz_front.specs.Reading.{texts_in, wanted_in, word_of};
+ghost use Rattle.hz_front.specs.Refusals.{Answers, CountsDecided, NamesIn};
+ghost use Rattle.hz_tool.specs.Deciding.{AppendsPromised, CanTell, Decides, IsFileOf, IsFileWord, decided_in};
 ghost use Rattle.hz_tool_words.specs.Shape.{words_in, order_in};
 
 use crate::commands::bound::judge_bound;
@@ -25,13 +24,14 @@ use crate::commands::replay::judge_replay;
 use crate::commands::schedule::judge_schedule;
 use crate::commands::timed::judge_timed;
 use crate::commands::walk::judge_walk;
-use crate::decision::Decision;
-use crate::phases::read::{
-    FileWord, block_file, description_file, read_all, state_file, tables_file, trace_file,
-};
+use crate::done::Done;
+use crate::phases::reading::{block_file, state_file, tables_file};
+use hz_front::ending::finish;
+use hz_front::reading::{FileWord, description_file, read_all, trace_file};
+use hz_front::refusal::Refusal;
 use hz_io::{Files, Sink};
 use hz_tool_words::order::Order;
-use hz_tool_words::order_of;
+use hz_tool_words::{order_of, usage};
 use std::alloc::{AllocError, Global};
 
 /// The file of a description alone.
@@ -111,12 +111,11 @@ fn files_of<'a>(alloc: Global, order: &Order<'a>) -> Result<Vec<FileWord<'a>>, A
     }
 }
 
-/// What is decided of an order over the bytes of its files.
-fn judge_order<'a>(alloc: Global, order: &Order<'a>, texts: &[Vec<u8>]) -> Decision<'a>
+/// What an order does by the bytes of its files, or a refusal.
+fn judge_order<'a>(alloc: Global, order: &Order<'a>, texts: &[Vec<u8>]) -> Result<Done, Refusal<'a>>
     requires count { length texts.now ≡ length (files_of (order_in order.now)) }
     requires short { All (λ text. length text.items < 2 ^ 32) texts.now }
-    ensures kind { IsJudged result }
-    ensures answer { Agrees (JudgesOrder (order_in order.now) (texts_in texts.now)) result }
+    ensures { Decides (JudgesOrder (order_in order.now) (texts_in texts.now)) result }
 {
     match order {
         Order::Compile(order) => judge_compile(alloc, order, texts[0].as_slice()),
@@ -150,40 +149,47 @@ fn judge_order<'a>(alloc: Global, order: &Order<'a>, texts: &[Vec<u8>]) -> Decis
     }
 }
 
-/// What is decided of an order: all its files are read before any is judged.
-fn decide_order<'a, F: Files>(alloc: Global, order: &Order<'a>, files: &mut F) -> Decision<'a>
+/// What an order does, or a refusal: all its files are read before any is judged.
+fn answer_order<'a, F: Files>(
+    alloc: Global,
+    order: &Order<'a>,
+    files: &mut F,
+) -> Result<Done, Refusal<'a>>
     requires { F.faults files.old < 2 ^ 64 - 1 }
-    ensures counts { CountsDecision (F.faults files.old) (F.faults files.new) result }
-    ensures order { IsOfOrder result }
-    ensures tells { IsTellable result }
-    ensures file { NamesFile (IsFileOf (order_in order.now)) result }
-    ensures lacks { ForSome (F.held files.old) (λ held. F.steady files.old → NamesFile (λ name. held name ≡ None) result) }
-    ensures answer { ForSome (F.held files.old) (λ held. (F.faults files.new ≡ F.faults files.old) ⊎ F.steady files.old → Agrees (AnswersOrder held (order_in order.now)) result) }
+    ensures counts { CountsDecided (F.faults files.old) (F.faults files.new) (decided_in result) }
+    ensures order { IsOrdered (decided_in result) }
+    ensures tells { IfOk result CanTell }
+    ensures file { NamesIn (IsFileOf (order_in order.now)) (decided_in result) }
+    ensures lacks { ForSome (F.held files.old) (λ held. F.steady files.old → NamesIn (λ name. held name ≡ None) (decided_in result)) }
+    ensures answer { ForSome (F.held files.old) (λ held. (F.faults files.new ≡ F.faults files.old) ⊎ F.steady files.old → Answers (AnswersOrder held (order_in order.now)) (decided_in result)) }
 {
-    let wanted = match files_of(alloc, order) {
-        Ok(wanted) => wanted,
-        Err(_) => return Decision::Memory,
+    let Ok(wanted) = files_of(alloc, order) else {
+        return Err(Refusal::Memory);
     };
     match read_all(alloc, files, wanted.as_slice()) {
         Ok(texts) => judge_order(alloc, order, texts.as_slice()),
-        Err(decision) => decision,
+        Err(refusal) => Err(refusal),
     }
 }
 
-/// What is decided of the words.
-fn decide<'a, F: Files>(alloc: Global, words: &'a [String], files: &mut F) -> Decision<'a>
+/// What the words do, or a refusal.
+fn decide<'a, F: Files>(
+    alloc: Global,
+    words: &'a [String],
+    files: &mut F,
+) -> Result<Done, Refusal<'a>>
     requires { F.faults files.old < 2 ^ 64 - 1 }
-    ensures counts { CountsDecision (F.faults files.old) (F.faults files.new) result }
-    ensures words { DecidesWords (model.order_of (words_in words.entry.now)) result }
-    ensures tells { IsTellable result }
-    ensures file { NamesFile (IsFileWord (words_in words.entry.now)) result }
-    ensures lacks { ForSome (F.held files.old) (λ held. F.steady files.old → NamesFile (λ name. held name ≡ None) result) }
-    ensures answer { ForSome (F.held files.old) (λ held. (F.faults files.new ≡ F.faults files.old) ⊎ F.steady files.old → Agrees (Answer (words_in words.entry.now) held) result) }
+    ensures counts { CountsDecided (F.faults files.old) (F.faults files.new) (decided_in result) }
+    ensures words { DecidesWords ⊤ usage_line (model.order_of (words_in words.entry.now)) (decided_in result) }
+    ensures tells { IfOk result CanTell }
+    ensures file { NamesIn (IsFileWord (words_in words.entry.now)) (decided_in result) }
+    ensures lacks { ForSome (F.held files.old) (λ held. F.steady files.old → NamesIn (λ name. held name ≡ None) (decided_in result)) }
+    ensures answer { ForSome (F.held files.old) (λ held. (F.faults files.new ≡ F.faults files.old) ⊎ F.steady files.old → Answers (Answer (words_in words.entry.now) held) (decided_in result)) }
 {
     match order_of(alloc, words) {
-        Ok(Some(order)) => decide_order(alloc, &order, files),
-        Ok(None) => Decision::Usage,
-        Err(_) => Decision::Memory,
+        Ok(Some(order)) => answer_order(alloc, &order, files),
+        Ok(None) => Err(Refusal::Usage { line: usage() }),
+        Err(_) => Err(Refusal::Memory),
     }
 }
 
@@ -221,12 +227,8 @@ pub fn run<F: Files, S: Sink>(alloc: Global, words: &[String], files: &mut F, ou
     // bounds, schedules of two blocks and kernels are.
     ensures promised { ForSome (F.held files.old) (λ held. result ≡ 0 → (order : model.Order) → model.order_of (words_in words.now) ≡ Some order → AppendsPromised held order (S.written out.old) (S.written out.new)) }
 {
-    let decision = decide(alloc, words, files);
-    let status = decision.status();
-    let written = decision.write(alloc, out);
-    drop(decision);
-    match written {
-        Ok(()) => status,
-        Err(_) => 7,
-    }
+    let decided = decide(alloc, words, files);
+    let status = finish(&decided, out);
+    drop(decided);
+    status
 }

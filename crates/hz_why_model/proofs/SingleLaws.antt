@@ -9,7 +9,7 @@ use Rattle.hz_description_model.specs.Reading.Descriptions.{Description}
 use Rattle.hz_description_model.specs.Reading.Limits.{description_limit}
 use Rattle.hz_description_model.specs.Reservations.Automata.{UnitPlace}
 use Rattle.hz_pipeline_model.specs.Accepting.Events.{Event, issue}
-use Rattle.hz_pipeline_model.specs.Accepting.Replay.{Pipeline, left_by}
+use Rattle.hz_pipeline_model.specs.Accepting.Replay.{Pipeline}
 use Rattle.hz_pipeline_model.specs.Pipelines.Pipelines.{pipeline_with}
 use Rattle.hz_pipeline_model.specs.Traces.TraceLimits.{trace_limit}
 use Rattle.hz_pipeline_model.specs.Traces.Traces.{event_lines}
@@ -19,7 +19,6 @@ use Rattle.hz_front_model.specs.Phases.{Says}
 use Rattle.hz_front_model.proofs.SingleLaws.{IsSingle, says_single, replays_single, traces_single, description_single, files_single}
 use Rattle.hz_why_model.specs.Answers.{wording_of, Explains, ReplaysAndExplains, ExplainsTrace, why_usage, why_files, JudgesTexts, AnswersFiles, WhyAnswer}
 use Rattle.hz_why_model.specs.Explanations.{Wording, TellsLeft, TellsRefusal, left_text, refusal_text}
-use Rattle.hz_why_model.specs.Waits.{IsWait}
 use Rattle.hz_why_model.proofs.ChoiceLaws.{one_first_choice}
 use Rattle.hz_why_model.proofs.WaitLaws.{one_wait}
 
@@ -32,7 +31,7 @@ module _ (w : Wording UnitPlace) (m : Pipeline UnitPlace) where
       let choices = one_first_choice m t a.choices b.choices a.first b.first in
       a.is
       ∙ ap (λ (cs : List ℕ). refusal_text w m t lines cs k a.wait) choices
-      ∙ ap (refusal_text w m t lines b.choices k) (one_wait m (left_by m t b.choices) k a.wait b.wait (subst (λ (cs : List ℕ). IsWait m (left_by m t cs) k a.wait) choices a.waits) b.waits)
+      ∙ ap (refusal_text w m t lines b.choices k) (one_wait m t k a.wait b.wait a.waits b.waits)
       ∙ sym b.is
 
   same_class : (e : Option Event) (k l : ℕ) → e ≡ Some (issue k) → e ≡ Some (issue l) → k ≡ l

@@ -1,14 +1,14 @@
 -- What is told of a trace behind what `replay` answers. This profile, docs/RULES.md, 'Reasons'; docs/FORMATS.md, 'Explanations'.
-use Rattle.std.specs.Prelude.{◌≡◌, ℕ, suc, ◌-◌, ◌==◌, Bool, List, [], ◌∷◌, ◌++◌, codes, decimal, map, Option, Some, None, if◌then◌else◌}
+use Rattle.std.specs.Prelude.{◌≡◌, ℕ, suc, ◌-◌, ◌==◌, Bool, true, false, List, [], ◌∷◌, ◌++◌, codes, decimal, map, Option, Some, None, if◌then◌else◌}
 use Rattle.std.specs.List.{concat, flat_map}
 use Rattle.std.specs.declared.cmp.Ordering.{Ordering}
 use Rattle.hz_base_model.specs.Pairs.{Pair}
 use Rattle.hz_pipeline_model.specs.Accepting.Events.{Event, cycles_of}
-use Rattle.hz_pipeline_model.specs.Accepting.Replay.{Treatment, first_fit, any_fit, Pipeline, alternatives_at, calendar, left_by}
+use Rattle.hz_pipeline_model.specs.Accepting.Replay.{Treatment, first_fit, any_fit, Pipeline, alternatives_at, calendar}
 use Rattle.hz_why_model.specs.Reasons.{Reason, taken, broken, reason_of}
 use Rattle.hz_why_model.specs.Holders.{Entry, entries, entry_at, entries_from}
 use Rattle.hz_why_model.specs.Choices.{IsFirstChoice}
-use Rattle.hz_why_model.specs.Waits.{IsWait}
+use Rattle.hz_why_model.specs.Waits.{IsLeastWait}
 use Rattle.hz_why_model.specs.Pictures.{picture}
 
 -- How a pipeline is spoken of: its units in their order, when two are the same and which comes first, and the names of units, classes
@@ -27,20 +27,25 @@ abbrev pub choice_line : Treatment → List ℕ
 choice_line first_fit = []
 choice_line any_fit = codes "by one of the choices\n"
 
--- how many cycles later the class fits
+-- how many cycles later the class fits, by any of the choices
 abbrev pub wait_line : Option ℕ → List ℕ
-wait_line None = codes "never fits\n"
+wait_line None = codes "fits in no later cycle\n"
 wait_line (Some n) = if n == 1 then codes "fits 1 cycle later\n" else concat (codes "fits " ∷ decimal n ∷ codes " cycles later\n" ∷ [])
+
+-- whether a unit is held in the present cycle, or planned for a later one
+abbrev pub held_word : (present : Bool) → List ℕ
+held_word true = codes " is held from line "
+held_word false = codes " is planned by line "
 
 module _ {U : Type 0} (w : Wording U) (now : ℕ) (held : List (Entry U)) where
   -- a unit in a cycle, which is counted from the present one
   abbrev pub pair_words : Pair U → List (List ℕ)
   pair_words p = w.unit p.unit ∷ codes " in cycle " ∷ decimal (p.cycle - now) ∷ []
 
-  -- who holds a pair
+  -- who holds a pair, in the present cycle or in a later one
   abbrev pub holder_words : Option (Entry U) → List (List ℕ)
   holder_words None = []
-  holder_words (Some e) = codes " is held since line " ∷ decimal e.line ∷ codes ", " ∷ w.class e.class ∷ []
+  holder_words (Some e) = held_word (e.pair.cycle == now) ∷ decimal e.line ∷ codes ", " ∷ w.class e.class ∷ []
 
   -- a pattern with which a statement is broken
   abbrev pub pattern_words : List U → List (List ℕ)
@@ -95,5 +100,5 @@ pub record TellsRefusal {U : Type 0} (w : Wording U) (m : Pipeline U) (t : List 
   pub choices : List ℕ
   pub first : IsFirstChoice m t choices
   pub wait : Option ℕ
-  pub waits : IsWait m (left_by m t choices) class wait
+  pub waits : IsLeastWait m t class wait
   pub is : text ≡ refusal_text w m t lines choices class wait

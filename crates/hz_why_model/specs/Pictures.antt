@@ -7,7 +7,7 @@ use Rattle.hz_why_model.specs.Holders.{Entry, entry_at, pairs_in}
 
 -- the columns of a line, at most
 abbrev pub line_limit : ℕ
-line_limit = 120
+line_limit = 80
 
 -- the columns of a name in a picture, at most
 abbrev pub name_limit : ℕ

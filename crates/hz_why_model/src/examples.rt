@@ -12,10 +12,10 @@ ghost use Rattle.hz_why_model.specs.Examples.{worded};
 pub fn superscalar_text()
     ensures { refusal_text (worded superscalar_units (codes "simple" ∷ codes "mult" ∷ codes "div" ∷ codes "float" ∷ []) []) superscalar (issue simple ∷ issue simple ∷ []) (2 ∷ 5 ∷ []) (0 ∷ 3 ∷ []) simple (Some 1)
         ≡ concat (codes "fits 1 cycle later\n"
-        ∷ codes "alternative 1: i0_pipeline in cycle 0 is held since line 2, simple\n"
-        ∷ codes "alternative 2: i0_pipeline in cycle 0 is held since line 2, simple\n"
-        ∷ codes "alternative 3: i1_pipeline in cycle 0 is held since line 5, simple\n"
-        ∷ codes "alternative 4: i1_pipeline in cycle 0 is held since line 5, simple\n"
+        ∷ codes "alternative 1: i0_pipeline in cycle 0 is held from line 2, simple\n"
+        ∷ codes "alternative 2: i0_pipeline in cycle 0 is held from line 2, simple\n"
+        ∷ codes "alternative 3: i1_pipeline in cycle 0 is held from line 5, simple\n"
+        ∷ codes "alternative 4: i1_pipeline in cycle 0 is held from line 5, simple\n"
         ∷ codes "cycle         0 1\n"
         ∷ codes "i0_pipeline   2 .\n"
         ∷ codes "i1_pipeline   5 .\n"
@@ -45,7 +45,7 @@ pub fn statement_texts()
         ∷ codes "slot1   1\n"
         ∷ []) }
     ensures presence { refusal_text (worded slot_units [] (codes "presence_set" ∷ [])) (slots_together slot_present) [] [] [] 0 None
-        ≡ concat (codes "never fits\n"
+        ≡ concat (codes "fits in no later cycle\n"
         ∷ codes "alternative 1: presence_set line 9, slot1 in cycle 0 without a pattern\n"
         ∷ codes "cycle   0\n"
         ∷ codes "slot0   .\n"
@@ -67,7 +67,7 @@ pub fn choice_text()
     ensures { refusal_text (worded choice_units (codes "x" ∷ codes "y" ∷ []) []) (choice any_fit) (issue 0 ∷ issue 0 ∷ []) (1 ∷ 2 ∷ []) (0 ∷ 1 ∷ []) 1 (Some 1)
         ≡ concat (codes "by one of the choices\n"
         ∷ codes "fits 1 cycle later\n"
-        ∷ codes "alternative 1: a in cycle 0 is held since line 1, x\n"
+        ∷ codes "alternative 1: a in cycle 0 is held from line 1, x\n"
         ∷ codes "cycle   0\n"
         ∷ codes "a       1\n"
         ∷ codes "b       2\n"

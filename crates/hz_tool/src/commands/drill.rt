@@ -4,23 +4,17 @@ ghost use Rattle.std.specs.Prelude.{◌≡◌, ◌<◌, ◌^◌, IfOk, Some, len
 ghost use Rattle.hz_pipeline_model.specs.Accepting.Events.{issues_of};
 ghost use Rattle.hz_answer_model.specs.Answers.{DrillsDescription};
 ghost use Rattle.hz_front_model.specs.Descriptions.{HasDescription};
-ghost use Rattle.hz_answer_model.specs.DrillAnswers.{Drills};
-ghost use Rattle.hz_check.specs.Checked.{IsCheckedOf};
 ghost use Rattle.hz_pipeline_model.specs.Traces.Drills.{Drawn};
-ghost use Rattle.hz_description_model.specs.Reading.Descriptions.{Description};
 ghost use Rattle.hz_replay.specs.Lines.{event_of};
 ghost use Rattle.hz_replay.specs.Replaying.{issues_in};
 ghost use Rattle.hz_replay.specs.Traces.{events_in};
 ghost use Rattle.hz_tables.specs.Machines.{machine_of};
 ghost use Rattle.hz_pipeline_model.specs.Tables.Machines.{machine_walk, IsWalked};
-ghost use Rattle.hz_tool.specs.Compiled.{IsCompiledBy};
-ghost use Rattle.hz_tool.specs.Decisions.{Agrees, IsJudged};
+ghost use Rattle.hz_tool.specs.Deciding.{Decides};
 
-use crate::decision::Decision;
+use crate::done::Done;
 use crate::phases::compiling::judge_compiled;
-use crate::phases::describing::judge_described;
-use hz_auto::Compiled;
-use hz_checked::Checked;
+use hz_front::refusal::Refusal;
 use hz_regexp::NoMemory;
 use hz_replay::{Event, Replayer, What, drill_from};
 use hz_tables::{Machine, Steps};
@@ -84,49 +78,25 @@ fn count_issues(events: &[Event]) -> u64
     issues
 }
 
-/// What is decided of the drill of what is compiled.
-fn decide_drill<'a>(
+/// The drill of the text of a description, or a refusal.
+pub fn judge_drill<'a>(
     alloc: Global,
     order: &DrillOrder<'a>,
-    compiled: &Compiled,
-    checked: &Checked,
-) -> Decision<'a>
-    requires { IsCompiledBy checked.now compiled.now }
-    ensures kind { IsJudged result }
-    ensures answer { (d : Description) (is : IsCheckedOf d checked.now) → Agrees (Drills d is.known order.now.number order.now.turns) result }
+    described: &[u8],
+) -> Result<Done, Refusal<'a>>
+    requires { length described.now < 2 ^ 32 }
+    ensures { Decides (HasDescription order.now.description.now described.now (DrillsDescription order.now.description.now order.now.number order.now.turns)) result }
 {
-    let drilled = match drilled_on::<Brand>(alloc, &compiled.machine, order, Blank::new(1)) {
-        Ok(drilled) => drilled,
-        Err(_) => return Decision::Memory,
+    let front = judge_compiled(alloc, order.description, described)?;
+    let machine = &front.compiled.machine;
+    let Ok(drilled) = drilled_on::<Brand>(alloc, machine, order, Blank::new(1)) else {
+        return Err(Refusal::Memory);
     };
     let issues = count_issues(&drilled.events);
-    Decision::Drilled {
+    Ok(Done::Drilled {
         turns: order.turns,
         issues,
         cycles: u64::from(order.turns) - issues,
         states: drilled.states,
-    }
-}
-
-/// What is decided of a description without a fault, which is compiled.
-fn decide_compiled<'a>(alloc: Global, order: &DrillOrder<'a>, checked: &Checked) -> Decision<'a>
-    ensures kind { IsJudged result }
-    ensures answer { (d : Description) (is : IsCheckedOf d checked.now) → Agrees (DrillsDescription order.now.description.now order.now.number order.now.turns d is.known) result }
-{
-    match judge_compiled(alloc, order.description, checked) {
-        Ok(compiled) => decide_drill(alloc, order, &compiled, checked),
-        Err(decision) => decision,
-    }
-}
-
-/// What is decided of the text of a description.
-pub fn judge_drill<'a>(alloc: Global, order: &DrillOrder<'a>, described: &[u8]) -> Decision<'a>
-    requires { length described.now < 2 ^ 32 }
-    ensures kind { IsJudged result }
-    ensures answer { Agrees (HasDescription order.now.description.now described.now (DrillsDescription order.now.description.now order.now.number order.now.turns)) result }
-{
-    match judge_described(alloc, order.description, described) {
-        Ok(checked) => decide_compiled(alloc, order, &checked),
-        Err(decision) => decision,
-    }
+    })
 }

@@ -2,16 +2,17 @@
 
 ghost use Rattle.std.specs.Prelude.{◌≡◌, ◌<◌, ◌≤◌, ◌^◌, IfOk, length};
 ghost use Rattle.std.specs.List.{range_with_len};
-ghost use Rattle.hz_answer_model.specs.BlockAnswers.{Evaluates, JudgesBlock};
+ghost use Rattle.hz_answer_model.specs.BlockAnswers.{JudgesBlock};
 ghost use Rattle.hz_rtl.specs.Shape.{instructions};
 ghost use Rattle.hz_rtl.specs.States.{words};
 ghost use Rattle.hz_block_model.specs.Running.States.{run};
 ghost use Rattle.hz_block_model.specs.Running.Limits.{instruction_limit};
-ghost use Rattle.hz_tool.specs.Decisions.{Agrees, IsJudged};
+ghost use Rattle.hz_tool.specs.Deciding.{Decides};
 
-use crate::decision::Decision;
+use crate::done::Done;
 use crate::phases::blocks::judge_block_text;
 use crate::phases::states::judge_state_text;
+use hz_front::refusal::Refusal;
 use hz_regexp::NoMemory;
 use hz_rtl::{Block, State, eval};
 use hz_tool_words::order::EvalOrder;
@@ -26,36 +27,21 @@ fn state_after(alloc: Global, block: &Block, state: &State) -> Result<State, NoM
     eval(alloc, block, &order, state)
 }
 
-/// What is decided of a block and a state that are read.
-fn evaluate<'a>(alloc: Global, block: &Block, state: &State) -> Decision<'a>
-    requires { length block.now.insns.items ≤ instruction_limit }
-    ensures kind { IsJudged result }
-    ensures answer { Agrees (Evaluates (instructions block.now) (words state.now)) result }
-{
-    match state_after(alloc, block, state) {
-        Ok(state) => Decision::After { state },
-        Err(_) => Decision::Memory,
-    }
-}
-
-/// What is decided of both texts, the block judged first.
+/// The state that a block leaves by both texts, the block judged first, or a refusal.
 pub fn judge_eval<'a>(
     alloc: Global,
     order: &EvalOrder<'a>,
     blocked: &[u8],
     stated: &[u8],
-) -> Decision<'a>
+) -> Result<Done, Refusal<'a>>
     requires block { length blocked.now < 2 ^ 32 }
     requires state { length stated.now < 2 ^ 32 }
-    ensures kind { IsJudged result }
-    ensures answer { Agrees (JudgesBlock order.now.block.now blocked.now order.now.state.now stated.now) result }
+    ensures { Decides (JudgesBlock order.now.block.now blocked.now order.now.state.now stated.now) result }
 {
-    let block = match judge_block_text(alloc, order.block, blocked) {
-        Ok(block) => block,
-        Err(decision) => return decision,
-    };
-    match judge_state_text(alloc, order.state, stated) {
-        Ok(state) => evaluate(alloc, &block, &state),
-        Err(decision) => decision,
+    let block = judge_block_text(alloc, order.block, blocked)?;
+    let state = judge_state_text(alloc, order.state, stated)?;
+    match state_after(alloc, &block, &state) {
+        Ok(state) => Ok(Done::After { state }),
+        Err(_) => Err(Refusal::Memory),
     }
 }

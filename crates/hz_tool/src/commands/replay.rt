@@ -1,25 +1,26 @@
 //! The phases of `replay`, in their order: the description, its machine, the trace and its replay.
 
-ghost use Rattle.std.specs.Prelude.{◌≡◌, ◌<◌, ◌≤◌, ◌^◌, length, All};
+ghost use Rattle.std.specs.Prelude.{◌≡◌, ◌<◌, ◌≤◌, ◌^◌, IfOk, IfErr, length, All};
 ghost use Rattle.hz_pipeline_model.specs.Traces.TraceLimits.{advance_limit};
 ghost use Rattle.hz_pipeline_model.specs.Accepting.Asking.{IsOfQuery};
 ghost use Rattle.hz_pipeline_model.specs.Accepting.Events.{cycles_of, IsOfClass};
-ghost use Rattle.hz_answer_model.specs.Answers.{ReplaysDescription, Judges};
+ghost use Rattle.hz_answer_model.specs.Answers.{Judges};
 ghost use Rattle.hz_answer_model.specs.TableAnswers.{WalksTrace};
 ghost use Rattle.hz_pipeline_model.specs.Tables.MachineNames.{names_of_machine};
-ghost use Rattle.hz_check.specs.Checked.{IsCheckedOf};
-ghost use Rattle.hz_description_model.specs.Reading.Descriptions.{Description};
+ghost use Rattle.hz_base_model.specs.Lines.{lines_of};
+ghost use Rattle.hz_front.specs.Refusals.{Agrees, IsJudged};
+ghost use Rattle.hz_front_model.specs.Phases.{TellsFault};
+ghost use Rattle.hz_pipeline_model.specs.Traces.Traces.{Trace, event_lines, TraceFaultAt, trace_word};
 ghost use Rattle.hz_replay.specs.Replaying.{IsOutcome};
-ghost use Rattle.hz_replay.specs.Traces.{events_in};
+ghost use Rattle.hz_replay.specs.Traces.{events_in, lines_in};
 ghost use Rattle.hz_tables.specs.Machines.{machine_of};
-ghost use Rattle.hz_tool.specs.Decisions.{Agrees, IsJudged};
+ghost use Rattle.hz_tool.specs.Deciding.{Decides};
 
-use crate::decision::Decision;
-use crate::phases::compiling::judge_states;
-use crate::phases::describing::judge_described;
-use crate::phases::judging::judge_trace;
-use hz_checked::Checked;
-use hz_replay::{Event, Outcome, replay};
+use crate::done::Done;
+use crate::phases::compiling::judge_compiled;
+use hz_front::refusal::Refusal;
+use hz_front::refusing::refuse_fault;
+use hz_replay::{Event, Outcome, read_trace, replay};
 use hz_tables::{Machine, Steps};
 use hz_tool_words::order::ReplayOrder;
 use std::alloc::Global;
@@ -46,60 +47,56 @@ fn outcome_of<L: Ledger>(
     replay(alloc, machine, events, &mut steps)
 }
 
-/// What is decided of a trace over a machine.
-pub fn decide_trace<'a>(
+/// The events of a trace over the names of a machine, or the refusal of its first wrong line.
+fn judge_trace<'a>(
+    alloc: Global,
+    file: &'a str,
+    machine: &Machine,
+    text: &[u8],
+) -> Result<Vec<Event>, Refusal<'a>>
+    requires { length text.now < 2 ^ 32 }
+    ensures ok { IfOk result (λ events. Trace (names_of_machine (machine_of machine.now)) text.now (events_in events.items)) }
+    ensures lines { IfOk result (λ events. lines_in events.items ≡ event_lines (names_of_machine (machine_of machine.now)) 1 (lines_of text.now)) }
+    ensures kind { IfErr result IsJudged }
+    ensures err { IfErr result (Agrees (TellsFault trace_word (TraceFaultAt (names_of_machine (machine_of machine.now)) text.now) file.entry.now)) }
+{
+    match read_trace(alloc, text, machine) {
+        Ok(events) => Ok(events),
+        Err(fault) => Err(refuse_fault(file, fault.told(), None)),
+    }
+}
+
+/// The replay of a trace over a machine, or a refusal.
+pub fn walk_trace<'a>(
     alloc: Global,
     file: &'a str,
     machine: Machine,
     trace: &[u8],
-) -> Decision<'a>
+) -> Result<Done, Refusal<'a>>
     requires { length trace.now < 2 ^ 32 }
-    ensures kind { IsJudged result }
-    ensures answer { Agrees (WalksTrace file.entry.now trace.now (machine_of machine)) result }
+    ensures { Decides (WalksTrace file.entry.now trace.now (machine_of machine)) result }
 {
-    let events = match judge_trace(alloc, file, &machine, trace) {
-        Ok(events) => events,
-        Err(decision) => return decision,
-    };
+    let events = judge_trace(alloc, file, &machine, trace)?;
     let outcome = outcome_of::<Brand>(alloc, &machine, &events, Blank::new(1));
-    Decision::Replayed {
+    Ok(Done::Replayed {
         machine,
         events,
         outcome,
-    }
+    })
 }
 
-/// What is decided of the trace of a description without a fault, which is compiled first.
-fn decide_replay<'a>(
-    alloc: Global,
-    order: &ReplayOrder<'a>,
-    checked: &Checked,
-    trace: &[u8],
-) -> Decision<'a>
-    requires { length trace.now < 2 ^ 32 }
-    ensures kind { IsJudged result }
-    ensures answer { (d : Description) (is : IsCheckedOf d checked.now) → Agrees (ReplaysDescription order.now.description.now order.now.trace.now trace.now d is.known) result }
-{
-    match judge_states(alloc, order.description, checked) {
-        Ok(machine) => decide_trace(alloc, order.trace, machine, trace),
-        Err(decision) => decision,
-    }
-}
-
-/// What is decided of both texts, the description judged first.
+/// The replay of a trace by both texts, the description judged first, or a refusal.
 pub fn judge_replay<'a>(
     alloc: Global,
     order: &ReplayOrder<'a>,
     described: &[u8],
     trace: &[u8],
-) -> Decision<'a>
+) -> Result<Done, Refusal<'a>>
     requires described { length described.now < 2 ^ 32 }
     requires trace { length trace.now < 2 ^ 32 }
-    ensures kind { IsJudged result }
-    ensures answer { Agrees (Judges order.now.description.now described.now order.now.trace.now trace.now) result }
+    ensures { Decides (Judges order.now.description.now described.now order.now.trace.now trace.now) result }
 {
-    match judge_described(alloc, order.description, described) {
-        Ok(checked) => decide_replay(alloc, order, &checked, trace),
-        Err(decision) => decision,
-    }
+    let front = judge_compiled(alloc, order.description, described)?;
+    let compiled = front.compiled;
+    walk_trace(alloc, order.trace, compiled.machine, trace)
 }

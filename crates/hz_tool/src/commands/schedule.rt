@@ -1,96 +1,36 @@
 //! The phases of `schedule`, in their order: the description, its machine, the block, its classes, and its schedule.
 
-ghost use Rattle.std.specs.Prelude.{◌≡◌, ◌<◌, ◌^◌, length, map};
+ghost use Rattle.std.specs.Prelude.{◌<◌, ◌^◌, length};
 ghost use Rattle.hz_answer_model.specs.Answers.{SchedulesByDescription};
 ghost use Rattle.hz_front_model.specs.Descriptions.{HasDescription};
-ghost use Rattle.hz_answer_model.specs.ScheduleAnswers.{Schedules};
-ghost use Rattle.hz_check.specs.Checked.{IsCheckedOf};
-ghost use Rattle.hz_description_model.specs.Check.Places.{Known};
-ghost use Rattle.hz_depend.specs.GraphShape.{IsSchedulable};
-ghost use Rattle.hz_description_model.specs.Reading.Descriptions.{Description};
-ghost use Rattle.hz_rtl.specs.Shape.{instructions};
-ghost use Rattle.hz_sched.specs.Shape.{graph_of};
-ghost use Rattle.hz_block_model.specs.Scheduling.Machines.{Settles};
-ghost use Rattle.hz_block_model.specs.Scheduled.BlockGraphs.{IsGraphOf};
-ghost use Rattle.hz_tables.specs.Machines.{machine_of};
-ghost use Rattle.hz_tool.specs.Decisions.{Agrees, IsJudged};
-ghost use Rattle.hz_tool.specs.Machines.{IsMachineFor};
+ghost use Rattle.hz_tool.specs.Deciding.{Decides};
 
-use crate::decision::Decision;
-use crate::phases::blocks::{decide_sched, judge_block_text, judge_graph};
-use crate::phases::compiling::judge_states;
-use crate::phases::describing::judge_described;
-use hz_checked::Checked;
-use hz_depend::Graph;
-use hz_rtl::Block;
-use hz_sched::schedule;
-use hz_tables::Machine;
+use crate::done::Done;
+use crate::phases::blocks::{judge_block_text, schedule_block};
+use crate::phases::compiling::judge_compiled;
+use hz_front::refusal::Refusal;
 use hz_tool_words::order::ScheduleOrder;
 use std::alloc::Global;
 
-/// What is decided of a block with its graph, over the machine of the description.
-fn decide_schedule<'a>(
-    alloc: Global,
-    file: &'a str,
-    machine: Machine,
-    block: &Block,
-    graph: Graph,
-) -> Decision<'a>
-    requires settles { Settles (machine_of machine) }
-    requires schedulable { IsSchedulable (length machine.classes.items) graph }
-    requires size { length graph.insns.items ≡ length block.now.insns.items }
-    ensures kind { IsJudged result }
-    ensures answer { (d : Description) (known : Known) → IsMachineFor d known (machine_of machine) → IsGraphOf d (instructions block.now) (graph_of graph) → map (λ i. i.number) graph.insns.items ≡ map (λ i. i.number) block.now.insns.items → Agrees (Schedules file.entry.now d known (instructions block.now)) result }
-{
-    match schedule(alloc, &machine, &graph) {
-        Ok(schedule) => Decision::Scheduled {
-            machine,
-            graph,
-            schedule,
-        },
-        Err(fault) => decide_sched(file, block, fault),
-    }
-}
-
-/// What is decided of a block by a description without a fault, which is compiled first.
-fn decide_described<'a>(
-    alloc: Global,
-    order: &ScheduleOrder<'a>,
-    checked: &Checked,
-    blocked: &[u8],
-) -> Decision<'a>
-    requires { length blocked.now < 2 ^ 32 }
-    ensures kind { IsJudged result }
-    ensures answer { (d : Description) (is : IsCheckedOf d checked.now) → Agrees (SchedulesByDescription order.now.description.now order.now.block.now blocked.now d is.known) result }
-{
-    let machine = match judge_states(alloc, order.description, checked) {
-        Ok(machine) => machine,
-        Err(decision) => return decision,
-    };
-    let block = match judge_block_text(alloc, order.block, blocked) {
-        Ok(block) => block,
-        Err(decision) => return decision,
-    };
-    match judge_graph(alloc, order.block, checked, &machine, &block) {
-        Ok(graph) => decide_schedule(alloc, order.block, machine, &block, graph),
-        Err(decision) => decision,
-    }
-}
-
-/// What is decided of both texts, the description judged first.
+/// The schedule of a block by both texts, the description judged first, or a refusal.
 pub fn judge_schedule<'a>(
     alloc: Global,
     order: &ScheduleOrder<'a>,
     described: &[u8],
     blocked: &[u8],
-) -> Decision<'a>
+) -> Result<Done, Refusal<'a>>
     requires described { length described.now < 2 ^ 32 }
     requires block { length blocked.now < 2 ^ 32 }
-    ensures kind { IsJudged result }
-    ensures answer { Agrees (HasDescription order.now.description.now described.now (SchedulesByDescription order.now.description.now order.now.block.now blocked.now)) result }
+    ensures { Decides (HasDescription order.now.description.now described.now (SchedulesByDescription order.now.description.now order.now.block.now blocked.now)) result }
 {
-    match judge_described(alloc, order.description, described) {
-        Ok(checked) => decide_described(alloc, order, &checked, blocked),
-        Err(decision) => decision,
-    }
+    let front = judge_compiled(alloc, order.description, described)?;
+    let block = judge_block_text(alloc, order.block, blocked)?;
+    let machine = &front.compiled.machine;
+    let made = schedule_block(alloc, order.block, &front.checked, machine, &block)?;
+    let compiled = front.compiled;
+    Ok(Done::Scheduled {
+        machine: compiled.machine,
+        graph: made.graph,
+        schedule: made.schedule,
+    })
 }

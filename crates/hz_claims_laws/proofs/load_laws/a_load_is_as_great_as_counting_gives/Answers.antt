@@ -1,4 +1,4 @@
-use Rattle.hz_claims_laws.proofs.LoadCounts.{fewest, some_fewest, counted, within, apart, room, no_less}
+use Rattle.hz_claims_laws.proofs.LoadCounts.{fewest, some_fewest, counted, unasked, within, apart, room, no_less}
 use Rattle.hz_claims_laws.proofs.load_laws.a_load_is_as_great_as_counting_gives.Goals as goal
 
 pub returns-clause-fewest : goal.returns-clause-fewest
@@ -9,6 +9,9 @@ returns-clause-some_fewest c = some_fewest
 
 pub returns-clause-counted : goal.returns-clause-counted
 returns-clause-counted c = counted
+
+pub returns-clause-unasked : goal.returns-clause-unasked
+returns-clause-unasked c = unasked
 
 pub returns-clause-within : goal.returns-clause-within
 returns-clause-within c = within

@@ -1,5 +1,8 @@
-use Rattle.hz_claims_laws.proofs.WholeTexts.{kernel_back}
+use Rattle.hz_claims_laws.proofs.WholeTexts.{kernel_back, kernel_of_block}
 use Rattle.hz_claims_laws.proofs.text_laws.kernels_tell_their_slots.Goals as goal
 
-pub returns : goal.returns
-returns c = kernel_back
+pub returns-clause-lines : goal.returns-clause-lines
+returns-clause-lines c = kernel_back
+
+pub returns-clause-of_block : goal.returns-clause-of_block
+returns-clause-of_block c = kernel_of_block

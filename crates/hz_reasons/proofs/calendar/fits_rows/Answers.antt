@@ -1,4 +1,4 @@
-use Rattle.std.proofs.Common.{ℕ, ◌≡◌, get_or, sym, subst, arith}
+use Rattle.std.proofs.Common.{◌≡◌, get_or, sym, subst, arith}
 use Rattle.std.proofs.lemmas.List.{get_or_read}
 use Rattle.hz_grid.specs.declared.usage.UsedRow.{UsedRow}
 use Rattle.hz_unitsets.specs.RowRules.{FitsRow}

@@ -1,64 +1,63 @@
-use Rattle.std.proofs.Common.{◌≡◌, ◌<◌, ◌≤◌, ◌⊎◌, ℕ, ⊎_elim, inr, sym, subst, ◌∙◌, arith}
-use Rattle.std.proofs.lemmas.Bool.{cases_lt}
-use Rattle.hz_answer_model.specs.Answers.{Answer}
-use Rattle.hz_tool.proofs.RunLemmas.{says_file, may_write, status_exact, file_answer, completes, appends_promised, no_file, fits_room, no_order}
+use Rattle.std.proofs.Common.{◌≡◌, ⊎_elim, inl, inr}
+use Rattle.std.specs.Prelude.{⊤}
 use Rattle.hz_answer_model.proofs.AnswerLaws.{answer_single}
-use Rattle.hz_tool.specs.Decisions.{IsFileWord}
-use Rattle.hz_front.specs.Endings.{Completes}
+use Rattle.hz_answer_model.proofs.PromiseLaws.{promised}
+use Rattle.hz_answer_model.specs.Answers.{Answer}
 use Rattle.hz_tool_words.specs.Shape.{words_in}
+use Rattle.hz_front.proofs.RunLemmas as run
+use Rattle.hz_tool.proofs.RunLemmas.{ordered}
+use Rattle.hz_tool.specs.Deciding.{IsFileWord, decided_in}
 use Rattle.hz_tool.proofs.top.run.Goals as goal
 
-pub returns-in-Ok-clause-file_line : goal.returns-in-Ok-clause-file_line
-returns-in-Ok-clause-file_line g c = λ six. record {
-  text = _;
-  says = says_file (IsFileWord (words_in c.args.words.now)) c.decide-decision.result (sym c.status-status.ensures.value ∙ six) c.decide-decision.ensures.file;
-  appended = c.in-Ok.ensures.appended;
-}
+pub returns-clause-range : goal.returns-clause-range
+returns-clause-range g c = run.range _ _ _ _ _ _ (decided_in c.decide-decided.result) c.finish-status.ensures.low c.finish-status.ensures.ends
 
-pub returns-in-Err-clause-cut : goal.returns-in-Err-clause-cut
-returns-in-Err-clause-cut g c = λ held told seven. record {
-  text = _;
-  may = may_write (Answer (words_in c.args.words.now) held) (IsFileWord (words_in c.args.words.now)) _ _ (g.F.Files.steady c.args.files.now) c.decide-decision.result c.decide-decision.ensures.counts c.decide-decision.ensures.file (c.decide-decision.ensures.answer held told);
-  front = c.in-Err.ensures.front;
-  back = c.in-Err.ensures.back;
-  parts = c.in-Err.ensures.parts;
-  appended = c.in-Err.ensures.appended;
-  longer = c.in-Err.ensures.exceeded;
-}
+pub returns-clause-sink : goal.returns-clause-sink
+returns-clause-sink g c = run.sink _ _ _ _ _ _ (decided_in c.decide-decided.result) c.finish-status.ensures.low c.finish-status.ensures.ends
 
-pub returns-in-Ok-clause-exact : goal.returns-in-Ok-clause-exact
-returns-in-Ok-clause-exact g c = λ held told same which status text a.
-    subst (λ (n : ℕ). (n ≡ status) ⊎ (n ≡ 5)) (sym c.status-status.ensures.value) (status_exact (Answer (words_in c.args.words.now) held) (λ s status t text one other. (answer_single (words_in c.args.words.now) held s status t text one other).0) c.decide-decision.result (c.decide-decision.ensures.answer held told which) status text a)
+pub returns-clause-file : goal.returns-clause-file
+returns-clause-file g c = run.file _ _ _ _ _ _ (decided_in c.decide-decided.result) c.finish-status.ensures.low c.finish-status.ensures.ends _ _ c.decide-decided.ensures.counts
 
-pub returns-in-Ok-clause-lacks : goal.returns-in-Ok-clause-lacks
-returns-in-Ok-clause-lacks g c = λ held told steady more.
-    file_answer (Answer (words_in c.args.words.now) held) (g.F.Files.faults c.args.files.now) _ c.decide-decision.result c.decide-decision.ensures.counts more (c.decide-decision.ensures.answer held told (inr steady))
+pub returns-clause-lacks : goal.returns-clause-lacks
+returns-clause-lacks g c = λ held told steady more. run.lacks _ _ _ _ _ _ (decided_in c.decide-decided.result) c.finish-status.ensures.low c.finish-status.ensures.ends _ _ c.decide-decided.ensures.counts (Answer (words_in c.args.words.now) held) more (c.decide-decided.ensures.answer held told (inr steady))
 
-pub returns-in-Ok-clause-complete : goal.returns-in-Ok-clause-complete
-returns-in-Ok-clause-complete g c = λ held told same which.
-    subst (λ (n : ℕ). Completes (Answer (words_in c.args.words.now) held) n (g.S.Sink.written c.args.out.now) (g.S.Sink.written c.write-written.new.out)) (sym c.status-status.ensures.value)
-    (completes (Answer (words_in c.args.words.now) held) c.decide-decision.result _ _ (c.decide-decision.ensures.answer held told which) c.in-Ok.ensures.appended)
+pub returns-clause-rises : goal.returns-clause-rises
+returns-clause-rises g c = run.rises _ _ _ _ _ _ (decided_in c.decide-decided.result) c.finish-status.ensures.low c.finish-status.ensures.ends _ _ c.decide-decided.ensures.counts
 
-pub returns-in-Err-clause-lacks : goal.returns-in-Err-clause-lacks
-returns-in-Err-clause-lacks g c = λ held told steady more.
-    file_answer (Answer (words_in c.args.words.now) held) (g.F.Files.faults c.args.files.now) _ c.decide-decision.result c.decide-decision.ensures.counts more (c.decide-decision.ensures.answer held told (inr steady))
+pub returns-clause-fails : goal.returns-clause-fails
+returns-clause-fails g c = run.fails _ _ _ _ _ _ (decided_in c.decide-decided.result) c.finish-status.ensures.low c.finish-status.ensures.ends
 
-pub returns-in-Ok-clause-promised : goal.returns-in-Ok-clause-promised
-returns-in-Ok-clause-promised g c = λ held told zero order is.
-    appends_promised (words_in c.args.words.now) held _ _ (g.F.Files.steady c.args.files.now) c.decide-decision.result _ _ c.decide-decision.ensures.counts (c.decide-decision.ensures.answer held told) (sym c.status-status.ensures.value ∙ zero) order is c.in-Ok.ensures.appended
+pub returns-clause-words : goal.returns-clause-words
+returns-clause-words g c = run.words _ _ _ _ _ _ (decided_in c.decide-decided.result) c.finish-status.ensures.low c.finish-status.ensures.ends _ _ _ c.decide-decided.ensures.words
 
-pub returns-in-Ok-clause-neither : goal.returns-in-Ok-clause-neither
-returns-in-Ok-clause-neither g c = λ held told steady all room there has.
-    let not_six = no_file (IsFileWord (words_in c.args.words.now)) held c.decide-decision.result all c.decide-decision.ensures.file (c.decide-decision.ensures.lacks held told steady) in
-    let low = c.status-status.ensures.range in
-    ⊎_elim (λ (few : c.status-status.result < 6). omega (arith, few))
-    (λ (most : 6 ≤ c.status-status.result). let six : c.status-status.result ≡ 6 = omega (arith, low, most) in absurd (not_six (sym c.status-status.ensures.value ∙ six)))
-    (cases_lt c.status-status.result 6)
+pub returns-clause-usage_or_memory : goal.returns-clause-usage_or_memory
+returns-clause-usage_or_memory g c = λ none same.
+    ⊎_elim (λ (four : c.finish-status.result ≡ 4). inl four) (λ (five : ⊤ × (c.finish-status.result ≡ 5)). inr five.1)
+    (run.no_order _ _ _ _ _ _ (decided_in c.decide-decided.result) c.finish-status.ensures.low c.finish-status.ensures.ends _ _ _ c.decide-decided.ensures.words none same)
 
-pub returns-in-Err-clause-neither : goal.returns-in-Err-clause-neither
-returns-in-Err-clause-neither g c = λ held told steady all room there has.
-    let fits = fits_room (Answer (words_in c.args.words.now) held) (IsFileWord (words_in c.args.words.now)) held room _ _ (g.F.Files.steady c.args.files.now) c.decide-decision.result steady all has c.decide-decision.ensures.counts c.decide-decision.ensures.file (c.decide-decision.ensures.lacks held told steady) (c.decide-decision.ensures.answer held told) in
-    absurd (omega (arith, fits, c.in-Err.ensures.exceeded room there))
+pub returns-clause-usage : goal.returns-clause-usage
+returns-clause-usage g c = run.usage_written _ _ _ _ _ _ (decided_in c.decide-decided.result) c.finish-status.ensures.low c.finish-status.ensures.ends _ _ _ c.decide-decided.ensures.words
 
-pub returns-in-Ok-clause-words : goal.returns-in-Ok-clause-words
-returns-in-Ok-clause-words g c = λ four. no_order _ c.decide-decision.result c.decide-decision.ensures.words (sym c.status-status.ensures.value ∙ four)
+pub returns-clause-memory : goal.returns-clause-memory
+returns-clause-memory g c = run.memory _ _ _ _ _ _ (decided_in c.decide-decided.result) c.finish-status.ensures.low c.finish-status.ensures.ends
+
+pub returns-clause-file_line : goal.returns-clause-file_line
+returns-clause-file_line g c = run.file_written _ _ _ _ _ _ (decided_in c.decide-decided.result) c.finish-status.ensures.low c.finish-status.ensures.ends _ _ c.decide-decided.ensures.counts (IsFileWord (words_in c.args.words.now)) c.decide-decided.ensures.file
+
+pub returns-clause-complete : goal.returns-clause-complete
+returns-clause-complete g c = λ held told same which. run.complete _ _ _ _ _ _ (decided_in c.decide-decided.result) c.finish-status.ensures.low c.finish-status.ensures.ends (Answer (words_in c.args.words.now) held) (c.decide-decided.ensures.answer held told which) same
+
+pub returns-clause-exact : goal.returns-clause-exact
+returns-clause-exact g c = λ held told same which. run.exact _ _ _ _ _ _ (decided_in c.decide-decided.result) c.finish-status.ensures.low c.finish-status.ensures.ends (Answer (words_in c.args.words.now) held) (answer_single (words_in c.args.words.now) held) (c.decide-decided.ensures.answer held told which) same
+
+pub returns-clause-cut : goal.returns-clause-cut
+returns-clause-cut g c = λ held told. run.cut _ _ _ _ _ _ (decided_in c.decide-decided.result) c.finish-status.ensures.low c.finish-status.ensures.ends _ _ c.decide-decided.ensures.counts (IsFileWord (words_in c.args.words.now)) c.decide-decided.ensures.file (Answer (words_in c.args.words.now) held) (g.F.Files.steady c.args.files.now) (c.decide-decided.ensures.answer held told)
+
+pub returns-clause-neither : goal.returns-clause-neither
+returns-clause-neither g c = λ held told steady all. run.neither _ _ _ _ _ _ (decided_in c.decide-decided.result) c.finish-status.ensures.low c.finish-status.ensures.ends _ _ c.decide-decided.ensures.counts (IsFileWord (words_in c.args.words.now)) c.decide-decided.ensures.file (Answer (words_in c.args.words.now) held) held all (c.decide-decided.ensures.lacks held told steady) (c.decide-decided.ensures.answer held told (inr steady))
+
+pub returns-clause-promised : goal.returns-clause-promised
+returns-clause-promised g c = λ held told none order is.
+    let words = words_in c.args.words.now in
+    let z = run.zero _ _ _ _ _ _ (decided_in c.decide-decided.result) c.finish-status.ensures.low c.finish-status.ensures.ends _ _ c.decide-decided.ensures.counts (Answer words held) (g.F.Files.steady c.args.files.now) none (c.decide-decided.ensures.answer held told) in
+    record { text = z.0; promised = promised held order z.0 (ordered words held z.0 order z.1 is); appended = z.2 }

@@ -5,7 +5,7 @@ pub returns-clause-one : goal.returns-clause-one
 returns-clause-one g c = one_wait
 
 pub returns-clause-some : goal.returns-clause-some
-returns-clause-some g c = λ same tells m s k unbroken. some_wait m s k unbroken same tells
+returns-clause-some g c = some_wait
 
 pub returns-clause-never : goal.returns-clause-never
 returns-clause-never g c = never_fits_empty

@@ -1,7 +1,7 @@
 use Rattle.std.proofs.Common.{◌<◌, length, get_or, arith}
 use Rattle.hz_replay.specs.Lines.{event_of}
 use Rattle.hz_tool.proofs.DrillLemmas.{issues_more, one_issue}
-use Rattle.hz_tool.proofs.TraceLemmas.{some_event}
+use Rattle.hz_front.proofs.TraceLemmas.{some_event}
 use Rattle.hz_tool.proofs.commands.drill.count_issues.Goals as goal
 
 pub loop-event-preserved : goal.loop-event-preserved

@@ -1,14 +1,20 @@
-use Rattle.hz_answer_model.specs.Answers.{ReplaysDescription}
-use Rattle.hz_tool.proofs.JudgeLemmas.{described_on, described_refused}
+use Rattle.hz_answer_model.specs.Answers.{ReplaysTrace}
+use Rattle.hz_answer_model.specs.TableAnswers.{WalksTrace}
+use Rattle.hz_tables.specs.Machines.{machine_of}
+use Rattle.hz_tool.proofs.CommandLemmas.{decided_then, front_machine, uncompiled}
+use Rattle.hz_tool.proofs.MachineLemmas.{walk_replays}
 use Rattle.hz_tool.proofs.commands.replay.judge_replay.Goals as goal
 
-pub returns-in-Ok-clause-answer : goal.returns-in-Ok-clause-answer
-returns-in-Ok-clause-answer c =
+pub returns-in_err-front : goal.returns-in_err-front
+returns-in_err-front c =
     let order = c.args.order.now in
-    let is = c.in-Ok.ensures.ok in
-    described_on order.description.now c.args.described.now c.in-Ok.checked (ReplaysDescription order.description.now order.trace.now c.args.trace.now) c.decide_replay.result is (c.decide_replay.ensures.answer is.d is.is)
+    uncompiled order.description.now c.args.described.now (ReplaysTrace order.trace.now c.args.trace.now) c.from_residual.result c.in_err-front.field-0.0 c.from_residual.ensures.1 c.in_err-front.ensures
 
-pub returns-in-Err-clause-answer : goal.returns-in-Err-clause-answer
-returns-in-Err-clause-answer c =
+pub returns : goal.returns
+returns c =
     let order = c.args.order.now in
-    described_refused order.description.now c.args.described.now (ReplaysDescription order.description.now order.trace.now c.args.trace.now) c.in-Err.decision c.in-Err.ensures.err
+    let front = c.in_ok-front.front in
+    let is = c.in_ok-front.ensures in
+    let m = machine_of front.compiled.machine in
+    decided_then order.description.now c.args.described.now (ReplaysTrace order.trace.now c.args.trace.now) front is (WalksTrace order.trace.now c.args.trace.now m)
+    (walk_replays is.checked.d is.checked.is.known m (front_machine c.args.described.now front is) order.trace.now c.args.trace.now) c.walk_trace.result c.walk_trace.ensures

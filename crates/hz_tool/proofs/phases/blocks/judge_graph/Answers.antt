@@ -1,15 +1,16 @@
 use Rattle.std.proofs.Common.{ℕ, length, sym, ◌∙◌, subst, arith}
 use Rattle.hz_depend.specs.GraphShape.{IsSchedulable}
 use Rattle.hz_tool.proofs.BlockLemmas.{first_wrong, wrong_within, wrong_below}
-use Rattle.hz_tool.proofs.BlockTelling.{wrong_in, wrong_told}
-use Rattle.hz_tool.specs.Blocks.{IsFaultIn, Nothing}
+use Rattle.hz_tool.proofs.BlockRefusals.{wrong_in, wrong_told}
+use Rattle.hz_tool.specs.Blocks.{IsFaultIn}
+use Rattle.hz_tool.specs.Deciding.{Nothing}
 use Rattle.hz_tool.proofs.phases.blocks.judge_graph.Goals as goal
 
 pub returns-in-Ok-clause-schedulable : goal.returns-in-Ok-clause-schedulable
 returns-in-Ok-clause-schedulable c = subst (λ (n : ℕ). IsSchedulable n c.in-Ok.graph) (sym c.requires.classes) c.in-Ok.ensures.schedulable
 
-pub decide_depend-requires : goal.decide_depend-requires
-decide_depend-requires c =
+pub refuse_depend-requires : goal.refuse_depend-requires
+refuse_depend-requires c =
     let checked = c.args.checked.now in
     let insns = c.args.block.now.insns.items in
     wrong_in (length c.args.machine.now.classes.items) (length insns) c.in-Err.fault
@@ -22,6 +23,6 @@ pub returns-in-Err-clause-err : goal.returns-in-Err-clause-err
 returns-in-Err-clause-err c = λ d is names.
     let checked = c.args.checked.now in
     let block = c.args.block.now in
-    wrong_told c.args.file d c.args.machine.now.classes.items block.insns.items Nothing c.in-Err.fault c.decide_depend.result names
+    wrong_told c.args.file d c.args.machine.now.classes.items block.insns.items Nothing c.in-Err.fault c.refuse_depend.result names
     (λ place e insn told there. first_wrong d checked is block.insns.items place e insn (sym c.in-Err.ensures.fault ∙ told) there)
-    c.decide_depend.ensures.answer
+    c.refuse_depend.ensures.answer

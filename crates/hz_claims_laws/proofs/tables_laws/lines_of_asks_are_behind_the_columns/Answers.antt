@@ -1,5 +1,0 @@
-use Rattle.hz_claims_laws.proofs.TablesLines.{asks_behind}
-use Rattle.hz_claims_laws.proofs.tables_laws.lines_of_asks_are_behind_the_columns.Goals as goal
-
-pub returns : goal.returns
-returns c = asks_behind

@@ -1,4 +1,0 @@
-pub mod LineLaws
-pub mod NameLaws
-pub mod TraceLaws
-pub mod FoundLaws

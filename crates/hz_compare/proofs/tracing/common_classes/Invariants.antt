@@ -1,9 +1,0 @@
-use Rattle.std.proofs.Common.{◌≡◌, take}
-use Rattle.std.specs.Prelude.{filter}
-use Rattle.hz_tables.specs.Machines.{machine_of}
-use Rattle.hz_same_model.specs.Common.{has_class}
-use Rattle.hz_compare.specs.Names.{names_in}
-use Rattle.hz_compare.proofs.tracing.common_classes.Given as goal
-
-abbrev pub invariant-loop-name : goal.invariant-loop-name
-invariant-loop-name l = names_in l.names.items ≡ filter (has_class (machine_of l.second)) (take l.name-index l.classes)

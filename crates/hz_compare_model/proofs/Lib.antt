@@ -1,2 +1,0 @@
-pub mod SingleLaws
-pub mod DecidingLaws

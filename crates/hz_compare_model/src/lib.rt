@@ -1,4 +1,0 @@
-//! What the program that compares two tables texts answers, with laws.
-#![tactic(auto)]
-
-pub mod answers;

@@ -1,0 +1,12 @@
+use Rattle.std.proofs.Common.{ap}
+use Rattle.std.specs.Prelude.{codes, not}
+use Rattle.hz_tables.specs.Machines.{machine_of}
+use Rattle.hz_same_model.specs.Common.{has_class}
+use Rattle.hz_same_model.specs.Texts.{alone_line}
+use Rattle.hz_same_top.proofs.LineLaws.{line_more}
+use Rattle.hz_same_top.proofs.alone.add_classes.Goals as goal
+
+pub loop-name-preserved : goal.loop-name-preserved
+loop-name-preserved c =
+    line_more (alone_line (codes "class") c.args.file.now) (λ name. not (has_class (machine_of c.args.other.now) name)) c.args.classes.now c.loop-name.name-index c.name-item.result (not c.has_class.result)
+    c.args.text.now.items c.loop-name.text.items c.add_alone.new.text.items c.loop-name-test.true c.name-item.is (ap not c.has_class.ensures) c.loop-name.invariant c.in_ok-add_alone.ensures

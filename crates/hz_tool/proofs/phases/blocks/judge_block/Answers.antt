@@ -1,0 +1,9 @@
+use Rattle.hz_block_model.specs.Texts.Operands.{rtl_word}
+use Rattle.hz_block_model.specs.Texts.BlockForms as blocks
+use Rattle.hz_front.proofs.RefusingLemmas.{tells_fault}
+use Rattle.hz_sexp.specs.Shape.{trees}
+use Rattle.hz_rtl.specs.Faults as faults
+use Rattle.hz_tool.proofs.phases.blocks.judge_block.Goals as goal
+
+pub returns-in-Err-clause-err : goal.returns-in-Err-clause-err
+returns-in-Err-clause-err c = tells_fault rtl_word (blocks.FaultAt (trees c.args.read.now)) c.args.file c.told.result (faults.fault_of c.in-Err.fault) c.refuse_fault.result c.told.ensures c.in-Err.ensures.faults c.refuse_fault.ensures.value

@@ -1,8 +1,0 @@
-use Rattle.hz_mdread.specs.Faults.{fault_of}
-use Rattle.hz_sexp.specs.Shape.{trees}
-use Rattle.hz_tool.proofs.TellingLemmas.{tells_description}
-use Rattle.hz_tool.proofs.phases.judging.judge_description.Goals as goal
-
-pub returns-in-Err-clause-err : goal.returns-in-Err-clause-err
-returns-in-Err-clause-err c =
-    tells_description c.args.file (trees c.args.read.now) c.told.result c.at.result (fault_of c.in-Err.fault) _ c.decide_fault.result c.told.ensures c.at.ensures c.in-Err.ensures.faults c.decide_fault.ensures.value

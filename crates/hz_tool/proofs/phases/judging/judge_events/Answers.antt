@@ -1,7 +1,0 @@
-use Rattle.hz_pipeline_model.specs.Traces.Traces.{TraceFaultAt, trace_word}
-use Rattle.hz_replay.specs.Traces as faults
-use Rattle.hz_tool.proofs.TellingLemmas.{tells_fault}
-use Rattle.hz_tool.proofs.phases.judging.judge_events.Goals as goal
-
-pub returns-in-Err-clause-err : goal.returns-in-Err-clause-err
-returns-in-Err-clause-err c = tells_fault trace_word (TraceFaultAt c.args.names.now c.args.text.now) c.args.file c.told.result (faults.fault_told c.in-Err.fault) c.decide_fault.result c.told.ensures c.in-Err.ensures.err c.decide_fault.ensures.value

@@ -1,8 +1,0 @@
-use Rattle.hz_base_model.specs.Forms.Forms.{form_word}
-use Rattle.hz_base_model.specs.Forms.Forms as forms
-use Rattle.hz_sexp.specs.Faults as faults
-use Rattle.hz_tool.proofs.TellingLemmas.{tells_fault}
-use Rattle.hz_tool.proofs.phases.judging.judge_forms.Goals as goal
-
-pub returns-in-Err-clause-err : goal.returns-in-Err-clause-err
-returns-in-Err-clause-err c = tells_fault form_word (forms.FaultAt c.args.text.now) c.args.file c.told.result (faults.fault_of c.in-Err.fault) c.decide_fault.result c.told.ensures c.in-Err.ensures.faults c.decide_fault.ensures.value

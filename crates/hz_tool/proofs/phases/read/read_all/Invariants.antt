@@ -1,6 +1,0 @@
-use Rattle.std.proofs.Common.{take}
-use Rattle.hz_tool.proofs.ReadLemmas.{AreReadSo}
-use Rattle.hz_tool.proofs.phases.read.read_all.Given as goal
-
-abbrev pub invariant-loop-file : goal.invariant-loop-file
-invariant-loop-file g l = AreReadSo g.F.Files.faults g.F.Files.held g.F.Files.steady l.fn.files l.files (take l.file-index l.wanted) l.texts.items
