@@ -223,8 +223,8 @@ expect 0 'accepted 2 issues 1 cycles' replay two_automata t
 expect 0 'accepted 2 issues 0 cycles' replay ndfa both
 expect 1 'refused line 2 x' replay d twice
 expect 1 'refused line 4 x' replay d spaced
-told="ask line 2 a free${newline}ask line 4 a reserved${newline}refused line 6 x"
-expect 1 "$told" replay query asks
+reported="ask line 2 a free${newline}ask line 4 a reserved${newline}refused line 6 x"
+expect 1 "$reported" replay query asks
 expect 2 'fault no_unit line 3 UnknownUnit' replay query no_unit
 expect 2 'fault no_unit line 1 UnknownUnit' replay d no_unit
 expect 2 'fault query_ndfa line 1 QueryUnderNdfa a' replay query_ndfa asks
@@ -256,7 +256,7 @@ expect_sink replay query asks
 expect 0 'accepted 2 issues 1 cycles' walk k t
 expect 0 'accepted 0 issues 0 cycles' walk k empty
 expect 1 'refused line 2 y' walk k both
-expect 1 "$told" walk asked asks
+expect 1 "$reported" walk asked asks
 expect 2 'fault no_unit line 3 UnknownUnit' walk asked no_unit
 expect 2 'fault no_unit line 1 UnknownUnit' walk k no_unit
 expect 2 'fault other_row line 9 OutOfRange' walk other_row asks
@@ -427,7 +427,7 @@ why expect 0 "$(printf 'accepted 1 issues 0 cycles\ncycle    0  1  2  3  4  5  6
 u        .  .  .  .  .  .  .  .  .  .  .  .  .  .  .  .  1')" states late_unit
 held='alternative 1: a in cycle 1 is planned by line'
 why expect 1 "$(printf 'refused line 2 x\nfits 1 cycle later\n%s 1, x\ncycle   0 1\na       . 1' "$held")" d twice
-why expect 1 "$(printf '%s\nfits 1 cycle later\n%s 5, x\ncycle   0 1\na       1 5' "$told" "$held")" query asks
+why expect 1 "$(printf '%s\nfits 1 cycle later\n%s 5, x\ncycle   0 1\na       1 5' "$reported" "$held")" query asks
 why expect 1 "$(printf 'refused line 1 x\nfits in no later cycle\nalternative 1: presence_set line 2, v in cycle 0 without a pattern\ncycle   0\nv       .')" \
     never twice
 why expect 1 "$(printf 'refused line 2 x\nfits 60 cycles later\nalternative 1: u in cycle 0 is held from line 1, x\ncycle  '

@@ -19,6 +19,8 @@ import sys
 import threading
 import time
 
+from extraction.running import run
+
 COPIES, BUILT = "bin/copies", "bin/built"
 KILLED = (-signal.SIGKILL, 128 + signal.SIGKILL, 256 - signal.SIGKILL)
 
@@ -427,4 +429,4 @@ def main(words):
 
 
 if __name__ == "__main__":
-    sys.exit(main(sys.argv[1:]))
+    run(main, sys.argv[1:])

@@ -13,6 +13,7 @@ from building.machine import parts_of, tables_text
 from building.source import read_source
 from building.wanted import wanted_of_build, wanted_of_tables
 from extraction.forms import Fault
+from extraction.running import run
 
 EPILOG = "The status is 0, or 2 if an input cannot be read or said as a tables text; then nothing is written."
 
@@ -73,4 +74,4 @@ def main():
 
 
 if __name__ == "__main__":
-    sys.exit(main())
+    run(main)

@@ -9,6 +9,8 @@ import subprocess
 import sys
 import tempfile
 
+from extraction.running import run
+
 UNITS = ("u", "v", "w")
 
 
@@ -164,4 +166,4 @@ def main():
 
 
 if __name__ == "__main__":
-    main()
+    run(main)

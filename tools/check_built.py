@@ -10,7 +10,6 @@ import collections
 import functools
 import glob
 import os
-import sys
 import tempfile
 
 import check_gcc
@@ -19,6 +18,7 @@ from building.comparing import comparer_of
 from building.generating import Generator, Unwritten, build_genautomata
 from extract import Reader
 from extraction.forms import Fault
+from extraction.running import run
 from fuzz_built import fuzz
 
 SECONDS, MUTANTS = 300, 2000
@@ -109,4 +109,4 @@ def main():
 
 
 if __name__ == "__main__":
-    sys.exit(main())
+    run(main)

@@ -6,7 +6,8 @@ So a crate costs one sum, and those of all that it lists."""
 import functools
 import pathlib
 import re
-import sys
+
+from extraction.running import run
 
 TOP = pathlib.Path(__file__).resolve().parent.parent
 MOST_CRATES, MOST_SUMS = 54, 3200
@@ -48,4 +49,4 @@ def main():
 
 
 if __name__ == "__main__":
-    sys.exit(main())
+    run(main)

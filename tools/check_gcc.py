@@ -18,7 +18,6 @@ import glob
 import os
 import resource
 import subprocess
-import sys
 import tarfile
 import tempfile
 
@@ -29,6 +28,7 @@ from fuzz_extract import fuzz
 from extraction.calendars import Calendars
 from extraction.forms import Fault
 from extraction.items import Class, Options, Reservation, Units
+from extraction.running import run
 from extraction.same import Undecided
 from extraction.shared import needed
 from extraction.tables import Tables, is_count
@@ -38,7 +38,7 @@ SOURCES = "/usr/src/gcc-12/gcc-12*.tar.xz"
 MEMORY = 6 << 30
 NUMBER, TURNS = 59, 2000
 
-Answer = collections.namedtuple("Answer", "status told seconds states grids size text")
+Answer = collections.namedtuple("Answer", "status reported seconds states grids size text")
 Programs = collections.namedtuple("Programs", "hz comparer")
 Row = collections.namedtuple("Row", "target name classes plain aligned agreement changes cut cut_agreement cut_changes")
 
@@ -181,7 +181,7 @@ def compared(comparer, before, after):
     texts = ["\n".join(line for line in answer.text.split("\n") if not is_count(line)) for answer in (before, after)]
     if texts[0] == texts[1]:
         return "the same tables"
-    found = comparer.told(before.text, after.text)
+    found = comparer.reported(before.text, after.text)
     return f"DIFFERS: {'; '.join(found.trace)}: {found.answers[0]}, {found.answers[1]}" if found else "the same"
 
 
@@ -189,7 +189,7 @@ def agreement(programs, plain, aligned, answers, most):
     """How two ways were compared: by their tables, or by drills if the first is not compiled, or has too many pairs of states."""
     before, after = answers
     if after.status != 0:
-        return "" if before.told == after.told else "no longer compiled: DIFFERS" if before.status == 0 else "another answer"
+        return "" if before.reported == after.reported else "no longer compiled: DIFFERS" if before.status == 0 else "another answer"
     if before.status != 0:
         return drills(programs.hz, plain, aligned, most)
     try:
@@ -202,8 +202,8 @@ def row(programs, reader, target, name, most, **what):
     """One row of the table: a pipeline or a whole target, with or without --merge."""
     try:
         plain, _ = extract(reader, **what)
-        aligned, told = extract(reader, align=True, **what)
-        cut, cut_told = extract(reader, align=True, split="paying", **what)
+        aligned, reported = extract(reader, align=True, **what)
+        cut, cut_reported = extract(reader, align=True, split="paying", **what)
     except Fault as fault:
         return unread(target, name, fault)
     answers = [compiled(programs.hz, with_option(items, "stats", True), most) for items in (plain, aligned, cut)]
@@ -211,7 +211,7 @@ def row(programs, reader, target, name, most, **what):
     cut_same = agreement(programs, plain, cut, answers[1:], most)
     short = [answer._replace(text="") for answer in answers]
     classes = sum(isinstance(item, Class) for item in plain)
-    kinds = [[change.kind for change in made] for made in (told, cut_told)]
+    kinds = [[change.kind for change in made] for made in (reported, cut_reported)]
     return Row(target, name, classes, *short[:2], agreed, kinds[0], short[2], cut_same, kinds[1])
 
 
@@ -238,7 +238,7 @@ def rows(programs, config, only, most):
         for name, what in tries:
             first = row(programs, reader, target, name, most, **what)
             yield first
-            if "AlternationOfTwo" in first.plain.told:
+            if "AlternationOfTwo" in first.plain.reported:
                 yield row(programs, reader, target, name + " --merge", most, merge=True, **what)
 
 
@@ -248,20 +248,20 @@ def spelled(kinds):
 
 def kind_of(answer):
     """What an answer counts as."""
-    words = answer.told.split()
+    words = answer.reported.split()
     if answer.status == 0:
         return "compiled"
     if answer.status == 2:
         return "fault " + words[3]
     if answer.status == 3:
         return "limit " + (words[3] if words[1] == "line" else "of states")
-    return answer.told
+    return answer.reported
 
 
 def line_of(one):
-    return " | ".join([one.name, str(one.classes), one.plain.told, f"{one.plain.seconds:.2f}", sizes(one.plain),
-                       one.aligned.told, f"{one.aligned.seconds:.2f}", sizes(one.aligned), one.agreement, spelled(one.changes),
-                       one.cut.told, f"{one.cut.seconds:.2f}", sizes(one.cut), one.cut_agreement, spelled(one.cut_changes),
+    return " | ".join([one.name, str(one.classes), one.plain.reported, f"{one.plain.seconds:.2f}", sizes(one.plain),
+                       one.aligned.reported, f"{one.aligned.seconds:.2f}", sizes(one.aligned), one.agreement, spelled(one.changes),
+                       one.cut.reported, f"{one.cut.seconds:.2f}", sizes(one.cut), one.cut_agreement, spelled(one.cut_changes),
                        f"{one.aligned.size} {one.cut.size}"])
 
 
@@ -273,11 +273,11 @@ def summary(title, found):
         print(f"  {way}: " + ", ".join(f"{count} {kind}" for kind, count in counts.most_common()))
         for one in sorted(found, key=lambda one: -getattr(one, way).seconds)[:3]:
             answer = getattr(one, way)
-            print(f"    {answer.seconds:.2f} s {one.name}: {answer.told}, {sizes(answer)}")
+            print(f"    {answer.seconds:.2f} s {one.name}: {answer.reported}, {sizes(answer)}")
     for way in ("agreement", "cut_agreement"):
-        told = [getattr(one, way) for one in found]
-        print(f"  {way.replace('_', ' ')}: {told.count('the same tables')} the same tables, {told.count('the same')} the same otherwise, "
-              f"{sum('accepted' in one for one in told)} drills")
+        reported = [getattr(one, way) for one in found]
+        print(f"  {way.replace('_', ' ')}: {reported.count('the same tables')} the same tables, {reported.count('the same')} the same otherwise, "
+              f"{sum('accepted' in one for one in reported)} drills")
     print(f"  changes: {spelled(kind for one in found for kind in one.changes)}")
     print(f"  changes with the cut: {spelled(kind for one in found for kind in one.cut_changes)}")
 
@@ -377,4 +377,4 @@ def main():
 
 
 if __name__ == "__main__":
-    sys.exit(main())
+    run(main)

@@ -7,10 +7,10 @@ import itertools
 import os
 import random
 import subprocess
-import sys
 import tempfile
 import time
 
+from extraction.running import run as run_tool
 from large import explained
 from large.blocks import Block, Insn, listing, two_scheduled
 from large.machines import Calendar, Kind, Machine, lengthened, many_classes, one_that_waits, several_classes, sixteen_automata, \
@@ -421,4 +421,4 @@ def main():
 
 
 if __name__ == "__main__":
-    sys.exit(main())
+    run_tool(main)

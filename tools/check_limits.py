@@ -9,6 +9,7 @@ import sys
 import tempfile
 import time
 
+from extraction.running import run
 from limits.calls import call_faults
 from limits.ends import ends
 from limits.largest import Front, largest
@@ -162,4 +163,4 @@ def main():
 
 
 if __name__ == "__main__":
-    sys.exit(main())
+    run(main)

@@ -10,6 +10,8 @@ import subprocess
 import sys
 import tempfile
 
+from extraction.running import run
+
 SUPERSCALAR = """\
 (define_attr "type" "int,mult,div,float" (const_string "int"))
 (define_cpu_unit "i0_pipeline, i1_pipeline, f_pipeline")
@@ -308,4 +310,4 @@ def main():
 
 
 if __name__ == "__main__":
-    sys.exit(main())
+    run(main)

@@ -10,6 +10,8 @@ import subprocess
 import sys
 import tempfile
 
+from extraction.running import run
+
 COUNTS = (1, 2, 3, 5, 40)
 STAGES = 32
 REPEATS = 1024
@@ -108,16 +110,16 @@ def costs(machine, insns):
     found = {}
     for first, second in itertools.combinations(range(len(insns)), 2):
         one, two = insns[first], insns[second]
-        told = []
+        reported = []
         flows = one.into is not None and one.into in two.reads() and all(insn.into != one.into for insn in insns[first + 1:second])
         if flows or meet(insns, first, second, one.stored, two.loaded):
-            told.append(machine.number(one.kind, two.kind))
+            reported.append(machine.number(one.kind, two.kind))
         if (two.into is not None and two.into in one.reads()) or meet(insns, first, second, one.loaded, two.stored):
-            told.append(0)
+            reported.append(0)
         if (one.into is not None and one.into == two.into) or meet(insns, first, second, one.stored, two.stored):
-            told.append(max(0, machine.latencies[one.kind] - machine.latencies[two.kind]))
-        if told:
-            found[first, second] = max(told)
+            reported.append(max(0, machine.latencies[one.kind] - machine.latencies[two.kind]))
+        if reported:
+            found[first, second] = max(reported)
     return found
 
 
@@ -278,4 +280,4 @@ def main():
 
 
 if __name__ == "__main__":
-    main()
+    run(main)

@@ -9,9 +9,9 @@ import re
 import shlex
 import shutil
 import subprocess
-import sys
 import tempfile
 
+from extraction.running import run
 from pages import links, manual, names, sizes
 
 TOP = os.path.dirname(os.path.dirname(os.path.abspath(__file__)))
@@ -124,4 +124,4 @@ def main():
 
 
 if __name__ == "__main__":
-    sys.exit(main())
+    run(main)

@@ -13,6 +13,7 @@ import tempfile
 
 sys.dont_write_bytecode = True
 
+from extraction.running import run
 import check_gcc  # noqa: E402
 from same_check.cases import CASES  # noqa: E402
 from same_check.machines import machine_of  # noqa: E402
@@ -84,12 +85,12 @@ def is_shown(lines, walked, words):
         return [status for status, _ in walked] == [0, 0]
     found = set()
     for word, (status, text) in zip(words, walked):
-        told = text.split("\n")[:-1]
+        reported = text.split("\n")[:-1]
         if event[0] != "ask":
-            is_refused = status == 1 and told[-1] == f"refused line {last} {event[1]}"
+            is_refused = status == 1 and reported[-1] == f"refused line {last} {event[1]}"
             found.add(f"{'refused' if is_refused else 'accepted' if status == 0 else 'lost'} by {word}")
         else:
-            found.add(f"{told[-2].split(' ')[-1]} in {word}" if status == 0 and told[-2].startswith(f"ask line {last} ") else "lost")
+            found.add(f"{reported[-2].split(' ')[-1]} in {word}" if status == 0 and reported[-2].startswith(f"ask line {last} ") else "lost")
     return found == set(said)
 
 
@@ -178,4 +179,4 @@ def main():
 
 
 if __name__ == "__main__":
-    sys.exit(main())
+    run(main)

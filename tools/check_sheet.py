@@ -20,6 +20,7 @@ from check_why import WhyMaker  # noqa: E402
 from check_walk import Simulation  # noqa: E402
 from extract import Reader, extract  # noqa: E402
 from extraction.forms import Fault  # noqa: E402
+from extraction.running import run
 from extraction.writing import written  # noqa: E402
 from sheet_check.browser import Browser, Failed, find_browser  # noqa: E402
 from sheet_check.comparing import compare_page  # noqa: E402
@@ -260,4 +261,4 @@ def main():
 
 
 if __name__ == "__main__":
-    sys.exit(main())
+    run(main)

@@ -8,13 +8,13 @@ import glob
 import os
 import random
 import subprocess
-import sys
 import tempfile
 
 from extract import Reader
 from extraction.calendars import Calendars
 from extraction.changes import of_kind
 from extraction.items import Class, Options, Units
+from extraction.running import run
 
 # of units in two forms, one after the other
 HEADS = (
@@ -77,10 +77,10 @@ class Maker:
 
     def forms_of_units(self, units, automaton, heads):
         """The units of an automaton in two forms at most, by one of the pairs of heads."""
-        behind = f' "{automaton}"' if automaton else ""
+        after = f' "{automaton}"' if automaton else ""
         cut = self.random.randint(0, len(units))
         parts = zip(self.random.choice(heads), (units[:cut], units[cut:]))
-        return [f'({head} "{",".join(own)}"{behind})' for head, own in parts if own]
+        return [f'({head} "{",".join(own)}"{after})' for head, own in parts if own]
 
     def description(self):
         """The text of a description."""
@@ -147,7 +147,7 @@ class Simulation:
         return words[0], words[1]
 
     def events(self, lines):
-        """The events of lines, each with its line. The first wrong line is told."""
+        """The events of lines, each with its line. The first wrong line is reported."""
         events, cycles = [], 0
         for place, words in enumerate(map(str.split, lines), 1):
             if not words or words[0].startswith(";"):
@@ -177,10 +177,10 @@ class Simulation:
 
     def replayed(self, events):
         """The status and the text for events."""
-        told, issues, cycles = "", 0, 0
+        reported, issues, cycles = "", 0, 0
         for line, word, what in events:
             if word == "ask":
-                told += f"ask line {line} {what} {'reserved' if self.calendars.holds(what) else 'free'}\n"
+                reported += f"ask line {line} {what} {'reserved' if self.calendars.holds(what) else 'free'}\n"
             elif word == "advance":
                 cycles += what
                 for _ in range(min(what, LONGEST)):
@@ -190,9 +190,9 @@ class Simulation:
                 if accepted is None:
                     return None
                 if not accepted:
-                    return 1, f"{told}refused line {line} {what}\n".encode()
+                    return 1, f"{reported}refused line {line} {what}\n".encode()
                 issues += 1
-        return 0, f"{told}accepted {issues} issues {cycles} cycles\n".encode()
+        return 0, f"{reported}accepted {issues} issues {cycles} cycles\n".encode()
 
 
 class Check:
@@ -200,7 +200,7 @@ class Check:
 
     def __init__(self, hz, folder):
         self.hz, self.tables = hz, os.path.join(folder, "tables")
-        self.seen, self.told, self.wrong = collections.Counter(), collections.Counter(), 0
+        self.seen, self.reported, self.wrong = collections.Counter(), collections.Counter(), 0
 
     def compare(self, what, first, second):
         self.seen[first[0]] += 1
@@ -232,11 +232,11 @@ class Check:
             self.compare(f"{description} {trace}", answer(self.hz, "walk", self.tables, trace), replayed)
             simulated = simulation.answer(trace)
             if simulated is None:
-                self.told["not simulated"] += 1
+                self.reported["not simulated"] += 1
                 continue
             self.compare(f"{description} {trace}, simulated", simulated, replayed)
-            for told in ("reserved", "free"):
-                self.told[told] += replayed[1].count(f" {told}\n".encode())
+            for reported in ("reserved", "free"):
+                self.reported[reported] += replayed[1].count(f" {reported}\n".encode())
 
 
 def written(folder, name, text):
@@ -261,8 +261,8 @@ def words_given(purpose, seed, descriptions, traces, *programs):
 def tell(name, check):
     """Writes what a check saw: the statuses, what else it counted, and how many answers differ."""
     counts = ", ".join(f"{count} of status {status}" for status, count in sorted(check.seen.items()))
-    told = ", ".join(f"{count} {what}" for what, count in sorted(check.told.items()))
-    print(f"{name}: {sum(check.seen.values())} answers, {counts}; {told}; {check.wrong} differ")
+    reported = ", ".join(f"{count} {what}" for what, count in sorted(check.reported.items()))
+    print(f"{name}: {sum(check.seen.values())} answers, {counts}; {reported}; {check.wrong} differ")
 
 
 def main():
@@ -284,9 +284,9 @@ def main():
                 print(text)
                 break
     tell("check-walk", check)
-    shown = {0, 1, 2} <= set(check.seen) and check.told["reserved"] and check.told["free"]
+    shown = {0, 1, 2} <= set(check.seen) and check.reported["reserved"] and check.reported["free"]
     return 0 if shown and not check.wrong else 1
 
 
 if __name__ == "__main__":
-    sys.exit(main())
+    run(main)

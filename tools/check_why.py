@@ -1,20 +1,20 @@
 #!/usr/bin/env python3
 """Compares `hz_why` with `hz replay`, and with an own calendar of units in cycles, which knows no states and no tables. On every trace of
 the examples, and on traces of descriptions that a seed makes, the status and the first text are those of `replay`. Where `replay` answers
-a limit of states, they are those of the calendar. The text behind is the calendar's, byte by byte: who holds what is asked for, which set
+a limit of states, they are those of the calendar. The text after is the calendar's, byte by byte: who holds what is asked for, which set
 statement is broken, when the class fits, and the picture. Under `ndfa` the first of all lists of choices is searched for."""
 import collections
 import glob
 import os
 import re
 import subprocess
-import sys
 import tempfile
 
 from check_walk import SETS, Maker, Simulation, Wrong, answer, tell, words_given, written
 from extraction.changes import of_kind
 from extraction.expressions import Expander, tree_of
 from extraction.items import Automata, Class, Reservation, Units, UnitSet
+from extraction.running import run
 
 LINE_COLUMNS = 80
 NAME_COLUMNS = 32
@@ -103,7 +103,7 @@ def breach(statement, held, added):
 
 
 class Play:
-    """Plays events on a machine: what `replay` answers of them, and what is told behind it."""
+    """Plays events on a machine: what `replay` answers of them, and what is reported after it."""
 
     def __init__(self, simulation):
         self.machine, self.queries = Machine(simulation), simulation.queries
@@ -114,42 +114,42 @@ class Play:
         if played is None:
             return None
         held, now = self.holders(events[:played.place], played.choices)
-        told = "by one of the choices\n" if self.machine.is_any else ""
+        reported = "by one of the choices\n" if self.machine.is_any else ""
         asked = []
         if played.status == 1:
             name = events[played.place][2]
-            told += wait_line(self.wait(played.states, now, name)) + self.refusal(held, now, name)
+            reported += wait_line(self.wait(played.states, now, name)) + self.refusal(held, now, name)
             asked = [pair for pairs in self.machine.classes[name] for pair in pairs]
-        return played.status, played.text, told + picture(self.machine.units, after(held, now), asked)
+        return played.status, played.text, reported + picture(self.machine.units, after(held, now), asked)
 
     def played(self, events):
         """Plays the events by all choices. Of those that lead to the same state the first are kept, and lists stay in their order."""
-        now, told, lists = 0, "", {frozenset(): ()}
+        now, reported, lists = 0, "", {frozenset(): ()}
         for place, (line, word, what) in enumerate(events):
             if word == "ask":
-                told += f"ask line {line} {what} {'reserved' if any((now, what) in held for held in lists) else 'free'}\n"
+                reported += f"ask line {line} {what} {'reserved' if any((now, what) in held for held in lists) else 'free'}\n"
             elif word == "advance":
                 now += what
                 lists = first_lists((frozenset(pair for pair in held if pair[0] >= now), choices) for held, choices in lists.items())
             else:
                 longer = first_lists(self.issued(lists, what, now))
                 if not longer:
-                    return Played(1, f"{told}refused line {line} {what}\n", place, list(lists), next(iter(lists.values())))
+                    return Played(1, f"{reported}refused line {line} {what}\n", place, list(lists), next(iter(lists.values())))
                 if len(longer) > MOST_STATES:
                     return None
                 lists = longer
         issues = sum(word == "issue" for _, word, _ in events)
-        return Played(0, f"{told}accepted {issues} issues {now} cycles\n", len(events), list(lists), next(iter(lists.values())))
+        return Played(0, f"{reported}accepted {issues} issues {now} cycles\n", len(events), list(lists), next(iter(lists.values())))
 
     def issued(self, lists, name, now):
-        """What an issue leaves of each state, with the choices behind those before."""
+        """What an issue leaves of each state, with the choices after those before."""
         for held, choices in lists.items():
             fitting = self.machine.fitting(held, name, now)
             for choice in fitting if self.machine.is_any else fitting[:1]:
                 yield held | set(self.machine.added(name, choice, now)), choices + (choice,)
 
     def holders(self, events, choices):
-        """Who holds each pair behind events, and the present cycle."""
+        """Who holds each pair after events, and the present cycle."""
         held, now, left = {}, 0, list(choices)
         for line, word, what in events:
             now += what if word == "advance" else 0
@@ -159,21 +159,21 @@ class Play:
 
     def refusal(self, held, now, name):
         """What forbids each alternative of the class."""
-        told = ""
+        reported = ""
         for number in range(len(self.machine.classes[name])):
             (cycle, unit), broken = self.machine.reason(held.keys(), self.machine.added(name, number, now))
-            told += f"alternative {number + 1}: "
+            reported += f"alternative {number + 1}: "
             at = f"{unit} in cycle {cycle - now}"
             if broken is None:
-                told += f"{at} {'is held from' if cycle == now else 'is planned by'} line {held[cycle, unit].line}, {held[cycle, unit].name}\n"
+                reported += f"{at} {'is held from' if cycle == now else 'is planned by'} line {held[cycle, unit].line}, {held[cycle, unit].name}\n"
             else:
                 statement, pattern = broken
-                behind = f"with {' '.join(pattern)}" if pattern else "without a pattern"
-                told += f"{statement.head} line {statement.line}, {at} {behind}\n"
-        return told
+                tail = f"with {' '.join(pattern)}" if pattern else "without a pattern"
+                reported += f"{statement.head} line {statement.line}, {at} {tail}\n"
+        return reported
 
     def wait(self, states, now, name):
-        """The least number of cycles after which the class fits in any state, or None. Behind the last pair nothing stands reserved."""
+        """The least number of cycles after which the class fits in any state, or None. After the last pair nothing is reserved."""
         last = max((cycle for held in states for cycle, _ in held), default=now)
         return next((later - now for later in range(now, max(now, last) + 2)
                      if any(self.machine.fitting(held, name, later) for held in states)), None)
@@ -217,12 +217,12 @@ def picture(units, held, asked):
     def texts(unit):
         return [str(held[cycle, unit].line) if (cycle, unit) in held else "." for cycle in columns]
 
-    told = line("cycle", map(str, columns)) + "".join(line(unit, texts(unit)) for unit in rows)
-    return told + (f"cut after cycle {len(columns) - 1}\n" if len(columns) < cycles else "")
+    reported = line("cycle", map(str, columns)) + "".join(line(unit, texts(unit)) for unit in rows)
+    return reported + (f"cut after cycle {len(columns) - 1}\n" if len(columns) < cycles else "")
 
 
-def told_of(simulation, play, trace):
-    """The status and the two texts for a trace, none behind a fault; None if there are too many states to follow."""
+def reported_of(simulation, play, trace):
+    """The status and the two texts for a trace, none after a fault; None if there are too many states to follow."""
     with open(trace, encoding="ascii") as text:
         lines = text.read().split("\n")
     try:
@@ -247,8 +247,8 @@ SUPERSCALAR = """\
 
 def slots(statement, *classes):
     """A description with the statement on line 9."""
-    behind = "".join(f'(define_insn_reservation "{name}" 1 (const_int 1) "{text}")\n' for name, text in classes)
-    return '(define_cpu_unit "slot0,slot1,slot2,b0,d,e,f1,f2")' + "\n" * 8 + statement + "\n" + behind
+    tail = "".join(f'(define_insn_reservation "{name}" 1 (const_int 1) "{text}")\n' for name, text in classes)
+    return '(define_cpu_unit "slot0,slot1,slot2,b0,d,e,f1,f2")' + "\n" * 8 + statement + "\n" + tail
 
 
 CHOICE = """\
@@ -266,7 +266,7 @@ EITHER = """\
 (define_insn_reservation "y" 1 (const_int 1) "c")
 """
 
-# a description, a trace and what is told: but for `EITHER` the texts that the prover computes in crates/hz_why_model/src/examples.rt
+# a description, a trace and what is reported: but for `EITHER` the texts that the prover computes in crates/hz_why_model/src/examples.rt
 WORKED = (
     (SUPERSCALAR, "\nissue simple\n\n\nissue simple\nissue simple\n", """\
 refused line 6 simple
@@ -402,7 +402,7 @@ class Check:
 
     def __init__(self, hz, hz_why):
         self.hz, self.hz_why = hz, hz_why
-        self.seen, self.told, self.wrong = collections.Counter(), collections.Counter(), 0
+        self.seen, self.reported, self.wrong = collections.Counter(), collections.Counter(), 0
 
     def compare(self, what, found, wanted):
         if found != wanted:
@@ -415,7 +415,7 @@ class Check:
         text = done.stdout.decode()
         self.seen[done.returncode] += 1
         for kind, pattern in KINDS.items():
-            self.told[kind] += bool(re.search(pattern, text))
+            self.reported[kind] += bool(re.search(pattern, text))
         return done.returncode, text
 
     def replayed(self, description, trace):
@@ -423,21 +423,21 @@ class Check:
         status, text = answer(self.hz, "replay", description, trace)
         return status, text.decode()
 
-    def trace(self, what, found, told, replayed):
-        """Compares what is told of a trace, of a description without a fault; `replayed` is None if `replay` answers a limit of states."""
-        if told is None:
+    def trace(self, what, found, reported, replayed):
+        """Compares what is reported of a trace, of a description without a fault; `replayed` is None if `replay` answers a limit of states."""
+        if reported is None:
             # too many states to follow: only what comes first is compared
-            self.told["not followed"] += 1
+            self.reported["not followed"] += 1
             if replayed:
                 self.compare(what, (found[0], found[1][:len(replayed[1])]), replayed)
             return
-        status, first, behind = told
+        status, first, tail = reported
         if replayed:
             self.compare(f"{what}, by the calendar", (status, first), replayed)
-        self.compare(what, found, (status, first + behind))
+        self.compare(what, found, (status, first + tail))
 
     def machine(self, description, traces):
-        """Compares what is told of traces of a description; `traces` makes their paths. A limit of states comes before any trace."""
+        """Compares what is reported of traces of a description; `traces` makes their paths. A limit of states comes before any trace."""
         status, text = self.replayed(description, os.devnull)
         is_states = status == 3 and " automaton " in text
         if status > 1 and not is_states:
@@ -446,9 +446,9 @@ class Check:
         simulation = Simulation(description)
         play = Play(simulation)
         for trace in traces(simulation):
-            self.told["limits of states"] += is_states
+            self.reported["limits of states"] += is_states
             replayed = None if is_states else self.replayed(description, trace)
-            self.trace(f"{description} {trace}", self.explained(description, trace), told_of(simulation, play, trace), replayed)
+            self.trace(f"{description} {trace}", self.explained(description, trace), reported_of(simulation, play, trace), replayed)
 
 
 def check_worked(check, folder):
@@ -456,8 +456,8 @@ def check_worked(check, folder):
     for description, trace, wanted in WORKED:
         paths = written(folder, "worked.md", description), written(folder, "worked.trace", trace)
         simulation = Simulation(paths[0])
-        status, first, behind = told_of(simulation, Play(simulation), paths[1])
-        check.compare("a worked text, by the calendar", (status, first + behind), (status, wanted))
+        status, first, tail = reported_of(simulation, Play(simulation), paths[1])
+        check.compare("a worked text, by the calendar", (status, first + tail), (status, wanted))
         check.compare("a worked text", check.explained(*paths), (status, wanted))
 
 
@@ -479,9 +479,9 @@ def main():
                 print(text)
                 break
     tell("check-why", check)
-    shown = {0, 1, 2} <= set(check.seen) and all(check.told[kind] for kind in [*KINDS, "limits of states"])
+    shown = {0, 1, 2} <= set(check.seen) and all(check.reported[kind] for kind in [*KINDS, "limits of states"])
     return 0 if shown and not check.wrong else 1
 
 
 if __name__ == "__main__":
-    sys.exit(main())
+    run(main)

@@ -14,6 +14,7 @@ import sys
 from extraction import aligning, as_gcc, changes, items, merging, splitting
 from extraction.forms import BYTES, Fault, read_forms, read_text
 from extraction.names import shown
+from extraction.running import run
 from extraction.shared import needed
 from extraction.writing import handed_out
 
@@ -75,7 +76,7 @@ class Work:
     """What the steps have in hand: the items that are written, all that the files define, the changes so far, and the files."""
     items: list
     sources: list
-    told: changes.Told
+    reported: changes.Reported
     files: list
 
 
@@ -86,22 +87,22 @@ def gather(reader, files, defs, targets):
     mine = {os.path.realpath(item.place.file) for item in own}
     shared = [item for path in defs for item in reader.items(path, True)]
     shared = [item for item in shared if os.path.realpath(item.place.file) not in mine]
-    return Work(needed(own, shared) + own, own + shared, changes.Told(), [*targets, *files])
+    return Work(needed(own, shared) + own, own + shared, changes.Reported(), [*targets, *files])
 
 
 def change(work):
     """Changes what hz's profile cannot say."""
-    work.items = changes.change_all(work.items, work.sources, work.told)
+    work.items = changes.change_all(work.items, work.sources, work.reported)
 
 
 def merge_all(work):
     """Merges the automata of every alternation."""
-    merging.merge_automata(work.items, changes.of_kind(work.items, items.Class), work.told)
+    merging.merge_automata(work.items, changes.of_kind(work.items, items.Class), work.reported)
 
 
 def merge_stuck(work):
     """Merges the automata of the alternations of classes that can't be written automaton by automaton."""
-    while merging.merge_automata(work.items, aligning.stuck(work.items), work.told):
+    while merging.merge_automata(work.items, aligning.stuck(work.items), work.reported):
         pass
 
 
@@ -112,22 +113,22 @@ def drop_empty(work):
 
 def align(work):
     """Takes units earlier."""
-    work.items = aligning.align_units(work.items, work.told)
+    work.items = aligning.align_units(work.items, work.reported)
 
 
 def split_paying(work):
     """Cuts automata where that leaves fewer states."""
-    work.items = splitting.split_automata(work.items, work.told, False)
+    work.items = splitting.split_automata(work.items, work.reported, False)
 
 
 def split_all(work):
     """Cuts automata wherever nothing ties their units."""
-    work.items = splitting.split_automata(work.items, work.told, True)
+    work.items = splitting.split_automata(work.items, work.reported, True)
 
 
 def read_as_gcc(work):
     """Reads as genautomata what it reads otherwise than hz."""
-    work.items = as_gcc.read_as_gcc(work.items, work.told)
+    work.items = as_gcc.read_as_gcc(work.items, work.reported)
 
 
 def steps(asked):
@@ -153,7 +154,7 @@ def extract(reader, files, defs=(), targets=(), **asked):
     work = gather(reader, files, defs, targets)
     for step in steps(asked):
         step(work)
-    return work.items, work.told
+    return work.items, work.reported
 
 
 def counted(taken, made):
@@ -231,4 +232,4 @@ def main(given=None):
 
 
 if __name__ == "__main__":
-    sys.exit(main())
+    run(main)

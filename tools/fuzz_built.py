@@ -12,13 +12,13 @@ import random
 import re
 import signal
 import subprocess
-import sys
 import tempfile
 import time
 import traceback
 
 from built import built
 from extraction.forms import Fault
+from extraction.running import run
 
 SECONDS, EDITS = 10, [1, 1, 1, 2, 3]
 PIECES = ["0", "1", "2", "255", "256", "65535", "65536", "999999999", "4294967296", "9" * 5000, "-1", "0x10", " ", ",", "{", "}", "};", "\n", ";",
@@ -127,8 +127,8 @@ def fuzz(hz, texts, first, count):
         made = Fuzz(hz, texts, folder)
         for number in range(first, first + count):
             made.run(number)
-    told = ", ".join(f"{number} {kind}" for kind, number in made.seen.most_common())
-    print(f"fuzz-built: {count} mutants from {first} on: {told}; the longest took {made.longest:.1f} seconds of a processor; {made.wrong} wrong")
+    reported = ", ".join(f"{number} {kind}" for kind, number in made.seen.most_common())
+    print(f"fuzz-built: {count} mutants from {first} on: {reported}; the longest took {made.longest:.1f} seconds of a processor; {made.wrong} wrong")
     return made.wrong
 
 
@@ -158,4 +158,4 @@ def main():
 
 
 if __name__ == "__main__":
-    sys.exit(main())
+    run(main)

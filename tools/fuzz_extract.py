@@ -12,13 +12,13 @@ import random
 import re
 import signal
 import subprocess
-import sys
 import tempfile
 import time
 import traceback
 
 from extract import Reader, extract
 from extraction.forms import Fault, read_forms, read_text
+from extraction.running import run
 from extraction.writing import handed_out
 
 SECONDS, LONGEST, EDITS = 10, 20000, [1, 1, 1, 2, 3]
@@ -150,9 +150,9 @@ class Fuzz:
         path = os.path.join(self.work, "mutant.md")
         with open(path, "w", encoding="ascii") as out:
             out.write(made + "\n(end)\n")
-        told = subprocess.run([self.hz, "compile", path], stdout=subprocess.PIPE, check=False).stdout.decode()
+        reported = subprocess.run([self.hz, "compile", path], stdout=subprocess.PIPE, check=False).stdout.decode()
         lines = made.count("\n") + 2
-        return told == f"fault {path} line {lines} UnknownForm\n" or told.endswith(" bytes\n") and len(made) > 4194296
+        return reported == f"fault {path} line {lines} UnknownForm\n" or reported.endswith(" bytes\n") and len(made) > 4194296
 
 
 def fuzz(hz, config, first, count):
@@ -162,8 +162,8 @@ def fuzz(hz, config, first, count):
         made = Fuzz(hz, config, work)
         for number in range(first, first + count):
             made.run(number)
-    told = ", ".join(f"{number} {kind}" for kind, number in made.seen.most_common())
-    print(f"fuzz-extract: {count} mutants from {first} on: {told}; the longest took {made.longest:.1f} seconds of a processor; {len(made.wrong)} wrong")
+    reported = ", ".join(f"{number} {kind}" for kind, number in made.seen.most_common())
+    print(f"fuzz-extract: {count} mutants from {first} on: {reported}; the longest took {made.longest:.1f} seconds of a processor; {len(made.wrong)} wrong")
     return len(made.wrong)
 
 
@@ -182,4 +182,4 @@ def main():
 
 
 if __name__ == "__main__":
-    sys.exit(main())
+    run(main)

@@ -13,6 +13,7 @@ import traceback
 sys.dont_write_bytecode = True
 
 from extraction.forms import Fault  # noqa: E402
+from extraction.running import run
 from sheet.making import make_page  # noqa: E402
 from sheet.programs import Programs, Stop, find_program  # noqa: E402
 from sheet.writing import check_inputs, check_output, write_page  # noqa: E402
@@ -89,4 +90,4 @@ def main():
 
 
 if __name__ == "__main__":
-    sys.exit(main())
+    run(main)

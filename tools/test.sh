@@ -222,6 +222,20 @@ cut many-cut --split many.md
 # what asks too much, or can't be read by hz: one line of a fault, or the changes that were made
 mkdir hostile && (cd hostile && python3 ../hostile.py "$tools/extract.py" "$hz") || bad=1
 
+# equal lists are taken, tied and counted once: more classes change no cut
+{ grep -v '^(define_insn_reservation "z"' bare.md; for each in z z1 z2; do echo "(define_insn_reservation \"$each\" 1 (const_int 1) \"b*2\")"; done; } > equal.md
+python3 "$tools/extract.py" --split -o equal-cut.md equal.md 2> reported || wrong "equal: status $?"
+compares same equal equal-cut cut
+[ "$(grep -c '^row' bare-cut.tables)" = 15 ] && "$hz" compile equal-cut.md | grep -c '^row' | grep -qx 15 || wrong "equal: other states than without the equal ones"
+
+# an output that nobody reads ends a tool without a word, and one that can't be written with one line
+python3 -c 'import sys; sys.path.insert(0, sys.argv[1]); from extraction import running; running.run(lambda: print("x" * 100000) or 0)' "$tools" 2> reported | true
+[ ! -s reported ] || wrong "an output that nobody reads: $(cat reported)"
+if [ -e /dev/full ]; then
+    python3 -c 'import sys; sys.path.insert(0, sys.argv[1]); from extraction import running; running.run(lambda: print("x") or 0)' "$tools" > /dev/full 2> reported
+    [ $? -eq 2 ] && [ "$(wc -l < reported)" -eq 1 ] || wrong "an output that can't be written: $(cat reported)"
+fi
+
 # the lists of tools/check_limits.py, beside pages and sources
 sh "$tools/test/limits.sh" || bad=1
 

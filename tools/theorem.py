@@ -9,6 +9,7 @@ import os
 import re
 import sys
 
+from extraction.running import run
 from contracts.naming import case_citations, citations, function_clauses, laws_of, reach
 from contracts.screen import command_lists, first_screen, names_in_code, names_of, place_in
 from contracts.sources import Definition, Library, TOP, Unreadable
@@ -382,4 +383,4 @@ def main():
 
 
 if __name__ == "__main__":
-    sys.exit(main())
+    run(main)

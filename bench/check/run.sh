@@ -2,7 +2,7 @@
 # Times the check of descriptions of 1, 2 and 4 MB, the least of five runs of `hz replay` each: tens of thousands of
 # reservations, attributes and bypasses; an automaton of a long name with one set of many units, which are too many for
 # it; a reservation of up to 524,288 pairs that stands beside itself as often as the text has room: by itself, repeated
-# once or twice, before a unit, behind one, and in a part of a part; or units repeated 256 times in its place; and sums of
+# once or twice, before a unit, after one, and in a part of a part; or units repeated 256 times in its place; and sums of
 # many names: of four units and repeated 256 times, beside itself; of one unit and repeated 256 times, in thousands of
 # reservations; of 900 equal pairs and one more each, in hundreds; of 58 equal pairs and repeated 256 times, in 68.
 hz=$1
@@ -63,7 +63,7 @@ beside() {
 beside_itself() { beside 256 'q' "$1"; }
 repeated_once() { beside 256 'q*1' "$1"; }
 before_units() { beside 255 '(q,U)' "$1"; }
-behind_units() { beside 255 '(U,q)' "$1"; }
+after_units() { beside 255 '(U,q)' "$1"; }
 repeated_twice() { beside 128 '(q*2)' "$1"; }
 inside_parts() { beside 255 '((q+U),V)' "$1"; }
 unit_repeated() { beside 256 'U*256' "$1"; }
@@ -130,7 +130,7 @@ sums_repeated() {
 }
 
 echo "kind bytes ms MB_a_second doubling"
-for kind in forms long_name beside_itself repeated_once before_units behind_units repeated_twice inside_parts unit_repeated \
+for kind in forms long_name beside_itself repeated_once before_units after_units repeated_twice inside_parts unit_repeated \
     repeat one_unit sums sums_repeated; do
     before=
     for mega in 1 2 4; do

@@ -1,7 +1,7 @@
 #!/bin/sh
 # Times `hz compile` on the descriptions that pipelines.py makes: seconds, peak memory, the shares of the parts, and microseconds
 # for each transition that is tried: a column or the advance, at each grid, and under `ndfa` at each state too. The least of five
-# runs each. What a part takes is the difference of two commands: reading ends at an unknown form behind all others, checking at a
+# runs each. What a part takes is the difference of two commands: reading ends at an unknown form after all others, checking at a
 # bypass that is given twice; `replay` of an empty trace writes nothing, and under `no-minimization` minimises nothing either.
 hz=$1
 . "$(dirname "$0")/../common.sh"

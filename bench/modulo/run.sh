@@ -96,7 +96,7 @@ for count in 64 128 255; do
     row either "$count"
 done
 
-# a chain whose second half takes a unit for 512 cycles, behind a first half of latency 1,000 that takes another for 500
+# a chain whose second half takes a unit for 512 cycles, after a first half of latency 1,000 that takes another for 500
 for automata in 1 8; do
     awk -v automata="$automata" 'BEGIN {
         print "(define_attr \"type\" \"one,late\" (const_string \"one\"))"

@@ -18,11 +18,11 @@ packing=$room/crates/packing/out/packing
 
 echo "kind states columns places entries ratio ms peak_kb"
 while read -r kind states columns; do
-    told=$("$packing" "$kind" "$states" "$columns" pack)
+    reported=$("$packing" "$kind" "$states" "$columns" pack)
     made=$(least "$packing" "$kind" "$states" "$columns" table)
     whole=$(least "$packing" "$kind" "$states" "$columns" pack)
     peak=$(/usr/bin/time -f %M "$packing" "$kind" "$states" "$columns" pack 2>&1 > /dev/null)
-    echo "$kind $states $columns $told $(echo "$told" | awk '{ printf "%.2f", $1 / $2 }') $(awk -v t="$((whole - made))" 'BEGIN { printf "%.0f", t / 1000000 }') $peak"
+    echo "$kind $states $columns $reported $(echo "$reported" | awk '{ printf "%.2f", $1 / $2 }') $(awk -v t="$((whole - made))" 'BEGIN { printf "%.0f", t / 1000000 }') $peak"
 done <<END
 calendar 65536 16
 sparse 65536 63

@@ -46,13 +46,13 @@ class Compared:
         return not self.difference or bool(self.readings)
 
     def line(self):
-        told = self.why or "the same" + (f", {self.other_states} with other states" if self.other_states else "")
+        reported = self.why or "the same" + (f", {self.other_states} with other states" if self.other_states else "")
         if self.difference:
-            told = "; ".join(f"{name}: {own.line()}" for name, own in self.difference.automata.items())
+            reported = "; ".join(f"{name}: {own.line()}" for name, own in self.difference.automata.items())
             whole = self.difference.whole
-            told += f"; all together: {whole.line() if whole else 'the same'}" if len(self.difference.automata) > 1 or not whole else ""
-            told += f"; the same with --as-gcc: {self.readings}" if self.readings else f"; {self.left}"
-        return " | ".join([self.name, self.build, self.mode, str(self.automata), str(self.states), told])
+            reported += f"; all together: {whole.line() if whole else 'the same'}" if len(self.difference.automata) > 1 or not whole else ""
+            reported += f"; the same with --as-gcc: {self.readings}" if self.readings else f"; {self.left}"
+        return " | ".join([self.name, self.build, self.mode, str(self.automata), str(self.states), reported])
 
 
 def spelled(mode):
@@ -70,12 +70,12 @@ class Target:
     def tables(self, what, modes):
         """The first mode in which hz compiles a description, with its tables and the changes; or what hz answers last."""
         for mode in modes:
-            items, told = extract(self.reader, **mode, **what)
+            items, reported = extract(self.reader, **mode, **what)
             answer = self.compiled(items)
             self.seconds["hz"] += answer.seconds
             if answer.status == 0:
-                return mode, answer.text, told
-        return None, answer.told, told
+                return mode, answer.text, reported
+        return None, answer.reported, reported
 
     def build(self, what):
         """What genautomata writes of the forms as they are."""
@@ -103,20 +103,20 @@ class Target:
         try:
             row.difference, row.other_states = self.against(build, text)
             if row.difference and "as_gcc" not in mode:
-                found, other, told = self.tables(what, [{"as_gcc": True, **mode}])
+                found, other, reported = self.tables(what, [{"as_gcc": True, **mode}])
                 if found is None:
                     row.left = f"not compiled with --as-gcc: {other}"
                 elif self.against(build, other)[0] is None:
-                    row.readings = readings_of(told)
+                    row.readings = readings_of(reported)
         except (Fault, Undecided) as why:
             row.why, row.automata, row.states = f"not compared: {why}", 0, 0
         return row
 
 
-def readings_of(told):
+def readings_of(reported):
     """Which readings were taken, and how often."""
     counts = collections.Counter()
-    for change in told:
+    for change in reported:
         if change.kind == "gcc":
             counts.update(word for word, form in READINGS if re.match(form, change.what))
     return ", ".join(f"{count} {word}" for word, count in counts.items())
@@ -194,10 +194,10 @@ def by_difference(rows):
     yield "|---|---|---|---|---|---|"
     lines = []
     for row in rows:
-        for name, told in (row.difference.automata if row.difference else {}).items():
-            trace = ", ".join(f"`{line}`" for line in told.trace)
+        for name, reported in (row.difference.automata if row.difference else {}).items():
+            trace = ", ".join(f"`{line}`" for line in reported.trace)
             after = "the same" if row.readings else row.left
-            lines.append(f"| `{name}` of `{row.name.replace('.md', '')}` | {trace} | {' | '.join(told.answers)} | {row.readings} | {after} |")
+            lines.append(f"| `{name}` of `{row.name.replace('.md', '')}` | {trace} | {' | '.join(reported.answers)} | {row.readings} | {after} |")
     yield from dict.fromkeys(lines)
 
 

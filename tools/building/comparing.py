@@ -16,7 +16,7 @@ LAST = re.compile(r"; (refused|accepted|reserved) (?:by|in) first, (?:accepted|f
 
 
 @dataclasses.dataclass
-class Told:
+class Reported:
     """The least events that two texts answer otherwise, as lines of a trace, and what the first and the second answer."""
     trace: typing.List[str]
     answers: typing.Tuple[str, str]
@@ -28,8 +28,8 @@ class Told:
 @dataclasses.dataclass
 class Difference:
     """What each automaton that differs answers otherwise by itself, and what all together do: that may be nothing, if others refuse too."""
-    automata: typing.Dict[str, Told]
-    whole: typing.Optional[Told]
+    automata: typing.Dict[str, Reported]
+    whole: typing.Optional[Reported]
 
 
 def spent():
@@ -48,7 +48,7 @@ class Comparer:
         """What compares."""
         return os.path.basename(self.program) if self.program else "a search in Python"
 
-    def told(self, first, second):
+    def reported(self, first, second):
         """What two texts answer otherwise, or None. `Undecided` is raised if that needs too many pairs of states."""
         before = spent()
         try:
@@ -69,7 +69,7 @@ class Comparer:
             return None
         if done.returncode != 1:
             raise Undecided(f"hz_same: status {done.returncode}: {text.strip()}")
-        return told_of(text.split("\n")[:-1])
+        return reported_of(text.split("\n")[:-1])
 
 
 def comparer_of(hz, hz_same):
@@ -80,24 +80,24 @@ def comparer_of(hz, hz_same):
     return Comparer()
 
 
-def told_of(lines):
+def reported_of(lines):
     """What hz_same writes of two texts that differ."""
     *others, last = lines
     alone = [line for line in others if line.startswith(";")]
     if alone:
-        return Told(alone + [line for line in others if line not in alone], ("otherwise", "otherwise"))
+        return Reported(alone + [line for line in others if line not in alone], ("otherwise", "otherwise"))
     if not LAST.fullmatch(last):
         raise Undecided(f"hz_same: its last line is `{last}`")
     ends = re.findall(r"(\w+) (?:by|in) (\w+)", last)
     answers = {text: answer for answer, text in ends}
-    return Told(others, (answers["first"], answers["second"]))
+    return Reported(others, (answers["first"], answers["second"]))
 
 
 def searched(first_text, second_text):
     """What a search over all pairs finds."""
     first, second = Machine(first_text), Machine(second_text)
     events = difference_of(first, second, PAIRS)
-    return Told(trace_of(events), (answer_of(first, events), answer_of(second, events))) if events else None
+    return Reported(trace_of(events), (answer_of(first, events), answer_of(second, events))) if events else None
 
 
 def answer_of(machine, events):
@@ -151,8 +151,8 @@ def difference(comparer, first_text, second_text):
     """What two texts answer otherwise, or None; `Undecided` is raised if that needs too many pairs of states."""
     firsts, seconds = texts_of_automata(first_text), texts_of_automata(second_text)
     if list(firsts) != list(seconds):
-        whole = comparer.told(first_text, second_text)
+        whole = comparer.reported(first_text, second_text)
         return Difference(dict.fromkeys(firsts, whole), whole) if whole else None
-    each = {name: comparer.told(firsts[name], seconds[name]) for name in firsts}
-    apart = {name: told for name, told in each.items() if told}
-    return Difference(apart, comparer.told(first_text, second_text)) if apart else None
+    each = {name: comparer.reported(firsts[name], seconds[name]) for name in firsts}
+    apart = {name: reported for name, reported in each.items() if reported}
+    return Difference(apart, comparer.reported(first_text, second_text)) if apart else None

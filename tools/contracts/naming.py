@@ -77,7 +77,7 @@ class Reader:
         return bound
 
     def group(self, bracket, inside, bound):
-        """What stands in brackets; the names that it binds behind it."""
+        """What stands in brackets; the names that it binds after it."""
         names, rest = split_binder(inside)
         if bracket == "(" or names:
             self.term(rest, bound)
@@ -89,7 +89,7 @@ class Reader:
         return set()
 
     def binders(self, tokens, place, bound):
-        """The names behind a `λ`, which are bound from there on; the place behind the dot."""
+        """The names after a `λ`, which are bound from there on; the place after the dot."""
         while True:
             token = tokens[place]
             if token in "({":
@@ -119,7 +119,7 @@ class Reader:
         return bound
 
     def clause(self, lines, bound):
-        """A clause of a definition, with the definitions of its own behind `where`."""
+        """A clause of a definition, with the definitions of its own after `where`."""
         place = next((at for at, (_, line) in enumerate(lines) if line.strip() == "where"), len(lines))
         tokens, inner = tokens_of(lines[:place]), lines[place + 1:]
         equals = top_place(tokens, "=")
@@ -134,7 +134,7 @@ class Reader:
                 self.clause([line], bound)
 
     def fields(self, lines, bound, binds):
-        """The fields of a record, each bound behind it, or the values of a data type."""
+        """The fields of a record, each bound after it, or the values of a data type."""
         inner = min((indent_of(line) for _, line in lines), default=0)
         parts = []
         for number, line in lines:
@@ -154,7 +154,7 @@ class Reader:
         tokens = tokens_of(lines[:last + 1])
         head = tokens[tokens.index(item.kind) + 2:-1]
         colon = top_place(head, ":")
-        # What stands behind the colon is bound in the head alone.
+        # What comes after the colon is bound in the head alone.
         bound = self.term(head[:colon], bound)
         self.term(head[colon + 1:], bound)
         self.fields(lines[last + 1:], bound, item.kind == "record")

@@ -130,7 +130,7 @@ class Source:
             place = end
 
     def item(self, lines, current, around):
-        """One item or clause; the definition that a clause behind it may go on with."""
+        """One item or clause; the definition that a clause after it may go on with."""
         number, first = lines[0]
         text = first.strip()
         if re.match(r"(pub )?use ", text):

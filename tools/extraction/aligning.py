@@ -4,7 +4,7 @@ Units meet only in one cycle. So all reservations of a unit, with those of the u
 moved to earlier cycles by one number: every trace is answered as before. The law is `moved_pipelines_accept_the_same` of
 the crate hz_laws.
 """
-from .changes import Told, of_kind
+from .changes import Reported, of_kind
 from .choices import Choices, Effort, Splitter, lists_in
 from .expressions import Unexpanded, places
 from .items import Class, Units, UnitSet
@@ -99,7 +99,7 @@ class Aligned:
         return [[moved_grid(grid, masks) for grid in grids] for grids in self.lists[id(item)]]
 
     def write(self):
-        """Moves what can be moved. Classes with the longest texts are left as they are until all fits. Gives what is told."""
+        """Moves what can be moved. Classes with the longest texts are left as they are until all fits. Gives what is reported."""
         least = 1
         while True:
             moves = self.moves()
@@ -126,7 +126,7 @@ class Aligned:
 
     def tell(self, moves):
         """Each group that is moved or stays, and each class that is left as it is."""
-        told, staying, earliest, seen, members = Told(), self.staying(), self.earliest(), set(), {}
+        reported, staying, earliest, seen, members = Reported(), self.staying(), self.earliest(), set(), {}
         for unit in self.automaton:
             members.setdefault(self.groups.find(unit), []).append(unit)
         for item in of_kind(self.items, Units):
@@ -136,15 +136,15 @@ class Aligned:
                     continue
                 seen.add(leader)
                 if leader in moves:
-                    told.tell(item, "align", f"{cycles_text(moves[leader])} earlier: {names}")
+                    reported.tell(item, "align", f"{cycles_text(moves[leader])} earlier: {names}")
                 elif leader in staying and earliest.get(leader):
-                    told.tell(item, "unaligned", f"not moved, as {staying[leader]}: {names}")
+                    reported.tell(item, "unaligned", f"not moved, as {staying[leader]}: {names}")
         for item in of_kind(self.items, Class):
             if id(item) in self.left:
-                told.tell(item, "unaligned", f"{item.name} is left as it is: {self.left[id(item)]}")
+                reported.tell(item, "unaligned", f"{item.name} is left as it is: {self.left[id(item)]}")
             elif self.broken[id(item)]:
-                told.tell(item, "align", f"{item.name} is written automaton by automaton")
-        return told
+                reported.tell(item, "align", f"{item.name} is written automaton by automaton")
+        return reported
 
 
 def moved_grid(grid, masks):
@@ -165,7 +165,7 @@ def stuck(items):
     return [item for item in of_kind(items, Class) if id(item) in aligned.left]
 
 
-def align_units(items, told):
+def align_units(items, reported):
     """Each group of units is moved so that the earliest cycle in which a class takes one of them is 0."""
-    told += Aligned(items).write()
+    reported += Aligned(items).write()
     return items

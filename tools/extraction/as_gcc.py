@@ -20,7 +20,7 @@ def pattern_of(units):
     return " ".join(units)
 
 
-def join_presences(items, told):
+def join_presences(items, reported):
     """One statement for each unit that is in several of one kind, with the patterns of all."""
     for head in ("presence_set", "final_presence_set"):
         statements = [item for item in of_kind(items, UnitSet) if item.head == head]
@@ -30,16 +30,16 @@ def join_presences(items, told):
                 by_unit.setdefault(unit, []).append(item)
         for unit, own in by_unit.items():
             if len(own) > 1:
-                items = join_own(items, unit, own, told)
+                items = join_own(items, unit, own, reported)
     return [item for item in items if not isinstance(item, UnitSet) or item.units]
 
 
-def join_own(items, unit, own, told):
+def join_own(items, unit, own, reported):
     """The items with one statement for a unit in place of several, after the first of them."""
     patterns = dict.fromkeys(pattern_of(pattern.split()) for item in own for pattern in item.patterns)
     joined = UnitSet(own[0].place, own[0].head, [unit], list(patterns))
     lines = ", ".join(str(item.place.line) for item in own)
-    told.tell(joined, "gcc", f"one pattern of {unit} suffices, of those of the lines {lines}")
+    reported.tell(joined, "gcc", f"one pattern of {unit} suffices, of those of the lines {lines}")
     for item in own:
         item.units = [name for name in item.units if name != unit]
     at = next(place for place, item in enumerate(items) if item is own[0])
@@ -160,15 +160,15 @@ class Lists:
             return " + ".join(f"({text})" if "," in text or "|" in text else text for text in texts)
         return texts[0] if texts else "nothing"
 
-    def write(self, told):
+    def write(self, reported):
         """Writes the classes that have to be written."""
         for item in of_kind(self.items, Class):
             why = self.why.get(id(item))
             if id(item) in self.left:
-                told.tell(item, "gcc", f"{item.name} {self.left[id(item)]}")
+                reported.tell(item, "gcc", f"{item.name} {self.left[id(item)]}")
             if why:
                 before, item.expression = item.expression, self.text(item)
-                told.tell(item, "gcc", f"{item.name} {' and '.join(dict.fromkeys(why))}")
+                reported.tell(item, "gcc", f"{item.name} {' and '.join(dict.fromkeys(why))}")
                 item.notes.append(f"was {before}")
 
 
@@ -192,7 +192,7 @@ def list_text(alternatives, order):
     return texts[0] if len(texts) == 1 else " | ".join(f"({text})" if "," in text or "+" in text else text for text in texts)
 
 
-def add_units(items, exclusions, automaton, told):
+def add_units(items, exclusions, automaton, reported):
     """The items with the units that are made, each with what it excludes, and named in each statement that names one of its group."""
     for item in of_kind(items, UnitSet):
         if item.head != "exclusion_set":
@@ -201,7 +201,7 @@ def add_units(items, exclusions, automaton, told):
     for group, name in exclusions.made.items():
         place = next(item.place for item in of_kind(items, Units) if group & set(item.names))
         unit = Units(place, [name], automaton[next(iter(group))], False)
-        told.tell(unit, "gcc", f"{name} stands for {exclusions.listed(group)}, which one alternative takes together")
+        reported.tell(unit, "gcc", f"{name} stands for {exclusions.listed(group)}, which one alternative takes together")
         apart = group | exclusions.excluded(group)
         others = sorted(apart, key=exclusions.order.get) + [made for other, made in before if other & apart]
         before.append((group, name))
@@ -227,11 +227,11 @@ def name_groups(item, exclusions):
     item.patterns = list(patterns)
 
 
-def read_as_gcc(items, told):
-    """The items as genautomata reads them, each change told."""
-    items = join_presences(items, told)
+def read_as_gcc(items, reported):
+    """The items as genautomata reads them, each change reported."""
+    items = join_presences(items, reported)
     lists = Lists(items)
     if not any("ndfa" in item.names for item in of_kind(items, Options)):
         lists.order()
-    lists.write(told)
-    return add_units(items, lists.exclusions, lists.automaton, told)
+    lists.write(reported)
+    return add_units(items, lists.exclusions, lists.automaton, reported)

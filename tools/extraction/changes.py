@@ -27,7 +27,7 @@ class Change:
         return shown(f"{self.place}: {self.kind}: {self.what}")
 
 
-class Told(list):
+class Reported(list):
     """The changes so far."""
 
     def tell(self, item, kind, what):
@@ -39,12 +39,12 @@ def of_kind(items, kind):
     return [item for item in items if isinstance(item, kind)]
 
 
-def tell_left(items, told):
+def tell_left(items, reported):
     """What was left out when the items were read."""
     for item in items:
         if not isinstance(item, (Attribute, Values)):
             for kind, what in item.left:
-                told.tell(item, kind, what)
+                reported.tell(item, kind, what)
     return items
 
 
@@ -80,13 +80,13 @@ def cleaned(condition, left):
     return made
 
 
-def clean_conditions(items, told):
+def clean_conditions(items, reported):
     """Conditions lose white space round names, and empty values."""
     for item in of_kind(items, Class):
         left = []
         item.condition = cleaned(item.condition, left)
         for kind, what in left:
-            told.tell(item, kind, f"in the condition of {item.name}: {what}")
+            reported.tell(item, kind, f"in the condition of {item.name}: {what}")
     return items
 
 
@@ -113,17 +113,17 @@ def is_integer(operand):
     return not is_above(operand.lstrip("-"), 2 ** 63 if operand.startswith("-") else 2 ** 64 - 1)
 
 
-def change_conditions(items, told):
+def change_conditions(items, reported):
     """A condition with a test that hz can't say never holds."""
     for item in of_kind(items, Class):
         odd = odd_test(item.condition)
         if odd:
-            told.tell(item, "condition", f"the condition of {item.name} has {odd}")
+            reported.tell(item, "condition", f"the condition of {item.name} has {odd}")
             item.condition = never()
     return items
 
 
-def change_repeats(items, told):
+def change_repeats(items, reported):
     """An element with two repeats, one after the other, gets parentheses."""
     for item in of_kind(items, (Reservation, Class)):
         try:
@@ -131,52 +131,52 @@ def change_repeats(items, told):
         except Wrong as wrong:
             raise Fault(item.place, str(wrong)) from wrong
         if changed:
-            told.tell(item, "repeat", f"was {' '.join(words(item.expression))}")
+            reported.tell(item, "repeat", f"was {' '.join(words(item.expression))}")
             item.expression = changed
     return items
 
 
-def change_queries(items, told):
+def change_queries(items, reported):
     """A query unit is a unit under `ndfa`, where no state can be asked for one."""
     ndfa = any("ndfa" in item.names for item in of_kind(items, Options))
     for item in of_kind(items, Units):
         if item.query and ndfa:
-            told.tell(item, "query", f"query units {', '.join(item.names)} under ndfa")
+            reported.tell(item, "query", f"query units {', '.join(item.names)} under ndfa")
             item.query = False
     return items
 
 
-def change_options(items, told):
+def change_options(items, reported):
     """An option that hz doesn't have goes, and so does a form without options."""
     for item in of_kind(items, Options):
         for name in set(item.names) & set(NOT_BUILT):
-            told.tell(item, "option", name)
+            reported.tell(item, "option", name)
             item.names.remove(name)
     return [item for item in items if not isinstance(item, Options) or item.names]
 
 
-def change_bypasses(items, told):
+def change_bypasses(items, reported):
     """A bypass with a guard that hz doesn't have goes; wildcards are expanded."""
     matcher, kept = Matcher(item.name for item in of_kind(items, Class)), []
     for item in items:
         if not isinstance(item, Bypass):
             kept.append(item)
         elif item.guard is not None and item.guard not in GUARDS:
-            told.tell(item, "guard", f"the bypass is guarded by {item.guard}")
+            reported.tell(item, "guard", f"the bypass is guarded by {item.guard}")
         else:
-            item.outs = expanded(item, item.outs, matcher, told)
-            item.ins = expanded(item, item.ins, matcher, told)
+            item.outs = expanded(item, item.outs, matcher, reported)
+            item.ins = expanded(item, item.ins, matcher, reported)
             kept += [item] if item.outs and item.ins else []
     return kept
 
 
-def expanded(bypass, patterns, matcher, told):
+def expanded(bypass, patterns, matcher, reported):
     """The classes of a list in a bypass, each once; as GCC does, a name with a wildcard is matched as names of files are."""
     found = []
     for pattern in patterns:
         if any(mark in pattern for mark in wildcards.MARKS):
             matching = matched(bypass, pattern, matcher)
-            told.tell(bypass, "wildcard", f"{pattern} stands for {', '.join(matching) or 'no class'}")
+            reported.tell(bypass, "wildcard", f"{pattern} stands for {', '.join(matching) or 'no class'}")
             found += matching
         else:
             found.append(pattern)
@@ -221,37 +221,37 @@ def enumerations_in(sources):
     return found
 
 
-def add_attributes(items, sources, told):
+def add_attributes(items, sources, reported):
     """Each attribute that a condition names is defined, with the values in the files, before all else."""
     defined = {item.name: item for item in of_kind(reversed(sources), Attribute)}
     enumerations = enumerations_in(sources)
     values, first = named_attributes(items)
     made = [complete_attribute(defined.get(name) or Attribute(first[name].place, name, [], None, None),
-                               enumerations, values[name], name in defined, told) for name in values]
+                               enumerations, values[name], name in defined, reported) for name in values]
     return made + [item for item in items if not isinstance(item, (Attribute, Values))]
 
 
-def complete_attribute(item, enumerations, tested, is_defined, told):
+def complete_attribute(item, enumerations, tested, is_defined, reported):
     """An attribute with the values that conditions test, and a default."""
     own = dict.fromkeys(item.values + enumerations.get(item.enumeration, []))
     default = item.default if item.default is not None and is_name(item.default) else None
     whole = Attribute(item.place, item.name, [], None, default or UNKNOWN)
     whole.values = list(dict.fromkeys([*own, *tested, whole.default]))
     for kind, what in item.left:
-        told.tell(whole, kind, what)
+        reported.tell(whole, kind, what)
     if not is_defined:
-        told.tell(whole, "attribute", f"{item.name} is not defined")
+        reported.tell(whole, "attribute", f"{item.name} is not defined")
     elif default is None:
-        told.tell(whole, "attribute", f"the default of {item.name} is no const_string")
+        reported.tell(whole, "attribute", f"the default of {item.name} is no const_string")
     elif len(whole.values) > len(own):
-        told.tell(whole, "attribute", f"{item.name} lacks {', '.join(whole.values[len(own):])}")
+        reported.tell(whole, "attribute", f"{item.name} lacks {', '.join(whole.values[len(own):])}")
     return whole
 
 
-def change_all(items, sources, told):
+def change_all(items, sources, reported):
     """The items with all changes; `sources` are all that the files define."""
-    items = clean_conditions(tell_left(items, told), told)
-    items = add_attributes(items, sources, told)
+    items = clean_conditions(tell_left(items, reported), reported)
+    items = add_attributes(items, sources, reported)
     for change in (change_conditions, change_queries, change_options, change_repeats, change_bypasses):
-        items = change(items, told)
+        items = change(items, reported)
     return items

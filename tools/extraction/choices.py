@@ -96,6 +96,10 @@ class Cut:
         """How many cycles with units of one group all alternatives have at most."""
         return self.length() * sum(max(map(len, choices)) for choices in self.choices.values())
 
+    def key(self):
+        """What two lists that are alike have in common."""
+        return frozenset((group, tuple(choices), tuple(self.columns.get(group, ()))) for group, choices in self.choices.items())
+
     def within(self, groups):
         """The same in some of the groups, where alternatives that are alike are one."""
         kept = [group for group in groups if group in self.columns]

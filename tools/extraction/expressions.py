@@ -324,7 +324,7 @@ class Expander:
         self.room -= sizes
 
     def in_order(self, name):
-        """The reservations to which a name leads that are not measured, each after those that it names; circles are told."""
+        """The reservations to which a name leads that are not measured, each after those that it names; circles are reported."""
         waiting, is_open = [(name, iter([name]))], {None}
         while waiting:
             holder, others = waiting[-1]

@@ -54,19 +54,19 @@ def alternations(items, classes, leading):
                 yield item, sorted(leading.automata(node.names()))
 
 
-def merge_automata(items, classes, told):
+def merge_automata(items, classes, reported):
     """Automata that one alternation of the classes holds together become the first of them. Gives whether there are any."""
     joined = Joined(list(dict.fromkeys(name for item in of_kind(items, Automata) for name in item.names)))
-    before = len(told)
+    before = len(reported)
     for item, together in alternations(items, classes, Leading(items)):
         if joined.join(name for name in together if name in joined.order):
-            told.tell(item, "merge", f"{item.name} chooses between units of {', '.join(together)}")
+            reported.tell(item, "merge", f"{item.name} chooses between units of {', '.join(together)}")
     for item in of_kind(items, Units):
         if item.automaton in joined.order:
             item.automaton = joined.find(item.automaton)
     for item in of_kind(items, Automata):
         item.names = [name for name in item.names if joined.find(name) == name]
-    return len(told) > before
+    return len(reported) > before
 
 
 def without_empty(items):

@@ -18,7 +18,7 @@ from .spelling import class_text, longest
 from .states import MOST, Counter, Part
 from .writing import BYTES, length_of
 
-AUTOMATA, GROUPS = 16, 64
+AUTOMATA, GROUPS, LIST = 16, 64, 160  # LIST: the steps to make the list of a class, beside those for its size
 
 
 class Ties:
@@ -32,11 +32,15 @@ class Ties:
         self.bits = {unit: bits.get(unit, 0) for unit in units}
         self.joined, self.why = Joined(units), []
         self.atoms, self.lists, self.taking = {}, {}, {}  # the atom of each unit; of each class it and its list; the classes that take an atom
+        self.first, self.like = {}, {}  # the first class with each list; of each class the first with the same list, which says all of it
         self.closed = {}  # in how many groups each class chose when its ties were last looked for
 
     def take(self, item, made):
         """Takes the list of a class."""
-        self.lists[id(item)] = item, made
+        first = self.like[id(item)] = self.first.setdefault(made.key(), id(item))
+        if first != id(item):
+            return
+        self.lists[first] = item, made
         for atom in made.choices:
             self.taking.setdefault(atom, []).append(id(item))
 
@@ -85,7 +89,7 @@ class Ties:
 
     def list_in(self, key, units):
         """The list of a class in some of the units, which are whole groups."""
-        return self.lists[key][1].rows_in(dict.fromkeys(self.atoms[unit] for unit in units))
+        return self.lists[self.like[key]][1].rows_in(dict.fromkeys(self.atoms[unit] for unit in units))
 
 
 class Plan:
@@ -116,7 +120,7 @@ class Plan:
         keys = dict.fromkeys(key for atom in atoms for key in self.ties.taking.get(atom, ()))
         statements = [item for atom in atoms for item in self.statements.get(atom, ())]
         names = sum(len(item.named()) for item in statements)
-        if not self.counter.allows(sum(made.size() + made.length() * names for _, made in map(self.ties.lists.get, keys))):
+        if not self.counter.allows(sum(LIST + made.size() + made.length() * names for _, made in map(self.ties.lists.get, keys))):
             return None, 0
         lists = [self.ties.list_in(key, units) for key in keys]
         queries = [unit for unit in units if unit in self.queries]
@@ -164,7 +168,7 @@ class Plan:
         self.why = f"it has {counted(self.whole())}, and {len(self.groups)} groups would have {counted(self.sum())}"
         self.groups = [self.ties.units]
 
-    def told(self, names):
+    def reported(self, names):
         """The groups by their new names, and how many states they have if that was counted."""
         groups = "; ".join(f"{name}: {', '.join(units)}" for name, units in zip(names, self.groups))
         if tuple(self.ties.units) not in self.known:
@@ -223,7 +227,8 @@ class Splitting:
         for item in statements:
             self.tie(item.named(), f"the {item.head} of {item.place}")
         self.take_all(effort)
-        self.plans, self.made = [Plan(ties, statements, self.queries, counter) for ties in self.ties.values()], {}
+        self.plans = [Plan(ties, statements, self.queries, counter) for ties in self.ties.values()]
+        self.made, self.alike = {}, {}
 
     def defined(self):
         return [name for item in of_kind(self.items, Automata) for name in item.names]
@@ -326,26 +331,29 @@ class Splitting:
         key = id(item)
         if key in self.left:
             return None
-        plans = [plan for plan in self.plans if key in plan.ties.lists]
+        plans = [plan for plan in self.plans if key in plan.ties.like]
         if all(len(plan.groups) == 1 for plan in plans) and not self.is_broken(item):
             return None
-        lists = [plan.ties.list_in(key, units) for plan in plans for units in plan.groups]
-        return [grids for grids in lists if grids != [()]]
+        like = tuple(plan.ties.like[key] for plan in plans)
+        if like not in self.alike:
+            lists = [plan.ties.list_in(key, units) for plan in plans for units in plan.groups]
+            self.alike[like] = [grids for grids in lists if grids != [()]]
+        return self.alike[like]
 
     def is_broken(self, item):
         return self.choices.expander.fault(self.choices.trees[id(item)]) is not None
 
-    def write(self, told):
+    def write(self, reported):
         """Writes the automata, the units and the classes, and tells what was cut."""
         names = self.names()
-        self.tell(names, told)
+        self.tell(names, reported)
         of_unit = {unit: name for plan in self.plans if plan.ties.name in names
                    for name, units in zip(names[plan.ties.name], plan.groups) for unit in units}
         for item in of_kind(self.items, Class):
             lists = self.lists_of(item)
             if lists is not None:
                 if self.is_broken(item):
-                    told.tell(item, "split", f"{item.name} is written automaton by automaton")
+                    reported.tell(item, "split", f"{item.name} is written automaton by automaton")
                 item.notes.append(f"was {item.expression}")
                 item.expression = class_text(lists, self.choices.expander.units)
         made = [one for item in self.items for one in with_automata(item, names, of_unit)]
@@ -354,18 +362,18 @@ class Splitting:
             made.insert(first, Automata(made[first].place, names[None]))
         return made
 
-    def tell(self, names, told):
+    def tell(self, names, reported):
         """Each automaton that is cut, and each that is not though it has several units."""
         forms = {name: item for item in of_kind(self.items, Automata) for name in item.names}
         first = next(iter(of_kind(self.items, Units)), None)
         for plan in self.plans:
             form, name = forms.get(plan.ties.name, first), plan.ties.name or "-"
             if plan.ties.name in names:
-                told.tell(form, "split", f"{name} into {plan.told(names[plan.ties.name])}")
+                reported.tell(form, "split", f"{name} into {plan.reported(names[plan.ties.name])}")
             elif len(plan.finest) > 1:
-                told.tell(form, "unsplit", f"{name} stays whole, as {plan.why}")
+                reported.tell(form, "unsplit", f"{name} stays whole, as {plan.why}")
             elif plan.ties.why:
-                told.tell(form, "unsplit", f"{name} can't be cut: its units are tied by {several(plan.ties.why)}")
+                reported.tell(form, "unsplit", f"{name} can't be cut: its units are tied by {several(plan.ties.why)}")
 
     def above(self):
         """By how many bytes the text may be too long, and how long the text of each class that is written may be."""
@@ -393,7 +401,7 @@ def with_automata(item, names, of_unit):
     return made
 
 
-def split_automata(items, told, is_all):
+def split_automata(items, reported, is_all):
     """Cuts automata; of classes whose texts would be too long none is cut."""
     choices, effort, least = Choices(items), Effort(), 1
     left, counter = dict(choices.left), Counter(choices.work())
@@ -402,7 +410,7 @@ def split_automata(items, told, is_all):
         made.choose(is_all)
         above, lengths = made.above()
         if above <= 0 or not lengths:
-            return made.write(told)
+            return made.write(reported)
         for count, key in enumerate(sorted(lengths, key=lengths.get, reverse=True)):
             if count >= least and above <= 0:
                 break

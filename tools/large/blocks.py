@@ -150,9 +150,9 @@ class Block:
             chain.append(min(to for to, cost in leads if cost + self.tails[to] == self.tails[chain[-1]]))
         numbers = "".join(f" {self.insns[place].number}" for place in chain)
         load = max(self.loads(), key=lambda load: load[3], default=None)
-        told = "-" if load is None else " ".join(map(str, load))
+        reported = "-" if load is None else " ".join(map(str, load))
         bound = max(path, load[3] if load else 0)
-        return f"path {path}{numbers}\nload {told}\nbound {bound}\nschedule {self.last} cycles\n"
+        return f"path {path}{numbers}\nload {reported}\nbound {bound}\nschedule {self.last} cycles\n"
 
     def loads(self):
         """The loads of units in their order."""

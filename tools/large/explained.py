@@ -27,8 +27,8 @@ def statements(count):
 
 def answer(path, events):
     """The status and the whole text for events, as places of lines, words and operands, on the description at a path."""
-    status, first, behind = Play(Simulation(path)).answer(events)
-    return status, first + behind
+    status, first, after = Play(Simulation(path)).answer(events)
+    return status, first + after
 
 
 def issues(lines, first=1):

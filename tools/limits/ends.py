@@ -179,12 +179,12 @@ def items():
     automata = '(define_automaton "a{}")\n'.format
     yield End("automata", "16", described(lines(16, automata)), refused(lines(17, automata), "Automata", "a17"))
     asked = "issue x\nask u0\nask u255\nadvance 1\nask u255\n"
-    told = "ask line 2 u0 reserved\nask line 3 u255 reserved\nask line 5 u255 free\naccepted 1 issues 1 cycles\n"
+    reported = "ask line 2 u0 reserved\nask line 3 u255 reserved\nask line 5 u255 free\naccepted 1 issues 1 cycles\n"
     what = "units of one automaton"
-    yield End(what, "256", Run(*replayed(query_units(256), asked), 0, told), refused(query_units(257), "Units", "u256", 257))
+    yield End(what, "256", Run(*replayed(query_units(256), asked), 0, reported), refused(query_units(257), "Units", "u256", 257))
     yield End(what, "256", Run("compile d", {"d": query_units(256)}, 0, asking(256)),
               Run("compile d", {"d": query_units(257)}, 3, "limit d line 257 Units u256\n"))
-    yield End(what, "256", Run("walk k t", {"k": asking(256), "t": asked}, 0, told), wrong(("walk k t", {"k": asking(257), "t": ""}), "k", 8, "OutOfRange"))
+    yield End(what, "256", Run("walk k t", {"k": asking(256), "t": asked}, 0, reported), wrong(("walk k t", {"k": asking(257), "t": ""}), "k", 8, "OutOfRange"))
     classes = '(define_insn_reservation "x{}" 1 (const_int 1) "nothing")\n'.format
     yield End("classes", "1,024", described(lines(1024, classes)), refused(lines(1025, classes), "Classes", "x1025"))
 

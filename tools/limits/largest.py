@@ -79,8 +79,8 @@ def machines():
     classes = [f"c{number}" for number in range(1024)]
     units = ",".join(f"q{number}" for number in range(256))
     asked = "".join(class_of(name, "nothing") + "\n" for name in classes) + f'(define_query_cpu_unit "{units}")\n'
-    told = Front("ask line 2 q255 free\naccepted 1 issues 0 cycles\n")
-    yield Large("classes and query units, why", Run("why d t", {"d": asked, "t": "issue c1023\nask q255\n"}, 0, told))
+    reported = Front("ask line 2 q255 free\naccepted 1 issues 0 cycles\n")
+    yield Large("classes and query units, why", Run("why d t", {"d": asked, "t": "issue c1023\nask q255\n"}, 0, reported))
     # only the first class has instructions
     text = "".join(class_of(name, "nothing").replace("1)", "0)", name != "c0") + "\n" for name in classes)
     pairs = text + f'(define_bypass 7 "{",".join(classes)}" "{",".join(classes)}")\n'

@@ -12,7 +12,7 @@ class Spoiler:
         """A text after one edit or two."""
         for _ in range(self.random.choice([1, 1, 2])):
             text = self.random.choice([self.drop_line, self.repeat_line, self.change_field, self.change_field, self.change_field, self.cut_off,
-                                       self.add_behind])(text)
+                                       self.add_after])(text)
         return text
 
     def drop_line(self, text):
@@ -37,5 +37,5 @@ class Spoiler:
     def cut_off(self, text):
         return text[:self.random.randrange(len(text) + 1)]
 
-    def add_behind(self, text):
+    def add_after(self, text):
         return text + self.random.choice(["\n", " ", "end\n", "row 0\n", "\0", "\xff"])

@@ -9,17 +9,17 @@ CYCLE = re.compile(r" in cycle (\d+)")
 
 def parts_of(text):
     """The answer of `hz_why` in parts: lines of asks, the line that decides, what comes after it, and the picture."""
-    asks, decided, told, drawn = [], [], [], []
+    asks, decided, reported, drawn = [], [], [], []
     for line in text.split("\n")[:-1]:
         if drawn or decided and re.match(r"cycle +0\b", line):
             drawn.append(line)
         elif decided:
-            told.append(line)
+            reported.append(line)
         elif line.startswith(("accepted ", "refused ")):
             decided.append(line)
         else:
             asks.append(line)
-    return asks, decided, told, drawn
+    return asks, decided, reported, drawn
 
 
 def later(found):

@@ -56,8 +56,8 @@ HARD = """(function () {
     names[node.id] = true;
     var isText = Array.prototype.some.call(node.childNodes, function (part) { return part.nodeType === 3 && part.data.trim(); });
     if (!isText || node.closest("script")) return;
-    var style = getComputedStyle(node), front = colour(node instanceof SVGElement ? style.fill : style.color), behind = ground(node);
-    var key = front + " on " + behind, one = light(front), other = light(behind);
+    var style = getComputedStyle(node), front = colour(node instanceof SVGElement ? style.fill : style.color), after = ground(node);
+    var key = front + " on " + after, one = light(front), other = light(after);
     var contrast = (Math.max(one, other) + 0.05) / (Math.min(one, other) + 0.05);
     if (contrast < 4.5 && !seen[key]) hard.push(node.textContent.trim().slice(0, 40) + ": contrast " + contrast.toFixed(2));
     seen[key] = true;

@@ -100,8 +100,8 @@ def is_read(path):
         text = file.read()
     with open("read.md", "w", encoding="ascii") as file:
         file.write(text + "\n(end)\n")
-    told = subprocess.run([HZ, "compile", "read.md"], capture_output=True).stdout.decode()
-    return told.startswith("fault read.md line") and told.endswith("UnknownForm\n") and f"line {text.count(chr(10)) + 2} " in told
+    reported = subprocess.run([HZ, "compile", "read.md"], capture_output=True).stdout.decode()
+    return reported.startswith("fault read.md line") and reported.endswith("UnknownForm\n") and f"line {text.count(chr(10)) + 2} " in reported
 
 
 def wrong_answer(name, options, want):

@@ -1,5 +1,5 @@
 #!/bin/sh
-# Tries tools/check_limits.py on a copy of the sources and pages in which one thing at a time is changed: each is told in a line.
+# Tries tools/check_limits.py on a copy of the sources and pages in which one thing at a time is changed: each is reported in a line.
 top=$(cd "$(dirname "$0")/../.." && pwd)
 work=$(mktemp -d) || exit 2
 trap 'rm -rf "$work"' EXIT
@@ -15,9 +15,9 @@ tells() {
     command=$2
     shift 2
     sed -i.kept "$command" "$work/$file"
-    told=$(python3 "$work/tools/check_limits.py" 2>&1)
+    reported=$(python3 "$work/tools/check_limits.py" 2>&1)
     mv "$work/$file.kept" "$work/$file"
-    [ "$told" = "$(printf '%s\n' "$@")" ] || { echo "check_limits.py on $file, $command: $told"; bad=1; }
+    [ "$reported" = "$(printf '%s\n' "$@")" ] || { echo "check_limits.py on $file, $command: $reported"; bad=1; }
     echo "check_limits.py: $1"
 }
 

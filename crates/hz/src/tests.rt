@@ -79,7 +79,7 @@ fn a_file_is_let_go_before_the_next_is_opened(rt: HostRuntime) -> Result<(), Fai
 }
 
 #[test]
-fn a_read_that_fails_behind_others_is_counted(rt: HostRuntime) -> Result<(), Fail> {
+fn a_read_that_fails_after_others_is_counted(rt: HostRuntime) -> Result<(), Fail> {
     let mut files = RealFiles::new(&rt);
     if files.open(WORDS).is_err() {
         return Ok(());

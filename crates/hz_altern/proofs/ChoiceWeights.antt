@@ -27,15 +27,15 @@ more_pairs : (ps qs : List (Pair UnitPlace)) → length (ascending qs) ≤ lengt
 more_pairs [] qs = omega arith
 more_pairs (p ∷ ps) qs = let rest = more_pairs ps qs in let one = more_with_pair p (ascending (ps ++ qs)) in omega arith
 
-more_pairs_behind : (ps qs : List (Pair UnitPlace)) → length (ascending ps) ≤ length (ascending (ps ++ qs))
-more_pairs_behind ps qs = rw (swapped ps qs) (more_pairs qs ps)
+more_pairs_after : (ps qs : List (Pair UnitPlace)) → length (ascending ps) ≤ length (ascending (ps ++ qs))
+more_pairs_after ps qs = rw (swapped ps qs) (more_pairs qs ps)
 
 -- ---- two alternatives
 
 pub first_weighs : (joining : Joining) (a b : Alternative UnitPlace) → IsListed a → IsListed b → weight a ≤ weight (joined_by joining a b)
 first_weighs InSequence a b is_a is_b = let long = length-append a.pairs (placed a.cycles b.pairs) in omega arith
 first_weighs Together a b is_a is_b =
-    let more = more_pairs_behind a.pairs b.pairs in
+    let more = more_pairs_after a.pairs b.pairs in
     let same = ap length (ascending_itself a.pairs is_a.ascending) in
     omega arith
 

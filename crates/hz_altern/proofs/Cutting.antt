@@ -1,4 +1,4 @@
--- Numbers that are told up to a bound.
+-- Numbers that are reported up to a bound.
 use Rattle.std.proofs.Common.{◌≡◌, ℕ, zero, suc, ◌*◌, ◌^◌, ◌<◌, ◌≤◌, min, ⊎_elim, refl, arith}
 use Rattle.std.proofs.lemmas.Bool.{cases_lt}
 use Rattle.std.proofs.Math.Nat.{mul-le-mul_left, pow-succ', one-le-pow, mul_comm}

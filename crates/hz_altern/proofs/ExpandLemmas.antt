@@ -9,7 +9,7 @@ use Rattle.hz_altern.specs.declared.fault.AlternFault.{AlternFault}
 use Rattle.hz_altern.specs.declared.fault.AlternFault.TheVariants.{AlternativesLimit, CyclesLimit, SizeLimit, NoMemory}
 use Rattle.hz_altern.specs.declared.extents.measure.Extent.{Extent}
 use Rattle.hz_altern.specs.Answers.{total_weight, Refuses, Expands}
-use Rattle.hz_altern.specs.Extents.{told}
+use Rattle.hz_altern.specs.Extents.{reported}
 use Rattle.hz_altern.proofs.KnownLemmas.{all_listed}
 use Rattle.hz_altern.proofs.Lengths.{length_within}
 use Rattle.hz_altern.proofs.Weights.{weight-cons}
@@ -24,7 +24,7 @@ total_listed [] = refl
 total_listed (x ∷ xs) = omega (arith, weight-cons (listed x) (map listed xs), sum_by-append size_of (x ∷ []) xs, total_listed xs)
 
 -- what an extent tells of alternatives
-module _ (all : List (Alternative UnitPlace)) (extent : Extent) (is : told extent ≡ extent_of all) where
+module _ (all : List (Alternative UnitPlace)) (extent : Extent) (is : reported extent ≡ extent_of all) where
   count_is : extent.count ≡ min (length all) (alternative_limit + 1)
   count_is = ap (λ e. e.count) is
 

@@ -19,7 +19,7 @@ use Rattle.hz_altern.specs.declared.listing.joining.Joining.TheVariants.{Togethe
 use Rattle.hz_altern.specs.declared.mark.Mark.{Mark}
 use Rattle.hz_altern.specs.declared.mark.Mark.TheVariants.{Comma, Bar, Plus}
 use Rattle.hz_altern.specs.Answers.{total_weight, Refuses}
-use Rattle.hz_altern.specs.Joinings.{IsListed, joined_by, joined_parts, left_behind, listed_lists}
+use Rattle.hz_altern.specs.Joinings.{IsListed, joined_by, joined_parts, left_after, listed_lists}
 use Rattle.hz_altern.proofs.JoinedLists.{joined_lists}
 use Rattle.hz_altern.specs.Tables.{alternatives_in, known_alternatives, is_held}
 use Rattle.hz_altern.proofs.ChoiceWeights.{parts_weigh}
@@ -60,13 +60,13 @@ longer Bar xs ys h k = let all = greatest-append xs ys in (omega arith, omega ar
 longer Plus xs ys h k = let all = greatest-beside xs ys h k in (omega arith, omega arith)
 
 -- what is refused of the second list, for what the first leaves of it, is refused of both
-refused_behind : (mark : Mark) (xs ys : List (Alternative UnitPlace)) (most : ℕ) → total_weight ys ≤ total_weight (listed_lists mark xs ys) → (fault : AlternFault) → Refuses (left_behind mark (total_weight xs) most) ys fault → Refuses most (listed_lists mark xs ys) fault
-refused_behind Comma xs ys most more fault refusal = refuses_larger most ys (listed_lists Comma xs ys) more fault refusal
-refused_behind Plus xs ys most more fault refusal = refuses_larger most ys (listed_lists Plus xs ys) more fault refusal
-refused_behind Bar xs ys most more AlternativesLimit never = absurd never
-refused_behind Bar xs ys most more CyclesLimit never = absurd never
-refused_behind Bar xs ys most more SizeLimit over = omega (arith, weight-append xs ys)
-refused_behind Bar xs ys most more NoMemory free = tt
+refused_after : (mark : Mark) (xs ys : List (Alternative UnitPlace)) (most : ℕ) → total_weight ys ≤ total_weight (listed_lists mark xs ys) → (fault : AlternFault) → Refuses (left_after mark (total_weight xs) most) ys fault → Refuses most (listed_lists mark xs ys) fault
+refused_after Comma xs ys most more fault refusal = refuses_larger most ys (listed_lists Comma xs ys) more fault refusal
+refused_after Plus xs ys most more fault refusal = refuses_larger most ys (listed_lists Plus xs ys) more fault refusal
+refused_after Bar xs ys most more AlternativesLimit never = absurd never
+refused_after Bar xs ys most more CyclesLimit never = absurd never
+refused_after Bar xs ys most more SizeLimit over = omega (arith, weight-append xs ys)
+refused_after Bar xs ys most more NoMemory free = tt
 
 -- ---- halves
 
@@ -88,7 +88,7 @@ pub record Halved (known : Known) (mark : Mark) (ps front back : List Expr) : Ty
   pub all : map listed (of_parts mark known ps) ≡ listed_lists mark (map listed (of_parts mark known front)) (map listed (of_parts mark known back))
   pub short : greatest_length (listed_lists mark (map listed (of_parts mark known front)) (map listed (of_parts mark known back))) ≤ cycle_limit
   pub refused_front : (most : ℕ) (fault : AlternFault) → Refuses most (map listed (of_parts mark known front)) fault → Refuses most (map listed (of_parts mark known ps)) fault
-  pub refused_back : (most : ℕ) (fault : AlternFault) → Refuses (left_behind mark (total_weight (map listed (of_parts mark known front))) most) (map listed (of_parts mark known back)) fault → Refuses most (map listed (of_parts mark known ps)) fault
+  pub refused_back : (most : ℕ) (fault : AlternFault) → Refuses (left_after mark (total_weight (map listed (of_parts mark known front))) most) (map listed (of_parts mark known back)) fault → Refuses most (map listed (of_parts mark known ps)) fault
 
 pub halved : (known : Known) (mark : Mark) (ps front back : List Expr) → front ≡ take (length ps / 2) ps → back ≡ drop (length ps / 2) ps → (length ps / 2 ≡ 0 → ⊥) → IsTrue (are_expressions (parts_of (expressions ps))) → IsTrue (all_names_in (is_held (alternatives_in known)) (parts_of (expressions ps))) → greatest_length (of_parts mark known ps) ≤ cycle_limit → Halved known mark ps front back
 halved known mark ps front back e f several formed named short =
@@ -127,7 +127,7 @@ halved known mark ps front back e f several formed named short =
       all = all;
       short = omega (arith, greatest-listed (of_parts mark known ps));
       refused_front = λ most. refuses_larger most (map listed xs) (map listed (of_parts mark known ps)) (omega arith);
-      refused_back = λ most fault refusal. subst (λ ws. Refuses most ws fault) (sym all) (refused_behind mark (map listed xs) (map listed ys) most weights.1 fault refusal);
+      refused_back = λ most fault refusal. subst (λ ws. Refuses most ws fault) (sym all) (refused_after mark (map listed xs) (map listed ys) most weights.1 fault refusal);
     }
 
 -- ---- one part

@@ -13,7 +13,7 @@ use Rattle.hz_altern.specs.declared.mark.Mark.TheVariants.{Comma, Bar, Plus}
 use Rattle.hz_altern.specs.Shapes.{alternatives}
 use Rattle.hz_altern.specs.Joinings.{IsListed, joined_parts}
 use Rattle.hz_altern.specs.Tables.{alternatives_in, known_alternatives, known_extent, is_held, AreRight}
-use Rattle.hz_altern.specs.Extents.{told}
+use Rattle.hz_altern.specs.Extents.{reported}
 use Rattle.hz_altern.proofs.PartLemmas.{some_joined}
 use Rattle.hz_altern.proofs.ListedLemmas.{listed_itself, IsListed-listed}
 use Rattle.hz_description_model.specs.Reservations.Alternatives.{Alternative, Expression, alternatives_of, parts_of}
@@ -93,9 +93,9 @@ named_listed k name xs is =
 
 -- ---- extents of what is known
 
-right_entry : (o : Option Entry) → IsTrue (is_some (option_map (λ (entry : Entry). alternatives entry.alts.items) o)) → option_map (λ (entry : Entry). told entry.extent) o ≡ Some (extent_of (held_by o))
+right_entry : (o : Option Entry) → IsTrue (is_some (option_map (λ (entry : Entry). alternatives entry.alts.items) o)) → option_map (λ (entry : Entry). reported entry.extent) o ≡ Some (extent_of (held_by o))
 right_entry None h = absurd (cc)
-right_entry (Some entry) h = ap Some entry.told
+right_entry (Some entry) h = ap Some entry.reported
 
 -- the extents are those of the alternatives
 pub right_known : (k : Known) (e : Expression) → IsTrue (all_names (is_held (alternatives_in k)) e) → AreRight (known_extent k) (known_alternatives k) e

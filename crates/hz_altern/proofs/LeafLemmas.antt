@@ -242,7 +242,7 @@ module _ (known : Known) where
     ends = λ most low each. each;
   }
 
-  -- pairs that are gathered behind others
+  -- pairs that are gathered after others
   both_gathered : (old mid new : Leaves) (xs ys zs : Pairs) → zs ≡ xs ++ ys → ((p : Pair UnitPlace) → Takes known mid p ↔ (Takes known old p ⊎ Contains xs p)) → ((p : Pair UnitPlace) → Takes known new p ↔ (Takes known mid p ⊎ Contains ys p))
       → (p : Pair UnitPlace) → Takes known new p ↔ (Takes known old p ⊎ Contains zs p)
   both_gathered old mid new xs ys zs is first second p = (there, back)

@@ -12,41 +12,41 @@ use Rattle.hz_altern.specs.Merging.{IsLeast}
 use Rattle.hz_altern.specs.declared.alternative.Pair.{Pair as StoredPair}
 use Rattle.hz_altern.specs.Shapes.{pair_of, pairs_of}
 
--- what stands behind p in both lists stands behind p in the list of both
-behind_both : (p : Pair UnitPlace) (xs ys : List (Pair UnitPlace)) → All (Precedes p) xs → All (Precedes p) ys → All (Precedes p) (ascending (xs ++ ys))
-behind_both p xs ys h k i d lt =
+-- what comes after p in both lists comes after p in the list of both
+after_both : (p : Pair UnitPlace) (xs ys : List (Pair UnitPlace)) → All (Precedes p) xs → All (Precedes p) ys → All (Precedes p) (ascending (xs ++ ys))
+after_both p xs ys h k i d lt =
     ⊎_elim (All-contains (Precedes p) xs _ h) (All-contains (Precedes p) ys _ k)
     (Contains-append_cases xs ys _ (Contains-from_ascending _ (xs ++ ys) (Contains-get_or (ascending (xs ++ ys)) i d lt)))
 
 first_least : (x : Pair UnitPlace) (xs ys : List (Pair UnitPlace)) → All (Precedes x) xs → All (Precedes x) ys → ascending ((x ∷ xs) ++ ys) ≡ x ∷ ascending (xs ++ ys)
-first_least x xs ys h k = with_pair_least x (ascending (xs ++ ys)) (behind_both x xs ys h k)
+first_least x xs ys h k = with_pair_least x (ascending (xs ++ ys)) (after_both x xs ys h k)
 
 pub swapped : (xs ys : List (Pair UnitPlace)) → ascending (xs ++ ys) ≡ ascending (ys ++ xs)
 swapped xs ys = ascending_same (xs ++ ys) (ys ++ xs) (λ p. (append_swapped xs ys p, append_swapped ys xs p))
 
--- all of a list stand behind a pair that stands before its first
-behind_first : (x y : Pair UnitPlace) (ys : List (Pair UnitPlace)) → Precedes x y → IsAscending (y ∷ ys) → All (Precedes x) (y ∷ ys)
-behind_first x y ys lt up i d within =
+-- all of a list come after a pair that stands before its first
+after_first : (x y : Pair UnitPlace) (ys : List (Pair UnitPlace)) → Precedes x y → IsAscending (y ∷ ys) → All (Precedes x) (y ∷ ys)
+after_first x y ys lt up i d within =
     ⊎_elim
     (λ (e : y ≡ _). subst (λ (z : Pair UnitPlace). Precedes x z) e lt)
     (λ (m : Contains ys _). Precedes_transitive x y _ lt (All-contains (Precedes y) ys _ (AllPairs-head Precedes y ys up) m))
     (Contains-cons_cases y _ ys (Contains-get_or (y ∷ ys) i d within))
 
-pub nothing_behind : IsAscending []
-nothing_behind = λ i j d lt within. absurd (omega arith)
+pub nothing_after : IsAscending []
+nothing_after = λ i j d lt within. absurd (omega arith)
 
 pub least_of_first : (x : Pair UnitPlace) (xs : List (Pair UnitPlace)) → IsAscending (x ∷ xs) → IsLeast (x ∷ xs) [] x xs []
 least_of_first x xs up = record {
   least_first = first_least x xs [] (AllPairs-head Precedes x xs up) (All-nil (Precedes x));
   firsts_ascend = AllPairs-tail Precedes x xs up;
-  seconds_ascend = nothing_behind;
+  seconds_ascend = nothing_after;
   fewer = omega arith;
 }
 
 pub least_of_second : (y : Pair UnitPlace) (ys : List (Pair UnitPlace)) → IsAscending (y ∷ ys) → IsLeast [] (y ∷ ys) y [] ys
 least_of_second y ys up = record {
-  least_first = with_pair_least y (ascending ys) (behind_both y [] ys (All-nil (Precedes y)) (AllPairs-head Precedes y ys up));
-  firsts_ascend = nothing_behind;
+  least_first = with_pair_least y (ascending ys) (after_both y [] ys (All-nil (Precedes y)) (AllPairs-head Precedes y ys up));
+  firsts_ascend = nothing_after;
   seconds_ascend = AllPairs-tail Precedes y ys up;
   fewer = omega arith;
 }
@@ -54,7 +54,7 @@ least_of_second y ys up = record {
 module _ (x y : Pair UnitPlace) (xs ys : List (Pair UnitPlace)) (up : IsAscending (x ∷ xs)) (down : IsAscending (y ∷ ys)) where
   pub least_one : Precedes x y → IsLeast (x ∷ xs) (y ∷ ys) x xs (y ∷ ys)
   least_one lt = record {
-    least_first = first_least x xs (y ∷ ys) (AllPairs-head Precedes x xs up) (behind_first x y ys lt down);
+    least_first = first_least x xs (y ∷ ys) (AllPairs-head Precedes x xs up) (after_first x y ys lt down);
     firsts_ascend = AllPairs-tail Precedes x xs up;
     seconds_ascend = down;
     fewer = omega arith;
@@ -62,7 +62,7 @@ module _ (x y : Pair UnitPlace) (xs ys : List (Pair UnitPlace)) (up : IsAscendin
 
   pub least_other : Precedes y x → IsLeast (x ∷ xs) (y ∷ ys) y (x ∷ xs) ys
   least_other lt = record {
-    least_first = swapped (x ∷ xs) (y ∷ ys) ∙ (first_least y ys (x ∷ xs) (AllPairs-head Precedes y ys down) (behind_first y x xs lt up) ∙ ap (λ zs. y ∷ zs) (swapped ys (x ∷ xs)));
+    least_first = swapped (x ∷ xs) (y ∷ ys) ∙ (first_least y ys (x ∷ xs) (AllPairs-head Precedes y ys down) (after_first y x xs lt up) ∙ ap (λ zs. y ∷ zs) (swapped ys (x ∷ xs)));
     firsts_ascend = up;
     seconds_ascend = AllPairs-tail Precedes y ys down;
     fewer = omega arith;

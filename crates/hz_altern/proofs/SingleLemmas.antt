@@ -44,7 +44,7 @@ one_copies xs (suc (suc n)) h =
     ∙ (one_product (length xs) (length (copies (suc n) xs))
     ∙ (ap (λ (b : Bool). nat_eq (length xs) 1 && b) (one_copies xs (suc n) (omega arith)) ∙ both (nat_eq (length xs) 1)))
 
--- ---- what is told
+-- ---- what is reported
 
 module _ (known : List ℕ → List (Alternative UnitPlace)) where
   pub tells : (e : Expression) (s : Singles) → IsTrue (is_expression e) → TellsSingles known e s → TellsOne (alternatives_of known e) s
@@ -106,9 +106,9 @@ module _ (known : List ℕ → List (Alternative UnitPlace)) where
   tell_at (q ∷ ps) (r ∷ ss) zero p s lt e f h = subst (λ (x : Expr). TellsSingles known (expression x) s) (sym e) (subst (TellsSingles known (expression q)) (sym f) h.0)
   tell_at (q ∷ ps) (r ∷ ss) (suc i) p s lt e f h = tell_at ps ss i p s (omega arith) e f h.1
 
-  -- where one alternative is told there is one
-  pub one_told : (e : Expression) (s : Singles) → IsTrue (is_expression e) → TellsSingles known e s → (single : Bool) → single ≡ (out-Singles s).single → single ≡ true → length (alternatives_of known e) ≡ 1
-  one_told e s formed told single is so = eqb-true _ 1 (sym (is ∙ tells e s formed told) ∙ so)
+  -- where one alternative is reported there is one
+  pub one_reported : (e : Expression) (s : Singles) → IsTrue (is_expression e) → TellsSingles known e s → (single : Bool) → single ≡ (out-Singles s).single → single ≡ true → length (alternatives_of known e) ≡ 1
+  one_reported e s formed reported single is so = eqb-true _ 1 (sym (is ∙ tells e s formed reported) ∙ so)
 
 -- a choice has several alternatives
 pub choice_is_several : (known : Known) (es : List Expression) → IsTrue (are_several (parts_of es)) → IsTrue (are_expressions (parts_of es)) → IsTrue (all_names_in (is_held (alternatives_in known)) (parts_of es)) → false ≡ nat_eq (length (any_of (known_alternatives known) (parts_of es))) 1

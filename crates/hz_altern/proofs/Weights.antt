@@ -29,7 +29,7 @@ pub weight-cons : (x : Alternative UnitPlace) (xs : List (Alternative UnitPlace)
 weight-cons x xs = omega (arith, sum_by-append weight (x ∷ []) xs)
 
 module _ (before : List (Alternative UnitPlace)) (f : Alternative UnitPlace → Alternative UnitPlace) (alts : List Alt) where
-  -- the list before, and behind it what f makes of the first so many
+  -- the list before, and after it what f makes of the first so many
   abbrev pub made : ℕ → List (Alternative UnitPlace)
   made i = before ++ map f (alternatives (take i alts))
 
@@ -93,7 +93,7 @@ module _ (join : Alternative UnitPlace → Alternative UnitPlace → Alternative
       ∙ (flat_map-append (λ a. map (join a) ys) (alternatives (take i alts)) (x ∷ [])
       ∙ ap (λ ws. chosen i ++ ws) (append-nil (map (join x) ys)))))
 
-  -- all choices, cut behind those with the first so many
+  -- all choices, cut after those with the first so many
   pub chosen_cut : (i : ℕ) → each_choice join (alternatives alts) ys ≡ chosen i ++ each_choice join (alternatives (drop i alts)) ys
   chosen_cut i =
       ap (λ xs. each_choice join (alternatives xs) ys) (sym (take-append-drop i alts))

@@ -12,7 +12,7 @@ use Rattle.hz_description_model.specs.Reservations.Alternatives.{Alternative, Ex
 use Rattle.hz_description_model.specs.Reservations.AlternativeLists.{IsPlaced, greatest_length}
 use Rattle.hz_description_model.specs.Reservations.Automata.{UnitPlace, listed}
 
--- Parts behind `nothing`, which changes no alternative: those with one are taken apart into leaves, the others listed.
+-- Parts after `nothing`, which changes no alternative: those with one are taken apart into leaves, the others listed.
 pub record IsBeside (known : Known) (es : List Expression) (leaves : Leaves) (cycles : ℕ) (others : List (Alternative UnitPlace)) : Type 0 where
   pub ends : AllEndBy known cycle_limit leaves
   pub pairs : List (Pair UnitPlace)

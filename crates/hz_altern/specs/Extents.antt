@@ -8,8 +8,8 @@ use Rattle.hz_base_model.specs.Limits.{cycle_limit}
 use Rattle.hz_description_model.specs.Reservations.Limits.{alternative_limit}
 
 -- what an extent says
-abbrev pub told : Extent → model.Extent
-told extent = record { count = extent.count; longest = extent.longest }
+abbrev pub reported : Extent → model.Extent
+reported extent = record { count = extent.count; longest = extent.longest }
 
 -- the extent of so many alternatives, of which the longest runs for so many cycles
 abbrev pub cut_extent : (count longest : ℕ) → model.Extent

@@ -39,8 +39,8 @@ listed_beside xs ys = each_choice (joined_by Together) xs (map listed ys)
 abbrev pub only_listed : List (Pair UnitPlace) → ℕ → List (Alternative UnitPlace)
 only_listed pairs cycles = listed (record { pairs = pairs; cycles = cycles }) ∷ []
 
--- how large a second list may be behind a first one of this size, where with this mark between them they may be so large
-abbrev pub left_behind : Mark → ℕ → ℕ → ℕ
-left_behind Comma size most = most
-left_behind Bar size most = most - size
-left_behind Plus size most = most
+-- how large a second list may be after a first one of this size, where with this mark between them they may be so large
+abbrev pub left_after : Mark → ℕ → ℕ → ℕ
+left_after Comma size most = most
+left_after Bar size most = most - size
+left_after Plus size most = most

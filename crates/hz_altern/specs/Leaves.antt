@@ -26,7 +26,7 @@ abbrev pub HasIn : Option Cycles → ℕ → Type 0
 HasIn None cycle = ⊥
 HasIn (Some cycles) cycle = HasCycle cycles cycle
 
--- the pairs of alternatives, one behind the other
+-- the pairs of alternatives, one after the other
 abbrev pub all_pairs : List (Alternative UnitPlace) → List (Pair UnitPlace)
 all_pairs alternatives = flat_map (λ a. a.pairs) alternatives
 
@@ -58,7 +58,7 @@ AllEndBy known most leaves = (name : List ℕ) (start : ℕ) → Begins leaves n
 abbrev pub BeginsToo : (old new : Leaves) → List ℕ → Cycles → Type 0
 BeginsToo old new name cycles = (other : List ℕ) (cycle : ℕ) → Begins new other cycle ↔ (Begins old other cycle ⊎ ((name ≡ other) × HasCycle cycles cycle))
 
--- The name begins in the cycle in one of so many copies of leaves, each so many cycles behind the one before and the first
+-- The name begins in the cycle in one of so many copies of leaves, each so many cycles after the one before and the first
 -- from some cycle on.
 pub record BeginsInCopy (once : List (List ℕ × Cycles)) (times apart start : ℕ) (name : List ℕ) (cycle : ℕ) : Type 0 where
   pub inside : cycle < cycle_limit

@@ -18,7 +18,7 @@ pub record AreUnits (reserved : Reserved) : Type 0 where
   pub complete : (p : Pair UnitPlace) → IsReserved reserved p → Contains reserved.units.items (p.unit.automaton, p.unit.unit)
   pub bounded : All (λ u. (u.0 < automaton_limit) × (u.1 < unit_limit)) reserved.units.items
 
--- the pair is one of these, from one of the cycles on, and has not gone behind the last cycle
+-- the pair is one of these, from one of the cycles on, and has not gone past the last cycle
 pub record IsOfPairs (pairs : List (Pair UnitPlace)) (starts : Cycles) (p : Pair UnitPlace) : Type 0 where
   pub inside : p.cycle < cycle_limit
   pub first : Pair UnitPlace

@@ -4,11 +4,11 @@ use Rattle.hz_altern.specs.declared.listing.singles.Singles.{Singles, out-Single
 use Rattle.hz_description_model.specs.Reservations.Alternatives.{Alternative, Expression, named, nothing, sequence, one_of, all_of, repeat, Parts, none, more, in_sequence, any_of, together}
 use Rattle.hz_description_model.specs.Reservations.Automata.{UnitPlace}
 
--- there is one alternative exactly where that is told
+-- there is one alternative exactly where that is reported
 abbrev pub TellsOne : List (Alternative UnitPlace) → Singles → Type 0
 TellsOne all singles = (out-Singles singles).single ≡ nat_eq (length all) 1
 
--- It is told of the expression, and of each part in it. A repeat tells what its part tells.
+-- It is reported of the expression, and of each part in it. A repeat tells what its part tells.
 abbrev mutual
   pub TellsSingles : (List ℕ → List (Alternative UnitPlace)) → Expression → Singles → Type 0
   TellsSingles known (named name) singles = TellsOne (known name) singles

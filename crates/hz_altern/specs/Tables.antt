@@ -7,7 +7,7 @@ use Rattle.std.specs.BTreeMap.{get}
 use Rattle.hz_altern.specs.declared.extents.Extents.{Extents}
 use Rattle.hz_altern.specs.declared.known.Known.{Known}
 use Rattle.hz_altern.specs.Shapes.{alternatives}
-use Rattle.hz_altern.specs.Extents.{told}
+use Rattle.hz_altern.specs.Extents.{reported}
 use Rattle.hz_description_model.specs.Reservations.Alternatives.{Alternative, Expression, Parts}
 use Rattle.hz_description_model.specs.Reservations.AlternativeLists.{Extent, extent_of}
 use Rattle.hz_description_model.specs.Reservations.Automata.{UnitPlace}
@@ -15,11 +15,11 @@ use Rattle.hz_description_model.specs.Reservations.Meanings.{Mentions, MentionsI
 
 -- the extent that is held for a name
 abbrev pub extent_in : Extents → List ℕ → Option Extent
-extent_in extents name = option_map told (get (slice_cmp nat_cmp) extents.names name)
+extent_in extents name = option_map reported (get (slice_cmp nat_cmp) extents.names name)
 
 -- the extent of the alternatives that are held for a name
 abbrev pub known_extent : Known → List ℕ → Option Extent
-known_extent known name = option_map (λ entry. told entry.extent) (get (slice_cmp nat_cmp) known.names name)
+known_extent known name = option_map (λ entry. reported entry.extent) (get (slice_cmp nat_cmp) known.names name)
 
 -- the alternatives that are held for a name
 abbrev pub alternatives_in : Known → List ℕ → Option (List (Alternative UnitPlace))

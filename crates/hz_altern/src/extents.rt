@@ -18,7 +18,7 @@ pub struct Extents {
 
 impl Extents {
     ghost use Rattle.std.specs.Prelude.{◌≡◌, ℕ, List, None, OnOk, OnErr};
-    ghost use Rattle.hz_altern.specs.Extents.{told};
+    ghost use Rattle.hz_altern.specs.Extents.{reported};
     ghost use Rattle.hz_altern.specs.Tables.{extent_in, Adds, IsKept};
     ghost use Rattle.std.specs.Option.{option_map};
 
@@ -34,7 +34,7 @@ impl Extents {
     /// Holds the extent for a name that is not held. `NoMemory` leaves it as it was.
     pub fn add(&mut self, name: &Name, extent: Extent) -> Result<(), NoMemory>
         requires { extent_in self.old name.now ≡ None }
-        ensures added { OnOk result (Adds (extent_in self.old) (extent_in self.new) name.now (told extent)) }
+        ensures added { OnOk result (Adds (extent_in self.old) (extent_in self.new) name.now (reported extent)) }
         ensures kept { OnErr result (IsKept (extent_in self.old) (extent_in self.new)) }
     {
         let name = name.copy()?;
@@ -44,7 +44,7 @@ impl Extents {
 
     /// The extent of a name, if it is held.
     pub(crate) fn find(&self, name: &Name) -> Option<Extent>
-        ensures { option_map told result ≡ extent_in self.now name.now }
+        ensures { option_map reported result ≡ extent_in self.now name.now }
     {
         self.names.get(name).copied()
     }

@@ -2,7 +2,7 @@
 
 ghost use Rattle.std.specs.Prelude.{◌≡◌};
 ghost use Rattle.hz_altern.specs.Shapes.{alternatives};
-ghost use Rattle.hz_altern.specs.Extents.{told};
+ghost use Rattle.hz_altern.specs.Extents.{reported};
 ghost use Rattle.hz_description_model.specs.Reservations.AlternativeLists.{AreSound, extent_of};
 
 use crate::alternative::{Alt, Pair};
@@ -18,7 +18,7 @@ pub struct Entry {
     pub alts: Vec<Alt>,
     pub extent: Extent,
     ghost sound: { AreSound (alternatives alts.items) },
-    ghost told: { told extent ≡ extent_of (alternatives alts.items) },
+    ghost reported: { reported extent ≡ extent_of (alternatives alts.items) },
 }
 
 /// For each of some names the alternatives of the unit or reservation that it stands for.
@@ -95,7 +95,7 @@ impl Known {
 /// How many alternatives these are, and how long the longest is.
 fn extent_of(alts: &[Alt]) -> Extent
     requires { AreSound (alternatives alts.now) }
-    ensures { told result ≡ extent_of (alternatives alts.now) }
+    ensures { reported result ≡ extent_of (alternatives alts.now) }
 {
     let mut longest = 0;
     for alt in alts {

@@ -140,7 +140,7 @@ impl Listing {
         self.size * others.alts.len() + others.size * self.alts.len()
     }
 
-    /// The alternatives, and behind them others, where all together are no larger than `most`.
+    /// The alternatives, and after them others, where all together are no larger than `most`.
     pub fn with(self, others: Listing, most: usize) -> Result<Listing, AlternFault>
         requires most { most ≤ size_limit }
         ensures ok { IfOk result (λ listing. listing ≡ self ++ others) }
@@ -149,14 +149,14 @@ impl Listing {
     {
         let Listing { mut alts, size } = self;
         let Listing {
-            alts: mut behind,
+            alts: mut beyond,
             size: more,
         } = others;
         let size = size + more;
         if size > most {
             return Err(AlternFault::SizeLimit);
         }
-        alts.append(&mut behind)?;
+        alts.append(&mut beyond)?;
         Ok(Listing { alts, size })
     }
 

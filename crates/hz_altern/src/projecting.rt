@@ -68,7 +68,7 @@ fn is_new(seen: &mut IndexSet<Vec<(u8, u16)>>, pairs: Vec<(u8, u16)>) -> Result<
     Ok(new)
 }
 
-/// Adds a grid behind the others, where it is new.
+/// Adds a grid after the others, where it is new.
 fn keep_new(grids: &mut Vec<Grid>, grid: Grid, new: bool) -> Result<(), NoMemory>
     ensures { OnOk result (grids.new.items ≡ (if new then grids.old.items ++ grid ∷ [] else grids.old.items)) }
 {

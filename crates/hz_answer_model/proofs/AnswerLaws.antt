@@ -26,10 +26,10 @@ use Rattle.hz_base_model.specs.Forms.Trees.{Trees}
 use Rattle.hz_words_model.specs.Words.{Order, compile, replay, walk, schedule, eval, drill, timed, bound, duo, modulo, order_of, usage_line}
 use Rattle.hz_base_model.specs.Names.{Held}
 use Rattle.hz_front_model.specs.Phases.{Says, Next}
-use Rattle.hz_answer_model.specs.TableAnswers.{WritesTablesOf, HasTables, IsIssueIn, Walks, WalksTrace, told_by}
+use Rattle.hz_answer_model.specs.TableAnswers.{WritesTablesOf, HasTables, IsIssueIn, Walks, WalksTrace, reported_by}
 use Rattle.hz_pipeline_model.specs.Tables.MachineNames.{names_of_machine}
 use Rattle.hz_front_model.specs.Asks.{Tells, trace_names, held_in}
-use Rattle.hz_front_model.proofs.AskLaws.{one_told}
+use Rattle.hz_front_model.proofs.AskLaws.{one_reported}
 use Rattle.hz_front_model.proofs.SingleLaws.{IsSingle, says_single, says_same, replays_single, traces_single, forms_single, description_single, files_single, ForTexts}
 use Rattle.hz_answer_model.proofs.TableLaws.{one_unwalked, walked_or_not, one_issue_in}
 use Rattle.hz_answer_model.proofs.OneText.{one_tables_text}
@@ -282,7 +282,7 @@ kernels_single description described block blocked =
 -- Tables.
 
 walks_single : (m : Machine) (lines : List ℕ) (events : List Event) → IsSingle (Walks m lines events)
-walks_single m lines events s s' t t' (inl a) (inl b) = one_told (told_by m) (names_of_machine m) lines events _ (says_single _ _) s s' t t' a.1 b.1
+walks_single m lines events s s' t t' (inl a) (inl b) = one_reported (reported_by m) (names_of_machine m) lines events _ (says_single _ _) s s' t t' a.1 b.1
 walks_single m lines events s s' t t' (inl a) (inr b) = absurd (walked_or_not m events b.0 a.0 b.3)
 walks_single m lines events s s' t t' (inr a) (inl b) = absurd (walked_or_not m events a.0 b.0 a.3)
 walks_single m lines events s s' t t' (inr (i, line, class, first, there, named, tells)) (inr (j, line', class', first', there', named', tells')) =
@@ -290,10 +290,10 @@ walks_single m lines events s s' t t' (inr (i, line, class, first, there, named,
     let number = same_Some line line' (sym there ∙ (ap (slice_get lines) place ∙ there')) in
     let name = one_issue_in m (slice_get events i) class class' named (subst (λ (n : ℕ). IsIssueIn m (slice_get events n) class') (sym place) named') in
     let same : refused_line line class ≡ refused_line line' class' = ap (λ (n : ℕ). refused_line n class) number ∙ ap (refused_line line') name in
-    let again : Tells (told_by m) (names_of_machine m) lines (take i events) (Says 1 (refused_line line class)) s' t' =
-    subst (λ (text : List ℕ). Tells (told_by m) (names_of_machine m) lines (take i events) (Says 1 text) s' t') (sym same)
-    (subst (λ (n : ℕ). Tells (told_by m) (names_of_machine m) lines (take n events) (Says 1 (refused_line line' class')) s' t') (sym place) tells') in
-    one_told (told_by m) (names_of_machine m) lines (take i events) _ (says_single _ _) s s' t t' tells again
+    let again : Tells (reported_by m) (names_of_machine m) lines (take i events) (Says 1 (refused_line line class)) s' t' =
+    subst (λ (text : List ℕ). Tells (reported_by m) (names_of_machine m) lines (take i events) (Says 1 text) s' t') (sym same)
+    (subst (λ (n : ℕ). Tells (reported_by m) (names_of_machine m) lines (take n events) (Says 1 (refused_line line' class')) s' t') (sym place) tells') in
+    one_reported (reported_by m) (names_of_machine m) lines (take i events) _ (says_single _ _) s s' t t' tells again
 
 tables_single : (name bytes : List ℕ) (next : Next Machine) → ((m : Machine) → IsSingle (next m)) → IsSingle (HasTables name bytes next)
 tables_single name bytes next single s s' t t' (inl (m, is, a)) (inl (other, also, b)) =

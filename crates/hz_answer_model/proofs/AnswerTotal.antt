@@ -9,9 +9,9 @@ use Rattle.hz_pipeline_model.proofs.Traces.NameLaws.{events_of_classes}
 use Rattle.hz_pipeline_model.specs.Compiling.AutomatonPipelines.{query_unit}
 use Rattle.hz_pipeline_model.specs.Tables.MachineNames.{names_of_machine}
 use Rattle.hz_front_model.specs.Asks.{Tells, trace_names, held_in}
-use Rattle.hz_answer_model.specs.TableAnswers.{told_by, IsTablesOf, WritesTablesOf, HasTables, IsFirstUnwalked, Walks, WalksTrace}
-use Rattle.hz_front_model.proofs.AskLaws.{some_told}
-use Rattle.hz_answer_model.proofs.TableLaws.{told_or_not, walked_or_first, unwalked_issue}
+use Rattle.hz_answer_model.specs.TableAnswers.{reported_by, IsTablesOf, WritesTablesOf, HasTables, IsFirstUnwalked, Walks, WalksTrace}
+use Rattle.hz_front_model.proofs.AskLaws.{some_reported}
+use Rattle.hz_answer_model.proofs.TableLaws.{reported_or_not, walked_or_first, unwalked_issue}
 use Rattle.hz_answer_model.proofs.EventLaws.{issue_named}
 use Rattle.hz_base_model.proofs.Forms.FormsFront.{every_text}
 use Rattle.hz_description_model.proofs.Reading.DescriptionLaws.{every_list}
@@ -73,7 +73,7 @@ use Rattle.hz_block_model.specs.Scheduled.BlockGraphs.{IsGraphOf, IsFirstClassFa
 use Rattle.hz_block_model.specs.Scheduled.BlockSchedules.{StartsAlone, IsFirstStuck, IsScheduleOf}
 use Rattle.hz_block_model.specs.Scheduling.Schedules.{Graph, Slot}
 use Rattle.hz_block_model.proofs.Scheduling.AlikeGraphs.{legal_there, greedy_there}
-use Rattle.hz_laws.proofs.Leaving.LimitsTold.{are_counted}
+use Rattle.hz_laws.proofs.Leaving.LimitsReported.{are_counted}
 use Rattle.hz_block_model.proofs.Schedulable.ScheduleTotal.{some_schedule_of}
 use Rattle.hz_block_model.proofs.Scheduled.GraphLaws.{HasClass, graphs_alike}
 use Rattle.hz_block_model.proofs.Scheduled.FaultLaws.{classes_or_fault, starts_or_stuck}
@@ -115,21 +115,21 @@ module _ (d : Description) (known : Known) where
       let low : found.0 < length (class_names d) = subst (IsOfClass (length (class_names d))) is (All-get_or (IsOfClass (length (class_names d))) events i (issue 0) within of_class) in
       (get_or (class_names d) found.0 [], issue_named d known (slice_get events i) found.0 (get_or (class_names d) found.0 []) found.1 (slice_get-get_or (class_names d) found.0 [] low))
 
-  -- what comes last is told behind the asks
-  told_one : (lines : List ℕ) (events : List Event) (status : ℕ) (text : List ℕ) → HasOne (Tells (held_in d known) (trace_names d) lines events (Says status text))
-  told_one lines events status text =
-      let told = some_told (held_in d known) (trace_names d) (λ before a u. held_or_free (pipeline_with d known) same_unit places_tell before (query_unit d a u)) lines events (Says status text) status text (refl, refl) in (status, told.0, told.1)
+  -- what comes last is reported after the asks
+  reported_one : (lines : List ℕ) (events : List Event) (status : ℕ) (text : List ℕ) → HasOne (Tells (held_in d known) (trace_names d) lines events (Says status text))
+  reported_one lines events status text =
+      let reported = some_reported (held_in d known) (trace_names d) (λ before a u. held_or_free (pipeline_with d known) same_unit places_tell before (query_unit d a u)) lines events (Says status text) status text (refl, refl) in (status, reported.0, reported.1)
 
   replays_one : (lines : List ℕ) (events : List Event) → length lines ≡ length events → All (IsOfClass (length (class_names d))) events → HasOne (Replays (pipeline_with d known) (held_in d known) (trace_names d) lines events)
   replays_one lines events each of_class = ⊎_elim
-      (λ accepted. wider (Tells (held_in d known) (trace_names d) lines events (Says 0 (accepted_line (issues_of events) (cycles_of events)))) _ (λ s t h. inl (accepted, h)) (told_one lines events 0 (accepted_line (issues_of events) (cycles_of events))))
+      (λ accepted. wider (Tells (held_in d known) (trace_names d) lines events (Says 0 (accepted_line (issues_of events) (cycles_of events)))) _ (λ s t h. inl (accepted, h)) (reported_one lines events 0 (accepted_line (issues_of events) (cycles_of events))))
       (λ refused.
       let class = refused_class events of_class refused.0 refused.1 in
       let i = refused.0 in
       let within = (refused.1).within in
       let line = get_or lines i 0 in
       let there = slice_get-get_or lines i 0 (omega (arith, within, each)) in
-      wider (Tells (held_in d known) (trace_names d) lines (take i events) (Says 1 (refused_line line class.0))) _ (λ s t h. inr (i, line, class.0, refused.1, there, class.1, h)) (told_one lines (take i events) 1 (refused_line line class.0)))
+      wider (Tells (held_in d known) (trace_names d) lines (take i events) (Says 1 (refused_line line class.0))) _ (λ s t h. inr (i, line, class.0, refused.1, there, class.1, h)) (reported_one lines (take i events) 1 (refused_line line class.0)))
       (accepted_or_first_refused same_unit places_tell (pipeline_with d known) events)
 
   traces_one : (name text : List ℕ) → HasOne (ReplaysTrace name text d known)
@@ -332,13 +332,13 @@ two_blocks_one description described first one second other =
 
 -- Tables.
 
--- what comes last is told behind the asks
-told_by_one : (m : Machine) (lines : List ℕ) (events : List Event) (status : ℕ) (text : List ℕ) → HasOne (Tells (told_by m) (names_of_machine m) lines events (Says status text))
-told_by_one m lines events status text = let told = some_told (told_by m) (names_of_machine m) (told_or_not m) lines events (Says status text) status text (refl, refl) in (status, told.0, told.1)
+-- what comes last is reported after the asks
+reported_by_one : (m : Machine) (lines : List ℕ) (events : List Event) (status : ℕ) (text : List ℕ) → HasOne (Tells (reported_by m) (names_of_machine m) lines events (Says status text))
+reported_by_one m lines events status text = let reported = some_reported (reported_by m) (names_of_machine m) (reported_or_not m) lines events (Says status text) status text (refl, refl) in (status, reported.0, reported.1)
 
 walks_one : (m : Machine) → IsMachine m → (lines : List ℕ) (events : List Event) → length lines ≡ length events → All (IsOfClass (length m.classes)) events → HasOne (Walks m lines events)
 walks_one m is lines events each of_class = ⊎_elim
-    (λ (walked : IsSome (machine_walk m events)). wider (Tells (told_by m) (names_of_machine m) lines events (Says 0 (accepted_line (issues_of events) (cycles_of events)))) _ (λ s t h. inl (walked, h)) (told_by_one m lines events 0 (accepted_line (issues_of events) (cycles_of events))))
+    (λ (walked : IsSome (machine_walk m events)). wider (Tells (reported_by m) (names_of_machine m) lines events (Says 0 (accepted_line (issues_of events) (cycles_of events)))) _ (λ s t h. inl (walked, h)) (reported_by_one m lines events 0 (accepted_line (issues_of events) (cycles_of events))))
     (λ (found : (i : ℕ) × (i < length events) × IsFirstUnwalked m events i).
     let i = found.0 in
     let within = found.1 in
@@ -348,7 +348,7 @@ walks_one m is lines events each of_class = ⊎_elim
     let class = get_or m.classes issued.0 [] in
     let line = get_or lines i 0 in
     let there = slice_get-get_or lines i 0 (omega (arith, within, each)) in
-    wider (Tells (told_by m) (names_of_machine m) lines (take i events) (Says 1 (refused_line line class))) _ (λ s t h. inr (i, line, class, found.2, there, (issued.0, issued.1, slice_get-get_or m.classes issued.0 [] low), h)) (told_by_one m lines (take i events) 1 (refused_line line class)))
+    wider (Tells (reported_by m) (names_of_machine m) lines (take i events) (Says 1 (refused_line line class))) _ (λ s t h. inr (i, line, class, found.2, there, (issued.0, issued.1, slice_get-get_or m.classes issued.0 [] low), h)) (reported_by_one m lines (take i events) 1 (refused_line line class)))
     (walked_or_first m events)
 
 machine_traces_one : (m : Machine) → IsMachine m → (name text : List ℕ) → HasOne (WalksTrace name text m)

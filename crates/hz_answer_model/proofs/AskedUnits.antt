@@ -17,9 +17,9 @@ use Rattle.hz_description_model.specs.Check.CheckedParts.{automata_from, automat
 use Rattle.hz_description_model.specs.Check.CheckedShape.{ask_names}
 use Rattle.hz_description_model.specs.Check.CheckFaults.{IsSound, unit_site}
 use Rattle.hz_description_model.specs.Check.Places.{Known, at_name, automaton_number, unit_place, unit_places}
-use Rattle.hz_description_model.specs.Check.ToldPlaces.{units_beside}
+use Rattle.hz_description_model.specs.Check.ReportedPlaces.{units_beside}
 use Rattle.hz_description_model.proofs.Check.QueryPlaces as query_places
-use Rattle.hz_description_model.proofs.Check.ToldLaws.{places_count}
+use Rattle.hz_description_model.proofs.Check.ReportedLaws.{places_count}
 use Rattle.hz_pipeline_model.specs.Traces.TraceNames.{query_place}
 use Rattle.hz_pipeline_model.proofs.Pipelines.JointLaws.{some_there}
 use Rattle.hz_pipeline_model.proofs.Traces.NameLaws.{query_named, no_query_placed}
@@ -28,7 +28,7 @@ use Rattle.hz_laws.specs.Names.NameFaults.{IsNameSpace}
 use Rattle.hz_laws.proofs.Names.SoundLaws.{no_second_name}
 use Rattle.hz_front_model.specs.Asks.{trace_names}
 
--- an item that a filter keeps stands behind as many others that it keeps
+-- an item that a filter keeps comes after as many others that it keeps
 module _ {A : Type 0} (p : A → Bool) where
   record IsKeptAt (xs : List A) (n : ℕ) (x : A) : Type 0 where
     before : List A

@@ -29,7 +29,7 @@ use Rattle.hz_pipeline_model.specs.Pipelines.Pipelines.{pipeline_with}
 use Rattle.hz_pipeline_model.specs.Traces.Traces.{event_lines}
 use Rattle.hz_base_model.specs.Lines.{lines_of}
 use Rattle.hz_front_model.specs.Asks.{trace_names, held_in}
-use Rattle.hz_front_model.proofs.AskLaws.{last_told, turns_ask_nothing}
+use Rattle.hz_front_model.proofs.AskLaws.{last_reported, turns_ask_nothing}
 
 module _ (held : Held) (description : List ℕ) (number turns : ℕ) (text : List ℕ) (h : AnswersOrder held (drill description number turns) 0 text) where
   first : IsOpened (held description) description_limit (λ described. HasDescription description described (DrillsDescription description number turns)) text
@@ -38,8 +38,8 @@ module _ (held : Held) (description : List ℕ) (number turns : ℕ) (text : Lis
   given : IsGiven first.bytes (DrillsDescription description number turns) text
   given = given_of description first.bytes (DrillsDescription description number turns) text first.answers
 
-  told : AllKeepLimits given.d given.known × Drills given.d given.known number turns 0 text
-  told = compiled_of description given.d given.known (Drills given.d given.known number turns) text given.answers
+  reported : AllKeepLimits given.d given.known × Drills given.d given.known number turns 0 text
+  reported = compiled_of description given.d given.known (Drills given.d given.known number turns) text given.answers
 
   -- the tables of the same description
   tables_there : (m : Machine) (other : Held) (written : List ℕ) → ((t : List ℕ) (is : IsTablesOf given.d given.known t) → is.machine ≡ m) → other description ≡ Some first.bytes → AnswersOrder other (compile description) 0 written → TableText written m
@@ -52,7 +52,7 @@ module _ (held : Held) (description : List ℕ) (number turns : ℕ) (text : Lis
 
   pub writes_drill : WritesDrill held description number turns text
   writes_drill =
-      let drill : IsDrillOf given.d given.known number turns text = told.1.1 in
+      let drill : IsDrillOf given.d given.known number turns text = reported.1.1 in
       record {
         described = first.bytes;
         file = first.is;
@@ -84,5 +84,5 @@ module _ (held : Held) (description : List ℕ) (number turns : ℕ) (text : Lis
         let line = accepted_line (issues_of events) (cycles_of events) in
         opens (other description) description description_limit (λ described. Opens other trace trace_limit (λ traced. Judges description described trace traced)) w.described line (same ∙ w.file) limits.1
         (opens (other trace) trace trace_limit (λ traced. Judges description w.described trace traced) traced line there (le-ltb trace_limit (length traced) short)
-        (inl ((w.is_described).read, (w.is_described).forms, inl (w.d, (w.is_described).says, inl (w.known, (w.is_described).sound, inl (limits.0, inl (events, says, inl (w.accepted, last_told (held_in w.d w.known) (trace_names w.d) (event_lines (trace_names w.d) 1 (lines_of traced)) events (Says 0 line) (turns_ask_nothing (length (w.d).classes) events (draws_of_turn (Accepted (pipeline_with w.d w.known)) (length (w.d).classes) [] number turns events (w.drill).drawn)) 0 line (refl, refl)))))))));
+        (inl ((w.is_described).read, (w.is_described).forms, inl (w.d, (w.is_described).says, inl (w.known, (w.is_described).sound, inl (limits.0, inl (events, says, inl (w.accepted, last_reported (held_in w.d w.known) (trace_names w.d) (event_lines (trace_names w.d) 1 (lines_of traced)) events (Says 0 line) (turns_ask_nothing (length (w.d).classes) events (draws_of_turn (Accepted (pipeline_with w.d w.known)) (length (w.d).classes) [] number turns events (w.drill).drawn)) 0 line (refl, refl)))))))));
   }

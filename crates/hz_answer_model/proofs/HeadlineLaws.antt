@@ -56,7 +56,7 @@ use Rattle.hz_answer_model.proofs.DoneLaws.{opened, formed_of, given_of, compile
 use Rattle.hz_pipeline_model.specs.Traces.Traces.{event_lines}
 use Rattle.hz_base_model.specs.Lines.{lines_of}
 use Rattle.hz_front_model.specs.Asks.{trace_names, held_in}
-use Rattle.hz_front_model.proofs.AskLaws.{AsksNothing, last_told, none_of_others}
+use Rattle.hz_front_model.proofs.AskLaws.{AsksNothing, last_reported, none_of_others}
 
 -- ---- the promise
 
@@ -169,14 +169,14 @@ replays_slots held description described d known g slots file low is kept rising
       let line = accepted_line (length slots) (present 0 slots) in
       opens (other description) description description_limit (λ described. Opens other trace trace_limit (λ traced. Judges description described trace traced)) described line (same ∙ file) low
       (opens (other trace) trace trace_limit (λ traced. Judges description described trace traced) traced line there (le-ltb trace_limit (length traced) short)
-      (inl (is.read, is.forms, inl (d, is.says, inl (known, is.sound, inl (kept, inl (spell g slots, events, inl (accepted, last_told (held_in d known) (trace_names d) (event_lines (trace_names d) 1 (lines_of traced)) (spell g slots) (Says 0 (accepted_line (issues_of (spell g slots)) (cycles_of (spell g slots)))) (slots_ask_nothing g slots) 0 line (refl, accepted_slots g slots rising)))))))));
+      (inl (is.read, is.forms, inl (d, is.says, inl (known, is.sound, inl (kept, inl (spell g slots, events, inl (accepted, last_reported (held_in d known) (trace_names d) (event_lines (trace_names d) 1 (lines_of traced)) (spell g slots) (Says 0 (accepted_line (issues_of (spell g slots)) (cycles_of (spell g slots)))) (slots_ask_nothing g slots) 0 line (refl, accepted_slots g slots rising)))))))));
 }
 
 -- ---- two blocks
 
 -- what status 0 tells of two blocks whose classes are judged
-told_of_two : (first_name second_name : List ℕ) (d : Description) (known : Known) (first second : List Instruction) (text : List ℕ) → SchedulesTwo first_name second_name d known first second 0 text → TellsTwo d known first second 0 text
-told_of_two first_name second_name d known first second text h =
+reported_of_two : (first_name second_name : List ℕ) (d : Description) (known : Known) (first second : List Instruction) (text : List ℕ) → SchedulesTwo first_name second_name d known first second 0 text → TellsTwo d known first second 0 text
+reported_of_two first_name second_name d known first second text h =
     started_of second_name d known second both text
     (started_of first_name d known first (Starts second_name d known second both) text
     (classes_of_block second_name d second (StartsTwo first_name second_name d known first second) text
@@ -192,7 +192,7 @@ record AreBlocks (d : Description) (known : Known) (one other text : List ℕ) :
   is_first : IsBlockIn one first
   is_second : IsBlockIn other second
   few : nat_lt instruction_limit (length first + length second) ≡ false
-  told : TellsTwo d known first second 0 text
+  reported : TellsTwo d known first second 0 text
 
 blocks_of : (first_name one second_name other : List ℕ) (d : Description) (known : Known) (text : List ℕ) → SchedulesBlocks first_name one second_name other d known 0 text → AreBlocks d known one other text
 blocks_of first_name one second_name other d known text h =
@@ -207,7 +207,7 @@ blocks_of first_name one second_name other d known text h =
       is_first = record { read = read; forms = forms; says = says };
       is_second = record { read = also; forms = formed; says = said };
       few = few;
-      told = told_of_two first_name second_name d known first second text both;
+      reported = reported_of_two first_name second_name d known first second text both;
     }
   where
     together : List Instruction → Next (List Instruction)
@@ -267,7 +267,7 @@ keeps_two held description first_name second_name text h = kept_by (front_of_two
   where
     kept_by : IsFrontOfTwo held description first_name second_name text → KeepsTwo held description first_name second_name text
     kept_by front =
-        let (g, h, slots, alone, others, is, first_alone, second_alone, written) = front.blocks.told in
+        let (g, h, slots, alone, others, is, first_alone, second_alone, written) = front.blocks.reported in
         let keeps = keeps_both front.d front.known front.blocks.first front.blocks.second g h slots is.first_graph is.second_graph is.legal in
         record {
           d = front.d;
@@ -298,7 +298,7 @@ record AreTimed (d : Description) (known : Known) (blocked stated text : List �
   is_block : IsBlockIn blocked insns
   start : State
   is_state : IsStateIn stated start
-  told : TellsTimed d known insns start 0 text
+  reported : TellsTimed d known insns start 0 text
 
 timed_of : (block blocked state stated : List ℕ) (d : Description) (known : Known) (text : List ℕ) → TimesBlock block blocked state stated d known 0 text → AreTimed d known blocked stated text
 timed_of block blocked state stated d known text h =
@@ -311,7 +311,7 @@ timed_of block blocked state stated d known text h =
       is_block = record { read = read; forms = forms; says = says };
       start = start;
       is_state = record { read = also; forms = formed; says = said };
-      told = started_of block d known insns (TellsTimed d known insns start) text (classes_of_block block d insns (Times block d known insns start) text last);
+      reported = started_of block d known insns (TellsTimed d known insns start) text (classes_of_block block d insns (Times block d known insns start) text last);
     }
   where
     classed : List Instruction → Next State
@@ -378,7 +378,7 @@ keeps_timed held description block state text h = kept_by (front_of_timed held d
     kept_by : IsFrontOfTimed held description block state text → KeepsTimed held description block state text
     kept_by front =
         let texts = front.texts in
-        let (g, slots, is, zero, written) = texts.told in
+        let (g, slots, is, zero, written) = texts.reported in
         record {
           d = front.d;
           known = front.known;
@@ -426,7 +426,7 @@ front_of_kernel held description block text h =
     let (read, forms, more) = formed_of block one.bytes (λ read. IsBlock block read (OverlapsBody block given.d given.known)) text blocks in
     let (body, says, next) = block_of block read (OverlapsBody block given.d given.known) text more in
     let (few, rest) = few_of body_limit (length body) block (HasClasses block given.d body (Overlaps block given.d given.known body)) text next in
-    let told = started_of block given.d given.known body (TellsKernel given.d given.known body) text (classes_of_block block given.d body (Overlaps block given.d given.known body) text rest) in
+    let reported = started_of block given.d given.known body (TellsKernel given.d given.known body) text (classes_of_block block given.d body (Overlaps block given.d given.known body) text rest) in
     record {
       described = file.bytes;
       first_file = file.is;
@@ -440,7 +440,7 @@ front_of_kernel held description block text h =
       second_file = one.is;
       is_block = record { read = read; forms = forms; says = says };
       few = few;
-      kernel = told.1;
+      kernel = reported.1;
     }
 
 keeps_turns : (held : Held) (description block text : List ℕ) (front : IsFrontOfKernel held description block text) (count : ℕ) (g : Graph) → IsGraphOf front.d (repeat count front.body) g

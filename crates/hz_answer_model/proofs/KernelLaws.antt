@@ -37,7 +37,7 @@ some_kernel_text d known m reports formed sound is compiled body g slots schedul
     (machine_settles d.options (automata_of d) (map (class_parts d known) d.classes) (map (bypass_parts d) d.bypasses) (attributes_of d) (parts_kept d known formed sound) (asks_nothing d known sound) m reports is compiled)
     body g slots scheduled
 
--- The kernel of a body that is told.
+-- The kernel of a body that is reported.
 module _ (d : Description) (known : Known) (sound : IsSound d known) (body : List Instruction) (text : List ℕ) (is : IsKernelOf d known body text) where
   legal : Legal (IsWalked is.machine) is.g is.slots
   legal = (legal_as_described d known sound is.machine is.reports is.compiled is.g (classes_within d body is.g is.scheduled.graph) is.slots).1 is.scheduled.legal

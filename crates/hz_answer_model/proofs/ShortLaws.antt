@@ -1,4 +1,4 @@
--- The text of the tables of a description is within its limit of bytes, where nothing is told of states.
+-- The text of the tables of a description is within its limit of bytes, where nothing is reported of states.
 use Rattle.std.proofs.Common.{◌≡◌, ℕ, ◌≤◌, false, List, length, sym, subst, arith}
 use Rattle.hz_pipeline_model.specs.Compiling.Compiled.{shows_states}
 use Rattle.hz_description_model.specs.Reading.Limits.{description_limit}

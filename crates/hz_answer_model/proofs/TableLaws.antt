@@ -10,7 +10,7 @@ use Rattle.hz_pipeline_model.specs.Tables.Machines.{Machine, IsMachine, states_t
 use Rattle.hz_pipeline_model.specs.Tables.Tables.{Table, IsTable, walk, entry}
 use Rattle.hz_pipeline_model.proofs.Tables.TableLaws.{walk-append, walk_stays}
 use Rattle.hz_pipeline_model.proofs.Tables.MachineLaws.{machine_walk-ask, word_of-append, parts_walk-append, machine_walk-each, machine_walk-part, machine_walk-all}
-use Rattle.hz_answer_model.specs.TableAnswers.{IsFirstUnwalked, IsIssueIn, told_by}
+use Rattle.hz_answer_model.specs.TableAnswers.{IsFirstUnwalked, IsIssueIn, reported_by}
 
 module _ (m : Machine) where
   not_both : (t : List Event) → machine_walk m t ≡ None → IsSome (machine_walk m t) → ⊥
@@ -120,17 +120,17 @@ walked_or_first m events = ⊎_elim
         by_next before None e = inr (n, omega (arith, few), (before, e))
 
 -- what the states of a machine tell is decided
-pub told_or_not : (m : Machine) (before : List Event) (a u : ℕ) → told_by m before a u ⊎ (told_by m before a u → ⊥)
-told_or_not m before a u = by_walk (machine_walk m before) refl
+pub reported_or_not : (m : Machine) (before : List Event) (a u : ℕ) → reported_by m before a u ⊎ (reported_by m before a u → ⊥)
+reported_or_not m before a u = by_walk (machine_walk m before) refl
   where
-    by_state : (states : List ℕ) → machine_walk m before ≡ Some states → (b : Bool) → states_tell m states a u ≡ b → told_by m before a u ⊎ (told_by m before a u → ⊥)
+    by_state : (states : List ℕ) → machine_walk m before ≡ Some states → (b : Bool) → states_tell m states a u ≡ b → reported_by m before a u ⊎ (reported_by m before a u → ⊥)
     by_state states is true e = inl (states, is, e)
     by_state states is false e =
-        inr (λ (h : told_by m before a u).
+        inr (λ (h : reported_by m before a u).
         let same : states ≡ h.0 = same_Some states h.0 (sym is ∙ h.1) in
         let tells : states_tell m states a u ≡ true = subst (λ (x : List ℕ). states_tell m x a u ≡ true) (sym same) h.2 in
         absurd (cc))
 
-    by_walk : (o : Option (List ℕ)) → machine_walk m before ≡ o → told_by m before a u ⊎ (told_by m before a u → ⊥)
-    by_walk None none = inr (λ (h : told_by m before a u). none-some h.0 (sym none ∙ h.1))
+    by_walk : (o : Option (List ℕ)) → machine_walk m before ≡ o → reported_by m before a u ⊎ (reported_by m before a u → ⊥)
+    by_walk None none = inr (λ (h : reported_by m before a u). none-some h.0 (sym none ∙ h.1))
     by_walk (Some states) is = by_state states is (states_tell m states a u) refl

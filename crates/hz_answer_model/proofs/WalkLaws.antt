@@ -38,7 +38,7 @@ use Rattle.hz_answer_model.specs.Headline.{IsDescribed, WritesTables, WalkIsRepl
 use Rattle.hz_base_model.specs.Names.{Held}
 use Rattle.hz_words_model.specs.Words.{compile}
 use Rattle.hz_front_model.specs.Phases.{Says, Next, Opens, Traces}
-use Rattle.hz_answer_model.specs.TableAnswers.{tables_limit, IsTablesOf, WritesTablesOf, HasTables, IsFirstUnwalked, WalksTrace, IsIssueIn, told_by}
+use Rattle.hz_answer_model.specs.TableAnswers.{tables_limit, IsTablesOf, WritesTablesOf, HasTables, IsFirstUnwalked, WalksTrace, IsIssueIn, reported_by}
 use Rattle.hz_front_model.specs.Texts.{file_line, limit_line, accepted_line, refused_line}
 use Rattle.hz_answer_model.proofs.AnswerLaws.{kept_or_past}
 use Rattle.hz_answer_model.proofs.DoneLaws.{IsOpened, opened, IsGiven, given_of, compiled_of}
@@ -53,7 +53,7 @@ use Rattle.hz_pipeline_model.specs.Tables.MachineNames.{names_of_machine}
 use Rattle.hz_pipeline_model.specs.Compiling.Compiled.{Report, IsCompiled}
 use Rattle.hz_pipeline_model.specs.Compiling.AutomatonPipelines.{automaton_at, no_automaton}
 use Rattle.hz_front_model.specs.Asks.{Tells, trace_names, held_in}
-use Rattle.hz_front_model.proofs.AskLaws.{told_alike}
+use Rattle.hz_front_model.proofs.AskLaws.{reported_alike}
 use Rattle.hz_answer_model.proofs.TableLaws.{prefix_walked}
 
 -- ---- one machine, walked and replayed
@@ -73,7 +73,7 @@ traces_map names name text next other s t f (inl (events, is, h)) = inl (events,
 traces_map names name text next other s t f (inr wrong) = inr wrong
 
 module _ (d : Description) (known : Known) (m : Machine) (named_alike : names_of_machine m ≡ trace_names d) (walks : (t : List Event) → All (IsOfClass (length d.classes)) t → IsSome (machine_walk m t) ↔ Accepted (pipeline_with d known) t)
-    (holds : (before : List Event) (a u : ℕ) → IsSome (machine_walk m before) → All (IsOfClass (length d.classes)) before → IsOfQuery (trace_names d).queries (ask a u) → told_by m before a u ↔ held_in d known before a u) where
+    (holds : (before : List Event) (a u : ℕ) → IsSome (machine_walk m before) → All (IsOfClass (length d.classes)) before → IsOfQuery (trace_names d).queries (ask a u) → reported_by m before a u ↔ held_in d known before a u) where
   names : m.classes ≡ class_names d
   names = ap (λ (ns : TraceNames). ns.classes) named_alike
 
@@ -109,25 +109,25 @@ module _ (d : Description) (known : Known) (m : Machine) (named_alike : names_of
   abbrev AllNamed : List Event → Type 0
   AllNamed events = All (IsOfClass (length d.classes)) events × All (IsOfQuery (trace_names d).queries) events
 
-  -- the asks of events that are walked are told alike
-  told_both : (lines : List ℕ) (events : List Event) (last : ℕ → List ℕ → Type 0) (s : ℕ) (t : List ℕ) → IsSome (machine_walk m events) → AllNamed events
-      → Tells (told_by m) (trace_names d) lines events last s t ↔ Tells (held_in d known) (trace_names d) lines events last s t
-  told_both lines events last s t walked (all, asked) = (
-    told_alike (told_by m) (held_in d known) (trace_names d) IsWalkedFront front (λ before a u is of_query. holds before a u is.0 is.1 of_query) lines events last s t (walked, all) asked,
-    told_alike (held_in d known) (told_by m) (trace_names d) IsWalkedFront front (λ before a u is of_query. let both = holds before a u is.0 is.1 of_query in (both.1, both.0)) lines events last s t (walked, all) asked,
+  -- the asks of events that are walked are reported alike
+  reported_both : (lines : List ℕ) (events : List Event) (last : ℕ → List ℕ → Type 0) (s : ℕ) (t : List ℕ) → IsSome (machine_walk m events) → AllNamed events
+      → Tells (reported_by m) (trace_names d) lines events last s t ↔ Tells (held_in d known) (trace_names d) lines events last s t
+  reported_both lines events last s t walked (all, asked) = (
+    reported_alike (reported_by m) (held_in d known) (trace_names d) IsWalkedFront front (λ before a u is of_query. holds before a u is.0 is.1 of_query) lines events last s t (walked, all) asked,
+    reported_alike (held_in d known) (reported_by m) (trace_names d) IsWalkedFront front (λ before a u is of_query. let both = holds before a u is.0 is.1 of_query in (both.1, both.0)) lines events last s t (walked, all) asked,
   )
 
   -- the walk of events by the names of the description
   abbrev WalksNamed : List ℕ → List Event → ℕ → List ℕ → Type 0
   WalksNamed lines events s t =
-      (IsSome (machine_walk m events) × Tells (told_by m) (trace_names d) lines events (Says 0 (accepted_line (issues_of events) (cycles_of events))) s t)
-      ⊎ ((i line : ℕ) × (class : List ℕ) × IsFirstUnwalked m events i × (slice_get lines i ≡ Some line) × IsIssueIn m (slice_get events i) class × Tells (told_by m) (trace_names d) lines (take i events) (Says 1 (refused_line line class)) s t)
+      (IsSome (machine_walk m events) × Tells (reported_by m) (trace_names d) lines events (Says 0 (accepted_line (issues_of events) (cycles_of events))) s t)
+      ⊎ ((i line : ℕ) × (class : List ℕ) × IsFirstUnwalked m events i × (slice_get lines i ≡ Some line) × IsIssueIn m (slice_get events i) class × Tells (reported_by m) (trace_names d) lines (take i events) (Says 1 (refused_line line class)) s t)
 
   some_named : (i : ℕ) (events : List Event) → AllNamed events → AllNamed (take i events)
   some_named i events (all, asked) = (All-take (IsOfClass (length d.classes)) i events all, All-take (IsOfQuery (trace_names d).queries) i events asked)
 
   walked_replayed : (lines : List ℕ) (events : List Event) → AllNamed events → (s : ℕ) (t : List ℕ) → WalksNamed lines events s t → Replays (pipeline_with d known) (held_in d known) (trace_names d) lines events s t
-  walked_replayed lines events all s t (inl (some, tells)) = inl ((walks events all.0).0 some, (told_both lines events (Says 0 (accepted_line (issues_of events) (cycles_of events))) s t some all).0 tells)
+  walked_replayed lines events all s t (inl (some, tells)) = inl ((walks events all.0).0 some, (reported_both lines events (Says 0 (accepted_line (issues_of events) (cycles_of events))) s t some all).0 tells)
   walked_replayed lines events all s t (inr (i, line, class, first, there, (k, is_issue, named), tells)) =
       inr (
         i,
@@ -136,20 +136,20 @@ module _ (d : Description) (known : Known) (m : Machine) (named_alike : names_of
         unwalked_is_refused events all.0 i (slice_get_within events i (issue k) is_issue) first,
         there,
         issue_named d known (slice_get events i) k class is_issue (subst (λ (cs : List (List ℕ)). slice_get cs k ≡ Some class) names named),
-        (told_both lines (take i events) (Says 1 (refused_line line class)) s t first.0 (some_named i events all)).0 tells,
+        (reported_both lines (take i events) (Says 1 (refused_line line class)) s t first.0 (some_named i events all)).0 tells,
       )
 
   replayed_walked : (lines : List ℕ) (events : List Event) → AllNamed events → (s : ℕ) (t : List ℕ) → Replays (pipeline_with d known) (held_in d known) (trace_names d) lines events s t → WalksNamed lines events s t
-  replayed_walked lines events all s t (inl (accepted, tells)) = let some = (walks events all.0).1 accepted in inl (some, (told_both lines events (Says 0 (accepted_line (issues_of events) (cycles_of events))) s t some all).1 tells)
+  replayed_walked lines events all s t (inl (accepted, tells)) = let some = (walks events all.0).1 accepted in inl (some, (reported_both lines events (Says 0 (accepted_line (issues_of events) (cycles_of events))) s t some all).1 tells)
   replayed_walked lines events all s t (inr (i, line, class, first, there, (k, c, is_issue, has, named), tells)) =
       let unwalked = refused_is_unwalked events all.0 i first in
-      inr (i, line, class, unwalked, there, (k, is_issue, class_named k c class has named), (told_both lines (take i events) (Says 1 (refused_line line class)) s t unwalked.0 (some_named i events all)).1 tells)
+      inr (i, line, class, unwalked, there, (k, is_issue, class_named k c class has named), (reported_both lines (take i events) (Says 1 (refused_line line class)) s t unwalked.0 (some_named i events all)).1 tells)
 
   -- the machine's trace, by these names
   abbrev TracesBy : (trace traced : List ℕ) → TraceNames → ℕ → List ℕ → Type 0
   TracesBy trace traced ns = Traces ns trace traced (λ events s t.
-      (IsSome (machine_walk m events) × Tells (told_by m) ns (event_lines ns 1 (lines_of traced)) events (Says 0 (accepted_line (issues_of events) (cycles_of events))) s t)
-      ⊎ ((i line : ℕ) × (class : List ℕ) × IsFirstUnwalked m events i × (slice_get (event_lines ns 1 (lines_of traced)) i ≡ Some line) × IsIssueIn m (slice_get events i) class × Tells (told_by m) ns (event_lines ns 1 (lines_of traced)) (take i events) (Says 1 (refused_line line class)) s t))
+      (IsSome (machine_walk m events) × Tells (reported_by m) ns (event_lines ns 1 (lines_of traced)) events (Says 0 (accepted_line (issues_of events) (cycles_of events))) s t)
+      ⊎ ((i line : ℕ) × (class : List ℕ) × IsFirstUnwalked m events i × (slice_get (event_lines ns 1 (lines_of traced)) i ≡ Some line) × IsIssueIn m (slice_get events i) class × Tells (reported_by m) ns (event_lines ns 1 (lines_of traced)) (take i events) (Says 1 (refused_line line class)) s t))
 
   -- a trace of the machine's names is walked as the description's is replayed
   pub traced_both : (trace traced : List ℕ) (s : ℕ) (t : List ℕ) → WalksTrace trace traced m s t ↔ ReplaysTrace trace traced d known s t
@@ -175,10 +175,10 @@ module _ (d : Description) (known : Known) (m : Machine) (named_alike : names_of
 -- ---- the phases before
 
 -- what follows a file that is held and not too long
-behind_file : (o : Option (List ℕ)) (most : ℕ) (lacks long : Type 0) (next : List ℕ → Type 0) (bytes : List ℕ) → o ≡ Some bytes → nat_lt most (length bytes) ≡ false
+after_file : (o : Option (List ℕ)) (most : ℕ) (lacks long : Type 0) (next : List ℕ → Type 0) (bytes : List ℕ) → o ≡ Some bytes → nat_lt most (length bytes) ≡ false
     → MatchOption o lacks (λ bytes. MatchBool (nat_lt most (length bytes)) long (next bytes)) ↔ next bytes
-behind_file None most lacks long next bytes is low = absurd (none-some bytes is)
-behind_file (Some found) most lacks long next bytes is low =
+after_file None most lacks long next bytes is low = absurd (none-some bytes is)
+after_file (Some found) most lacks long next bytes is low =
     let same : found ≡ bytes = same_Some found bytes is in
     subst (λ (b : List ℕ). MatchBool (nat_lt most (length b)) long (next b) ↔ next bytes) (sym same)
     (subst (λ (b : Bool). MatchBool b long (next bytes) ↔ next bytes) (sym low) (λ h. h, λ h. h))
@@ -194,8 +194,8 @@ file_map (Some bytes) most lacks long next other f h = by_length (nat_lt most (l
     by_length false h = f bytes h
 
 -- what follows the tables of a text that stands for a machine
-behind_tables : (name bytes : List ℕ) (m : Machine) (next : Next Machine) (s : ℕ) (t : List ℕ) → TableText bytes m → HasTables name bytes next s t ↔ next m s t
-behind_tables name bytes m next s t stands = (to, λ h. inl (m, stands, h))
+after_tables : (name bytes : List ℕ) (m : Machine) (next : Next Machine) (s : ℕ) (t : List ℕ) → TableText bytes m → HasTables name bytes next s t ↔ next m s t
+after_tables name bytes m next s t stands = (to, λ h. inl (m, stands, h))
   where
     read : tables_in bytes ≡ Ok m
     read = tables_again bytes m stands
@@ -207,8 +207,8 @@ behind_tables name bytes m next s t stands = (to, λ h. inl (m, stands, h))
     to (inr (kind, line, wrong, says)) = let again = tables_again bytes m stands in absurd (cc)
 
 -- what follows a description that a text says
-behind_description : (name bytes : List ℕ) (d : Description) (known : Known) (next : (d : Description) → Next Known) (s : ℕ) (t : List ℕ) → IsDescribed bytes d known → HasDescription name bytes next s t ↔ next d known s t
-behind_description name bytes d known next s t is = (to, λ h. inl (is.read, is.forms, inl (d, is.says, inl (known, is.sound, h))))
+after_description : (name bytes : List ℕ) (d : Description) (known : Known) (next : (d : Description) → Next Known) (s : ℕ) (t : List ℕ) → IsDescribed bytes d known → HasDescription name bytes next s t ↔ next d known s t
+after_description name bytes d known next s t is = (to, λ h. inl (is.read, is.forms, inl (d, is.says, inl (known, is.sound, h))))
   where
     to : HasDescription name bytes next s t → next d known s t
     to (inl (read, reads, inl (e, says, inl (other, sound, h)))) =
@@ -224,8 +224,8 @@ behind_description name bytes d known next s t is = (to, λ h. inl (is.read, is.
     to (inr (fault, line, wrong, h)) = absurd (forms_or_fault bytes is.read fault line is.forms wrong)
 
 -- what follows a description whose automata are within their limits
-behind_limits : (name : List ℕ) (d : Description) (known : Known) (next : ℕ → List ℕ → Type 0) (s : ℕ) (t : List ℕ) → AllKeepLimits d known → Compiles name d known next s t ↔ next s t
-behind_limits name d known next s t kept = (to, λ h. inl (kept, h))
+after_limits : (name : List ℕ) (d : Description) (known : Known) (next : ℕ → List ℕ → Type 0) (s : ℕ) (t : List ℕ) → AllKeepLimits d known → Compiles name d known next s t ↔ next s t
+after_limits name d known next s t kept = (to, λ h. inl (kept, h))
   where
     to : Compiles name d known next s t → next s t
     to (inl (also, h)) = h
@@ -274,13 +274,13 @@ module _ (d : Description) (known : Known) (m : Machine) (reports : List Report)
       absurd (omega (arith, bad)))
       (cases_lt a (length (automata_of d)))
 
-  pub told_is_held : IsSound d known → (before : List Event) (a u : ℕ) → IsSome (machine_walk m before) → All (IsOfClass (length d.classes)) before → IsOfQuery (trace_names d).queries (ask a u) → told_by m before a u ↔ held_in d known before a u
-  told_is_held sound before a u walked all of_query = by_walk (machine_walk m before) refl
+  pub reported_is_held : IsSound d known → (before : List Event) (a u : ℕ) → IsSome (machine_walk m before) → All (IsOfClass (length d.classes)) before → IsOfQuery (trace_names d).queries (ask a u) → reported_by m before a u ↔ held_in d known before a u
+  reported_is_held sound before a u walked all of_query = by_walk (machine_walk m before) refl
     where
       there : (a < automaton_count d) × (u < length (queries_in d a))
       there = asked_there a u of_query
 
-      by_walk : (o : Option (List ℕ)) → machine_walk m before ≡ o → told_by m before a u ↔ held_in d known before a u
+      by_walk : (o : Option (List ℕ)) → machine_walk m before ≡ o → reported_by m before a u ↔ held_in d known before a u
       by_walk None e = absurd (let bad = subst IsSome e walked in cc)
       by_walk (Some states) e =
           let both = machine_tells d known m reports is before all sound states e a u there.0 there.1 in (
@@ -318,17 +318,17 @@ module _ (held : Held) (description text : List ℕ) (h : AnswersOrder held (com
   -- the tables are walked as the description is judged
   judged_both : (tables_name trace traced : List ℕ) (s : ℕ) (t : List ℕ) → HasTables tables_name text (WalksTrace trace traced) s t ↔ Judges description first.bytes trace traced s t
   judged_both tables_name trace traced s t =
-      let one = behind_tables tables_name text is.machine (WalksTrace trace traced) s t is.stands in
-      let two = traced_both d known is.machine named (λ t all. machine_accepts d known is.machine is.reports is.compiled t all ((given.is).sound)) (told_is_held d known is.machine is.reports is.compiled (given.is).sound) trace traced s t in
-      let three = behind_limits description d known (ReplaysTrace trace traced d known) s t tables.0 in
-      let four = behind_description description first.bytes d known (ReplaysDescription description trace traced) s t given.is in
+      let one = after_tables tables_name text is.machine (WalksTrace trace traced) s t is.stands in
+      let two = traced_both d known is.machine named (λ t all. machine_accepts d known is.machine is.reports is.compiled t all ((given.is).sound)) (reported_is_held d known is.machine is.reports is.compiled (given.is).sound) trace traced s t in
+      let three = after_limits description d known (ReplaysTrace trace traced d known) s t tables.0 in
+      let four = after_description description first.bytes d known (ReplaysDescription description trace traced) s t given.is in
       (λ h. four.1 (three.1 (two.0 (one.0 h))), λ h. one.1 (two.1 (three.0 (four.0 h))))
 
   pub walk_is_replay : WalkIsReplay held description text
   walk_is_replay = record {
     answers = λ other tables_name trace same there short s t.
-        let one = behind_file (other tables_name) tables_limit (Says 6 (file_line tables_name) s t) (Says 3 (limit_line tables_name) s t) (λ tabled. Opens other trace trace_limit (λ traced. HasTables tables_name tabled (WalksTrace trace traced)) s t) text there (le-ltb tables_limit (length text) short) in
-        let two = behind_file (other description) description_limit (Says 6 (file_line description) s t) (Says 3 (limit_line description) s t) (λ described. Opens other trace trace_limit (λ traced. Judges description described trace traced) s t) first.bytes (same ∙ first.is) first.low in (
+        let one = after_file (other tables_name) tables_limit (Says 6 (file_line tables_name) s t) (Says 3 (limit_line tables_name) s t) (λ tabled. Opens other trace trace_limit (λ traced. HasTables tables_name tabled (WalksTrace trace traced)) s t) text there (le-ltb tables_limit (length text) short) in
+        let two = after_file (other description) description_limit (Says 6 (file_line description) s t) (Says 3 (limit_line description) s t) (λ described. Opens other trace trace_limit (λ traced. Judges description described trace traced) s t) first.bytes (same ∙ first.is) first.low in (
           λ h. two.1 (file_map (other trace) trace_limit (Says 6 (file_line trace) s t) (Says 3 (limit_line trace) s t) (λ traced. HasTables tables_name text (WalksTrace trace traced) s t) (λ traced. Judges description first.bytes trace traced s t) (λ traced. (judged_both tables_name trace traced s t).0) (one.0 h)),
           λ h. one.1 (file_map (other trace) trace_limit (Says 6 (file_line trace) s t) (Says 3 (limit_line trace) s t) (λ traced. Judges description first.bytes trace traced s t) (λ traced. HasTables tables_name text (WalksTrace trace traced) s t) (λ traced. (judged_both tables_name trace traced s t).1) (two.0 h)),
         );

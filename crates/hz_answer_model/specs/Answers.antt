@@ -25,11 +25,11 @@ use Rattle.hz_answer_model.specs.ModuloAnswers.{OverlapsBlock}
 use Rattle.hz_answer_model.specs.DrillAnswers.{Drills}
 use Rattle.hz_answer_model.specs.TableAnswers.{tables_limit, WritesTablesOf, HasTables, WalksTrace}
 
--- the first automaton that has too many states is told
+-- the first automaton that has too many states is reported
 abbrev pub TellsLimit : List ℕ → Description → Known → ℕ → List ℕ → Type 0
 TellsLimit name d known status text = (a : ℕ) × IsFirstPastLimit d known a × Says 3 (states_line name (slice_index_or (automaton_names d) a [])) status text
 
--- The automata of a description are within their limits of states, or the first that is not is told.
+-- The automata of a description are within their limits of states, or the first that is not is reported.
 abbrev pub Compiles : List ℕ → Description → Known → (ℕ → List ℕ → Type 0) → ℕ → List ℕ → Type 0
 Compiles name d known next status text = (AllKeepLimits d known × next status text) ⊎ TellsLimit name d known status text
 
@@ -54,11 +54,11 @@ CompilesDescription description d known = Compiles description d known (WritesTa
 abbrev pub SchedulesByDescription : List ℕ → List ℕ → List ℕ → Description → Known → ℕ → List ℕ → Type 0
 SchedulesByDescription description block blocked d known = Compiles description d known (SchedulesBlock block blocked d known)
 
--- a description without a fault is compiled, then the block and the state are judged, and what the block's schedule reads is told
+-- a description without a fault is compiled, then the block and the state are judged, and what the block's schedule reads is reported
 abbrev pub TimesByDescription : (description block blocked state stated : List ℕ) → Description → Known → ℕ → List ℕ → Type 0
 TimesByDescription description block blocked state stated d known = Compiles description d known (TimesBlock block blocked state stated d known)
 
--- a description without a fault is compiled, and then the block is judged and its bound is told
+-- a description without a fault is compiled, and then the block is judged and its bound is reported
 abbrev pub BoundsByDescription : List ℕ → List ℕ → List ℕ → Description → Known → ℕ → List ℕ → Type 0
 BoundsByDescription description block blocked d known = Compiles description d known (BoundsBlock block blocked d known)
 
@@ -66,11 +66,11 @@ BoundsByDescription description block blocked d known = Compiles description d k
 abbrev pub SchedulesTwoByDescription : List ℕ → (first_name first_text second_name second_text : List ℕ) → Description → Known → ℕ → List ℕ → Type 0
 SchedulesTwoByDescription description first_name first_text second_name second_text d known = Compiles description d known (SchedulesBlocks first_name first_text second_name second_text d known)
 
--- a description without a fault is compiled, and then the body of a loop is judged and its kernel is told
+-- a description without a fault is compiled, and then the body of a loop is judged and its kernel is reported
 abbrev pub OverlapsByDescription : List ℕ → List ℕ → List ℕ → Description → Known → ℕ → List ℕ → Type 0
 OverlapsByDescription description block blocked d known = Compiles description d known (OverlapsBlock block blocked d known)
 
--- a description without a fault is compiled, and its drill is told
+-- a description without a fault is compiled, and its drill is reported
 abbrev pub DrillsDescription : List ℕ → (number turns : ℕ) → Description → Known → ℕ → List ℕ → Type 0
 DrillsDescription description number turns d known = Compiles description d known (Drills d known number turns)
 

@@ -29,7 +29,7 @@ IsBlock name read next status text =
 abbrev pub HasBlock : List ℕ → List ℕ → Next (List Instruction) → ℕ → List ℕ → Type 0
 HasBlock name bytes next = HasForms name bytes (λ read. IsBlock name read next)
 
--- so many instructions are no more than there may be, or the limit is told of the block of this name
+-- so many instructions are no more than there may be, or the limit is reported of the block of this name
 abbrev pub HasAtMost : (most count : ℕ) → (name : List ℕ) → (ℕ → List ℕ → Type 0) → ℕ → List ℕ → Type 0
 HasAtMost most count name next status text = MatchBool (nat_lt most count) (Says 3 (insns_line name) status text) (next status text)
 

@@ -11,7 +11,7 @@ use Rattle.hz_answer_model.specs.BlockAnswers.{HasBlock}
 use Rattle.hz_front_model.specs.Phases.{Says}
 use Rattle.hz_answer_model.specs.ScheduleAnswers.{HasClasses, Starts}
 
--- the bound of a block is told, with what shows it and the last cycle of the block's schedule
+-- the bound of a block is reported, with what shows it and the last cycle of the block's schedule
 abbrev pub TellsBound : Description → Known → List Instruction → ℕ → List ℕ → Type 0
 TellsBound d known block status text =
     (g : Graph) × (slots : List Slot) × (b : Bound) × IsScheduleOf d known block g slots × IsBoundOf d known g b × Says 0 (text_of_bound d block b slots) status text
@@ -20,6 +20,6 @@ TellsBound d known block status text =
 abbrev pub Bounds : List ℕ → Description → Known → List Instruction → ℕ → List ℕ → Type 0
 Bounds name d known block = Starts name d known block (TellsBound d known block)
 
--- the block of this name is judged, and its bound is told
+-- the block of this name is judged, and its bound is reported
 abbrev pub BoundsBlock : List ℕ → List ℕ → Description → Known → ℕ → List ℕ → Type 0
 BoundsBlock block blocked d known = HasBlock block blocked (λ insns. HasClasses block d insns (Bounds block d known insns))

@@ -28,6 +28,6 @@ pub record IsDrillOf (d : Description) (known : Known) (number turns : ℕ) (tex
   pub left : machine_walk machine events ≡ Some states
   pub tells : text ≡ drill_text turns (issues_of events) (cycles_of events) states
 
--- the drill of a description is told
+-- the drill of a description is reported
 abbrev pub Drills : Description → Known → (number turns : ℕ) → ℕ → List ℕ → Type 0
 Drills d known number turns status text = (status ≡ 0) × IsDrillOf d known number turns text

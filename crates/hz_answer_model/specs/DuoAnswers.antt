@@ -12,7 +12,7 @@ use Rattle.hz_answer_model.specs.BlockAnswers.{HasBlock, HasAtMost}
 use Rattle.hz_front_model.specs.Phases.{Says}
 use Rattle.hz_answer_model.specs.ScheduleAnswers.{HasClasses, Starts}
 
--- the schedule of both blocks is told, with the last cycle of each block's own schedule
+-- the schedule of both blocks is reported, with the last cycle of each block's own schedule
 abbrev pub TellsTwo : Description → Known → (first second : List Instruction) → ℕ → List ℕ → Type 0
 TellsTwo d known first second status text =
     (g : Graph) × (h : Graph) × (slots : List Slot) × (alone : List Slot) × (other : List Slot) × IsScheduleOfTwo d known first second g h slots
@@ -29,7 +29,7 @@ SchedulesTwo first_name second_name d known first second =
     HasClasses first_name d first (HasClasses second_name d second (StartsTwo first_name second_name d known first second))
 
 -- Both blocks are judged, the first before the second, and scheduled together. They have together no more instructions than one may
--- have; else the limit is told of the second.
+-- have; else the limit is reported of the second.
 abbrev pub SchedulesBlocks : (first_name first_text second_name second_text : List ℕ) → Description → Known → ℕ → List ℕ → Type 0
 SchedulesBlocks first_name first_text second_name second_text d known =
     HasBlock first_name first_text (λ first. HasBlock second_name second_text (λ second. HasAtMost instruction_limit (length first + length second) second_name (SchedulesTwo first_name second_name d known first second)))

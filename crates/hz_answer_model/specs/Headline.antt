@@ -96,7 +96,7 @@ pub record ReplayAccepts (held : Held) (description : List ℕ) (d : Description
   pub answers : (other : Held) (trace traced : List ℕ) → other description ≡ held description → other trace ≡ Some traced → length traced ≤ trace_limit → Trace (trace_names d) traced (spell g slots)
       → AnswersOrder other (replay description trace) 0 (accepted_line (length slots) (present 0 slots))
 
--- The text says what is compiled of the description that is held, and is within its limit of bytes, unless what each state is is told.
+-- The text says what is compiled of the description that is held, and is within its limit of bytes, unless what each state is is reported.
 pub record WritesTables (held : Held) (description text : List ℕ) : Type 0 where
   pub described : List ℕ
   pub file : held description ≡ Some described

@@ -8,7 +8,7 @@ use Rattle.hz_measure_model.specs.Kernels.Repeats.{body_limit}
 use Rattle.hz_answer_model.specs.BlockAnswers.{HasBlock, HasAtMost}
 use Rattle.hz_answer_model.specs.ScheduleAnswers.{HasClasses, Starts}
 
--- the kernel of a body is told
+-- the kernel of a body is reported
 abbrev pub TellsKernel : Description → Known → List Instruction → ℕ → List ℕ → Type 0
 TellsKernel d known body status text = (status ≡ 0) × IsKernelOf d known body text
 
@@ -20,6 +20,6 @@ Overlaps name d known body = Starts name d known body (TellsKernel d known body)
 abbrev pub OverlapsBody : List ℕ → Description → Known → List Instruction → ℕ → List ℕ → Type 0
 OverlapsBody name d known body = HasAtMost body_limit (length body) name (HasClasses name d body (Overlaps name d known body))
 
--- the body of this name is judged, and its kernel is told
+-- the body of this name is judged, and its kernel is reported
 abbrev pub OverlapsBlock : List ℕ → List ℕ → Description → Known → ℕ → List ℕ → Type 0
 OverlapsBlock block blocked d known = HasBlock block blocked (OverlapsBody block d known)

@@ -27,7 +27,7 @@ HasClasses name d block next status text =
     (All (λ i. (class : ℕ) × (class_in d i ≡ Ok class)) block × next status text)
     ⊎ ((i : Instruction) × (fault : ClassFault) × IsFirstClassFault d block i fault × Says 2 (class_line name (class_names d) i fault) status text)
 
--- the first instruction of a block that can't be issued from the start is told
+-- the first instruction of a block that can't be issued from the start is reported
 abbrev pub TellsStuck : List ℕ → Description → Known → List Instruction → ℕ → List ℕ → Type 0
 TellsStuck name d known block status text = (i : Instruction) × IsFirstStuck d known block i × Says 2 (stuck_line name i) status text
 
@@ -35,7 +35,7 @@ TellsStuck name d known block status text = (i : Instruction) × IsFirstStuck d 
 abbrev pub Starts : List ℕ → Description → Known → List Instruction → (ℕ → List ℕ → Type 0) → ℕ → List ℕ → Type 0
 Starts name d known block next status text = (All (StartsAlone d known) block × next status text) ⊎ TellsStuck name d known block status text
 
--- the schedule of a block is told
+-- the schedule of a block is reported
 abbrev pub TellsSchedule : Description → Known → List Instruction → ℕ → List ℕ → Type 0
 TellsSchedule d known block status text = (g : Graph) × (slots : List Slot) × IsScheduleOf d known block g slots × Says 0 (schedule_text d block g slots) status text
 

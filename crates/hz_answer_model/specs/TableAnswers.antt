@@ -6,7 +6,7 @@ use Rattle.hz_base_model.specs.Lines.{lines_of}
 use Rattle.hz_description_model.specs.Check.CheckedParts.{automata_of, class_parts}
 use Rattle.hz_description_model.specs.Check.Places.{Known}
 use Rattle.hz_description_model.specs.Reading.Descriptions.{Description}
-use Rattle.hz_pipeline_model.specs.Single.Told.{ListsAscending}
+use Rattle.hz_pipeline_model.specs.Single.Reported.{ListsAscending}
 use Rattle.hz_pipeline_model.specs.Tables.Machines.{Machine, machine_walk, states_tell}
 use Rattle.hz_tabtext_model.specs.Judging.{Kind, tables_word}
 use Rattle.hz_tabtext_model.specs.Reading.{tables_in}
@@ -47,8 +47,8 @@ HasTables name bytes next status text =
     ⊎ TellsFault tables_word (TablesFaultAt bytes) name status text
 
 -- whether a query unit is reserved by what the states of a machine tell
-abbrev pub told_by : Machine → Reserved
-told_by m before automaton query = (states : List ℕ) × (machine_walk m before ≡ Some states) × (states_tell m states automaton query ≡ true)
+abbrev pub reported_by : Machine → Reserved
+reported_by m before automaton query = (states : List ℕ) × (machine_walk m before ≡ Some states) × (states_tell m states automaton query ≡ true)
 
 -- the machine walks all events before the one of this place, and not that one
 abbrev pub IsFirstUnwalked : Machine → List Event → ℕ → Type 0
@@ -58,12 +58,12 @@ IsFirstUnwalked m events i = IsSome (machine_walk m (take i events)) × (machine
 abbrev pub IsIssueIn : Machine → Option Event → List ℕ → Type 0
 IsIssueIn m e name = (class : ℕ) × (e ≡ Some (issue class)) × (slice_get m.classes class ≡ Some name)
 
--- The walk of events that stand on these lines of a trace: the asks before the first event that is not walked, or all, are told, and
+-- The walk of events that stand on these lines of a trace: the asks before the first event that is not walked, or all, are reported, and
 -- then that all are accepted, or which is refused.
 abbrev pub Walks : Machine → List ℕ → List Event → ℕ → List ℕ → Type 0
 Walks m lines events status text =
-    (IsSome (machine_walk m events) × Tells (told_by m) (names_of_machine m) lines events (Says 0 (accepted_line (issues_of events) (cycles_of events))) status text)
-    ⊎ ((i line : ℕ) × (class : List ℕ) × IsFirstUnwalked m events i × (slice_get lines i ≡ Some line) × IsIssueIn m (slice_get events i) class × Tells (told_by m) (names_of_machine m) lines (take i events) (Says 1 (refused_line line class)) status text)
+    (IsSome (machine_walk m events) × Tells (reported_by m) (names_of_machine m) lines events (Says 0 (accepted_line (issues_of events) (cycles_of events))) status text)
+    ⊎ ((i line : ℕ) × (class : List ℕ) × IsFirstUnwalked m events i × (slice_get lines i ≡ Some line) × IsIssueIn m (slice_get events i) class × Tells (reported_by m) (names_of_machine m) lines (take i events) (Says 1 (refused_line line class)) status text)
 
 -- the trace of a machine's names is judged, and walked
 abbrev pub WalksTrace : List ℕ → List ℕ → Machine → ℕ → List ℕ → Type 0

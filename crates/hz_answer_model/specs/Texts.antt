@@ -15,7 +15,7 @@ scheduled_line count cycles = concat (codes "scheduled " ∷ decimal count ∷ c
 abbrev pub turns_line : ℕ → List ℕ
 turns_line turns = concat (codes "drill " ∷ decimal turns ∷ codes " turns\n" ∷ [])
 
--- a state behind the word that a line of states begins with
+-- a state after the word that a line of states begins with
 abbrev pub state_field : ℕ → List ℕ
 state_field state = concat (codes " " ∷ decimal state ∷ [])
 

@@ -11,7 +11,7 @@ use Rattle.hz_measure_model.specs.Exposed.Texts.{IsTimedText}
 use Rattle.hz_answer_model.specs.BlockAnswers.{HasBlock, HasState}
 use Rattle.hz_answer_model.specs.ScheduleAnswers.{HasClasses, Starts}
 
--- what the schedule of a block reads of a state on an exposed pipeline is told, and the state that it leaves
+-- what the schedule of a block reads of a state on an exposed pipeline is reported, and the state that it leaves
 abbrev pub TellsTimed : Description → Known → List Instruction → State → ℕ → List ℕ → Type 0
 TellsTimed d known block state status text =
     (g : Graph) × (slots : List Slot) × IsScheduleOf d known block g slots × (status ≡ 0) × IsTimedText block slots (exposed_in d block g slots state) text
@@ -25,6 +25,6 @@ abbrev pub TimesFrom : (block state stated : List ℕ) → Description → Known
 TimesFrom block state stated d known insns =
     HasState state stated (λ start. HasClasses block d insns (Times block d known insns start))
 
--- the block and the state are judged, the block first, and what the block's schedule reads is told
+-- the block and the state are judged, the block first, and what the block's schedule reads is reported
 abbrev pub TimesBlock : (block blocked state stated : List ℕ) → Description → Known → ℕ → List ℕ → Type 0
 TimesBlock block blocked state stated d known = HasBlock block blocked (TimesFrom block state stated d known)

@@ -1,11 +1,11 @@
-//! Laws of asks: what is told, and of which units.
+//! Laws of asks: what is reported, and of which units.
 
 ghost use Rattle.std.specs.Prelude.{◌≡◌, ◌↔◌, ℕ, List, [], Contains, Some, IsTrue, slice_get, slice_index_or};
 ghost use Rattle.hz_pipeline_model.specs.Accepting.Events.{Event, ask};
 ghost use Rattle.hz_pipeline_model.specs.Traces.TraceNames.{TraceNames, query_place};
 ghost use Rattle.hz_front_model.specs.Asks.{AsksSay, held_in, trace_names};
-ghost use Rattle.hz_answer_model.specs.TableAnswers.{told_by};
-ghost use Rattle.hz_answer_model.specs.AskPlaces.{IsToldByPlaces, AskedSays};
+ghost use Rattle.hz_answer_model.specs.TableAnswers.{reported_by};
+ghost use Rattle.hz_answer_model.specs.AskPlaces.{IsReportedByPlaces, AskedSays};
 ghost use Rattle.hz_pipeline_model.specs.Compiling.AutomatonPipelines.{query_unit};
 ghost use Rattle.hz_pipeline_model.specs.Tables.Machines.{Machine};
 ghost use Rattle.hz_description_model.specs.Check.Places.{Known, unit_place};
@@ -15,10 +15,10 @@ ghost use Rattle.hz_description_model.specs.Reading.Descriptions.{Description, U
 /// What a description tells at the asks of events, and what a machine tells, is in parts, one for each event: that of an ask is
 /// its line, by the events before its place and the line at its place, and that of any other event is empty. By a description
 /// the line of an ask is by what `Asked` says of its place.
-pub fn asks_are_told_at_their_places()
-    ensures description { (d : Description) (known : Known) (names : TraceNames) (lines : List ℕ) (events : List Event) (text : List ℕ) → AsksSay (held_in d known) names [] lines events text ↔ IsToldByPlaces (held_in d known) names lines events text }
-    ensures machine { (m : Machine) (names : TraceNames) (lines : List ℕ) (events : List Event) (text : List ℕ) → AsksSay (told_by m) names [] lines events text ↔ IsToldByPlaces (told_by m) names lines events text }
-    ensures asked { (d : Description) (known : Known) (names : TraceNames) (lines : List ℕ) (events : List Event) (text : List ℕ) (told : IsToldByPlaces (held_in d known) names lines events text) (p a u : ℕ) → slice_get events p ≡ Some (ask a u) → AskedSays d known names events p (slice_index_or lines p 0) a u (slice_index_or (told.parts) p []) }
+pub fn asks_are_reported_at_their_places()
+    ensures description { (d : Description) (known : Known) (names : TraceNames) (lines : List ℕ) (events : List Event) (text : List ℕ) → AsksSay (held_in d known) names [] lines events text ↔ IsReportedByPlaces (held_in d known) names lines events text }
+    ensures machine { (m : Machine) (names : TraceNames) (lines : List ℕ) (events : List Event) (text : List ℕ) → AsksSay (reported_by m) names [] lines events text ↔ IsReportedByPlaces (reported_by m) names lines events text }
+    ensures asked { (d : Description) (known : Known) (names : TraceNames) (lines : List ℕ) (events : List Event) (text : List ℕ) (reported : IsReportedByPlaces (held_in d known) names lines events text) (p a u : ℕ) → slice_get events p ≡ Some (ask a u) → AskedSays d known names events p (slice_index_or lines p 0) a u (slice_index_or (reported.parts) p []) }
 {}
 
 /// In a description without a fault, an ask of a name is answered by the unit that the name stands for in reservations and sets.

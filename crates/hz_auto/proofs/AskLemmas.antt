@@ -15,10 +15,10 @@ use Rattle.hz_auto.specs.Asks.{IsAskable, HasRoom, IsAskFault, entries_asked}
 
 -- what a test for no items says
 pub none_there : (n : ℕ) (empty : Bool) → empty ≡ (n == 0) → empty ≡ true → n ≡ 0
-none_there n empty is told = let test : (n == 0) ≡ true = sym is ∙ told in grind (arith, nat_tests)
+none_there n empty is reported = let test : (n == 0) ≡ true = sym is ∙ reported in grind (arith, nat_tests)
 
 pub some_there : (n : ℕ) (empty : Bool) → empty ≡ (n == 0) → empty ≡ false → 0 < n
-some_there n empty is told = let test : (n == 0) ≡ false = sym is ∙ told in grind (arith, nat_tests)
+some_there n empty is reported = let test : (n == 0) ≡ false = sym is ∙ reported in grind (arith, nat_tests)
 
 -- the rows of a table have its columns
 pub columns_same : (plain : Rows) → KeepsRows plain → (columns : ℕ) → IsTable plain.rows columns → plain.columns ≡ columns
@@ -73,8 +73,8 @@ module _ (explored : Explored) (asks : List ℕ) (caps : Caps) (keeps : KeepsRow
   }
 
   pub asked_past : (result : Result Rows StateFault) → Passes result → IfErr result (λ fault. (fault ≡ CellLimit) ⊎ (fault ≡ NoMemory)) → IfErr result (IsAskFault explored asks caps.cells)
-  asked_past (Ok table) both told = tt
-  asked_past (Err fault) both told = ⊎_elim
+  asked_past (Ok table) both reported = tt
+  asked_past (Err fault) both reported = ⊎_elim
       (λ (e : fault ≡ CellLimit). inl (e, record { above = λ columns is. subst (λ n. caps.cells < entries_asked explored asks n) (columns_same explored.plain keeps columns is) (both.0 (ap Err e)) }))
       (λ (e : fault ≡ NoMemory). inr e)
-      told
+      reported

@@ -28,7 +28,7 @@ no_columns = record {
   first = λ column low. absurd (omega (arith, low));
 }
 
--- the k-th of items behind which one more stands
+-- the k-th of items after which one more stands
 before : {X : Type 0} (xs : List X) (x d : X) (k : ℕ) → k < length xs → get_or (xs ++ x ∷ []) k d ≡ get_or xs k d
 before xs x d k low = get_or_append_left xs (x ∷ []) d k low
 
@@ -133,7 +133,7 @@ columns_within lists columns maps is k low =
     let each = is.each in
     slice_get_within columns (slice_index maps k) (slice_index_or lists k []) (is.there k (omega (arith, low, each)))
 
--- what is put into a set of items that are told apart exactly is added
+-- what is put into a set of items that are reported apart exactly is added
 pub inserted : {K : Type 0} {eq : K → K → Bool} → IsEquivalence eq → ((x y : K) → Decides (eq x y) (x ≡ y)) → (old : List K) (item : K) (id : ℕ) (new : List K) → new ≡ (if list_any (eq item) old then old else old ++ item ∷ []) → (k : K) × (slice_get new id ≡ Some k) × (eq item k ≡ true) → IsAdded old item id new
 inserted {K} {eq} laws exact old item id new keys (k, at, same) =
     let there : slice_get new id ≡ Some item = at ∙ ap Some (sym ((exact item k).0 same)) in

@@ -101,12 +101,12 @@ module _ (checked : Checked) (a : ℕ) (low : a < length checked.automata.items)
     number : length (lists_of columns) ≡ length columns
     number = length-map columns (λ column. column.items)
 
-    pub members_told : sum_by (λ set. length set.items) explored.sets.items ≤ member_limit
-    members_told = subst (λ n. n ≤ member_limit) (sym (sum_by_items explored.sets.items))
+    pub members_reported : sum_by (λ set. length set.items) explored.sets.items ≤ member_limit
+    members_reported = subst (λ n. n ≤ member_limit) (sym (sum_by_items explored.sets.items))
         (members_few options automata classes a rules asked (lists_of columns) (length columns) number explored.plain.rows explored.grids.items sets explored.parents.items built caps is_caps.members within)
 
-    pub grids_told : length explored.grids.items ≤ grid_limit
-    grids_told = grids_few options automata classes a rules asked (lists_of columns) (length columns) number explored.plain.rows explored.grids.items sets explored.parents.items built caps is_caps.grids within
+    pub grids_reported : length explored.grids.items ≤ grid_limit
+    grids_reported = grids_few options automata classes a rules asked (lists_of columns) (length columns) number explored.plain.rows explored.grids.items sets explored.parents.items built caps is_caps.grids within
 
     -- what holds of each set of numbers
     each_set : (P : List ℕ → Type 0) → ((k : ℕ) → k < length sets → P (slice_index_or sets k [])) → All (λ set. P set.items) explored.sets.items
@@ -149,17 +149,17 @@ module _ (checked : Checked) (a : ℕ) (low : a < length checked.automata.items)
     module _ (capped : IsCapped (shows checked.options) caps) where
       -- with those of the query units there are too many entries
       pub past_asked : (fault : StateFault) → IsAskFault explored parts.queries caps.cells fault → IsPastAt options automata classes a fault
-      past_asked fault told = ⊎_elim
+      past_asked fault reported = ⊎_elim
           (λ (many : (fault ≡ CellLimit) × LacksRoom explored parts.queries caps.cells).
           subst (IsPastAt options automata classes a) (sym many.0)
           (cells_past options automata classes a rules asked (lists_of columns) (length columns) number explored.plain.rows explored.grids.items sets explored.parents.items built maps is caps capped
           (subst (λ n. caps.cells < n) entries_are (many.1.above (length columns) built.shape))))
           (λ (e : fault ≡ NoMemory). subst (IsPastAt options automata classes a) (sym e) tt)
-          told
+          reported
 
       module _ (all : Found) (whole : IsWhole parts (shows checked.options) maps explored all) (room : HasRoom explored parts.queries caps.cells) where
         same_columns : explored.plain.columns ≡ length columns
-        same_columns = columns_same explored.plain (whole.told).kept (length columns) built.shape
+        same_columns = columns_same explored.plain (whole.reported).kept (length columns) built.shape
 
         ask_count : length all.asks.items ≡ length parts.queries
         ask_count = ap length whole.asks ∙ length-map parts.queries (λ unit. slice_index_or parts.units unit [])
@@ -198,10 +198,10 @@ module _ (checked : Checked) (a : ℕ) (low : a < length checked.automata.items)
           table = subst (IsTable all.plain.rows) (sym wide) (asked_table explored.plain.rows all.plain.rows (length columns) (length all.asks.items) (whole.asked).marks built.shape has);
         }
 
-        shown_told : (b : Bool) (o : Option Shown) → MatchBool b (IsSomeAnd o (IsShownOf explored)) (o ≡ None) → MatchBool b (IsSomeAnd (option_map shown_of o) (λ s. (s.parents ≡ explored.parents.items) × AreArranged explored.grids.items sets s.states)) (option_map shown_of o ≡ None)
-        shown_told false o h = ap (option_map shown_of) h
-        shown_told true None h = h
-        shown_told true (Some shown) h = (h.parents, h.states)
+        shown_reported : (b : Bool) (o : Option Shown) → MatchBool b (IsSomeAnd o (IsShownOf explored)) (o ≡ None) → MatchBool b (IsSomeAnd (option_map shown_of o) (λ s. (s.parents ≡ explored.parents.items) × AreArranged explored.grids.items sets s.states)) (option_map shown_of o ≡ None)
+        shown_reported false o h = ap (option_map shown_of) h
+        shown_reported true None h = h
+        shown_reported true (Some shown) h = (h.parents, h.states)
 
         pub whole_compiled : IsCompiledPart true options automata classes a (found_part_of all) (report_of all.report)
         whole_compiled =
@@ -209,8 +209,8 @@ module _ (checked : Checked) (a : ℕ) (low : a < length checked.automata.items)
             (compiled_part options automata classes a rules asked (lists_of columns) part is number names explored.plain.rows (whole.asked).marks has explored.grids.items sets explored.parents.items built (report_of all.report)
             (whole.named ∙ ap (λ (p : AutomatonParts). p.name) (sym parts_are))
             present (no_queries checked a low)
-            (whole.told).grids (whole.told).states ((whole.told).members ∙ sum_by_items explored.sets.items)
-            (shown_told (shows checked.options) all.report.shown (whole.told).shown)
+            (whole.reported).grids (whole.reported).states ((whole.reported).members ∙ sum_by_items explored.sets.items)
+            (shown_reported (shows checked.options) all.report.shown (whole.reported).shown)
             (within_limits options automata classes a rules asked (lists_of columns) maps is caps capped
             (subst (λ n. AreWithin (pipeline_of (if checked.options.ndfa then any_fit else first_fit) rules columns) n caps) (sym number) within)
             (cells_most options automata classes a rules asked (lists_of columns) (length columns) number explored.plain.rows explored.grids.items sets explored.parents.items built caps.cells few_entries)))

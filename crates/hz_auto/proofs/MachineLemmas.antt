@@ -86,9 +86,9 @@ module _ (checked : Checked) where
   abbrev machine_with : List Part → Machine
   machine_with parts = record { classes = map (λ c. c.name) checked.classes.items; parts = map part_of parts }
 
-  -- the fault of an automaton behind others that are compiled is that of the description
-  pub fault_told : (a : ℕ) (parts : List Part) (reports : List AutoReport) → AreCompiled checked a parts reports → a < length checked.automata.items → (fault : StateFault) (told : AutoFault) → IsPastAt options automata classes a fault → IsFaultAt checked.options.ndfa a fault told → IsFaultOf checked told
-  fault_told a parts reports are low fault told past is = by_fault fault past is
+  -- the fault of an automaton after others that are compiled is that of the description
+  pub fault_reported : (a : ℕ) (parts : List Part) (reports : List AutoReport) → AreCompiled checked a parts reports → a < length checked.automata.items → (fault : StateFault) (reported : AutoFault) → IsPastAt options automata classes a fault → IsFaultAt checked.options.ndfa a fault reported → IsFaultOf checked reported
+  fault_reported a parts reports are low fault reported past is = by_fault fault past is
     where
       Past : Count → Type 0
       Past kind = IsPastLimit (shows_states options) (lists_at classes a) (length (queries_at automata a)) (automaton_pipeline options automata classes a) kind
@@ -102,11 +102,11 @@ module _ (checked : Checked) where
       }
 
       -- the kind that is named in each treatment
-      by_treatment : (ndfa : Bool) → ndfa ≡ options.ndfa → (kind : Kind) → Past (count_of kind) → (options.ndfa ≡ false → Past count.grids) → told ≡ Limit a (if ndfa then kind else Grids) → IsFaultOf checked told
+      by_treatment : (ndfa : Bool) → ndfa ≡ options.ndfa → (kind : Kind) → Past (count_of kind) → (options.ndfa ≡ false → Past count.grids) → reported ≡ Limit a (if ndfa then kind else Grids) → IsFaultOf checked reported
       by_treatment true is kind over grids e = subst (IsFaultOf checked) (sym e) (first (count_of kind) over (λ no. absurd (cc (is, no))))
       by_treatment false is kind over grids e = subst (IsFaultOf checked) (sym e) (first count.grids (grids (sym is)) (λ _. inl refl))
 
-      by_fault : (fault : StateFault) → IsPastAt options automata classes a fault → IsFaultAt checked.options.ndfa a fault told → IsFaultOf checked told
+      by_fault : (fault : StateFault) → IsPastAt options automata classes a fault → IsFaultAt checked.options.ndfa a fault reported → IsFaultOf checked reported
       by_fault GridLimit over e = subst (IsFaultOf checked) (sym e) (first count.grids over (λ _. inl refl))
       by_fault SetLimit over e = by_treatment checked.options.ndfa refl States over (states_as_grids (shows_states options) options (lists_at classes a) (length (queries_at automata a)) (automaton_pipeline options automata classes a) refl over) e
       by_fault MemberLimit over e = by_treatment checked.options.ndfa refl Members over (members_as_grids (shows_states options) options (lists_at classes a) (length (queries_at automata a)) (automaton_pipeline options automata classes a) refl over) e
@@ -114,9 +114,9 @@ module _ (checked : Checked) where
       by_fault NoMemory over e = subst (IsFaultOf checked) (sym e) tt
 
   -- one automaton more is compiled
-  pub compiled_more : (a : ℕ) (parts new : List Part) (reports told : List AutoReport) (part : Part) (report : AutoReport) → AreCompiled checked a parts reports → new ≡ parts ++ part ∷ [] → told ≡ reports ++ report ∷ [] → IsCompiledPart options.no_minimization options automata classes a (part_of part) (report_of report) → AreCompiled checked (a + 1) new told
-  compiled_more a parts new reports told part report are is also here =
-      subst (λ ps. AreCompiled checked (a + 1) ps told) (sym is) (subst (AreCompiled checked (a + 1) (parts ++ part ∷ [])) (sym also) whole)
+  pub compiled_more : (a : ℕ) (parts new : List Part) (reports reported : List AutoReport) (part : Part) (report : AutoReport) → AreCompiled checked a parts reports → new ≡ parts ++ part ∷ [] → reported ≡ reports ++ report ∷ [] → IsCompiledPart options.no_minimization options automata classes a (part_of part) (report_of report) → AreCompiled checked (a + 1) new reported
+  compiled_more a parts new reports reported part report are is also here =
+      subst (λ ps. AreCompiled checked (a + 1) ps reported) (sym is) (subst (AreCompiled checked (a + 1) (parts ++ part ∷ [])) (sym also) whole)
     where
       part_before : (b : ℕ) → b < a → part_at (machine_with (parts ++ part ∷ [])) b ≡ part_at (machine_with parts) b
       part_before b less = let each = are.each in ap (λ ps. get_or ps b no_part) (map_push part_of parts part) ∙ get_or_append_left (map part_of parts) (part_of part ∷ []) no_part b (omega (arith, less, each, length-map parts part_of))
@@ -128,18 +128,18 @@ module _ (checked : Checked) where
           ap (λ ps. get_or ps a no_part) (map_push part_of parts part) ∙ (ap (λ n. get_or (map part_of parts ++ part_of part ∷ []) n no_part) last ∙ get_or-append_seam (map part_of parts) (part_of part) [] no_part)
 
       report_before : (b : ℕ) → b < a → report_at (reports_of (reports ++ report ∷ [])) b ≡ report_at (reports_of reports) b
-      report_before b less = let each = are.told in ap (λ rs. report_at rs b) (map_push report_of reports report) ∙ get_or_append_left (map report_of reports) (report_of report ∷ []) _ b (omega (arith, less, each, length-map reports report_of))
+      report_before b less = let each = are.reported in ap (λ rs. report_at rs b) (map_push report_of reports report) ∙ get_or_append_left (map report_of reports) (report_of report ∷ []) _ b (omega (arith, less, each, length-map reports report_of))
 
       report_last : report_at (reports_of (reports ++ report ∷ [])) a ≡ report_of report
       report_last =
-          let each = are.told in
+          let each = are.reported in
           let last : a ≡ length (map report_of reports) = omega (arith, each, length-map reports report_of) in
           ap (λ rs. report_at rs a) (map_push report_of reports report) ∙ (ap (report_at (map report_of reports ++ report_of report ∷ [])) last ∙ get_or-append_seam (map report_of reports) (report_of report) [] _)
 
       whole : AreCompiled checked (a + 1) (parts ++ part ∷ []) (reports ++ report ∷ [])
       whole = record {
         each = length_push parts part ∙ ap (λ n. n + 1) are.each;
-        told = length_push reports report ∙ ap (λ n. n + 1) are.told;
+        reported = length_push reports report ∙ ap (λ n. n + 1) are.reported;
         at = λ b low. ⊎_elim
             (λ (less : b < a). subst (λ p. IsCompiledPart options.no_minimization options automata classes b p (report_at (reports_of (reports ++ report ∷ [])) b)) (sym (part_before b less))
             (subst (IsCompiledPart options.no_minimization options automata classes b (part_at (machine_with parts) b)) (sym (report_before b less)) (are.at b less)))
@@ -151,8 +151,8 @@ module _ (checked : Checked) where
       }
 
   -- what is asked for in all parts
-  pub asks_told : (parts : List Part) (reports : List AutoReport) → AreCompiled checked (length checked.automata.items) parts reports → AskQueries checked parts
-  asks_told parts reports are =
+  pub asks_reported : (parts : List Part) (reports : List AutoReport) → AreCompiled checked (length checked.automata.items) parts reports → AskQueries checked parts
+  asks_reported parts reports are =
       let count = length-map checked.automata.items automaton_of in
       same_asks (map part_of parts) automata (length-map parts part_of ∙ (are.each ∙ sym count)) (λ a low. (are.at a (omega (arith, low, count))).asks)
 
@@ -161,7 +161,7 @@ module _ (checked : Checked) where
   compiled_all parts reports m are is = subst (λ n. IsCompiled options automata classes n (reports_of reports)) (sym is) (record {
     names = map_twice_back;
     each = length-map parts part_of ∙ (are.each ∙ sym (length-map checked.automata.items automaton_of));
-    told = length-map reports report_of ∙ (are.told ∙ sym (length-map checked.automata.items automaton_of));
+    reported = length-map reports report_of ∙ (are.reported ∙ sym (length-map checked.automata.items automaton_of));
     parts = λ a low. are.at a (omega (arith, low, length-map checked.automata.items automaton_of));
   })
     where

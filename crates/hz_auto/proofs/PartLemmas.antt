@@ -137,7 +137,7 @@ module _ (options : Options) (automata : List AutomatonParts) (classes : List Cl
     members_are = subst (CountIs (by_column columns) n count.members) (members_listed grids sets (length table) auto.each)
         (member_count (by_column columns) n none_past table grids sets parents auto)
 
-    -- the counts that are told are small
+    -- the counts that are reported are small
     pub members_few : (caps : Caps) → caps.members ≤ member_limit → AreWithin (by_column columns) n caps → sum_by length sets ≤ member_limit
     members_few caps members within = let few = no_more (by_column columns) n count.members (sum_by length sets) caps.members members_are within.members in omega (arith, few, members)
 

@@ -1,4 +1,4 @@
--- What is told of an automaton: its members, and the grids of its states.
+-- What is reported of an automaton: its members, and the grids of its states.
 use Rattle.std.proofs.Common.{◌≡◌, ◌≢◌, ⊎_elim, ℕ, ◌+◌, ◌<◌, ◌≤◌, List, [], ◌∷◌, ◌++◌, take, length, map, get_or, All, refl, sym, ap, ◌∙◌, subst, arith}
 use Rattle.std.specs.Prelude.{IsPermutation}
 use Rattle.std.specs.List.{AllPairs, sum_by, range_with_len}

@@ -45,5 +45,5 @@ AskQueries checked parts = names_of (map part_of parts) ≡ flat_map ask_names (
 -- a part and a report for each of the first automata
 pub record AreCompiled (checked : Checked) (done : ℕ) (parts : List Part) (reports : List AutoReport) : Type 0 where
   pub each : length parts ≡ done
-  pub told : length reports ≡ done
+  pub reported : length reports ≡ done
   pub at : (a : ℕ) → a < done → IsCompiledPart checked.options.no_minimization (options_of checked.options) (map automaton_of checked.automata.items) (map class_of checked.classes.items) a (part_at (record { classes = map (λ c. c.name) checked.classes.items; parts = map part_of parts }) a) (report_at (reports_of reports) a)

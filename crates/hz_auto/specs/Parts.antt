@@ -56,15 +56,15 @@ abbrev pub IsKept : Bool → Table → Type 0
 IsKept true table = IsPlain table
 IsKept false table = IsLeastWidth table
 
--- an explored automaton with this map, a column for each of its query units, and what is told of it
+-- an explored automaton with this map, a column for each of its query units, and what is reported of it
 pub record IsWhole (parts : AutomatonParts) (shown : Bool) (maps : List ℕ) (explored : Explored) (found : Found) : Type 0 where
   pub named : found.name ≡ parts.name
   pub mapped : found.map.items ≡ maps
   pub asks : found.asks.items ≡ ask_names parts
   pub asked : IsAsked explored parts.queries found.plain
-  pub told : IsReportOf shown explored found.report
+  pub reported : IsReportOf shown explored found.report
 
--- the least part that walks what a part walks, of which the same is told
+-- the least part that walks what a part walks, of which the same is reported
 pub record IsLeast (part : Part) (least : Part) : Type 0 where
   pub named : least.name ≡ part.name
   pub mapped : least.map ≡ part.map

@@ -1,4 +1,4 @@
--- What is told of an automaton.
+-- What is reported of an automaton.
 use Rattle.std.specs.Prelude.{◌≡◌, ℕ, ◌<◌, Bool, List, [], map, length, All, slice_index_or, IsPermutation, IsSorted, None, MatchBool, IsSomeAnd}
 use Rattle.std.specs.Option.{option_map}
 use Rattle.std.specs.List.{sum_by}
@@ -35,7 +35,7 @@ pub record IsShownOf (explored : Explored) (shown : Shown) : Type 0 where
   pub parents : shown.parents.items ≡ explored.parents.items
   pub states : AreArranged explored.grids.items (map (λ set. set.items) explored.sets.items) (map (λ state. state.items) shown.grids.items)
 
--- what is told of an explored automaton
+-- what is reported of an explored automaton
 pub record IsReportOf (all : Bool) (explored : Explored) (report : AutoReport) : Type 0 where
   pub kept : KeepsRows explored.plain
   pub grids : report.grids ≡ length explored.grids.items

@@ -20,7 +20,7 @@ use hz_regexp::{Name, NoMemory};
 use hz_tables::{Machine, Part};
 use std::alloc::Global;
 
-/// The machine of a description, with what is told of each of its automata.
+/// The machine of a description, with what is reported of each of its automata.
 #[derive(Drop)]
 pub struct Compiled {
     pub machine: Machine,

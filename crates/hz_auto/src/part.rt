@@ -30,7 +30,7 @@ use hz_tables::{Part, Plain, Table};
 use hz_unitsets::Rules;
 use std::alloc::Global;
 
-/// The part of an automaton, and what is told of it.
+/// The part of an automaton, and what is reported of it.
 #[derive(Drop)]
 pub(crate) struct Automaton {
     pub part: Part,

@@ -1,4 +1,4 @@
-//! What is told of a compiled automaton.
+//! What is reported of a compiled automaton.
 
 ghost use Rattle.std.specs.Prelude.{◌≡◌, ◌<◌, ◌≤◌, length, map, All, IfOk};
 ghost use Rattle.std.specs.List.{sum_by};
@@ -80,7 +80,7 @@ fn shown_of(alloc: Global, explored: &Explored) -> Result<Shown, NoMemory>
     })
 }
 
-/// What is told of an explored automaton, with its states where they are to be shown.
+/// What is reported of an explored automaton, with its states where they are to be shown.
 pub(crate) fn report_on(
     alloc: Global,
     shown: bool,

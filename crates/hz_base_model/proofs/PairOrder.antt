@@ -83,11 +83,11 @@ module _ {U : Type 0} (unit_cmp : U → U → Ordering) (total : IsTotalOrder un
 
   -- ---- a pair joins pairs
 
-  -- what a pair that joins a list makes of it: it goes first, or behind the first, or is there already
+  -- what a pair that joins a list makes of it: it goes first, or after the first, or is there already
   pub with_pair_cases : (p q : Pair U) (qs : List (Pair U)) (P : List (Pair U) → Type 0) → (Precedes p q → P (p ∷ q ∷ qs)) → (Precedes q p → P (q ∷ with_pair_by unit_cmp p qs)) → (p ≡ q → P (q ∷ qs)) → P (with_pair_by unit_cmp p (q ∷ qs))
-  with_pair_cases p q qs P first behind there =
+  with_pair_cases p q qs P first beyond there =
       cond_both (precedes_by unit_cmp p q) (p ∷ q ∷ qs) (cond (precedes_by unit_cmp q p) (q ∷ with_pair_by unit_cmp p qs) (q ∷ qs)) P first
-      (λ no. cond_both (precedes_by unit_cmp q p) (q ∷ with_pair_by unit_cmp p qs) (q ∷ qs) P behind (λ none. there (same_from_neither p q no none)))
+      (λ no. cond_both (precedes_by unit_cmp q p) (q ∷ with_pair_by unit_cmp p qs) (q ∷ qs) P beyond (λ none. there (same_from_neither p q no none)))
 
   pub Contains-with_pair : (p : Pair U) (qs : List (Pair U)) → Contains (with_pair_by unit_cmp p qs) p
   Contains-with_pair p [] = Contains-head p []

@@ -2,5 +2,5 @@ pub mod Names
 pub mod Lines
 pub mod Pairs
 pub mod Limits
-pub mod Told
+pub mod Reported
 pub mod Forms

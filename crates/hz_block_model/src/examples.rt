@@ -53,7 +53,7 @@ pub fn dependences_by_guarded_bypasses()
     ensures first_clobbers { edges_by (guarded ∷ []) (1 ∷ 0 ∷ []) (product_clobbering ∷ stored ∷ []) ≡ from_to 0 1 1 ∷ [] }
     ensures first_stores { number_between (guarded ∷ []) 4 1 0 product_in_cell load_stored ≡ 1 }
     ensures plain { edges_by (guarded ∷ plain ∷ []) (1 ∷ 0 ∷ []) (product ∷ addressed ∷ []) ≡ from_to 0 1 3 ∷ [] }
-    ensures behind { edges_by (plain ∷ guarded ∷ []) (1 ∷ 0 ∷ []) (product ∷ stored ∷ []) ≡ from_to 0 1 1 ∷ [] }
+    ensures beyond { edges_by (plain ∷ guarded ∷ []) (1 ∷ 0 ∷ []) (product ∷ stored ∷ []) ≡ from_to 0 1 1 ∷ [] }
     ensures first { edges_by (guarded ∷ later_guarded ∷ []) (1 ∷ 0 ∷ []) (product ∷ stored ∷ []) ≡ from_to 0 1 1 ∷ [] }
     ensures later { edges_by (later_guarded ∷ guarded ∷ []) (1 ∷ 0 ∷ []) (product ∷ stored ∷ []) ≡ from_to 0 1 5 ∷ [] }
 {}

@@ -29,7 +29,7 @@ pub fn one_class_fault()
 {}
 
 /// The first instruction that can't be issued from the start is one; where there is one, not all of them can. (The block may still
-/// have a schedule, behind instructions whose units a presence set wants.)
+/// have a schedule, after instructions whose units a presence set wants.)
 pub fn one_stuck_instruction()
     ensures one { (d : Description) (known : Known) (block : List Instruction) (i j : Instruction) → IsFirstStuck d known block i → IsFirstStuck d known block j → i ≡ j }
     ensures none { (d : Description) (known : Known) (block : List Instruction) (i : Instruction) → IsFirstStuck d known block i → All (StartsAlone d known) block → ⊥ }

@@ -15,7 +15,7 @@ ghost use Rattle.hz_pipeline_model.specs.Compiling.Compiled.{Report, IsCompiled}
 ghost use Rattle.hz_block_model.specs.Scheduling.Schedules.{Graph, Slot, class_at, Legal, Greedy};
 ghost use Rattle.hz_block_model.specs.Scheduling.Machines.{Settles, cannot_start_alone};
 
-/// The machine that is compiled of automata and classes without a fault settles: behind any events that it walks, `cycle_limit`
+/// The machine that is compiled of automata and classes without a fault settles: after any events that it walks, `cycle_limit`
 /// cycles more lead each part to its start.
 pub fn compiled_machines_settle()
     ensures { (options : Options) (automata : List AutomatonParts) (classes : List ClassParts) (bypasses : List BypassParts) (attributes : List (List ℕ × List (List ℕ))) (m : Machine) (reports : List Report) → IsKept automata classes bypasses attributes → AskNothingUnderNdfa options.ndfa automata → IsMachine m → IsCompiled options automata classes m reports → Settles m }

@@ -11,7 +11,7 @@ ghost use Rattle.hz_block_model.specs.Texts.StateForms as states;
 ghost use Rattle.hz_block_model.specs.Texts.StateTexts.{Listing, IsListing, IsText};
 ghost use Rattle.hz_block_model.specs.Running.Limits.{instruction_limit};
 
-/// A block has a fault exactly where a form is wrong behind a front that is a block.
+/// A block has a fault exactly where a form is wrong after a front that is a block.
 pub fn blocks_fail_at_their_first_wrong_form()
     ensures { (forms : Trees) (fault : RtlFault) (line : ℕ) → blocks.FaultAt forms fault line ↔ blocks.FirstWrong forms fault line }
 {}
@@ -22,7 +22,7 @@ pub fn numbers_of_a_block_differ()
     ensures count { (forms : Trees) (block : List Instruction) → blocks.Reads forms block → length block ≤ instruction_limit }
 {}
 
-/// A state has a fault exactly where a form is wrong behind a front that gives words.
+/// A state has a fault exactly where a form is wrong after a front that gives words.
 pub fn states_fail_at_their_first_wrong_form()
     ensures { (forms : Trees) (fault : RtlFault) (line : ℕ) → states.FaultAt forms fault line ↔ states.FirstWrong forms fault line }
 {}

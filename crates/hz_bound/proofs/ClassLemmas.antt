@@ -104,9 +104,9 @@ unit_load classes insns automaton times count unit totals t few inside are all l
     at = read ∙ get_or_default totals unit t no_total (let long = all.long in omega (arith, lt, long))
 
 -- the load as the code holds it
-pub unit_told : (classes view : List CheckedClass) (insns : List GraphInsn) (automaton : ℕ) (times : List ℕ) (count unit : ℕ) (totals : List Total) (t : Total) (load : Option UnitLoad) → view ≡ classes → length insns ≤ instruction_limit → All (λ i. i.class < length classes) insns → AreTimes (map (λ i. i.class) insns) (length classes) times
+pub unit_reported : (classes view : List CheckedClass) (insns : List GraphInsn) (automaton : ℕ) (times : List ℕ) (count unit : ℕ) (totals : List Total) (t : Total) (load : Option UnitLoad) → view ≡ classes → length insns ≤ instruction_limit → All (λ i. i.class < length classes) insns → AreTimes (map (λ i. i.class) insns) (length classes) times
     → AreTotals (lists_in view) automaton times (length view) count totals → unit < count → t ≡ get_or totals unit t → load ≡ option_map (λ l. record { unit = record { automaton = automaton; unit = unit }; load = l }) (option_map shown (load_by t))
     → load ≡ option_map (λ l. record { unit = record { automaton = automaton; unit = unit }; load = l }) (load_of (ways_by (lists_in classes) (record { automaton = automaton; unit = unit })) (map (λ i. i.class) insns))
-unit_told classes view insns automaton times count unit totals t load seen few inside are all lt read made =
+unit_reported classes view insns automaton times count unit totals t load seen few inside are all lt read made =
     made ∙ ap (option_map (λ (l : Load). record { unit = record { automaton = automaton; unit = unit }; load = l }))
     (unit_load classes insns automaton times count unit totals t few inside are (subst (λ (cs : List CheckedClass). AreTotals (lists_in cs) automaton times (length cs) count totals) seen all) lt read)

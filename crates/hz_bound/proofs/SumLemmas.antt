@@ -1,4 +1,4 @@
--- What is told class by class is the load.
+-- What is reported class by class is the load.
 use Rattle.std.proofs.Common.{◌≡◌, ℕ, zero, suc, zero-add, ◌+◌, ◌-◌, ◌*◌, ◌<◌, ◌≤◌, ◌==◌, ◌&&◌, ⊎_elim, Bool, true, false, cond, List, [], ◌∷◌, ◌++◌, map, length, Contains, Option, Some, None, refl, sym, ap, ◌∙◌, subst, arith}
 use Rattle.std.specs.Prelude.{min, nat_lt, sum_by}
 use Rattle.std.specs.List.{flat_map}
@@ -122,21 +122,21 @@ module _ (ways : ℕ → List (List ℕ)) (times : List ℕ) where
     few = λ k lt some. ⊎_elim (λ (less : k < n). is.few k less some) (λ (le : n ≤ k). let same : n ≡ k = omega (arith, lt, le) in subst (λ (j : ℕ). force ways j ≤ 512) same (low (subst (λ (j : ℕ). 0 < times_at times j) (sym same) some))) (cases_lt k n);
   }
     where
-      told : Total
-      told = record { count = min (t.count + min (times_at times n * force ways n) 4294967295) 4294967295; range = joined t.range (range_of (all_cycles (ways n))) }
+      reported : Total
+      reported = record { count = min (t.count + min (times_at times n * force ways n) 4294967295) 4294967295; range = joined t.range (range_of (all_cycles (ways n))) }
 
-      not_told : (x : ℕ) → x ≡ 0 → t.count ≡ min (sum_of ways times n + x) 4294967295
-      not_told x e = let is = is.count in omega (arith, is, e)
+      not_reported : (x : ℕ) → x ≡ 0 → t.count ≡ min (sum_of ways times n + x) 4294967295
+      not_reported x e = let is = is.count in omega (arith, is, e)
 
-      counts : (a : Bool) → nat_lt 0 (times_at times n) ≡ a → (b : Bool) → nat_lt 0 (force ways n) ≡ b → (cond (a && b) told t).count ≡ min (sum_of ways times n + times_at times n * force ways n) 4294967295
+      counts : (a : Bool) → nat_lt 0 (times_at times n) ≡ a → (b : Bool) → nat_lt 0 (force ways n) ≡ b → (cond (a && b) reported t).count ≡ min (sum_of ways times n + times_at times n * force ways n) 4294967295
       counts true e true f = sat (sum_of ways times n) (times_at times n * force ways n) t.count is.count
-      counts true e false f = not_told (times_at times n * force ways n) (let none : force ways n ≡ 0 = (let le = ltb-false 0 (force ways n) f in omega (arith, le)) in ap (λ (k : ℕ). times_at times n * k) none ∙ mul-zero (times_at times n))
-      counts false e b f = not_told (times_at times n * force ways n) (let none : times_at times n ≡ 0 = (let le = ltb-false 0 (times_at times n) e in omega (arith, le)) in ap (λ (k : ℕ). k * force ways n) none ∙ (mul_comm 0 (force ways n) ∙ mul-zero (force ways n)))
+      counts true e false f = not_reported (times_at times n * force ways n) (let none : force ways n ≡ 0 = (let le = ltb-false 0 (force ways n) f in omega (arith, le)) in ap (λ (k : ℕ). times_at times n * k) none ∙ mul-zero (times_at times n))
+      counts false e b f = not_reported (times_at times n * force ways n) (let none : times_at times n ≡ 0 = (let le = ltb-false 0 (times_at times n) e in omega (arith, le)) in ap (λ (k : ℕ). k * force ways n) none ∙ (mul_comm 0 (force ways n) ∙ mul-zero (force ways n)))
 
-      ranges : (a b : Bool) → nat_lt 0 (force ways n) ≡ b → (cond (a && b) told t).range ≡ joined (range_of (cycles_of_users ways (present times n))) (range_of (cycles_of_users ways (cond a (n ∷ []) [])))
+      ranges : (a b : Bool) → nat_lt 0 (force ways n) ≡ b → (cond (a && b) reported t).range ≡ joined (range_of (cycles_of_users ways (present times n))) (range_of (cycles_of_users ways (cond a (n ∷ []) [])))
       ranges true b f = here b (alone n ∙ ap (λ (b : Bool). cond b (all_cycles (ways n) ++ []) []) f)
         where
-          here : (b : Bool) → cycles_of_users ways (n ∷ []) ≡ cond b (all_cycles (ways n) ++ []) [] → (cond b told t).range ≡ joined (range_of (cycles_of_users ways (present times n))) (range_of (cycles_of_users ways (n ∷ [])))
+          here : (b : Bool) → cycles_of_users ways (n ∷ []) ≡ cond b (all_cycles (ways n) ++ []) [] → (cond b reported t).range ≡ joined (range_of (cycles_of_users ways (present times n))) (range_of (cycles_of_users ways (n ∷ [])))
           here true e = ap (λ (o : Option Range). joined o (range_of (all_cycles (ways n)))) is.range ∙ ap (joined (range_of (cycles_of_users ways (present times n)))) (sym (ap range_of e ∙ (range_append (all_cycles (ways n)) [] ∙ join_none (range_of (all_cycles (ways n))))))
           here false e = is.range ∙ (sym (join_none (range_of (cycles_of_users ways (present times n)))) ∙ ap (λ (cs : List ℕ). joined (range_of (cycles_of_users ways (present times n))) (range_of cs)) (sym e))
       ranges false b f = is.range ∙ sym (join_none (range_of (cycles_of_users ways (present times n))))

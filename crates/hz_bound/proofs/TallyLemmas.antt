@@ -1,4 +1,4 @@
--- What units are told of the pairs of grids is what the grids take of them.
+-- What units are reported of the pairs of grids is what the grids take of them.
 use Rattle.std.proofs.Common.{◌≡◌, ℕ, ◌+◌, ◌-◌, ◌<◌, ◌≤◌, ◌==◌, ⊎_elim, Bool, true, false, cond, List, [], ◌∷◌, ◌++◌, map, filter, take, set, length, get_or, Option, Some, refl, sym, ap, ◌∙◌, subst, arith}
 use Rattle.std.specs.Prelude.{min, IsTrue}
 use Rattle.std.specs.List.{range_with_len}
@@ -35,7 +35,7 @@ least_is (n ∷ ns) lt few = let same = top_least n ns in omega (arith, same, fe
 
 -- ---- one unit
 
--- Within the next alternative, of which it is told so many cycles with this range.
+-- Within the next alternative, of which it is reported so many cycles with this range.
 record Partly (ws : List (List ℕ)) (k : ℕ) (r : Option Range) (t : Tally) : Type 0 where
   pub last : t.last ≡ length ws + 1
   pub before : t.before ≡ top (map length ws)
@@ -156,7 +156,7 @@ forced_is ws t says few = go (length ws == 0) refl (t.last == length ws) refl
 
 module _ (grid : List (Pair ℕ)) (number cycle : ℕ) where
   pub step_none : (first : ℕ) (old : List Tally) → IsStepped grid number cycle first first old old
-  step_none first old = record { long = refl; inside = λ u le lt there. absurd (omega (arith, le, lt)); before = λ u lt. refl; behind = λ u le. refl }
+  step_none first old = record { long = refl; inside = λ u le lt there. absurd (omega (arith, le, lt)); before = λ u lt. refl; beyond = λ u le. refl }
 
   pub step_one : (first unit : ℕ) (old now new : List Tally) (t x : Tally) → IsStepped grid number cycle first unit old now → first ≤ unit → unit < length now → t ≡ get_or now unit t → x ≡ cond (has grid unit cycle) (with_cycle number cycle t) t → new ≡ set now unit x
       → IsStepped grid number cycle first (unit + 1) old new
@@ -164,28 +164,28 @@ module _ (grid : List (Pair ℕ)) (number cycle : ℕ) where
     long = length-set now unit x ∙ is.long;
     inside = λ u le less there. ⊎_elim
         (λ (before : u < unit). other u (λ (same : u ≡ unit). omega (arith, before, same)) ∙ is.inside u le before there)
-        (λ (behind : unit ≤ u). let same : unit ≡ u = omega (arith, behind, less) in subst (λ (v : ℕ). tally_at (set now unit x) v ≡ cond (has grid v cycle) (with_cycle number cycle (tally_at old v)) (tally_at old v)) same at)
+        (λ (beyond : unit ≤ u). let same : unit ≡ u = omega (arith, beyond, less) in subst (λ (v : ℕ). tally_at (set now unit x) v ≡ cond (has grid v cycle) (with_cycle number cycle (tally_at old v)) (tally_at old v)) same at)
         (cases_lt u unit);
     before = λ u less. other u (λ (same : u ≡ unit). omega (arith, less, low, same)) ∙ is.before u less;
-    behind = λ u le. other u (λ (same : u ≡ unit). omega (arith, le, same)) ∙ is.behind u (omega (arith, le));
+    beyond = λ u le. other u (λ (same : u ≡ unit). omega (arith, le, same)) ∙ is.beyond u (omega (arith, le));
   })
     where
       other : (u : ℕ) → (u ≡ unit → ⊥) → tally_at (set now unit x) u ≡ tally_at now u
       other u different = get_or-set_other now unit u x no_tally different
 
       old_is : t ≡ tally_at old unit
-      old_is = read ∙ (get_or_default now unit t no_tally lt ∙ is.behind unit (omega arith))
+      old_is = read ∙ (get_or_default now unit t no_tally lt ∙ is.beyond unit (omega arith))
 
       at : tally_at (set now unit x) unit ≡ cond (has grid unit cycle) (with_cycle number cycle (tally_at old unit)) (tally_at old unit)
       at = get_or-set_same now unit x no_tally lt ∙ (made ∙ ap (λ (s : Tally). cond (has grid unit cycle) (with_cycle number cycle s) s) old_is)
 
-  -- behind the last unit, nothing is left
+  -- after the last unit, nothing is left
   pub step_end : (first unit end : ℕ) (old new : List Tally) → IsStepped grid number cycle first unit old new → length old ≤ unit → unit ≤ end → IsStepped grid number cycle first end old new
   step_end first unit end old new is past le = record {
     long = is.long;
     inside = λ u low less there. is.inside u low (omega (arith, there, past)) there;
     before = is.before;
-    behind = λ u low. is.behind u (omega (arith, low, le));
+    beyond = λ u low. is.beyond u (omega (arith, low, le));
   }
 
   pub step_join : (first mid end : ℕ) (old now new : List Tally) → first ≤ mid → mid ≤ end → IsStepped grid number cycle first mid old now → IsStepped grid number cycle mid end now new → IsStepped grid number cycle first end old new
@@ -193,10 +193,10 @@ module _ (grid : List (Pair ℕ)) (number cycle : ℕ) where
     long = then.long ∙ is.long;
     inside = λ u low less there. ⊎_elim
         (λ (early : u < mid). then.before u early ∙ is.inside u low early there)
-        (λ (late : mid ≤ u). then.inside u late less (let long = is.long in omega (arith, there, long)) ∙ ap (λ (t : Tally). cond (has grid u cycle) (with_cycle number cycle t) t) (is.behind u late))
+        (λ (late : mid ≤ u). then.inside u late less (let long = is.long in omega (arith, there, long)) ∙ ap (λ (t : Tally). cond (has grid u cycle) (with_cycle number cycle t) t) (is.beyond u late))
         (cases_lt u mid);
     before = λ u less. then.before u (omega (arith, less, le)) ∙ is.before u less;
-    behind = λ u low. then.behind u low ∙ is.behind u (omega (arith, low, more));
+    beyond = λ u low. then.beyond u low ∙ is.beyond u (omega (arith, low, more));
   }
 
   -- no unit there is in the grid
@@ -205,7 +205,7 @@ module _ (grid : List (Pair ℕ)) (number cycle : ℕ) where
     long = refl;
     inside = λ u le lt there. go u (has grid u cycle) (λ h. none u le lt (has_there grid u cycle h));
     before = λ u lt. refl;
-    behind = λ u le. refl;
+    beyond = λ u le. refl;
   }
     where
       go : (u : ℕ) (b : Bool) → (b ≡ true → ⊥) → tally_at old u ≡ cond b (with_cycle number cycle (tally_at old u)) (tally_at old u)
@@ -224,7 +224,7 @@ module _ (grid : List (Pair ℕ)) (number cycle : ℕ) where
 
 -- ---- the cycles of a grid
 
--- With the cycles from one on, up to an end, units are told all.
+-- With the cycles from one on, up to an end, units are reported all.
 pub record IsPassing (grid : List (Pair ℕ)) (number cycle end : ℕ) (old now : List Tally) : Type 0 where
   pub long : length now ≡ length old
   pub each : (u : ℕ) → u < length old → with_cycles number (filter (has grid u) (range_with_len cycle (end - cycle))) (tally_at now u) ≡ with_cycles number (cycles_at u grid) (tally_at old u)

@@ -36,7 +36,7 @@ abbrev pub IsChainOf : (ℕ → List Edge) → List ℕ → List ℕ → Type 0
 IsChainOf rows tails [] = length tails ≡ 0
 IsChainOf rows tails (j ∷ chain) = IsLeast (λ i. (i < length tails) × (slice_index tails i ≡ greatest tails)) j × Follows rows tails j chain
 
--- Tails from a place on; each costs at most so much for each place behind it.
+-- Tails from a place on; each costs at most so much for each place after it.
 pub record TailsFrom (rows : ℕ → List Edge) (n place : ℕ) (tails : List ℕ) : Type 0 where
   pub long : length tails ≡ n
   pub each : (i : ℕ) → place ≤ i → i < n → slice_index tails i ≡ greatest (map (sum_of tails) (rows i))

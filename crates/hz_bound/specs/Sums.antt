@@ -34,11 +34,11 @@ no_total = record { count = 0; range = None }
 abbrev pub total_at : List Total → ℕ → Total
 total_at totals u = slice_index_or totals u no_total
 
--- the total with so many instructions of a class, of this least count and range, which are told if they can't do without the unit
+-- the total with so many instructions of a class, of this least count and range, which are reported if they can't do without the unit
 abbrev pub with_times : ℕ → ℕ → Option Range → Total → Total
 with_times times least range t = cond (nat_lt 0 times && nat_lt 0 least) (record { count = min (t.count + min (times * least) 4294967295) 4294967295; range = joined t.range range }) t
 
--- Each unit is told what so many instructions of a class with these grids take.
+-- Each unit is reported what so many instructions of a class with these grids take.
 pub record AreJoined (list : List (List (Pair ℕ))) (times : ℕ) (old new : List Total) : Type 0 where
   pub long : length new ≡ length old
   pub each : (u : ℕ) → u < length old → total_at new u ≡ with_times times (least (map length (ways_in u list))) (range_of (all_cycles (ways_in u list))) (total_at old u)

@@ -45,14 +45,14 @@ pub record Says (ws : List (List ℕ)) (t : Tally) : Type 0 where
   pub gap : t.last < length ws → top (map length ws) ≡ 0
   pub range : t.range ≡ range_of (all_cycles ws)
 
--- Of the units from one number up to another those that the grid has in a cycle are told it. Others stay.
+-- Of the units from one number up to another those that the grid has in a cycle are reported it. Others stay.
 pub record IsStepped (grid : List (Pair ℕ)) (number cycle first end : ℕ) (old new : List Tally) : Type 0 where
   pub long : length new ≡ length old
   pub inside : (u : ℕ) → first ≤ u → u < end → u < length old → tally_at new u ≡ cond (has grid u cycle) (with_cycle number cycle (tally_at old u)) (tally_at old u)
   pub before : (u : ℕ) → u < first → tally_at new u ≡ tally_at old u
-  pub behind : (u : ℕ) → end ≤ u → tally_at new u ≡ tally_at old u
+  pub beyond : (u : ℕ) → end ≤ u → tally_at new u ≡ tally_at old u
 
--- Each unit is told the cycles in which the grid has it, which are few.
+-- Each unit is reported the cycles in which the grid has it, which are few.
 pub record IsAdded (grid : List (Pair ℕ)) (number : ℕ) (old new : List Tally) : Type 0 where
   pub long : length new ≡ length old
   pub each : (u : ℕ) → u < length old → tally_at new u ≡ with_cycles number (cycles_at u grid) (tally_at old u)

@@ -1,4 +1,4 @@
-//! Tails: for how many cycles the dependences behind each instruction ask.
+//! Tails: for how many cycles the dependences after each instruction ask.
 
 ghost use Rattle.std.specs.Prelude.{◌≡◌, ◌≤◌, ◌<◌, ◌*◌, length, map, All, IfOk};
 ghost use Rattle.hz_description_model.specs.Reading.Limits.{latency_limit};

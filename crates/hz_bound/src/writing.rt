@@ -17,7 +17,7 @@ use hz_regexp::Name;
 use hz_sched::{Schedule, number_at};
 use itoa::Buffer;
 
-/// Writes a number behind a blank.
+/// Writes a number after a blank.
 fn put_number<S: Sink>(out: &mut S, number: u32) -> Result<(), Failed>
     requires { S.faults out.old < 2 ^ 64 - 1 }
     ensures { Writes S.written S.room S.faults out.old out.new (model.number_field number) result }
@@ -26,7 +26,7 @@ fn put_number<S: Sink>(out: &mut S, number: u32) -> Result<(), Failed>
     put_all(out, &[b" ", digits.format(number).as_bytes()])
 }
 
-/// Writes the numbers of the instructions at places, each behind a blank.
+/// Writes the numbers of the instructions at places, each after a blank.
 fn put_numbers<S: Sink>(out: &mut S, graph: &Graph, places: &[u32]) -> Result<(), Failed>
     requires sink { S.faults out.old < 2 ^ 64 - 1 }
     requires places { All (λ place. place < length graph.now.insns.items) places.now }

@@ -1,8 +1,8 @@
--- The faults that are told.
+-- The faults that are reported.
 pub mod Repeated
 pub mod PlaceSteps
 pub mod NumberSteps
 pub mod RowSteps
 pub mod BypassSteps
-pub mod ToldSteps
+pub mod ReportedSteps
 pub mod CheckSteps

@@ -7,9 +7,9 @@ use Rattle.hz_check.specs.declared.fault.LimitName.{LimitName}
 use Rattle.hz_check.specs.declared.fault.LimitName.TheVariants.{Automata, Units, Classes, Alternatives, Cycles, Size}
 use Rattle.hz_check.specs.declared.fault.CheckFault.{CheckFault}
 use Rattle.hz_check.specs.declared.fault.CheckFault.TheVariants.{TwiceDefined, ReservedName, UnknownName, UnknownAutomaton, UnitNeedsAutomaton, CircularReservation, SelfExclusion, SetAcrossAutomata, Limit, AlternationOfTwoAutomata, AlternationOfTwoLengths, BypassTwice, QueryUnderNdfa, NoMemory}
-use Rattle.hz_check.specs.declared.faults.told.Wrong.{Wrong}
-use Rattle.hz_check.specs.declared.faults.told.Wrong.TheVariants as wrong
-use Rattle.hz_check.specs.declared.faults.told.Told.{Told}
+use Rattle.hz_check.specs.declared.faults.reported.Wrong.{Wrong}
+use Rattle.hz_check.specs.declared.faults.reported.Wrong.TheVariants as wrong
+use Rattle.hz_check.specs.declared.faults.reported.Reported.{Reported}
 use Rattle.hz_check_reservations.specs.declared.listing.unexpanded.Unexpanded.{Unexpanded}
 use Rattle.hz_check_reservations.specs.declared.listing.unexpanded.Unexpanded.TheVariants as unexpanded
 use Rattle.hz_check_reservations.specs.declared.ordering.fault.OrderFault.{OrderFault}
@@ -17,7 +17,7 @@ use Rattle.hz_check_reservations.specs.declared.ordering.fault.OrderFault.TheVar
 use Rattle.hz_check_reservations.specs.declared.ordering.site.Site.{Site}
 use Rattle.hz_check_reservations.specs.Places.{site_of}
 use Rattle.hz_description_model.specs.Check.CheckFaults as model
-use Rattle.hz_description_model.specs.Check.FirstTold as first
+use Rattle.hz_description_model.specs.Check.FirstReported as first
 use Rattle.hz_description_model.specs.Reading.Descriptions.{Description}
 
 -- the name of a limit
@@ -48,11 +48,11 @@ fault_of NoMemory = None
 
 -- what is said of a fault with its line and its name holds of this one; want of memory says nothing
 abbrev pub Tells : (model.CheckFault → ℕ → List ℕ → Type 0) → CheckFault → Type 0
-Tells P fault = MatchOption (fault_of fault) ⊤ (λ told. P told.0.0 told.0.1 told.1)
+Tells P fault = MatchOption (fault_of fault) ⊤ (λ reported. P reported.0.0 reported.0.1 reported.1)
 
--- the fault is told of the description, in a form of this line and at this name
-abbrev pub IsToldAt : Description → model.CheckFault → ℕ → List ℕ → Type 0
-IsToldAt d fault line name = (form : ℕ) × model.CheckFaultAt d fault (record { line = line; form = form; name = name })
+-- the fault is reported of the description, in a form of this line and at this name
+abbrev pub IsReportedAt : Description → model.CheckFault → ℕ → List ℕ → Type 0
+IsReportedAt d fault line name = (form : ℕ) × model.CheckFaultAt d fault (record { line = line; form = form; name = name })
 
 -- what is wrong
 abbrev pub wrong_of : Wrong → model.CheckFault
@@ -93,22 +93,22 @@ fault_if_copied what line (Err e) = NoMemory
 
 -- what is expanded, or the site where the sizes pass their limit; want of memory stays
 abbrev pub IsListsOrSite : {A E : Type 0} → Result A Unexpanded → Result (Result A Site) E → Type 0
-IsListsOrSite (Ok lists) told = told ≡ Ok (Ok lists)
-IsListsOrSite (Err (unexpanded.Size site)) told = told ≡ Ok (Err site)
-IsListsOrSite (Err unexpanded.NoMemory) told = IsErr told
+IsListsOrSite (Ok lists) reported = reported ≡ Ok (Ok lists)
+IsListsOrSite (Err (unexpanded.Size site)) reported = reported ≡ Ok (Err site)
+IsListsOrSite (Err unexpanded.NoMemory) reported = IsErr reported
 
 -- the order, or the place of the reservation that reaches itself; want of memory stays
 abbrev pub IsOrderOrCircle : {A E : Type 0} → Result A OrderFault → Result (Result A ℕ) E → Type 0
-IsOrderOrCircle (Ok counted) told = told ≡ Ok (Ok counted)
-IsOrderOrCircle (Err (order.Circular place)) told = told ≡ Ok (Err place)
-IsOrderOrCircle (Err order.NoMemory) told = IsErr told
+IsOrderOrCircle (Ok counted) reported = reported ≡ Ok (Ok counted)
+IsOrderOrCircle (Err (order.Circular place)) reported = reported ≡ Ok (Err place)
+IsOrderOrCircle (Err order.NoMemory) reported = IsErr reported
 
 -- what is wrong, and where
-abbrev pub told_of : Told → first.Told model.CheckFault
-told_of t = record { fault = wrong_of t.wrong; site = site_of t.site }
+abbrev pub reported_of : Reported → first.Reported model.CheckFault
+reported_of t = record { fault = wrong_of t.wrong; site = site_of t.site }
 
 -- the fault with its line and its name is this one
-pub record IsToldHere (told : first.Told model.CheckFault) (fault : model.CheckFault) (line : ℕ) (name : List ℕ) : Type 0 where
-  pub same_fault : fault ≡ told.fault
-  pub same_line : line ≡ told.site.line
-  pub same_name : name ≡ told.site.name
+pub record IsReportedHere (reported : first.Reported model.CheckFault) (fault : model.CheckFault) (line : ℕ) (name : List ℕ) : Type 0 where
+  pub same_fault : fault ≡ reported.fault
+  pub same_line : line ≡ reported.site.line
+  pub same_name : name ≡ reported.site.name

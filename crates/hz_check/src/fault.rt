@@ -4,7 +4,7 @@ ghost use Rattle.std.specs.Prelude.{◌≡◌};
 ghost use Rattle.std.specs.Option.{option_and_then, option_map};
 ghost use Rattle.hz_check.specs.Faults.{fault_of, limit_of};
 ghost use Rattle.hz_description_model.specs.Check.CheckFaults.{check_word, limit_passed, limit_word};
-ghost use Rattle.hz_base_model.specs.Told.{told_by, told_in};
+ghost use Rattle.hz_base_model.specs.Reported.{reported_by, reported_in};
 ghost use Rattle.hz_check.specs.declared.fault.CheckFault.TheVariants.{NoMemory as no_memory};
 
 use hz_regexp::Name;
@@ -30,7 +30,7 @@ pub enum LimitName {
 }
 
 impl LimitName {
-    /// The word by which the limit is told. docs/FORMATS.md, 'Answers'.
+    /// The word by which the limit is reported. docs/FORMATS.md, 'Answers'.
     pub fn word(&self) -> &'static str
         ensures { result.now ≡ limit_word (limit_of self.now) }
     {
@@ -46,8 +46,8 @@ impl LimitName {
 }
 
 /// What is wrong with a description: the line of the form, counted from 1, and the name that is wrong there. Of several
-/// faults the first of this list is told, and of one fault the first form and in it the leftmost name. Of limits the first
-/// of `LimitName` is told before an earlier form, and for `Size` the first in the counting order.
+/// faults the first of this list is reported, and of one fault the first form and in it the leftmost name. Of limits the first
+/// of `LimitName` is reported before an earlier form, and for `Size` the first in the counting order.
 #[derive(Drop, Error)]
 pub enum CheckFault {
     /// The name is defined the second time in its name space, or the value in its attribute.
@@ -121,9 +121,9 @@ pub enum CheckFault {
 }
 
 impl CheckFault {
-    /// The word by which the fault is told, and its line; None for want of memory. docs/FORMATS.md, 'Answers'.
-    pub fn told(&self) -> Option<(&'static str, u32)>
-        ensures { told_in result ≡ told_by check_word (option_map (λ told. told.0) (fault_of self.now)) }
+    /// The word by which the fault is reported, and its line; None for want of memory. docs/FORMATS.md, 'Answers'.
+    pub fn reported(&self) -> Option<(&'static str, u32)>
+        ensures { reported_in result ≡ reported_by check_word (option_map (λ reported. reported.0) (fault_of self.now)) }
     {
         match self {
             CheckFault::TwiceDefined { line, .. } => Some(("TwiceDefined", *line)),
@@ -151,7 +151,7 @@ impl CheckFault {
 
     /// The limit that is passed; None of any other fault.
     pub fn limit(&self) -> Option<LimitName>
-        ensures { option_map limit_of result ≡ option_and_then (λ told. limit_passed told.0.0) (fault_of self.now) }
+        ensures { option_map limit_of result ≡ option_and_then (λ reported. limit_passed reported.0.0) (fault_of self.now) }
     {
         match self {
             CheckFault::Limit { what, .. } => Some(*what),
@@ -161,7 +161,7 @@ impl CheckFault {
 
     /// The name that is wrong; None for want of memory.
     pub fn into_name(self) -> Option<Name>
-        ensures { result ≡ option_map (λ told. told.1) (fault_of self) }
+        ensures { result ≡ option_map (λ reported. reported.1) (fault_of self) }
     {
         match self {
             CheckFault::TwiceDefined { name, .. } => Some(name),
@@ -205,7 +205,7 @@ impl CheckFault {
 impl Display for CheckFault {
     fn fmt<W: Write>(&self, f: &mut Formatter<W>) -> fmt::Result {
         let words = self.words();
-        match self.told() {
+        match self.reported() {
             Some((_, line)) => write!(f, "line {line}: {words}"),
             None => write!(f, "{words}"),
         }
@@ -215,7 +215,7 @@ impl Display for CheckFault {
 // Derived, it takes 18 seconds to prove.
 impl Debug for CheckFault {
     fn fmt<W: Write>(&self, f: &mut Formatter<W>) -> fmt::Result {
-        match self.told() {
+        match self.reported() {
             Some((word, line)) => write!(f, "{word} {{ line: {line}, .. }}"),
             None => write!(f, "NoMemory"),
         }

@@ -5,13 +5,13 @@ ghost use Rattle.std.specs.List.{AllPairs};
 ghost use Rattle.hz_mdread.specs.Shape.{description};
 ghost use Rattle.hz_check.specs.Faults.PastUnits.{ArePlaces};
 ghost use Rattle.hz_check.specs.Faults.Steps.{IsOrdered, AreWithin, AreLists};
-ghost use Rattle.hz_check.specs.Faults.{Tells, IsToldAt};
+ghost use Rattle.hz_check.specs.Faults.{Tells, IsReportedAt};
 ghost use Rattle.hz_check.specs.Parts.{IsPartsOf};
 ghost use Rattle.hz_check.specs.Parts.Assembly.{placed_statement, IsPlaced};
 ghost use Rattle.hz_checked.specs.Shape.{automaton_of, bypass_of};
 ghost use Rattle.hz_description_model.specs.Check.CheckFaults.{faults_of_names};
 ghost use Rattle.hz_description_model.specs.Check.CheckedParts.{automata_of, bypass_parts};
-ghost use Rattle.hz_description_model.specs.Check.FirstTold.{first_told};
+ghost use Rattle.hz_description_model.specs.Check.FirstReported.{first_reported};
 ghost use Rattle.hz_description_model.specs.Check.Places.{statement_of};
 ghost use Rattle.hz_description_model.specs.Reading.DescriptionShape.{IsCheckable, SharesAutomaton};
 
@@ -20,8 +20,8 @@ use crate::faults::alternations::unbroken;
 use crate::faults::bypass_twice::second_number;
 use crate::faults::past_expansions::expanded;
 use crate::faults::query_under_ndfa::query_under_ndfa;
+use crate::faults::reported::{Wrong, refused};
 use crate::faults::steps::{named, ordered, placed};
-use crate::faults::told::{Wrong, refused};
 use crate::names::Names;
 use crate::parts::assembly::{automata, bypasses};
 use crate::parts::placed_sets::{PlacedSet, placed_sets};
@@ -51,8 +51,8 @@ pub struct Parts {
     pub lists: Vec<Vec<Alt>>,
 }
 
-/// The alternatives of the classes, where no fault that is told of them, of the bypasses or of query units stands. The units have these
-/// places, and the numbers of the order are places of reservations, and behind them places of classes.
+/// The alternatives of the classes, where no fault that is reported of them, of the bypasses or of query units stands. The units have these
+/// places, and the numbers of the order are places of reservations, and after them places of classes.
 fn class_lists(
     alloc: Global,
     names: &Names<'_>,
@@ -63,7 +63,7 @@ fn class_lists(
     requires within { AreWithin (description names.now.desc.now) }
     requires places { ArePlaces (description names.now.desc.now) places.now }
     ensures ok { IfOk result (λ lists. AreLists (description names.now.desc.now) order.now lists.items) }
-    ensures err { IfErr result (Tells (IsToldAt (description names.now.desc.now))) }
+    ensures err { IfErr result (Tells (IsReportedAt (description names.now.desc.now))) }
 {
     let desc = names.desc;
     let expanded = match expanded(alloc, desc, places, order) {
@@ -111,12 +111,12 @@ fn assemble(
     })
 }
 
-/// The parts of a description whose names are right, or the fault that is told. The numbers of the order are places of
-/// reservations, and behind them places of classes.
+/// The parts of a description whose names are right, or the fault that is reported. The numbers of the order are places of
+/// reservations, and after them places of classes.
 fn ordered_parts(alloc: Global, names: &Names<'_>, order: &[usize]) -> Result<Parts, CheckFault>
     requires { IsOrdered (description names.now.desc.now) order.now }
     ensures ok { IfOk result (IsPartsOf (description names.now.desc.now)) }
-    ensures err { IfErr result (Tells (IsToldAt (description names.now.desc.now))) }
+    ensures err { IfErr result (Tells (IsReportedAt (description names.now.desc.now))) }
 {
     let places = match placed(alloc, names, order) {
         Ok(places) => places,
@@ -129,12 +129,12 @@ fn ordered_parts(alloc: Global, names: &Names<'_>, order: &[usize]) -> Result<Pa
     Ok(assemble(alloc, names, places, lists)?)
 }
 
-/// The parts of a description of which no fault of names stands, or the fault that is told.
+/// The parts of a description of which no fault of names stands, or the fault that is reported.
 fn named_parts(alloc: Global, names: &Names<'_>) -> Result<Parts, CheckFault>
-    requires free { first_told (faults_of_names (description names.now.desc.now)) ≡ None }
+    requires free { first_reported (faults_of_names (description names.now.desc.now)) ≡ None }
     requires formed { IsCheckable (description names.now.desc.now) }
     ensures ok { IfOk result (IsPartsOf (description names.now.desc.now)) }
-    ensures err { IfErr result (Tells (IsToldAt (description names.now.desc.now))) }
+    ensures err { IfErr result (Tells (IsReportedAt (description names.now.desc.now))) }
 {
     match ordered(alloc, names.desc) {
         Ok(order) => ordered_parts(alloc, names, &order.numbers),
@@ -142,13 +142,13 @@ fn named_parts(alloc: Global, names: &Names<'_>) -> Result<Parts, CheckFault>
     }
 }
 
-/// What is made of a description without a fault, or the fault that is told, as of `check`: the alternatives of the classes and the
+/// What is made of a description without a fault, or the fault that is reported, as of `check`: the alternatives of the classes and the
 /// set statements as they are, before these are cut down to automata. The description stays. `check` says what it must be.
 pub fn parts_of(alloc: Global, desc: &Description) -> Result<Parts, CheckFault>
     requires formed { IsCheckable (description desc.now) }
     requires shared { AllPairs SharesAutomaton (description desc.now).units }
     ensures ok { IfOk result (IsPartsOf (description desc.now)) }
-    ensures err { IfErr result (Tells (IsToldAt (description desc.now))) }
+    ensures err { IfErr result (Tells (IsReportedAt (description desc.now))) }
 {
     match named(alloc, desc) {
         Ok(names) => named_parts(alloc, &names),

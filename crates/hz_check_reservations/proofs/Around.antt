@@ -38,12 +38,12 @@ module _ (edges : ℕ → List ℕ) (order : List ℕ) (once : IsOnce order) (sp
   pub around_to : (to q : ℕ) → Path edges start to → At order q to → p ≤ q → Path edges start start
   around_to to q way at_to up = around_from p q at (omega arith) (inl refl) way at_to up
 
--- a node that doesn't stand behind another
-not_behind : (front : List ℕ) (node : ℕ) (back : List ℕ) (p v : ℕ) → At (front ++ node ∷ back) p v → (Contains back v → ⊥) → p ≤ length front
-not_behind [] node back zero v h apart = omega arith
-not_behind [] node back (suc p) v h apart = absurd (apart (Contains-from_At back p v h))
-not_behind (x ∷ front) node back zero v h apart = omega arith
-not_behind (x ∷ front) node back (suc p) v h apart = let rest = not_behind front node back p v h apart in omega arith
+-- a node that doesn't come after another
+not_after : (front : List ℕ) (node : ℕ) (back : List ℕ) (p v : ℕ) → At (front ++ node ∷ back) p v → (Contains back v → ⊥) → p ≤ length front
+not_after [] node back zero v h apart = omega arith
+not_after [] node back (suc p) v h apart = absurd (apart (Contains-from_At back p v h))
+not_after (x ∷ front) node back zero v h apart = omega arith
+not_after (x ∷ front) node back (suc p) v h apart = let rest = not_after front node back p v h apart in omega arith
 
 at_middle : (front : List ℕ) (node : ℕ) (back : List ℕ) → At (front ++ node ∷ back) (length front) node
 at_middle [] node back = refl
@@ -65,7 +65,7 @@ path_turned : (edges starts : List (List ℕ)) → IsTurned edges starts → {fr
 path_turned edges starts t {from} {to} (last e) = last ((t.each to from).1 e)
 path_turned edges starts t {from} {to} (onward {middle = middle} e rest) = path_push (ends_in starts) (path_turned edges starts t rest) ((t.each to middle).1 e)
 
--- What is known once the nodes behind some place of the order are taken: which nodes lead to one of them, and of these
+-- What is known once the nodes after some place of the order are taken: which nodes lead to one of them, and of these
 -- which lead to themselves.
 pub record IsKnownOf (edges starts : List (List ℕ)) (count : ℕ) (back : List ℕ) (k : Knowledge) : Type 0 where
   pub size : length k.leads ≡ count
@@ -110,7 +110,7 @@ module _ (edges starts : List (List ℕ)) (turned : IsTurned edges starts) (coun
   around_now v lt free way =
       let place = At_from_Contains order v (complete v lt) in
       let at : At (front ++ node ∷ back) place.0 v = subst (λ (xs : List ℕ). At xs place.0 v) is place.1 in
-      let low = not_behind front node back place.0 v at (λ h. let e : true ≡ false = sym (w.all v h) ∙ free in absurd (cc)) in
+      let low = not_after front node back place.0 v at (λ h. let e : true ≡ false = sym (w.all v h) ∙ free in absurd (cc)) in
       around_to (ends_in edges) order once spans v place.0 place.1 node (length front) way (subst (λ (xs : List ℕ). At xs (length front) node) (sym is) (at_middle front node back)) low
 
   straight_now : (v : ℕ) → lead_of k.leads v ≡ Nowhere → lead_of new.leads v ≡ Straight → (b : Bool) → is_taken k.taken v ≡ b → lead_of new.leads v ≡ lead_now b → Path (ends_in edges) v v → ⊥

@@ -9,13 +9,13 @@ use Rattle.hz_description_model.specs.Reservations.AlternativeLists.{greatest_le
 use Rattle.hz_description_model.specs.Reservations.Alternatives.{alternatives_of}
 use Rattle.hz_description_model.specs.Check.CheckFaults.{faults_of_names, has_too_long, sites_where}
 use Rattle.hz_description_model.specs.Check.CountingOrder.{Reserving, reserving_class, classes_of, reservations_of, alternatives_in}
-use Rattle.hz_description_model.specs.Check.FirstTold.{first_told}
+use Rattle.hz_description_model.specs.Check.FirstReported.{first_reported}
 use Rattle.hz_description_model.specs.Check.Places.{Known}
 use Rattle.hz_description_model.specs.Check.Places.{meaning, IsKnown}
 use Rattle.hz_description_model.specs.Check.Sites.{earlier, earliest}
 use Rattle.hz_description_model.proofs.Check.EarliestLaws.{no_site}
 use Rattle.hz_check_reservations.specs.Past.{AreWithinExtents, sites_of}
-use Rattle.hz_check_reservations.specs.Tables.{Holds, IsBehind}
+use Rattle.hz_check_reservations.specs.Tables.{Holds, IsAfter}
 use Rattle.hz_check_reservations.proofs.Ordered.{names_in_all}
 use Rattle.hz_check_reservations.proofs.Pasts.{some_long}
 use Rattle.hz_mdread.specs.declared.items.ClassItem.{ClassItem}
@@ -24,7 +24,7 @@ use Rattle.hz_description_model.specs.Reading.Descriptions.{Description}
 use Rattle.hz_description_model.specs.Reading.DescriptionShape.{IsCheckable}
 use Rattle.hz_description_model.specs.Splits.Rules.{is_mixed_class, is_uneven_class, passes_in, is_uneven}
 use Rattle.hz_check_reservations.specs.Orders.{IsOrder, reservings, all_of}
-use Rattle.hz_check_reservations.specs.Places.{told}
+use Rattle.hz_check_reservations.specs.Places.{reported}
 use Rattle.hz_check_reservations.proofs.NameFacts.{append_nil_parts}
 use Rattle.hz_check_reservations.specs.declared.rules.breaking.BrokenRules.{BrokenRules}
 use Rattle.hz_check_reservations.specs.declared.rules.habits.Habits.{Habits}
@@ -86,20 +86,20 @@ module _ (d : Description) where
 
   -- the earliest of these classes that break the rules
   pub record AreBrokenAmong (items : List Reserving) (broken : BrokenRules) : Type 0 where
-    pub mixed : (known : Known) → IsKnown d known → told broken.mixed ≡ earliest (sites_of (mixes known) items)
-    pub uneven : (known : Known) → IsKnown d known → told broken.uneven ≡ earliest (sites_of (varies known) items)
+    pub mixed : (known : Known) → IsKnown d known → reported broken.mixed ≡ earliest (sites_of (mixes known) items)
+    pub uneven : (known : Known) → IsKnown d known → reported broken.uneven ≡ earliest (sites_of (varies known) items)
 
-  pub none_broken : (i : ℕ) (broken : BrokenRules) → length (classes_of d) ≤ i → told broken.mixed ≡ None → told broken.uneven ≡ None → AreBrokenAmong (drop i (classes_of d)) broken
+  pub none_broken : (i : ℕ) (broken : BrokenRules) → length (classes_of d) ≤ i → reported broken.mixed ≡ None → reported broken.uneven ≡ None → AreBrokenAmong (drop i (classes_of d)) broken
   none_broken i broken past a b = subst (λ (items : List Reserving). AreBrokenAmong items broken) (sym (drop_all i (classes_of d) past)) (record { mixed = λ _ _. a; uneven = λ _ _. b })
 
   pub all_broken : (broken : BrokenRules) → AreBrokenAmong (classes_of d) broken → AreBroken d broken
   all_broken broken among = record { mixed = among.mixed; uneven = among.uneven }
 
-  module _ (told_names : first_told (faults_of_names d) ≡ None) (formed : IsCheckable d) (order : List ℕ) (ordered : IsOrder d order) (extents : AreWithinExtents d (reservings d order))
-      (table : List ℕ → Option Habits) (h : Holds (HasHabits d) (IsBehind d order) table) where
+  module _ (reported_names : first_reported (faults_of_names d) ≡ None) (formed : IsCheckable d) (order : List ℕ) (ordered : IsOrder d order) (extents : AreWithinExtents d (reservings d order))
+      (table : List ℕ → Option Habits) (h : Holds (HasHabits d) (IsAfter d order) table) where
     fits_class : (known : Known) → IsKnown d known → (q : Reserving) → Contains (classes_of d) q → (x : Habits) → Says table q.expression x → FitsExpression known (mixed_in d known) (uneven_in d known) q.expression x
     fits_class known right q there x says = says known (mixed_in d known) (uneven_in d known)
-        (right_habits d (IsBehind d order) known right table h q.expression (names_in_all d told_names formed order ordered q (all_of_classes d q there)))
+        (right_habits d (IsAfter d order) known right table h q.expression (names_in_all d reported_names formed order ordered q (all_of_classes d q there)))
 
     varies_is : (known : Known) → IsKnown d known → (q : Reserving) → Contains (classes_of d) q → (x : Habits) → Says table q.expression x → varies known q ≡ (are_several x.spread && x.uneven)
     varies_is known right q there x says =
@@ -109,8 +109,8 @@ module _ (d : Description) where
         ∙ ap (λ (b : Bool). are_several x.spread && b) (sym (fits.uneven short))
 
     pub broken_more : (i : ℕ) (q : Reserving) (x : Habits) (now next : BrokenRules) → 0 < i → i ≤ length (classes_of d) → q ≡ get_or (classes_of d) (i - 1) q → Contains (classes_of d) q → Says table q.expression x
-        → told next.mixed ≡ earlier (cond x.mixed (Some q.site) None) (told now.mixed)
-        → told next.uneven ≡ earlier (cond (are_several x.spread && x.uneven) (Some q.site) None) (told now.uneven)
+        → reported next.mixed ≡ earlier (cond x.mixed (Some q.site) None) (reported now.mixed)
+        → reported next.uneven ≡ earlier (cond (are_several x.spread && x.uneven) (Some q.site) None) (reported now.uneven)
         → AreBrokenAmong (drop i (classes_of d)) now → AreBrokenAmong (drop (i - 1) (classes_of d)) next
     broken_more i q x now next some within is there says mixed uneven among =
         let items = classes_of d in

@@ -9,9 +9,9 @@ use Rattle.hz_base_model.specs.Lines.{place_of}
 use Rattle.hz_description_model.specs.Check.Places.{at_name}
 use Rattle.hz_check_reservations.proofs.FirstNames.{place_from_zero}
 
-position_behind : (test : List ℕ → Bool) (i k : ℕ) (names : List (List ℕ)) → position_from test i names ≡ Some k → i ≤ k
-position_behind test i k [] h = absurd (cc)
-position_behind test i k (n ∷ names) h = by_test (test n) (λ g. position_behind test (i + 1) k names g) h
+position_after : (test : List ℕ → Bool) (i k : ℕ) (names : List (List ℕ)) → position_from test i names ≡ Some k → i ≤ k
+position_after test i k [] h = absurd (cc)
+position_after test i k (n ∷ names) h = by_test (test n) (λ g. position_after test (i + 1) k names g) h
   where
     by_test : (b : Bool) → (position_from test (i + 1) names ≡ Some k → i + 1 ≤ k) → cond b (Some i) (position_from test (i + 1) names) ≡ Some k → i ≤ k
     by_test true rest g = let e : i ≡ k = cc in omega arith
@@ -24,7 +24,7 @@ module _ {A : Type 0} (name : List ℕ) where
 
   at_from : (i k : ℕ) (names : List (List ℕ)) (items : List A) → position_from (bytes_eq name) i names ≡ Some k → (j : ℕ) × (k ≡ i + j) × (at_name name names items ≡ slice_get items j)
   at_from i k [] items h = absurd (cc)
-  at_from i k (n ∷ names) [] h = let low = position_behind (bytes_eq name) i k (n ∷ names) h in (k - i, omega arith, refl)
+  at_from i k (n ∷ names) [] h = let low = position_after (bytes_eq name) i k (n ∷ names) h in (k - i, omega arith, refl)
   at_from i k (n ∷ names) (x ∷ items) h = by_test (bytes_eq name n) (λ g. at_from (i + 1) k names items g) h
     where
       by_test : (b : Bool) → (position_from (bytes_eq name) (i + 1) names ≡ Some k → (j : ℕ) × (k ≡ (i + 1) + j) × (at_name name names items ≡ slice_get items j))

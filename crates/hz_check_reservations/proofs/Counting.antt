@@ -41,11 +41,11 @@ module _ (d : Description) (apart : AreApart (reservation_names_of d)) where
       (λ (e : u ≡ v).
       let is : reserving d u ≡ reserving_reservation r = ap (reserving d) e ∙ reserving_first d v r h in
       subst (λ (x : Reserving). Contains (reservation_names (x ∷ reservings d numbers)) r.name) (sym is) (Contains-head r.name (names_of_numbers numbers)))
-      (λ (other : Contains numbers v). behind (reserving d u) (named_from_number numbers v r h other))
+      (λ (other : Contains numbers v). beyond (reserving d u) (named_from_number numbers v r h other))
       (Contains-cons_cases u v numbers k)
     where
-      behind : (x : Reserving) → Contains (names_of_numbers numbers) r.name → Contains (reservation_names (x ∷ reservings d numbers)) r.name
-      behind x g = by_kind x.is_class
+      beyond : (x : Reserving) → Contains (names_of_numbers numbers) r.name → Contains (reservation_names (x ∷ reservings d numbers)) r.name
+      beyond x g = by_kind x.is_class
         where
           by_kind : (b : Bool) → Contains (cond b (names_of_numbers numbers) (x.site.name ∷ names_of_numbers numbers)) r.name
           by_kind true = g

@@ -12,12 +12,12 @@ abbrev pub Stand : (ℕ → Reserving) → ℕ → List Reserving → Type 0
 Stand f i [] = Unit {0}
 Stand f i (r ∷ rs) = (f i ≡ r) × Stand f (i + 1) rs
 
-stand_behind : (d : Reserving) (before rs : List Reserving) → Stand (λ i. get_or (before ++ rs) i d) (length before) rs
-stand_behind d before [] = tt
-stand_behind d before (r ∷ rs) = (
+stand_after : (d : Reserving) (before rs : List Reserving) → Stand (λ i. get_or (before ++ rs) i d) (length before) rs
+stand_after d before [] = tt
+stand_after d before (r ∷ rs) = (
   get_or_at before r rs d (length before) refl,
   subst (λ (n : ℕ). Stand (λ i. get_or (before ++ r ∷ rs) i d) n rs) (length-append before (r ∷ []))
-      (subst (λ (xs : List Reserving). Stand (λ i. get_or xs i d) (length (before ++ r ∷ [])) rs) (append_assoc before (r ∷ []) rs) (stand_behind d (before ++ r ∷ []) rs)),
+      (subst (λ (xs : List Reserving). Stand (λ i. get_or xs i d) (length (before ++ r ∷ [])) rs) (append_assoc before (r ∷ []) rs) (stand_after d (before ++ r ∷ []) rs)),
 )
 
 stand_split : (f : ℕ → Reserving) (i : ℕ) (xs ys : List Reserving) → Stand f i (xs ++ ys) → Stand f i xs × Stand f (i + length xs) ys
@@ -28,7 +28,7 @@ stand_split f i (x ∷ xs) ys h =
 
 pub stand_all : (d : Reserving) (xs ys : List Reserving) → Stand (λ i. get_or (xs ++ ys) i d) 0 xs × Stand (λ i. get_or (xs ++ ys) i d) (length xs) ys
 stand_all d xs ys =
-    let parts = stand_split (λ i. get_or (xs ++ ys) i d) 0 xs ys (stand_behind d [] (xs ++ ys)) in
+    let parts = stand_split (λ i. get_or (xs ++ ys) i d) 0 xs ys (stand_after d [] (xs ++ ys)) in
     (parts.0, let e : 0 + length xs ≡ length xs = omega arith in subst (λ (n : ℕ). Stand (λ i. get_or (xs ++ ys) i d) n ys) e parts.1)
 
 module _ (f : ℕ → Reserving) where

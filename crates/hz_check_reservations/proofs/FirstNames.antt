@@ -47,7 +47,7 @@ place_before name names i some within =
 abbrev pub names_of : List ReservationItem → List (List ℕ)
 names_of reservations = map (λ r. r.name) (map reservation_item reservations)
 
--- a name is put in front of those behind it
+-- a name is put in front of those after it
 pub placed_before : (reservations : List ReservationItem) (i : ℕ) (item : ReservationItem) (name : List ℕ) → 0 < i → i ≤ length reservations → item ≡ get_or reservations (i - 1) item
     → position_from (bytes_eq name) (i - 1) (drop (i - 1) (names_of reservations)) ≡ cond (is_eq (slice_cmp nat_cmp item.name name)) (Some (i - 1)) (position_from (bytes_eq name) i (drop i (names_of reservations)))
 placed_before reservations i item name some within is =

@@ -28,7 +28,7 @@ or_comm true false = refl
 or_comm false true = refl
 or_comm false false = refl
 
--- the tests of a part and of those behind it, in another order
+-- the tests of a part and of those after it, in another order
 regrouped : (first before others here : Bool) → ((first || (before || others)) || here) ≡ ((here || before) || (first || others))
 regrouped true true true true = refl
 regrouped true true true false = refl
@@ -66,35 +66,35 @@ module _ (known : List ℕ → List (Alternative UnitPlace)) (first : Expression
   abbrev here : List (Alternative UnitPlace)
   here = alternatives_of known first
 
-  abbrev behind : Mark → List (Alternative UnitPlace)
-  behind mark = joined_parts mark known others
+  abbrev beyond : Mark → List (Alternative UnitPlace)
+  beyond mark = joined_parts mark known others
 
-  spread_more : (mark : Mark) → 0 < length here → 0 < length (behind mark) → spread_of (joined_parts mark known (more first others)) ≡ joined_spread (spread_of here) (spread_of (behind mark))
-  spread_more Comma h k = spread_of-followed here (behind Comma) h k
-  spread_more Bar h k = spread_of-append here (behind Bar)
-  spread_more Plus h k = spread_of-beside here (behind Plus) h k
+  spread_more : (mark : Mark) → 0 < length here → 0 < length (beyond mark) → spread_of (joined_parts mark known (more first others)) ≡ joined_spread (spread_of here) (spread_of (beyond mark))
+  spread_more Comma h k = spread_of-followed here (beyond Comma) h k
+  spread_more Bar h k = spread_of-append here (beyond Bar)
+  spread_more Plus h k = spread_of-beside here (beyond Plus) h k
 
-  shortest_more : (mark : Mark) → least_length (joined_parts mark known (more first others)) ≡ joined_shortest mark (least_length here) (least_length (behind mark))
-  shortest_more Comma = least-followed here (behind Comma)
-  shortest_more Bar = least-append here (behind Bar)
-  shortest_more Plus = least-beside here (behind Plus)
+  shortest_more : (mark : Mark) → least_length (joined_parts mark known (more first others)) ≡ joined_shortest mark (least_length here) (least_length (beyond mark))
+  shortest_more Comma = least-followed here (beyond Comma)
+  shortest_more Bar = least-append here (beyond Bar)
+  shortest_more Plus = least-beside here (beyond Plus)
 
-  longest_more : (mark : Mark) → 0 < length here → 0 < length (behind mark)
-      → cut_length (greatest_length (joined_parts mark known (more first others))) ≡ joined_longest mark (cut_length (greatest_length here)) (cut_length (greatest_length (behind mark)))
-  longest_more Comma h k = omega (arith, greatest-followed here (behind Comma) h k)
-  longest_more Bar h k = omega (arith, greatest-append here (behind Bar))
-  longest_more Plus h k = omega (arith, greatest-beside here (behind Plus) h k)
+  longest_more : (mark : Mark) → 0 < length here → 0 < length (beyond mark)
+      → cut_length (greatest_length (joined_parts mark known (more first others))) ≡ joined_longest mark (cut_length (greatest_length here)) (cut_length (greatest_length (beyond mark)))
+  longest_more Comma h k = omega (arith, greatest-followed here (beyond Comma) h k)
+  longest_more Bar h k = omega (arith, greatest-append here (beyond Bar))
+  longest_more Plus h k = omega (arith, greatest-beside here (beyond Plus) h k)
 
   -- each part is at most as long as both
-  first_short : (mark : Mark) → 0 < length here → 0 < length (behind mark) → greatest_length (joined_parts mark known (more first others)) ≤ cycle_limit → greatest_length here ≤ cycle_limit
-  first_short Comma h k short = omega (arith, greatest-followed here (behind Comma) h k)
-  first_short Bar h k short = omega (arith, greatest-append here (behind Bar))
-  first_short Plus h k short = omega (arith, greatest-beside here (behind Plus) h k)
+  first_short : (mark : Mark) → 0 < length here → 0 < length (beyond mark) → greatest_length (joined_parts mark known (more first others)) ≤ cycle_limit → greatest_length here ≤ cycle_limit
+  first_short Comma h k short = omega (arith, greatest-followed here (beyond Comma) h k)
+  first_short Bar h k short = omega (arith, greatest-append here (beyond Bar))
+  first_short Plus h k short = omega (arith, greatest-beside here (beyond Plus) h k)
 
-  others_short : (mark : Mark) → 0 < length here → 0 < length (behind mark) → greatest_length (joined_parts mark known (more first others)) ≤ cycle_limit → greatest_length (behind mark) ≤ cycle_limit
-  others_short Comma h k short = omega (arith, greatest-followed here (behind Comma) h k)
-  others_short Bar h k short = omega (arith, greatest-append here (behind Bar))
-  others_short Plus h k short = omega (arith, greatest-beside here (behind Plus) h k)
+  others_short : (mark : Mark) → 0 < length here → 0 < length (beyond mark) → greatest_length (joined_parts mark known (more first others)) ≤ cycle_limit → greatest_length (beyond mark) ≤ cycle_limit
+  others_short Comma h k short = omega (arith, greatest-followed here (beyond Comma) h k)
+  others_short Bar h k short = omega (arith, greatest-append here (beyond Bar))
+  others_short Plus h k short = omega (arith, greatest-beside here (beyond Plus) h k)
 
 module _ (known : List ℕ → List (Alternative UnitPlace)) (mixed uneven : List ℕ → Bool) where
   -- whether there are two lengths

@@ -34,11 +34,11 @@ module _ (most : ℕ) (all : List (Alternative UnitPlace)) (few : length all ≤
   kept : excess_of most all ≡ None → total_size all ≤ most
   kept is = under (nat_lt most (total_size all)) refl (sym by_size ∙ is)
 
-  pub made_told : {E : Type 0} (listed : Result (Vec Alt Global) AlternFault) (made : Result (Option (Vec Alt Global)) E)
+  pub made_reported : {E : Type 0} (listed : Result (Vec Alt Global) AlternFault) (made : Result (Option (Vec Alt Global)) E)
       → Expands most all listed → IfOk listed (λ alts. AreSound (alternatives alts.items)) → IsMadeIfListed listed made → IfOk made (Makes most all)
-  made_told (Ok alts) made expands sound is = subst (λ m. IfOk m (Makes most all)) (sym is) (expands.1, sound, kept expands.0)
-  made_told (Err AlternativesLimit) made expands sound is = subst (λ m. IfOk m (Makes most all)) (sym is) (passed too_many expands)
-  made_told (Err CyclesLimit) made expands sound is = subst (λ m. IfOk m (Makes most all)) (sym is) (passed too_long expands)
-  made_told (Err SizeLimit) made expands sound is = subst (λ m. IfOk m (Makes most all)) (sym is) (passed too_large expands)
-  made_told (Err NoMemory) (Ok alts) expands sound is = absurd (let e : false ≡ true = is in cc)
-  made_told (Err NoMemory) (Err e) expands sound is = tt
+  made_reported (Ok alts) made expands sound is = subst (λ m. IfOk m (Makes most all)) (sym is) (expands.1, sound, kept expands.0)
+  made_reported (Err AlternativesLimit) made expands sound is = subst (λ m. IfOk m (Makes most all)) (sym is) (passed too_many expands)
+  made_reported (Err CyclesLimit) made expands sound is = subst (λ m. IfOk m (Makes most all)) (sym is) (passed too_long expands)
+  made_reported (Err SizeLimit) made expands sound is = subst (λ m. IfOk m (Makes most all)) (sym is) (passed too_large expands)
+  made_reported (Err NoMemory) (Ok alts) expands sound is = absurd (let e : false ≡ true = is in cc)
+  made_reported (Err NoMemory) (Err e) expands sound is = tt

@@ -11,7 +11,7 @@ use Rattle.hz_base_model.proofs.Elements.{Contains-nil, Contains-head, Contains-
 use Rattle.hz_description_model.specs.Reservations.Alternatives.{Expression}
 use Rattle.hz_description_model.specs.Check.CheckFaults.{CheckFault, faults_of_names, second_definitions, unknown_names, unit_sites, reservation_sites, is_unit, is_reservable, unknown_in_expression, sites_of, unknown_in_condition, automaton_sites, class_sites, attribute_sites, repeated_values, is_class, names_of_bypass, names_of_set}
 use Rattle.hz_description_model.specs.Check.CountingOrder.{reservation_site}
-use Rattle.hz_description_model.specs.Check.FirstTold.{Standing, first_told, told_at}
+use Rattle.hz_description_model.specs.Check.FirstReported.{Standing, first_reported, reported_at}
 use Rattle.hz_description_model.specs.Reservations.NamesIn.{names_in}
 use Rattle.hz_description_model.specs.Reading.Descriptions.{Description, UnitItem, ReservationItem, ClassItem}
 use Rattle.hz_description_model.specs.Reading.DescriptionShape.{IsCheckable, IsCheckableReservation, IsForm, define_cpu_unit, define_reservation}
@@ -78,14 +78,14 @@ none_earliest (s ∷ sites) h = absurd (some_first s (earliest sites) h)
     some_first s None e = absurd (cc)
     some_first s (Some t) e = cond_both (nat_le s.form t.form) (Some s) (Some t) (λ (o : Option Site). o ≡ None → ⊥) (λ _ g. absurd (cc)) (λ _ g. absurd (cc)) e
 
-pub none_standing : (s : Standing CheckFault) (others : List (Standing CheckFault)) → first_told (s ∷ others) ≡ None → (s.sites ≡ []) × (first_told others ≡ None)
+pub none_standing : (s : Standing CheckFault) (others : List (Standing CheckFault)) → first_reported (s ∷ others) ≡ None → (s.sites ≡ []) × (first_reported others ≡ None)
 none_standing s others h = by_site (earliest s.sites) refl h
   where
-    by_site : (o : Option Site) → earliest s.sites ≡ o → told_at s.fault o (first_told others) ≡ None → (s.sites ≡ []) × (first_told others ≡ None)
+    by_site : (o : Option Site) → earliest s.sites ≡ o → reported_at s.fault o (first_reported others) ≡ None → (s.sites ≡ []) × (first_reported others ≡ None)
     by_site None e g = (none_earliest s.sites e, g)
     by_site (Some site) e g = absurd (cc)
 
-pub standing_at : (all : List (Standing CheckFault)) → first_told all ≡ None → (i : ℕ) (s : Standing CheckFault) → slice_get all i ≡ Some s → s.sites ≡ []
+pub standing_at : (all : List (Standing CheckFault)) → first_reported all ≡ None → (i : ℕ) (s : Standing CheckFault) → slice_get all i ≡ Some s → s.sites ≡ []
 standing_at [] h i s e = absurd (cc)
 standing_at (t ∷ all) h zero s e = let same : t ≡ s = cc in subst (λ (x : Standing CheckFault). x.sites ≡ []) same (none_standing t all h).0
 standing_at (t ∷ all) h (suc i) s e = standing_at all (none_standing t all h).1 i s e
@@ -114,7 +114,7 @@ first_two a b c d e h =
 abbrev pub site_names : List Site → List (List ℕ)
 site_names sites = map (λ s. s.name) sites
 
--- where no name repeats, each is new behind those before it
+-- where no name repeats, each is new after those before it
 pub record AreNew (others : List Site) (before : List (List ℕ)) (sites : List Site) : Type 0 where
   pub new : (k : ℕ) (name : List ℕ) → slice_get (site_names sites) k ≡ Some name → is_among name before ≡ false
   pub apart : AreApart (site_names sites)
@@ -139,15 +139,15 @@ all_new others before (s ∷ sites) h =
     more : is_among s.name before ≡ false → is_preceded others s ≡ false → AreNew others (s.name ∷ before) sites → AreNew others before (s ∷ sites)
     more first unpreceded rest = record { new = new; apart = record { same = same }; free = free }
       where
-        behind : (k : ℕ) (name : List ℕ) → slice_get (site_names sites) k ≡ Some name → (bytes_eq name s.name ≡ false) × (is_among name before ≡ false)
-        behind k name e = or_parts (bytes_eq name s.name) (is_among name before) (sym (among_cons name s.name before) ∙ rest.new k name e)
+        beyond : (k : ℕ) (name : List ℕ) → slice_get (site_names sites) k ≡ Some name → (bytes_eq name s.name ≡ false) × (is_among name before ≡ false)
+        beyond k name e = or_parts (bytes_eq name s.name) (is_among name before) (sym (among_cons name s.name before) ∙ rest.new k name e)
 
         new : (k : ℕ) (name : List ℕ) → slice_get (site_names (s ∷ sites)) k ≡ Some name → is_among name before ≡ false
         new zero name e = let same : s.name ≡ name = cc in subst (λ (n : List ℕ). is_among n before ≡ false) same first
-        new (suc k) name e = (behind k name e).1
+        new (suc k) name e = (beyond k name e).1
 
         unlike : (k : ℕ) (name : List ℕ) → s.name ≡ name → slice_get (site_names sites) k ≡ Some name → ⊥
-        unlike k name e h = both_ways (bytes_eq name s.name) (behind k name h).0 (ap (bytes_eq name) e ∙ bytes_eq-self name)
+        unlike k name e h = both_ways (bytes_eq name s.name) (beyond k name h).0 (ap (bytes_eq name) e ∙ bytes_eq-self name)
 
         same : (i j : ℕ) (name : List ℕ) → slice_get (site_names (s ∷ sites)) i ≡ Some name → slice_get (site_names (s ∷ sites)) j ≡ Some name → i ≡ j
         same zero zero name a b = refl
@@ -220,12 +220,12 @@ pub record AreNamed (d : Description) : Type 0 where
   pub in_reservations : (r : ReservationItem) → Contains d.reservations r → (name : List ℕ) → Contains (names_in r.expression) name → is_reservable d name ≡ true
   pub in_classes : (c : ClassItem) → Contains d.classes c → (name : List ℕ) → Contains (names_in c.expression) name → is_reservable d name ≡ true
 
-module _ (d : Description) (told : first_told (faults_of_names d) ≡ None) (formed : IsCheckable d) where
+module _ (d : Description) (reported : first_reported (faults_of_names d) ≡ None) (formed : IsCheckable d) where
   no_second : second_definitions d ≡ []
-  no_second = standing_at (faults_of_names d) told 0 _ refl
+  no_second = standing_at (faults_of_names d) reported 0 _ refl
 
   no_unknown : unknown_names d ≡ []
-  no_unknown = standing_at (faults_of_names d) told 2 _ refl
+  no_unknown = standing_at (faults_of_names d) reported 2 _ refl
 
   abbrev unit_repeats : List Site
   unit_repeats = repeated (reservation_sites d) [] (unit_sites d)

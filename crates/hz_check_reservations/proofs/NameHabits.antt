@@ -6,10 +6,10 @@ use Rattle.hz_description_model.specs.Reservations.Automata.{UnitPlace}
 use Rattle.hz_description_model.specs.Reservations.Meanings.{Mentions, alternatives_of_meaning}
 use Rattle.hz_description_model.specs.Check.CheckFaults.{faults_of_names}
 use Rattle.hz_description_model.specs.Check.CountingOrder.{Reserving, reserving_reservation}
-use Rattle.hz_description_model.specs.Check.FirstTold.{first_told}
+use Rattle.hz_description_model.specs.Check.FirstReported.{first_reported}
 use Rattle.hz_description_model.specs.Check.Places.{Known}
 use Rattle.hz_description_model.specs.Check.Places.{unit_places, meaning, IsKnown}
-use Rattle.hz_check_reservations.specs.Tables.{Holds, IsBehind}
+use Rattle.hz_check_reservations.specs.Tables.{Holds, IsAfter}
 use Rattle.hz_check_reservations.proofs.CountingNames.{names_there, formed_there}
 use Rattle.hz_check_reservations.proofs.Holding.{value_of}
 use Rattle.hz_check_reservations.proofs.Names.{unit_means, reservation_means}
@@ -36,15 +36,15 @@ right_habits d N known right table h e names = record {
   some = λ name m. let v = value_of (HasHabits d) N table h name (names name m) in (v.2).some known right;
 }
 
-module _ (d : Description) (told : first_told (faults_of_names d) ≡ None) (formed : IsCheckable d) where
+module _ (d : Description) (reported : first_reported (faults_of_names d) ≡ None) (formed : IsCheckable d) where
   module _ (i : ℕ) (u : UnitItem) (place : UnitPlace) (there : slice_get d.units i ≡ Some u) (is : slice_get (unit_places d) i ≡ Some place) where
     unit_known : (known : Known) → IsKnown d known → known u.name ≡ taking place ∷ []
-    unit_known known right = right.expands u.name ∙ ap (alternatives_of_meaning known) (unit_means d told formed i u place there is)
+    unit_known known right = right.expands u.name ∙ ap (alternatives_of_meaning known) (unit_means d reported formed i u place there is)
 
     unit_passes : (known : Known) → IsKnown d known → (test : Expression → Bool) → passes test (meaning d) (length d.reservations) u.name ≡ false
     unit_passes known right test =
         unfolds_in_reservations d known right test u.name
-        ∙ ap (of_reservation (somewhere test (passes test (meaning d) (length d.reservations)))) (unit_means d told formed i u place there is)
+        ∙ ap (of_reservation (somewhere test (passes test (meaning d) (length d.reservations)))) (unit_means d reported formed i u place there is)
 
     pub unit_habits : HasHabits d u.name (habits_of_unit place.automaton)
     unit_habits = record {
@@ -69,24 +69,24 @@ module _ (d : Description) (told : first_told (faults_of_names d) ≡ None) (for
           (λ (c : IsClassAt d number). let low = slice_get_within d.reservations number item there in let past = c.past in absurd (omega arith))
           (reservation_or_class d number (ordered.within number (Contains-from_At order i number at)))
 
-      names : (name : List ℕ) → Mentions item.expression name → IsBehind d (take i order) name
-      names = names_there (HasHabits d) d told formed order ordered i number at (reserving_reservation item) reservation_is
+      names : (name : List ℕ) → Mentions item.expression name → IsAfter d (take i order) name
+      names = names_there (HasHabits d) d reported formed order ordered i number at (reserving_reservation item) reservation_is
 
       reservation_known : (known : Known) → IsKnown d known → known item.name ≡ alternatives_of known item.expression
-      reservation_known known right = right.expands item.name ∙ ap (alternatives_of_meaning known) (reservation_means d told formed number item there)
+      reservation_known known right = right.expands item.name ∙ ap (alternatives_of_meaning known) (reservation_means d reported formed number item there)
 
       reservation_passes : (known : Known) → IsKnown d known → (test : Expression → Bool) → passes test (meaning d) (length d.reservations) item.name ≡ somewhere test (passes test (meaning d) (length d.reservations)) item.expression
       reservation_passes known right test =
           unfolds_in_reservations d known right test item.name
-          ∙ ap (of_reservation (somewhere test (passes test (meaning d) (length d.reservations)))) (reservation_means d told formed number item there)
+          ∙ ap (of_reservation (somewhere test (passes test (meaning d) (length d.reservations)))) (reservation_means d reported formed number item there)
 
-      pub reservation_habits : (table : List ℕ → Option Habits) (h : Habits) → Holds (HasHabits d) (IsBehind d (take i order)) table → Says table item.expression h → HasHabits d item.name h
+      pub reservation_habits : (table : List ℕ → Option Habits) (h : Habits) → Holds (HasHabits d) (IsAfter d (take i order)) table → Says table item.expression h → HasHabits d item.name h
       reservation_habits table h holds says = record {
         fits = λ known right. fits_same (alternatives_of known item.expression) (known item.name) _ (mixed_in d known item.name) _ (uneven_in d known item.name) h
             (sym (reservation_known known right)) (sym (reservation_passes known right (is_mixed known))) (sym (reservation_passes known right (is_uneven known)))
-            (says known (mixed_in d known) (uneven_in d known) (right_habits d (IsBehind d (take i order)) known right table holds item.expression names));
+            (says known (mixed_in d known) (uneven_in d known) (right_habits d (IsAfter d (take i order)) known right table holds item.expression names));
         some = λ known right.
-            let right' = right_habits d (IsBehind d (take i order)) known right table holds item.expression names in
-            let written = formed_there (HasHabits d) d told formed order ordered i number at (reserving_reservation item) reservation_is in
+            let right' = right_habits d (IsAfter d (take i order)) known right table holds item.expression names in
+            let written = formed_there (HasHabits d) d reported formed order ordered i number at (reserving_reservation item) reservation_is in
             subst (λ (xs : List (Alternative UnitPlace)). 0 < length xs) (sym (reservation_known known right)) (some_alternatives known item.expression written right'.some);
       }

@@ -9,10 +9,10 @@ use Rattle.hz_description_model.specs.Reservations.Alternatives.{Alternative, ta
 use Rattle.hz_description_model.specs.Reservations.AlternativeLists.{Extent, extent_of}
 use Rattle.hz_description_model.specs.Reservations.Automata.{UnitPlace, listed}
 use Rattle.hz_description_model.specs.Check.CheckFaults.{faults_of_names}
-use Rattle.hz_description_model.specs.Check.FirstTold.{first_told}
+use Rattle.hz_description_model.specs.Check.FirstReported.{first_reported}
 use Rattle.hz_description_model.specs.Reading.Descriptions.{Description, UnitItem, ReservationItem}
 use Rattle.hz_description_model.specs.Reading.DescriptionShape.{IsCheckable}
-use Rattle.hz_description_model.specs.Check.Places.{at_name, place_behind, places_behind, unit_places, unit_or_reservation, reservation_named, meaning, IsKnown, Known}
+use Rattle.hz_description_model.specs.Check.Places.{at_name, place_after, places_after, unit_places, unit_or_reservation, reservation_named, meaning, IsKnown, Known}
 use Rattle.hz_description_model.specs.Reservations.Meanings.{unit, reservation, alternatives_of_meaning}
 use Rattle.hz_base_model.proofs.Elements.{Contains-head, Contains-tail}
 use Rattle.hz_check_reservations.proofs.FirstNames.{bytes_eq-self, same_bytes}
@@ -43,14 +43,14 @@ at_name_none name (m ∷ names) (y ∷ items) none = ⊎_elim
     (cases_Bool (bytes_eq name m))
 
 -- each unit has a place
-pub place_there : (d : Description) (before units : List UnitItem) (i : ℕ) (u : UnitItem) → slice_get units i ≡ Some u → (place : UnitPlace) × (slice_get (places_behind d before units) i ≡ Some place)
+pub place_there : (d : Description) (before units : List UnitItem) (i : ℕ) (u : UnitItem) → slice_get units i ≡ Some u → (place : UnitPlace) × (slice_get (places_after d before units) i ≡ Some place)
 place_there d before [] i u is = absurd (cc)
-place_there d before (v ∷ units) zero u is = (place_behind d before v, refl)
+place_there d before (v ∷ units) zero u is = (place_after d before v, refl)
 place_there d before (v ∷ units) (suc i) u is = place_there d (before ++ v ∷ []) units i u is
 
-module _ (d : Description) (told : first_told (faults_of_names d) ≡ None) (formed : IsCheckable d) where
+module _ (d : Description) (reported : first_reported (faults_of_names d) ≡ None) (formed : IsCheckable d) where
   named : AreNamed d
-  named = are_named d told formed
+  named = are_named d reported formed
 
   pub unit_means : (i : ℕ) (u : UnitItem) (place : UnitPlace) → slice_get d.units i ≡ Some u → slice_get (unit_places d) i ≡ Some place → meaning d u.name ≡ Some (unit place)
   unit_means i u place there is =
@@ -97,7 +97,7 @@ module _ (d : Description) (told : first_told (faults_of_names d) ≡ None) (for
   pub reservation_list : (i : ℕ) (r : ReservationItem) (xs : List (Alternative UnitPlace)) → slice_get d.reservations i ≡ Some r → ((known : Known) → IsKnown d known → xs ≡ map listed (alternatives_of known r.expression)) → HasAlternatives d r.name xs
   reservation_list i r xs there are = record { are = λ known right. are known right ∙ sym (ap (map listed) (known_reservation i r there known right)) }
 
-places-length : (d : Description) (before units : List UnitItem) → length (places_behind d before units) ≡ length units
+places-length : (d : Description) (before units : List UnitItem) → length (places_after d before units) ≡ length units
 places-length d before [] = refl
 places-length d before (u ∷ units) = ap suc (places-length d (before ++ u ∷ []) units)
 

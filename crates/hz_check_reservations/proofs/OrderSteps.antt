@@ -59,12 +59,12 @@ module _ (d : Description) (lists : List (Vec ℕ Global)) (g : IsGraph d (lists
 
   module _ (named : AreNamed d) where
     -- the first node that leads to itself is the first circular reservation
-    pub circle_told : (place : ℕ) → IsFirstWith (λ node. Path E node node) (first_count d) (Some place) → IsSomeAnd (slice_get d.reservations place) (IsFirst (IsCircular d) d.reservations)
-    circle_told place h = first_circular d named g.file g.numbered place (subst (λ (f : ℕ → List ℕ). IsFirstWith (λ node. Path f node node) (first_count d) (Some place)) edges_same h)
+    pub circle_reported : (place : ℕ) → IsFirstWith (λ node. Path E node node) (first_count d) (Some place) → IsSomeAnd (slice_get d.reservations place) (IsFirst (IsCircular d) d.reservations)
+    circle_reported place h = first_circular d named g.file g.numbered place (subst (λ (f : ℕ → List ℕ). IsFirstWith (λ node. Path f node node) (first_count d) (Some place)) edges_same h)
 
     -- without a circle, what was left before the root is the counting order
-    pub order_told : (walked order : List ℕ) → IsWalk E (all_count d) (length lists) walked false → order ≡ take (length walked - 1) walked → IsOrder d order
-    order_told walked order w is =
+    pub order_reported : (walked order : List ℕ) → IsWalk E (all_count d) (length lists) walked false → order ≡ take (length walked - 1) walked → IsOrder d order
+    order_reported walked order w is =
         let visited : Visited (edges d g.file g.numbered) [] (all_count d ∷ []) walked = subst (λ (f : ℕ → List ℕ). Visited f [] (all_count d ∷ []) walked) edges_same (w.straight refl) in
         let root = visited_root (edges d g.file g.numbered) visited in
         let long = length_push root.0 (all_count d) in

@@ -1,4 +1,4 @@
--- Orders in which each reservation stands behind those that it names.
+-- Orders in which each reservation comes after those that it names.
 use Rattle.std.proofs.Common.{◌≡◌, ℕ, zero, suc, ◌+◌, ◌-◌, ◌<◌, ◌≤◌, ◌⊎◌, inl, inr, ⊎_elim, true, List, [], ◌∷◌, ◌++◌, length, get_or, take, Contains, Option, Some, None, refl, sym, ap, ◌∙◌, subst, arith, slice_get}
 use Rattle.std.specs.Prelude.{IsTrue}
 use Rattle.std.specs.List.{filter_map, cons_option}
@@ -6,11 +6,11 @@ use Rattle.std.proofs.lemmas.Bool.{cases_lt, or_cases}
 use Rattle.std.proofs.lemmas.List.{take_more, length-map, length-append, get_or_append_left, get_or-append_right, get_or-map}
 use Rattle.std.proofs.lemmas.List.Elements.{Contains-get_or, Contains-append_left, Contains-append_cases, Contains-push, Contains-push_cases, All-contains}
 use Rattle.std.proofs.lemmas.Option.{none-some, same_Some, slice_get-get_or, slice_get_within, slice_get_past, get_or_from_slice_get}
-use Rattle.hz_check_reservations.specs.Tables.{unit_names, reservation_names, IsBehind}
+use Rattle.hz_check_reservations.specs.Tables.{unit_names, reservation_names, IsAfter}
 use Rattle.hz_check_reservations.proofs.Names.{no_unit_named}
 use Rattle.hz_description_model.specs.Check.CheckFaults.{faults_of_names, is_unit, is_reservable}
 use Rattle.hz_description_model.specs.Check.CountingOrder.{Reserving, reserving_reservation, reserving_class, reservations_of, classes_of}
-use Rattle.hz_description_model.specs.Check.FirstTold.{first_told}
+use Rattle.hz_description_model.specs.Check.FirstReported.{first_reported}
 use Rattle.hz_description_model.specs.Reservations.NamesIn.{names_in}
 use Rattle.hz_description_model.specs.Reading.Descriptions.{Description, ReservationItem, ClassItem}
 use Rattle.hz_description_model.specs.Reading.DescriptionShape.{IsCheckable, IsCheckableReservation, IsCheckableClass}
@@ -29,12 +29,12 @@ pub Contains-filter_map : {A B : Type 0} (f : A → Option B) (xs : List A) (x :
 Contains-filter_map f [] x y h is = absurd (Contains-nil x h)
 Contains-filter_map f (z ∷ xs) x y h is = ⊎_elim
     (λ (e : z ≡ x). subst (λ o. Contains (cons_option o (filter_map f xs)) y) (sym (ap f e ∙ is)) (Contains-head y (filter_map f xs)))
-    (λ (k : Contains xs x). behind (f z) (filter_map f xs) (Contains-filter_map f xs x y k is))
+    (λ (k : Contains xs x). beyond (f z) (filter_map f xs) (Contains-filter_map f xs x y k is))
     (Contains-cons_cases z x xs h)
   where
-    behind : (o : Option _) (ys : List _) → Contains ys y → Contains (cons_option o ys) y
-    behind None ys k = k
-    behind (Some w) ys k = Contains-tail w y ys k
+    beyond : (o : Option _) (ys : List _) → Contains ys y → Contains (cons_option o ys) y
+    beyond None ys k = k
+    beyond (Some w) ys k = Contains-tail w y ys k
 
 -- what stands before a place
 pub at_take : {A : Type 0} (xs : List A) (i j : ℕ) (x : A) → j < i → slice_get xs j ≡ Some x → Contains (take i xs) x
@@ -97,9 +97,9 @@ module _ (d : Description) where
           let found = Contains-from_map reserving_class d.classes (get_or (classes_of d) (number - length (reservations_of d)) nothing_reserved) (Contains-get_or (classes_of d) (number - length (reservations_of d)) nothing_reserved at) in
           inr (record { item = found.0; there = found.1; is = here ∙ sym found.2; past = ge })
 
-module _ (d : Description) (told : first_told (faults_of_names d) ≡ None) (formed : IsCheckable d) (order : List ℕ) (ordered : IsOrder d order) where
+module _ (d : Description) (reported : first_reported (faults_of_names d) ≡ None) (formed : IsCheckable d) (order : List ℕ) (ordered : IsOrder d order) where
   named : AreNamed d
-  named = are_named d told formed
+  named = are_named d reported formed
 
   -- what all reservations and classes name is a unit or reservation
   pub reservable : (r : Reserving) → Contains (all_of d) r → (name : List ℕ) → Mentions r.expression name → IsTrue (is_reservable d name)
@@ -139,7 +139,7 @@ module _ (d : Description) (told : first_told (faults_of_names d) ≡ None) (for
   in_all number lt = Contains-get_or (all_of d) number nothing_reserved lt
 
   -- what stands at a place names units and reservations before it
-  pub names_before : (i number : ℕ) → At order i number → (name : List ℕ) → Mentions (reserving d number).expression name → IsBehind d (take i order) name
+  pub names_before : (i number : ℕ) → At order i number → (name : List ℕ) → Mentions (reserving d number).expression name → IsAfter d (take i order) name
   names_before i number at name m =
       let there = in_all number (ordered.within number (Contains-from_At order i number at)) in
       ⊎_elim
@@ -151,7 +151,7 @@ module _ (d : Description) (told : first_told (faults_of_names d) ≡ None) (for
       (unit_or_number name (reservable (reserving d number) there name m))
 
   -- all names have come in the end
-  pub names_in_all : (r : Reserving) → Contains (all_of d) r → (name : List ℕ) → Mentions r.expression name → IsBehind d order name
+  pub names_in_all : (r : Reserving) → Contains (all_of d) r → (name : List ℕ) → Mentions r.expression name → IsAfter d order name
   names_in_all r there name m = ⊎_elim
       (λ (u : Contains (unit_names d) name). inl u)
       (λ (q : (k : ℕ) × (slice_get (reservation_names d) k ≡ Some name)).
@@ -160,9 +160,9 @@ module _ (d : Description) (told : first_told (faults_of_names d) ≡ None) (for
       (unit_or_number name (reservable r there name m))
 
   -- the name of a reservation has not come before
-  pub fresh_name : (i number : ℕ) (name : List ℕ) → At order i number → slice_get (reservation_names d) number ≡ Some name → IsBehind d (take i order) name → ⊥
+  pub fresh_name : (i number : ℕ) (name : List ℕ) → At order i number → slice_get (reservation_names d) number ≡ Some name → IsAfter d (take i order) name → ⊥
   fresh_name i number name at is h = ⊎_elim
-      (λ (u : Contains (unit_names d) name). no_unit_named d told formed number name is u)
+      (λ (u : Contains (unit_names d) name). no_unit_named d reported formed number name is u)
       (λ (q : (k : ℕ) × Contains (take i order) k × (slice_get (reservation_names d) k ≡ Some name)).
       let same : q.0 ≡ number = named.apart.same q.0 number name q.2 is in
       let before = at_from_take order i q.0 q.1 in
@@ -174,8 +174,8 @@ module _ (d : Description) (told : first_told (faults_of_names d) ≡ None) (for
   At_read i number at = take_more order i number (At_within order i number at) ∙ ap (λ (n : ℕ). take i order ++ n ∷ []) (get_or_from_slice_get order i number number at)
 
   -- one place further
-  pub behind_more : (i number : ℕ) (name : List ℕ) → At order i number → slice_get (reservation_names d) number ≡ Some name → (other : List ℕ) → IsBehind d (take (i + 1) order) other → IsBehind d (take i order) other ⊎ (name ≡ other)
-  behind_more i number name at is other h = ⊎_elim
+  pub after_more : (i number : ℕ) (name : List ℕ) → At order i number → slice_get (reservation_names d) number ≡ Some name → (other : List ℕ) → IsAfter d (take (i + 1) order) other → IsAfter d (take i order) other ⊎ (name ≡ other)
+  after_more i number name at is other h = ⊎_elim
       (λ (u : Contains (unit_names d) other). inl (inl u))
       (λ (q : (k : ℕ) × Contains (take (i + 1) order) k × (slice_get (reservation_names d) k ≡ Some other)). ⊎_elim
       (λ (old : Contains (take i order) q.0). inl (inr (q.0, old, q.2)))
@@ -183,19 +183,19 @@ module _ (d : Description) (told : first_told (faults_of_names d) ≡ None) (for
       (Contains-push_cases (take i order) number q.0 (subst (λ (xs : List ℕ). Contains xs q.0) (At_read i number at) q.1)))
       h
 
-  pub behind_kept : (i number : ℕ) (other : List ℕ) → At order i number → IsBehind d (take i order) other → IsBehind d (take (i + 1) order) other
-  behind_kept i number other at h = ⊎_elim
+  pub after_kept : (i number : ℕ) (other : List ℕ) → At order i number → IsAfter d (take i order) other → IsAfter d (take (i + 1) order) other
+  after_kept i number other at h = ⊎_elim
       (λ (u : Contains (unit_names d) other). inl u)
       (λ (q : (k : ℕ) × Contains (take i order) k × (slice_get (reservation_names d) k ≡ Some other)).
       inr (q.0, subst (λ (xs : List ℕ). Contains xs q.0) (sym (At_read i number at)) (Contains-append_left (take i order) (number ∷ []) q.0 q.1), q.2))
       h
 
-  pub behind_here : (i number : ℕ) (name other : List ℕ) → At order i number → slice_get (reservation_names d) number ≡ Some name → name ≡ other → IsBehind d (take (i + 1) order) other
-  behind_here i number name other at is e = inr (number, subst (λ (xs : List ℕ). Contains xs number) (sym (At_read i number at)) (Contains-push (take i order) number), is ∙ ap Some e)
+  pub after_here : (i number : ℕ) (name other : List ℕ) → At order i number → slice_get (reservation_names d) number ≡ Some name → name ≡ other → IsAfter d (take (i + 1) order) other
+  after_here i number name other at is e = inr (number, subst (λ (xs : List ℕ). Contains xs number) (sym (At_read i number at)) (Contains-push (take i order) number), is ∙ ap Some e)
 
   -- a class makes no name known
-  pub behind_class : (i number : ℕ) (other : List ℕ) → At order i number → length d.reservations ≤ number → IsBehind d (take (i + 1) order) other → IsBehind d (take i order) other
-  behind_class i number other at past h = ⊎_elim
+  pub after_class : (i number : ℕ) (other : List ℕ) → At order i number → length d.reservations ≤ number → IsAfter d (take (i + 1) order) other → IsAfter d (take i order) other
+  after_class i number other at past h = ⊎_elim
       (λ (u : Contains (unit_names d) other). inl u)
       (λ (q : (k : ℕ) × Contains (take (i + 1) order) k × (slice_get (reservation_names d) k ≡ Some other)). ⊎_elim
       (λ (old : Contains (take i order) q.0). inr (q.0, old, q.2))

@@ -9,9 +9,9 @@ use Rattle.hz_base_model.specs.Limits.{cycle_limit}
 use Rattle.hz_description_model.specs.Reservations.Limits.{alternative_limit}
 use Rattle.hz_altern.specs.Tables.{AreRight}
 use Rattle.hz_check_reservations.specs.declared.listing.extents.PastExtents.{PastExtents}
-use Rattle.hz_check_reservations.specs.Past.{sites_of, AreCountable, AreRightFor, TellsBehind, ArePast}
-use Rattle.hz_check_reservations.specs.Places.{told}
-use Rattle.hz_check_reservations.specs.Tables.{IsBehind, Holds, HasExtent}
+use Rattle.hz_check_reservations.specs.Past.{sites_of, AreCountable, AreRightFor, TellsAfter, ArePast}
+use Rattle.hz_check_reservations.specs.Places.{reported}
+use Rattle.hz_check_reservations.specs.Tables.{IsAfter, Holds, HasExtent}
 use Rattle.hz_check_reservations.proofs.Holding.{all_held, right_extents}
 use Rattle.hz_check_reservations.proofs.Ordered.{written, names_in_all}
 use Rattle.hz_description_model.specs.Reservations.Alternatives.{Alternative, alternatives_of}
@@ -19,7 +19,7 @@ use Rattle.hz_description_model.specs.Reservations.AlternativeLists.{Extent, ext
 use Rattle.hz_description_model.specs.Reservations.Automata.{UnitPlace}
 use Rattle.hz_description_model.specs.Check.CheckFaults.{faults_of_names, has_too_many, has_too_long}
 use Rattle.hz_description_model.specs.Check.CountingOrder.{Reserving, alternatives_in, reservations_of, classes_of}
-use Rattle.hz_description_model.specs.Check.FirstTold.{first_told}
+use Rattle.hz_description_model.specs.Check.FirstReported.{first_reported}
 use Rattle.hz_description_model.specs.Reading.Descriptions.{Description}
 use Rattle.hz_description_model.specs.Reading.DescriptionShape.{IsCheckable}
 use Rattle.hz_description_model.specs.Check.Places.{IsKnown, Known}
@@ -50,11 +50,11 @@ tells_long known q e is = some_long (alternatives_in known q) ∙ (cut_long (gre
 
 -- one item in front of others
 
-in_front : (test : Reserving → Bool) (q : Reserving) (items : List Reserving) (behind : List Site) (passed : Bool) → test q ≡ passed
-    → earliest (sites_of test (q ∷ items) ++ behind) ≡ earlier (cond passed (Some q.site) None) (earliest (sites_of test items ++ behind))
-in_front test q items behind passed is = ap (λ (b : Bool). earliest (map (λ (r : Reserving). r.site) (cond b (q ∷ filter test items) (filter test items)) ++ behind)) is ∙ by_test passed
+in_front : (test : Reserving → Bool) (q : Reserving) (items : List Reserving) (beyond : List Site) (passed : Bool) → test q ≡ passed
+    → earliest (sites_of test (q ∷ items) ++ beyond) ≡ earlier (cond passed (Some q.site) None) (earliest (sites_of test items ++ beyond))
+in_front test q items beyond passed is = ap (λ (b : Bool). earliest (map (λ (r : Reserving). r.site) (cond b (q ∷ filter test items) (filter test items)) ++ beyond)) is ∙ by_test passed
   where
-    by_test : (b : Bool) → earliest (map (λ (r : Reserving). r.site) (cond b (q ∷ filter test items) (filter test items)) ++ behind) ≡ earlier (cond b (Some q.site) None) (earliest (sites_of test items ++ behind))
+    by_test : (b : Bool) → earliest (map (λ (r : Reserving). r.site) (cond b (q ∷ filter test items) (filter test items)) ++ beyond) ≡ earlier (cond b (Some q.site) None) (earliest (sites_of test items ++ beyond))
     by_test true = refl
     by_test false = refl
 
@@ -64,36 +64,36 @@ right_tail table known q items right = record { each = λ r h. right.each r (Con
 module _ (table : List ℕ → Option Extent) (items : List Reserving) (old : PastExtents) where
   pub tells_more : (i : ℕ) (q : Reserving) (e : Extent) (now next : PastExtents) → 0 < i → i ≤ length items → q ≡ get_or items (i - 1) q
       → ((known : Known) → AreRight table known q.expression → e ≡ extent_of (alternatives_of known q.expression))
-      → told next.alternatives ≡ earlier (cond (nat_lt alternative_limit e.count) (Some q.site) None) (told now.alternatives)
-      → told next.cycles ≡ earlier (cond (nat_lt cycle_limit e.longest) (Some q.site) None) (told now.cycles)
-      → TellsBehind table (drop i items) old now → TellsBehind table (drop (i - 1) items) old next
+      → reported next.alternatives ≡ earlier (cond (nat_lt alternative_limit e.count) (Some q.site) None) (reported now.alternatives)
+      → reported next.cycles ≡ earlier (cond (nat_lt cycle_limit e.longest) (Some q.site) None) (reported now.cycles)
+      → TellsAfter table (drop i items) old now → TellsAfter table (drop (i - 1) items) old next
   tells_more i q e now next some within is counted many long tells =
       let step : (i - 1) + 1 ≡ i = omega arith in
       let parts : drop (i - 1) items ≡ q ∷ drop i items = drop_more items (i - 1) q (omega arith)
       ∙ (ap (λ (x : Reserving). x ∷ drop ((i - 1) + 1) items) (sym is) ∙ ap (λ (n : ℕ). q ∷ drop n items) step) in
-      subst (λ (xs : List Reserving). TellsBehind table xs old next) (sym parts) (record {
-        many = λ known right behind begun.
+      subst (λ (xs : List Reserving). TellsAfter table xs old next) (sym parts) (record {
+        many = λ known right beyond begun.
             let e_is = counted known (right.each q (Contains-head q (drop i items))) in
-            many ∙ (ap (earlier (cond (nat_lt alternative_limit e.count) (Some q.site) None)) (tells.many known (right_tail table known q (drop i items) right) behind begun)
-            ∙ sym (in_front (has_too_many known) q (drop i items) behind (nat_lt alternative_limit e.count) (tells_many known q e e_is)));
-        long = λ known right behind begun.
+            many ∙ (ap (earlier (cond (nat_lt alternative_limit e.count) (Some q.site) None)) (tells.many known (right_tail table known q (drop i items) right) beyond begun)
+            ∙ sym (in_front (has_too_many known) q (drop i items) beyond (nat_lt alternative_limit e.count) (tells_many known q e e_is)));
+        long = λ known right beyond begun.
             let e_is = counted known (right.each q (Contains-head q (drop i items))) in
-            long ∙ (ap (earlier (cond (nat_lt cycle_limit e.longest) (Some q.site) None)) (tells.long known (right_tail table known q (drop i items) right) behind begun)
-            ∙ sym (in_front (has_too_long known) q (drop i items) behind (nat_lt cycle_limit e.longest) (tells_long known q e e_is)));
+            long ∙ (ap (earlier (cond (nat_lt cycle_limit e.longest) (Some q.site) None)) (tells.long known (right_tail table known q (drop i items) right) beyond begun)
+            ∙ sym (in_front (has_too_long known) q (drop i items) beyond (nat_lt cycle_limit e.longest) (tells_long known q e e_is)));
       })
 
 -- all of a description
 
-module _ (d : Description) (told_names : first_told (faults_of_names d) ≡ None) (formed : IsCheckable d) (order : List ℕ) (ordered : IsOrder d order)
-    (table : List ℕ → Option Extent) (h : Holds (HasExtent d) (IsBehind d order) table) where
+module _ (d : Description) (reported_names : first_reported (faults_of_names d) ≡ None) (formed : IsCheckable d) (order : List ℕ) (ordered : IsOrder d order)
+    (table : List ℕ → Option Extent) (h : Holds (HasExtent d) (IsAfter d order) table) where
   pub countable : (items : List Reserving) → ((r : Reserving) → Contains items r → Contains (all_of d) r) → AreCountable table items
   countable items inside = record {
-    formed = λ r k. written d told_names formed order ordered r (inside r k);
-    held = λ r k. all_held (HasExtent d) (IsBehind d order) table h r.expression (names_in_all d told_names formed order ordered r (inside r k));
+    formed = λ r k. written d reported_names formed order ordered r (inside r k);
+    held = λ r k. all_held (HasExtent d) (IsAfter d order) table h r.expression (names_in_all d reported_names formed order ordered r (inside r k));
   }
 
   right_for : (known : Known) → IsKnown d known → (items : List Reserving) → ((r : Reserving) → Contains items r → Contains (all_of d) r) → AreRightFor table known items
-  right_for known right items inside = record { each = λ r k. right_extents d (IsBehind d order) known right table h r.expression (names_in_all d told_names formed order ordered r (inside r k)) }
+  right_for known right items inside = record { each = λ r k. right_extents d (IsAfter d order) known right table h r.expression (names_in_all d reported_names formed order ordered r (inside r k)) }
 
   pub of_classes : (r : Reserving) → Contains (classes_of d) r → Contains (all_of d) r
   of_classes r k = Contains-append_right (reservations_of d) (classes_of d) r k
@@ -101,16 +101,16 @@ module _ (d : Description) (told_names : first_told (faults_of_names d) ≡ None
   pub of_reservations : (r : Reserving) → Contains (reservations_of d) r → Contains (all_of d) r
   of_reservations r k = Contains-append_left (reservations_of d) (classes_of d) r k
 
-  pub past_all : (none classes all : PastExtents) → told none.alternatives ≡ None → told none.cycles ≡ None → TellsBehind table (classes_of d) none classes → TellsBehind table (reservations_of d) classes all → ArePast d (reservings d order) all
+  pub past_all : (none classes all : PastExtents) → reported none.alternatives ≡ None → reported none.cycles ≡ None → TellsAfter table (classes_of d) none classes → TellsAfter table (reservations_of d) classes all → ArePast d (reservings d order) all
   past_all none classes all no_many no_long first second = record {
     many = λ known right.
-        let behind = sites_of (has_too_many known) (classes_of d) in
-        second.many known (right_for known right (reservations_of d) of_reservations) behind
-        (first.many known (right_for known right (classes_of d) of_classes) [] no_many ∙ ap earliest (append-nil behind));
+        let beyond = sites_of (has_too_many known) (classes_of d) in
+        second.many known (right_for known right (reservations_of d) of_reservations) beyond
+        (first.many known (right_for known right (classes_of d) of_classes) [] no_many ∙ ap earliest (append-nil beyond));
     long = λ known right.
-        let behind = sites_of (has_too_long known) (classes_of d) in
-        second.long known (right_for known right (reservations_of d) of_reservations) behind
-        (first.long known (right_for known right (classes_of d) of_classes) [] no_long ∙ ap earliest (append-nil behind));
+        let beyond = sites_of (has_too_long known) (classes_of d) in
+        second.long known (right_for known right (reservations_of d) of_reservations) beyond
+        (first.long known (right_for known right (classes_of d) of_classes) [] no_long ∙ ap earliest (append-nil beyond));
   }
 
 -- an item that the code holds, as a reservation or class

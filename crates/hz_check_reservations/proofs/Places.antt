@@ -18,7 +18,7 @@ At-append [] ys i x h = absurd (cc)
 At-append (y ∷ xs) ys zero x h = h
 At-append (y ∷ xs) ys (suc i) x h = At-append xs ys i x h
 
--- the last one stands behind all others
+-- the last one comes after all others
 pub At-last : (xs : List ℕ) (y : ℕ) → At (xs ++ y ∷ []) (length xs) y
 At-last [] y = refl
 At-last (x ∷ xs) y = At-last xs y

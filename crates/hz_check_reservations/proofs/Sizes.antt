@@ -16,9 +16,9 @@ use Rattle.hz_check_reservations.specs.declared.listing.unexpanded.Unexpanded.Th
 use Rattle.hz_check_reservations.specs.Answers.{AreExpanded, IsPastSize, IsTooLarge, Refuses, Keeps, Expands}
 use Rattle.hz_check_reservations.specs.Past.{AreWithinExtents}
 use Rattle.hz_check_reservations.specs.Shape.{lists_of}
-use Rattle.hz_check_reservations.specs.Tables.{unit_names, IsBehind, Holds, HasAlternatives}
+use Rattle.hz_check_reservations.specs.Tables.{unit_names, IsAfter, Holds, HasAlternatives}
 use Rattle.hz_check_reservations.proofs.Classes.{classes_among, classes_in_order}
-use Rattle.hz_check_reservations.proofs.CountingNames.{none_behind, names_there, reservation_more, class_more, list_there}
+use Rattle.hz_check_reservations.proofs.CountingNames.{none_after, names_there, reservation_more, class_more, list_there}
 use Rattle.hz_check_reservations.proofs.Holding.{right_lists}
 use Rattle.hz_check_reservations.proofs.ListedNames.{SameListed, listed_twice, alternatives_listed, same_length, same_greatest, same_size}
 use Rattle.hz_check_reservations.proofs.Ordered.{in_all}
@@ -29,7 +29,7 @@ use Rattle.hz_description_model.specs.Reservations.AlternativeLists.{AreSound, g
 use Rattle.hz_description_model.specs.Reservations.Automata.{UnitPlace, listed, total_size}
 use Rattle.hz_description_model.specs.Check.CheckFaults.{has_too_many, has_too_long, sites_where, faults_of_names}
 use Rattle.hz_description_model.specs.Check.CountingOrder.{Reserving, reserving_class, reservations_of, classes_of, alternatives_in, past_size}
-use Rattle.hz_description_model.specs.Check.FirstTold.{first_told}
+use Rattle.hz_description_model.specs.Check.FirstReported.{first_reported}
 use Rattle.hz_description_model.specs.Reading.Descriptions.{Description}
 use Rattle.hz_description_model.specs.Reading.DescriptionShape.{IsCheckable}
 use Rattle.hz_base_model.specs.Limits.{cycle_limit}
@@ -96,16 +96,16 @@ abbrev listed_lists : Known → List Reserving → List (List (Alternative UnitP
 listed_lists known items = map (λ r. map listed (alternatives_in known r)) items
 
 pub record Progress (d : Description) (order : List ℕ) (i : ℕ) (s : Expansion) : Type 0 where
-  pub holds : Holds (HasAlternatives d) (IsBehind d (take i order)) (table_of s.known)
+  pub holds : Holds (HasAlternatives d) (IsAfter d (take i order)) (table_of s.known)
   pub small : s.size ≤ size_limit
   pub sizes : (known : Known) → IsKnown d known → past_size known 0 (reservings d order) ≡ past_size known s.size (reservings d (drop i order))
   pub lists : (known : Known) → IsKnown d known → lists_of s.lists.items ≡ listed_lists known (classes_among (reservings d (take i order)))
   pub sound : All (λ list. AreSound (alternatives list.items)) s.lists.items
 
-module _ (d : Description) (told : first_told (faults_of_names d) ≡ None) (formed : IsCheckable d) (order : List ℕ) (ordered : IsOrder d order) where
+module _ (d : Description) (reported : first_reported (faults_of_names d) ≡ None) (formed : IsCheckable d) (order : List ℕ) (ordered : IsOrder d order) where
   pub none_expanded : (s : Expansion) → Holds (HasAlternatives d) (Contains (unit_names d)) (table_of s.known) → s.size ≡ 0 → s.lists.items ≡ [] → Progress d order 0 s
   none_expanded s h size lists = record {
-    holds = none_behind (HasAlternatives d) d told formed order ordered (table_of s.known) h;
+    holds = none_after (HasAlternatives d) d reported formed order ordered (table_of s.known) h;
     small = omega arith;
     sizes = λ known right. ap (λ (n : ℕ). past_size known n (reservings d order)) (sym size);
     lists = λ known right. ap lists_of lists;
@@ -129,21 +129,21 @@ module _ (d : Description) (told : first_told (faults_of_names d) ≡ None) (for
     -- the alternatives are those of the definition, but for how they are listed
     same_all : (known : Known) → IsKnown d known → SameListed all (alternatives_in known q)
     same_all known right = alternatives_listed (known_alternatives s.known) known q.expression (λ name m.
-        ap (map listed) (right_lists d (IsBehind d (take i order)) known right (table_of s.known) p.holds q.expression (names_there (HasAlternatives d) d told formed order ordered i number at q is) name m)
+        ap (map listed) (right_lists d (IsAfter d (take i order)) known right (table_of s.known) p.holds q.expression (names_there (HasAlternatives d) d reported formed order ordered i number at q is) name m)
         ∙ listed_twice (known name))
 
     there : Contains (all_of d) q
-    there = subst (Contains (all_of d)) (sym is) (in_all d told formed order ordered number (ordered.within number (Contains-from_At order i number at)))
+    there = subst (Contains (all_of d)) (sym is) (in_all d reported formed order ordered number (ordered.within number (Contains-from_At order i number at)))
 
     pub few_there : AreWithinExtents d (reservings d order) → length all ≤ alternative_limit
     few_there extents =
-        let k = some_known d told formed order ordered in
+        let k = some_known d reported formed order ordered in
         let few = few_all d (reservings d order) extents k.0 k.1 q there in
         omega (arith, same_length all (alternatives_in k.0 q) (same_all k.0 k.1))
 
     pub short_there : AreWithinExtents d (reservings d order) → greatest_length all ≤ cycle_limit
     short_there extents =
-        let k = some_known d told formed order ordered in
+        let k = some_known d reported formed order ordered in
         let short = short_all d (reservings d order) extents k.0 k.1 q there in
         omega (arith, same_greatest all (alternatives_in k.0 q) (same_all k.0 k.1))
 
@@ -177,11 +177,11 @@ module _ (d : Description) (told : first_told (faults_of_names d) ≡ None) (for
     pub expanded_more : (t : Expansion) → Expands q all s t → Progress d order (i + 1) t
     expanded_more t e = record { holds = holds q.is_class refl e.keeps; small = e.small; sizes = sizes; lists = lists q.is_class refl e.keeps; sound = (e.sound).each p.sound }
       where
-        holds : (b : Bool) → q.is_class ≡ b → Keeps b (q.site).name (map listed all) s t → Holds (HasAlternatives d) (IsBehind d (take (i + 1) order)) (table_of t.known)
-        holds true class k = subst (λ table. Holds (HasAlternatives d) (IsBehind d (take (i + 1) order)) (table_of table)) (sym k.0)
-            (class_more (HasAlternatives d) d told formed order ordered i number at q is (table_of s.known) class p.holds)
-        holds false plain k = reservation_more (HasAlternatives d) d told formed order ordered i number at q is (map listed all) (table_of s.known) (table_of t.known) plain k.0
-            (list_there d told formed order ordered i number at q is (map listed all) plain same_all) p.holds
+        holds : (b : Bool) → q.is_class ≡ b → Keeps b (q.site).name (map listed all) s t → Holds (HasAlternatives d) (IsAfter d (take (i + 1) order)) (table_of t.known)
+        holds true class k = subst (λ table. Holds (HasAlternatives d) (IsAfter d (take (i + 1) order)) (table_of table)) (sym k.0)
+            (class_more (HasAlternatives d) d reported formed order ordered i number at q is (table_of s.known) class p.holds)
+        holds false plain k = reservation_more (HasAlternatives d) d reported formed order ordered i number at q is (map listed all) (table_of s.known) (table_of t.known) plain k.0
+            (list_there d reported formed order ordered i number at q is (map listed all) plain same_all) p.holds
 
         sizes : (known : Known) → IsKnown d known → past_size known 0 (reservings d order) ≡ past_size known t.size (reservings d (drop (i + 1) order))
         sizes known right =

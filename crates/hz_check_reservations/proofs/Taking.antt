@@ -62,8 +62,8 @@ module _ (starts : ℕ → List ℕ) (end : ℕ) (old : Knowledge) where
     of_pending v h = Contains-push_cases front node v (subst (λ (xs : List ℕ). Contains xs v) is h)
 
     -- the starts of the node's edges lead to the end
-    behind : (v : ℕ) → Contains (starts node) v → Path starts end v
-    behind v h = ⊎_elim
+    beyond : (v : ℕ) → Contains (starts node) v → Path starts end v
+    beyond v h = ⊎_elim
         (λ (e : end ≡ node). last (subst (λ (x : ℕ). Contains (starts x) v) (sym e) h))
         (λ (p : Path starts end node). path_push starts p h)
         (t.waits node (in_pending node (Contains-push front node)))
@@ -93,13 +93,13 @@ module _ (starts : ℕ → List ℕ) (end : ℕ) (old : Knowledge) where
           (λ (nowhere : lead_of k.leads v ≡ Nowhere). ⊎_elim
           (λ (g : lead_of (all_found (starts node) popped).leads v ≡ Nowhere). inl g)
           (λ (g : Contains (starts node) v × (lead_of (all_found (starts node) popped).leads v ≡ lead_now (is_taken k.taken v)) × Contains (all_found (starts node) popped).pending v).
-          inr (behind v g.0, g.1 ∙ ap (λ (b : List Bool). lead_now (is_taken b v)) t.taken))
+          inr (beyond v g.0, g.1 ∙ ap (λ (b : List Bool). lead_now (is_taken b v)) t.taken))
           (finds.fresh v nowhere))
           (λ (g : Path starts end v × (lead_of k.leads v ≡ lead_now (is_taken old.taken v))). inr (g.0, finds.kept v (somewhere v g.1) ∙ g.1))
           (t.fresh v h);
       waits = λ v h. ⊎_elim
           (λ (p : Contains front v). t.waits v (in_pending v (Contains-append_left front (node ∷ []) v p)))
-          (λ (g : Contains (starts node) v). inr (behind v g))
+          (λ (g : Contains (starts node) v). inr (beyond v g))
           (finds.pends v h);
       within = λ v h. ⊎_elim
           (λ (p : Contains front v). t.within v (in_pending v (Contains-append_left front (node ∷ []) v p)))

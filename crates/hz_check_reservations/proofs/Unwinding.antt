@@ -1,4 +1,4 @@
--- Reservations that stand behind those that they name unwind.
+-- Reservations that come after those that they name unwind.
 use Rattle.std.proofs.Common.{◌≡◌, ℕ, zero, suc, ◌<◌, ⊎_elim, cond, eqb, List, [], ◌∷◌, map, length, Contains, Option, Some, None, refl, sym, ap, ◌∙◌, subst, arith, slice_get}
 use Rattle.std.proofs.lemmas.Bool.{cond_both, cond-true, eq-eqb, eqb-true}
 use Rattle.std.proofs.lemmas.List.{length-map, length-append}
@@ -9,7 +9,7 @@ use Rattle.hz_description_model.specs.Reservations.Alternatives.{Expression}
 use Rattle.hz_description_model.specs.Reservations.Automata.{UnitPlace}
 use Rattle.hz_description_model.specs.Check.CheckFaults.{faults_of_names, IsUnfolded}
 use Rattle.hz_description_model.specs.Check.CountingOrder.{Reserving, reserving_reservation, reservations_of, classes_of}
-use Rattle.hz_description_model.specs.Check.FirstTold.{first_told}
+use Rattle.hz_description_model.specs.Check.FirstReported.{first_reported}
 use Rattle.hz_description_model.specs.Reservations.NamesIn.{names_in}
 use Rattle.hz_description_model.specs.Reading.Descriptions.{Description, ReservationItem}
 use Rattle.hz_description_model.specs.Reading.DescriptionShape.{IsCheckable}
@@ -33,7 +33,7 @@ at_place [] j k h = absurd (cc)
 at_place (x ∷ xs) zero k h = let same : x ≡ k = cc in subst (λ (p : ℕ). At (x ∷ xs) p k) (sym (cond-true (eqb x k) 0 (suc (place_in k xs)) (eq-eqb x k same))) h
 at_place (x ∷ xs) (suc j) k h = cond_both (eqb x k) 0 (suc (place_in k xs)) (λ (p : ℕ). At (x ∷ xs) p k) (λ e. ap Some (eqb-true x k e)) (λ _. at_place xs j k h)
 
-module _ (d : Description) (told : first_told (faults_of_names d) ≡ None) (formed : IsCheckable d) (order : List ℕ) (ordered : IsOrder d order) where
+module _ (d : Description) (reported : first_reported (faults_of_names d) ≡ None) (formed : IsCheckable d) (order : List ℕ) (ordered : IsOrder d order) where
   place_is : (j k : ℕ) → At order j k → place_in k order ≡ j
   place_is j k at = ordered.once.same (place_in k order) j k (at_place order j k at) at
 
@@ -55,7 +55,7 @@ module _ (d : Description) (told : first_told (faults_of_names d) ≡ None) (for
       let place = at_name_in name (map (λ (r : ReservationItem). r.name) d.reservations) d.reservations r found in
       let i = place.0 in
       let there : slice_get d.reservations i ≡ Some r = slice_get-get_or d.reservations i r place.1 ∙ ap Some place.2 in
-      let number : number_of d r.name ≡ Some i = number_is d told formed order ordered i r.name (name_there d told formed i r there) in
+      let number : number_of d r.name ≡ Some i = number_is d reported formed order ordered i r.name (name_there d reported formed i r there) in
       let low : i < length (all_of d) = omega (arith, place.1, length-map d.reservations reserving_reservation, length-append (reservations_of d) (classes_of d)) in
       let at = At_from_Contains order i (ordered.complete i low) in
       record {
@@ -99,4 +99,4 @@ module _ (d : Description) (told : first_told (faults_of_names d) ≡ None) (for
   some_known = (assigned (meaning d) unwinds, record { unwinds = unwinds; expands = assigned_right (meaning d) unwinds })
 
   pub unfolded : (known : Known) × IsUnfolded d known (reservings d order)
-  unfolded = let k = some_known in (k.0, record { defined = told; right = k.1; counts = ordered.counts })
+  unfolded = let k = some_known in (k.0, record { defined = reported; right = k.1; counts = ordered.counts })

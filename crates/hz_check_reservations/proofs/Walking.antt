@@ -34,7 +34,7 @@ module _ (edges : ℕ → List ℕ) where
   abbrev pub HasLooked : List Mark → Frame → Type 0
   HasLooked marks f = (v : ℕ) → Contains (take f.next (edges f.node)) v → mark_of marks v ≡ New → ⊥
 
-  -- what is still owed by frames, behind what was left
+  -- what is still owed by frames, after what was left
   pub data Owed : (frames : List Frame) (before rest : List ℕ) → Type 0 where
     nothing : {before : List ℕ} → Owed [] before []
     also : {f : Frame} {frames : List Frame} {before inner rest : List ℕ} → Visited edges before (drop f.next (edges f.node)) inner
@@ -253,7 +253,7 @@ module _ (edges : ℕ → List ℕ) where
         (λ (k : (v ≢ f.node) × (mark_of done_now v ≡ mark_of s.marks v)). sym k.1 ∙ h)
         (done_cases v)
 
-    -- a node behind a place of the new order
+    -- a node after a place of the new order
     node_at : (k node : ℕ) → At order_now k node → At s.order k node ⊎ ((k ≡ length s.order) × (f.node ≡ node))
     node_at k node h = At-push_cases s.order f.node k node h
 

@@ -1,4 +1,4 @@
--- What is told of a description that has no counting order.
+-- What is reported of a description that has no counting order.
 use Rattle.std.specs.Prelude.{⊤, slice_get, IsSomeAnd}
 use Rattle.hz_description_model.specs.Check.CheckFaults.{IsCircular, IsFirst}
 use Rattle.hz_description_model.specs.Reading.Descriptions.{Description}

@@ -15,7 +15,7 @@ pub data Path (edges : ℕ → List ℕ) : (from to : ℕ) → Type 0 where
   last : {from to : ℕ} → Contains (edges from) to → Path edges from to
   onward : {from middle to : ℕ} → Contains (edges from) middle → Path edges middle to → Path edges from to
 
--- The order in which a walk leaves the nodes, behind those that it has left before: directly before each come those that
+-- The order in which a walk leaves the nodes, after those that it has left before: directly before each come those that
 -- its edges lead to and that have not come before, from the first edge to the last, and so before each of these.
 pub data Visited (edges : ℕ → List ℕ) : (before nodes order : List ℕ) → Type 0 where
   ends : {before : List ℕ} → Visited edges before [] []

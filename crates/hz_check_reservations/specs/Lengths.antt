@@ -3,7 +3,7 @@ use Rattle.std.specs.Prelude.{ℕ, ◌+◌, min, List, [], ◌∷◌}
 use Rattle.hz_base_model.specs.Limits.{cycle_limit}
 use Rattle.hz_description_model.specs.Reservations.Alternatives.{Alternative}
 
--- a length, where one above the limit is told as the limit and one
+-- a length, where one above the limit is reported as the limit and one
 abbrev pub cut_length : ℕ → ℕ
 cut_length cycles = min cycles (cycle_limit + 1)
 

@@ -1,5 +1,5 @@
 -- The order in which the reservations and classes of a description count, by numbers: each reservation has its place among
--- the reservations, and each class its place among the classes behind all reservations.
+-- the reservations, and each class its place among the classes after all reservations.
 use Rattle.std.specs.Prelude.{◌≡◌, ℕ, ◌+◌, ◌<◌, Bool, true, false, List, [], ◌∷◌, ◌++◌, length, map, nat_lt, slice_index_or, IsTrue, IsFalse, Option, Some, None}
 use Rattle.std.specs.List.{Contains, filter_map}
 use Rattle.hz_description_model.specs.Reservations.Alternatives.{Expression}
@@ -13,7 +13,7 @@ use Rattle.hz_description_model.specs.Reading.Descriptions.{Description}
 use Rattle.hz_base_model.specs.Lines.{place_of}
 use Rattle.hz_check_reservations.specs.Graphs.{At, IsOnce}
 
--- reservations, and behind them classes
+-- reservations, and after them classes
 abbrev pub all_of : Description → List Reserving
 all_of d = reservations_of d ++ classes_of d
 
@@ -71,7 +71,7 @@ pub record IsGraph (d : Description) (lists : List (List ℕ)) : Type 0 where
   pub numbered : Numbered (reservations_of d) (classes_of d) 0 (length d.reservations) file
   pub edges : lists ≡ graph_of d file
 
--- The counting order of a description by numbers: all have come, each once, and each behind the reservations that it names.
+-- The counting order of a description by numbers: all have come, each once, and each after the reservations that it names.
 pub record IsOrder (d : Description) (order : List ℕ) : Type 0 where
   pub counts : IsCountingOrder d (reservings d order)
   pub within : (number : ℕ) → Contains order number → number < length (all_of d)

@@ -3,7 +3,7 @@ use Rattle.std.specs.Prelude.{◌≡◌, ℕ, Bool, List, ◌++◌, map, filter,
 use Rattle.std.specs.List.{Contains}
 use Rattle.hz_altern.specs.Tables.{is_held, AreRight}
 use Rattle.hz_check_reservations.specs.declared.listing.extents.PastExtents.{PastExtents}
-use Rattle.hz_check_reservations.specs.Places.{told}
+use Rattle.hz_check_reservations.specs.Places.{reported}
 use Rattle.hz_description_model.specs.Reservations.AlternativeLists.{Extent}
 use Rattle.hz_description_model.specs.Check.CheckFaults as check
 use Rattle.hz_description_model.specs.Check.CheckFaults.{past_limit, has_too_many, has_too_long}
@@ -27,15 +27,15 @@ pub record AreCountable (table : List ℕ → Option Extent) (items : List Reser
 pub record AreRightFor (table : List ℕ → Option Extent) (known : Known) (items : List Reserving) : Type 0 where
   pub each : (r : Reserving) → Contains items r → AreRight table known r.expression
 
--- what is told where these items stand before others
-pub record TellsBehind (table : List ℕ → Option Extent) (items : List Reserving) (old new : PastExtents) : Type 0 where
-  pub many : (known : Known) → AreRightFor table known items → (behind : List Site) → told old.alternatives ≡ earliest behind → told new.alternatives ≡ earliest (sites_of (has_too_many known) items ++ behind)
-  pub long : (known : Known) → AreRightFor table known items → (behind : List Site) → told old.cycles ≡ earliest behind → told new.cycles ≡ earliest (sites_of (has_too_long known) items ++ behind)
+-- what is reported where these items stand before others
+pub record TellsAfter (table : List ℕ → Option Extent) (items : List Reserving) (old new : PastExtents) : Type 0 where
+  pub many : (known : Known) → AreRightFor table known items → (beyond : List Site) → reported old.alternatives ≡ earliest beyond → reported new.alternatives ≡ earliest (sites_of (has_too_many known) items ++ beyond)
+  pub long : (known : Known) → AreRightFor table known items → (beyond : List Site) → reported old.cycles ≡ earliest beyond → reported new.cycles ≡ earliest (sites_of (has_too_long known) items ++ beyond)
 
 -- where the two limits are passed
 pub record ArePast (d : Description) (order : List Reserving) (past : PastExtents) : Type 0 where
-  pub many : (known : Known) → IsKnown d known → told past.alternatives ≡ earliest (past_limit d known order check.alternatives)
-  pub long : (known : Known) → IsKnown d known → told past.cycles ≡ earliest (past_limit d known order check.cycles)
+  pub many : (known : Known) → IsKnown d known → reported past.alternatives ≡ earliest (past_limit d known order check.alternatives)
+  pub long : (known : Known) → IsKnown d known → reported past.cycles ≡ earliest (past_limit d known order check.cycles)
 
 -- neither of the two limits is passed
 pub record AreWithinExtents (d : Description) (order : List Reserving) : Type 0 where

@@ -8,6 +8,6 @@ use Rattle.hz_check_reservations.specs.declared.ordering.site.Site.{Site}
 abbrev pub site_of : Site → model.Site
 site_of s = record { line = s.line; form = s.form; name = s.name.now }
 
--- the site that is told, if there is one
-abbrev pub told : Option Site → Option model.Site
-told site = option_map site_of site
+-- the site that is reported, if there is one
+abbrev pub reported : Option Site → Option model.Site
+reported site = option_map site_of site

@@ -16,8 +16,8 @@ abbrev pub reservation_names : Description → List (List ℕ)
 reservation_names d = map (λ r. r.name) d.reservations
 
 -- the name is that of a unit, or of a reservation of one of these numbers
-abbrev pub IsBehind : Description → List ℕ → List ℕ → Type 0
-IsBehind d numbers name = Contains (unit_names d) name ⊎ ((number : ℕ) × Contains numbers number × (slice_get (reservation_names d) number ≡ Some name))
+abbrev pub IsAfter : Description → List ℕ → List ℕ → Type 0
+IsAfter d numbers name = Contains (unit_names d) name ⊎ ((number : ℕ) × Contains numbers number × (slice_get (reservation_names d) number ≡ Some name))
 
 -- A table has for each of these names what is right, and nothing for other names.
 pub record Holds {A : Type 0} (IsRight : List ℕ → A → Type 0) (IsName : List ℕ → Type 0) (table : List ℕ → Option A) : Type 0 where

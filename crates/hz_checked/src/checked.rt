@@ -53,7 +53,7 @@ pub struct CheckedClass {
     pub lists: Vec<Vec<Grid>>,
 }
 
-/// A bypass. The classes are told by their numbers.
+/// A bypass. The classes are reported by their numbers.
 #[derive(Debug, PartialEq, Eq, Drop)]
 pub struct CheckedBypass {
     /// The latency between them, in cycles, at most 1,000.

@@ -42,7 +42,7 @@ in_all a (first ∷ names) =
 
 -- ---- what follows an item
 
-record Behind {A B : Type 0} (f : A → Option B) (xs : List A) (y : B) (back : List B) : Type 0 where
+record Beyond {A B : Type 0} (f : A → Option B) (xs : List A) (y : B) (back : List B) : Type 0 where
   front : List A
   item : A
   rest : List A
@@ -50,15 +50,15 @@ record Behind {A B : Type 0} (f : A → Option B) (xs : List A) (y : B) (back : 
   is : f item ≡ Some y
   others : filter_map f rest ≡ back
 
-behind : {A B : Type 0} (f : A → Option B) (xs : List A) (front : List B) (y : B) (back : List B) → filter_map f xs ≡ front ++ y ∷ back → Behind f xs y back
-behind f [] [] y back e = absurd (cc)
-behind f [] (z ∷ front) y back e = absurd (cc)
-behind {A} {B} f (x ∷ xs) front y back e = by_item (λ front k. behind f xs front y back k) (f x) refl front e
+beyond : {A B : Type 0} (f : A → Option B) (xs : List A) (front : List B) (y : B) (back : List B) → filter_map f xs ≡ front ++ y ∷ back → Beyond f xs y back
+beyond f [] [] y back e = absurd (cc)
+beyond f [] (z ∷ front) y back e = absurd (cc)
+beyond {A} {B} f (x ∷ xs) front y back e = by_item (λ front k. beyond f xs front y back k) (f x) refl front e
   where
-    later : Behind f xs y back → Behind f (x ∷ xs) y back
+    later : Beyond f xs y back → Beyond f (x ∷ xs) y back
     later h = record { front = x ∷ h.front; item = h.item; rest = h.rest; parts = ap (λ (zs : List A). x ∷ zs) h.parts; is = h.is; others = h.others }
 
-    by_item : ((front : List B) → filter_map f xs ≡ front ++ y ∷ back → Behind f xs y back) → (o : Option B) → f x ≡ o → (front : List B) → cons_option o (filter_map f xs) ≡ front ++ y ∷ back → Behind f (x ∷ xs) y back
+    by_item : ((front : List B) → filter_map f xs ≡ front ++ y ∷ back → Beyond f xs y back) → (o : Option B) → f x ≡ o → (front : List B) → cons_option o (filter_map f xs) ≡ front ++ y ∷ back → Beyond f (x ∷ xs) y back
     by_item again None is front k = later (again front k)
     by_item again (Some z) is [] k =
         let same : z ≡ y = cc in
@@ -82,7 +82,7 @@ pub first_unit : (taken : UnitPlace → ℕ → List (List ℕ)) (names : List (
 first_unit taken names classes l o e there equal =
     let f : UnitPlace → Option UnitLoad = λ u. option_map (λ (l : Load). record { unit = u; load = l }) (load_of (taken u) classes) in
     let is = first_of (loads_of taken (units_from 0 names) classes) l e in
-    let after = behind f (units_from 0 names) is.front l is.back is.parts in
+    let after = beyond f (units_from 0 names) is.front l is.back is.parts in
     ⊎_elim
     (λ (k : Contains is.front o). absurd (let low = of_each (λ o. (o.load).value < (l.load).value) is.front is.less o k in omega (arith, low, equal)))
     (λ (k : Contains (l ∷ is.back) o). ⊎_elim

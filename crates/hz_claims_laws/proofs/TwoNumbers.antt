@@ -6,9 +6,9 @@ use Rattle.std.proofs.lemmas.List.Elements.{filter-append, Contains-append_right
 use Rattle.hz_base_model.proofs.Elements.{Contains-nil, Contains-head, Contains-cons_cases, Contains-filter, Contains-from_filter}
 use Rattle.hz_description_model.specs.Check.CheckFaults.{second_numbers}
 use Rattle.hz_description_model.specs.Check.Sites.{Site}
-use Rattle.hz_description_model.specs.Check.ToldPlaces.{TellsSecondNumber}
+use Rattle.hz_description_model.specs.Check.ReportedPlaces.{TellsSecondNumber}
 use Rattle.hz_description_model.specs.Reading.Descriptions.{Description, BypassItem, unguarded}
-use Rattle.hz_description_model.proofs.Check.ToldLaws.{second_numbers_told}
+use Rattle.hz_description_model.proofs.Check.ReportedLaws.{second_numbers_reported}
 use Rattle.hz_claims_laws.specs.Numbers.{GiveTwoNumbers}
 
 -- a list is what is before an item, the item, and what follows it
@@ -93,8 +93,8 @@ between d s t =
 free_first : (b : BypassItem) (bs : List BypassItem) → b.guard ≡ false → filter (λ b. not b.guard) (b ∷ bs) ≡ b ∷ filter (λ b. not b.guard) bs
 free_first b bs g = ap (λ (t : Bool). cond (not t) (b ∷ filter (λ b. not b.guard) bs) (filter (λ b. not b.guard) bs)) g
 
-told_again : (d : Description) (s : Site) → GiveTwoNumbers d s → TellsSecondNumber (unguarded d.bypasses) s
-told_again d s t =
+reported_again : (d : Description) (s : Site) → GiveTwoNumbers d s → TellsSecondNumber (unguarded d.bypasses) s
+reported_again d s t =
     let front : List BypassItem = t.before ++ t.earlier ∷ t.between in
     let whole : d.bypasses ≡ front ++ t.later ∷ t.rest = t.file ∙ sym (append_assoc t.before (t.earlier ∷ t.between) (t.later ∷ t.rest)) in
     record {
@@ -118,5 +118,5 @@ told_again d s t =
 
 pub two_numbers : (d : Description) (s : Site) → Contains (second_numbers d) s ↔ GiveTwoNumbers d s
 two_numbers d s =
-    let both = second_numbers_told d s in
-    (λ c. between d s (both.0 c), λ t. both.1 (told_again d s t))
+    let both = second_numbers_reported d s in
+    (λ c. between d s (both.0 c), λ t. both.1 (reported_again d s t))

@@ -116,27 +116,27 @@ literal word h = record {
 -- ---- lines with their meanings
 
 -- a line of pieces that are these words tells what the words tell
-pub line_told : (pieces : List (List ℕ)) (word : List ℕ) (words : List (List ℕ)) (rest : List ℕ) (t : Option LineMeaning)
+pub line_reported : (pieces : List (List ℕ)) (word : List ℕ) (words : List (List ℕ)) (rest : List ℕ) (t : Option LineMeaning)
     → onto pieces rest ≡ spaced word words rest → IsWord word → AreWords words → line_meaning (word ∷ words) ≡ t → read_answer (concat pieces ++ rest) ≡ t ∷ read_answer rest
-line_told pieces word words rest t same h k e =
+line_reported pieces word words rest t same h k e =
     ap read_answer (concat_onto pieces rest ∙ same)
     ∙ ap (map line_meaning) (line_back word words rest h (all_words words k))
     ∙ ap (λ (o : Option LineMeaning). o ∷ read_answer rest) e
 
 -- a line of words tells what the words tell
-pub words_told : (word : List ℕ) (words : List (List ℕ)) (rest : List ℕ) (t : Option LineMeaning) → IsWord word → AreWords words → line_meaning (word ∷ words) ≡ t → read_answer (spaced word words rest) ≡ t ∷ read_answer rest
-words_told word words rest t h k e = ap (map line_meaning) (line_back word words rest h (all_words words k)) ∙ ap (λ (o : Option LineMeaning). o ∷ read_answer rest) e
+pub words_reported : (word : List ℕ) (words : List (List ℕ)) (rest : List ℕ) (t : Option LineMeaning) → IsWord word → AreWords words → line_meaning (word ∷ words) ≡ t → read_answer (spaced word words rest) ≡ t ∷ read_answer rest
+words_reported word words rest t h k e = ap (map line_meaning) (line_back word words rest h (all_words words k)) ∙ ap (λ (o : Option LineMeaning). o ∷ read_answer rest) e
 
 -- a line that begins with a number
 pub first_number : (m : ℕ) (words : List (List ℕ)) → m < 2 ^ 64 → line_meaning (decimal m ∷ words) ≡ meaning_of_number (decimal m) words
 first_number m words low = rw (are_digits m low) refl
 
 -- a line for each item, and then a rest
-pub each_told : {A : Type 0} (line : A → List ℕ) (tell : A → LineMeaning) (IsIn : A → Type 0)
+pub each_reported : {A : Type 0} (line : A → List ℕ) (tell : A → LineMeaning) (IsIn : A → Type 0)
     → ((x : A) (rest : List ℕ) → IsIn x → read_answer (line x ++ rest) ≡ Some (tell x) ∷ read_answer rest)
     → (xs : List A) (rest : List ℕ) → All IsIn xs → read_answer (flat_map line xs ++ rest) ≡ map (λ x. Some (tell x)) xs ++ read_answer rest
-each_told line tell IsIn one [] rest h = refl
-each_told {A} line tell IsIn one (x ∷ xs) rest h =
+each_reported line tell IsIn one [] rest h = refl
+each_reported {A} line tell IsIn one (x ∷ xs) rest h =
     ap read_answer (append_assoc (line x) (flat_map line xs) rest)
     ∙ one x (flat_map line xs ++ rest) (All-head IsIn x xs h)
-    ∙ ap (λ (os : List (Option LineMeaning)). Some (tell x) ∷ os) (each_told line tell IsIn one xs rest (All-tail IsIn x xs h))
+    ∙ ap (λ (os : List (Option LineMeaning)). Some (tell x) ∷ os) (each_reported line tell IsIn one xs rest (All-tail IsIn x xs h))

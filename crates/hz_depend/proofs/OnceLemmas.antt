@@ -16,7 +16,7 @@ listed_before n kept rest x e =
     (cases_Bool (x == n))
     ∙ sym (list_any-append (λ m. m == n) kept rest))
 
--- what does not stand yet may stand behind
+-- what does not stand yet may come after
 pub once_next : (kept : List ℕ) (x : ℕ) → AllPairs (λ earlier later. (earlier == later) ≡ false) kept → list_any (λ m. m == x) kept ≡ false → AllPairs (λ earlier later. (earlier == later) ≡ false) (kept ++ x ∷ [])
 once_next kept x once none = all_pairs_push (λ earlier later. (earlier == later) ≡ false) kept x once (λ k d lt. ⊎_elim
     (λ (t : (get_or kept k d == x) ≡ true). let clash : false ≡ true = sym none ∙ list_any_at (λ m. m == x) kept k d lt t in absurd (cc))

@@ -21,7 +21,7 @@ abbrev pub place_before : ℕ → List ℕ
 place_before zero = []
 place_before (suc k) = k ∷ []
 
--- all lists, one behind the other
+-- all lists, one after the other
 abbrev pub all_lists : List (List ℕ) → List ℕ
 all_lists lists = flat_map (λ list. list) lists
 

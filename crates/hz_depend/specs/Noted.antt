@@ -18,11 +18,11 @@ hits test (x ∷ items) place = (if test x then place ∷ [] else []) ++ hits te
 abbrev pub ends_with : List ℕ → ℕ → Bool
 ends_with list place = option_map_or (λ last. last == place) (slice_get list (length list - 1)) false
 
--- a list with a place behind it, unless it ends with that
+-- a list with a place after it, unless it ends with that
 abbrev pub put : List ℕ → ℕ → List ℕ
 put list place = if ends_with list place then list else list ++ place ∷ []
 
--- a list with some places put behind it
+-- a list with some places put after it
 abbrev pub put_all : List ℕ → List ℕ → List ℕ
 put_all list [] = list
 put_all list (p ∷ more) = put_all (put list p) more
@@ -97,7 +97,7 @@ abbrev pub cell_candidates : CellPlaces → (last : ℕ → ℕ) → Option Base
 cell_candidates c last (Some a) = c.unknown ++ known_candidates c last a
 cell_candidates c last None = c.unknown ++ all_lists c.bases
 
--- the places of instructions that one behind them may depend on
+-- the places of instructions that one after them may depend on
 abbrev pub candidates : Places → (last : ℕ → ℕ) → Held → List ℕ
 candidates p last h =
     flat_map (λ r. place_before (last r)) h.registers_read

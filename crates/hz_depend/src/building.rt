@@ -49,7 +49,7 @@ fn insns_of(
 }
 
 /// The dependence graph of a block of at most 4,096 instructions: one edge for each dependence, with its cost in cycles, and
-/// heights. The first instruction in the order of the source whose class is wrong is told.
+/// heights. The first instruction in the order of the source whose class is wrong is reported.
 pub fn graph(alloc: Global, checked: &Checked, block: &Block) -> Result<Graph, DependFault>
     requires { length block.now.insns.items ≤ instruction_limit }
     ensures graph { IfOk result (λ graph. IsGraphOf checked.now block.now graph) }

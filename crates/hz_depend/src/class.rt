@@ -36,7 +36,7 @@ pub enum ClassFault {
 impl ClassFault {
     ghost use Rattle.hz_depend.specs.Faults.{classes_in};
 
-    /// The word by which the fault is told. docs/FORMATS.md, 'Answers'.
+    /// The word by which the fault is reported. docs/FORMATS.md, 'Answers'.
     pub fn word(&self) -> &'static str
         ensures { result.now ≡ model.class_word (fault self.now) }
     {
@@ -134,7 +134,7 @@ fn one_class(
 }
 
 /// The class of an instruction, by its number: the one whose condition holds. The leftmost attribute that isn't defined, or
-/// whose value isn't one of its values, is told first, then that no condition holds or that two do. It takes no memory.
+/// whose value isn't one of its values, is reported first, then that no condition holds or that two do. It takes no memory.
 pub fn class_of(checked: &Checked, insn: &Insn) -> Result<u32, ClassFault>
     ensures ok { IfOk result (λ class. class_for checked.now insn.now ≡ Ok class) }
     ensures within { IfOk result (λ class. class < length checked.now.classes.items) }

@@ -8,7 +8,7 @@ pub mod PlaceLaws
 pub mod QueryPlaces
 pub mod QueryLaws
 pub mod CheckTotal
-pub mod ToldLaws
+pub mod ReportedLaws
 pub mod OnceLaws
 pub mod SplitLaws
 pub mod RankLaws

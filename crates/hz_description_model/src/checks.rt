@@ -6,7 +6,7 @@ ghost use Rattle.hz_description_model.specs.Reservations.Limits.{size_limit};
 ghost use Rattle.hz_description_model.specs.Check.CheckFaults.{CheckFault, CheckFaultAt, IsSound, IsFirst, IsUnfolded, past_units, second_numbers, unit_site, queries_under_ndfa};
 ghost use Rattle.hz_description_model.specs.Check.CountingOrder.{Reserving, past_size, reservations_of, classes_of};
 ghost use Rattle.hz_description_model.specs.Check.Places.{automaton_number, unit_places, Known, meaning};
-ghost use Rattle.hz_description_model.specs.Check.ToldPlaces.{ToldBehind, StandsBefore, IsPastUnits, units_beside, PassesSize, size_together, TellsSecondNumber, TellsFirstQuery};
+ghost use Rattle.hz_description_model.specs.Check.ReportedPlaces.{ReportedAfter, StandsBefore, IsPastUnits, units_beside, PassesSize, size_together, TellsSecondNumber, TellsFirstQuery};
 ghost use Rattle.hz_description_model.specs.Check.CheckedParts.{AutomatonParts, ClassParts, BypassParts, unit_items_in, queries_in, ask_names_in, automaton_parts, automata_of, class_parts, bypass_parts, attributes_of};
 ghost use Rattle.hz_description_model.specs.Check.CheckedShape.{IsKept, ask_names, AskNothingUnderNdfa};
 ghost use Rattle.hz_description_model.specs.Reading.Descriptions.{Description, UnitItem, ClassItem, unguarded};
@@ -45,15 +45,15 @@ pub fn parts_are_kept()
     ensures { (d : Description) (known : Known) → IsCheckable d → IsSound d known → IsKept (automata_of d) (map (class_parts d known) d.classes) (map (bypass_parts d) d.bypasses) (attributes_of d) }
 {}
 
-/// A name is told to be defined twice exactly where an equal name stands before it in its name space: among the names of
+/// A name is reported to be defined twice exactly where an equal name stands before it in its name space: among the names of
 /// its own list, or of the other list by an earlier form.
-pub fn second_names_are_told()
-    ensures { (others sites : List Site) → ToldBehind (StandsBefore others) (λ s. s) [] sites (repeated others [] sites) }
+pub fn second_names_are_reported()
+    ensures { (others sites : List Site) → ReportedAfter (StandsBefore others) (λ s. s) [] sites (repeated others [] sites) }
 {}
 
-/// A unit is told to be past the limit exactly where so many units of its automaton stand before it.
-pub fn units_past_their_limit_are_told()
-    ensures { (d : Description) → ToldBehind (IsPastUnits d) unit_site [] d.units (past_units d.units (unit_places d)) }
+/// A unit is reported to be past the limit exactly where so many units of its automaton stand before it.
+pub fn units_past_their_limit_are_reported()
+    ensures { (d : Description) → ReportedAfter (IsPastUnits d) unit_site [] d.units (past_units d.units (unit_places d)) }
 {}
 
 /// A unit's number is the number of the units of its automaton before it.
@@ -68,21 +68,21 @@ pub fn each_counts_once()
     ensures all { (d : Description) (known : Known) (order : List Reserving) → IsCheckable d → IsUnfolded d known order → (r : Reserving) → Contains order r ↔ (Contains (reservations_of d) r ⊎ Contains (classes_of d) r) }
 {}
 
-/// The size is told exactly at the first item with which the sum of sizes passes its limit, where items count in this order;
+/// The size is reported exactly at the first item with which the sum of sizes passes its limit, where items count in this order;
 /// nowhere where the sum of all does not.
-pub fn size_is_told_where_it_passes()
+pub fn size_is_reported_where_it_passes()
     ensures some { (known : Known) (order : List Reserving) (s : Site) → past_size known 0 order ≡ s ∷ [] ↔ PassesSize known order s }
     ensures none { (known : Known) (order : List Reserving) → past_size known 0 order ≡ [] ↔ (size_together known order ≤ size_limit) }
 {}
 
-/// A producing class is told of a bypass exactly where the bypass gives it, with some consuming class, another number than
+/// A producing class is reported of a bypass exactly where the bypass gives it, with some consuming class, another number than
 /// an earlier bypass, where bypasses with the guard are left out.
-pub fn second_numbers_are_told()
+pub fn second_numbers_are_reported()
     ensures { (d : Description) (s : Site) → Contains (second_numbers d) s ↔ TellsSecondNumber (unguarded d.bypasses) s }
 {}
 
-/// A query unit is told under the option `ndfa` exactly where the option is given: the first of the file.
-pub fn first_query_units_are_told()
+/// A query unit is reported under the option `ndfa` exactly where the option is given: the first of the file.
+pub fn first_query_units_are_reported()
     ensures { (d : Description) → IsCheckable d → (s : Site) → earliest (queries_under_ndfa d) ≡ Some s ↔ TellsFirstQuery d s }
 {}
 

@@ -4,7 +4,7 @@ ghost use Rattle.std.specs.Prelude.{◌≡◌, ◌<◌, ◌⊎◌, ◌↔◌, �
 ghost use Rattle.hz_base_model.specs.Forms.Trees.{Trees};
 ghost use Rattle.hz_base_model.specs.Forms.Forms as texts;
 ghost use Rattle.hz_description_model.specs.Reading.Descriptions.{Description};
-ghost use Rattle.hz_description_model.specs.Reading.AddedItems.{Add, HasItems, HasOptions, StandsBehind};
+ghost use Rattle.hz_description_model.specs.Reading.AddedItems.{Add, HasItems, HasOptions, StandsAfter};
 ghost use Rattle.hz_description_model.specs.Reading.DescriptionForms.{Reads, Addition, DescriptionFault, FaultAt, form_count, strings_below};
 ghost use Rattle.hz_description_model.specs.Reading.DescriptionShape.{IsWellFormed, IsCheckable};
 
@@ -55,6 +55,6 @@ pub fn options_stand_in_forms()
 {}
 
 /// A fault stands exactly where the forms are a front that is read, a form with that fault, and a rest.
-pub fn faults_stand_behind_a_front()
-    ensures { (forms : Trees) (fault : DescriptionFault) (line : ℕ) → FaultAt forms fault line ↔ StandsBehind forms fault line }
+pub fn faults_stand_after_a_front()
+    ensures { (forms : Trees) (fault : DescriptionFault) (line : ℕ) → FaultAt forms fault line ↔ StandsAfter forms fault line }
 {}

@@ -38,7 +38,7 @@ pub record IsInRange (machine : tables.Machine) (one other : depend.Graph) (issu
   pub first : All (λ i. i.class < length machine.classes.items) one.insns.items
   pub second : All (λ i. i.class < length machine.classes.items) other.insns.items
 
--- the context and place that are told, where an instruction can't be issued alone
+-- the context and place that are reported, where an instruction can't be issued alone
 abbrev pub stuck_in : Result (Vec DuoSlot Global) DuoFault → Option (ℕ × ℕ)
 stuck_in (Ok slots) = None
 stuck_in (Err (CannotStartAlone context place)) = Some (context, place)

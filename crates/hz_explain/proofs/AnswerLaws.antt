@@ -82,16 +82,16 @@ module _ (d : Description) where
         both = asked.held (treatment_first d.options.ndfa (automata_of d) a u is.nothing low)
 
         text : (c : Bool) → x.reserved ≡ c → asked_line units x ≡ ask_line line (query_name (trace_names d) a u) c
-        text c told =
+        text c reported =
             ap (λ (l : ℕ). ask_line l (unit_name units x.part x.ask) x.reserved) asked.on_line
             ∙ ap (λ (p : ℕ). ask_line line (unit_name units p x.ask) x.reserved) asked.automaton_there
             ∙ ap (λ (q : ℕ). ask_line line (unit_name units a q) x.reserved) asked.query_there
             ∙ ap (λ (names : List (List (List ℕ))). ask_line line (unit_name names a u) x.reserved) is.unit_names
-            ∙ ap (λ (r : Bool). ask_line line (query_name (trace_names d) a u) r) told
+            ∙ ap (λ (r : Bool). ask_line line (query_name (trace_names d) a u) r) reported
 
         by_test : (c : Bool) → x.reserved ≡ c → AskSays (held_in d known) (trace_names d) before line a u (asked_line units x)
-        by_test true told = inl (subst (IsHeld m before) (same_unit a u low) (both.0 told), text true told)
-        by_test false told = inr ((λ held. let yes : x.reserved ≡ true = both.1 (subst (IsHeld m before) (sym (same_unit a u low)) held) in cc), text false told)
+        by_test true reported = inl (subst (IsHeld m before) (same_unit a u low) (both.0 reported), text true reported)
+        by_test false reported = inr ((λ held. let yes : x.reserved ≡ true = both.1 (subst (IsHeld m before) (sym (same_unit a u low)) held) in cc), text false reported)
 
     asks_say : (before t : List Event) (lines more : List ℕ) (asked : List Asked) → length lines ≡ length t → All (IsOfQuery (queries_of d)) t → AreAsked m (queries_of d) before lines t asked
         → AsksSay (held_in d known) (trace_names d) before (lines ++ more) t (flat_map (asked_line units) asked)

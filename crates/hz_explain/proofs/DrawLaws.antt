@@ -8,7 +8,7 @@ use Rattle.std.proofs.lemmas.List.{append_assoc, append-nil}
 use Rattle.std.proofs.lemmas.List.Concat.{flat_map-append}
 use Rattle.std.proofs.lemmas.List.FromFn.{take-map-range_with_len}
 use Rattle.hz_why_model.specs.Holders.{Entry, entry_at}
-use Rattle.hz_why_model.specs.Pictures.{line_limit, spaces, at_right, Layout, picture_line, cut_line, text_at, row_of, rows_of, layout_of, layout_by, name_columns, room_behind, cycle_columns, longest_cell}
+use Rattle.hz_why_model.specs.Pictures.{line_limit, spaces, at_right, Layout, picture_line, cut_line, text_at, row_of, rows_of, layout_of, layout_by, name_columns, room_after, cycle_columns, longest_cell}
 use Rattle.hz_explain.specs.Drawing.{cell_text, cells, names_of, row_text, rows_text, picture_text, IsRowOf, AreRowsOf}
 use Rattle.hz_explain.specs.declared.drawing.Row.{Row}
 
@@ -30,7 +30,7 @@ same_map f g h each (x ∷ xs) = ap (λ (y : _). y ∷ map f (map g xs)) (each x
 
 -- no more cycles are shown than there are columns
 shown_within : (name cycle cycles n : ℕ) → min cycles line_limit ≤ n → (layout_by name cycle cycles).shown ≤ n
-shown_within name cycle cycles n wide = let some : room_behind name / (cycle + 1) ≤ room_behind name = div-le_self (room_behind name) (cycle + 1) in let room : room_behind name ≤ line_limit = omega arith in omega arith
+shown_within name cycle cycles n wide = let some : room_after name / (cycle + 1) ≤ room_after name = div-le_self (room_after name) (cycle + 1) in let room : room_after name ≤ line_limit = omega arith in omega arith
 
 module _ {U : Type 0} (same : U → U → Bool) (name : U → List ℕ) (held : List (Entry U)) where
   cell : (o : Option (Entry U)) → cell_text (option_map (λ e. e.line) o) ≡ option_map_or (λ e. decimal e.line) o (codes ".")
@@ -67,6 +67,6 @@ module _ {U : Type 0} (same : U → U → Bool) (name : U → List ℕ) (held : 
   drawn_is cycles n wide (u ∷ us) (row ∷ rows) is =
       let most : ℕ = longest_cell same name held cycles in
       let l : Layout = layout_of (map name (u ∷ us)) cycles most in
-      let shown : l.shown ≤ n = shown_within (name_columns (map name (u ∷ us))) (cycle_columns (room_behind (name_columns (map name (u ∷ us)))) cycles most) cycles n wide in
+      let shown : l.shown ≤ n = shown_within (name_columns (map name (u ∷ us))) (cycle_columns (room_after (name_columns (map name (u ∷ us)))) cycles most) cycles n wide in
       ap (λ (ns : List (List ℕ)). rows_text (layout_of ns cycles most) cycles (row ∷ rows)) (names_are n (u ∷ us) (row ∷ rows) is)
       ∙ ap (λ (t : List ℕ). concat (picture_line l (codes "cycle") (map decimal (range_with_len 0 l.shown)) ∷ t ∷ cut_line l cycles ∷ [])) (rows_are n l shown (u ∷ us) (row ∷ rows) is)

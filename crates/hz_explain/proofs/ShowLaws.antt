@@ -37,7 +37,7 @@ use Rattle.hz_reasons.specs.declared.plan.Place.{Place}
 use Rattle.hz_reasons.specs.declared.plan.Plan.{Plan}
 use Rattle.hz_explain.proofs.DrawLaws.{drawn_is}
 use Rattle.hz_reasons.proofs.ExtentLaws.{most-append, most_within, most_reached, cycles_held, lines_held}
-use Rattle.hz_explain.proofs.TellLaws.{told_from_now}
+use Rattle.hz_explain.proofs.TellLaws.{reported_from_now}
 
 -- ---- marks
 
@@ -335,7 +335,7 @@ module _ (m : Pipeline UnitPlace) (plan : Plan) (is : IsPlanOf m plan) (t : List
 
   lines_are : (n : ℕ) (u : UnitPlace) → lines_shown plan issues n u ≡ lines_at same_place held n u
   lines_are n u = map_alike (λ (cycle : ℕ). option_map (λ (h : Holder). h.line) (holder_in plan issues u cycle)) (λ (cycle : ℕ). option_map (λ (e : Entry UnitPlace). e.line) (entry_at same_place held (record { unit = u; cycle = cycle })))
-      (λ cycle. line_held (record { unit = u; cycle = cycle }) (holder_in plan issues u cycle) ∙ ap (option_map (λ (e : Entry UnitPlace). e.line)) (told_from_now m plan is t lines choices issues are u cycle)) (range_with_len 0 n)
+      (λ cycle. line_held (record { unit = u; cycle = cycle }) (holder_in plan issues u cycle) ∙ ap (option_map (λ (e : Entry UnitPlace). e.line)) (reported_from_now m plan is t lines choices issues are u cycle)) (range_with_len 0 n)
 
   are_rows : (parts : Parts) (n : ℕ) (us : List UnitPlace) (rows : List Row) → map shown_in rows ≡ map (shown_of parts plan issues n) us → AreRowsOf same_place (unit_name parts) held n us rows
   are_rows parts n [] [] e = tt

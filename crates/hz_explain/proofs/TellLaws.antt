@@ -1,4 +1,4 @@
--- What is told by what the code holds is what the definitions tell.
+-- What is reported by what the code holds is what the definitions tell.
 use Rattle.std.proofs.Common.{◌≡◌, ℕ, zero, suc, ◌+◌, ◌-◌, ◌<◌, ◌≤◌, ⊎_elim, Bool, true, false, cond, List, [], ◌∷◌, ◌++◌, map, take, drop, length, get_or, append_assoc, Contains, Option, Some, None, refl, sym, ap, ◌∙◌, subst, arith}
 use Rattle.std.specs.Prelude.{◌&&◌, ◌==◌, codes, decimal, slice_get, slice_index_or, if◌then◌else◌}
 use Rattle.std.specs.List.{concat, find, flat_map}
@@ -23,7 +23,7 @@ use Rattle.hz_why_model.specs.Reasons.{same_place}
 use Rattle.hz_reasons.specs.Breaking.{reason_at, patterns_of, pattern_at}
 use Rattle.hz_reasons.specs.Holding.{AreHolders, entry_with, pair_in, is_holder_of}
 use Rattle.hz_reasons.specs.Plans.{unit_of, statement_of, IsPlanOf}
-use Rattle.hz_explain.specs.Telling.{holder_in, pattern_or_none, pattern_numbered, patterns_or_none, pattern_in, unit_in, pair_told, holder_told, units_told, pattern_told, reason_told, alternative_told, alternatives_told, choice_told}
+use Rattle.hz_explain.specs.Telling.{holder_in, pattern_or_none, pattern_numbered, patterns_or_none, pattern_in, unit_in, pair_reported, holder_reported, units_reported, pattern_reported, reason_reported, alternative_reported, alternatives_reported, choice_reported}
 use Rattle.hz_reasons.specs.declared.holders.Holder.{Holder}
 use Rattle.hz_reasons.specs.declared.plan.AutomatonUnit.{AutomatonUnit}
 use Rattle.hz_reasons.specs.declared.plan.Plan.{Plan}
@@ -36,21 +36,21 @@ use Rattle.hz_reasons.proofs.HoldingLaws.{holder_in_all, holder_from_now}
 -- ---- one line more
 
 pub lines_next : (w : Wording UnitPlace) (plan : Plan) (issues : List Holder) (reasons : List (Option Reason)) (i : ℕ) (d : Option Reason) (old text : List ℕ) (all : List ℕ) → i < length reasons
-    → old ++ alternatives_told w plan issues (i + 1) (drop i reasons) ≡ all → text ≡ old ++ alternative_told w plan issues (i + 1) (get_or reasons i d)
-    → text ++ alternatives_told w plan issues (i + 1 + 1) (drop (i + 1) reasons) ≡ all
+    → old ++ alternatives_reported w plan issues (i + 1) (drop i reasons) ≡ all → text ≡ old ++ alternative_reported w plan issues (i + 1) (get_or reasons i d)
+    → text ++ alternatives_reported w plan issues (i + 1 + 1) (drop (i + 1) reasons) ≡ all
 lines_next w plan issues reasons i d old text all lt come more =
-    let one : List ℕ = alternative_told w plan issues (i + 1) (get_or reasons i d) in
-    let rest : List ℕ = alternatives_told w plan issues (suc (i + 1)) (drop (i + 1) reasons) in
+    let one : List ℕ = alternative_reported w plan issues (i + 1) (get_or reasons i d) in
+    let rest : List ℕ = alternatives_reported w plan issues (suc (i + 1)) (drop (i + 1) reasons) in
     let on : i + 1 + 1 ≡ suc (i + 1) = omega arith in
-    ap (λ (n : ℕ). text ++ alternatives_told w plan issues n (drop (i + 1) reasons)) on
+    ap (λ (n : ℕ). text ++ alternatives_reported w plan issues n (drop (i + 1) reasons)) on
     ∙ (ap (λ (t : List ℕ). t ++ rest) more
     ∙ (append_assoc old one rest
-    ∙ (sym (ap (λ (rs : List (Option Reason)). old ++ alternatives_told w plan issues (i + 1) rs) (drop_more reasons i d lt)) ∙ come)))
+    ∙ (sym (ap (λ (rs : List (Option Reason)). old ++ alternatives_reported w plan issues (i + 1) rs) (drop_more reasons i d lt)) ∙ come)))
 
 pub lines_end : (w : Wording UnitPlace) (plan : Plan) (issues : List Holder) (reasons : List (Option Reason)) (i n : ℕ) (text all : List ℕ) → length reasons ≤ i
-    → text ++ alternatives_told w plan issues n (drop i reasons) ≡ all → text ≡ all
+    → text ++ alternatives_reported w plan issues n (drop i reasons) ≡ all → text ≡ all
 lines_end w plan issues reasons i n text all le come =
-    sym (append-nil text) ∙ (sym (ap (λ (rs : List (Option Reason)). text ++ alternatives_told w plan issues n rs) (drop_all i reasons le)) ∙ come)
+    sym (append-nil text) ∙ (sym (ap (λ (rs : List (Option Reason)). text ++ alternatives_reported w plan issues n rs) (drop_all i reasons le)) ∙ come)
 
 -- one reason more
 pub reasons_next : {A R Q : Type 0} (f : R → Q) (g : A → Q) (made : List R) (new : R) (all : List A) (i : ℕ) → i < length all → map f made ≡ map g (take i all)
@@ -106,8 +106,8 @@ module _ (m : Pipeline UnitPlace) (plan : Plan) (is : IsPlanOf m plan) where
       absurd (omega arith)))
 
   module _ (t : List Event) (lines choices : List ℕ) (issues : List Holder) (are : AreHolders m t lines choices issues) (u : UnitPlace) (cycle : ℕ) where
-    pub told_in_all : option_map (entry_with (in_cycle (cycles_of t) u cycle)) (holder_in plan issues u cycle) ≡ entry_at same_place (entries m 0 t lines choices) (in_cycle (cycles_of t) u cycle)
-    told_in_all = ⊎_elim
+    pub reported_in_all : option_map (entry_with (in_cycle (cycles_of t) u cycle)) (holder_in plan issues u cycle) ≡ entry_at same_place (entries m 0 t lines choices) (in_cycle (cycles_of t) u cycle)
+    reported_in_all = ⊎_elim
         (λ (low : u.automaton < length plan.rules.items).
         ap (λ (b : Bool). option_map (entry_with (in_cycle (cycles_of t) u cycle)) (cond b (find (is_holder_of plan u cycle) issues) None)) (lt-ltb u.automaton (length plan.rules.items) low)
         ∙ holder_in_all m plan is t lines choices issues are u low cycle)
@@ -116,8 +116,8 @@ module _ (m : Pipeline UnitPlace) (plan : Plan) (is : IsPlanOf m plan) where
         ∙ sym (free (entries m 0 t lines choices) (entries_low 0 t lines choices) (in_cycle (cycles_of t) u cycle) high))
         (cases_lt u.automaton (length plan.rules.items))
 
-    pub told_from_now : option_map (entry_with (record { unit = u; cycle = cycle })) (holder_in plan issues u cycle) ≡ entry_at same_place (entries_from (cycles_of t) (entries m 0 t lines choices)) (record { unit = u; cycle = cycle })
-    told_from_now =
+    pub reported_from_now : option_map (entry_with (record { unit = u; cycle = cycle })) (holder_in plan issues u cycle) ≡ entry_at same_place (entries_from (cycles_of t) (entries m 0 t lines choices)) (record { unit = u; cycle = cycle })
+    reported_from_now =
         let p : Pair UnitPlace = record { unit = u; cycle = cycle } in
         ⊎_elim
         (λ (low : u.automaton < length plan.rules.items).
@@ -172,18 +172,18 @@ at_present now cycle = ⊎_elim
     (cases_lt 0 cycle)
 
 module _ (w : Wording UnitPlace) (now : ℕ) (held : List (Entry UnitPlace)) where
-  pair_is : (u : AutomatonUnit) (cycle : ℕ) → concat (pair_words w now held (pair_in now u cycle)) ≡ pair_told w u cycle
+  pair_is : (u : AutomatonUnit) (cycle : ℕ) → concat (pair_words w now held (pair_in now u cycle)) ≡ pair_reported w u cycle
   pair_is u cycle = let same : now + cycle - now ≡ cycle = omega arith in ap (λ (n : ℕ). concat (w.unit (unit_of u) ∷ codes " in cycle " ∷ decimal n ∷ [])) same
 
-  holder_is : (u : AutomatonUnit) (cycle : ℕ) (o : Option Holder) → concat (holder_words w now held (option_map (entry_with (pair_in now u cycle)) o)) ≡ holder_told w cycle o
+  holder_is : (u : AutomatonUnit) (cycle : ℕ) (o : Option Holder) → concat (holder_words w now held (option_map (entry_with (pair_in now u cycle)) o)) ≡ holder_reported w cycle o
   holder_is u cycle None = refl
   holder_is u cycle (Some h) = ap (λ (present : Bool). concat (held_word present ∷ decimal h.line ∷ codes ", " ∷ w.class h.class ∷ [])) (at_present now cycle)
 
-  units_are : (us : List AutomatonUnit) → concat (flat_map (λ v. codes " " ∷ w.unit v ∷ []) (map unit_of us)) ≡ units_told w us
+  units_are : (us : List AutomatonUnit) → concat (flat_map (λ v. codes " " ∷ w.unit v ∷ []) (map unit_of us)) ≡ units_reported w us
   units_are [] = refl
-  units_are (u ∷ us) = ap (λ (t : List ℕ). codes " " ++ (w.unit (unit_of u) ++ t)) (units_are us) ∙ sym (append_assoc (codes " ") (w.unit (unit_of u)) (units_told w us))
+  units_are (u ∷ us) = ap (λ (t : List ℕ). codes " " ++ (w.unit (unit_of u) ++ t)) (units_are us) ∙ sym (append_assoc (codes " ") (w.unit (unit_of u)) (units_reported w us))
 
-  pattern_said : (us : List AutomatonUnit) → concat (pattern_words w now held (map unit_of us)) ≡ pattern_told w us
+  pattern_said : (us : List AutomatonUnit) → concat (pattern_words w now held (map unit_of us)) ≡ pattern_reported w us
   pattern_said [] = append-nil (codes " without a pattern")
   pattern_said (u ∷ us) = ap (λ (t : List ℕ). codes " with" ++ t) (units_are (u ∷ us))
 
@@ -193,39 +193,39 @@ module _ (w : Wording UnitPlace) (now : ℕ) (held : List (Entry UnitPlace)) whe
     at_same : (p : Pair UnitPlace) → entry_at w.same held p ≡ entry_at same_place held p
     at_same p = ap (λ (s : UnitPlace → UnitPlace → Bool). entry_at s held p) (fun_ext (λ a. fun_ext (λ b. same a b)))
 
-    reason_is : (r : Reason) → concat (reason_words w now held (reason_at statements now r)) ≡ reason_told w plan issues r
+    reason_is : (r : Reason) → concat (reason_words w now held (reason_at statements now r)) ≡ reason_reported w plan issues r
     reason_is (Taken p) =
         let q : Pair UnitPlace = pair_in now (unit_in p) p.cycle in
         concat-append (pair_words w now held q) (holder_words w now held (entry_at w.same held q))
         ∙ (ap (λ (t : List ℕ). t ++ concat (holder_words w now held (entry_at w.same held q))) (pair_is (unit_in p) p.cycle)
-        ∙ ap (λ (t : List ℕ). pair_told w (unit_in p) p.cycle ++ t)
+        ∙ ap (λ (t : List ℕ). pair_reported w (unit_in p) p.cycle ++ t)
         (ap (λ (o : Option (Entry UnitPlace)). concat (holder_words w now held o)) (at_same q ∙ sym (holders (unit_of (unit_in p)) p.cycle)) ∙ holder_is (unit_in p) p.cycle (holder_in plan issues (unit_of (unit_in p)) p.cycle)))
     reason_is (Broken b) =
         let q : Pair UnitPlace = pair_in now b.unit b.cycle in
         let pattern : List UnitPlace = pattern_at (patterns_of (slice_get statements b.statement)) b.pattern in
-        let told : List ℕ = pattern_told w (pattern_in plan.sets.items b) in
-        let said : concat (pattern_words w now held pattern) ≡ told = ap (λ (us : List UnitPlace). concat (pattern_words w now held us)) (sym (pattern_is plan.sets.items statements sets b)) ∙ pattern_said (pattern_in plan.sets.items b) in
-        let both : concat (pair_words w now held q ++ pattern_words w now held pattern) ≡ pair_told w b.unit b.cycle ++ (told ++ []) =
+        let reported : List ℕ = pattern_reported w (pattern_in plan.sets.items b) in
+        let said : concat (pattern_words w now held pattern) ≡ reported = ap (λ (us : List UnitPlace). concat (pattern_words w now held us)) (sym (pattern_is plan.sets.items statements sets b)) ∙ pattern_said (pattern_in plan.sets.items b) in
+        let both : concat (pair_words w now held q ++ pattern_words w now held pattern) ≡ pair_reported w b.unit b.cycle ++ (reported ++ []) =
         concat-append (pair_words w now held q) (pattern_words w now held pattern)
         ∙ (ap (λ (t : List ℕ). t ++ concat (pattern_words w now held pattern)) (pair_is b.unit b.cycle)
-        ∙ ap (λ (t : List ℕ). pair_told w b.unit b.cycle ++ t) (said ∙ sym (append-nil told))) in
+        ∙ ap (λ (t : List ℕ). pair_reported w b.unit b.cycle ++ t) (said ∙ sym (append-nil reported))) in
         ap (λ (t : List ℕ). w.statement b.statement ++ (codes " line " ++ (decimal (w.line b.statement) ++ (codes ", " ++ t)))) both
 
-    pub line_is : (number : ℕ) (r : Option Reason) → alternative_told w plan issues number r ≡ alternative_line w now held number (option_map (reason_at statements now) r)
+    pub line_is : (number : ℕ) (r : Option Reason) → alternative_reported w plan issues number r ≡ alternative_line w now held number (option_map (reason_at statements now) r)
     line_is number None = refl
     line_is number (Some r) =
         let words : List (List ℕ) = reason_words w now held (reason_at statements now r) in
         sym (ap (λ (t : List ℕ). codes "alternative " ++ (decimal number ++ (codes ": " ++ t)))
         (concat-append words (codes "\n" ∷ []) ∙ ap (λ (t : List ℕ). t ++ concat (codes "\n" ∷ [])) (reason_is r)))
 
-    pub lines_are : (number : ℕ) (rs : List (Option Reason)) → alternatives_told w plan issues number rs ≡ alternative_lines w now held number (map (option_map (reason_at statements now)) rs)
+    pub lines_are : (number : ℕ) (rs : List (Option Reason)) → alternatives_reported w plan issues number rs ≡ alternative_lines w now held number (map (option_map (reason_at statements now)) rs)
     lines_are number [] = refl
     lines_are number (r ∷ rs) =
-        ap (λ (t : List ℕ). t ++ alternatives_told w plan issues (suc number) rs) (line_is number r)
+        ap (λ (t : List ℕ). t ++ alternatives_reported w plan issues (suc number) rs) (line_is number r)
         ∙ ap (λ (t : List ℕ). alternative_line w now held number (option_map (reason_at statements now) r) ++ t) (lines_are (suc number) rs)
 
 -- ---- by which choices
 
-pub choice_is : (any : Bool) → choice_told any ≡ choice_line (if any then any_fit else first_fit)
+pub choice_is : (any : Bool) → choice_reported any ≡ choice_line (if any then any_fit else first_fit)
 choice_is true = refl
 choice_is false = refl

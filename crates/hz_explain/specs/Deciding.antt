@@ -1,4 +1,4 @@
--- What is decided before anything is written: what is told of a trace, or a refusal.
+-- What is decided before anything is written: what is reported of a trace, or a refusal.
 use Rattle.std.specs.Prelude.{ℕ, List, [], ◌∷◌, Result, MatchOption, Contains}
 use Rattle.hz_front.specs.Refusals.{Decided, decided_by}
 use Rattle.hz_front.specs.Refusals as refusals
@@ -6,7 +6,7 @@ use Rattle.hz_front.specs.declared.refusal.Refusal.{Refusal}
 use Rattle.hz_why_model.specs.Answers.{why_files}
 use Rattle.hz_explain.specs.declared.whole.Explained.{Explained as Whole}
 
--- what is decided, by the status and the text of what is told of a trace
+-- what is decided, by the status and the text of what is reported of a trace
 abbrev pub decided_in : Result Whole Refusal → Decided
 decided_in result = decided_by (λ whole. whole.status) (λ whole. whole.text.items) result
 

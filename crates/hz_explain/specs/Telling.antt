@@ -1,4 +1,4 @@
--- What is told of a refusal, by what the code holds: its reasons, and the issues that hold what stands reserved.
+-- What is reported of a refusal, by what the code holds: its reasons, and the issues that hold what stands reserved.
 use Rattle.std.specs.Prelude.{◌≡◌, ◌==◌, ℕ, suc, Bool, nat_lt, List, [], ◌∷◌, ◌++◌, length, map, codes, decimal, Option, Some, None, slice_get, if◌then◌else◌}
 use Rattle.std.specs.List.{concat, find, flat_map}
 use Rattle.std.specs.Option.{option_map}
@@ -112,50 +112,50 @@ unit_in p = record { automaton = p.automaton; unit = p.unit }
 
 module _ (w : Wording UnitPlace) where
   -- a unit in a cycle
-  abbrev pub pair_told : AutomatonUnit → (cycle : ℕ) → List ℕ
-  pair_told u cycle = concat (w.unit (unit_of u) ∷ codes " in cycle " ∷ decimal cycle ∷ [])
+  abbrev pub pair_reported : AutomatonUnit → (cycle : ℕ) → List ℕ
+  pair_reported u cycle = concat (w.unit (unit_of u) ∷ codes " in cycle " ∷ decimal cycle ∷ [])
 
   -- who holds it in a cycle
-  abbrev pub holder_told : (cycle : ℕ) → Option Holder → List ℕ
-  holder_told cycle None = []
-  holder_told cycle (Some h) = concat (held_word (cycle == 0) ∷ decimal h.line ∷ codes ", " ∷ w.class h.class ∷ [])
+  abbrev pub holder_reported : (cycle : ℕ) → Option Holder → List ℕ
+  holder_reported cycle None = []
+  holder_reported cycle (Some h) = concat (held_word (cycle == 0) ∷ decimal h.line ∷ codes ", " ∷ w.class h.class ∷ [])
 
   -- units, each after a blank
-  abbrev pub units_told : List AutomatonUnit → List ℕ
-  units_told us = flat_map (λ u. codes " " ++ w.unit (unit_of u)) us
+  abbrev pub units_reported : List AutomatonUnit → List ℕ
+  units_reported us = flat_map (λ u. codes " " ++ w.unit (unit_of u)) us
 
   -- a pattern
-  abbrev pub pattern_told : List AutomatonUnit → List ℕ
-  pattern_told [] = codes " without a pattern"
-  pattern_told (u ∷ us) = codes " with" ++ units_told (u ∷ us)
+  abbrev pub pattern_reported : List AutomatonUnit → List ℕ
+  pattern_reported [] = codes " without a pattern"
+  pattern_reported (u ∷ us) = codes " with" ++ units_reported (u ∷ us)
 
   -- a set statement that is broken
-  abbrev pub broken_told : Plan → Break → List ℕ
-  broken_told plan b = concat (w.statement b.statement ∷ codes " line " ∷ decimal (w.line b.statement) ∷ codes ", " ∷ pair_told b.unit b.cycle ∷ pattern_told (pattern_in plan.sets.items b) ∷ [])
+  abbrev pub broken_reported : Plan → Break → List ℕ
+  broken_reported plan b = concat (w.statement b.statement ∷ codes " line " ∷ decimal (w.line b.statement) ∷ codes ", " ∷ pair_reported b.unit b.cycle ∷ pattern_reported (pattern_in plan.sets.items b) ∷ [])
 
   module _ (plan : Plan) (issues : List Holder) where
     -- what forbids an alternative
-    abbrev pub reason_told : Reason → List ℕ
-    reason_told (Taken p) = pair_told (unit_in p) p.cycle ++ holder_told p.cycle (holder_in plan issues (unit_of (unit_in p)) p.cycle)
-    reason_told (Broken b) = broken_told plan b
+    abbrev pub reason_reported : Reason → List ℕ
+    reason_reported (Taken p) = pair_reported (unit_in p) p.cycle ++ holder_reported p.cycle (holder_in plan issues (unit_of (unit_in p)) p.cycle)
+    reason_reported (Broken b) = broken_reported plan b
 
     -- the line of the alternative of this number; none if nothing forbids it
-    abbrev pub alternative_told : ℕ → Option Reason → List ℕ
-    alternative_told number None = []
-    alternative_told number (Some reason) = concat (codes "alternative " ∷ decimal number ∷ codes ": " ∷ reason_told reason ∷ codes "\n" ∷ [])
+    abbrev pub alternative_reported : ℕ → Option Reason → List ℕ
+    alternative_reported number None = []
+    alternative_reported number (Some reason) = concat (codes "alternative " ∷ decimal number ∷ codes ": " ∷ reason_reported reason ∷ codes "\n" ∷ [])
 
     -- the lines of alternatives, of which the first has this number
-    abbrev pub alternatives_told : ℕ → List (Option Reason) → List ℕ
-    alternatives_told number [] = []
-    alternatives_told number (reason ∷ reasons) = alternative_told number reason ++ alternatives_told (suc number) reasons
+    abbrev pub alternatives_reported : ℕ → List (Option Reason) → List ℕ
+    alternatives_reported number [] = []
+    alternatives_reported number (reason ∷ reasons) = alternative_reported number reason ++ alternatives_reported (suc number) reasons
 
 -- by which choices
-abbrev pub choice_told : (any_fit : Bool) → List ℕ
-choice_told any_fit = if any_fit then codes "by one of the choices\n" else []
+abbrev pub choice_reported : (any_fit : Bool) → List ℕ
+choice_reported any_fit = if any_fit then codes "by one of the choices\n" else []
 
 -- how many cycles later, and whether it is one
-abbrev pub later_told : (cycles : ℕ) → (one : Bool) → List ℕ
-later_told cycles one = if one then codes "fits 1 cycle later\n" else concat (codes "fits " ∷ decimal cycles ∷ codes " cycles later\n" ∷ [])
+abbrev pub later_reported : (cycles : ℕ) → (one : Bool) → List ℕ
+later_reported cycles one = if one then codes "fits 1 cycle later\n" else concat (codes "fits " ∷ decimal cycles ∷ codes " cycles later\n" ∷ [])
 
 -- ---- what forbids alternatives
 

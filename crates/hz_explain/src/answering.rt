@@ -40,7 +40,7 @@ fn unit_name(units: &[Vec<Name>], part: u32, ask: u32) -> &[u8]
 }
 
 /// The end of the line of an ask.
-fn told<'a>(reserved: bool) -> &'a [u8]
+fn reported<'a>(reserved: bool) -> &'a [u8]
     ensures { result.now ≡ if reserved then codes " reserved\n" else codes " free\n" }
 {
     if reserved { b" reserved\n" } else { b" free\n" }
@@ -54,7 +54,7 @@ fn add_ask(text: &mut Vec<u8>, units: &[Vec<Name>], asked: Asked) -> Result<(), 
     add_number(text, asked.line)?;
     add(text, b" ")?;
     add(text, unit_name(units, asked.part, asked.ask))?;
-    add(text, told(asked.reserved))
+    add(text, reported(asked.reserved))
 }
 
 /// Adds the lines of asks.
@@ -155,7 +155,7 @@ fn count_cycles(events: &[Event]) -> u64
     cycles
 }
 
-/// Adds the line that ends what is told of a trace.
+/// Adds the line that ends what is reported of a trace.
 fn add_end(
     text: &mut Vec<u8>,
     classes: &[Name],

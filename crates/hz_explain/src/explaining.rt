@@ -22,7 +22,7 @@ use hz_mdread::Description;
 use hz_reasons::{Frontier, Holder, Holders, Plan, Reason};
 use std::alloc::Global;
 
-/// Adds why an issue of the class is refused behind the events whose issues hold this: when it fits, what forbids each of its
+/// Adds why an issue of the class is refused after the events whose issues hold this: when it fits, what forbids each of its
 /// alternatives, and a picture of what stands reserved.
 fn add_refusal(
     alloc: Global,
@@ -53,7 +53,7 @@ fn add_refusal(
     Ok(())
 }
 
-/// Why an issue of the class is refused behind the events of all these choices, of which the first hold this: when it fits by any of
+/// Why an issue of the class is refused after the events of all these choices, of which the first hold this: when it fits by any of
 /// them, and by the first what forbids each of its alternatives, and a picture of what stands reserved. `NoMemory` where there was none.
 pub fn tell_refusal(
     alloc: Global,
@@ -87,7 +87,7 @@ pub fn tell_refusal(
     Ok(text)
 }
 
-/// What is left behind accepted events whose issues hold this: a picture of what stands reserved. `NoMemory` where there was none.
+/// What is left after accepted events whose issues hold this: a picture of what stands reserved. `NoMemory` where there was none.
 pub fn tell_left(
     alloc: Global,
     desc: &Description,

@@ -1,4 +1,4 @@
-//! The texts judged, one phase after the other: the description, the trace, and what is told of it. The first that refuses decides.
+//! The texts judged, one phase after the other: the description, the trace, and what is reported of it. The first that refuses decides.
 
 ghost use Rattle.std.specs.Prelude.{◌≡◌, ◌≤◌, ◌<◌, ◌^◌, ◌∷◌, [], IfOk, IfErr, IsTrue, length};
 ghost use Rattle.std.specs.List.{AllPairs};
@@ -26,7 +26,7 @@ use hz_replay::Event;
 use hz_sexp::Form;
 use std::alloc::Global;
 
-/// What is told of the events of a trace.
+/// What is reported of the events of a trace.
 fn explain_events<'a>(
     alloc: Global,
     desc: &Description,
@@ -49,7 +49,7 @@ fn explain_events<'a>(
     }
 }
 
-/// What is told of the text of a trace, over a description without a fault.
+/// What is reported of the text of a trace, over a description without a fault.
 fn explain_text<'a>(
     alloc: Global,
     desc: &Description,
@@ -115,7 +115,7 @@ fn explain_said<'a>(
     }
 }
 
-/// What is told of a trace by the texts of both files, the description judged first.
+/// What is reported of a trace by the texts of both files, the description judged first.
 pub(crate) fn explain_texts<'a>(
     alloc: Global,
     file: &'a str,

@@ -1,4 +1,4 @@
-//! What is told of a trace: what `replay` answers of it, and behind it why an issue is refused or what is left, with pictures of what
+//! What is reported of a trace: what `replay` answers of it, and after it why an issue is refused or what is left, with pictures of what
 //! stands reserved.
 #![tactic(auto)]
 

@@ -16,7 +16,7 @@ ghost use Rattle.hz_reasons.specs.Holding.{age_of, most, AreHolders};
 ghost use Rattle.hz_reasons.specs.Plans.{unit_of, choices_at, pairs_at, IsPlanOf};
 ghost use Rattle.hz_explain.specs.Showing.{mark_of, is_marked, is_of, is_asked, is_kept, is_shown, cycles_asked, cycles_shown, lists_of, list_at, listed_for, each_time, times_held, holders_of, longest_shown, lines_shown, shown_in, shown_by, shown_held, rows_of_unit, AskFor, FindAlike};
 ghost use Rattle.hz_explain.specs.Showing as showing;
-ghost use Rattle.hz_explain.specs.Telling as told;
+ghost use Rattle.hz_explain.specs.Telling as reported;
 ghost use Rattle.hz_explain.specs.Telling.{holder_in};
 
 use crate::drawing::{LINE, Row, add_picture};
@@ -519,7 +519,7 @@ pub(crate) fn add_shown(
     issues: &[Holder],
     asked: &[Choice],
 ) -> Result<(), NoMemory>
-    ensures { OnOk result ((m : Pipeline Unit) (t : List Event) (lines choices : List ℕ) (pairs : List (Pair Unit)) → IsPlanOf m plan.now → AreHolders m t lines choices issues.now → AskFor asked.now pairs → text.new.items ≡ text.old.items ++ picture same_place (told.unit_name parts.now) (entries_from (events.cycles_of t) (entries m 0 t lines choices)) (map place_of parts.now.places.items) pairs) }
+    ensures { OnOk result ((m : Pipeline Unit) (t : List Event) (lines choices : List ℕ) (pairs : List (Pair Unit)) → IsPlanOf m plan.now → AreHolders m t lines choices issues.now → AskFor asked.now pairs → text.new.items ≡ text.old.items ++ picture same_place (reported.unit_name parts.now) (entries_from (events.cycles_of t) (entries m 0 t lines choices)) (map place_of parts.now.places.items) pairs) }
 {
     let cycles = cycles_of(issues, asked);
     if cycles == 0 {

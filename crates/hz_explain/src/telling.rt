@@ -7,8 +7,8 @@ ghost use Rattle.hz_pipeline_model.specs.Accepting.Replay.{Pipeline, State};
 ghost use Rattle.hz_why_model.specs.Answers.{set_word};
 ghost use Rattle.hz_why_model.specs.Explanations.{held_word, wait_line};
 ghost use Rattle.hz_reasons.specs.Plans.{unit_of, AreFuture, IsPlanOf};
-ghost use Rattle.hz_explain.specs.Telling as told;
-ghost use Rattle.hz_explain.specs.Telling.{AreReasons, wording_in, holder_in, pattern_in, pattern_numbered, pair_told, holder_told, units_told, pattern_told, broken_told, reason_told, alternative_told, alternatives_told, choice_told, later_told};
+ghost use Rattle.hz_explain.specs.Telling as reported;
+ghost use Rattle.hz_explain.specs.Telling.{AreReasons, wording_in, holder_in, pattern_in, pattern_numbered, pair_reported, holder_reported, units_reported, pattern_reported, broken_reported, reason_reported, alternative_reported, alternatives_reported, choice_reported, later_reported};
 ghost use Rattle.hz_reasons.specs.declared.reasons.Reason.TheVariants.{Taken};
 
 use crate::drawing::{add, add_number};
@@ -23,7 +23,7 @@ use std::alloc::Global;
 
 /// The name of a unit; an empty one where there is no such unit. It takes no memory.
 pub(crate) fn unit_name(parts: &Parts, unit: AutomatonUnit) -> &[u8]
-    ensures { result.now ≡ told.unit_name parts.now (unit_of unit) }
+    ensures { result.now ≡ reported.unit_name parts.now (unit_of unit) }
 {
     match parts.automata.get(usize::from(unit.automaton)) {
         Some(automaton) => match automaton.units.get(usize::from(unit.unit)) {
@@ -36,7 +36,7 @@ pub(crate) fn unit_name(parts: &Parts, unit: AutomatonUnit) -> &[u8]
 
 /// The name of a class; an empty one where there is no such class. It takes no memory.
 pub(crate) fn class_name(desc: &Description, class: u32) -> &[u8]
-    ensures { result.now ≡ told.class_name desc.now class }
+    ensures { result.now ≡ reported.class_name desc.now class }
 {
     match desc.classes.get(class as usize) {
         Some(item) => item.name.bytes(),
@@ -46,7 +46,7 @@ pub(crate) fn class_name(desc: &Description, class: u32) -> &[u8]
 
 /// The line of a set statement; 0 where there is no such statement. It takes no memory.
 fn statement_line(desc: &Description, statement: usize) -> u32
-    ensures { result ≡ told.statement_line desc.now statement }
+    ensures { result ≡ reported.statement_line desc.now statement }
 {
     match desc.sets.get(statement) {
         Some(item) => item.line,
@@ -69,7 +69,7 @@ fn add_form(text: &mut Vec<u8>, form: SetForm) -> Result<(), NoMemory>
 
 /// Adds the word of a set statement; nothing where there is no such statement.
 fn add_statement(text: &mut Vec<u8>, desc: &Description, statement: usize) -> Result<(), NoMemory>
-    ensures { OnOk result (text.new.items ≡ text.old.items ++ told.statement_word desc.now statement) }
+    ensures { OnOk result (text.new.items ≡ text.old.items ++ reported.statement_word desc.now statement) }
 {
     match desc.sets.get(statement) {
         Some(item) => add_form(text, item.kind),
@@ -130,7 +130,7 @@ fn add_pair(
     unit: AutomatonUnit,
     cycle: u16,
 ) -> Result<(), NoMemory>
-    ensures { OnOk result (text.new.items ≡ text.old.items ++ pair_told (wording_in desc.now parts.now) unit cycle) }
+    ensures { OnOk result (text.new.items ≡ text.old.items ++ pair_reported (wording_in desc.now parts.now) unit cycle) }
 {
     add(text, unit_name(parts, unit))?;
     add(text, b" in cycle ")?;
@@ -139,7 +139,7 @@ fn add_pair(
 
 /// Adds the name of a class.
 fn add_class(text: &mut Vec<u8>, desc: &Description, class: u32) -> Result<(), NoMemory>
-    ensures { OnOk result (text.new.items ≡ text.old.items ++ told.class_name desc.now class) }
+    ensures { OnOk result (text.new.items ≡ text.old.items ++ reported.class_name desc.now class) }
 {
     add(text, class_name(desc, class))
 }
@@ -162,7 +162,7 @@ fn add_since(
     cycle: u16,
     holder: Holder,
 ) -> Result<(), NoMemory>
-    ensures { OnOk result (text.new.items ≡ text.old.items ++ holder_told (wording_in desc.now parts.now) cycle (Some holder)) }
+    ensures { OnOk result (text.new.items ≡ text.old.items ++ holder_reported (wording_in desc.now parts.now) cycle (Some holder)) }
 {
     add_held(text, cycle == 0)?;
     add_number(text, holder.line)?;
@@ -179,7 +179,7 @@ fn add_holder(
     cycle: u16,
     holder: Option<Holder>,
 ) -> Result<(), NoMemory>
-    ensures { OnOk result (text.new.items ≡ text.old.items ++ holder_told (wording_in desc.now parts.now) cycle holder) }
+    ensures { OnOk result (text.new.items ≡ text.old.items ++ holder_reported (wording_in desc.now parts.now) cycle holder) }
 {
     match holder {
         Some(holder) => add_since(text, desc, parts, cycle, holder),
@@ -194,7 +194,7 @@ fn add_units(
     parts: &Parts,
     units: &[AutomatonUnit],
 ) -> Result<(), NoMemory>
-    ensures { OnOk result (text.new.items ≡ text.old.items ++ units_told (wording_in desc.now parts.now) units.now) }
+    ensures { OnOk result (text.new.items ≡ text.old.items ++ units_reported (wording_in desc.now parts.now) units.now) }
 {
     for unit in units {
         add(text, b" ")?;
@@ -210,7 +210,7 @@ fn add_pattern(
     parts: &Parts,
     pattern: &[AutomatonUnit],
 ) -> Result<(), NoMemory>
-    ensures { OnOk result (text.new.items ≡ text.old.items ++ pattern_told (wording_in desc.now parts.now) pattern.now) }
+    ensures { OnOk result (text.new.items ≡ text.old.items ++ pattern_reported (wording_in desc.now parts.now) pattern.now) }
 {
     if pattern.is_empty() {
         return add(text, b" without a pattern");
@@ -228,7 +228,7 @@ fn add_taken(
     issues: &[Holder],
     pair: Place,
 ) -> Result<(), NoMemory>
-    ensures { OnOk result (text.new.items ≡ text.old.items ++ reason_told (wording_in desc.now parts.now) plan.now issues.now (Taken pair)) }
+    ensures { OnOk result (text.new.items ≡ text.old.items ++ reason_reported (wording_in desc.now parts.now) plan.now issues.now (Taken pair)) }
 {
     let unit = AutomatonUnit {
         automaton: pair.automaton,
@@ -247,7 +247,7 @@ fn add_broken(
     plan: &Plan,
     broken: Break,
 ) -> Result<(), NoMemory>
-    ensures { OnOk result (text.new.items ≡ text.old.items ++ broken_told (wording_in desc.now parts.now) plan.now broken) }
+    ensures { OnOk result (text.new.items ≡ text.old.items ++ broken_reported (wording_in desc.now parts.now) plan.now broken) }
 {
     add_statement(text, desc, broken.statement)?;
     add(text, b" line ")?;
@@ -266,7 +266,7 @@ fn add_reason(
     issues: &[Holder],
     reason: Reason,
 ) -> Result<(), NoMemory>
-    ensures { OnOk result (text.new.items ≡ text.old.items ++ reason_told (wording_in desc.now parts.now) plan.now issues.now reason) }
+    ensures { OnOk result (text.new.items ≡ text.old.items ++ reason_reported (wording_in desc.now parts.now) plan.now issues.now reason) }
 {
     match reason {
         Reason::Taken(pair) => add_taken(text, desc, parts, plan, issues, pair),
@@ -284,7 +284,7 @@ fn add_line(
     number: usize,
     reason: Reason,
 ) -> Result<(), NoMemory>
-    ensures { OnOk result (text.new.items ≡ text.old.items ++ alternative_told (wording_in desc.now parts.now) plan.now issues.now number (Some reason)) }
+    ensures { OnOk result (text.new.items ≡ text.old.items ++ alternative_reported (wording_in desc.now parts.now) plan.now issues.now number (Some reason)) }
 {
     add(text, b"alternative ")?;
     add_count(text, number)?;
@@ -303,7 +303,7 @@ fn add_alternative(
     number: usize,
     reason: Option<Reason>,
 ) -> Result<(), NoMemory>
-    ensures { OnOk result (text.new.items ≡ text.old.items ++ alternative_told (wording_in desc.now parts.now) plan.now issues.now number reason) }
+    ensures { OnOk result (text.new.items ≡ text.old.items ++ alternative_reported (wording_in desc.now parts.now) plan.now issues.now number reason) }
 {
     match reason {
         Some(reason) => add_line(text, desc, parts, plan, issues, number, reason),
@@ -320,7 +320,7 @@ pub(crate) fn add_alternatives(
     issues: &[Holder],
     reasons: &[Option<Reason>],
 ) -> Result<(), NoMemory>
-    ensures { OnOk result (text.new.items ≡ text.old.items ++ alternatives_told (wording_in desc.now parts.now) plan.now issues.now 1 reasons.now) }
+    ensures { OnOk result (text.new.items ≡ text.old.items ++ alternatives_reported (wording_in desc.now parts.now) plan.now issues.now 1 reasons.now) }
 {
     for place in 0..reasons.len() {
         let reason = reasons[place];
@@ -350,7 +350,7 @@ pub(crate) fn reasons(
 
 /// Adds that the issues go by one of the choices, where they may take any alternative that fits.
 pub(crate) fn add_choice(text: &mut Vec<u8>, any_fit: bool) -> Result<(), NoMemory>
-    ensures { OnOk result (text.new.items ≡ text.old.items ++ choice_told any_fit) }
+    ensures { OnOk result (text.new.items ≡ text.old.items ++ choice_reported any_fit) }
 {
     if any_fit {
         return add(text, b"by one of the choices\n");
@@ -360,7 +360,7 @@ pub(crate) fn add_choice(text: &mut Vec<u8>, any_fit: bool) -> Result<(), NoMemo
 
 /// Adds that a class fits so many cycles later.
 fn add_many(text: &mut Vec<u8>, cycles: u32) -> Result<(), NoMemory>
-    ensures { OnOk result (text.new.items ≡ text.old.items ++ later_told cycles false) }
+    ensures { OnOk result (text.new.items ≡ text.old.items ++ later_reported cycles false) }
 {
     add(text, b"fits ")?;
     add_number(text, cycles)?;
@@ -368,9 +368,9 @@ fn add_many(text: &mut Vec<u8>, cycles: u32) -> Result<(), NoMemory>
     Ok(())
 }
 
-/// Adds after how many cycles a class fits, and it is told whether this is one.
+/// Adds after how many cycles a class fits, and it is reported whether this is one.
 fn add_later(text: &mut Vec<u8>, cycles: u32, one: bool) -> Result<(), NoMemory>
-    ensures { OnOk result (text.new.items ≡ text.old.items ++ later_told cycles one) }
+    ensures { OnOk result (text.new.items ≡ text.old.items ++ later_reported cycles one) }
 {
     if one {
         return add(text, b"fits 1 cycle later\n");

@@ -22,7 +22,7 @@ use std::alloc::Global;
 /// The line that answers words that are not two names of files.
 const USAGE: &str = "usage: hz_why DESC TRACE\n";
 
-/// What is told of a trace by the bytes of the two files.
+/// What is reported of a trace by the bytes of the two files.
 fn explain_read<'a>(
     alloc: Global,
     file: &'a str,
@@ -38,7 +38,7 @@ fn explain_read<'a>(
     explain_texts(alloc, file, texts[0].as_slice(), trace, texts[1].as_slice())
 }
 
-/// What is told of a trace by the two files: both are read before any is judged.
+/// What is reported of a trace by the two files: both are read before any is judged.
 fn explain_files<'a, F: Files>(
     alloc: Global,
     file: &'a str,
@@ -81,7 +81,7 @@ fn decide<'a, F: Files>(
 }
 
 /// Answers to the words, which do not hold the program's own name: reads the two files that they name, writes what `replay` answers and
-/// behind it why, and gives the status. Statuses: 0 all accepted, 1 refused, 2 fault, 3 limit of a text, 4 words, 5 memory, 6 file,
+/// after it why, and gives the status. Statuses: 0 all accepted, 1 refused, 2 fault, 3 limit of a text, 4 words, 5 memory, 6 file,
 /// 7 sink. No limit of states stands in the way: where `replay` would answer one, the trace is explained.
 pub fn run<F: Files, S: Sink>(alloc: Global, words: &[String], files: &mut F, out: &mut S) -> u8
     requires files { F.faults files.old < 2 ^ 64 - 1 }

@@ -1,4 +1,4 @@
-//! The whole answer on a trace: what `replay` answers, and behind it why.
+//! The whole answer on a trace: what `replay` answers, and after it why.
 
 ghost use Rattle.std.specs.Prelude.{◌≡◌, ◌<◌, ◌≤◌, [], All, IfOk, IfSome, Some, length, slice_get, vec_len};
 ghost use Rattle.hz_front_model.specs.Replays.{Replays};
@@ -37,12 +37,12 @@ use hz_reasons::{Frontier, Holders, Plan, Walked, hold, walk};
 use hz_replay::{Event, What};
 use std::alloc::Global;
 
-/// What is told of a trace.
+/// What is reported of a trace.
 #[derive(Drop)]
 pub struct Explained {
     /// 0 if all events are accepted, 1 if one is refused.
     pub status: u8,
-    /// What `replay` answers; and behind it what the events leave, or why one is refused.
+    /// What `replay` answers; and after it what the events leave, or why one is refused.
     pub text: Vec<u8>,
 }
 
@@ -138,7 +138,7 @@ fn left(
     tell_left(alloc, desc, parts, plan, &holders)
 }
 
-/// Why an issue of the class is refused behind accepted events.
+/// Why an issue of the class is refused after accepted events.
 fn refusal(
     alloc: Global,
     desc: &Description,
@@ -246,7 +246,7 @@ fn explain_by(
     Ok(Explained { status, text })
 }
 
-/// What is told of the events of a trace, on a description without a fault and its parts: what `replay` answers, and behind it what
+/// What is reported of the events of a trace, on a description without a fault and its parts: what `replay` answers, and after it what
 /// the events leave, or why one is refused. The events are of classes and query units of the description. No limit of states stands in
 /// the way. `NoMemory` where there was none.
 pub fn explain(

@@ -21,8 +21,8 @@ use Rattle.hz_front.specs.declared.reading.FileWord.{FileWord as Wanted}
 use Rattle.hz_front.specs.declared.refusal.Refusal.{Refusal}
 use Rattle.hz_front.specs.declared.refusal.Refusal.TheVariants.{Bytes, Memory, File}
 
-module _ (file : Bor (List ℕ)) (told : Refusal) where
-  pub slurp_counted : (old new : ℕ) (fault : SlurpFault) → told ≡ refuse_slurp file fault → SlurpCounts old new (Err fault) → CountsRefusal old new told
+module _ (file : Bor (List ℕ)) (reported : Refusal) where
+  pub slurp_counted : (old new : ℕ) (fault : SlurpFault) → reported ≡ refuse_slurp file fault → SlurpCounts old new (Err fault) → CountsRefusal old new reported
   slurp_counted old new Failed is h = subst (CountsRefusal old new) (sym is) h
   slurp_counted old new (Long read) is h = subst (CountsRefusal old new) (sym is) h
   slurp_counted old new NoMemory is h = subst (CountsRefusal old new) (sym is) h
@@ -34,10 +34,10 @@ module _ (file : Bor (List ℕ)) (rest : Option (List ℕ)) (most old new : ℕ)
   why h there (Long read) counts tells lacks known = record { bytes = tells.bytes; found = tells.found; longer = tells.longer }
   why h there NoMemory counts tells lacks known = tt
 
-  -- why it is not read, where what is held is told
-  pub slurp_told : (fault : SlurpFault) (told : Refusal) → told ≡ refuse_slurp file fault → SlurpCounts old new (Err fault) → ForSome held (λ h. Tells h rest file.now most (Err fault)) → (steady → LacksOnFailed held file.now (Err fault))
-      → ForSome held (λ h. (new ≡ old) ⊎ steady → WhyNotRead h file.now most told)
-  slurp_told fault told is counts tells lacks = λ h there known. subst (WhyNotRead h file.now most) (sym is) (why h there fault counts (tells h there) lacks known)
+  -- why it is not read, where what is held is reported
+  pub slurp_reported : (fault : SlurpFault) (reported : Refusal) → reported ≡ refuse_slurp file fault → SlurpCounts old new (Err fault) → ForSome held (λ h. Tells h rest file.now most (Err fault)) → (steady → LacksOnFailed held file.now (Err fault))
+      → ForSome held (λ h. (new ≡ old) ⊎ steady → WhyNotRead h file.now most reported)
+  slurp_reported fault reported is counts tells lacks = λ h there known. subst (WhyNotRead h file.now most) (sym is) (why h there fault counts (tells h there) lacks known)
 
 -- All files of an order.
 
@@ -67,13 +67,13 @@ opens_all_map held (file ∷ files) next other s t f h =
     (λ bytes. opens_all_map held files (λ others. next (bytes ∷ others)) (λ others. other (bytes ∷ others)) s t (λ others. f (bytes ∷ others))) (held file.name) h
 
 -- files that are read lead on to the files after them
-pub opens_behind : (held : Held) (files more : List FileWord) (texts : List (List ℕ)) (next : Next (List (List ℕ))) (s : ℕ) (t : List ℕ) → AreRead held files texts → OpensAll held more (λ others. next (texts ++ others)) s t → OpensAll held (files ++ more) next s t
-opens_behind held [] more [] next s t read h = h
-opens_behind held [] more (text ∷ texts) next s t read h = absurd read
-opens_behind held (file ∷ files) more [] next s t read h = absurd read
-opens_behind held (file ∷ files) more (text ∷ texts) next s t (found, fits, others) h =
+pub opens_after : (held : Held) (files more : List FileWord) (texts : List (List ℕ)) (next : Next (List (List ℕ))) (s : ℕ) (t : List ℕ) → AreRead held files texts → OpensAll held more (λ others. next (texts ++ others)) s t → OpensAll held (files ++ more) next s t
+opens_after held [] more [] next s t read h = h
+opens_after held [] more (text ∷ texts) next s t read h = absurd read
+opens_after held (file ∷ files) more [] next s t read h = absurd read
+opens_after held (file ∷ files) more (text ∷ texts) next s t (found, fits, others) h =
     opens_found held file.name file.most text (λ bytes. OpensAll held (files ++ more) (λ others. next (bytes ∷ others))) s t found fits
-    (opens_behind held files more texts (λ others. next (text ∷ others)) s t others h)
+    (opens_after held files more texts (λ others. next (text ∷ others)) s t others h)
 
 -- where all files are read, what their texts answer is the answer
 pub opens_read : (held : Held) (files : List FileWord) (texts : List (List ℕ)) (next : Next (List (List ℕ))) (s : ℕ) (t : List ℕ) → AreRead held files texts → next texts s t → OpensAll held files next s t
@@ -154,7 +154,7 @@ refused_at held wanted i d texts refusal low read kind why =
     let here = file_refused held file.name.now file.most (λ bytes. OpensAll held more (λ others status text. ⊥)) refusal kind why in
     subst (λ (files : List FileWord). Agrees (IsUnread held files) refusal) (sym (split_at wanted i d low))
     (agrees_weaker (Opens held file.name.now file.most (λ bytes. OpensAll held more (λ others status text. ⊥))) (IsUnread held (wanted_in (take i wanted) ++ word file ∷ more))
-    (λ s t h. opens_behind held (wanted_in (take i wanted)) (word file ∷ more) texts (λ others status text. ⊥) s t read h) refusal here)
+    (λ s t h. opens_after held (wanted_in (take i wanted)) (word file ∷ more) texts (λ others status text. ⊥) s t read h) refusal here)
 
 -- one more file is read
 pub read_next : (held : Held) (wanted : List Wanted) (i : ℕ) (d : Wanted) (texts more : List (Vec ℕ Global)) (text : Vec ℕ Global) → i < length wanted → more ≡ texts ++ text ∷ [] → AreRead held (wanted_in (take i wanted)) (texts_in texts)

@@ -7,7 +7,7 @@ use Rattle.hz_front_model.specs.Texts.{memory_line, file_line}
 use Rattle.hz_io.specs.Sink.{Wrote, Cut}
 use Rattle.hz_front.specs.Refusals.{Decided, done, refused, IsOfOrder, SaysUsage, status_in, text_in}
 
--- the text was appended, where what is written is told
+-- the text was appended, where what is written is reported
 abbrev pub IsAppended : Option (List ℕ) → Option (List ℕ) → List ℕ → Type 0
 IsAppended old new text = ForSome old (λ before. new ≡ Some (before ++ text))
 

@@ -22,8 +22,8 @@ pub record IsCheckedIn (bytes : List ℕ) (checked : Checked) : Type 0 where
 
 -- what is wrong with the description that forms say: the first wrong form, or what is wrong with what they say
 abbrev pub TellsSaid : List ℕ → Trees → Refusal → Type 0
-TellsSaid name read told = Agrees (TellsDescription name read) told ⊎ ((d : Description) × description_forms.Reads read d × Agrees (TellsCheck name d) told)
+TellsSaid name read reported = Agrees (TellsDescription name read) reported ⊎ ((d : Description) × description_forms.Reads read d × Agrees (TellsCheck name d) reported)
 
 -- what is wrong with the description that bytes say
 abbrev pub TellsDescribed : List ℕ → List ℕ → Refusal → Type 0
-TellsDescribed name bytes told = Agrees (TellsFault form_word (forms.FaultAt bytes) name) told ⊎ ((read : Trees) × forms.Reads bytes read × TellsSaid name read told)
+TellsDescribed name bytes reported = Agrees (TellsFault form_word (forms.FaultAt bytes) name) reported ⊎ ((read : Trees) × forms.Reads bytes read × TellsSaid name read reported)

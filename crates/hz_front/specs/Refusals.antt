@@ -1,6 +1,6 @@
 -- What is refused, its text and its status; and what is decided before anything is written.
 use Rattle.std.specs.Prelude.{◌≡◌, ℕ, ◌+◌, ◌≤◌, ⊤, List, Result, Ok, Err, MatchBool, Bool, true, false}
-use Rattle.hz_base_model.specs.Told.{told_in}
+use Rattle.hz_base_model.specs.Reported.{reported_in}
 use Rattle.hz_check.specs.Faults.{limit_of}
 use Rattle.hz_description_model.specs.Check.CheckFaults.{limit_word}
 use Rattle.hz_front_model.specs.Texts.{fault_text, passed_line, states_line, limit_line, insns_line, memory_line, file_line}
@@ -9,7 +9,7 @@ use Rattle.hz_front.specs.declared.refusal.Refusal.TheVariants.{Fault, Limit, Au
 
 -- the line that is written
 abbrev pub text_of : Refusal → List ℕ
-text_of (Fault file line kind insn first second at) = fault_text file.now line kind.now insn first second (told_in at)
+text_of (Fault file line kind insn first second at) = fault_text file.now line kind.now insn first second (reported_in at)
 text_of (Limit file line what name) = passed_line file.now line (limit_word (limit_of what)) name
 text_of (Automaton file name) = states_line file.now name
 text_of (Bytes file) = limit_line file.now

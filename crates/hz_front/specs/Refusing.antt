@@ -15,11 +15,11 @@ refuse_slurp file slurp.NoMemory = refusal.Memory
 
 -- a fault that has a word and a line, with what is wrong in an expression; without them memory ran out
 abbrev pub refuse_fault : Bor (List ℕ) → Option (Bor (List ℕ) × ℕ) → (at : Option (Bor (List ℕ) × ℕ)) → Refusal
-refuse_fault file (Some told) at = refusal.Fault file told.1 told.0 None None None at
+refuse_fault file (Some reported) at = refusal.Fault file reported.1 reported.0 None None None at
 refuse_fault file None at = refusal.Memory
 
 -- a fault or a limit of the check, with the name that is wrong
 abbrev pub refuse_check : Bor (List ℕ) → Option (Bor (List ℕ) × ℕ) → Option LimitName → (name : Option (List ℕ)) → Refusal
-refuse_check file (Some told) (Some what) (Some name) = refusal.Limit file told.1 what name
-refuse_check file (Some told) None (Some name) = refusal.Fault file told.1 told.0 None (Some name) None None
+refuse_check file (Some reported) (Some what) (Some name) = refusal.Limit file reported.1 what name
+refuse_check file (Some reported) None (Some name) = refusal.Fault file reported.1 reported.0 None (Some name) None None
 refuse_check file _ _ _ = refusal.Memory

@@ -14,7 +14,7 @@ use hz_checked::Checked;
 use hz_sexp::Form;
 use std::alloc::Global;
 
-/// The description that forms say, checked, or the refusal of the first fault of a form or of the fault that is told.
+/// The description that forms say, checked, or the refusal of the first fault of a form or of the fault that is reported.
 fn judge_said<'a>(alloc: Global, file: &'a str, read: &[Form]) -> Result<Checked, Refusal<'a>>
     requires count { description_forms.form_count (trees read.now) < 2 ^ 32 }
     requires strings { IsTrue (description_forms.strings_below (2 ^ 32) (trees read.now)) }

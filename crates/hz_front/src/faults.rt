@@ -4,7 +4,7 @@ ghost use Rattle.std.specs.Prelude.{◌-◌, ◌^◌, ◌<◌};
 ghost use Rattle.std.specs.Option.{option_map};
 ghost use Rattle.hz_io.specs.Sink.{Writes};
 ghost use Rattle.hz_front_model.specs.Texts.{fault_text};
-ghost use Rattle.hz_base_model.specs.Told.{told_in};
+ghost use Rattle.hz_base_model.specs.Reported.{reported_in};
 ghost use Rattle.hz_front.specs.Faults.{from_first, from_insn, from_second, insn_part, name_part, at_part, ending, head_of};
 
 use hz_io::{Failed, Sink, put_all};
@@ -56,7 +56,7 @@ fn put_name<S: Sink>(out: &mut S, name: Option<&Name>) -> Result<(), Failed>
 /// Writes the fault of an expression, if there is one: its word and its byte.
 fn put_at<S: Sink>(out: &mut S, at: Option<(&str, u32)>) -> Result<(), Failed>
     requires { S.faults out.old < 2 ^ 64 - 1 }
-    ensures { Writes S.written S.room S.faults out.old out.new (at_part (told_in at.entry)) result }
+    ensures { Writes S.written S.room S.faults out.old out.new (at_part (reported_in at.entry)) result }
 {
     let Some((word, byte)) = at else {
         return Ok(());
@@ -71,7 +71,7 @@ fn put_at<S: Sink>(out: &mut S, at: Option<(&str, u32)>) -> Result<(), Failed>
 /// Writes what stands after names, and the end of the line.
 fn put_ending<S: Sink>(out: &mut S, at: Option<(&str, u32)>) -> Result<(), Failed>
     requires { S.faults out.old < 2 ^ 64 - 1 }
-    ensures { Writes S.written S.room S.faults out.old out.new (ending (told_in at.entry)) result }
+    ensures { Writes S.written S.room S.faults out.old out.new (ending (reported_in at.entry)) result }
 {
     match put_at(out, at) {
         Ok(()) => out.put(b"\n"),
@@ -86,7 +86,7 @@ fn put_from_second<S: Sink>(
     at: Option<(&str, u32)>,
 ) -> Result<(), Failed>
     requires { S.faults out.old < 2 ^ 64 - 1 }
-    ensures { Writes S.written S.room S.faults out.old out.new (from_second (option_map (λ n. n.now) second.entry) (told_in at.entry)) result }
+    ensures { Writes S.written S.room S.faults out.old out.new (from_second (option_map (λ n. n.now) second.entry) (reported_in at.entry)) result }
 {
     match put_name(out, second) {
         Ok(()) => put_ending(out, at),
@@ -102,7 +102,7 @@ fn put_from_first<S: Sink>(
     at: Option<(&str, u32)>,
 ) -> Result<(), Failed>
     requires { S.faults out.old < 2 ^ 64 - 1 }
-    ensures { Writes S.written S.room S.faults out.old out.new (from_first (option_map (λ n. n.now) first.entry) (option_map (λ n. n.now) second.entry) (told_in at.entry)) result }
+    ensures { Writes S.written S.room S.faults out.old out.new (from_first (option_map (λ n. n.now) first.entry) (option_map (λ n. n.now) second.entry) (reported_in at.entry)) result }
 {
     match put_name(out, first) {
         Ok(()) => put_from_second(out, second, at),
@@ -119,7 +119,7 @@ fn put_from_insn<S: Sink>(
     at: Option<(&str, u32)>,
 ) -> Result<(), Failed>
     requires { S.faults out.old < 2 ^ 64 - 1 }
-    ensures { Writes S.written S.room S.faults out.old out.new (from_insn insn (option_map (λ n. n.now) first.entry) (option_map (λ n. n.now) second.entry) (told_in at.entry)) result }
+    ensures { Writes S.written S.room S.faults out.old out.new (from_insn insn (option_map (λ n. n.now) first.entry) (option_map (λ n. n.now) second.entry) (reported_in at.entry)) result }
 {
     match put_insn(out, insn) {
         Ok(()) => put_from_first(out, first, second, at),
@@ -139,7 +139,7 @@ pub fn put_fault<S: Sink>(
     at: Option<(&str, u32)>,
 ) -> Result<(), Failed>
     requires { S.faults out.old < 2 ^ 64 - 1 }
-    ensures { Writes S.written S.room S.faults out.old out.new (fault_text file.now line kind.now insn (option_map (λ n. n.now) first.entry) (option_map (λ n. n.now) second.entry) (told_in at.entry)) result }
+    ensures { Writes S.written S.room S.faults out.old out.new (fault_text file.now line kind.now insn (option_map (λ n. n.now) first.entry) (option_map (λ n. n.now) second.entry) (reported_in at.entry)) result }
 {
     match put_head(out, file, line, kind) {
         Ok(()) => put_from_insn(out, insn, first, second, at),

@@ -1,7 +1,7 @@
 //! What a program has of its host: the words of the command line, the files and standard output.
 
 mod arguments;
-mod behind;
+mod own_arguments;
 mod real;
 
 pub use arguments::words;

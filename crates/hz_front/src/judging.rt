@@ -35,7 +35,7 @@ pub fn judge_forms<'a>(alloc: Global, file: &'a str, text: &[u8]) -> Result<Vec<
 {
     match read_forms(alloc, text) {
         Ok(read) => Ok(read),
-        Err(fault) => Err(refuse_fault(file, fault.told(), None)),
+        Err(fault) => Err(refuse_fault(file, fault.reported(), None)),
     }
 }
 
@@ -54,11 +54,11 @@ pub fn judge_description<'a>(
 {
     match read_description(alloc, read) {
         Ok(description) => Ok(description),
-        Err(fault) => Err(refuse_fault(file, fault.told(), fault.at())),
+        Err(fault) => Err(refuse_fault(file, fault.reported(), fault.at())),
     }
 }
 
-/// The description without a fault, or the refusal of the fault that is told.
+/// The description without a fault, or the refusal of the fault that is reported.
 pub fn judge_check<'a>(
     alloc: Global,
     file: &'a str,
@@ -76,7 +76,7 @@ pub fn judge_check<'a>(
     }
 }
 
-/// What is made of a description without a fault while it stays whole, or the refusal of the fault that is told.
+/// What is made of a description without a fault while it stays whole, or the refusal of the fault that is reported.
 pub fn judge_parts<'a>(
     alloc: Global,
     file: &'a str,
@@ -109,6 +109,6 @@ pub fn judge_events<'a>(
 {
     match read_events(alloc, names, text) {
         Ok(events) => Ok(events),
-        Err(fault) => Err(refuse_fault(file, fault.told(), None)),
+        Err(fault) => Err(refuse_fault(file, fault.reported(), None)),
     }
 }

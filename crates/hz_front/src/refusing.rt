@@ -1,7 +1,7 @@
 //! The refusals of files and texts, by what the crates below report: one function a report.
 
 ghost use Rattle.std.specs.Prelude.{◌≡◌};
-ghost use Rattle.hz_check.specs.Faults.{IsToldAt, Tells};
+ghost use Rattle.hz_check.specs.Faults.{IsReportedAt, Tells};
 ghost use Rattle.hz_description_model.specs.Reading.Descriptions.{Description};
 ghost use Rattle.hz_front_model.specs.Descriptions.{TellsCheck};
 ghost use Rattle.hz_front.specs.Refusals.{Agrees, IsJudged};
@@ -26,13 +26,13 @@ pub fn refuse_slurp<'a>(file: &'a str, fault: SlurpFault) -> Refusal<'a>
 /// The refusal of a fault that has a word and a line, with what is wrong in an expression; None is want of memory.
 pub fn refuse_fault<'a>(
     file: &'a str,
-    told: Option<(&'static str, u32)>,
+    reported: Option<(&'static str, u32)>,
     at: Option<(&'static str, u32)>,
 ) -> Refusal<'a>
     ensures kind { IsJudged result }
-    ensures value { result ≡ refusing.refuse_fault file.entry told.entry at.entry }
+    ensures value { result ≡ refusing.refuse_fault file.entry reported.entry at.entry }
 {
-    match told {
+    match reported {
         Some((kind, line)) => Refusal::Fault {
             file,
             line,
@@ -49,14 +49,14 @@ pub fn refuse_fault<'a>(
 /// The refusal of a fault or a limit of the check, with the name that is wrong.
 fn refuse_named<'a>(
     file: &'a str,
-    told: Option<(&'static str, u32)>,
+    reported: Option<(&'static str, u32)>,
     limit: Option<LimitName>,
     name: Option<Name>,
 ) -> Refusal<'a>
     ensures kind { IsJudged result }
-    ensures value { result ≡ refusing.refuse_check file.entry told.entry limit name }
+    ensures value { result ≡ refusing.refuse_check file.entry reported.entry limit name }
 {
-    let Some((kind, line)) = told else {
+    let Some((kind, line)) = reported else {
         return Refusal::Memory;
     };
     let Some(name) = name else {
@@ -84,9 +84,9 @@ fn refuse_named<'a>(
 /// The refusal of a fault or a limit of the check.
 pub fn refuse_check<'a>(file: &'a str, fault: CheckFault) -> Refusal<'a>
     ensures kind { IsJudged result }
-    ensures answer { (d : Description) → Tells (IsToldAt d) fault → Agrees (TellsCheck file.entry.now d) result }
+    ensures answer { (d : Description) → Tells (IsReportedAt d) fault → Agrees (TellsCheck file.entry.now d) result }
 {
-    let told = fault.told();
+    let reported = fault.reported();
     let limit = fault.limit();
-    refuse_named(file, told, limit, fault.into_name())
+    refuse_named(file, reported, limit, fault.into_name())
 }

@@ -1,4 +1,4 @@
--- What is told at the asks of events: it is one text, there is one, and reserved units that are told alike are told alike.
+-- What is reported at the asks of events: it is one text, there is one, and reserved units that are reported alike are reported alike.
 use Rattle.std.proofs.Common.{◌≡◌, ℕ, ◌⊎◌, inl, inr, ⊎_elim, true, false, List, [], ◌∷◌, ◌++◌, drop, All, slice_index_or, refl, sym, ap, ◌∙◌, subst, arith, append_assoc}
 use Rattle.std.specs.Prelude.{◌↔◌}
 use Rattle.std.proofs.lemmas.List.Elements.{All-nil, All-cons, All-head, All-tail}
@@ -31,10 +31,10 @@ module _ (reserved : Reserved) (names : TraceNames) where
       let tail = one_asks (before ++ ask x u ∷ []) (drop 1 lines) events rest rest' more more' in
       is ∙ (ap (λ (f : List ℕ). f ++ rest) head ∙ (ap (λ (r : List ℕ). first' ++ r) tail ∙ sym is'))
 
-  -- what is told of events is one status and text, where what comes last is
-  pub one_told : (lines : List ℕ) (events : List Event) (last : ℕ → List ℕ → Type 0) → ((s s' : ℕ) (t t' : List ℕ) → last s t → last s' t' → (s ≡ s') × (t ≡ t'))
+  -- what is reported of events is one status and text, where what comes last is
+  pub one_reported : (lines : List ℕ) (events : List Event) (last : ℕ → List ℕ → Type 0) → ((s s' : ℕ) (t t' : List ℕ) → last s t → last s' t' → (s ≡ s') × (t ≡ t'))
       → (s s' : ℕ) (t t' : List ℕ) → Tells reserved names lines events last s t → Tells reserved names lines events last s' t' → (s ≡ s') × (t ≡ t')
-  one_told lines events last single s s' t t' (asks, rest, say, is, whole) (asks', rest', say', is', whole') =
+  one_reported lines events last single s s' t t' (asks, rest, say, is, whole) (asks', rest', say', is', whole') =
       let both = single s s' rest rest' is is' in
       let head = one_asks [] lines events asks asks' say say' in
       (both.0, whole ∙ (ap (λ (a : List ℕ). a ++ rest) head ∙ (ap (λ (r : List ℕ). asks' ++ r) both.1 ∙ sym whole')))
@@ -57,9 +57,9 @@ module _ (reserved : Reserved) (names : TraceNames) where
         let rest = some_asks (before ++ ask x u ∷ []) (drop 1 lines) events in
         (first.0 ++ rest.0, (first.0, rest.0, first.1, rest.1, refl))
 
-    -- what comes last is told behind the asks
-    pub some_told : (lines : List ℕ) (events : List Event) (last : ℕ → List ℕ → Type 0) → (s : ℕ) (t : List ℕ) → last s t → (text : List ℕ) × Tells reserved names lines events last s text
-    some_told lines events last s t is =
+    -- what comes last is reported after the asks
+    pub some_reported : (lines : List ℕ) (events : List Event) (last : ℕ → List ℕ → Type 0) → (s : ℕ) (t : List ℕ) → last s t → (text : List ℕ) × Tells reserved names lines events last s text
+    some_reported lines events last s t is =
         let asks = some_asks [] lines events in
         (asks.0 ++ t, (asks.0, t, asks.1, is, refl))
 
@@ -71,8 +71,8 @@ module _ (reserved : Reserved) (names : TraceNames) where
   no_asks before lines (advance n ∷ events) none = no_asks (before ++ advance n ∷ []) (drop 1 lines) events (All-tail AsksNothing (advance n) events none)
   no_asks before lines (ask x u ∷ events) none = absurd (let low = All-head AsksNothing (ask x u) events none in omega (arith, low))
 
-  pub last_told : (lines : List ℕ) (events : List Event) (last : ℕ → List ℕ → Type 0) → All AsksNothing events → (s : ℕ) (t : List ℕ) → last s t → Tells reserved names lines events last s t
-  last_told lines events last none s t is = ([], t, no_asks [] lines events none, is, refl)
+  pub last_reported : (lines : List ℕ) (events : List Event) (last : ℕ → List ℕ → Type 0) → All AsksNothing events → (s : ℕ) (t : List ℕ) → last s t → Tells reserved names lines events last s t
+  last_reported lines events last none s t is = ([], t, no_asks [] lines events none, is, refl)
 
 -- events that are no others than issues and advances ask nothing
 pub none_of_others : (events : List Event) → issues_and_advances events ≡ events → All AsksNothing events
@@ -91,7 +91,7 @@ turns_ask_nothing classes (issue k ∷ es) all = All-cons AsksNothing (issue k) 
 turns_ask_nothing classes (advance n ∷ es) all = All-cons AsksNothing (advance n) es tt (turns_ask_nothing classes es (All-tail (IsOfTurn classes) (advance n) es all))
 turns_ask_nothing classes (ask x u ∷ es) all = absurd (All-head (IsOfTurn classes) (ask x u) es all)
 
--- ---- told alike
+-- ---- reported alike
 
 module _ (reserved other : Reserved) (names : TraceNames) (IsFront : List Event → Type 0) (front : (s t : List Event) → IsFront (s ++ t) → IsFront s)
     (alike : (before : List Event) (a u : ℕ) → IsFront before → IsOfQuery names.queries (ask a u) → reserved before a u ↔ other before a u) where
@@ -116,6 +116,6 @@ module _ (reserved other : Reserved) (names : TraceNames) (IsFront : List Event 
         whole,
       )
 
-  pub told_alike : (lines : List ℕ) (events : List Event) (last : ℕ → List ℕ → Type 0) (s : ℕ) (t : List ℕ) → IsFront events → All (IsOfQuery names.queries) events
+  pub reported_alike : (lines : List ℕ) (events : List Event) (last : ℕ → List ℕ → Type 0) (s : ℕ) (t : List ℕ) → IsFront events → All (IsOfQuery names.queries) events
       → Tells reserved names lines events last s t → Tells other names lines events last s t
-  told_alike lines events last s t is all (asks, rest, say, ends, whole) = (asks, rest, asks_alike [] lines events asks is all say, ends, whole)
+  reported_alike lines events last s t is all (asks, rest, say, ends, whole) = (asks, rest, asks_alike [] lines events asks is all say, ends, whole)

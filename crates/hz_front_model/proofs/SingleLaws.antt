@@ -23,7 +23,7 @@ use Rattle.hz_base_model.specs.Names.{Held}
 use Rattle.hz_front_model.specs.Phases.{Says, Next, FileWord, OpensAll, HasForms, Traces}
 use Rattle.hz_pipeline_model.specs.Traces.TraceNames.{TraceNames}
 use Rattle.hz_front_model.specs.Asks.{Reserved, Tells}
-use Rattle.hz_front_model.proofs.AskLaws.{one_told}
+use Rattle.hz_front_model.proofs.AskLaws.{one_reported}
 
 -- answers that leave no choice
 abbrev pub IsSingle : (ℕ → List ℕ → Type 0) → Type 0
@@ -47,7 +47,7 @@ module _ {U : Type 0} (m : Pipeline U) where
       same_issue_number k l h = cc
 
   pub replays_single : (reserved : Reserved) (names : TraceNames) (lines : List ℕ) (events : List Event) → IsSingle (Replays m reserved names lines events)
-  replays_single reserved names lines events s s' t t' (inl a) (inl b) = one_told reserved names lines events _ (says_single _ _) s s' t t' a.1 b.1
+  replays_single reserved names lines events s s' t t' (inl a) (inl b) = one_reported reserved names lines events _ (says_single _ _) s s' t t' a.1 b.1
   replays_single reserved names lines events s s' t t' (inl a) (inr b) = absurd (accepted_or_refused m events b.0 a.0 b.3)
   replays_single reserved names lines events s s' t t' (inr a) (inl b) = absurd (accepted_or_refused m events a.0 b.0 a.3)
   replays_single reserved names lines events s s' t t' (inr (i, line, class, first, there, named, tells)) (inr (j, line', class', first', there', named', tells')) =
@@ -58,7 +58,7 @@ module _ {U : Type 0} (m : Pipeline U) where
       let again : Tells reserved names lines (take i events) (Says 1 (refused_line line class)) s' t' =
       subst (λ (text : List ℕ). Tells reserved names lines (take i events) (Says 1 text) s' t') (sym same)
       (subst (λ (n : ℕ). Tells reserved names lines (take n events) (Says 1 (refused_line line' class')) s' t') (sym place) tells') in
-      one_told reserved names lines (take i events) _ (says_single _ _) s s' t t' tells again
+      one_reported reserved names lines (take i events) _ (says_single _ _) s s' t t' tells again
 
 -- a phase leaves no choice where the next leaves none
 pub traces_single : (names : TraceNames) (name text : List ℕ) (next : Next (List Event)) → ((events : List Event) → IsSingle (next events)) → IsSingle (Traces names name text next)

@@ -15,7 +15,7 @@ use Rattle.hz_front_model.specs.Texts.{ask_line}
 abbrev pub trace_names : Description → TraceNames
 trace_names d = record { classes = class_names d; queries = map ask_names (automata_of d) }
 
--- Whether a query unit is reserved in the present cycle behind events, by its automaton and its place among the query units there.
+-- Whether a query unit is reserved in the present cycle after events, by its automaton and its place among the query units there.
 abbrev pub Reserved : Type 1
 Reserved = List Event → (automaton query : ℕ) → Type 0
 
@@ -27,7 +27,7 @@ held_in d known before automaton query = IsHeld (pipeline_with d known) before (
 abbrev pub query_name : TraceNames → (automaton query : ℕ) → List ℕ
 query_name names automaton query = slice_index_or (slice_index_or names.queries automaton []) query []
 
--- the line of an ask behind these events
+-- the line of an ask after these events
 abbrev pub AskSays : Reserved → TraceNames → (before : List Event) → (line automaton query : ℕ) → List ℕ → Type 0
 AskSays reserved names before line automaton query text =
     (reserved before automaton query × (text ≡ ask_line line (query_name names automaton query) true))
@@ -41,7 +41,7 @@ AsksSay reserved names before lines (advance n ∷ events) text = AsksSay reserv
 AsksSay reserved names before lines (ask a u ∷ events) text =
     (first rest : List ℕ) × AskSays reserved names before (slice_index_or lines 0 0) a u first × AsksSay reserved names (before ++ ask a u ∷ []) (drop 1 lines) events rest × (text ≡ first ++ rest)
 
--- The asks among these events are told, and then what comes last.
+-- The asks among these events are reported, and then what comes last.
 abbrev pub Tells : Reserved → TraceNames → (lines : List ℕ) → List Event → (ℕ → List ℕ → Type 0) → ℕ → List ℕ → Type 0
 Tells reserved names lines events last status text =
     (asks rest : List ℕ) × AsksSay reserved names [] lines events asks × last status rest × (text ≡ asks ++ rest)

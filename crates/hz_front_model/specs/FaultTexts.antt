@@ -10,13 +10,13 @@ abbrev pub description_line : List ℕ → DescriptionFault → ℕ → List ℕ
 description_line file fault line = fault_text file line (description_word fault) None None None (description_at fault)
 
 -- a fault of a description, by the limit that it passes if it is one: the limit with the name of what passes it, or the word and the name
-abbrev pub told_line : List ℕ → List ℕ → Site → Option LimitName → List ℕ
-told_line file word site (Some limit) = passed_line file site.line (limit_word limit) site.name
-told_line file word site None = fault_text file site.line word None (Some site.name) None None
+abbrev pub reported_line : List ℕ → List ℕ → Site → Option LimitName → List ℕ
+reported_line file word site (Some limit) = passed_line file site.line (limit_word limit) site.name
+reported_line file word site None = fault_text file site.line word None (Some site.name) None None
 
 -- the line of a fault of a description, where it stands
 abbrev pub check_line : List ℕ → CheckFault → Site → List ℕ
-check_line file fault site = told_line file (check_word fault) site (limit_passed fault)
+check_line file fault site = reported_line file (check_word fault) site (limit_passed fault)
 
 -- the status of a limit, and of any other fault
 abbrev pub status_by : Option LimitName → ℕ

@@ -33,7 +33,7 @@ abbrev pub OpensAll : Held → List FileWord → Next (List (List ℕ)) → ℕ 
 OpensAll held [] next = next []
 OpensAll held (file ∷ files) next = Opens held file.name file.most (λ bytes. OpensAll held files (λ others. next (bytes ∷ others)))
 
--- a fault of a text is told, by its word and its line: one for which `wrong` holds
+-- a fault of a text is reported, by its word and its line: one for which `wrong` holds
 abbrev pub TellsFault : {F : Type 0} → (word : F → List ℕ) → (wrong : F → ℕ → Type 0) → (name : List ℕ) → ℕ → List ℕ → Type 0
 TellsFault {F} word wrong name status text = (fault : F) × (line : ℕ) × wrong fault line × Says 2 (fault_line name line (word fault ∷ [])) status text
 

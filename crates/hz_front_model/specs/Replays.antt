@@ -11,7 +11,7 @@ use Rattle.hz_front_model.specs.Texts.{accepted_line, refused_line}
 abbrev pub IsIssueOf : {U : Type 0} → Pipeline U → Option Event → List ℕ → Type 0
 IsIssueOf {U} m e name = (k : ℕ) × (c : Class U) × (e ≡ Some (issue k)) × (slice_get m.classes k ≡ Some c) × (c.name ≡ name)
 
--- The replay of events that stand on these lines of a trace: the asks before the first event that does not fit, or all, are told, and
+-- The replay of events that stand on these lines of a trace: the asks before the first event that does not fit, or all, are reported, and
 -- then that all are accepted, or which is refused.
 abbrev pub Replays : {U : Type 0} → Pipeline U → Reserved → TraceNames → List ℕ → List Event → ℕ → List ℕ → Type 0
 Replays m reserved names lines events status text =

@@ -32,7 +32,7 @@ abbrev pub at_words : Option (List ℕ × ℕ) → List (List ℕ)
 at_words None = []
 at_words (Some at) = codes " " ∷ at.0 ∷ codes " " ∷ decimal at.1 ∷ []
 
--- a fault of a text with what is told after its word: an instruction, one name or two, the fault of an expression
+-- a fault of a text with what is reported after its word: an instruction, one name or two, the fault of an expression
 abbrev pub fault_text : (file : List ℕ) → (line : ℕ) → (word : List ℕ) → (insn : Option ℕ) → (first second : Option (List ℕ)) → (at : Option (List ℕ × ℕ)) → List ℕ
 fault_text file line word insn first second at = fault_line file line (word ∷ (insn_words insn ++ (name_words first ++ (name_words second ++ at_words at))))
 
@@ -44,7 +44,7 @@ passed_line file line what name = concat (codes "limit " ∷ file ∷ codes " li
 abbrev pub states_line : List ℕ → List ℕ → List ℕ
 states_line file automaton = concat (codes "limit " ∷ file ∷ codes " automaton " ∷ automaton ∷ codes "\n" ∷ [])
 
--- a limit on the instructions of a block, or of two together, which is told of the second
+-- a limit on the instructions of a block, or of two together, which is reported of the second
 abbrev pub insns_line : List ℕ → List ℕ
 insns_line file = concat (codes "limit " ∷ file ∷ codes " insns\n" ∷ [])
 

@@ -48,15 +48,15 @@ bit-number_of test (suc n) unit lt =
 HasUnit-number_of : (test : ℕ → Bool) (n unit : ℕ) → HasUnit (number_of test n) unit ↔ ((unit < n) × IsTrue (test unit))
 HasUnit-number_of test n unit = (
   λ h. ⊎_elim
-      (λ (lt : unit < n). (lt, told (test unit) (sym (bit-number_of test n unit lt) ∙ bit_from_HasUnit _ unit h)))
+      (λ (lt : unit < n). (lt, reported (test unit) (sym (bit-number_of test n unit lt) ∙ bit_from_HasUnit _ unit h)))
       (λ (past : n ≤ unit). absurd (omega (arith, bit_at_above (number_of test n) n unit (number_of-lt test n) past, bit_from_HasUnit _ unit h)))
       (cases_lt unit n),
   λ h. HasUnit-from_bit _ unit (bit-number_of test n unit h.0 ∙ one (test unit) h.1),
 )
   where
-    told : (b : Bool) → bit_of b ≡ 1 → IsTrue b
-    told true e = refl
-    told false e = absurd (omega arith)
+    reported : (b : Bool) → bit_of b ≡ 1 → IsTrue b
+    reported true e = refl
+    reported false e = absurd (omega arith)
 
     one : (b : Bool) → IsTrue b → bit_of b ≡ 1
     one true t = refl

@@ -95,7 +95,7 @@ copies_once cycles apart cycle = (
       rw (← same) is.4,
 )
 
--- what drops from behind the last cycle is told by a number of cycles, or by any one from 512 on
+-- what drops from after the last cycle is reported by a number of cycles, or by any one from 512 on
 abbrev pub IsAsFar : ℕ → ℕ → Type 0
 IsAsFar a b = (a ≡ b) ⊎ ((512 ≤ a) × (512 ≤ b))
 
@@ -103,7 +103,7 @@ later_as_far : (cycles : Cycles) (a b cycle : ℕ) → IsAsFar a b → IsLater c
 later_as_far cycles a b cycle (inl e) is = rw (← e) is
 later_as_far cycles a b cycle (inr far) is = absurd (later_past cycles a cycle far.0 is)
 
--- made copies, and the same ones behind no more of them than were made, are made and more copies
+-- made copies, and the same ones after no more of them than were made, are made and more copies
 pub copies_more : (cycles made moved both : Cycles) (count more apart far : ℕ) → more ≤ count → IsAsFar far (more * apart)
     → ((cycle : ℕ) → HasCycle made cycle ↔ IsCopied cycles count apart cycle)
     → ((cycle : ℕ) → HasCycle moved cycle ↔ IsLater made far cycle)
@@ -115,10 +115,10 @@ copies_more cycles made moved both count more apart far few as_far are later of_
       let is = (are cycle).0 k in
       (is.0, is.1, omega (arith, is.2), is.3, is.4, is.5))
       (λ (k : HasCycle moved cycle).
-      let behind = later_as_far made far (more * apart) cycle as_far ((later cycle).0 k) in
-      let is = (are behind.1).0 behind.2 in
+      let beyond = later_as_far made far (more * apart) cycle as_far ((later cycle).0 k) in
+      let is = (are beyond.1).0 beyond.2 in
       let sum : (more + is.1) * apart ≡ more * apart + is.1 * apart = add-mul more is.1 apart in
-      (behind.0, more + is.1, omega (arith, is.2), is.3, is.4, omega (arith, is.5, behind.3)))
+      (beyond.0, more + is.1, omega (arith, is.2), is.3, is.4, omega (arith, is.5, beyond.3)))
       ((of_both cycle).0 h),
   λ is. (of_both cycle).1 (⊎_elim
       (λ (lt : is.1 < count). inl ((are cycle).1 (is.0, is.1, lt, is.3, is.4, is.5)))

@@ -41,11 +41,11 @@ HasUnit-down word k unit =
     (same_bit_unit _ _ _ _ e, same_bit_unit _ _ _ _ (sym e))
 
 -- words before which so many more stand
-pub behind_none : (row more place bit : ℕ) → place < more → bit < 64 → HasUnit 0 bit ↔ IsRaised row (64 * more) (64 * place + bit)
-behind_none row more place bit before small = (λ h. absurd (HasUnit-zero bit h), λ h. absurd (omega (arith, h.0, before, small)))
+pub after_none : (row more place bit : ℕ) → place < more → bit < 64 → HasUnit 0 bit ↔ IsRaised row (64 * more) (64 * place + bit)
+after_none row more place bit before small = (λ h. absurd (HasUnit-zero bit h), λ h. absurd (omega (arith, h.0, before, small)))
 
-pub behind_there : (words : List ℕ) (more place bit : ℕ) → AreWords words → more ≤ place → bit < 64 → HasUnit (get_or words (place - more) 0) bit ↔ IsRaised (row_of words) (64 * more) (64 * place + bit)
-behind_there words more place bit are low small =
+pub after_there : (words : List ℕ) (more place bit : ℕ) → AreWords words → more ≤ place → bit < 64 → HasUnit (get_or words (place - more) 0) bit ↔ IsRaised (row_of words) (64 * more) (64 * place + bit)
+after_there words more place bit are low small =
     let at : 64 * place + bit - 64 * more ≡ 64 * (place - more) + bit = omega (arith, low) in
     let word : (64 * (place - more) + bit) / 64 ≡ place - more = omega (arith, small) in
     let in_word : (64 * (place - more) + bit) % 64 ≡ bit = omega (arith, small) in (
@@ -91,7 +91,7 @@ pub raised_row : (words raised : List ℕ) (by : ℕ) → AreWords raised → ((
     → (unit : ℕ) → unit < 64 * length raised → HasUnit (row_of raised) unit ↔ IsRaised (row_of words) by unit
 raised_row words raised by are each unit lt =
     let of_word = HasUnit-row_of raised unit are in
-    let told = each (unit / 64) (omega (arith, lt)) (unit % 64) (omega arith) in
+    let reported = each (unit / 64) (omega (arith, lt)) (unit % 64) (omega arith) in
     let at : 64 * (unit / 64) + unit % 64 ≡ unit = omega arith in
-    let same = subst (λ n. HasUnit (get_or raised (unit / 64) 0) (unit % 64) ↔ IsRaised (row_of words) by n) at told in
+    let same = subst (λ n. HasUnit (get_or raised (unit / 64) 0) (unit % 64) ↔ IsRaised (row_of words) by n) at reported in
     (λ h. same.0 (of_word.0 h), λ h. of_word.1 (same.1 h))

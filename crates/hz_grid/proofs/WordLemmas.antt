@@ -35,7 +35,7 @@ HasUnit-row_of words unit small =
     let e = bit-row_of words unit small in
     (same_bit_unit _ _ _ _ e, same_bit_unit _ _ _ _ (sym e))
 
--- a word of the list is small, and behind the end it is 0
+-- a word of the list is small, and after the end it is 0
 pub word_small : (words : List ℕ) (place : ℕ) → AreWords words → get_or words place 0 < 2 ^ 64
 word_small [] place small = omega arith
 word_small (word ∷ words) zero small = All-head (λ w. w < 2 ^ 64) word words small
@@ -242,7 +242,7 @@ pub none_above : (words : List ℕ) (unit : ℕ) → AreWords words → (HasAbov
 none_above words unit small here later (other, after, h) =
     let in_word = (HasUnit-row_of words other small).0 h in
     ⊎_elim
-    (λ (behind : unit / 64 < other / 64). HasUnit-zero (other % 64) (rw (later (other / 64) behind) at in_word))
+    (λ (beyond : unit / 64 < other / 64). HasUnit-zero (other % 64) (rw (later (other / 64) beyond) at in_word))
     (λ (most : other / 64 ≤ unit / 64).
     let at : other / 64 ≡ unit / 64 = omega (arith, after, most) in
     here (other % 64, omega (arith, after, most), subst (λ p. HasUnit (get_or words p 0) (other % 64)) at in_word))

@@ -36,7 +36,7 @@ IsAdvanced old new = (p : Pair ℕ) → Contains new p ↔ Contains old (later 1
 pub grid_eq-laws : IsEquivalence grid_eq
 grid_eq-laws = lists_equiv (and_equiv (on_equiv (λ (p : Pair ℕ). p.unit) nat_eq_equiv) (on_equiv (λ (p : Pair ℕ). p.cycle) nat_eq_equiv))
 
--- The same two, told as one fact of grids of two widths.
+-- The same two, reported as one fact of grids of two widths.
 pub record Unites (first second union : List (Pair ℕ)) : Type 0 where
   pub pairs : IsUnion first second union
 

@@ -25,7 +25,7 @@ grid_eq-cmp = lists_ties (pair_cmp nat_cmp) pair_ties
 pub grid_cmp-partial : IsPartialOrder grid_eq (as_partial_cmp grid_cmp)
 grid_cmp-partial = po grid_total grid_eq-cmp
 
--- the rows have a pair behind that of this unit and cycle
+-- the rows have a pair after that of this unit and cycle
 abbrev pub HasLater : List ℕ → ℕ → ℕ → Type 0
 HasLater rows cycle unit = (other : ℕ) × (later : ℕ) × IsSet rows other later × ((cycle < later) ⊎ ((cycle ≡ later) × (unit < other)))
 

@@ -13,10 +13,10 @@ has_cycle cycles cycle = nat_lt cycle cycle_limit && has_unit (row_of cycles.wor
 abbrev pub HasCycle : Cycles → ℕ → Type 0
 HasCycle cycles cycle = IsTrue (has_cycle cycles cycle)
 
--- the cycle is one of the set, so many later, and has not gone behind the last one
+-- the cycle is one of the set, so many later, and has not gone past the last one
 abbrev pub IsLater : Cycles → ℕ → ℕ → Type 0
 IsLater cycles later cycle = (cycle < cycle_limit) × (earlier : ℕ) × HasCycle cycles earlier × (cycle ≡ later + earlier)
 
--- the cycle is in one of so many copies, each so many cycles behind the one before, and has not gone behind the last one
+-- the cycle is in one of so many copies, each so many cycles after the one before, and has not gone past the last one
 abbrev pub IsCopied : Cycles → ℕ → ℕ → ℕ → Type 0
 IsCopied cycles times apart cycle = (cycle < cycle_limit) × (copy : ℕ) × (copy < times) × (earlier : ℕ) × HasCycle cycles earlier × (cycle ≡ copy * apart + earlier)

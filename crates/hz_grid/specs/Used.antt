@@ -28,7 +28,7 @@ pub record AreRowsOf (pairs : List (Pair ℕ)) (rows : List UsedRow) : Type 0 wh
 pub record HasUnitsOf (pairs : List (Pair ℕ)) (row : ℕ) : Type 0 where
   pub units : (unit cycle : ℕ) → Holds pairs unit cycle → HasUnit row unit
 
--- Both, told by tests.
+-- Both, reported by tests.
 pub record IsUsage (pairs : List (Pair ℕ)) (rows : List UsedRow) (all : ℕ) : Type 0 where
   pub each : All (λ row. (unit : ℕ) → has_unit row.units unit ≡ has_pair pairs row.cycle unit) rows
   pub whole : (unit cycle : ℕ) → IsTrue (has_pair pairs cycle unit) → IsTrue (list_any (is_at cycle) rows)

@@ -53,7 +53,7 @@ fn decided<const N: usize, const M: usize>(
     }
 }
 
-// Whether there is a pair behind the one of this unit and cycle.
+// Whether there is a pair after the one of this unit and cycle.
 fn has_later<const N: usize>(rows: &[Row<N>], cycle: usize, unit: usize) -> bool
     requires rows { IsRows rows.now }
     requires cycle { cycle < CYCLES }

@@ -6,7 +6,7 @@ ghost use Rattle.hz_grid.specs.Words.{row_of, AreWords, IsRaised};
 use crate::words::{WORD, word_at};
 
 // The word of that place, among words before which so many more stand, which are 0.
-fn word_behind(words: &[u64], more: usize, place: usize) -> u64
+fn word_after(words: &[u64], more: usize, place: usize) -> u64
     requires { AreWords words.now }
     ensures { (bit : ℕ) → bit < 64 → HasUnit result bit ↔ IsRaised (row_of words.now) (64 * more) (64 * place + bit) }
 {
@@ -25,15 +25,15 @@ fn raised_word(words: &[u64], by: usize, place: usize) -> u64
 {
     let whole = by / WORD;
     let rest = by % WORD;
-    let here = word_behind(words, whole, place);
+    let here = word_after(words, whole, place);
     if rest == 0 {
         here
     } else {
-        here << rest | word_behind(words, whole + 1, place) >> (WORD - rest)
+        here << rest | word_after(words, whole + 1, place) >> (WORD - rest)
     }
 }
 
-/// The same numbers, so many higher; what comes behind the last word is dropped.
+/// The same numbers, so many higher; what comes after the last word is dropped.
 pub(crate) fn raise(words: &[u64], by: usize, raised: &mut [u64])
     requires words { AreWords words.now }
     requires few { by < 1048576 }

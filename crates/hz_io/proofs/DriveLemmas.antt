@@ -40,6 +40,6 @@ search_passed files name place file inside is so_far other =
     let more = search_more files name place file inside is in
     sym (more ∙ rw other refl) ∙ so_far
 
--- the numbers that are to fail stay behind the next call's
+-- the numbers that are to fail stay after the next call's
 pub steady_next : (fail : List ℕ) (next : ℕ) → next < 2 ^ 64 → IsSteady fail next → IsSteady fail (min (next + 1) (2 ^ 64 - 1))
 steady_next fail next fits s = record { earlier = λ number listed. let before = s.earlier number listed in omega arith }

@@ -3,7 +3,7 @@ use Rattle.std.specs.Option.{ForSome}
 use Rattle.std.proofs.lemmas.List.{append_assoc, append-nil, take-append-drop, take-append-le, length-take, length-append, drop-drop, drop_at}
 use Rattle.hz_base_model.specs.Names.{Held}
 use Rattle.hz_io.specs.Files.{HasOpened, HasRead, Takes}
-use Rattle.hz_io.specs.Slurp.{Slurped, HasEnded, HasExceeded, TellsUnread, Tells, UntoldOnFailed, LacksOnFailed}
+use Rattle.hz_io.specs.Slurp.{Slurped, HasEnded, HasExceeded, TellsUnread, Tells, UnreportedOnFailed, LacksOnFailed}
 use Rattle.hz_io.specs.declared.faults.SlurpFault.TheVariants.{Failed, Long, NoMemory}
 
 -- of what was unread at first, `bytes` were read, and `left` is unread now
@@ -66,12 +66,12 @@ tells_opened o rest' most (Err (Long read)) h =
     record { bytes = o.bytes; found = o.found; longer = t.longer; left = t.left }
 tells_opened o rest' most (Err NoMemory) h = tt
 
--- after an open that succeeded, no steady file whose bytes are told fails
-pub lacks_untold : (held : Option Held) (name : List ℕ) (result : Slurped) → UntoldOnFailed held result → LacksOnFailed held name result
-lacks_untold held name (Ok file) h = tt
-lacks_untold held name (Err Failed) h = λ told is. let none : IsNone held = h in absurd (told_somewhere held told none is)
+-- after an open that succeeded, no steady file whose bytes are reported fails
+pub lacks_unreported : (held : Option Held) (name : List ℕ) (result : Slurped) → UnreportedOnFailed held result → LacksOnFailed held name result
+lacks_unreported held name (Ok file) h = tt
+lacks_unreported held name (Err Failed) h = λ reported is. let none : IsNone held = h in absurd (reported_somewhere held reported none is)
   where
-    told_somewhere : (held : Option Held) (told : Held) → IsNone held → held ≡ Some told → ⊥
-    told_somewhere held told none is = cc (rw is at none)
-lacks_untold held name (Err (Long read)) h = tt
-lacks_untold held name (Err NoMemory) h = tt
+    reported_somewhere : (held : Option Held) (reported : Held) → IsNone held → held ≡ Some reported → ⊥
+    reported_somewhere held reported none is = cc (rw is at none)
+lacks_unreported held name (Err (Long read)) h = tt
+lacks_unreported held name (Err NoMemory) h = tt

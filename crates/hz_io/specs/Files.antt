@@ -12,11 +12,11 @@ pub record HasOpened (held : Held) (rest : Option (List ℕ)) (name : List ℕ) 
   pub found : held name ≡ Some bytes
   pub unread : rest ≡ Some bytes
 
--- an open that succeeds has opened the file of that name, where what is held is told
+-- an open that succeeds has opened the file of that name, where what is held is reported
 abbrev pub IsOpened : {T E : Type 0} → Option Held → Option (List ℕ) → List ℕ → Result T E → Type 0
 IsOpened held rest name result = OnOk result (ForSome held (λ h. HasOpened h rest name))
 
--- an open that fails names no file, where what is held is told
+-- an open that fails names no file, where what is held is reported
 abbrev pub LacksOnErr : {T E : Type 0} → Option Held → List ℕ → Result T E → Type 0
 LacksOnErr held name result = OnErr result (ForSome held (λ h. h name ≡ None))
 
@@ -26,7 +26,7 @@ pub record Takes (unread : List ℕ) (rest : Option (List ℕ)) (into : List ℕ
   pub left : rest ≡ Some (drop count unread)
   pub at_end : (count ≡ 0) ↔ (unread ≡ [])
 
--- a read of `count` bytes: they are at the front of `into`, which stays behind them, and come from the unread bytes
+-- a read of `count` bytes: they are at the front of `into`, which stays after them, and come from the unread bytes
 pub record HasRead (rest rest' : Option (List ℕ)) (into into' : List ℕ) (count : ℕ) : Type 0 where
   pub within : count ≤ length into
   pub others : drop count into' ≡ drop count into

@@ -16,7 +16,7 @@ SlurpCounts old new (Err Failed) = new ≡ old + 1
 SlurpCounts old new (Err (Long read)) = new ≡ old
 SlurpCounts old new (Err NoMemory) = new ≡ old
 
--- at most `most` bytes come back, and a file is told to be longer after one byte more
+-- at most `most` bytes come back, and a file is reported to be longer after one byte more
 abbrev pub Measures : ℕ → Slurped → Type 0
 Measures most (Ok file) = vec_len file ≤ most
 Measures most (Err Failed) = ⊤
@@ -52,23 +52,23 @@ pub record IsLonger (held : Held) (rest : Option (List ℕ)) (name : List ℕ) (
   pub longer : most < length bytes
   pub left : rest ≡ Some (drop (most + 1) bytes)
 
--- what the answer says of what is held and of what is unread afterwards, where what is held is told
+-- what the answer says of what is held and of what is unread afterwards, where what is held is reported
 abbrev pub Tells : Held → Option (List ℕ) → List ℕ → ℕ → Slurped → Type 0
 Tells held rest name most (Ok file) = IsWhole held rest name file.items
 Tells held rest name most (Err Failed) = ⊤
 Tells held rest name most (Err (Long read)) = IsLonger held rest name most
 Tells held rest name most (Err NoMemory) = ⊤
 
--- the answer `Failed` names no file, where what is held is told
+-- the answer `Failed` names no file, where what is held is reported
 abbrev pub LacksOnFailed : Option Held → List ℕ → Slurped → Type 0
 LacksOnFailed held name (Ok file) = ⊤
 LacksOnFailed held name (Err Failed) = ForSome held (λ h. h name ≡ None)
 LacksOnFailed held name (Err (Long read)) = ⊤
 LacksOnFailed held name (Err NoMemory) = ⊤
 
--- the answer `Failed` comes only where what is held isn't told
-abbrev pub UntoldOnFailed : Option Held → Slurped → Type 0
-UntoldOnFailed held (Ok file) = ⊤
-UntoldOnFailed held (Err Failed) = IsNone held
-UntoldOnFailed held (Err (Long read)) = ⊤
-UntoldOnFailed held (Err NoMemory) = ⊤
+-- the answer `Failed` comes only where what is held isn't reported
+abbrev pub UnreportedOnFailed : Option Held → Slurped → Type 0
+UnreportedOnFailed held (Ok file) = ⊤
+UnreportedOnFailed held (Err Failed) = IsNone held
+UnreportedOnFailed held (Err (Long read)) = ⊤
+UnreportedOnFailed held (Err NoMemory) = ⊤

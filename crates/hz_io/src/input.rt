@@ -6,8 +6,8 @@ ghost use Rattle.hz_io.specs.Files.{Counts, IsOpened, LacksOnErr, Reads};
 use super::faults::Failed;
 
 /// Files: one of them is open at a time. In contracts `held` is what all files hold and `rest` what is unread
-/// of the open one, where these are told. `faults` counts the calls that failed. Where `steady` holds and `held`
-/// is told, only the opening of a name that isn't held fails.
+/// of the open one, where these are reported. `faults` counts the calls that failed. Where `steady` holds and `held`
+/// is reported, only the opening of a name that isn't held fails.
 pub trait Files {
     ghost held: { Self → Option Held };
 

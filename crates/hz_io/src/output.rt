@@ -5,7 +5,7 @@ ghost use Rattle.hz_io.specs.Sink.{Writes};
 use super::faults::Failed;
 
 /// A place to write to. In contracts `written` is all that was written and `room` how many bytes still fit,
-/// where these are told. `faults` counts the calls that failed.
+/// where these are reported. `faults` counts the calls that failed.
 pub trait Sink {
     ghost written: { Self → Option (List ℕ) };
 

@@ -49,7 +49,7 @@ fn spill<S: Sink>(out: &mut S, page: &mut Page, bytes: &[u8]) -> Result<(), Fail
     }
 }
 
-/// Adds bytes behind those that are held, which are written where there is no room for more.
+/// Adds bytes after those that are held, which are written where there is no room for more.
 #[inline(always)]
 pub fn add<S: Sink>(out: &mut S, page: &mut Page, bytes: &[u8]) -> Result<(), Failed>
     requires { S.faults out.old < 2 ^ 64 - 1 }

@@ -1,7 +1,7 @@
 //! Whole files.
 ghost use Rattle.std.specs.Prelude.{◌≡◌, ℕ, ◌-◌, ◌^◌, ◌<◌, length};
 ghost use Rattle.std.specs.Option.{ForSome};
-ghost use Rattle.hz_io.specs.Slurp.{SlurpCounts, Measures, Tells, TellsUnread, LacksOnFailed, UntoldOnFailed};
+ghost use Rattle.hz_io.specs.Slurp.{SlurpCounts, Measures, Tells, TellsUnread, LacksOnFailed, UnreportedOnFailed};
 
 use super::faults::SlurpFault;
 use super::input::Files;
@@ -47,7 +47,7 @@ fn read_to_end<F: Files>(
     ensures measures { Measures most result }
     ensures tells { ForSome (F.rest files.old) (λ unread. TellsUnread unread (F.rest files.new) most result) }
     ensures steady { F.steady files.old → F.steady files.new }
-    ensures fails { F.steady files.old → UntoldOnFailed (F.held files.old) result }
+    ensures fails { F.steady files.old → UnreportedOnFailed (F.held files.old) result }
 {
     let mut bytes = Vec::new(alloc);
     loop {

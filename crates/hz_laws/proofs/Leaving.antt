@@ -5,6 +5,6 @@ pub mod ExploreLaws
 pub mod OnwardLaws
 pub mod GridCounts
 pub mod StateCounts
-pub mod CountsTold
+pub mod CountsReported
 pub mod ColumnLaws
-pub mod LimitsTold
+pub mod LimitsReported

@@ -1,7 +1,7 @@
 -- That descriptions within their limits have machines.
 pub mod NumberingLaws
 pub mod NumberedTables
-pub mod ApartTold
+pub mod ApartReported
 pub mod LeastTables
 pub mod AscendingLists
 pub mod AutomatonTotal

@@ -26,17 +26,17 @@ pub fn what_automata_leave_can_be_listed()
 {}
 
 /// Where a test tells units apart, each count of every pipeline is at most a number or above it, for every number.
-pub fn every_count_is_told<U>()
-    ensures told { (same : U → U → Bool) → Tells same → (m : Pipeline U) (columns : ℕ) (count : Count) (n : ℕ) → CountIsAtMost m columns count n ⊎ CountIsAbove m columns count n }
+pub fn every_count_is_reported<U>()
+    ensures reported { (same : U → U → Bool) → Tells same → (m : Pipeline U) (columns : ℕ) (count : Count) (n : ℕ) → CountIsAtMost m columns count n ⊎ CountIsAbove m columns count n }
 {}
 
 /// So each count of each automaton, whose units are numbers, is at most a number or above it.
-pub fn every_count_of_an_automaton_is_told()
-    ensures told { (m : Pipeline ℕ) (columns : ℕ) (count : Count) (n : ℕ) → CountIsAtMost m columns count n ⊎ CountIsAbove m columns count n }
+pub fn every_count_of_an_automaton_is_reported()
+    ensures reported { (m : Pipeline ℕ) (columns : ℕ) (count : Count) (n : ℕ) → CountIsAtMost m columns count n ⊎ CountIsAbove m columns count n }
 {}
 
 /// So each automaton of every description keeps its limits of states, or has a count above one of them, whatever alternatives its
 /// names have.
 pub fn limits_are_kept_or_passed()
-    ensures told { (d : Description) (known : Known) → AreCounted d known }
+    ensures reported { (d : Description) (known : Known) → AreCounted d known }
 {}

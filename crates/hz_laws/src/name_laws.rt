@@ -1,4 +1,4 @@
-//! At which sites each fault of names stands, in the words of the rules. Which of them is told, `first_told` says.
+//! At which sites each fault of names stands, in the words of the rules. Which of them is reported, `first_reported` says.
 
 ghost use Rattle.std.specs.Prelude.{◌↔◌, Contains};
 ghost use Rattle.hz_description_model.specs.Reading.Descriptions.{Description};

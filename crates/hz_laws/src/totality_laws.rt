@@ -17,7 +17,7 @@ ghost use Rattle.hz_pipeline_model.specs.Reaching.Built.{IsAutomaton};
 ghost use Rattle.hz_pipeline_model.specs.Reaching.Counts.{CountIsAtMost, states};
 ghost use Rattle.hz_pipeline_model.specs.Compiling.Compiled.{IsCompiled, Report};
 ghost use Rattle.hz_pipeline_model.specs.Compiling.DescriptionLimits.{AllKeepLimits};
-ghost use Rattle.hz_pipeline_model.specs.Single.Told.{ListsAscending};
+ghost use Rattle.hz_pipeline_model.specs.Single.Reported.{ListsAscending};
 ghost use Rattle.hz_tabtext_model.specs.Said.{IsInRange};
 
 /// Every pipeline whose reached states are at most some number has an automaton: a table that walks just what it accepts, whose rows

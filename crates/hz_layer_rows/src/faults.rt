@@ -1,4 +1,4 @@
-//! How faults are told that no other row meets, most of them want of memory.
+//! How faults are reported that no other row meets, most of them want of memory.
 
 use hz_altern::AlternFault;
 use hz_auto::AutoFault;
@@ -17,7 +17,7 @@ use hz_tabfile::TabFault;
 use std::alloc::{AllocError, Global};
 use std::fmt::Write;
 
-/// What is told where forms, an expression, names, a description, a block, a check, a graph or a file want memory, and of
+/// What is reported where forms, an expression, names, a description, a block, a check, a graph or a file want memory, and of
 /// a call that failed.
 pub fn answer_texts(alloc: Global) -> Result<String, AllocError> {
     format!(in alloc;
@@ -43,7 +43,7 @@ const TRACES: [TraceFault; 5] = [
     TraceFault::NoMemory,
 ];
 
-/// What is told where alternatives and states want memory, and of each fault of a trace.
+/// What is reported where alternatives and states want memory, and of each fault of a trace.
 pub fn answer_automata(alloc: Global) -> Option<String> {
     let (alternatives, states) = (AlternFault::NoMemory, StateFault::NoMemory);
     let mut out = format!(in alloc; "{alternatives}; {states}").ok()?;
@@ -53,13 +53,13 @@ pub fn answer_automata(alloc: Global) -> Option<String> {
     Some(out)
 }
 
-/// What is told where a machine and a text of tables want memory.
+/// What is reported where a machine and a text of tables want memory.
 pub fn answer_tables(alloc: Global) -> Option<String> {
     let (machine, tables) = (AutoFault::NoMemory, TabFault::NoMemory);
     format!(in alloc; "{machine}; {tables}").ok()
 }
 
-/// What is told of an instruction of a second context that can't be issued, and where schedules of one and of two contexts
+/// What is reported of an instruction of a second context that can't be issued, and where schedules of one and of two contexts
 /// want memory.
 pub fn answer_schedules(alloc: Global) -> Option<String> {
     let second = DuoFault::CannotStartAlone {

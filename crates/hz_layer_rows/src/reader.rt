@@ -1,14 +1,14 @@
 //! Reads the rows of a file.
 //!
-//! Each line of a file begins with a mark and a blank. What is behind these is as it stands, but for `%` and two hexadecimal
+//! Each line of a file begins with a mark and a blank. What is after these is as it stands, but for `%` and two hexadecimal
 //! digits, a byte, and `%@`, a name of 300 bytes.
 //!
 //! - `#` a comment, and so is an empty line
 //! - `<` a text
-//! - `>` the answer that is wanted of each text behind the last answer
+//! - `>` the answer that is wanted of each text after the last answer
 //! - `&` what stands beside the texts whose answers follow
 //! - `|` a frame, in which texts stand at `%*`; of frames one after another each holds each text whose answer follows
-//! - `=` a frame for frames: `%<` is what a frame has before its `%*`, and `%>` what it has behind that
+//! - `=` a frame for frames: `%<` is what a frame has before its `%*`, and `%>` what it has after that
 //!
 //! A line of these is continued by others: `+` adds a line feed and a text, `~` a text alone, and `* 0..9 TEXT` adds the text
 //! for each number from 0 to 8, with the number in place of `%#` and the next one in place of `%+`.

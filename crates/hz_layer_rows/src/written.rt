@@ -10,7 +10,7 @@ pub fn text_of(bytes: &[u8]) -> &str {
     str::from_utf8(bytes).unwrap_or("?")
 }
 
-/// Adds what a piece behind a `%` stands for, and the rest of the piece: `@` for the long name, and two hexadecimal digits
+/// Adds what a piece after a `%` stands for, and the rest of the piece: `@` for the long name, and two hexadecimal digits
 /// for a byte. It answers whether the piece begins with one of these.
 fn add_piece(out: &mut Vec<u8>, piece: &str) -> Result<bool, AllocError> {
     if let Some(rest) = piece.strip_prefix('@') {

@@ -57,10 +57,10 @@ pub options_end : (o : Options) (pieces : List (Bor (List ℕ))) (i : ℕ) → l
 options_end o pieces i past = rw (drop_all i pieces past) refl
 
 -- what is answered of a text is its list of names, if it is one
-pub list_told : {E : Type 0} (text : List ℕ) (read : Result (Vec (List ℕ) Global) NamesFault) (list : Result (Option (Vec (List ℕ) Global)) E)
+pub list_reported : {E : Type 0} (text : List ℕ) (read : Result (Vec (List ℕ) Global) NamesFault) (list : Result (Option (Vec (List ℕ) Global)) E)
     → IfOk read (λ names. names.items ≡ separated text) → IfOk read (λ names. IsTrue (list_all is_name (separated text))) → (IsErrOf read BadList → IsFalse (list_all is_name (separated text)))
     → IsListIfRead read list → IfOk list (λ found. option_map (λ names. names.items) found ≡ names_of text)
-list_told text (Ok names) list items good bad is = subst (λ l. IfOk l (λ found. option_map (λ names. names.items) found ≡ names_of text)) (sym is) (list_good text names.items items good)
-list_told text (Err BadList) list items good bad is = subst (λ l. IfOk l (λ found. option_map (λ names. names.items) found ≡ names_of text)) (sym is) (rw (list_is text, bad refl) refl)
-list_told text (Err NoMemory) (Ok found) items good bad is = absurd (let e : false ≡ true = is in cc)
-list_told text (Err NoMemory) (Err e) items good bad is = tt
+list_reported text (Ok names) list items good bad is = subst (λ l. IfOk l (λ found. option_map (λ names. names.items) found ≡ names_of text)) (sym is) (list_good text names.items items good)
+list_reported text (Err BadList) list items good bad is = subst (λ l. IfOk l (λ found. option_map (λ names. names.items) found ≡ names_of text)) (sym is) (rw (list_is text, bad refl) refl)
+list_reported text (Err NoMemory) (Ok found) items good bad is = absurd (let e : false ≡ true = is in cc)
+list_reported text (Err NoMemory) (Err e) items good bad is = tt

@@ -43,7 +43,7 @@ headed_condition (list line (more (atom at w) os)) word operands h = ap said (so
     said p = cond (bytes_eq p.0 (codes "const_int")) (constant_in p.1) (cond (bytes_eq p.0 (codes "eq_attr")) (test_in p.1) (option_and_then (joined p.0) (conditions_in p.1)))
 headed_condition _ word operands h = absurd (cc)
 
--- conditions behind others
+-- conditions after others
 abbrev pub after : List model.Condition → model.Conditions → model.Conditions
 after [] rest = rest
 after (first ∷ others) rest = model.more first (after others rest)

@@ -1,4 +1,4 @@
--- A class in two parts: its name with its latency, and what stands behind them. `class_form` of the description's forms.
+-- A class in two parts: its name with its latency, and what comes after them. `class_form` of the description's forms.
 use Rattle.std.specs.Prelude.{ℕ, List, Result, Ok}
 use Rattle.std.specs.Option.{ok_or}
 use Rattle.hz_base_model.specs.Forms.Trees.{Tree}

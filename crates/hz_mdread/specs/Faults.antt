@@ -15,7 +15,7 @@ use Rattle.hz_description_model.specs.Reading.DescriptionForms.{DescriptionFault
 
 -- an expression's fault at its place, as the fault of a form at its line
 abbrev pub in_form : ℕ → ExpressionFault × ℕ → DescriptionFault × ℕ
-in_form line told = (bad_expression told.0 told.1, line)
+in_form line reported = (bad_expression reported.0 reported.1, line)
 
 -- the fault of the definitions and its line; want of memory is none, in an expression too
 abbrev pub fault_of : MdFault → Option (DescriptionFault × ℕ)
@@ -30,7 +30,7 @@ fault_of code.NoMemory = None
 
 -- What is said of a fault and its line holds of this one. Want of memory says nothing, and is never that of an expression.
 abbrev pub Tells : (DescriptionFault → ℕ → Type 0) → MdFault → Type 0
-Tells P fault = MatchOption (fault_of fault) (fault ≡ code.NoMemory) (λ told. P told.0 told.1)
+Tells P fault = MatchOption (fault_of fault) (fault ≡ code.NoMemory) (λ reported. P reported.0 reported.1)
 
 -- names where they were read, and none where there was no list of names; want of memory stays
 abbrev pub IsListIfRead : {N E : Type 0} → Result N NamesFault → Result (Option N) E → Type 0

@@ -36,8 +36,8 @@ fn constant_in(operands: &[Form]) -> Option<Condition>
 }
 
 /// What follows a `!` at the front, if one stands there.
-fn behind_mark(bytes: &[u8]) -> Option<&[u8]>
-    ensures { option_map (λ others. others.now) result ≡ model.behind_mark bytes.now }
+fn after_mark(bytes: &[u8]) -> Option<&[u8]>
+    ensures { option_map (λ others. others.now) result ≡ model.after_mark bytes.now }
 {
     match bytes.split_first() {
         Some((b'!', others)) => Some(others),
@@ -56,7 +56,7 @@ fn without_blanks(bytes: &[u8]) -> &[u8]
 fn test_of(alloc: Global, name: Name, bytes: &[u8]) -> Result<Option<Condition>, NoMemory>
     ensures { IfOk result (λ found. option_map condition found ≡ model.test_of name bytes.now) }
 {
-    let (list, negated) = match behind_mark(without_blanks(bytes)) {
+    let (list, negated) = match after_mark(without_blanks(bytes)) {
         Some(others) => (others, true),
         None => (bytes, false),
     };
@@ -101,7 +101,7 @@ fn negated(alloc: Global, mut tests: Vec<Condition>) -> Result<Option<Condition>
     Ok(Some(Condition::Not(Box::new(alloc, test)?)))
 }
 
-/// The condition with these tests behind a word.
+/// The condition with these tests after a word.
 #[tactic(auto, using(crate::proofs::ConditionLemmas::few_joined))]
 fn joined(alloc: Global, word: &[u8], tests: Vec<Condition>) -> Result<Option<Condition>, NoMemory>
     ensures { IfOk result (λ found. option_map condition found ≡ model.joined word.now (conditions tests.items)) }

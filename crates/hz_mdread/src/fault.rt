@@ -4,7 +4,7 @@ ghost use Rattle.std.specs.Prelude.{◌≡◌};
 ghost use Rattle.std.specs.Option.{option_and_then};
 ghost use Rattle.hz_description_model.specs.Reading.DescriptionForms.{description_at, description_word};
 ghost use Rattle.hz_mdread.specs.Faults.{fault_at, fault_of, bad_expression_of};
-ghost use Rattle.hz_base_model.specs.Told.{told_by, told_in};
+ghost use Rattle.hz_base_model.specs.Reported.{reported_by, reported_in};
 ghost use Rattle.hz_mdread.specs.declared.fault.Wrong.TheVariants.{NoMemory as no_memory};
 
 use hz_regexp::ExprFault;
@@ -41,9 +41,9 @@ pub enum MdFault {
 }
 
 impl MdFault {
-    /// The word by which the fault is told, and its line; None for want of memory. docs/FORMATS.md, 'Answers'.
-    pub fn told(&self) -> Option<(&'static str, u32)>
-        ensures { told_in result ≡ told_by description_word (fault_of self.now) }
+    /// The word by which the fault is reported, and its line; None for want of memory. docs/FORMATS.md, 'Answers'.
+    pub fn reported(&self) -> Option<(&'static str, u32)>
+        ensures { reported_in result ≡ reported_by description_word (fault_of self.now) }
     {
         match self {
             MdFault::UnknownForm { line } => Some(("UnknownForm", *line)),
@@ -51,7 +51,7 @@ impl MdFault {
             MdFault::BadCondition { line } => Some(("BadCondition", *line)),
             MdFault::UnknownOption { line } => Some(("UnknownOption", *line)),
             MdFault::LatencyLimit { line } => Some(("LatencyLimit", *line)),
-            MdFault::BadExpression { line, fault } => match fault.told() {
+            MdFault::BadExpression { line, fault } => match fault.reported() {
                 Some(_) => Some(("BadExpression", *line)),
                 None => None,
             },
@@ -63,10 +63,10 @@ impl MdFault {
     /// Of a fault in an expression its own word, and the place of its byte, from 0; None of any other. docs/FORMATS.md,
     /// 'Answers'.
     pub fn at(&self) -> Option<(&'static str, u32)>
-        ensures { told_in result ≡ option_and_then (λ fault. description_at fault.0) (fault_of self.now) }
+        ensures { reported_in result ≡ option_and_then (λ fault. description_at fault.0) (fault_of self.now) }
     {
         match self {
-            MdFault::BadExpression { fault, .. } => fault.told(),
+            MdFault::BadExpression { fault, .. } => fault.reported(),
             _ => None,
         }
     }

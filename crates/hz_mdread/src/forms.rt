@@ -198,7 +198,7 @@ fn class_head(alloc: Global, name: &Form, latency: &Form) -> Result<(Name, u32),
     Ok((name, latency))
 }
 
-/// The class of a name and a latency, by the operands behind them.
+/// The class of a name and a latency, by the operands after them.
 #[tactic(auto, unfolding(crate::specs::Classes::class_with))]
 fn class_with(
     alloc: Global,
@@ -241,7 +241,7 @@ fn class_form(alloc: Global, place: Place, operands: &[Form]) -> Result<Addition
     class_with(alloc, place, head, condition, regexp)
 }
 
-/// Whether a string that says another guard than that of stores stands behind three operands.
+/// Whether a string that says another guard than that of stores comes after three operands.
 #[tactic(auto, using(crate::proofs::OperandLemmas::no_guard))]
 fn has_other_guard(operands: &[Form]) -> bool
     ensures { result ≡ model.has_other_guard (trees operands.now) }

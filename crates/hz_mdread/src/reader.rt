@@ -15,7 +15,7 @@ use std::alloc::Global;
 
 /// The description that forms say: fewer than 2^32 forms, of which each quoted string has fewer than
 /// 2^32 bytes. Forms are judged in the order of the file; in one form first the number of operands,
-/// then each operand from left to right. The first that is wrong decides which fault is told, at the
+/// then each operand from left to right. The first that is wrong decides which fault is reported, at the
 /// line of its form; `NoMemory` where there was none. This profile, docs/RULES.md, 'Descriptions'.
 pub fn read_description(alloc: Global, forms: &[Form]) -> Result<Description, MdFault>
     requires count { form_count (trees forms.now) < 2 ^ 32 }

@@ -11,7 +11,7 @@ use Rattle.hz_minim.specs.Leading.{leader_of, led, led_entry, IsSettled}
 use Rattle.hz_minim.specs.Folding.{numbered, IsNumber, IsFolded}
 use Rattle.hz_pipeline_model.proofs.Least.ReadLaws.{breadth_first}
 
--- behind the last column there is no entry
+-- after the last column there is no entry
 past_columns : (table : Table) (columns state column : ℕ) → length (row_of table state) ≡ columns + 1 → columns < column → entry table state column ≡ None
 past_columns table columns state column width past = get_or_past (row_of table state) column None (omega arith)
 

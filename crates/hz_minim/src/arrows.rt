@@ -42,7 +42,7 @@ fn counts_of(alloc: Global, plain: &Plain) -> Result<Vec<u32>, NoMemory>
     Ok(counts)
 }
 
-// Adds the arrows of a state, behind those of the states before it.
+// Adds the arrows of a state, after those of the states before it.
 fn add_row(arrows: &mut Vec<Vec<Arrow>>, plain: &Plain, state: u32) -> Result<(), NoMemory>
     requires table { IsTable plain.now.rows plain.now.columns }
     requires state { state < length plain.now.rows }

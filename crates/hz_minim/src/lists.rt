@@ -6,7 +6,7 @@ ghost use Rattle.hz_minim.specs.Lists.{lists_of, list_at, added};
 use hz_tables::NoMemory;
 use std::alloc::Global;
 
-/// Adds empty lists behind the others, until there are so many.
+/// Adds empty lists after the others, until there are so many.
 pub fn grow<T: Drop>(alloc: Global, lists: &mut Vec<Vec<T>>, count: usize) -> Result<(), NoMemory>
     requires { vec_len lists.old ≤ count }
     ensures size { OnOk result (vec_len lists.new ≡ count) }

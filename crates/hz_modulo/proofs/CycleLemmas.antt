@@ -17,10 +17,10 @@ module _ (slots : List Slot) (once : (a b : model.Slot) → Contains (slots_of s
   front_within i x there = subst (λ (xs : List model.Slot). Contains xs x) (sym (map-append slot_of (take i slots) (drop i slots)) ∙ ap slots_of (take-append-drop i slots)) (Contains-append_left (slots_of (take i slots)) (slots_of (drop i slots)) x there)
 
   -- with the cycle of one slot more
-  pub told_more : (i : ℕ) → i < length slots → (cycles : List ℕ) → (get_or slots i no_slot).place < length cycles
+  pub reported_more : (i : ℕ) → i < length slots → (cycles : List ℕ) → (get_or slots i no_slot).place < length cycles
       → ((x : model.Slot) → Contains (slots_of (take i slots)) x → slice_index cycles x.place ≡ x.cycle)
       → (x : model.Slot) → Contains (slots_of (take (i + 1) slots)) x → slice_index (set cycles (get_or slots i no_slot).place (get_or slots i no_slot).cycle) x.place ≡ x.cycle
-  told_more i lt cycles low told x there =
+  reported_more i lt cycles low reported x there =
       let more : slots_of (take (i + 1) slots) ≡ slots_of (take i slots) ++ slot_of (get_or slots i no_slot) ∷ [] = ap slots_of (take_more slots i no_slot lt) ∙ map-append slot_of (take i slots) (get_or slots i no_slot ∷ []) in
       let last : Contains (slots_of slots) (slot_of (get_or slots i no_slot)) = front_within (i + 1) (slot_of (get_or slots i no_slot)) (subst (λ (xs : List model.Slot). Contains xs (slot_of (get_or slots i no_slot))) (sym more) (Contains-append_right (slots_of (take i slots)) (slot_of (get_or slots i no_slot) ∷ []) (slot_of (get_or slots i no_slot)) (Contains-head (slot_of (get_or slots i no_slot)) []))) in
       ⊎_elim
@@ -30,7 +30,7 @@ module _ (slots : List Slot) (once : (a b : model.Slot) → Contains (slots_of s
       ∙ (get_or-set_same cycles (get_or slots i no_slot).place (get_or slots i no_slot).cycle 0 low
       ∙ once (slot_of (get_or slots i no_slot)) x last (front_within i x before) (sym same)))
       (λ (other : x.place ≡ (get_or slots i no_slot).place → ⊥).
-      get_or-set_other cycles (get_or slots i no_slot).place x.place (get_or slots i no_slot).cycle 0 other ∙ told x before)
+      get_or-set_other cycles (get_or slots i no_slot).place x.place (get_or slots i no_slot).cycle 0 other ∙ reported x before)
       (cases_eq x.place (get_or slots i no_slot).place))
       (λ (end : Contains (slot_of (get_or slots i no_slot) ∷ []) x). ⊎_elim
       (λ (is : slot_of (get_or slots i no_slot) ≡ x).

@@ -98,6 +98,6 @@ module _ (checked : Checked) (block turns : Block) (known : Graph) (graph : IsGr
 
 -- a class is not wrong where none is
 pub not_wrong : (r : Result Graph DependFault) (f : DependFault) (place : ℕ) (wrong : declared.ClassFault) (o : Option (ℕ × ClassFault)) → r ≡ Err f → f ≡ Class place wrong → class_fault_in r ≡ o → o ≡ None → ⊥
-not_wrong r f place wrong o is what told none =
-    let some : class_fault_in (Err (Class place wrong)) ≡ None = sym (ap class_fault_in (is ∙ ap Err what)) ∙ (told ∙ none) in
+not_wrong r f place wrong o is what reported none =
+    let some : class_fault_in (Err (Class place wrong)) ≡ None = sym (ap class_fault_in (is ∙ ap Err what)) ∙ (reported ∙ none) in
     cc

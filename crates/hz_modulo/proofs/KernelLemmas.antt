@@ -179,7 +179,7 @@ module _ (machine : Machine) (checked : Checked) (block : Block) (graph : Graph)
       pub long_in : (last : ℕ) → last ≡ present 0 (slots_of slots) → RepeatsIn (machine_of machine) (turns.graph_of classes) (slots_of slots) (last + 1000) 0 1
       long_in last e = subst (λ (n : ℕ). RepeatsIn (machine_of machine) (turns.graph_of classes) (slots_of slots) (n + 1000) 0 1) (sym e) (by_kernel (present 0 (slots_of slots) + 1000) (omega arith) 0 1 long)
 
-      module _ (cycles : List ℕ) (size : length cycles ≡ length graph.insns.items) (told : (x : model.Slot) → Contains (slots_of slots) x → slice_index cycles x.place ≡ x.cycle)
+      module _ (cycles : List ℕ) (size : length cycles ≡ length graph.insns.items) (reported : (x : model.Slot) → Contains (slots_of slots) x → slice_index cycles x.place ≡ x.cycle)
           (last first : ℕ) (last_is : last ≡ present 0 (slots_of slots)) (first_is : first ≡ first_interval (length cycles) (slice_index cycles) last (map edge_of edges)) where
         first_least : first ≡ max (present 0 (slots_of slots) / (stage_limit + 1) + 1) (costs.least_of (length (instructions block)) (slice_index cycles) (map edge_of edges))
         first_least =
@@ -188,7 +188,7 @@ module _ (machine : Machine) (checked : Checked) (block : Block) (graph : Graph)
             ∙ ap (max (present 0 (slots_of slots) / (stage_limit + 1) + 1)) (same_least (length (instructions block)) (slice_index cycles) (map edge_of edges)))
 
         fit : (interval : ℕ) → 1 ≤ interval → ((stages interval (slots_of slots) ≤ stage_limit) × KeepsCosts (instructions block) (timing_of_copies checked block graph 3) interval (slots_of slots) 3) ↔ (max (present 0 (slots_of slots) / (stage_limit + 1) + 1) (costs.least_of (length (instructions block)) (slice_index cycles) (map edge_of edges)) ≤ interval)
-        fit = fit_exactly (machine_of machine) (instructions block) (timing_of_copies checked block graph 3) (graph_of graph) (slots_of slots) order soon (slice_index cycles) told (map edge_of edges) turn.each (present 0 (slots_of slots) + 1000) long.costs
+        fit = fit_exactly (machine_of machine) (instructions block) (timing_of_copies checked block graph 3) (graph_of graph) (slots_of slots) order soon (slice_index cycles) reported (map edge_of edges) turn.each (present 0 (slots_of slots) + 1000) long.costs
 
         pub first_some : 1 ≤ first
         first_some = let e = first_least in omega (arith, e)
@@ -211,7 +211,7 @@ module _ (machine : Machine) (checked : Checked) (block : Block) (graph : Graph)
             let some : 1 ≤ k.interval = omega (arith, from, begin) in
             let kept = (fit k.interval some).1 (omega (arith, from, e)) in
             record {
-              least = found_kernel (machine_of machine) (instructions block) (timing_of_copies checked block graph 3) (graph_of graph) (slots_of slots) order soon (slice_index cycles) told (map edge_of edges) turn.each (present 0 (slots_of slots) + 1000) long.costs
+              least = found_kernel (machine_of machine) (instructions block) (timing_of_copies checked block graph 3) (graph_of graph) (slots_of slots) order soon (slice_index cycles) reported (map edge_of edges) turn.each (present 0 (slots_of slots) + 1000) long.costs
                   k.interval k.first_edge k.second_edge some (as_defined k.interval some kept.0 kept.1 k.first_edge k.second_edge x.is.repeats)
                   (λ shorter low lt a b r. x.none shorter (omega (arith, low, e)) lt (leaves shorter (omega (arith, low)) a b r) a b (by_kernel shorter (omega (arith, low)) a b r));
               stages_are = x.is.stages_are;

@@ -10,15 +10,15 @@ use Rattle.hz_measure_model.specs.Kernels.Kernels as model
 use Rattle.hz_modulo.specs.declared.parts.KernelSlot.{KernelSlot}
 use Rattle.hz_modulo.specs.Walking.{kernel_slot_of, graph_of, walk_rest, drained_from}
 
--- behind a walk no more is walked to where it ends
-pub stands_behind : (parts : List Part) (states next : List ℕ) (t : List Event) → parts_walk parts states t ≡ Some next → parts_walk parts next [] ≡ Some next
-stands_behind parts states next t e =
+-- after a walk no more is walked to where it ends
+pub stands_after : (parts : List Part) (states next : List ℕ) (t : List Event) → parts_walk parts states t ≡ Some next → parts_walk parts next [] ≡ Some next
+stands_after parts states next t e =
     ap (option_and_then (λ s. parts_walk parts s [])) (sym e)
     ∙ (sym (parts_walk-append parts states t [])
     ∙ (ap (parts_walk parts states) (append-nil t) ∙ e))
 
-pub walked_behind : (parts : List Part) (states next : List ℕ) (s t : List Event) (o : Option (List ℕ)) → parts_walk parts states s ≡ Some next → parts_walk parts next t ≡ o → parts_walk parts states (s ++ t) ≡ o
-walked_behind parts states next s t o e f = parts_walk-append parts states s t ∙ (ap (option_and_then (λ n. parts_walk parts n t)) e ∙ f)
+pub walked_after : (parts : List Part) (states next : List ℕ) (s t : List Event) (o : Option (List ℕ)) → parts_walk parts states s ≡ Some next → parts_walk parts next t ≡ o → parts_walk parts states (s ++ t) ≡ o
+walked_after parts states next s t o e f = parts_walk-append parts states s t ∙ (ap (option_and_then (λ n. parts_walk parts n t)) e ∙ f)
 
 module _ (m : Machine) (g : Graph) (interval least most : ℕ) where
   -- what is left, walked slot by slot, is its trace
@@ -79,13 +79,13 @@ module _ (m : Machine) (g : Graph) (interval : ℕ) (kernel : List model.KernelS
       ap (λ (k : ℕ). drained_from m g interval kernel turn k from) next
       ∙ (ap (option_and_then (λ s. parts_walk m.parts s (model.interval_trace g interval (n + 1) (turn + n) kernel))) e ∙ f)
 
-  -- behind none there is none
-  none_behind : (n more : ℕ) → drained_from m g interval kernel turn n from ≡ None → drained_from m g interval kernel turn (n + more) from ≡ None
-  none_behind n zero e = let same : n + 0 ≡ n = omega arith in ap (λ (k : ℕ). drained_from m g interval kernel turn k from) same ∙ e
-  none_behind n (suc more) e =
+  -- after none there is none
+  none_after : (n more : ℕ) → drained_from m g interval kernel turn n from ≡ None → drained_from m g interval kernel turn (n + more) from ≡ None
+  none_after n zero e = let same : n + 0 ≡ n = omega arith in ap (λ (k : ℕ). drained_from m g interval kernel turn k from) same ∙ e
+  none_after n (suc more) e =
       let same : n + suc more ≡ suc (n + more) = omega arith in
       ap (λ (k : ℕ). drained_from m g interval kernel turn k from) same
-      ∙ ap (option_and_then (λ s. parts_walk m.parts s (model.interval_trace g interval ((n + more) + 1) (turn + (n + more)) kernel))) (none_behind n more e)
+      ∙ ap (option_and_then (λ s. parts_walk m.parts s (model.interval_trace g interval ((n + more) + 1) (turn + (n + more)) kernel))) (none_after n more e)
 
   pub none_at_end : (n all : ℕ) → n ≤ all → drained_from m g interval kernel turn n from ≡ None → drained_from m g interval kernel turn all from ≡ None
-  none_at_end n all le e = let same : all ≡ n + (all - n) = omega (arith, le) in ap (λ (k : ℕ). drained_from m g interval kernel turn k from) same ∙ none_behind n (all - n) e
+  none_at_end n all le e = let same : all ≡ n + (all - n) = omega (arith, le) in ap (λ (k : ℕ). drained_from m g interval kernel turn k from) same ∙ none_after n (all - n) e

@@ -16,7 +16,7 @@ pub fn cycles_of(alloc: Global, slots: &[Slot], size: usize) -> Result<Vec<u32>,
     requires once { (a b : model.Slot) → Contains (slots_of slots.now) a → Contains (slots_of slots.now) b → a.place ≡ b.place → a.cycle ≡ b.cycle }
     ensures size { IfOk result (λ cycles. length cycles.items ≡ size) }
     ensures small { IfOk result (λ cycles. All (λ c. c < 2 ^ 30) cycles.items) }
-    ensures told { IfOk result (λ cycles. (x : model.Slot) → Contains (slots_of slots.now) x → slice_index cycles.items x.place ≡ x.cycle) }
+    ensures reported { IfOk result (λ cycles. (x : model.Slot) → Contains (slots_of slots.now) x → slice_index cycles.items x.place ≡ x.cycle) }
 {
     let mut cycles = vec![in alloc; 0; size]?;
     for slot in slots {

@@ -1,3 +1,3 @@
 -- What can be decided, and what lists that are made of lists contain.
-pub mod ToldLaws
+pub mod DecidedLaws
 pub mod FlatLists

@@ -1,2 +1,2 @@
 -- That what is compiled is one machine.
-pub mod Told
+pub mod Reported

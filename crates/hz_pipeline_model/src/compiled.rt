@@ -55,8 +55,8 @@ pub fn descriptions_are_their_automata()
 {}
 
 /// The machine that is compiled of a description walks just the events of its classes that the description accepts, and
-/// the first that it does not walk is the first refused. After events that it walks a query unit is told to be reserved exactly
-/// where the description holds it in the present cycle. Its automata then keep their limits, and where a limit is told, it is that of the first automaton past one.
+/// the first that it does not walk is the first refused. After events that it walks a query unit is reported to be reserved exactly
+/// where the description holds it in the present cycle. Its automata then keep their limits, and where a limit is reported, it is that of the first automaton past one.
 pub fn compiled_machines_are_descriptions()
     ensures walks { (d : Description) (known : Known) → IsSound d known → (m : Machine) (reports : List Report) → IsCompiled d.options (automata_of d) (map (class_parts d known) d.classes) m reports → (t : List Event) → All (IsOfClass (length d.classes)) t → IsSome (machine_walk m t) ↔ Accepted (pipeline_with d known) t }
     ensures held { (d : Description) (known : Known) → IsSound d known → (m : Machine) (reports : List Report) → IsCompiled d.options (automata_of d) (map (class_parts d known) d.classes) m reports → (t : List Event) → All (IsOfClass (length d.classes)) t → (states : List ℕ) → machine_walk m t ≡ Some states → (a query : ℕ) → a < automaton_count d → query < length (queries_in d a) → (states_tell m states a query ≡ true) ↔ IsHeld (pipeline_with d known) t (query_unit d a query) }

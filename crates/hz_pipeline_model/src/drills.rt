@@ -25,7 +25,7 @@ pub fn drawn_traces_are_of_what_is_accepted<A: Acceptance, B: Acceptance>()
     ensures { (classes : ℕ) → ((t : List Event) → All (IsOfClass classes) t → A.accepts t ↔ B.accepts t) → (number turns : ℕ) (t : List Event) → Drawn A.accepts classes number turns t ↔ Drawn B.accepts classes number turns t }
 {}
 
-/// A drawn trace is accepted where the empty one is, and one more cycle behind what is accepted.
+/// A drawn trace is accepted where the empty one is, and one more cycle after what is accepted.
 pub fn drawn_traces_are_accepted<A: Acceptance>()
     ensures { A.accepts [] → ((t : List Event) → A.accepts t → A.accepts (t ++ advance 1 ∷ [])) → (classes number turns : ℕ) (t : List Event) → Drawn A.accepts classes number turns t → A.accepts t }
 {}

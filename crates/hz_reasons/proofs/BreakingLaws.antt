@@ -108,7 +108,7 @@ pattern_number t patterns (Some n) is = sym (unwrap_or-slice_get patterns n []) 
 
 -- a list that is read by another name
 pub whole_read : (t : AutomatonUnit → Bool) (xs ys : List AutomatonUnit) (b e : Bool) → b ≡ list_all t xs → xs ≡ ys → b ≡ e → list_all t ys ≡ e
-whole_read t xs ys b e is same told = ap (list_all t) (sym same) ∙ sym is ∙ told
+whole_read t xs ys b e is same reported = ap (list_all t) (sym same) ∙ sym is ∙ reported
 
 -- ---- the first statement that is broken
 
@@ -119,8 +119,8 @@ statement_there sets number set lt is n at =
 
 pub numbered_here : (sets : List SetStatement) (number : ℕ) (set : SetStatement) → number < length sets → set ≡ get_or sets number set → (grids parts : List (List (Pair ℕ))) (b : Break) → b.statement ≡ number → b.pattern ≡ number_in (statement_of set) grids parts b.cycle
     → HasPatternNumber (map statement_of sets) grids parts b
-numbered_here sets number set lt is grids parts b at told =
-    ap (option_map (λ (s : Statement UnitPlace). number_in s grids parts b.cycle)) (statement_there sets number set lt is b.statement at) ∙ ap Some (sym told)
+numbered_here sets number set lt is grids parts b at reported =
+    ap (option_map (λ (s : Statement UnitPlace). number_in s grids parts b.cycle)) (statement_there sets number set lt is b.statement at) ∙ ap Some (sym reported)
 
 module _ (source added result : ℕ → UnitPlace → Bool) (sets : List SetStatement) (pairs : List Place) where
   -- from the statement of a number on
@@ -134,19 +134,19 @@ module _ (source added result : ℕ → UnitPlace → Bool) (sets : List SetStat
       ∙ ap (λ (t : SetStatement). or_else (broken_first_by source added result now number (statement_of t) pairs) (broken_from now (suc number))) (sym is)
 
   module _ (number : ℕ) (come : (now : ℕ) → broken_from now 0 ≡ broken_from now number) (set : SetStatement) (lt : number < length sets) (is : set ≡ get_or sets number set)
-      (found : Option Break) (told : (now : ℕ) → option_map (broken_with (statement_of set).patterns now) found ≡ broken_first_by source added result now number (statement_of set) pairs)
+      (found : Option Break) (reported : (now : ℕ) → option_map (broken_with (statement_of set).patterns now) found ≡ broken_first_by source added result now number (statement_of set) pairs)
     where
       pub broken_past : found ≡ None → (now : ℕ) → broken_from now 0 ≡ broken_from now (number + 1)
       broken_past none now =
           come now ∙ next_broken now number set lt is
-          ∙ ap (λ (o : Option (model.Reason UnitPlace)). or_else o (broken_from now (suc number))) (sym (told now) ∙ ap (option_map (broken_with (statement_of set).patterns now)) none)
+          ∙ ap (λ (o : Option (model.Reason UnitPlace)). or_else o (broken_from now (suc number))) (sym (reported now) ∙ ap (option_map (broken_with (statement_of set).patterns now)) none)
           ∙ ap (broken_from now) (sym (add-one number))
 
       pub broken_here : (b : Break) → found ≡ Some b → b.statement ≡ number → (now : ℕ) → Some (reason_at (map statement_of sets) now (Broken b)) ≡ broken_from now 0
       broken_here b some at now =
           ap (λ (o : Option (Statement UnitPlace)). Some (broken_with (patterns_of o) now b)) (statement_there sets number set lt is b.statement at)
           ∙ sym (come now ∙ next_broken now number set lt is
-          ∙ ap (λ (o : Option (model.Reason UnitPlace)). or_else o (broken_from now (suc number))) (sym (told now) ∙ ap (option_map (broken_with (statement_of set).patterns now)) some))
+          ∙ ap (λ (o : Option (model.Reason UnitPlace)). or_else o (broken_from now (suc number))) (sym (reported now) ∙ ap (option_map (broken_with (statement_of set).patterns now)) some))
 
   pub broken_end : (number : ℕ) → ((now : ℕ) → broken_from now 0 ≡ broken_from now number) → length sets ≤ number → (now : ℕ) → None ≡ broken_from now 0
   broken_end number come past now =

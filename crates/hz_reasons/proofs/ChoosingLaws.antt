@@ -7,7 +7,7 @@ use Rattle.hz_pipeline_model.specs.Accepting.Events.{Event, issue, advance, ask,
 use Rattle.hz_pipeline_model.specs.Accepting.Replay.{Pipeline, State, start, MayTake, IsChoice, calendar, chosen, left_by}
 use Rattle.hz_pipeline_model.proofs.Accepting.ReplayLaws.{issues_of-append, cycles_of-append, calendar-append, same_first, same_rest, none_last}
 use Rattle.hz_why_model.specs.Waits.{after}
-use Rattle.hz_reasons.specs.Plans.{Stands, behind_issue, Issues}
+use Rattle.hz_reasons.specs.Plans.{Stands, after_issue, Issues}
 use Rattle.hz_reasons.specs.Choosing.{HasChosen}
 
 -- an item at a place of a list that grew, and the new one
@@ -50,7 +50,7 @@ no_ask : (a u k : ℕ) → ask a u ≡ issue k → ⊥
 no_ask a u k h = cc
 
 module _ (m : Pipeline UnitPlace) where
-  -- choices behind those of the issues change no calendar
+  -- choices after those of the issues change no calendar
   pub calendar_more : (now : ℕ) (t : List Event) (choices more : List ℕ) → issues_of t ≤ length choices → calendar m now t (choices ++ more) ≡ calendar m now t choices
   calendar_more now [] choices more h = refl
   calendar_more now (advance n ∷ t) choices more h = calendar_more (n + now) t choices more h
@@ -109,7 +109,7 @@ module _ (m : Pipeline UnitPlace) where
       }
 
       -- what it leaves
-      pub left_more : left_by m (t ++ issue k ∷ []) more ≡ behind_issue m (left_by m t choices) k i
+      pub left_more : left_by m (t ++ issue k ∷ []) more ≡ after_issue m (left_by m t choices) k i
       left_more =
           let sum = cycles_of-append t (issue k ∷ []) in
           let time : cycles_of (t ++ issue k ∷ []) ≡ cycles_of t = omega arith in

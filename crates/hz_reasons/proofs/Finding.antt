@@ -61,13 +61,13 @@ module _ {X : Type 0} (t : X → Bool) where
   number_finds [] = refl
   number_finds (x ∷ xs) = by_test (t x) (number_finds xs)
     where
-      behind : (o : Option ℕ) → option_and_then (slice_get (x ∷ xs)) (option_map suc o) ≡ option_and_then (slice_get xs) o
-      behind None = refl
-      behind (Some n) = refl
+      beyond : (o : Option ℕ) → option_and_then (slice_get (x ∷ xs)) (option_map suc o) ≡ option_and_then (slice_get xs) o
+      beyond None = refl
+      beyond (Some n) = refl
 
       by_test : (b : Bool) → option_and_then (slice_get xs) (first_number_from t 0 xs) ≡ find t xs → option_and_then (slice_get (x ∷ xs)) (cond b (Some 0) (first_number_from t 1 xs)) ≡ cond b (Some x) (find t xs)
       by_test true rest = refl
-      by_test false rest = ap (option_and_then (slice_get (x ∷ xs))) (number_shifted 0 xs) ∙ behind (first_number_from t 0 xs) ∙ rest
+      by_test false rest = ap (option_and_then (slice_get (x ∷ xs))) (number_shifted 0 xs) ∙ beyond (first_number_from t 0 xs) ∙ rest
 
   pub number_mapped : {Y : Type 0} (v : Y → X) (w : Y → Bool) → ((y : Y) → w y ≡ t (v y)) → (n : ℕ) (ys : List Y) → first_number_from w n ys ≡ first_number_from t n (map v ys)
   number_mapped v w same n [] = refl

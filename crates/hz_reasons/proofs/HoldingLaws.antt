@@ -209,10 +209,10 @@ module _ (m : Pipeline UnitPlace) where
               ∙ ap (entries_from (cycles_of (t ++ ask a u ∷ []))) (sym (entries_idle (ask a u) (λ c ls cs. refl) 0 t lines choices));
         }
 
-    -- what stands reserved behind an issue
-    behind : (k i line : ℕ) → length choices ≡ issues_of t → slice_index lines (length t) ≡ line
+    -- what stands reserved after an issue
+    beyond : (k i line : ℕ) → length choices ≡ issues_of t → slice_index lines (length t) ≡ line
         → entries_from (cycles_of (t ++ issue k ∷ [])) (entries m 0 (t ++ issue k ∷ []) lines (choices ++ i ∷ [])) ≡ flat_map (held_by m) issues ++ entries_of line k (chosen m k i)
-    behind k i line count there =
+    beyond k i line count there =
         let sum = cycles_of-append t (issue k ∷ []) in
         let time : cycles_of (t ++ issue k ∷ []) ≡ cycles_of t = omega arith in
         let here : cycles_of t + 0 ≡ cycles_of t = omega arith in
@@ -239,7 +239,7 @@ module _ (m : Pipeline UnitPlace) where
               flat_map-append (held_by m) issues (h ∷ [])
               ∙ ap (λ (es : List (Entry UnitPlace)). flat_map (held_by m) issues ++ es) (append-nil (held_by m h)
               ∙ ap (λ (a : ℕ). entries_from a (entries_of line k (chosen m k i))) now ∙ from_zero (entries_of line k (chosen m k i)))
-              ∙ sym (behind k i line count there);
+              ∙ sym (beyond k i line count there);
         }
 
     pub holders_none : (k i line : ℕ) → length choices ≡ issues_of t → slice_index lines (length t) ≡ line
@@ -247,7 +247,7 @@ module _ (m : Pipeline UnitPlace) where
     holders_none k i line count there none = record {
       each = are.each;
       all =
-          sym (behind k i line count there
+          sym (beyond k i line count there
           ∙ ap (λ (ps : List (Pair UnitPlace)). flat_map (held_by m) issues ++ entries_of line k ps) (no_items (chosen m k i) none)
           ∙ append-nil (flat_map (held_by m) issues));
     }

@@ -15,7 +15,7 @@ use Rattle.hz_pipeline_model.proofs.Accepting.FittingLaws.{allows_unadded, fits_
 use Rattle.hz_pipeline_model.proofs.Accepting.InsideFits.{IsSeen, seen_cut, fits_inside, allowed_outside, apart_outside}
 use Rattle.hz_grid.specs.Grids.{IsUnion}
 use Rattle.hz_reasons.specs.Calendars.{at, AllFit, AreUnbroken, IsFirstOf, AreApart, AreUnited, AreLaterBy, parts_at}
-use Rattle.hz_reasons.specs.Plans.{in_automaton, choices_at, part_at, statements_inside, IsPlanOf, Stands, behind_issue}
+use Rattle.hz_reasons.specs.Plans.{in_automaton, choices_at, part_at, statements_inside, IsPlanOf, Stands, after_issue}
 use Rattle.hz_reasons.specs.declared.plan.Choice.{Choice}
 use Rattle.hz_reasons.specs.declared.plan.Plan.{Plan}
 
@@ -116,8 +116,8 @@ module _ (m : Pipeline UnitPlace) (plan : Plan) (is : IsPlanOf m plan) (grids : 
 
   -- ---- what is reserved
 
-  pub stands_behind_issue : (k i : ℕ) (new : List (List (Pair ℕ))) → i < length (choices_at plan k) → FitsAt m s k i → length new ≡ length grids → AreUnited grids (parts_at (choices_at plan k) i) new → Stands m new (behind_issue m s k i)
-  stands_behind_issue k i new lt fits length_new united = record {
+  pub stands_after_issue : (k i : ℕ) (new : List (List (Pair ℕ))) → i < length (choices_at plan k) → FitsAt m s k i → length new ≡ length grids → AreUnited grids (parts_at (choices_at plan k) i) new → Stands m new (after_issue m s k i)
+  stands_after_issue k i new lt fits length_new united = record {
     future = λ a unit cycle low.
         let lower : a < length grids = omega arith in
         let lowest : a < length plan.rules.items = omega arith in

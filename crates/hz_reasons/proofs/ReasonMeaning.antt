@@ -193,7 +193,7 @@ reason_read m plan is grids each s future k i lt a there sets read choice result
 -- the number of a pattern, where the statements, grids and alternative are read
 pub numbered_read : (sets all : List SetStatement) (read grids : List (List (Pair ℕ))) (choices : List Choice) (i : ℕ) (choice : Choice) (result : Option Reason) → sets ≡ all → read ≡ grids → slice_get choices i ≡ Some choice
     → IfSome result (IsNumbered (map statement_of sets) read choice.parts.items) → IfSome result (IsNumbered (map statement_of all) grids (parts_at choices i))
-numbered_read sets all read grids choices i choice result same grid at told =
-    let first = subst (λ (ts : List SetStatement). IfSome result (IsNumbered (map statement_of ts) read choice.parts.items)) same told in
+numbered_read sets all read grids choices i choice result same grid at reported =
+    let first = subst (λ (ts : List SetStatement). IfSome result (IsNumbered (map statement_of ts) read choice.parts.items)) same reported in
     let second = subst (λ (gs : List (List (Pair ℕ))). IfSome result (IsNumbered (map statement_of all) gs choice.parts.items)) grid first in
     subst (λ (o : Option Choice). IfSome result (IsNumbered (map statement_of all) grids (parts_of o))) (sym at) second

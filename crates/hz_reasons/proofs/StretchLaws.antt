@@ -180,8 +180,8 @@ module _ (es : List TraceEvent) (start : ℕ) (low : start ≤ length es) where
   both : before ++ last ≡ events_in es
   both = sym (map-append (λ (x : TraceEvent). event_of x.what) (take start es) (drop start es)) ∙ ap events_in (take-append-drop start es)
 
-  lines_behind : drop (length before) (lines_in es) ≡ lines_in (drop start es)
-  lines_behind =
+  lines_after : drop (length before) (lines_in es) ≡ lines_in (drop start es)
+  lines_after =
       let few : length before ≡ start = omega (arith, low, length-map (take start es) (λ (x : TraceEvent). event_of x.what), length-take start es) in
       ap (λ (n : ℕ). drop n (lines_in es)) few ∙ drop-map (λ (x : TraceEvent). x.line) start es
 
@@ -200,7 +200,7 @@ module _ (es : List TraceEvent) (start : ℕ) (low : start ≤ length es) where
       let numbers = subst (λ (t : List Event). AreNumbers plan t choices) (sym both) (accepted_numbers m plan of_plan (events_in es) choices is) in
       let are = holds (subst (λ (n : ℕ). AreNumbers plan last (drop n choices)) (sym there) (later_numbers plan before last choices numbers)) in
       let there_are = subst (λ (n : ℕ). AreHolders m last (lines_in (drop start es)) (drop n choices) issues) there are in
-      let held = subst (λ (ls : List ℕ). AreHolders m last ls (drop (issues_of before) choices) issues) (sym lines_behind) there_are in
+      let held = subst (λ (ls : List ℕ). AreHolders m last ls (drop (issues_of before) choices) issues) (sym lines_after) there_are in
       let far : (before ≡ []) ⊎ (span ≤ cycles_of last) = ⊎_elim (λ (none : start ≡ 0). inl (none_before none)) (λ (high : span ≤ cycles_of last). inr high) long in
       subst (λ (t : List Event). AreHolders m t (lines_in es) choices issues) both
       (stretch_holders m span (plan_short m plan of_plan span short) before last (lines_in es) choices far issues held)

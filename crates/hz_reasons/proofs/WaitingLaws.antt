@@ -1,4 +1,4 @@
--- Cycles in which a class does not fit, and the cycle behind the last.
+-- Cycles in which a class does not fit, and the cycle after the last.
 use Rattle.std.proofs.Common.{◌≡◌, ◌≢◌, ℕ, ◌+◌, ◌<◌, ◌≤◌, max, min, ◌⊎◌, inl, inr, ⊎_elim, true, false, is_some, List, [], ◌∷◌, ◌++◌, All, length, get_or, map, replicate, Contains, Option, Some, None, refl, sym, ap, ◌∙◌, subst, arith}
 use Rattle.std.specs.Prelude.{◌↔◌, slice_set}
 use Rattle.std.proofs.lemmas.Bool.{cases_lt, cases_order}
@@ -251,7 +251,7 @@ module _ (plan : Plan) (k : ℕ) where
         let may = first_means m plan is new (moves.each ∙ each) (after n s) (stands_later m n old new s moves stands) k i first in
         (i, may.fits)
 
-    -- what is reserved is past behind its last cycle
+    -- what is reserved is past after its last cycle
     nothing_left : (last : ℕ) → EndBefore last old → (m : Pipeline UnitPlace) (s : State UnitPlace) → Stands m old s → (n : ℕ) → last ≤ n → Stands m (replicate (length old) []) (after n s)
     nothing_left last ends m s stands n past = record {
       future = λ a unit cycle low.

@@ -48,7 +48,7 @@ pub record IsHolder (m : Pipeline UnitPlace) (h : Holder) : Type 0 where
   pub within : (p : Pair UnitPlace) → Contains (chosen m h.class h.number) p → p.cycle ≤ h.last
   pub reached : (p : Pair UnitPlace) × Contains (chosen m h.class h.number) p × (p.cycle ≡ h.last)
 
--- What stands reserved from the present cycle on behind events that stand on these lines is what the issues hold, each something.
+-- What stands reserved from the present cycle on after events that stand on these lines is what the issues hold, each something.
 pub record AreHolders (m : Pipeline UnitPlace) (t : List Event) (lines choices : List ℕ) (issues : List Holder) : Type 0 where
   pub each : (h : Holder) → Contains issues h → IsHolder m h
   pub all : flat_map (held_by m) issues ≡ entries_from (cycles_of t) (entries m 0 t lines choices)

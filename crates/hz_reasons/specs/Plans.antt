@@ -80,11 +80,11 @@ pub record Stands (m : Pipeline UnitPlace) (grids : List (List (Pair ℕ))) (s :
   pub future : AreFuture grids s
   pub unbroken : IsUnbroken m.statements s.reserved
 
--- what stands reserved behind an issue that takes the alternative of this number
-abbrev pub behind_issue : Pipeline UnitPlace → State UnitPlace → (class number : ℕ) → State UnitPlace
-behind_issue m s k i = record { reserved = s.reserved ++ placed s.now (chosen m k i); now = s.now }
+-- what stands reserved after an issue that takes the alternative of this number
+abbrev pub after_issue : Pipeline UnitPlace → State UnitPlace → (class number : ℕ) → State UnitPlace
+after_issue m s k i = record { reserved = s.reserved ++ placed s.now (chosen m k i); now = s.now }
 
 -- What an issue of a class makes of what stands reserved: it takes the first alternative that fits; where none fits all stays.
 abbrev pub Issues : Pipeline UnitPlace → State UnitPlace → (class : ℕ) → Option ℕ → (grids : List (List (Pair ℕ))) → Type 0
 Issues m s k None grids = ((i : ℕ) → FitsAt m s k i → ⊥) × Stands m grids s
-Issues m s k (Some i) grids = MayTake m s k i × Stands m grids (behind_issue m s k i)
+Issues m s k (Some i) grids = MayTake m s k i × Stands m grids (after_issue m s k i)

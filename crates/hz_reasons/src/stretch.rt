@@ -1,4 +1,4 @@
-//! The last stretch of a trace: what is issued before it holds nothing behind the trace.
+//! The last stretch of a trace: what is issued before it holds nothing after the trace.
 
 ghost use Rattle.std.specs.Prelude.{◌≡◌, ◌⊎◌, ◌<◌, ◌≤◌, ◌∷◌, [], ℕ, Contains, drop, length};
 ghost use Rattle.hz_pipeline_model.specs.Accepting.Events.{issues_of, cycles_of};

@@ -6,7 +6,7 @@ use Rattle.hz_description_model.specs.Reservations.Alternatives.{Expression}
 use Rattle.hz_description_model.specs.Grammar.ExpressionTexts.{place, tokens, Reads, FaultAt, ExpressionFault, unexpected, no_token}
 use Rattle.hz_description_model.specs.Grammar.ExpressionTexts as model
 use Rattle.hz_description_model.specs.Grammar.ExpressionSteps.{State, start, take, finish}
-use Rattle.hz_description_model.proofs.Grammar.ExpressionTextsFront.{Leads, start_leads, take_leads, behind}
+use Rattle.hz_description_model.proofs.Grammar.ExpressionTextsFront.{Leads, start_leads, take_leads, beyond}
 use Rattle.hz_description_model.proofs.Grammar.ExpressionTextsLaws.{take_wrong, read_end, cut_short}
 use Rattle.hz_regexp.specs.declared.fault.ExprFault.{ExprFault}
 use Rattle.hz_regexp.specs.declared.tokens.Token.{Token}
@@ -23,12 +23,12 @@ place_of_token at code.Opens = refl
 place_of_token at code.Closes = refl
 place_of_token at code.Foreign = refl
 
--- what is told of a fault may be said in weaker words
+-- what is reported of a fault may be said in weaker words
 pub tells_weaker : {P Q : ExpressionFault → ℕ → Type 0} → ((fault : ExpressionFault) (at : ℕ) → P fault at → Q fault at) → (e : ExprFault) → Tells P e → Tells Q e
 tells_weaker {P} {Q} weaker e h = go (fault_of e) h
   where
-    go : (fault : Option (ExpressionFault × ℕ)) → MatchOption fault ⊤ (λ told. P told.0 told.1) → MatchOption fault ⊤ (λ told. Q told.0 told.1)
-    go (Some told) h = weaker _ _ h
+    go : (fault : Option (ExpressionFault × ℕ)) → MatchOption fault ⊤ (λ reported. P reported.0 reported.1) → MatchOption fault ⊤ (λ reported. Q reported.0 reported.1)
+    go (Some reported) h = weaker _ _ h
     go None h = h
 
 -- The reader holds one token or more of a text, and the tokens of the rest are left.
@@ -46,7 +46,7 @@ taken_more text s after all token rest t e h = record {
   first = t.first;
   more = t.more ++ token ∷ [];
   leads = take_leads (t.first ∷ t.more) s after token t.leads h;
-  is = t.is ∙ (ap (λ ts. (t.first ∷ t.more) ++ ts) e ∙ sym (behind (t.first ∷ t.more) token rest));
+  is = t.is ∙ (ap (λ ts. (t.first ∷ t.more) ++ ts) e ∙ sym (beyond (t.first ∷ t.more) token rest));
 }
 
 -- the fault of a token is that of the text

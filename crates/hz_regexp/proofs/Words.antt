@@ -28,13 +28,13 @@ pub blank_is_no_name : (b : ℕ) → is_ascii_whitespace b ≡ true → is_name_
 blank_is_no_name b h = let low : nat_le 33 b ≡ false = grind (arith, nat_tests) in rw low refl
 
 -- white space gives no token
-pub behind_blanks : (at : ℕ) (text : List ℕ) → tokens_from false at text ≡ tokens_from false (at + prefix_len is_ascii_whitespace text) (drop (prefix_len is_ascii_whitespace text) text)
-behind_blanks at [] = refl
-behind_blanks at (b ∷ text) = elim (cases_Bool (is_ascii_whitespace b)) [
+pub after_blanks : (at : ℕ) (text : List ℕ) → tokens_from false at text ≡ tokens_from false (at + prefix_len is_ascii_whitespace text) (drop (prefix_len is_ascii_whitespace text) text)
+after_blanks at [] = refl
+after_blanks at (b ∷ text) = elim (cases_Bool (is_ascii_whitespace b)) [
   | inl h ↦ let n : ℕ = prefix_len is_ascii_whitespace text in
       let one : 1 + n ≡ suc n = omega arith in
       let next : at + suc n ≡ at + 1 + n = omega arith in
-      rw (blank_is_no_name b h, h, one, next) (behind_blanks (at + 1) text)
+      rw (blank_is_no_name b h, h, one, next) (after_blanks (at + 1) text)
   | inr h ↦ let none : prefix_len is_ascii_whitespace (b ∷ text) ≡ 0 = rw h refl in let next : at ≡ at + 0 = omega arith in rw none (ap (λ n. tokens_from false n (b ∷ text)) next)
 ]
 
@@ -62,7 +62,7 @@ word_first at b text h =
 pub lone_first : (at b : ℕ) (text : List ℕ) → is_name_byte b ≡ false → is_ascii_whitespace b ≡ false → tokens_from false at (b ∷ text) ≡ lone_token at b ∷ tokens_from false (at + 1) text
 lone_first at b text h k = rw (h, k) refl
 
--- the first byte behind those that pass fails
+-- the first byte after those that pass fails
 pub stops_at : (p : ℕ → Bool) (xs : List ℕ) (b : ℕ) (rest : List ℕ) → drop (prefix_len p xs) xs ≡ b ∷ rest → p b ≡ false
 stops_at p [] b rest e = absurd (cc)
 stops_at p (x ∷ xs) b rest e = elim (cases_Bool (p x)) [
@@ -84,10 +84,10 @@ word_named b text h =
     let one : 1 + n ≡ suc n = omega arith in
     rw (h, one, h) (all_pass is_name_byte text)
 
--- the next token of a text: behind the white space there is none, a lone byte's, or a word
+-- the next token of a text: after the white space there is none, a lone byte's, or a word
 module _ (at here_at : ℕ) (text here : List ℕ) (same : here ≡ drop (prefix_len is_ascii_whitespace text) text) (here_is : here_at ≡ at + prefix_len is_ascii_whitespace text) where
   from_here : tokens_from false at text ≡ tokens_from false here_at here
-  from_here = rw (same, here_is) (behind_blanks at text)
+  from_here = rw (same, here_is) (after_blanks at text)
 
   pub no_token : length here ≡ 0 → tokens_from false at text ≡ []
   no_token e = from_here ∙ ap (λ xs. tokens_from false here_at xs) (nil_from_length here e)

@@ -15,4 +15,4 @@ fault_of NoMemory = None
 
 -- what is said of a fault and its place holds of this one; want of memory says nothing
 abbrev pub Tells : (ExpressionFault → ℕ → Type 0) → ExprFault → Type 0
-Tells P fault = MatchOption (fault_of fault) ⊤ (λ told. P told.0 told.1)
+Tells P fault = MatchOption (fault_of fault) ⊤ (λ reported. P reported.0 reported.1)

@@ -25,7 +25,7 @@ last_of (code.Element value) = element (expression value)
 last_of (code.Starred value) = starred (expression value)
 last_of (code.Repeated value) = repeated (expression value)
 
--- levels with the last tokens behind them
+-- levels with the last tokens after them
 abbrev pub state_with : Levels → steps.Last → State
 state_with levels last = record { inner = open_of levels.inner; outer = opens_in levels.outer.items; last = last }
 

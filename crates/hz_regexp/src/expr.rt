@@ -16,6 +16,6 @@ pub enum Expr {
     Oneof(Vec<Expr>),
     /// Parts with `+` between them: all from the same cycle on.
     Allof(Vec<Expr>),
-    /// An element with `*` and a number behind it: that many times, one after another.
+    /// An element with `*` and a number after it: that many times, one after another.
     Repeat(Box<Expr>, u32),
 }

@@ -2,7 +2,7 @@
 
 ghost use Rattle.std.specs.Prelude.{◌≡◌};
 ghost use Rattle.hz_description_model.specs.Grammar.ExpressionTexts.{expression_word};
-ghost use Rattle.hz_base_model.specs.Told.{told_by, told_in};
+ghost use Rattle.hz_base_model.specs.Reported.{reported_by, reported_in};
 ghost use Rattle.hz_regexp.specs.Faults.{fault_of};
 ghost use Rattle.hz_regexp.specs.declared.fault.ExprFault.TheVariants.{NoMemory as no_memory};
 
@@ -33,10 +33,10 @@ pub enum ExprFault {
 }
 
 impl ExprFault {
-    /// The word by which the fault is told, and the place of its byte, from 0; None for want of memory. docs/FORMATS.md,
+    /// The word by which the fault is reported, and the place of its byte, from 0; None for want of memory. docs/FORMATS.md,
     /// 'Answers'.
-    pub fn told(&self) -> Option<(&'static str, u32)>
-        ensures { told_in result ≡ told_by expression_word (fault_of self.now) }
+    pub fn reported(&self) -> Option<(&'static str, u32)>
+        ensures { reported_in result ≡ reported_by expression_word (fault_of self.now) }
     {
         match self {
             ExprFault::Unexpected { at } => Some(("Unexpected", *at)),

@@ -47,7 +47,7 @@ impl Level {
         }
     }
 
-    /// The level behind a part and a mark.
+    /// The level after a part and a mark.
     pub fn before(self, alloc: Global, mark: Mark, part: Expr) -> Result<Level, NoMemory>
         ensures { IfOk result (λ level. open_of level ≡ before (mark_of mark) (open_of self) (expression part)) }
     {

@@ -82,7 +82,7 @@ impl Levels {
         }
     }
 
-    /// Takes a token behind an element and `*`.
+    /// Takes a token after an element and `*`.
     fn number(
         self,
         alloc: Global,
@@ -108,8 +108,8 @@ impl Levels {
         }
     }
 
-    /// Takes a token behind a part.
-    fn behind(
+    /// Takes a token after a part.
+    fn beyond(
         self,
         alloc: Global,
         part: Expr,
@@ -167,10 +167,10 @@ impl Reader {
                     let last = Last::Starred(value);
                     return Ok(Reader { levels, last });
                 }
-                levels.behind(alloc, value, token, at)
+                levels.beyond(alloc, value, token, at)
             }
             Last::Starred(value) => levels.number(alloc, value, token, at),
-            Last::Repeated(value) => levels.behind(alloc, value, token, at),
+            Last::Repeated(value) => levels.beyond(alloc, value, token, at),
         }
     }
 

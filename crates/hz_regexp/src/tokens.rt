@@ -96,7 +96,7 @@ impl<'a> Place<'a> {
         }
     }
 
-    /// The next token, its place, and the place behind it.
+    /// The next token, its place, and the place after it.
     pub fn next_token(self) -> Option<(Token<'a>, u32, Place<'a>)>
         ensures token { MatchOption result (tokens_at self.entry.at self.entry.rest.now ≡ []) (λ found. tokens_at self.entry.at self.entry.rest.now ≡ token_of found.1 found.0 ∷ tokens_at found.2.at found.2.rest.now) }
         ensures named { IfSome result (λ found. IsNamed found.0) }

@@ -14,19 +14,19 @@ use Rattle.hz_replay.specs.Traces.{events_in, lines_in}
 use Rattle.hz_replay.specs.declared.event.Event.{Event}
 
 module _ (start now : Standing) (t : List model.Event) (same : now.machine ≡ start.machine) (walked : parts_walk start.machine.parts start.states t ≡ Some now.states) where
-  -- behind what is walked, events are walked as from where it ends
-  behind : (u : List model.Event) → parts_walk start.machine.parts start.states (t ++ u) ≡ parts_walk now.machine.parts now.states u
-  behind u =
+  -- after what is walked, events are walked as from where it ends
+  beyond : (u : List model.Event) → parts_walk start.machine.parts start.states (t ++ u) ≡ parts_walk now.machine.parts now.states u
+  beyond u =
       parts_walk-append start.machine.parts start.states t u
       ∙ (ap (option_and_then (λ next. parts_walk start.machine.parts next u)) walked ∙ ap (λ (m : Machine). parts_walk m.parts now.states u) (sym same))
 
-  pub turn_behind : (drawn : Option ℕ) (e : model.Event) → IsTurn (WalksFrom now) [] drawn e → IsTurn (WalksFrom start) t drawn e
-  turn_behind None e h = h
-  turn_behind (Some class) e (inl (fits, h)) = inl (subst IsSome (sym (behind (model.issue class ∷ []))) fits, h)
-  turn_behind (Some class) e (inr (stuck, h)) = inr (λ fits. stuck (subst IsSome (behind (model.issue class ∷ [])) fits), h)
+  pub turn_after : (drawn : Option ℕ) (e : model.Event) → IsTurn (WalksFrom now) [] drawn e → IsTurn (WalksFrom start) t drawn e
+  turn_after None e h = h
+  turn_after (Some class) e (inl (fits, h)) = inl (subst IsSome (sym (beyond (model.issue class ∷ []))) fits, h)
+  turn_after (Some class) e (inr (stuck, h)) = inr (λ fits. stuck (subst IsSome (beyond (model.issue class ∷ [])) fits), h)
 
-  pub walked_behind : (e : model.Event) (next : List ℕ) → parts_walk now.machine.parts now.states (e ∷ []) ≡ Some next → parts_walk start.machine.parts start.states (t ++ e ∷ []) ≡ Some next
-  walked_behind e next moved = behind (e ∷ []) ∙ moved
+  pub walked_after : (e : model.Event) (next : List ℕ) → parts_walk now.machine.parts now.states (e ∷ []) ≡ Some next → parts_walk start.machine.parts start.states (t ++ e ∷ []) ≡ Some next
+  walked_after e next moved = beyond (e ∷ []) ∙ moved
 
 -- one more event of the program's list
 pub events_push : (es : List Event) (e : Event) → events_in (es ++ e ∷ []) ≡ events_in es ++ event_of e.what ∷ []

@@ -52,7 +52,7 @@ absent_name name keys h =
     let test : Vec ℕ Global → Bool = λ k. bytes_eq name k.items in
     none_any test keys (none_position test keys (sym (place_of_names name keys) ∙ h))
 
--- of different names each is new behind those before it
+-- of different names each is new after those before it
 pub new_name : (names : List (List ℕ)) (i : ℕ) → AllPairs (λ a b. a ≢ b) names → i < length names → place_of (get_or names i []) (take i names) ≡ None
 new_name names i distinct within = by_place (place_of (get_or names i []) (take i names)) refl
   where

@@ -82,13 +82,13 @@ refilled states next same = subst (λ (n : ℕ). take n (next ++ drop (length ne
 pub as_many : (m : Machine) → IsMachine m → (states next : List ℕ) (t : List Event) → AreStates m states → parts_walk m.parts states t ≡ Some next → length next ≡ length states
 as_many m is states next t stand h = (ends (length m.classes) m.parts states next t is.parts stand.each stand.within h).0 ∙ sym stand.each
 
--- each part has its state behind an issue, whether it is taken or not
-pub stand_behind : (m : Machine) → IsMachine m → (states next : List ℕ) (t : List Event) (taken : Bool) → AreStates m states
+-- each part has its state after an issue, whether it is taken or not
+pub stand_after : (m : Machine) → IsMachine m → (states next : List ℕ) (t : List Event) (taken : Bool) → AreStates m states
     → OnTrue taken (parts_walk m.parts states t ≡ Some next) → OnFalse taken (next ≡ states) → AreStates m (refill (length states) states next)
-stand_behind m is states next t true stand told same =
-    let walked = OnTrue_at refl told in
+stand_after m is states next t true stand reported same =
+    let walked = OnTrue_at refl reported in
     subst (AreStates m) (sym (refilled states next (as_many m is states next t stand walked))) (states_stay m is states next t stand walked)
-stand_behind m is states next t false stand told same =
+stand_after m is states next t false stand reported same =
     let stays = OnFalse_at refl same in
     subst (AreStates m) (sym (refilled states next (ap length stays) ∙ stays)) stand
 

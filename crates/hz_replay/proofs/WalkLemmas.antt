@@ -79,7 +79,7 @@ onto_front : (front front' : List ℕ) (next : ℕ) (rest : Option (List ℕ)) �
 onto_front front front' next None is = refl
 onto_front front front' next (Some rest) is = ap Some (ap (λ (f : List ℕ). f ++ rest) is ∙ append_assoc front (next ∷ []) rest)
 
--- an item before those behind it
+-- an item before those after it
 from_place : {A : Type 0} (xs : List A) (i : ℕ) (d : A) → i < length xs → drop i xs ≡ get_or xs i d ∷ drop (i + 1) xs
 from_place xs i d low = drop-cons xs i d low ∙ ap (λ (n : ℕ). get_or xs i d ∷ drop n xs) (sym (add-one i))
 
@@ -100,13 +100,13 @@ left_less xs ys i same = sym (drop-drop 1 i xs) ∙ (ap (λ (zs : List ℕ). dro
 -- The parts before one are taken to their next states, which stand in `states`; those they had stand in `before`. The others have the states
 -- that they had.
 pub record SoFar (parts : List Part) (start : List ℕ) (class : Option ℕ) (i : ℕ) (states before : List ℕ) : Type 0 where
-  pub told : option_map (λ (rest : List ℕ). take i states ++ rest) (parts_walk (drop i parts) (drop i start) (event_for class ∷ [])) ≡ parts_walk parts start (event_for class ∷ [])
+  pub reported : option_map (λ (rest : List ℕ). take i states ++ rest) (parts_walk (drop i parts) (drop i start) (event_for class ∷ [])) ≡ parts_walk parts start (event_for class ∷ [])
   pub left : drop i states ≡ drop i start
   pub count : length states ≡ length start
   pub kept : take i before ≡ take i start
 
 module _ (parts : List Part) (start : List ℕ) (class : Option ℕ) where
-  -- the parts from one on are that one and those behind it
+  -- the parts from one on are that one and those after it
   turn : (i : ℕ) → i < length parts → i < length start
       → parts_walk (drop i parts) (drop i start) (event_for class ∷ []) ≡ onto_states (next_of (get_or parts i no_part) (get_or start i 0) class) (parts_walk (drop (i + 1) parts) (drop (i + 1) start) (event_for class ∷ []))
   turn i low state =
@@ -116,7 +116,7 @@ module _ (parts : List Part) (start : List ℕ) (class : Option ℕ) where
 
   -- no part is taken on
   pub so_far_none : (before : List ℕ) → SoFar parts start class 0 start before
-  so_far_none before = record { told = same (parts_walk parts start (event_for class ∷ [])); left = refl; count = refl; kept = refl }
+  so_far_none before = record { reported = same (parts_walk parts start (event_for class ∷ [])); left = refl; count = refl; kept = refl }
     where
       same : (o : Option (List ℕ)) → option_map (λ (rest : List ℕ). rest) o ≡ o
       same None = refl
@@ -138,10 +138,10 @@ module _ (parts : List Part) (start : List ℕ) (class : Option ℕ) where
         let within : i < length states = omega arith in
         let inside : i < length start = omega arith in
         record {
-          told =
+          reported =
               onto_front (take i states) (take (i + 1) (set states i next)) next (parts_walk (drop (i + 1) parts) (drop (i + 1) start) (event_for class ∷ [])) (take_more_set states i next within)
               ∙ (ap (λ (o : Option (List ℕ)). option_map (λ (rest : List ℕ). take i states ++ rest) o)
-              (ap (λ (o : Option ℕ). onto_states o (parts_walk (drop (i + 1) parts) (drop (i + 1) start) (event_for class ∷ []))) (sym some ∙ (is ∙ next_here)) ∙ sym (turn i low inside)) ∙ so.told);
+              (ap (λ (o : Option ℕ). onto_states o (parts_walk (drop (i + 1) parts) (drop (i + 1) start) (event_for class ∷ []))) (sym some ∙ (is ∙ next_here)) ∙ sym (turn i low inside)) ∙ so.reported);
           left = drop-set-lt (i + 1) states i next (omega arith) ∙ left_less states start i so.left;
           count = length-set states i next ∙ count;
           kept =
@@ -154,7 +154,7 @@ module _ (parts : List Part) (start : List ℕ) (class : Option ℕ) where
     pub so_far_stuck : (answer : Option ℕ) → answer ≡ next_of (get_or parts i no_part) (get_or states i 0) class → answer ≡ None → parts_walk parts start (event_for class ∷ []) ≡ None
     so_far_stuck answer is none =
         let inside : i < length start = omega arith in
-        sym so.told
+        sym so.reported
         ∙ ap (λ (o : Option (List ℕ)). option_map (λ (rest : List ℕ). take i states ++ rest) o)
         (turn i low inside ∙ ap (λ (o : Option ℕ). onto_states o (parts_walk (drop (i + 1) parts) (drop (i + 1) start) (event_for class ∷ []))) (sym (is ∙ next_here) ∙ none))
 
@@ -167,5 +167,5 @@ module _ (parts : List Part) (start : List ℕ) (class : Option ℕ) where
   pub so_far_all : (i : ℕ) (states before : List ℕ) → SoFar parts start class i states before → length parts ≤ i → length start ≡ length parts → parts_walk parts start (event_for class ∷ []) ≡ Some states
   so_far_all i states before so last each =
       let count = so.count in
-      sym so.told
+      sym so.reported
       ∙ (ap (λ (ps : List Part). option_map (λ (rest : List ℕ). take i states ++ rest) (parts_walk ps (drop i start) (event_for class ∷ []))) (drop_all i parts last) ∙ ap Some (append-nil (take i states) ∙ take_all i states (omega arith)))

@@ -41,7 +41,7 @@ capped_line (says (events.advance cycles)) = says (events.advance (capped cycles
 capped_line (says (events.ask automaton query)) = says (events.ask automaton query)
 capped_line (wrong why) = wrong why
 
--- what a line says behind so many advances: its event, none, or what is wrong with it
+-- what a line says after so many advances: its event, none, or what is wrong with it
 abbrev pub judged : ℕ → Line → Result (Option events.Event) TraceFault
 judged advanced skipped = Ok None
 judged advanced (says (events.issue class)) = Ok (Some (events.issue class))

@@ -18,16 +18,16 @@ abbrev pub lines_in : List Event → List ℕ
 lines_in items = map (λ e. e.line) items
 
 -- the fault of the definitions and its line; want of memory is none
-abbrev pub fault_told : Fault → Option (TraceFault × ℕ)
-fault_told (BadLine line) = Some (bad_line, line)
-fault_told (UnknownClass line) = Some (unknown_class, line)
-fault_told (AdvanceLimit line) = Some (too_many_advances, line)
-fault_told (UnknownUnit line) = Some (unknown_unit, line)
-fault_told NoMemory = None
+abbrev pub fault_reported : Fault → Option (TraceFault × ℕ)
+fault_reported (BadLine line) = Some (bad_line, line)
+fault_reported (UnknownClass line) = Some (unknown_class, line)
+fault_reported (AdvanceLimit line) = Some (too_many_advances, line)
+fault_reported (UnknownUnit line) = Some (unknown_unit, line)
+fault_reported NoMemory = None
 
--- what is told of a text that is no trace, where these are the names; want of memory says nothing
+-- what is reported of a text that is no trace, where these are the names; want of memory says nothing
 abbrev pub IsTraceFault : TraceNames → List ℕ → Fault → Type 0
-IsTraceFault names text fault = MatchOption (fault_told fault) ⊤ (λ told. TraceFaultAt names text told.0 told.1)
+IsTraceFault names text fault = MatchOption (fault_reported fault) ⊤ (λ reported. TraceFaultAt names text reported.0 reported.1)
 
 -- An event with its line, as a pair.
 abbrev pub Placed : Type 0
@@ -50,4 +50,4 @@ cycles_in (Some (events.ask automaton query)) = 0
 
 -- the fault of a line of this number
 abbrev pub IsFaultOfLine : ℕ → WrongLine → Fault → Type 0
-IsFaultOfLine number why fault = fault_told fault ≡ Some (fault_of why, number)
+IsFaultOfLine number why fault = fault_reported fault ≡ Some (fault_of why, number)

@@ -156,7 +156,7 @@ fn drill_uncounted<L: Ledger>(
 }
 
 /// The trace of so many turns that is drawn from a number over what the machine walks: each turn is the issue of the class that is
-/// drawn where it is walked behind the turns before it, else the advance of one cycle, and so is every turn without classes. One turn
+/// drawn where it is walked after the turns before it, else the advance of one cycle, and so is every turn without classes. One turn
 /// is one event, and its line is its place counted from 1. Source: this profile, docs/RULES.md, 'Drills'.
 pub fn drill(
     alloc: Global,

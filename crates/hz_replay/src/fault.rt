@@ -2,8 +2,8 @@
 
 ghost use Rattle.std.specs.Prelude.{◌≡◌};
 ghost use Rattle.hz_pipeline_model.specs.Traces.Traces.{trace_word};
-ghost use Rattle.hz_base_model.specs.Told.{told_by, told_in};
-ghost use Rattle.hz_replay.specs.Traces.{fault_told};
+ghost use Rattle.hz_base_model.specs.Reported.{reported_by, reported_in};
+ghost use Rattle.hz_replay.specs.Traces.{fault_reported};
 ghost use Rattle.hz_replay.specs.declared.fault.TraceFault.TheVariants.{NoMemory as no_memory};
 
 use std::alloc::{AllocError, AllocFailed};
@@ -30,9 +30,9 @@ pub enum TraceFault {
 }
 
 impl TraceFault {
-    /// The word by which the fault is told, and its line; None for want of memory. docs/FORMATS.md, 'Answers'.
-    pub fn told(&self) -> Option<(&'static str, u32)>
-        ensures { told_in result ≡ told_by trace_word (fault_told self.now) }
+    /// The word by which the fault is reported, and its line; None for want of memory. docs/FORMATS.md, 'Answers'.
+    pub fn reported(&self) -> Option<(&'static str, u32)>
+        ensures { reported_in result ≡ reported_by trace_word (fault_reported self.now) }
     {
         match self {
             TraceFault::BadLine { line } => Some(("BadLine", *line)),

@@ -53,7 +53,7 @@ fn margin_before(line: &[u8]) -> usize
 }
 
 /// Where the margin begins that a line ends with.
-fn margin_behind(line: &[u8]) -> usize
+fn margin_after(line: &[u8]) -> usize
     ensures within { result ≤ length line.now }
     ensures count { result ≡ length line.now - suffix_len model.is_margin line.now }
 {
@@ -72,7 +72,7 @@ pub fn without_margin(line: &[u8]) -> &[u8]
     ensures { result.now ≡ model.without_margin line.now }
 {
     let rest = &line[margin_before(line)..];
-    &rest[..margin_behind(rest)]
+    &rest[..margin_after(rest)]
 }
 
 /// How long the first word of a line is.
@@ -101,7 +101,7 @@ fn gap_before(text: &[u8]) -> usize
     text.len()
 }
 
-/// The word that a line begins with, and what follows it behind spaces and tabs.
+/// The word that a line begins with, and what follows it after spaces and tabs.
 pub fn split_words(line: &[u8]) -> (&[u8], &[u8])
     ensures word { result.0.now ≡ model.first_word line.now }
     ensures operand { result.1.now ≡ model.operand line.now }

@@ -62,7 +62,7 @@ fn units_of(alloc: Global, machine: &Machine) -> Result<Vec<IndexSet<Vec<u8>>>, 
     Ok(units)
 }
 
-/// The names of the parts, and those of one more behind them.
+/// The names of the parts, and those of one more after them.
 fn with_part(
     parts: Vec<IndexSet<Vec<u8>>>,
     part: IndexSet<Vec<u8>>,
@@ -118,7 +118,7 @@ impl Names {
         })
     }
 
-    /// The names, and behind those of the parts before the units that are asked for in the next part. `AllocError` where there was no
+    /// The names, and after those of the parts before the units that are asked for in the next part. `AllocError` where there was no
     /// memory.
     pub fn with_units(self, alloc: Global, units: &[Name]) -> Result<Names, AllocError>
         requires different { AllPairs (λ a b. a ≢ b) units.now }

@@ -85,7 +85,7 @@ impl<'t> Reading<'t> {
         said
     }
 
-    /// The event of the line between two places of the text behind so many advances, None where it has none, or what is
+    /// The event of the line between two places of the text after so many advances, None where it has none, or what is
     /// wrong with it.
     pub fn judge(&mut self, advanced: u32, from: usize, to: usize) -> Result<Option<What>, Wrong>
         requires short { advanced ≤ advance_limit }

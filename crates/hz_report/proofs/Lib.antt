@@ -1,2 +1,2 @@
-pub mod BehindLemmas
+pub mod AfterLemmas
 pub mod ReplayLemmas

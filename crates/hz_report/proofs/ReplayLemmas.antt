@@ -9,21 +9,21 @@ use Rattle.hz_replay.specs.Traces.{events_in}
 use Rattle.hz_replay.specs.declared.event.Event.{Event}
 use Rattle.hz_replay.specs.declared.outcome.Outcome.{Outcome}
 use Rattle.hz_replay.specs.declared.outcome.Outcome.TheVariants.{Accepted, Refused}
-use Rattle.hz_report.specs.Replays.{AsksNothing, asks_from, behind, line_of, no_event, states_from, taken, told_on}
+use Rattle.hz_report.specs.Replays.{AsksNothing, asks_from, beyond, line_of, no_event, states_from, taken, reported_on}
 
 module _ (m : Machine) where
   states_append : (states : List ℕ) (xs ys : List Event) → states_from m states (xs ++ ys) ≡ states_from m (states_from m states xs) ys
   states_append states [] ys = refl
-  states_append states (x ∷ xs) ys = states_append (behind m states x) xs ys
+  states_append states (x ∷ xs) ys = states_append (beyond m states x) xs ys
 
   asks_append : (states : List ℕ) (xs ys : List Event) → asks_from m states (xs ++ ys) ≡ asks_from m states xs ++ asks_from m (states_from m states xs) ys
   asks_append states [] ys = refl
   asks_append states (x ∷ xs) ys =
-      ap (λ (text : List ℕ). line_of m states x ++ text) (asks_append (behind m states x) xs ys)
-      ∙ sym (append_assoc (line_of m states x) (asks_from m (behind m states x) xs) (asks_from m (states_from m (behind m states x) xs) ys))
+      ap (λ (text : List ℕ). line_of m states x ++ text) (asks_append (beyond m states x) xs ys)
+      ∙ sym (append_assoc (line_of m states x) (asks_from m (beyond m states x) xs) (asks_from m (states_from m (beyond m states x) xs) ys))
 
   -- one more event
-  pub states_more : (states : List ℕ) (events : List Event) (i : ℕ) (d : Event) → i < length events → states_from m states (take (i + 1) events) ≡ behind m (states_from m states (take i events)) (get_or events i d)
+  pub states_more : (states : List ℕ) (events : List Event) (i : ℕ) (d : Event) → i < length events → states_from m states (take (i + 1) events) ≡ beyond m (states_from m states (take i events)) (get_or events i d)
   states_more states events i d inside = ap (states_from m states) (take_more events i d inside) ∙ states_append states (take i events) (get_or events i d ∷ [])
 
   pub asks_more : (states : List ℕ) (events : List Event) (i : ℕ) (d : Event) → i < length events
@@ -33,7 +33,7 @@ module _ (m : Machine) where
       ap (asks_from m states) (take_more events i d inside)
       ∙ (asks_append states (take i events) (get_or events i d ∷ []) ∙ ap (λ (text : List ℕ). asks_from m states (take i events) ++ text) (append-nil (line_of m before (get_or events i d))))
 
-  -- what stands behind an event
+  -- what comes after an event
   abbrev pub asks_after : List ℕ → List Event → ℕ → List ℕ
   asks_after states events i = asks_from m (states_from m states (take (i + 1) events)) (drop (i + 1) events)
 
@@ -43,19 +43,19 @@ module _ (m : Machine) where
       ap (asks_from m states) (sym (take-append-drop (i + 1) events))
       ∙ (asks_append states (take (i + 1) events) (drop (i + 1) events) ∙ ap (λ (text : List ℕ). text ++ asks_after states events i) (asks_more states events i d inside))
 
-  -- nothing is told where nothing is asked
+  -- nothing is reported where nothing is asked
   silent : (states : List ℕ) (events : List Event) → All (λ e. AsksNothing (event_of e.what)) events → asks_from m states events ≡ []
   silent states [] none = refl
   silent states (x ∷ events) none =
-      ap (λ (text : List ℕ). text ++ asks_from m (behind m states x) events) (no_line (event_of x.what) (All-head (λ (e : Event). AsksNothing (event_of e.what)) x events none))
-      ∙ silent (behind m states x) events (All-tail (λ (e : Event). AsksNothing (event_of e.what)) x events none)
+      ap (λ (text : List ℕ). text ++ asks_from m (beyond m states x) events) (no_line (event_of x.what) (All-head (λ (e : Event). AsksNothing (event_of e.what)) x events none))
+      ∙ silent (beyond m states x) events (All-tail (λ (e : Event). AsksNothing (event_of e.what)) x events none)
     where
-      no_line : (e : accepting.Event) → AsksNothing e → told_on m states x.line e ≡ []
+      no_line : (e : accepting.Event) → AsksNothing e → reported_on m states x.line e ≡ []
       no_line (accepting.issue class) h = refl
       no_line (accepting.advance cycles) h = refl
       no_line (accepting.ask part query) h = absurd h
 
-  -- the asks are among the first events, behind which nothing is asked
+  -- the asks are among the first events, after which nothing is asked
   pub asks_first : (states : List ℕ) (events : List Event) (n : ℕ) → All (λ e. AsksNothing (event_of e.what)) (drop n events) → asks_from m states (take n events) ≡ asks_from m states events
   asks_first states events n none =
       sym (append-nil (asks_from m states (take n events)))

@@ -1,3 +1,3 @@
-pub mod Behind
+pub mod PartsAfter
 pub mod Replays
 pub mod Schedules

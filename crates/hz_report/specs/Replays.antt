@@ -18,28 +18,28 @@ use Rattle.hz_replay.specs.declared.outcome.Outcome.TheVariants.{Accepted, Refus
 use Rattle.hz_tables.specs.Machines.{machine_of}
 use Rattle.hz_tables.specs.declared.machine.Machine as tables
 
--- the states behind an event; one that is not walked leaves them
-abbrev pub behind : Machine → List ℕ → Event → List ℕ
-behind m states e = unwrap_or (parts_walk m.parts states (event_of e.what ∷ [])) states
+-- the states after an event; one that is not walked leaves them
+abbrev pub beyond : Machine → List ℕ → Event → List ℕ
+beyond m states e = unwrap_or (parts_walk m.parts states (event_of e.what ∷ [])) states
 
--- the states behind events
+-- the states after events
 abbrev pub states_from : Machine → List ℕ → List Event → List ℕ
 states_from m states [] = states
-states_from m states (e ∷ events) = states_from m (behind m states e) events
+states_from m states (e ∷ events) = states_from m (beyond m states e) events
 
--- what is told of an event that stands on this line, in these states: an ask is answered
-abbrev pub told_on : Machine → List ℕ → ℕ → accepting.Event → List ℕ
-told_on m states line (accepting.issue class) = []
-told_on m states line (accepting.advance cycles) = []
-told_on m states line (accepting.ask part query) = ask_line line (query_name (names_of_machine m) part query) (states_tell m states part query)
+-- what is reported of an event that stands on this line, in these states: an ask is answered
+abbrev pub reported_on : Machine → List ℕ → ℕ → accepting.Event → List ℕ
+reported_on m states line (accepting.issue class) = []
+reported_on m states line (accepting.advance cycles) = []
+reported_on m states line (accepting.ask part query) = ask_line line (query_name (names_of_machine m) part query) (states_tell m states part query)
 
 abbrev pub line_of : Machine → List ℕ → Event → List ℕ
-line_of m states e = told_on m states e.line (event_of e.what)
+line_of m states e = reported_on m states e.line (event_of e.what)
 
 -- the lines of the asks among events
 abbrev pub asks_from : Machine → List ℕ → List Event → List ℕ
 asks_from m states [] = []
-asks_from m states (e ∷ events) = line_of m states e ++ asks_from m (behind m states e) events
+asks_from m states (e ∷ events) = line_of m states e ++ asks_from m (beyond m states e) events
 
 -- the events before the one that is refused, or all
 abbrev pub taken : Outcome → List Event → List Event

@@ -22,7 +22,7 @@ fn put_turns<S: Sink>(out: &mut S, turns: u32) -> Result<(), Failed>
     )
 }
 
-/// Writes a state behind a blank.
+/// Writes a state after a blank.
 fn put_field<S: Sink>(out: &mut S, state: u32) -> Result<(), Failed>
     requires { S.faults out.old < 2 ^ 64 - 1 }
     ensures { Writes S.written S.room S.faults out.old out.new (model.state_field state) result }
@@ -31,7 +31,7 @@ fn put_field<S: Sink>(out: &mut S, state: u32) -> Result<(), Failed>
     put_all(out, &[b" ", digits.format(state).as_bytes()])
 }
 
-/// Writes states, each behind a blank.
+/// Writes states, each after a blank.
 fn put_fields<S: Sink>(out: &mut S, states: &[u32]) -> Result<(), Failed>
     requires { S.faults out.old < 2 ^ 64 - 1 }
     ensures { Writes S.written S.room S.faults out.old out.new (flat_map model.state_field states.now) result }
@@ -67,7 +67,7 @@ fn put_left<S: Sink>(out: &mut S, states: &[u32]) -> Result<(), Failed>
     }
 }
 
-/// Writes the lines behind the first: the issues and cycles of the trace, and the states that it leaves.
+/// Writes the lines after the first: the issues and cycles of the trace, and the states that it leaves.
 fn put_trace<S: Sink>(out: &mut S, issues: u64, cycles: u64, states: &[u32]) -> Result<(), Failed>
     requires { S.faults out.old < 2 ^ 64 - 1 }
     ensures { Writes S.written S.room S.faults out.old out.new (accepted_line issues cycles ++ model.left_line states.now) result }

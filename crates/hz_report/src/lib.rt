@@ -1,9 +1,9 @@
 //! The texts of replays, schedules and drills: one call each.
 #![tactic(auto)]
 
-mod behind;
 mod drilled;
 mod outcomes;
+mod parts_after;
 mod replayed;
 mod scheduled;
 

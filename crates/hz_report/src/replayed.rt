@@ -13,12 +13,12 @@ ghost use Rattle.hz_io.specs.Sink.{Writes};
 ghost use Rattle.hz_replay.specs.Lines.{event_of};
 ghost use Rattle.hz_replay.specs.Traces.{events_in};
 ghost use Rattle.hz_replay.specs.declared.outcome.Outcome.TheVariants.{Refused};
-ghost use Rattle.hz_report.specs.Behind.{AreBehind};
+ghost use Rattle.hz_report.specs.PartsAfter.{AreAfter};
 ghost use Rattle.hz_report.specs.Replays.{AsksNothing, asks_from, end_line, line_of, no_event, refused_by, replay_text, states_from, taken, IsReplay};
 ghost use Rattle.hz_tables.specs.Machines.{machine_of};
 
-use super::behind::{Behind, ask_behind, in_start};
 use super::outcomes::{put_accepted, put_refused};
+use super::parts_after::{PartAfter, ask_after, in_start};
 use hz_io::page::{Page, add, flush};
 use hz_io::{Failed, Sink};
 use hz_regexp::Name;
@@ -29,7 +29,7 @@ use std::marker::Brand;
 use std::sync::ledger::{Blank, Ledger};
 
 /// Adds the end of the line of an ask.
-fn add_told<S: Sink>(out: &mut S, page: &mut Page, reserved: bool) -> Result<(), Failed>
+fn add_reported<S: Sink>(out: &mut S, page: &mut Page, reserved: bool) -> Result<(), Failed>
     requires { S.faults out.old < 2 ^ 64 - 1 }
     ensures { Adds S.written S.room S.faults out.old out.new page.old.items page.new.items (if reserved then codes " reserved\n" else codes " free\n") result }
 {
@@ -72,7 +72,7 @@ fn add_answer<S: Sink>(
     add_number(out, page, line)?;
     add(out, page, b" ")?;
     add_name(out, page, unit)?;
-    add_told(out, page, reserved)
+    add_reported(out, page, reserved)
 }
 
 /// The name of a unit that is asked for.
@@ -84,12 +84,12 @@ fn unit_of(machine: &Machine, part: u32, ask: u32) -> &Name
     &machine.parts[part as usize].asks[ask as usize]
 }
 
-/// Adds what is told of the event at a place of a trace: the line of an ask.
+/// Adds what is reported of the event at a place of a trace: the line of an ask.
 fn add_event<S: Sink, L: Ledger>(
     out: &mut S,
     page: &mut Page,
     machine: &Machine,
-    parts: &mut [Behind; 16],
+    parts: &mut [PartAfter; 16],
     events: &[Event],
     place: usize,
     steps: &mut Steps<L>,
@@ -99,14 +99,14 @@ fn add_event<S: Sink, L: Ledger>(
     requires classes { All (IsOfClass (length machine.now.classes.items)) (events_in events.now) }
     requires asks { IsOfQuery (names_of_machine (machine_of machine.now)).queries (event_of (slice_index_or events.now place no_event).what) }
     requires walked { IsSome (machine_walk (machine_of machine.now) (events_in events.now)) }
-    requires behind { AreBehind (machine_of machine.now) events.now place parts.old }
-    ensures behind { AreBehind (machine_of machine.now) events.now place parts.new }
+    requires beyond { AreAfter (machine_of machine.now) events.now place parts.old }
+    ensures beyond { AreAfter (machine_of machine.now) events.now place parts.new }
     ensures added { Adds S.written S.room S.faults out.old out.new page.old.items page.new.items (line_of (machine_of machine.now) (states_from (machine_of machine.now) (starts_of (machine_of machine.now)) (take place events.now)) (slice_index_or events.now place no_event)) result }
 {
     let event = &events[place];
     match event.what {
         What::Ask { part, ask } => {
-            let reserved = ask_behind(machine, parts, events, place, part, ask, steps);
+            let reserved = ask_after(machine, parts, events, place, part, ask, steps);
             add_answer(out, page, event.line, unit_of(machine, part, ask), reserved)
         }
         What::Issue(_) | What::Advance(_) => Ok(()),

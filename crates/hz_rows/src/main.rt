@@ -13,13 +13,13 @@
 //! fail CALL CALL     each call from the first number to the last fails, in a run of its own
 //! room COUNT         the room of the sink, 1000 if it is not said
 //! status NUMBER      the status. The text that is written follows: what has no room of it is cut
-//! part NUMBER KIND NAME   lines of the first file, and the status, the kind and the name that are told of them.
-//!                    Each part of a row stands alone and before each other one, and it is told
+//! part NUMBER KIND NAME   lines of the first file, and the status, the kind and the name that are reported of them.
+//!                    Each part of a row stands alone and before each other one, and it is reported
 //! keep NAME          what the last run writes is kept as a text of this name
 //! also rooms         with each room up to the text's length: a smaller one has status 7 and the front of the text
 //! also unpacked      with tables kept as plain rows too, where the status is 0 or 1
 //! also walked        by `walk` on what `compile` writes too; where that tells a fault, it is the row's
-//! also lesser        of two parts the one that the row says first is told, whichever stands first in the file
+//! also lesser        of two parts the one that the row says first is reported, whichever stands first in the file
 //! also front         what is written only begins with the text
 //! text NAME          a text that later lines can use
 //! mark SIGN          a text that the sign stands for in later lines

@@ -151,7 +151,7 @@ impl<'a> Reader<'a> {
             Place::Named(name) => self.content.keep(name, bytes),
             Place::Mark(sign) => self.content.mark(sign, bytes),
             Place::File(name) => self.present().set_file(name, bytes),
-            Place::Part(told) => self.present().set_part(alloc, told.as_str(), bytes),
+            Place::Part(reported) => self.present().set_part(alloc, reported.as_str(), bytes),
             Place::Answer(status) => self.present().set_answer(status.as_str(), bytes),
         }
     }

@@ -11,12 +11,12 @@ pub struct Input {
     pub bytes: Vec<u8>,
 }
 
-/// Lines of a description, and what is told of them: the status, the kind and the name.
+/// Lines of a description, and what is reported of them: the status, the kind and the name.
 #[derive(Clone, Drop)]
 pub struct Part {
     pub bytes: Vec<u8>,
     pub status: u8,
-    pub told: String,
+    pub reported: String,
 }
 
 /// In which ways a row is run.
@@ -28,7 +28,7 @@ pub struct Ways {
     pub unpacked: bool,
     /// By a walk on what is compiled too.
     pub walked: bool,
-    /// Of two parts the one that stands first in the list is told, and not the one that stands first in the file.
+    /// Of two parts the one that stands first in the list is reported, and not the one that stands first in the file.
     pub lesser: bool,
     /// What is written only begins with the answer.
     pub front: bool,
@@ -165,17 +165,17 @@ impl Row {
         Ok(())
     }
 
-    /// Takes lines of a description with what is told of them: `STATUS KIND NAME`.
-    pub fn set_part(&mut self, alloc: Global, told: &str, bytes: Vec<u8>) -> io::Result<()> {
-        let Some((status, told)) = told.split_once(' ') else {
+    /// Takes lines of a description with what is reported of them: `STATUS KIND NAME`.
+    pub fn set_part(&mut self, alloc: Global, reported: &str, bytes: Vec<u8>) -> io::Result<()> {
+        let Some((status, reported)) = reported.split_once(' ') else {
             return Err(unreadable());
         };
         let status = small_number(status)?;
-        let told = String::from_str(alloc, told)?;
+        let reported = String::from_str(alloc, reported)?;
         self.parts.push(Part {
             bytes,
             status,
-            told,
+            reported,
         })?;
         Ok(())
     }

@@ -98,7 +98,7 @@ fn run_rooms(judge: &mut Judge<'_>, row: &Row, mut run: Run<'_>, status: u8) -> 
     )
 }
 
-/// The files of a row, the first with its tables kept as plain rows: behind all that it has, so that no line is another.
+/// The files of a row, the first with its tables kept as plain rows: after all that it has, so that no line is another.
 fn unpacked(alloc: Global, row: &Row) -> io::Result<Vec<Input>> {
     let mut files = row.files.clone()?;
     let Some(first) = files.first_mut() else {
@@ -151,7 +151,7 @@ fn run_walk(alloc: Global, judge: &mut Judge<'_>, row: &Row, status: u8) -> io::
     judge.compare(&walk, &wanted)
 }
 
-/// Runs each part of a row alone and before each other one, on a line of its own behind the lines of the first file.
+/// Runs each part of a row alone and before each other one, on a line of its own after the lines of the first file.
 fn run_parts(alloc: Global, judge: &mut Judge<'_>, row: &Row) -> io::Result<()> {
     if row.parts.is_empty() {
         return Err(unreadable());
@@ -180,14 +180,14 @@ fn lines_of(alloc: Global, part: &Part, other: &Part) -> io::Result<Vec<u8>> {
     Ok(lines)
 }
 
-/// Runs with these lines behind those of the first file: this part is told, on this line.
+/// Runs with these lines after those of the first file: this part is reported, on this line.
 fn run_lines(
     alloc: Global,
     judge: &mut Judge<'_>,
     row: &Row,
     lines: &[u8],
     line: u32,
-    told: &Part,
+    reported: &Part,
 ) -> io::Result<()> {
     let mut whole = row.clone()?;
     let Some(first) = whole.files.first_mut() else {
@@ -195,10 +195,14 @@ fn run_lines(
     };
     first.bytes.extend_from_slice(lines)?;
     first.bytes.push(b'\n')?;
-    let kind = if told.status == 3 { "limit" } else { "fault" };
+    let kind = if reported.status == 3 {
+        "limit"
+    } else {
+        "fault"
+    };
     let file = first.name.as_str();
-    let name = told.told.as_str();
+    let name = reported.reported.as_str();
     let text = format!(in alloc; "{kind} {file} line {line} {name}\n")?;
     whole.answer = Vec::from_slice(alloc, text.as_bytes())?;
-    run_words(judge, &whole, whole.files.as_slice(), told.status)
+    run_words(judge, &whole, whole.files.as_slice(), reported.status)
 }

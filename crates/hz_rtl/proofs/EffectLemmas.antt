@@ -67,24 +67,24 @@ vector_effects _ forms h e = absurd (cc)
 pub forms_from : (forms : List Form) (i : ℕ) (form : Form) → i < length forms → form ≡ get_or forms i form → trees (drop i forms) ≡ more (tree form) (trees (drop (i + 1) forms))
 forms_from forms i form inside is = ap trees (drop_more forms i form inside ∙ ap (λ f. f ∷ drop (i + 1) forms) (sym is))
 
--- effects with further ones behind them
-abbrev pub behind : List Effect → Judged (List Effect) → Judged (List Effect)
-behind before further = and_then further (λ effects. Ok (before ++ effects))
+-- effects with further ones after them
+abbrev pub beyond : List Effect → Judged (List Effect) → Judged (List Effect)
+beyond before further = and_then further (λ effects. Ok (before ++ effects))
 
 -- one more effect
-pub effect_taken : (before : List Effect) (effect : Effect) (others : Trees) → behind (before ++ effect ∷ []) (blocks.effects_of others) ≡ behind before (and_then (blocks.effects_of others) (λ effects. Ok (effect ∷ effects)))
+pub effect_taken : (before : List Effect) (effect : Effect) (others : Trees) → beyond (before ++ effect ∷ []) (blocks.effects_of others) ≡ beyond before (and_then (blocks.effects_of others) (λ effects. Ok (effect ∷ effects)))
 effect_taken before effect others = go (blocks.effects_of others)
   where
-    go : (judged : Judged (List Effect)) → behind (before ++ effect ∷ []) judged ≡ behind before (and_then judged (λ effects. Ok (effect ∷ effects)))
+    go : (judged : Judged (List Effect)) → beyond (before ++ effect ∷ []) judged ≡ beyond before (and_then judged (λ effects. Ok (effect ∷ effects)))
     go (Ok effects) = ap (λ (es : List Effect). Ok es) (append_assoc before (effect ∷ []) effects)
     go (Err f) = refl
 
-module _ (forms : List Form) (i : ℕ) (form : Form) (before : List Effect) (inside : i < length forms) (is : form ≡ get_or forms i form) (so : behind before (blocks.effects_of (trees (drop i forms))) ≡ blocks.effects_of (trees forms)) where
-  pub effect_more : (effect : Effect) → model.effect_of (tree form) ≡ Ok effect → behind (before ++ effect ∷ []) (blocks.effects_of (trees (drop (i + 1) forms))) ≡ blocks.effects_of (trees forms)
-  effect_more effect e = effect_taken before effect (trees (drop (i + 1) forms)) ∙ (ap (λ (judged : Judged Effect). behind before (and_then judged (λ first. and_then (blocks.effects_of (trees (drop (i + 1) forms))) (λ effects. Ok (first ∷ effects))))) (sym e) ∙ (ap (λ (ts : Trees). behind before (blocks.effects_of ts)) (sym (forms_from forms i form inside is)) ∙ so))
+module _ (forms : List Form) (i : ℕ) (form : Form) (before : List Effect) (inside : i < length forms) (is : form ≡ get_or forms i form) (so : beyond before (blocks.effects_of (trees (drop i forms))) ≡ blocks.effects_of (trees forms)) where
+  pub effect_more : (effect : Effect) → model.effect_of (tree form) ≡ Ok effect → beyond (before ++ effect ∷ []) (blocks.effects_of (trees (drop (i + 1) forms))) ≡ blocks.effects_of (trees forms)
+  effect_more effect e = effect_taken before effect (trees (drop (i + 1) forms)) ∙ (ap (λ (judged : Judged Effect). beyond before (and_then judged (λ first. and_then (blocks.effects_of (trees (drop (i + 1) forms))) (λ effects. Ok (first ∷ effects))))) (sym e) ∙ (ap (λ (ts : Trees). beyond before (blocks.effects_of ts)) (sym (forms_from forms i form inside is)) ∙ so))
 
   pub effect_wrong : (fault : RtlFault × ℕ) → model.effect_of (tree form) ≡ Err fault → blocks.effects_of (trees forms) ≡ Err fault
-  effect_wrong fault e = sym so ∙ (ap (λ (ts : Trees). behind before (blocks.effects_of ts)) (forms_from forms i form inside is) ∙ ap (λ (judged : Judged Effect). behind before (and_then judged (λ first. and_then (blocks.effects_of (trees (drop (i + 1) forms))) (λ effects. Ok (first ∷ effects))))) e)
+  effect_wrong fault e = sym so ∙ (ap (λ (ts : Trees). beyond before (blocks.effects_of ts)) (forms_from forms i form inside is) ∙ ap (λ (judged : Judged Effect). beyond before (and_then judged (λ first. and_then (blocks.effects_of (trees (drop (i + 1) forms))) (λ effects. Ok (first ∷ effects))))) e)
 
-pub effects_end : (forms : List Form) (i : ℕ) (before : List Effect) → length forms ≤ i → behind before (blocks.effects_of (trees (drop i forms))) ≡ blocks.effects_of (trees forms) → blocks.effects_of (trees forms) ≡ Ok before
-effects_end forms i before past so = sym so ∙ (ap (λ (fs : List Form). behind before (blocks.effects_of (trees fs))) (drop_all i forms past) ∙ ap (λ (es : List Effect). Ok es) (append-nil before))
+pub effects_end : (forms : List Form) (i : ℕ) (before : List Effect) → length forms ≤ i → beyond before (blocks.effects_of (trees (drop i forms))) ≡ blocks.effects_of (trees forms) → blocks.effects_of (trees forms) ≡ Ok before
+effects_end forms i before past so = sym so ∙ (ap (λ (fs : List Form). beyond before (blocks.effects_of (trees fs))) (drop_all i forms past) ∙ ap (λ (es : List Effect). Ok es) (append-nil before))

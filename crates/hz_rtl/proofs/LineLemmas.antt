@@ -31,7 +31,7 @@ register_parts words i d written all low parts =
     append_assoc written (register_line (i, get_or words i d)) (register_lines (i + 1) (drop (i + 1) words))
     ∙ (ap (λ (ws : List ℕ). written ++ register_lines i ws) (sym next) ∙ parts)
 
--- behind the last register nothing is left
+-- after the last register nothing is left
 pub registers_done : (words : List ℕ) (i : ℕ) (written all : List ℕ) → length words ≤ i → written ++ register_lines i (drop i words) ≡ all → written ≡ all
 registers_done words i written all most parts =
     sym (append-nil written) ∙ (ap (λ (ws : List ℕ). written ++ register_lines i ws) (sym (drop_past words i most)) ∙ parts)

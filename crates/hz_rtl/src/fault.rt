@@ -2,7 +2,7 @@
 
 ghost use Rattle.std.specs.Prelude.{◌≡◌};
 ghost use Rattle.hz_block_model.specs.Texts.Operands.{rtl_word};
-ghost use Rattle.hz_base_model.specs.Told.{told_by, told_in};
+ghost use Rattle.hz_base_model.specs.Reported.{reported_by, reported_in};
 ghost use Rattle.hz_rtl.specs.Faults.{fault_of};
 ghost use Rattle.hz_rtl.specs.declared.fault.RtlFault.TheVariants.{NoMemory as no_memory};
 
@@ -34,9 +34,9 @@ pub enum RtlFault {
 }
 
 impl RtlFault {
-    /// The word by which the fault is told, and its line; None for want of memory. docs/FORMATS.md, 'Answers'.
-    pub fn told(&self) -> Option<(&'static str, u32)>
-        ensures { told_in result ≡ told_by rtl_word (fault_of self.now) }
+    /// The word by which the fault is reported, and its line; None for want of memory. docs/FORMATS.md, 'Answers'.
+    pub fn reported(&self) -> Option<(&'static str, u32)>
+        ensures { reported_in result ≡ reported_by rtl_word (fault_of self.now) }
     {
         match self {
             RtlFault::BadShape { line } => Some(("BadShape", *line)),

@@ -24,7 +24,7 @@ use Rattle.hz_pipeline_model.proofs.Traces.NameLaws.{place_named, query_named}
 use Rattle.hz_front_model.specs.Asks.{trace_names}
 use Rattle.hz_tabtext_model.specs.Texts.{TableText}
 use Rattle.hz_answer_model.specs.TableAnswers.{IsTablesOf}
-use Rattle.hz_answer_model.proofs.WalkLaws.{machine_names, told_is_held}
+use Rattle.hz_answer_model.proofs.WalkLaws.{machine_names, reported_is_held}
 use Rattle.hz_same_model.proofs.SingleLaws.{one_machine}
 use Rattle.hz_same_model.specs.Common.{Common, has_class, has_ask, common_of, issue_of, ask_at, ask_of, events_of, event_at, events_at, advance_symbol}
 use Rattle.hz_same_model.specs.Telling.{answer_in, AnswerTheSame, TellsApart}
@@ -230,8 +230,8 @@ module _ (common : Common) (m : Machine) (held : All (λ name. has_class m name 
           let both = accepted (advance cycles) of_class in
           (λ h. both.0 (ap is_some (walks (advance cycles)) ∙ h), λ h. sym (ap is_some (walks (advance cycles))) ∙ both.1 h)
       by_event (ask a query) of_class of_query =
-          let both = told_is_held d known m reports is sound t a query (ap is_some one) (in_classes before) of_query in
-          (λ h. both.0 (states, one, h), λ h. let told = both.1 h in subst (λ (xs : List ℕ). states_tell m xs a query ≡ true) (some_same told.0 states (sym told.1 ∙ one)) told.2)
+          let both = reported_is_held d known m reports is sound t a query (ap is_some one) (in_classes before) of_query in
+          (λ h. both.0 (states, one, h), λ h. let reported = both.1 h in subst (λ (xs : List ℕ). states_tell m xs a query ≡ true) (some_same reported.0 states (sym reported.1 ∙ one)) reported.2)
 
 module _ (d e : Description) (known also : Known) (sound : IsSound d known) (sound' : IsSound e also) (m n : Machine) (reports others : List Report)
     (is : IsCompiled d.options (automata_of d) (map (class_parts d known) d.classes) m reports) (is' : IsCompiled e.options (automata_of e) (map (class_parts e also) e.classes) n others) where

@@ -446,7 +446,7 @@ module _ (first second : Machine) (named : All (λ name. is_name name ≡ true) 
     walked_as : (m : Machine) → AreNamed shared m → (name trace : List ℕ) (s : ℕ) (answer : List ℕ) → WalksTrace trace text m s answer → Walks m (event_lines (names_of_machine m) 1 (lines_of text)) (written shared m 0 said.trace) s answer
     walked_as m own name trace s answer (inl (events, is, walks)) =
         subst (λ (es : List Event). Walks m (event_lines (names_of_machine m) 1 (lines_of text)) es s answer) (one_trace (names_of_machine m) text events (written shared m 0 said.trace) is (is_trace m own)) walks
-    walked_as m own name trace s answer (inr (kind, line, wrong, told)) = absurd (trace_or_fault (names_of_machine m) text (written shared m 0 said.trace) kind line (is_trace m own) wrong)
+    walked_as m own name trace s answer (inr (kind, line, wrong, reported)) = absurd (trace_or_fault (names_of_machine m) text (written shared m 0 said.trace) kind line (is_trace m own) wrong)
 
     is_walked : (m : Machine) (own : AreNamed shared m) → is_some (machine_walk m (written shared m 0 said.trace)) ≡ is_some (machine_walk m (events_at shared m (before ++ last ∷ [])))
     is_walked m own = ap is_some (walk_written shared m own said.trace) ∙ ap (λ (w : List ℕ). is_some (machine_walk m (events_at shared m w))) said.least.is

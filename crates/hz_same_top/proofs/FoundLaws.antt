@@ -1,4 +1,4 @@
--- What is told of two machines is what is to be answered.
+-- What is reported of two machines is what is to be answered.
 use Rattle.std.proofs.Common.{◌≡◌, ℕ, suc, arith, eqb-true, Bool, true, false, length, List, [], ◌∷◌, ◌++◌, inl, inr, Result, Ok, Err, IfOk, refl, sym, ap, ◌∙◌}
 use Rattle.std.specs.List.{flat_map}
 use Rattle.std.specs.Prelude.{◌==◌, codes}
@@ -41,19 +41,19 @@ module _ (file other_file : List ℕ) (first second : Machine) where
       (flat_map (alone_line (codes "class") file) (same.classes i) ++ flat_map (alone_line (codes "ask") file) (same.asks i))
       ++ (flat_map (alone_line (codes "class") other_file) (same.other_classes i) ++ flat_map (alone_line (codes "ask") other_file) (same.other_asks i))
 
-  pub told_same : (s : ℕ) (t written base : List ℕ) → base ≡ [] → written ≡ base ++ names_alone file other_file first second → written ≡ [] → s ≡ 0 → t ≡ same_line → AnswerTheSame first second → Compares file other_file first second s t
-  told_same s t written base empty is none zero says answers = inl (all_shared answers (sym (is ∙ ap (λ (ys : List ℕ). ys ++ names_alone file other_file first second) empty) ∙ none), (zero, says))
+  pub reported_same : (s : ℕ) (t written base : List ℕ) → base ≡ [] → written ≡ base ++ names_alone file other_file first second → written ≡ [] → s ≡ 0 → t ≡ same_line → AnswerTheSame first second → Compares file other_file first second s t
+  reported_same s t written base empty is none zero says answers = inl (all_shared answers (sym (is ∙ ap (λ (ys : List ℕ). ys ++ names_alone file other_file first second) empty) ∙ none), (zero, says))
 
-  pub told_else : (t written base : List ℕ) → base ≡ [] → written ≡ base ++ names_alone file other_file first second → (written ≡ [] → ⊥) → t ≡ written ++ else_line → AnswerTheSame first second → Compares file other_file first second 1 t
-  told_else t written base empty is some says answers =
+  pub reported_else : (t written base : List ℕ) → base ≡ [] → written ≡ base ++ names_alone file other_file first second → (written ≡ [] → ⊥) → t ≡ written ++ else_line → AnswerTheSame first second → Compares file other_file first second 1 t
+  reported_else t written base empty is some says answers =
       let names : written ≡ names_alone file other_file first second = is ∙ ap (λ (ys : List ℕ). ys ++ names_alone file other_file first second) empty in
       inr (inl ((λ same. some (names ∙ none_written same)), answers, (refl, says ∙ ap (λ (ys : List ℕ). ys ++ else_line) names)))
 
-  pub told_apart : (trace t written base : List ℕ) (common : Common) (last : ℕ) (answer : Bool) → common ≡ common_of first second
+  pub reported_apart : (trace t written base : List ℕ) (common : Common) (last : ℕ) (answer : Bool) → common ≡ common_of first second
       → ((before : List ℕ) (symbol : ℕ) → trace ≡ before ++ symbol ∷ [] → last ≡ symbol)
       → ((least : IsLeast first second trace) → answer ≡ answer_in first least.tells.states (event_at (common_of first second) first least.last))
       → base ≡ [] → written ≡ base ++ names_alone file other_file first second → t ≡ written ++ difference_text file other_file common trace last answer → (least : IsLeast first second trace) → SaysDifference file other_file first second t
-  told_apart trace t written base common last answer shared ends answers empty is says least = record {
+  reported_apart trace t written base common last answer shared ends answers empty is says least = record {
     trace = trace;
     least = least;
     says = says ∙ (λ i. (is ∙ ap (λ (ys : List ℕ). ys ++ names_alone file other_file first second) empty) i ++ difference_text file other_file (shared i) trace (ends least.before least.last least.is i) (answers least i));

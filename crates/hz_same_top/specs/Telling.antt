@@ -1,4 +1,4 @@
--- What is told of two machines. To prove with, nothing to believe.
+-- What is reported of two machines. To prove with, nothing to believe.
 use Rattle.std.specs.Prelude.{◌≡◌, ◌⊎◌, ℕ, List}
 use Rattle.hz_front_model.specs.Phases.{Says}
 use Rattle.hz_pipeline_model.specs.Tables.Machines.{Machine}

@@ -59,7 +59,7 @@ fn is_empty(text: &[u8]) -> bool
     text.is_empty()
 }
 
-/// What is told of machines that no trace tells apart: by the names that one has alone, if there are any.
+/// What is reported of machines that no trace tells apart: by the names that one has alone, if there are any.
 fn tell_same(
     alloc: Global,
     file: &str,
@@ -79,7 +79,7 @@ fn tell_same(
     Ok(Compared { status: 1, text })
 }
 
-/// What is told of machines that a trace tells apart.
+/// What is reported of machines that a trace tells apart.
 fn tell_difference(
     alloc: Global,
     file: &str,

@@ -135,10 +135,10 @@ module _ (m : Machine) (g : Graph) (slots : List Slot) (cycle : ℕ) (states : L
   abbrev fit : ℕ → Bool
   fit class = is_some (parts_walk m.parts states (issue class ∷ []))
 
-  -- a candidate stands behind the first of its class
+  -- a candidate comes after the first of its class
   pub candidate_ready : (j : ℕ) → IsCandidate (IsWalked m) g slots cycle j → Contains (keys_at rows (class_at g j)) (key_of g j)
   candidate_ready j c =
-      let (none, low) = ready_back g slots cycle j at.told c.ready in
+      let (none, low) = ready_back g slots cycle j at.reported c.ready in
       ⊎_elim
       (λ (m : Contains waiting (ripe (issued_at slots) j g.edges, j)). let high = later (ripe (issued_at slots) j g.edges, j) m in absurd (omega (arith, high, low)))
       (λ (m : Contains (keys_at rows (class_at g j)) (key_of g j)). m)

@@ -14,7 +14,7 @@ use Rattle.hz_sched.specs.Standing.{IsAt, left_below}
 use Rattle.hz_sched.proofs.UpwardEdges.{IsUpward}
 use Rattle.hz_sched.proofs.SlotLemmas.{none_issued, slot_of_issue, Least, least_left}
 use Rattle.hz_block_model.proofs.Scheduling.SlotLaws.{below_present}
-use Rattle.hz_sched.proofs.WalkLemmas.{front_walked, walk_behind, walk_to, walk_split}
+use Rattle.hz_sched.proofs.WalkLemmas.{front_walked, walk_after, walk_to, walk_split}
 use Rattle.hz_base_model.specs.Limits.{cycle_limit}
 
 some_of : {A : Type 0} (o : Option A) → is_some o ≡ true → (x : A) × (o ≡ Some x)
@@ -23,7 +23,7 @@ some_of (Some x) h = (x, refl)
 
 module _ (m : Machine) (g : Graph) (settles : Settles m) (upward : IsUpward g) (ranges : All (λ n. n.class < length m.classes) g.nodes) (alone : (j : ℕ) → j < length g.nodes → can_start m (class_at g j) ≡ true)
     (slots : List Slot) (cycle : ℕ) (states : List ℕ) (at : IsAt m g slots cycle states) where
-  -- the machine settles behind the trace and `latency_limit` cycles
+  -- the machine settles after the trace and `latency_limit` cycles
   settled : (a b c d : ℕ) → b ≡ cycle_limit → d ≡ a + b → cycle - present 0 slots ≡ a + c → machine_walk m (spell g slots ++ advance d ∷ []) ≡ Some (starts_of m)
   settled a b c d quiet both late =
       let all : machine_walk m (spell g slots ++ advance (a + c) ∷ []) ≡ Some states = subst (λ (n : ℕ). machine_walk m (spell g slots ++ advance n ∷ []) ≡ Some states) late at.walked in
@@ -54,8 +54,8 @@ module _ (m : Machine) (g : Graph) (settles : Settles m) (upward : IsUpward g) (
       let d : then - present 0 slots ≡ a + b = omega arith in
       let here = settled a b c (a + b) quiet refl (omega arith) in
       let starts : IsSome (parts_walk m.parts (starts_of m) (issue (class_at g l.place) ∷ [])) = alone l.place l.within in
-      let behind = walk_behind m (spell g slots) (a + b) (starts_of m) here (issue (class_at g l.place) ∷ []) in
-      let path = walk_to m (spell g slots) (issue (class_at g l.place) ∷ []) (present 0 slots) then low ∙ (ap (λ (n : ℕ). machine_walk m (spell g slots ++ advance n ∷ issue (class_at g l.place) ∷ [])) d ∙ behind) in (
+      let beyond = walk_after m (spell g slots) (a + b) (starts_of m) here (issue (class_at g l.place) ∷ []) in
+      let path = walk_to m (spell g slots) (issue (class_at g l.place) ∷ []) (present 0 slots) then low ∙ (ap (λ (n : ℕ). machine_walk m (spell g slots ++ advance n ∷ issue (class_at g l.place) ∷ [])) d ∙ beyond) in (
         l.place,
         record {
           within = l.within;

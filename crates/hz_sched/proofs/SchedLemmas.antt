@@ -77,17 +77,17 @@ pub record IsNext (m : Machine) (g : Graph) (board : Board) (place : ℕ) : Type
 
 module _ (m : Machine) (g : Graph) (board : Board) (states : List ℕ) (b : IsBoard m g board states) where
   -- the place that the queue of the board tells
-  abbrev pub told : List ℕ → Option ℕ
-  told seen = option_map (λ (k : Key). k.1) (find (λ (k : Key). may m g seen k.1) board.queue.heads.keys)
+  abbrev pub reported : List ℕ → Option ℕ
+  reported seen = option_map (λ (k : Key). k.1) (find (λ (k : Key). may m g seen k.1) board.queue.heads.keys)
 
   module _ (later : AreLater board.cycle board.queue.waiting.keys) where
-    pub is_next : (seen : List ℕ) → seen ≡ states → (place : ℕ) → Some place ≡ told seen → IsNext m g board place
+    pub is_next : (seen : List ℕ) → seen ≡ states → (place : ℕ) → Some place ≡ reported seen → IsNext m g board place
     is_next seen same place e =
-        let found = first_may m g (slots_of board.slots.items) board.cycle states b.at board.queue.waiting.keys board.queue.ready.items board.queue.heads.keys b.queued later place (sym (e ∙ ap told same)) in
+        let found = first_may m g (slots_of board.slots.items) board.cycle states b.at board.queue.waiting.keys board.queue.ready.items board.queue.heads.keys b.queued later place (sym (e ∙ ap reported same)) in
         record { may = found.0; first = found.1 }
 
-    pub none_next : (seen : List ℕ) → seen ≡ states → None ≡ told seen → (j : ℕ) → IsCandidate (IsWalked m) g (slots_of board.slots.items) board.cycle j → ⊥
-    none_next seen same e j c = none_may m g (slots_of board.slots.items) board.cycle states b.at board.queue.waiting.keys board.queue.ready.items board.queue.heads.keys b.queued later (sym (e ∙ ap told same)) j c
+    pub none_next : (seen : List ℕ) → seen ≡ states → None ≡ reported seen → (j : ℕ) → IsCandidate (IsWalked m) g (slots_of board.slots.items) board.cycle j → ⊥
+    none_next seen same e j c = none_may m g (slots_of board.slots.items) board.cycle states b.at board.queue.waiting.keys board.queue.ready.items board.queue.heads.keys b.queued later (sym (e ∙ ap reported same)) j c
 
     pub next_ready : (place : ℕ) → IsNext m g board place → Contains (keys_at board.queue.ready.items (class_at g place)) (key_of g place)
     next_ready place n = candidate_ready m g (slots_of board.slots.items) board.cycle states b.at board.queue.waiting.keys board.queue.ready.items board.queue.heads.keys b.queued later place n.may

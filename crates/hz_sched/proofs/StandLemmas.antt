@@ -12,14 +12,14 @@ use Rattle.hz_sched.specs.Waits.{issued_at, and_issued}
 use Rattle.hz_sched.specs.Standing.{IsAt, left_below}
 use Rattle.hz_block_model.proofs.Scheduling.SlotLaws.{spelled-push, present-push, rising-push, no_front}
 use Rattle.hz_sched.proofs.SlotLemmas.{issued_none, slot_of_issue, issued-push, same_issued, other_issued, all_issued}
-use Rattle.hz_sched.proofs.WalkLemmas.{front_walked, walk_behind, one_more, walk_to, no_advance}
+use Rattle.hz_sched.proofs.WalkLemmas.{front_walked, walk_after, one_more, walk_to, no_advance}
 
 module _ (m : Machine) (g : Graph) (slots : List Slot) (cycle : ℕ) (states : List ℕ) (at : IsAt m g slots cycle states) where
-  -- what is walked behind the advance to the present cycle
+  -- what is walked after the advance to the present cycle
   pub issue_walk : (j : ℕ) → machine_walk m (spell g slots ++ (advance_to (present 0 slots) cycle ++ issue (class_at g j) ∷ [])) ≡ parts_walk m.parts states (issue (class_at g j) ∷ [])
   issue_walk j =
       walk_to m (spell g slots) (issue (class_at g j) ∷ []) (present 0 slots) cycle at.reached
-      ∙ walk_behind m (spell g slots) (cycle - present 0 slots) states at.walked (issue (class_at g j) ∷ [])
+      ∙ walk_after m (spell g slots) (cycle - present 0 slots) states at.walked (issue (class_at g j) ∷ [])
 
   pub candidate_fits : (j : ℕ) → IsCandidate (IsWalked m) g slots cycle j → is_some (parts_walk m.parts states (issue (class_at g j) ∷ [])) ≡ true
   candidate_fits j c = subst (λ (o : Option (List ℕ)). IsSome o) (issue_walk j) c.fits
@@ -34,7 +34,7 @@ module _ (m : Machine) (g : Graph) (slots : List Slot) (cycle : ℕ) (states : L
     walked = subst (λ (n : ℕ). machine_walk m (spell g slots ++ advance n ∷ []) ≡ Some next) (let low = at.reached in omega arith) (one_more m (spell g slots) (cycle - present 0 slots) states at.walked next step);
     rising = at.rising;
     greedy = at.greedy;
-    told = at.told;
+    reported = at.reported;
     barren = λ c j low high k. ⊎_elim
         (λ (lt : c < cycle). at.barren c j low lt k)
         (λ (ge : cycle ≤ c). let same : c ≡ cycle = omega arith in none j (subst (λ (n : ℕ). IsCandidate (IsWalked m) g slots n j) same k))
@@ -54,10 +54,10 @@ module _ (m : Machine) (g : Graph) (slots : List Slot) (cycle : ℕ) (states : L
     greedy_next : Greedy (IsWalked m) g (slots ++ one ∷ [])
     greedy_next = greedy-push (IsWalked m) g slots one at.greedy follows
 
-    told_next : (x : Slot) → Contains (slots ++ one ∷ []) x → issued_at (slots ++ one ∷ []) x.place ≡ Some x.cycle
-    told_next x h = ap (λ (f : ℕ → Option ℕ). f x.place) (issued-push slots one unissued) ∙ ⊎_elim
+    reported_next : (x : Slot) → Contains (slots ++ one ∷ []) x → issued_at (slots ++ one ∷ []) x.place ≡ Some x.cycle
+    reported_next x h = ap (λ (f : ℕ → Option ℕ). f x.place) (issued-push slots one unissued) ∙ ⊎_elim
         (λ (there : Contains slots x).
-        let was = at.told x there in
+        let was = at.reported x there in
         other_issued (issued_at slots) j cycle x.place (λ (e : x.place ≡ j). let none = ap (issued_at slots) e ∙ unissued in absurd (cc)) ∙ was)
         (λ (last : Contains (one ∷ []) x). ⊎_elim
         (λ (e : one ≡ x). subst (λ (y : Slot). and_issued (issued_at slots) j cycle y.place ≡ Some y.cycle) e (same_issued (issued_at slots) j cycle))
@@ -75,7 +75,7 @@ module _ (m : Machine) (g : Graph) (slots : List Slot) (cycle : ℕ) (states : L
               (no_advance m (spell g (slots ++ one ∷ [])) ∙ (ap (machine_walk m) (spelled-push g 0 slots one) ∙ (issue_walk j ∙ step)));
           rising = rising-push slots one at.rising at.reached;
           greedy = greedy_next;
-          told = told_next;
+          reported = reported_next;
           barren = λ c i low high k. absurd (omega (arith, now));
         }
 
@@ -104,6 +104,6 @@ at_start m g h = record {
   walked = no_advance m [] ∙ h;
   rising = λ i j d lt inside. absurd (omega (arith, inside));
   greedy = λ before after x e. absurd (no_front before after x e);
-  told = λ x h. absurd (Contains-nil x h);
+  reported = λ x h. absurd (Contains-nil x h);
   barren = λ c j low high k. absurd (omega arith);
 }

@@ -109,4 +109,4 @@ module _ (g : Graph) (slots : List Slot) (cycle j : ℕ) where
       (x, held, place, omega (arith, le, at))
 
   pub ready_back : ((x : Slot) → Contains slots x → issued_at slots x.place ≡ Some x.cycle) → IsReady g slots cycle j → (missing (issued_at slots) j g.edges ≡ 0) × (ripe (issued_at slots) j g.edges ≤ cycle)
-  ready_back told ready = all_waited (issued_at slots) cycle j g.edges (λ e there to. let (x, held, place, le) = ready e there to in (x.cycle, ap (issued_at slots) (sym place) ∙ told x held, le))
+  ready_back reported ready = all_waited (issued_at slots) cycle j g.edges (λ e there to. let (x, held, place, le) = ready e there to in (x.cycle, ap (issued_at slots) (sym place) ∙ reported x held, le))

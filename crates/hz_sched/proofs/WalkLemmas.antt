@@ -1,4 +1,4 @@
--- What a machine walks behind the trace of slots.
+-- What a machine walks after the trace of slots.
 use Rattle.std.proofs.Common.{◌≡◌, ℕ, ◌+◌, ◌-◌, ◌≤◌, Bool, true, false, cond, List, [], ◌∷◌, ◌++◌, replicate, Option, Some, None, refl, sym, ap, ◌∙◌, append_assoc, arith}
 use Rattle.std.specs.Prelude.{nat_lt, IsSome, option_and_then}
 use Rattle.std.proofs.lemmas.Bool.{ltb-false}
@@ -15,8 +15,8 @@ use Rattle.hz_block_model.specs.Scheduling.Schedules.{advance_to}
 abbrev pub SameWords : List Event → List Event → Type 0
 SameWords s t = (part : Part) → word_of part s ≡ word_of part t
 
-behind : (t s u : List Event) → SameWords s u → SameWords (t ++ s) (t ++ u)
-behind t s u same part = word_of-append part t s ∙ (ap (λ (w : List ℕ). word_of part t ++ w) (same part) ∙ sym (word_of-append part t u))
+beyond : (t s u : List Event) → SameWords s u → SameWords (t ++ s) (t ++ u)
+beyond t s u same part = word_of-append part t s ∙ (ap (λ (w : List ℕ). word_of part t ++ w) (same part) ∙ sym (word_of-append part t u))
 
 pub adds : (n k : ℕ) (u : List Event) → SameWords (advance n ∷ advance k ∷ u) (advance (n + k) ∷ u)
 adds n k u part =
@@ -56,19 +56,19 @@ module _ (m : Machine) where
       go (Some next) e = refl
 
   module _ (t : List Event) (n : ℕ) (states : List ℕ) (walked : machine_walk m (t ++ advance n ∷ []) ≡ Some states) where
-    -- more events behind an advance
-    pub walk_behind : (u : List Event) → machine_walk m (t ++ advance n ∷ u) ≡ parts_walk m.parts states u
-    walk_behind u = ap (machine_walk m) (sym (append_assoc t (advance n ∷ []) u)) ∙ walk_on (t ++ advance n ∷ []) u states walked
+    -- more events after an advance
+    pub walk_after : (u : List Event) → machine_walk m (t ++ advance n ∷ u) ≡ parts_walk m.parts states u
+    walk_after u = ap (machine_walk m) (sym (append_assoc t (advance n ∷ []) u)) ∙ walk_on (t ++ advance n ∷ []) u states walked
 
     pub one_more : (next : List ℕ) → parts_walk m.parts states (advance 1 ∷ []) ≡ Some next → machine_walk m (t ++ advance (n + 1) ∷ []) ≡ Some next
-    one_more next step = sym (walk_same (t ++ advance n ∷ advance 1 ∷ []) (t ++ advance (n + 1) ∷ []) (behind t (advance n ∷ advance 1 ∷ []) (advance (n + 1) ∷ []) (adds n 1 []))) ∙ (walk_behind (advance 1 ∷ []) ∙ step)
+    one_more next step = sym (walk_same (t ++ advance n ∷ advance 1 ∷ []) (t ++ advance (n + 1) ∷ []) (beyond t (advance n ∷ advance 1 ∷ []) (advance (n + 1) ∷ []) (adds n 1 []))) ∙ (walk_after (advance 1 ∷ []) ∙ step)
 
-  -- the advance to a cycle, and events behind it
+  -- the advance to a cycle, and events after it
   pub walk_to : (t u : List Event) (cycle later : ℕ) → cycle ≤ later → machine_walk m (t ++ (advance_to cycle later ++ u)) ≡ machine_walk m (t ++ advance (later - cycle) ∷ u)
-  walk_to t u cycle later le = walk_same (t ++ (advance_to cycle later ++ u)) (t ++ advance (later - cycle) ∷ u) (behind t (advance_to cycle later ++ u) (advance (later - cycle) ∷ u) (advances cycle later u le))
+  walk_to t u cycle later le = walk_same (t ++ (advance_to cycle later ++ u)) (t ++ advance (later - cycle) ∷ u) (beyond t (advance_to cycle later ++ u) (advance (later - cycle) ∷ u) (advances cycle later u le))
 
   pub walk_split : (t u : List Event) (n k : ℕ) → machine_walk m (t ++ advance n ∷ advance k ∷ u) ≡ machine_walk m (t ++ advance (n + k) ∷ u)
-  walk_split t u n k = walk_same (t ++ advance n ∷ advance k ∷ u) (t ++ advance (n + k) ∷ u) (behind t (advance n ∷ advance k ∷ u) (advance (n + k) ∷ u) (adds n k u))
+  walk_split t u n k = walk_same (t ++ advance n ∷ advance k ∷ u) (t ++ advance (n + k) ∷ u) (beyond t (advance n ∷ advance k ∷ u) (advance (n + k) ∷ u) (adds n k u))
 
   pub no_advance : (t : List Event) → machine_walk m (t ++ advance 0 ∷ []) ≡ machine_walk m t
   no_advance t = walk_same (t ++ advance 0 ∷ []) t (λ part. word_of-append part t (advance 0 ∷ []) ∙ append-nil (word_of part t))

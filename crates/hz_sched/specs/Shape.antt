@@ -26,16 +26,16 @@ slot_of x = record { place = x.place; cycle = x.cycle }
 abbrev pub slots_of : List Slot → List model.Slot
 slots_of slots = map slot_of slots
 
--- the place that is told, where an instruction can't be issued alone
+-- the place that is reported, where an instruction can't be issued alone
 abbrev pub alone_in : Result Schedule SchedFault → Option ℕ
 alone_in (Ok schedule) = None
 alone_in (Err (CannotStartAlone place)) = Some place
 alone_in (Err NoMemory) = None
 
--- the word by which a fault is told, and the place of its instruction; want of memory is none
-abbrev pub told_of : SchedFault → Option (List ℕ × ℕ)
-told_of (CannotStartAlone place) = Some (stuck_word, place)
-told_of NoMemory = None
+-- the word by which a fault is reported, and the place of its instruction; want of memory is none
+abbrev pub reported_of : SchedFault → Option (List ℕ × ℕ)
+reported_of (CannotStartAlone place) = Some (stuck_word, place)
+reported_of NoMemory = None
 
 -- the line of each event is its place, from 1
 abbrev pub AreNumbered : List Event → Type 0

@@ -7,13 +7,13 @@ use Rattle.hz_block_model.specs.Scheduling.Schedules.{Graph, Slot, class_at, pre
 use Rattle.hz_block_model.specs.Scheduling.Machines.{can_start}
 use Rattle.hz_sched.specs.Waits.{issued_at}
 
--- These slots are greedy, no candidate stands at a cycle behind them and before this one, and the machine is in these states.
+-- These slots are greedy, no candidate stands at a cycle after them and before this one, and the machine is in these states.
 pub record IsAt (m : Machine) (g : Graph) (slots : List Slot) (cycle : ℕ) (states : List ℕ) : Type 0 where
   pub reached : present 0 slots ≤ cycle
   pub walked : machine_walk m (spell g slots ++ advance (cycle - present 0 slots) ∷ []) ≡ Some states
   pub rising : AllPairs (λ x y. x.cycle ≤ y.cycle) slots
   pub greedy : Greedy (IsWalked m) g slots
-  pub told : (x : Slot) → Contains slots x → issued_at slots x.place ≡ Some x.cycle
+  pub reported : (x : Slot) → Contains slots x → issued_at slots x.place ≡ Some x.cycle
   pub barren : (c j : ℕ) → present 0 slots ≤ c → c < cycle → IsCandidate (IsWalked m) g slots c j → ⊥
 
 -- how many places below a number are not issued

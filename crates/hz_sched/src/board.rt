@@ -104,7 +104,7 @@ impl Board {
         self.end_waits(graph, row, place);
         let key = (Reverse(height_at(graph, place)), place);
         self.queue.end(class_at(graph, place), key)?;
-        self.queue.wait_behind(&self.counts, &self.ripes, row)?;
+        self.queue.wait_after(&self.counts, &self.ripes, row)?;
         self.slots.push(Slot { place, cycle })?;
         Ok(())
     }

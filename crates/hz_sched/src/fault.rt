@@ -1,8 +1,8 @@
 //! Why a block is not scheduled.
 
 ghost use Rattle.std.specs.Prelude.{◌≡◌};
-ghost use Rattle.hz_base_model.specs.Told.{told_in};
-ghost use Rattle.hz_sched.specs.Shape.{told_of};
+ghost use Rattle.hz_base_model.specs.Reported.{reported_in};
+ghost use Rattle.hz_sched.specs.Shape.{reported_of};
 
 use thiserror::Error;
 
@@ -18,9 +18,9 @@ pub enum SchedFault {
 }
 
 impl SchedFault {
-    /// The word by which the fault is told, and the place of its instruction; None for want of memory. docs/FORMATS.md, 'Answers'.
-    pub fn told(&self) -> Option<(&'static str, u32)>
-        ensures { told_in result ≡ told_of self.now }
+    /// The word by which the fault is reported, and the place of its instruction; None for want of memory. docs/FORMATS.md, 'Answers'.
+    pub fn reported(&self) -> Option<(&'static str, u32)>
+        ensures { reported_in result ≡ reported_of self.now }
     {
         match self {
             SchedFault::CannotStartAlone { place } => Some(("CannotStartAlone", *place)),

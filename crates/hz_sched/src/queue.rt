@@ -248,7 +248,7 @@ impl Queue {
     }
 
     /// An instruction is issued from which these edges lead: those to which they lead wait for their cycles, if their counts are 0.
-    pub fn wait_behind(
+    pub fn wait_after(
         &mut self,
         counts: &[usize],
         ripes: &[u32],

@@ -42,12 +42,12 @@ part_escape line last b text rest given e f h =
 pub no_escape : (b : ℕ) → (b ≡ 10 → ⊥) → (b ≡ 34 → ⊥) → (b ≡ 92 → ⊥) → escaped b ≡ None
 no_escape b feed quote backslash = rw (ne_eqb b 10 feed, ne_eqb b 34 quote, ne_eqb b 92 backslash) refl
 
--- what is told of a fault may be said in weaker words
+-- what is reported of a fault may be said in weaker words
 pub tells_weaker : {P Q : FormFault → ℕ → Type 0} → ((fault : FormFault) (line : ℕ) → P fault line → Q fault line) → (e : SexpFault) → Tells P e → Tells Q e
 tells_weaker {P} {Q} weaker e h = go (fault_of e) h
   where
-    go : (fault : Option (FormFault × ℕ)) → MatchOption fault ⊤ (λ told. P told.0 told.1) → MatchOption fault ⊤ (λ told. Q told.0 told.1)
-    go (Some told) h = weaker _ _ h
+    go : (fault : Option (FormFault × ℕ)) → MatchOption fault ⊤ (λ reported. P reported.0 reported.1) → MatchOption fault ⊤ (λ reported. Q reported.0 reported.1)
+    go (Some reported) h = weaker _ _ h
     go None h = h
 
 -- what is wrong in a string after a part of it is wrong in it

@@ -26,7 +26,7 @@ pub trees-push : (forms : List Form) (form : Form) → trees (forms ++ form ∷ 
 trees-push [] form = refl
 trees-push (first ∷ others) form = ap (λ (ts : Trees). Trees.more (tree first) ts) (trees-push others form)
 
--- a form without brackets goes behind the others
+-- a form without brackets goes past the others
 pub takes_form : (old new : Reader) (form : Form) → new.open.items ≡ old.open.items → new.forms.items ≡ old.forms.items ++ form ∷ [] → spelled_tree (tree form) ≡ leaf (tree form) ∷ []
     → Takes old (leaf (tree form)) new
 takes_form old new form o f e = record {
@@ -34,7 +34,7 @@ takes_form old new form o f e = record {
   opened = rw o refl;
 }
 
--- a closing bracket makes a form of the forms behind its partner
+-- a closing bracket makes a form of the forms after its partner
 pub takes_close : (old new : Reader) (outer : List code.Frame) (inner : code.Frame) (form : Form) → old.open.items ≡ outer ++ inner ∷ [] → new.open.items ≡ outer
     → new.forms.items ≡ inner.before.items ++ form ∷ [] → tree form ≡ enclosed_by (bracket_of inner.bracket) inner.line (trees old.forms.items) → Takes old (closes (bracket_of inner.bracket)) new
 takes_close old new outer inner form o n f t = record {
@@ -69,13 +69,13 @@ close_wrong opened (Step.closing e) h = Faulty.stray_bracket e h
 -- a token that is refused is what is wrong at its place
 pub refused_wrong : {text rest : List ℕ} {line last : ℕ} (reader : Reader) (token : code_token.Token) → Step line text (token_of line token ∷ []) last rest → (e : SexpFault)
     → Tells (IsRefused reader token line) e → Tells (Faulty (opened_in reader) line text) e
-refused_wrong {text} {rest} {line} {last} reader token step e h = tells_weaker {P = IsRefused reader token line} {Q = Faulty (opened_in reader) line text} (λ fault place told. go token step fault place told) e h
+refused_wrong {text} {rest} {line} {last} reader token step e h = tells_weaker {P = IsRefused reader token line} {Q = Faulty (opened_in reader) line text} (λ fault place reported. go token step fault place reported) e h
   where
     go : (t : code_token.Token) → Step line text (token_of line t ∷ []) last rest → (fault : FormFault) (place : ℕ) → IsRefused reader t line fault place → Faulty (opened_in reader) line text fault place
-    go (Open bracket) s fault place told = rw (told.0, told.1) (open_wrong (opened_in reader) s told.2)
-    go (Close bracket) s fault place told = rw (told.0, told.1) (close_wrong (opened_in reader) s told.2)
-    go (Leaf form) s fault place told = absurd told
+    go (Open bracket) s fault place reported = rw (reported.0, reported.1) (open_wrong (opened_in reader) s reported.2)
+    go (Close bracket) s fault place reported = rw (reported.0, reported.1) (close_wrong (opened_in reader) s reported.2)
+    go (Leaf form) s fault place reported = absurd reported
 
 -- a bracket that is open at the end is what is wrong there
 pub open_at_end : (reader : Reader) (line : ℕ) (e : SexpFault) → Tells (IsOpen reader) e → Tells (Faulty (opened_in reader) line []) e
-open_at_end reader line e h = tells_weaker {P = IsOpen reader} {Q = Faulty (opened_in reader) line []} (λ fault place told. rw (told.0, told.4) (Faulty.open_bracket told.3)) e h
+open_at_end reader line e h = tells_weaker {P = IsOpen reader} {Q = Faulty (opened_in reader) line []} (λ fault place reported. rw (reported.0, reported.4) (Faulty.open_bracket reported.3)) e h

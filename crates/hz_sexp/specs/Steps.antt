@@ -32,14 +32,14 @@ IsWrong line text fault place = (opened : List OpenBracket) → Faulty opened li
 abbrev pub IsStep : Place → List Token → Place → Type 0
 IsStep from tokens to = Step from.line from.rest.now tokens to.line to.rest.now
 
--- a string's bytes, from behind its first quote, and the place behind its end quote
+-- a string's bytes, from after its first quote, and the place after its end quote
 abbrev pub IsString : Place → List ℕ × Place → Type 0
 IsString from found = Inside from.line from.rest.now found.0 found.1.line (34 ∷ found.1.rest.now)
 
--- the byte at a place and the place behind it
+-- the byte at a place and the place after it
 abbrev pub IsFirst : Place → ℕ × Place → Type 0
 IsFirst from found = (from.rest.now ≡ found.0 ∷ found.1.rest.now) × (found.1.line ≡ line_after found.0 from.line)
 
--- the place behind the end of a comment that is open
+-- the place after the end of a comment that is open
 abbrev pub IsCommentEnd : Place → Place → Type 0
 IsCommentEnd from end = Comment from.line from.rest.now end.line (42 ∷ 47 ∷ end.rest.now)

@@ -2,7 +2,7 @@
 
 ghost use Rattle.std.specs.Prelude.{◌≡◌};
 ghost use Rattle.hz_base_model.specs.Forms.Forms.{form_word};
-ghost use Rattle.hz_base_model.specs.Told.{told_by, told_in};
+ghost use Rattle.hz_base_model.specs.Reported.{reported_by, reported_in};
 ghost use Rattle.hz_sexp.specs.Faults.{fault_of};
 ghost use Rattle.hz_sexp.specs.declared.fault.SexpFault.TheVariants.{NoMemory as no_memory};
 
@@ -36,9 +36,9 @@ pub enum SexpFault {
 }
 
 impl SexpFault {
-    /// The word by which the fault is told, and its line; None for want of memory. docs/FORMATS.md, 'Answers'.
-    pub fn told(&self) -> Option<(&'static str, u32)>
-        ensures { told_in result ≡ told_by form_word (fault_of self.now) }
+    /// The word by which the fault is reported, and its line; None for want of memory. docs/FORMATS.md, 'Answers'.
+    pub fn reported(&self) -> Option<(&'static str, u32)>
+        ensures { reported_in result ≡ reported_by form_word (fault_of self.now) }
     {
         match self {
             SexpFault::Unclosed { line } => Some(("Unclosed", *line)),

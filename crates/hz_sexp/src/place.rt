@@ -76,7 +76,7 @@ impl<'a> Place<'a> {
         place
     }
 
-    /// The place behind the `*/` that ends a comment which is open here, if there is one.
+    /// The place after the `*/` that ends a comment which is open here, if there is one.
     pub fn end_of_comment(self) -> Option<Place<'a>>
         ensures found { IfSome result (IsCommentEnd self.entry) }
         ensures none { IfNone result ((last : ℕ) × Comment self.entry.line self.entry.rest.now last []) }

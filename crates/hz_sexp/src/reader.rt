@@ -27,7 +27,7 @@ pub struct Frame {
     pub before: Vec<Form>,
 }
 
-/// The brackets that are open, and the forms that stand behind the innermost.
+/// The brackets that are open, and the forms that come after the innermost.
 #[derive(Drop)]
 pub struct Reader {
     pub open: Vec<Frame>,
@@ -133,7 +133,7 @@ fn enclosed(bracket: Bracket, line: u32, forms: Vec<Form>) -> Form
 
 /// The forms of a text of fewer than 2^32 bytes: lists, vectors, strings, atoms and numbers, with
 /// white space and comments between them. Where something is wrong, the first such place from the
-/// left decides which fault is told.
+/// left decides which fault is reported.
 pub fn read_forms(alloc: Global, bytes: &[u8]) -> Result<Vec<Form>, SexpFault>
     requires { length bytes.now < 2 ^ 32 }
     ensures forms { IfOk result (λ forms. Reads bytes.now (trees forms.items)) }

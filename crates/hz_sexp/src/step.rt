@@ -23,7 +23,7 @@ pub enum Token {
     Leaf(Form),
 }
 
-/// The place behind the comment that begins here.
+/// The place after the comment that begins here.
 fn comment<'a>(place: Place<'a>) -> Result<Place<'a>, SexpFault>
     requires { IsTrue (model.begins_comment place.rest.now) }
     ensures ok { IfOk result (λ after. IsStep place.entry [] after) }
@@ -37,7 +37,7 @@ fn comment<'a>(place: Place<'a>) -> Result<Place<'a>, SexpFault>
     }
 }
 
-/// The number or atom that begins here, and the place behind it.
+/// The number or atom that begins here, and the place after it.
 fn word<'a>(alloc: Global, place: Place<'a>) -> Result<(Form, Place<'a>), SexpFault>
     requires { IsTrue (model.goes_on place.rest.now) }
     ensures ok { IfOk result (λ found. IsStep place.entry (model.leaf (tree found.0) ∷ []) found.1) }
@@ -60,8 +60,8 @@ fn word<'a>(alloc: Global, place: Place<'a>) -> Result<(Form, Place<'a>), SexpFa
     }
 }
 
-/// The token that begins with the byte `b` at this place, if one does, and the place behind it.
-/// `next` is the place behind the byte.
+/// The token that begins with the byte `b` at this place, if one does, and the place after it.
+/// `next` is the place after the byte.
 pub fn next_step<'a>(
     alloc: Global,
     place: Place<'a>,

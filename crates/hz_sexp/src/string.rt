@@ -57,7 +57,7 @@ fn next_part<'a>(place: Place<'a>, start: u32) -> Result<Part<'a>, SexpFault>
     }
 }
 
-/// The bytes of a string that began at the line `start`, and the place behind its end quote.
+/// The bytes of a string that began at the line `start`, and the place after its end quote.
 pub fn quoted<'a>(
     alloc: Global,
     place: Place<'a>,

@@ -13,13 +13,13 @@ use Rattle.hz_tabfile.specs.declared.reading.wrong.Wrong.{Wrong}
 use Rattle.hz_tabfile.specs.Cutting.{fields_in}
 use Rattle.hz_tabfile.specs.Judged.{Refuses}
 use Rattle.hz_tabfile.specs.Lines.{new_name_in}
-use Rattle.hz_tabfile.proofs.Each.{behind, regroup, refused_first, refused_same}
+use Rattle.hz_tabfile.proofs.Each.{beyond, regroup, refused_first, refused_same}
 
--- what is judged of the names behind one that is new
+-- what is judged of the names after one that is new
 abbrev others_of : (before names : List (List ℕ)) → List ℕ → Result (List (List ℕ)) Kind
 others_of before names name = asks_of (before ++ name ∷ []) names >>= λ others. Ok (name ∷ others)
 
--- a name is judged first, and then those behind it
+-- a name is judged first, and then those after it
 first_name : (before : List (List ℕ)) (name : List ℕ) (names : List (List ℕ)) → asks_of before (name ∷ names) ≡ (new_name_in before name >>= others_of before names)
 unfolding asks_of
 first_name before name names = by_test (is_name name && is_new before name)
@@ -29,24 +29,24 @@ first_name before name names = by_test (is_name name && is_new before name)
     by_test false = refl
 
 -- the loop over fields, which keeps the names that are found so far
-module _ (before front : List (List ℕ)) (rest : Option (Bor (List ℕ))) (total : Result (List (List ℕ)) Kind) (so_far : behind front (asks_of before (fields_in rest)) ≡ total) where
+module _ (before front : List (List ℕ)) (rest : Option (Bor (List ℕ))) (total : Result (List (List ℕ)) Kind) (so_far : beyond front (asks_of before (fields_in rest)) ≡ total) where
   module _ (text : Bor (List ℕ)) (field : List ℕ) (fields : List (List ℕ)) (is : rest ≡ Some text) (cut : fields_in (Some text) ≡ field ∷ fields) where
-    at_name : behind front (new_name_in before field >>= others_of before fields) ≡ total
-    at_name = ap (behind front) (sym (first_name before field fields)) ∙ (sym (ap (λ fs. behind front (asks_of before fs)) (ap fields_in is ∙ cut)) ∙ so_far)
+    at_name : beyond front (new_name_in before field >>= others_of before fields) ≡ total
+    at_name = ap (beyond front) (sym (first_name before field fields)) ∙ (sym (ap (λ fs. beyond front (asks_of before fs)) (ap fields_in is ∙ cut)) ∙ so_far)
 
-    pub names_go : (name : List ℕ) → new_name_in before field ≡ Ok name → behind (front ++ name ∷ []) (asks_of (before ++ name ∷ []) fields) ≡ total
+    pub names_go : (name : List ℕ) → new_name_in before field ≡ Ok name → beyond (front ++ name ∷ []) (asks_of (before ++ name ∷ []) fields) ≡ total
     names_go name h =
-        let one : behind front (new_name_in before field >>= others_of before fields) ≡ behind front (others_of before fields name) = ap (λ (r : Result (List ℕ) Kind). behind front (r >>= others_of before fields)) h in
+        let one : beyond front (new_name_in before field >>= others_of before fields) ≡ beyond front (others_of before fields name) = ap (λ (r : Result (List ℕ) Kind). beyond front (r >>= others_of before fields)) h in
         sym (regroup (λ n. new_name_in before n) front name (asks_of (before ++ name ∷ []) fields)) ∙ (sym one ∙ at_name)
 
     pub names_stop : (wrong : Wrong) → Refuses wrong (new_name_in before field) → Refuses wrong total
     names_stop wrong h =
-        refused_same wrong (behind front (new_name_in before field >>= others_of before fields)) total at_name
+        refused_same wrong (beyond front (new_name_in before field >>= others_of before fields)) total at_name
         (refused_first wrong (new_name_in before field >>= others_of before fields) (λ ys. Ok (front ++ ys)) (refused_first wrong (new_name_in before field) (others_of before fields) h))
 
   pub names_end : rest ≡ None → total ≡ Ok front
   unfolding asks_of
-  names_end is = sym so_far ∙ (ap (λ r. behind front (asks_of before (fields_in r))) is ∙ ap Ok (append-nil front))
+  names_end is = sym so_far ∙ (ap (λ r. beyond front (asks_of before (fields_in r))) is ∙ ap Ok (append-nil front))
 
 -- so many asks, if they are not too many, are not more than units
 pub few_asks : (columns states count : ℕ) → are_asks columns states count ≡ true → count ≤ unit_limit

@@ -22,41 +22,41 @@ refused_first NoMemory r f h = tt
 pub refused_same : {Y : Type 0} (wrong : Wrong) (r s : Result Y Kind) → r ≡ s → Refuses wrong r → Refuses wrong s
 refused_same wrong r s e h = subst (Refuses wrong) e h
 
--- what is found behind a front
-abbrev pub behind : {Y : Type 0} → List Y → Result (List Y) Kind → Result (List Y) Kind
-behind front found = found >>= λ ys. Ok (front ++ ys)
+-- what is found after a front
+abbrev pub beyond : {Y : Type 0} → List Y → Result (List Y) Kind → Result (List Y) Kind
+beyond front found = found >>= λ ys. Ok (front ++ ys)
 
 module _ {Y : Type 0} (judge : List ℕ → Result Y Kind) where
-  pub regroup : (front : List Y) (y : Y) (found : Result (List Y) Kind) → behind front (found >>= λ ys. Ok (y ∷ ys)) ≡ behind (front ++ y ∷ []) found
+  pub regroup : (front : List Y) (y : Y) (found : Result (List Y) Kind) → beyond front (found >>= λ ys. Ok (y ∷ ys)) ≡ beyond (front ++ y ∷ []) found
   regroup front y (Ok ys) = ap Ok (sym (append_assoc front (y ∷ []) ys))
   regroup front y (Err kind) = refl
 
-  one_goes : (front : List Y) (x : List ℕ) (xs : List (List ℕ)) (y : Y) → judge x ≡ Ok y → behind front (each_by judge (x ∷ xs)) ≡ behind (front ++ y ∷ []) (each_by judge xs)
+  one_goes : (front : List Y) (x : List ℕ) (xs : List (List ℕ)) (y : Y) → judge x ≡ Ok y → beyond front (each_by judge (x ∷ xs)) ≡ beyond (front ++ y ∷ []) (each_by judge xs)
   unfolding each_by
   one_goes front x xs y h = rw h (regroup front y (each_by judge xs))
 
-  one_stops : (wrong : Wrong) (front : List Y) (x : List ℕ) (xs : List (List ℕ)) → Refuses wrong (judge x) → Refuses wrong (behind front (each_by judge (x ∷ xs)))
+  one_stops : (wrong : Wrong) (front : List Y) (x : List ℕ) (xs : List (List ℕ)) → Refuses wrong (judge x) → Refuses wrong (beyond front (each_by judge (x ∷ xs)))
   unfolding each_by
   one_stops wrong front x xs h =
       refused_first wrong (judge x >>= λ y. each_by judge xs >>= λ ys. Ok (y ∷ ys)) (λ ys. Ok (front ++ ys)) (refused_first wrong (judge x) (λ y. each_by judge xs >>= λ ys. Ok (y ∷ ys)) h)
 
   -- the loop over fields, which keeps what is found so far
-  module _ (front : List Y) (rest : Option (Bor (List ℕ))) (total : Result (List Y) Kind) (so_far : behind front (each_by judge (fields_in rest)) ≡ total) where
+  module _ (front : List Y) (rest : Option (Bor (List ℕ))) (total : Result (List Y) Kind) (so_far : beyond front (each_by judge (fields_in rest)) ≡ total) where
     module _ (text : Bor (List ℕ)) (field : List ℕ) (fields : List (List ℕ)) (is : rest ≡ Some text) (cut : fields_in (Some text) ≡ field ∷ fields) where
-      at_field : behind front (each_by judge (field ∷ fields)) ≡ total
-      at_field = sym (ap (λ fs. behind front (each_by judge fs)) (ap fields_in is ∙ cut)) ∙ so_far
+      at_field : beyond front (each_by judge (field ∷ fields)) ≡ total
+      at_field = sym (ap (λ fs. beyond front (each_by judge fs)) (ap fields_in is ∙ cut)) ∙ so_far
 
-      pub each_goes : (y : Y) → judge field ≡ Ok y → behind (front ++ y ∷ []) (each_by judge fields) ≡ total
+      pub each_goes : (y : Y) → judge field ≡ Ok y → beyond (front ++ y ∷ []) (each_by judge fields) ≡ total
       each_goes y h = sym (one_goes front field fields y h) ∙ at_field
 
       pub each_stops : (wrong : Wrong) → Refuses wrong (judge field) → Refuses wrong total
-      each_stops wrong h = refused_same wrong (behind front (each_by judge (field ∷ fields))) total at_field (one_stops wrong front field fields h)
+      each_stops wrong h = refused_same wrong (beyond front (each_by judge (field ∷ fields))) total at_field (one_stops wrong front field fields h)
 
     pub each_ends : rest ≡ None → total ≡ Ok front
     unfolding each_by
-    each_ends is = sym so_far ∙ (ap (λ r. behind front (each_by judge (fields_in r))) is ∙ ap Ok (append-nil front))
+    each_ends is = sym so_far ∙ (ap (λ r. beyond front (each_by judge (fields_in r))) is ∙ ap Ok (append-nil front))
 
-  pub each_starts : (found : Result (List Y) Kind) → behind [] found ≡ found
+  pub each_starts : (found : Result (List Y) Kind) → beyond [] found ≡ found
   each_starts (Ok ys) = refl
   each_starts (Err kind) = refl
 
@@ -72,35 +72,35 @@ unfolding each_by
 no_column states number fields = bind_same (each_by (advance_in states) fields)
 
 two_parts : {Y : Type 0} (front : List Y) (y : Y) (first second : Result (List Y) Kind)
-    → behind front ((first >>= λ ys. Ok (y ∷ ys)) >>= λ asked. second >>= λ advance. Ok (asked ++ advance)) ≡ behind (front ++ y ∷ []) (first >>= λ asked. second >>= λ advance. Ok (asked ++ advance))
+    → beyond front ((first >>= λ ys. Ok (y ∷ ys)) >>= λ asked. second >>= λ advance. Ok (asked ++ advance)) ≡ beyond (front ++ y ∷ []) (first >>= λ asked. second >>= λ advance. Ok (asked ++ advance))
 two_parts front y (Ok xs) (Ok ys) = ap Ok (sym (append_assoc front (y ∷ []) (xs ++ ys)))
 two_parts front y (Ok xs) (Err kind) = refl
 two_parts front y (Err kind) second = refl
 
 three_parts : {Y : Type 0} (front : List Y) (y : Y) (first second third : Result (List Y) Kind)
-    → behind front ((first >>= λ ys. Ok (y ∷ ys)) >>= λ classes. second >>= λ asked. third >>= λ advance. Ok (classes ++ (asked ++ advance))) ≡ behind (front ++ y ∷ []) (first >>= λ classes. second >>= λ asked. third >>= λ advance. Ok (classes ++ (asked ++ advance)))
+    → beyond front ((first >>= λ ys. Ok (y ∷ ys)) >>= λ classes. second >>= λ asked. third >>= λ advance. Ok (classes ++ (asked ++ advance))) ≡ beyond (front ++ y ∷ []) (first >>= λ classes. second >>= λ asked. third >>= λ advance. Ok (classes ++ (asked ++ advance)))
 three_parts front y (Ok xs) (Ok ys) (Ok zs) = ap Ok (sym (append_assoc front (y ∷ []) (xs ++ (ys ++ zs))))
 three_parts front y (Ok xs) (Ok ys) (Err kind) = refl
 three_parts front y (Ok xs) (Err kind) third = refl
 three_parts front y (Err kind) second third = refl
 
 module _ (states number : ℕ) where
-  column_goes : (k asks : ℕ) (front : List (Option ℕ)) (x : List ℕ) (xs : List (List ℕ)) (y : Option ℕ) → entry_in states x ≡ Ok y → behind front (entries_of (suc k) asks states number (x ∷ xs)) ≡ behind (front ++ y ∷ []) (entries_of k asks states number xs)
+  column_goes : (k asks : ℕ) (front : List (Option ℕ)) (x : List ℕ) (xs : List (List ℕ)) (y : Option ℕ) → entry_in states x ≡ Ok y → beyond front (entries_of (suc k) asks states number (x ∷ xs)) ≡ beyond (front ++ y ∷ []) (entries_of k asks states number xs)
   unfolding each_by
   column_goes k asks front x xs y h = rw h (three_parts front y (each_by (entry_in states) (take k xs)) (each_by (ask_entry_in number) (take asks (drop k xs))) (each_by (advance_in states) (drop asks (drop k xs))))
 
-  ask_goes : (k : ℕ) (front : List (Option ℕ)) (x : List ℕ) (xs : List (List ℕ)) (y : Option ℕ) → ask_entry_in number x ≡ Ok y → behind front (entries_of 0 (suc k) states number (x ∷ xs)) ≡ behind (front ++ y ∷ []) (entries_of 0 k states number xs)
+  ask_goes : (k : ℕ) (front : List (Option ℕ)) (x : List ℕ) (xs : List (List ℕ)) (y : Option ℕ) → ask_entry_in number x ≡ Ok y → beyond front (entries_of 0 (suc k) states number (x ∷ xs)) ≡ beyond (front ++ y ∷ []) (entries_of 0 k states number xs)
   unfolding each_by
   ask_goes k front x xs y h = rw h (two_parts front y (each_by (ask_entry_in number) (take k xs)) (each_by (advance_in states) (drop k xs)))
 
-  column_stops : (wrong : Wrong) (k asks : ℕ) (front : List (Option ℕ)) (x : List ℕ) (xs : List (List ℕ)) → Refuses wrong (entry_in states x) → Refuses wrong (behind front (entries_of (suc k) asks states number (x ∷ xs)))
+  column_stops : (wrong : Wrong) (k asks : ℕ) (front : List (Option ℕ)) (x : List ℕ) (xs : List (List ℕ)) → Refuses wrong (entry_in states x) → Refuses wrong (beyond front (entries_of (suc k) asks states number (x ∷ xs)))
   unfolding each_by
   column_stops wrong k asks front x xs h =
       refused_first wrong (entries_of (suc k) asks states number (x ∷ xs)) (λ ys. Ok (front ++ ys))
       (refused_first wrong (entry_in states x >>= λ y. each_by (entry_in states) (take k xs) >>= λ ys. Ok (y ∷ ys)) (λ classes. each_by (ask_entry_in number) (take asks (drop k xs)) >>= λ asked. each_by (advance_in states) (drop asks (drop k xs)) >>= λ advance. Ok (classes ++ (asked ++ advance)))
       (refused_first wrong (entry_in states x) (λ y. each_by (entry_in states) (take k xs) >>= λ ys. Ok (y ∷ ys)) h))
 
-  ask_stops : (wrong : Wrong) (k : ℕ) (front : List (Option ℕ)) (x : List ℕ) (xs : List (List ℕ)) → Refuses wrong (ask_entry_in number x) → Refuses wrong (behind front (entries_of 0 (suc k) states number (x ∷ xs)))
+  ask_stops : (wrong : Wrong) (k : ℕ) (front : List (Option ℕ)) (x : List ℕ) (xs : List (List ℕ)) → Refuses wrong (ask_entry_in number x) → Refuses wrong (beyond front (entries_of 0 (suc k) states number (x ∷ xs)))
   unfolding each_by
   ask_stops wrong k front x xs h =
       refused_first wrong (entries_of 0 (suc k) states number (x ∷ xs)) (λ ys. Ok (front ++ ys))
@@ -111,12 +111,12 @@ module _ (states number : ℕ) where
   abbrev cell_by : (b d : Bool) → List ℕ → Result (Option ℕ) Kind
   cell_by b d x = if b then entry_in states x else (if d then ask_entry_in number x else advance_in states x)
 
-  -- the entries that are left behind so many
-  abbrev pub left_behind : (columns asks place : ℕ) → List (List ℕ) → Result (List (Option ℕ)) Kind
-  left_behind columns asks place fields = entries_of (columns - place) (asks - (place - columns)) states number fields
+  -- the entries that are left after so many
+  abbrev pub left_after : (columns asks place : ℕ) → List (List ℕ) → Result (List (Option ℕ)) Kind
+  left_after columns asks place fields = entries_of (columns - place) (asks - (place - columns)) states number fields
 
   cell_goes : (columns asks : ℕ) (front : List (Option ℕ)) (x : List ℕ) (xs : List (List ℕ)) (y : Option ℕ) (b d : Bool) → nat_lt (length front) columns ≡ b → nat_lt (length front) (columns + asks) ≡ d → cell_by b d x ≡ Ok y
-      → behind front (left_behind columns asks (length front) (x ∷ xs)) ≡ behind (front ++ y ∷ []) (left_behind columns asks (length (front ++ y ∷ [])) xs)
+      → beyond front (left_after columns asks (length front) (x ∷ xs)) ≡ beyond (front ++ y ∷ []) (left_after columns asks (length (front ++ y ∷ [])) xs)
   cell_goes columns asks front x xs y true d is is_too h =
       let near = ltb-true (length front) columns is in
       let here : columns - length front ≡ suc (columns - length (front ++ y ∷ [])) = omega (arith, near, length-append front (y ∷ [])) in
@@ -140,7 +140,7 @@ module _ (states number : ℕ) where
       rw (none, none_too, no_ask, no_ask_too, no_column states number, no_column states number) (one_goes (advance_in states) front x xs y h)
 
   cell_stops : (wrong : Wrong) (columns asks : ℕ) (front : List (Option ℕ)) (x : List ℕ) (xs : List (List ℕ)) (b d : Bool) → nat_lt (length front) columns ≡ b → nat_lt (length front) (columns + asks) ≡ d → Refuses wrong (cell_by b d x)
-      → Refuses wrong (behind front (left_behind columns asks (length front) (x ∷ xs)))
+      → Refuses wrong (beyond front (left_after columns asks (length front) (x ∷ xs)))
   cell_stops wrong columns asks front x xs true d is is_too h =
       let near = ltb-true (length front) columns is in
       let here : columns - length front ≡ suc (columns - (length front + 1)) = omega (arith, near) in
@@ -158,22 +158,22 @@ module _ (states number : ℕ) where
       let no_ask : asks - (length front - columns) ≡ 0 = omega (arith, far, past) in
       rw (none, no_ask, no_column states number) (one_stops (advance_in states) wrong front x xs h)
 
-  module _ (columns asks : ℕ) (front : List (Option ℕ)) (rest : Option (Bor (List ℕ))) (total : Result (List (Option ℕ)) Kind) (so_far : behind front (left_behind columns asks (length front) (fields_in rest)) ≡ total) where
+  module _ (columns asks : ℕ) (front : List (Option ℕ)) (rest : Option (Bor (List ℕ))) (total : Result (List (Option ℕ)) Kind) (so_far : beyond front (left_after columns asks (length front) (fields_in rest)) ≡ total) where
     module _ (text : Bor (List ℕ)) (field : List ℕ) (fields : List (List ℕ)) (is : rest ≡ Some text) (cut : fields_in (Some text) ≡ field ∷ fields) where
-      at_cell : behind front (left_behind columns asks (length front) (field ∷ fields)) ≡ total
-      at_cell = sym (ap (λ fs. behind front (left_behind columns asks (length front) fs)) (ap fields_in is ∙ cut)) ∙ so_far
+      at_cell : beyond front (left_after columns asks (length front) (field ∷ fields)) ≡ total
+      at_cell = sym (ap (λ fs. beyond front (left_after columns asks (length front) fs)) (ap fields_in is ∙ cut)) ∙ so_far
 
-      pub cells_go : (y : Option ℕ) → cell_in columns asks states number (length front) field ≡ Ok y → behind (front ++ y ∷ []) (left_behind columns asks (length (front ++ y ∷ [])) fields) ≡ total
+      pub cells_go : (y : Option ℕ) → cell_in columns asks states number (length front) field ≡ Ok y → beyond (front ++ y ∷ []) (left_after columns asks (length (front ++ y ∷ [])) fields) ≡ total
       cells_go y h = sym (cell_goes columns asks front field fields y (nat_lt (length front) columns) (nat_lt (length front) (columns + asks)) refl refl h) ∙ at_cell
 
       pub cells_stop : (wrong : Wrong) → Refuses wrong (cell_in columns asks states number (length front) field) → Refuses wrong total
-      cells_stop wrong h = refused_same wrong (behind front (left_behind columns asks (length front) (field ∷ fields))) total at_cell (cell_stops wrong columns asks front field fields (nat_lt (length front) columns) (nat_lt (length front) (columns + asks)) refl refl h)
+      cells_stop wrong h = refused_same wrong (beyond front (left_after columns asks (length front) (field ∷ fields))) total at_cell (cell_stops wrong columns asks front field fields (nat_lt (length front) columns) (nat_lt (length front) (columns + asks)) refl refl h)
 
     pub cells_end : rest ≡ None → total ≡ Ok front
     unfolding each_by
-    cells_end is = sym so_far ∙ (ap (λ r. behind front (left_behind columns asks (length front) (fields_in r))) is ∙ (ended (columns - length front) (asks - (length front - columns)) ∙ ap Ok (append-nil front)))
+    cells_end is = sym so_far ∙ (ap (λ r. beyond front (left_after columns asks (length front) (fields_in r))) is ∙ (ended (columns - length front) (asks - (length front - columns)) ∙ ap Ok (append-nil front)))
       where
-        ended : (n k : ℕ) → behind front (entries_of n k states number []) ≡ Ok (front ++ [])
+        ended : (n k : ℕ) → beyond front (entries_of n k states number []) ≡ Ok (front ++ [])
         ended zero zero = refl
         ended zero (suc k) = refl
         ended (suc n) zero = refl

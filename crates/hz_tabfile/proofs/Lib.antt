@@ -2,7 +2,7 @@ pub mod Pieces
 pub mod Numbers
 pub mod Each
 pub mod Asks
-pub mod Told
+pub mod Reported
 pub mod Many
 pub mod Shapes
 pub mod Whole

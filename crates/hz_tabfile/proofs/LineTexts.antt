@@ -1,4 +1,4 @@
--- Lines as they are written: the first word, and each other field behind a space.
+-- Lines as they are written: the first word, and each other field after a space.
 use Rattle.std.proofs.Common.{◌≡◌, ℕ, List, [], ◌∷◌, ◌++◌, map, Option, Result, ap, sym, subst, ◌∙◌}
 use Rattle.std.specs.List.{flat_map, join_with_byte}
 use Rattle.std.proofs.lemmas.List.{append-nil, append_assoc}
@@ -8,7 +8,7 @@ use Rattle.hz_io.specs.Pages.{Added, Stopped, Adds}
 use Rattle.hz_tabfile.specs.Spaced.{spaced}
 use Rattle.hz_io.proofs.Adding.{added_then_stopped, stopped_before, adds_then}
 
--- fields, each behind a space
+-- fields, each after a space
 abbrev pub all_spaced : List (List ℕ) → List ℕ
 all_spaced fields = flat_map spaced fields
 
@@ -16,7 +16,7 @@ by_spaces : (word : List ℕ) (fields : List (List ℕ)) → join_with_byte 32 (
 by_spaces word [] = sym (append-nil word)
 by_spaces word (field ∷ fields) = ap (λ (bytes : List ℕ). word ++ (32 ∷ bytes)) (by_spaces field fields)
 
--- a line is its first word, the other fields behind spaces, and a line feed
+-- a line is its first word, the other fields after spaces, and a line feed
 pub line_spaced : (word : List ℕ) (fields : List (List ℕ)) → line_text (word ∷ fields) ≡ word ++ (all_spaced fields ++ 10 ∷ [])
 unfolding joined
 line_spaced word fields = ap (λ (bytes : List ℕ). bytes ++ 10 ∷ []) (by_spaces word fields) ∙ append_assoc word (all_spaced fields) (10 ∷ [])

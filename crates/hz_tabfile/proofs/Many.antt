@@ -8,18 +8,18 @@ use Rattle.hz_tabtext_model.specs.Reading.{Rest, judged, line_by, so_many, class
 use Rattle.hz_tabfile.specs.declared.reading.fault.TabFault.{TabFault}
 use Rattle.hz_tabfile.specs.Given.{Tells, fault_of}
 use Rattle.hz_tabfile.specs.Texts.{class_read, grids_read}
-use Rattle.hz_tabfile.proofs.Told.{placed}
+use Rattle.hz_tabfile.proofs.Reported.{placed}
 
--- what is told of a first reading is told of both
-pub told_first : {X Y : Type 0} (fault : TabFault) (r : Result X Fault) (f : X → Result Y Fault) → Tells fault r → Tells fault (r >>= f)
-told_first {X} {Y} fault r f h = go (fault_of fault) h
+-- what is reported of a first reading is reported of both
+pub reported_first : {X Y : Type 0} (fault : TabFault) (r : Result X Fault) (f : X → Result Y Fault) → Tells fault r → Tells fault (r >>= f)
+reported_first {X} {Y} fault r f h = go (fault_of fault) h
   where
     go : (found : Option (Kind × ℕ)) → MatchOption found ⊤ (λ at. r ≡ Err (record { kind = at.0; line = at.1 })) → MatchOption found ⊤ (λ at. r >>= f ≡ Err (record { kind = at.0; line = at.1 }))
     go (Some at) h = rw h refl
     go None h = h
 
-pub told_same : {Y : Type 0} (fault : TabFault) (r s : Result Y Fault) → r ≡ s → Tells fault r → Tells fault s
-told_same fault r s e h = subst (Tells fault) e h
+pub reported_same : {Y : Type 0} (fault : TabFault) (r s : Result Y Fault) → r ≡ s → Tells fault r → Tells fault s
+reported_same fault r s e h = subst (Tells fault) e h
 
 -- what was read before, and what is still read
 abbrev pub with_front : {A : Type 0} → List A → Result (List A × Rest) Fault → Result (List A × Rest) Fault
@@ -44,7 +44,7 @@ module _ {S A : Type 0} (next : S → A → S) (read : S → Rest → Result (A 
         let k : count - i ≡ suc (count - (i + 1)) = omega arith in
         let more : A × Rest → Result (List A × Rest) Fault = λ first. so_many next read (count - (i + 1)) (next known first.0) first.1 >>= λ others. Ok (first.0 ∷ others.0, others.1) in
         let is : with_front front (so_many next read (count - i) known rest) ≡ with_front front (read known rest >>= more) = rw k refl in
-        told_same fault (with_front front (read known rest >>= more)) total (sym is ∙ so_far) (told_first fault (read known rest >>= more) (λ x. Ok (front ++ x.0, x.1)) (told_first fault (read known rest) more h))
+        reported_same fault (with_front front (read known rest >>= more)) total (sym is ∙ so_far) (reported_first fault (read known rest >>= more) (λ x. Ok (front ++ x.0, x.1)) (reported_first fault (read known rest) more h))
 
     pub many_ends : count ≤ i → total ≡ Ok (front, rest)
     unfolding so_many
@@ -78,7 +78,7 @@ module _ (names : List (List ℕ)) (count i : ℕ) (rest : Rest) (total : Result
   classes_go next after lt h = sym (ap (λ (r : Result (List (List ℕ) × Rest) Fault). r >>= more) h) ∙ at_class lt
 
   pub classes_stop : (fault : TabFault) → i < count → Tells fault (class_read names rest) → Tells fault total
-  classes_stop fault lt h = told_same fault (class_read names rest >>= more) total (at_class lt) (told_first fault (class_read names rest) more h)
+  classes_stop fault lt h = reported_same fault (class_read names rest >>= more) total (at_class lt) (reported_first fault (class_read names rest) more h)
 
   pub classes_end : count ≤ i → total ≡ Ok (names, rest)
   unfolding classes_at
@@ -108,7 +108,7 @@ module _ (rest : Rest) (total : Result Rest Fault) (so_far : grids_read rest ≡
   grids_go x after h e = sym (ap (λ (r : Result (Nothing × Rest) Fault). r >>= λ x. grids_read x.1) e) ∙ at_grid h
 
   pub grids_stop : (fault : TabFault) → comes (codes "grid") rest ≡ true → Tells fault (line_by grid_in rest) → Tells fault total
-  grids_stop fault h e = told_same fault (line_by grid_in rest >>= λ x. grids_read x.1) total (at_grid h) (told_first fault (line_by grid_in rest) (λ x. grids_read x.1) e)
+  grids_stop fault h e = reported_same fault (line_by grid_in rest >>= λ x. grids_read x.1) total (at_grid h) (reported_first fault (line_by grid_in rest) (λ x. grids_read x.1) e)
 
   no_grid : (number : ℕ) (lines : List (List ℕ)) → comes (codes "grid") (record { number = number; lines = lines }) ≡ false → grids_from number lines ≡ Ok (record { number = number; lines = lines })
   unfolding grids_from

@@ -63,10 +63,10 @@ module _ (stats : Bool) (automata : List CheckedAutomaton) (reports : List AutoR
 pub says_length : (stats : Bool) (automata : List CheckedAutomaton) (reports : List AutoReport) (parts : List kept.Part) → length (parts_says stats automata reports parts) ≡ length parts
 says_length stats automata reports parts = made_length (λ part. part_said stats (automaton_at (map automaton_of automata) part.0).units (report_at (reports_of reports) part.0) part.1) (map part_of parts) ∙ length-map parts part_of
 
-told_some : (P : compiled.Shown → Type 0) (b : Bool) (o : Option compiled.Shown) → MatchBool b (IsSomeAnd o P) (o ≡ None) → IfSome o P
-told_some P b None h = tt
-told_some P true (Some s) h = h
-told_some P false (Some s) h = absurd (cc)
+reported_some : (P : compiled.Shown → Type 0) (b : Bool) (o : Option compiled.Shown) → MatchBool b (IsSomeAnd o P) (o ≡ None) → IfSome o P
+reported_some P b None h = tt
+reported_some P true (Some s) h = h
+reported_some P false (Some s) h = absurd (cc)
 
 -- what can be said has writable parts
 pub are_writable : (all : Compiled) (checked : Checked) → IsSayable all checked → AreWritable checked.automata.items all.reports.items all.machine.parts.items
@@ -79,11 +79,11 @@ are_writable all checked can =
     let long_r = length-map reports report_of in
     let long_p = length-map parts part_of in
     let same = can.parts in
-    let told = can.told in
+    let reported = can.reported in
     let few_classes = all.machine.kept.class_count in
     record {
       each = omega (arith, long_a, long_p, same);
-      told = omega (arith, long_a, long_r, long_p, same, told);
+      reported = omega (arith, long_a, long_r, long_p, same, reported);
       at = λ a low.
           let inside : a < length (map part_of parts) = omega (arith, low, long_p) in
           let automaton : a < length (map automaton_of automata) = omega (arith, inside, same) in
@@ -94,6 +94,6 @@ are_writable all checked can =
             columns = omega (arith, most, few_classes);
             asks = is.asks;
             few_units = checked.kept.units a no_automaton automaton;
-            told = told_some (IsShownOf (automaton_at (map automaton_of automata) a).units (slice_index_or (map part_of parts) a no_part)) (shows_states (options_of all.options)) (report_at (reports_of reports) a).shown (can.shown a automaton);
+            reported = reported_some (IsShownOf (automaton_at (map automaton_of automata) a).units (slice_index_or (map part_of parts) a no_part)) (shows_states (options_of all.options)) (report_at (reports_of reports) a).shown (can.shown a automaton);
           };
     }

@@ -56,7 +56,7 @@ pub count_ends : (n : ℕ) → counted_on n (counted []) ≡ Some n
 unfolding counted
 count_ends n = ap Some (omega arith)
 
--- what stands behind a piece is shorter than the text
+-- what comes after a piece is shorter than the text
 pub left_after : (after : Option (Bor (List ℕ))) (piece text : List ℕ) → IfSome after (λ rest. length piece + 1 + length rest.now ≡ length text) → left after ≤ length text
 left_after None piece text h = omega arith
 left_after (Some rest) piece text h = omega (arith, h)

@@ -3,21 +3,21 @@ use Rattle.std.specs.Prelude.{◌≡◌, ℕ, ⊤, List, Option, Some, None, Mat
 use Rattle.hz_tabtext_model.specs.Judging.{Fault, Kind, bad_header, bad_line, bad_number, out_of_range, truncated, trailing}
 use Rattle.hz_tabtext_model.specs.Reading.{Rest, lines_in}
 use Rattle.hz_tabfile.specs.declared.reading.fault.TabFault.{TabFault}
-use Rattle.hz_tabfile.specs.declared.reading.fault.TabFault.TheVariants as told
+use Rattle.hz_tabfile.specs.declared.reading.fault.TabFault.TheVariants as reported
 use Rattle.hz_tabfile.specs.declared.reading.wrong.Wrong.{Wrong}
 use Rattle.hz_tabfile.specs.declared.reading.wrong.Wrong.TheVariants.{BadLine, BadNumber, OutOfRange, NoMemory}
 
 -- the fault of the definitions and its line; want of memory is none
 abbrev pub fault_of : TabFault → Option (Kind × ℕ)
-fault_of (told.BadHeader line) = Some (bad_header, line)
-fault_of (told.BadLine line) = Some (bad_line, line)
-fault_of (told.BadNumber line) = Some (bad_number, line)
-fault_of (told.OutOfRange line) = Some (out_of_range, line)
-fault_of (told.Truncated line) = Some (truncated, line)
-fault_of (told.Trailing line) = Some (trailing, line)
-fault_of told.NoMemory = None
+fault_of (reported.BadHeader line) = Some (bad_header, line)
+fault_of (reported.BadLine line) = Some (bad_line, line)
+fault_of (reported.BadNumber line) = Some (bad_number, line)
+fault_of (reported.OutOfRange line) = Some (out_of_range, line)
+fault_of (reported.Truncated line) = Some (truncated, line)
+fault_of (reported.Trailing line) = Some (trailing, line)
+fault_of reported.NoMemory = None
 
--- what is told of a text is what is read; want of memory says nothing
+-- what is reported of a text is what is read; want of memory says nothing
 abbrev pub Tells : {Y : Type 0} → TabFault → Result Y Fault → Type 0
 Tells fault read = MatchOption (fault_of fault) ⊤ (λ found. read ≡ Err (record { kind = found.0; line = found.1 }))
 
@@ -28,10 +28,10 @@ Gives view (Err fault) read = Tells fault read
 
 -- what is wrong with the line of this number
 abbrev pub fault_at : ℕ → Wrong → TabFault
-fault_at line BadLine = told.BadLine line
-fault_at line BadNumber = told.BadNumber line
-fault_at line OutOfRange = told.OutOfRange line
-fault_at line NoMemory = told.NoMemory
+fault_at line BadLine = reported.BadLine line
+fault_at line BadNumber = reported.BadNumber line
+fault_at line OutOfRange = reported.OutOfRange line
+fault_at line NoMemory = reported.NoMemory
 
 -- what is left of a text, from the line of this number on
 abbrev pub rest_at : ℕ → List ℕ → Rest

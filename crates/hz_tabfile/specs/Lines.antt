@@ -5,7 +5,7 @@ use Rattle.hz_tabtext_model.specs.Judging.{Kind, bad_line, ◌>>=◌, each_by}
 use Rattle.hz_tabtext_model.specs.Fields.{entry_in, ask_entry_in, advance_in, cycle_in}
 use Rattle.hz_tabtext_model.specs.Lines.{Nothing, class_in, is_new}
 
--- the classes with that of a line behind them
+-- the classes with that of a line after them
 abbrev pub class_onto : List (List ℕ) → List ℕ → Result (List (List ℕ)) Kind
 class_onto before line = class_in before line >>= λ name. Ok (before ++ name ∷ [])
 

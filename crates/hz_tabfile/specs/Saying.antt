@@ -49,10 +49,10 @@ pub record IsWritable (units : List (List ℕ)) (part : Part) (shown : Option co
   pub columns : part.columns ≤ class_limit
   pub asks : length part.asks ≤ unit_limit
   pub few_units : length units ≤ unit_limit
-  pub told : IfSome shown (IsShownOf units part)
+  pub reported : IfSome shown (IsShownOf units part)
 
 -- each of these parts, with the automaton and the report of its place
 pub record AreWritable (automata : List CheckedAutomaton) (reports : List AutoReport) (parts : List kept.Part) : Type 0 where
   pub each : length automata ≡ length parts
-  pub told : length reports ≡ length parts
+  pub reported : length reports ≡ length parts
   pub at : (a : ℕ) → a < length parts → IsWritable (automaton_at (map automaton_of automata) a).units (slice_index_or (map part_of parts) a no_part) (report_at (reports_of reports) a).shown

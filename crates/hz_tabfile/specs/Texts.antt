@@ -5,7 +5,7 @@ use Rattle.hz_tabtext_model.specs.Judging.{Fault, ◌>>=◌}
 use Rattle.hz_tabtext_model.specs.Lines.{class_in}
 use Rattle.hz_tabtext_model.specs.Reading.{Rest, line_by, grids_from}
 
--- the classes with that of the next line behind them
+-- the classes with that of the next line after them
 unfoldable pub class_read : List (List ℕ) → Rest → Result (List (List ℕ) × Rest) Fault
 class_read before rest = line_by (class_in before) rest >>= λ class. Ok (before ++ class.0 ∷ [], class.1)
 

@@ -2,7 +2,7 @@
 
 ghost use Rattle.std.specs.Prelude.{◌-◌, ◌^◌, ◌<◌, All};
 ghost use Rattle.hz_auto.specs.Machines.{reports_of};
-ghost use Rattle.hz_pipeline_model.specs.Single.Told.{ListsAscending};
+ghost use Rattle.hz_pipeline_model.specs.Single.Reported.{ListsAscending};
 ghost use Rattle.hz_io.specs.Sink.{Writes};
 ghost use Rattle.hz_tabtext_model.specs.Texts.{TableText, spelled};
 ghost use Rattle.hz_tables.specs.Machines.{machine_of};
@@ -23,7 +23,7 @@ use parts::add_tables;
 use ranges::is_in_range;
 
 /// The text of a compiled machine stands for it, and the grids that are shown in it are listed in ascending order of their pairs. It
-/// looks at all parts and changes nothing. What is told of each automaton fits its part and its units, and states are shown exactly
+/// looks at all parts and changes nothing. What is reported of each automaton fits its part and its units, and states are shown exactly
 /// beside both `v` and `no-minimization`: the law `compiled_descriptions_are_sayable`.
 pub fn text_stands(compiled: &Compiled, checked: &Checked)
     requires sayable { IsSayable compiled.now checked.now }
@@ -35,7 +35,7 @@ pub fn text_stands(compiled: &Compiled, checked: &Checked)
 
 /// Writes the text of a compiled machine: its classes and its automata, with the counts of each before minimisation under
 /// `stats`, and what each state is beside both `v` and `no-minimization`. It takes no memory. Where the sink fails, a front
-/// of the text was written. What is told fits as `text_stands` asks. docs/FORMATS.md, 'Tables'.
+/// of the text was written. What is reported fits as `text_stands` asks. docs/FORMATS.md, 'Tables'.
 pub fn write_tables<S: Sink>(
     compiled: &Compiled,
     checked: &Checked,

@@ -131,7 +131,7 @@ laid_grown table comb n some is =
     owner place within (inr past) =
         let long = length-append comb.owners (replicate n (length table)) in
         let more = length-replicate n (length table) in
-        let behind = ltb-false place (length comb.owners) past in
+        let beyond = ltb-false place (length comb.owners) past in
         inr (grown_past comb.owners n (length table) place (omega arith) (omega arith))
 
     target : (place : ℕ) → place < length (comb.owners ++ replicate n (length table)) → (nat_lt place (length comb.owners) ≡ true) ⊎ (nat_lt place (length comb.owners) ≡ false)
@@ -145,7 +145,7 @@ laid_grown table comb n some is =
     target place within (inr past) =
         let long = length-append comb.owners (replicate n (length table)) in
         let more = length-replicate n (length table) in
-        let behind = ltb-false place (length comb.owners) past in
+        let beyond = ltb-false place (length comb.owners) past in
         let same = is.places.same in
         let is_zero = grown_past comb.targets n 0 place (omega arith) (omega arith) in
         omega arith
@@ -212,7 +212,7 @@ laid_more table comb base owners targets within_table is next room free lays =
         let each = lays.each in
         omega arith
     place_within s among (inr h) =
-        let behind = ltb-false s (length comb.bases) h in
+        let beyond = ltb-false s (length comb.bases) h in
         let at : s ≡ length comb.bases = omega arith in
         let same = get_or_push comb.bases base 0 s (sym at) in
         let each = lays.each in
@@ -278,7 +278,7 @@ laid_more table comb base owners targets within_table is next room free lays =
         let same = get_or_append_left comb.bases (base ∷ []) 0 s lower in
         ap (λ b. laid_at owners targets s (b + column)) same ∙ older s column lower in_row (cases_Bool (row_at (place_at comb s column)))
     entry_at s column among in_row (inr h) =
-        let behind = ltb-false s (length comb.bases) h in
+        let beyond = ltb-false s (length comb.bases) h in
         let at : s ≡ length comb.bases = omega arith in
         let same = get_or_push comb.bases base 0 s (sym at) in
         ap (λ b. laid_at owners targets s (b + column)) same ∙ ap (λ n. laid_at owners targets n (base + column)) at

@@ -3,7 +3,7 @@ use Rattle.std.specs.Prelude.{◌≡◌, ℕ, ◌-◌, ◌<◌, ◌≤◌, ◌==
 use Rattle.hz_pipeline_model.specs.Tables.Tables.{Table, entry}
 use Rattle.hz_pipeline_model.specs.Combs.Combs.{Comb, HasPlaces, laid}
 
--- a place has no owner, or is behind all places
+-- a place has no owner, or is after all places
 abbrev pub is_free : List ℕ → ℕ → ℕ → Bool
 is_free owners free place = not (nat_lt place (length owners)) || (slice_index owners place == free)
 

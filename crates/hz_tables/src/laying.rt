@@ -23,7 +23,7 @@ pub struct Laying {
     pub targets: Vec<u32>,
 }
 
-/// Whether a place has no owner, which is told by the number `free`. Behind the end no place has one.
+/// Whether a place has no owner, which is reported by the number `free`. After the end no place has one.
 fn is_free(owners: &[u32], free: u32, place: usize) -> bool
     ensures { result ≡ is_free owners.now free place }
 {

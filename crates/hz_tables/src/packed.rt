@@ -16,7 +16,7 @@ use std::marker::Model;
 use std::sync::ledger::Ledger;
 
 /// A table of states whose rows are laid into one another, over cells of `W` bytes: 1, 2 or 4. At each place stand, side by
-/// side, the state that owns it and that state's next one; a state's entry in a column is looked up so many places behind its
+/// side, the state that owns it and that state's next one; a state's entry in a column is looked up so many places after its
 /// base. So a step is three reads: the base, the owner and its next state. GCC Internals, 'Specifying processor pipeline
 /// description', on `no-comb-vect`.
 #[derive(Drop)]

@@ -98,10 +98,10 @@ item : {X : Type 0} (xs : List X) (k : ℕ) → k < length xs → (x : X) × (sl
 item [] k lt = absurd (omega (arith, lt))
 item (x ∷ xs) k lt = (get_or (x ∷ xs) k x, slice_get-get_or (x ∷ xs) k x lt)
 
-told_as : (P Q : compiled.Shown → Type 0) → ((s : compiled.Shown) → P s → Q s) → (b : Bool) (o : Option compiled.Shown) → MatchBool b (IsSomeAnd o P) (o ≡ None) → MatchBool b (IsSomeAnd o Q) (o ≡ None)
-told_as P Q f true None h = h
-told_as P Q f true (Some s) h = f s h
-told_as P Q f false o h = h
+reported_as : (P Q : compiled.Shown → Type 0) → ((s : compiled.Shown) → P s → Q s) → (b : Bool) (o : Option compiled.Shown) → MatchBool b (IsSomeAnd o P) (o ≡ None) → MatchBool b (IsSomeAnd o Q) (o ≡ None)
+reported_as P Q f true None h = h
+reported_as P Q f true (Some s) h = f s h
+reported_as P Q f false o h = h
 
 module _ (options : Options) (automata : List AutomatonParts) (classes : List ClassParts) (bypasses : List BypassParts) (attributes : List (List ℕ × List (List ℕ))) (kept : IsKept automata classes bypasses attributes) where
   -- the lists of an automaton have units of it
@@ -147,7 +147,7 @@ module _ (options : Options) (automata : List AutomatonParts) (classes : List Cl
   pub can_be_said : (m : Machine) (reports : List Report) → IsMachine m → IsCompiled options automata classes m reports → CanBeSaid options automata reports m
   can_be_said m reports machine is = record {
     parts = is.each;
-    told = is.told;
+    reported = is.reported;
     shown = λ a low.
         let each = is.each in
         let inside : a < length m.parts = omega (arith, low, each) in
@@ -155,6 +155,6 @@ module _ (options : Options) (automata : List AutomatonParts) (classes : List Cl
         let report : Report = report_at reports a in
         let count : length m.classes ≡ length classes = ap length is.names ∙ length-map classes (λ (c : ClassParts). c.name) in
         let fits : IsPart (length classes) part = subst (λ (n : ℕ). IsPart n part) count (machine.parts a no_part inside) in
-        let told = is.parts a low in
-        told_as (IsShown (length classes) (automaton_pipeline options automata classes a) part) (IsShownOf (automaton_at automata a).units part) (λ s h. shown_is a low part report fits told s h) (shows_states options) report.shown told.shown;
+        let reported = is.parts a low in
+        reported_as (IsShown (length classes) (automaton_pipeline options automata classes a) part) (IsShownOf (automaton_at automata a).units part) (λ s h. shown_is a low part report fits reported s h) (shows_states options) report.shown reported.shown;
   }

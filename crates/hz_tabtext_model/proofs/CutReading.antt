@@ -22,13 +22,13 @@ not_cut kind h e = subst IsOfLine e h
 cut_goes_on : truncated ≢ trailing
 cut_goes_on e = absurd (cc)
 
-some_behind : (lines more : List (List ℕ)) → is_nil more ≡ false → is_nil (lines ++ more) ≡ false
-some_behind [] more some = some
-some_behind (line ∷ lines) more some = refl
+some_after : (lines more : List (List ℕ)) → is_nil more ≡ false → is_nil (lines ++ more) ≡ false
+some_after [] more some = some
+some_after (line ∷ lines) more some = refl
 
 -- what was read of a line, with others left
-abbrev pub left_behind : {A : Type 0} → ℕ → List (List ℕ) → A → Result (A × Rest) Fault
-left_behind number others x = Ok (x, rest_at number others)
+abbrev pub left_after : {A : Type 0} → ℕ → List (List ℕ) → A → Result (A × Rest) Fault
+left_after number others x = Ok (x, rest_at number others)
 
 -- nothing is kept of what was read
 abbrev dropped : Rest → Result (Nothing × Rest) Fault
@@ -71,7 +71,7 @@ module _ (last : List ℕ) (more : List (List ℕ)) (some : is_nil more ≡ fals
 
   -- ---- a line
 
-  line_late : {A : Type 0} (number : ℕ) (others : List (List ℕ)) (b : Bool) (r : Result A Kind) → Fine IsOfLine r → edge ≤ number → Late (at_line number (cond b (Err truncated) r) >>= left_behind (number + 1) others)
+  line_late : {A : Type 0} (number : ℕ) (others : List (List ℕ)) (b : Bool) (r : Result A Kind) → Fine IsOfLine r → edge ≤ number → Late (at_line number (cond b (Err truncated) r) >>= left_after (number + 1) others)
   line_late number others true r fine h = (h, cut_goes_on)
   line_late number others false (Ok x) fine h = omega arith
   line_late number others false (Err kind) fine h = (h, goes_on kind fine)
@@ -81,7 +81,7 @@ module _ (last : List ℕ) (more : List (List ℕ)) (some : is_nil more ≡ fals
   first_late judge fine number (line ∷ others) h = line_late number others (is_nil others) (judge line) (fine line) h
 
   line_both : {A : Type 0} (number : ℕ) (lines : List (List ℕ)) (b c : Bool) (r : Result A Kind) → b ≡ false → c ≡ false → Fine IsOfLine r → number + (1 + length lines) ≡ edge
-      → Both (at_line number (cond b (Err truncated) r) >>= left_behind (number + 1) (lines ++ more)) (at_line number (cond c (Err truncated) r) >>= left_behind (number + 1) (lines ++ last ∷ []))
+      → Both (at_line number (cond b (Err truncated) r) >>= left_after (number + 1) (lines ++ more)) (at_line number (cond c (Err truncated) r) >>= left_after (number + 1) (lines ++ last ∷ []))
   line_both number lines true c r p q fine is = absurd (cc)
   line_both number lines false true r p q fine is = absurd (cc)
   line_both number lines false false (Ok x) p q fine is = same x (number + 1) lines (omega (arith, is))
@@ -90,7 +90,7 @@ module _ (last : List ℕ) (more : List (List ℕ)) (some : is_nil more ≡ fals
   line_along : {A : Type 0} (judge : List ℕ → Result A Kind) → ((line : List ℕ) → Fine IsOfLine (judge line)) → (number : ℕ) (lines : List (List ℕ)) → number + length lines ≡ edge
       → Both (line_by judge (rest_at number (lines ++ more))) (line_by judge (rest_at number (lines ++ last ∷ [])))
   line_along judge fine number [] is = at_edge (line_by judge) (λ rest h. first_late judge fine rest.number rest.lines h) refl number (omega (arith, is))
-  line_along judge fine number (line ∷ lines) is = line_both number lines (is_nil (lines ++ more)) (is_nil (lines ++ last ∷ [])) (judge line) (some_behind lines more some) (some_behind lines (last ∷ []) refl) (fine line) (omega (arith, is))
+  line_along judge fine number (line ∷ lines) is = line_both number lines (is_nil (lines ++ more)) (is_nil (lines ++ last ∷ [])) (judge line) (some_after lines more some) (some_after lines (last ∷ []) refl) (fine line) (omega (arith, is))
 
   reads_line : {A : Type 0} (judge : List ℕ → Result A Kind) → ((line : List ℕ) → Fine IsOfLine (judge line)) → Reads (line_by judge)
   reads_line judge fine = record { late = λ rest h. first_late judge fine rest.number rest.lines h; stuck = refl; along = line_along judge fine }
@@ -181,12 +181,12 @@ module _ (last : List ℕ) (more : List (List ℕ)) (some : is_nil more ≡ fals
 
   counts_held : Reads (held counts_at)
   unfolding counts_at
-  counts_held = reads_same (λ rest. cond (comes (codes "stats") rest) (line_by counts_in rest) (dropped rest)) (held counts_at) (λ rest. told rest (comes (codes "stats") rest) (line_by counts_in rest)) (reads_where (codes "stats") (line_by counts_in) dropped (reads_line counts_in (counts_fine IsOfLine tt tt tt)) (reads_done tt))
+  counts_held = reads_same (λ rest. cond (comes (codes "stats") rest) (line_by counts_in rest) (dropped rest)) (held counts_at) (λ rest. reported rest (comes (codes "stats") rest) (line_by counts_in rest)) (reads_where (codes "stats") (line_by counts_in) dropped (reads_line counts_in (counts_fine IsOfLine tt tt tt)) (reads_done tt))
     where
-      told : (rest : Rest) (b : Bool) (r : Result (Nothing × Rest) Fault) → cond b r (dropped rest) ≡ (cond b (r >>= λ x. Ok x.1) (Ok rest) >>= dropped)
-      told rest true (Ok y) = refl
-      told rest true (Err e) = refl
-      told rest false r = refl
+      reported : (rest : Rest) (b : Bool) (r : Result (Nothing × Rest) Fault) → cond b r (dropped rest) ≡ (cond b (r >>= λ x. Ok x.1) (Ok rest) >>= dropped)
+      reported rest true (Ok y) = refl
+      reported rest true (Err e) = refl
+      reported rest false r = refl
 
   -- ---- grids
 
@@ -226,7 +226,7 @@ module _ (last : List ℕ) (more : List (List ℕ)) (some : is_nil more ≡ fals
   grids_along : (number : ℕ) (lines : List (List ℕ)) → number + length lines ≡ edge → Both (grids_held (rest_at number (lines ++ more))) (grids_held (rest_at number (lines ++ last ∷ [])))
   unfolding grids_from
   grids_along number [] is = at_edge grids_held (λ rest h. grids_late rest.number rest.lines h) grids_stuck number (omega (arith, is))
-  grids_along number (line ∷ lines) is = grid_both number line lines (is_headed (codes "grid") (fields_of line)) (is_nil (lines ++ more)) (is_nil (lines ++ last ∷ [])) (grid_in line) (some_behind lines more some) (some_behind lines (last ∷ []) refl) (grid_fine IsOfLine tt tt tt line) (omega (arith, is)) (grids_along (number + 1) lines (omega (arith, is)))
+  grids_along number (line ∷ lines) is = grid_both number line lines (is_headed (codes "grid") (fields_of line)) (is_nil (lines ++ more)) (is_nil (lines ++ last ∷ [])) (grid_in line) (some_after lines more some) (some_after lines (last ∷ []) refl) (grid_fine IsOfLine tt tt tt line) (omega (arith, is)) (grids_along (number + 1) lines (omega (arith, is)))
 
   reads_grids : Reads grids_held
   reads_grids = record { late = λ rest h. grids_late rest.number rest.lines h; stuck = grids_stuck; along = grids_along }
@@ -235,13 +235,13 @@ module _ (last : List ℕ) (more : List (List ℕ)) (some : is_nil more ≡ fals
 
   shown_held : (columns states : ℕ) → Reads (held (shown_at columns states))
   unfolding shown_at
-  shown_held columns states = reads_same (λ rest. cond (comes (codes "from") rest) (line_by (origin_in columns states) rest >>= λ x. grids_held x.1) (dropped rest)) (held (shown_at columns states)) (λ rest. told rest (comes (codes "from") rest) (line_by (origin_in columns states) rest))
+  shown_held columns states = reads_same (λ rest. cond (comes (codes "from") rest) (line_by (origin_in columns states) rest >>= λ x. grids_held x.1) (dropped rest)) (held (shown_at columns states)) (λ rest. reported rest (comes (codes "from") rest) (line_by (origin_in columns states) rest))
       (reads_where (codes "from") (λ rest. line_by (origin_in columns states) rest >>= λ x. grids_held x.1) dropped (reads_then (λ x rest. grids_held rest) (λ x. reads_grids) (line_by (origin_in columns states)) (reads_line (origin_in columns states) (origin_fine IsOfLine tt tt tt columns states))) (reads_done tt))
     where
-      told : (rest : Rest) (b : Bool) (r : Result (Nothing × Rest) Fault) → cond b (r >>= λ x. grids_held x.1) (dropped rest) ≡ (cond b (r >>= λ x. grids_from x.1.number x.1.lines) (Ok rest) >>= dropped)
-      told rest true (Ok y) = refl
-      told rest true (Err e) = refl
-      told rest false r = refl
+      reported : (rest : Rest) (b : Bool) (r : Result (Nothing × Rest) Fault) → cond b (r >>= λ x. grids_held x.1) (dropped rest) ≡ (cond b (r >>= λ x. grids_from x.1.number x.1.lines) (Ok rest) >>= dropped)
+      reported rest true (Ok y) = refl
+      reported rest true (Err e) = refl
+      reported rest false r = refl
 
   reads_row : (columns asks states number : ℕ) → Reads (row_at columns asks states number)
   unfolding row_at
@@ -254,7 +254,7 @@ module _ (last : List ℕ) (more : List (List ℕ)) (some : is_nil more ≡ fals
   reads_asks true columns states before = reads_line (asks_in columns states before) (asks_fine IsOfLine tt tt tt columns states before)
   reads_asks false columns states before = reads_done []
 
-  -- the states of an automaton, behind its first lines
+  -- the states of an automaton, after its first lines
   abbrev states_by : Head → List ℕ → List (List ℕ) → Rest → Result (Part × Rest) Fault
   states_by head map asks rest = counts_at rest >>= λ after. so_many next_row (row_at head.columns (length asks) head.states) head.states 0 after >>= λ rows. Ok (read_part head map asks rows.0, rows.1)
 
@@ -323,7 +323,7 @@ module _ (last : List ℕ) (more : List (List ℕ)) (some : is_nil more ≡ fals
     over_late number true h = tt
     over_late number false h = (omega arith, λ is. omega arith)
 
-    closed_late : (number : ℕ) (others : List (List ℕ)) (b : Bool) (r : Result Nothing Kind) → Fine IsOfLine r → edge ≤ number → LateEnd ((at_line number (cond b (Err truncated) r) >>= left_behind (number + 1) others) >>= λ last. close m last.1.number last.1.lines)
+    closed_late : (number : ℕ) (others : List (List ℕ)) (b : Bool) (r : Result Nothing Kind) → Fine IsOfLine r → edge ≤ number → LateEnd ((at_line number (cond b (Err truncated) r) >>= left_after (number + 1) others) >>= λ last. close m last.1.number last.1.lines)
     closed_late number others true r fine h = (h, λ is. absurd (cut_goes_on is))
     closed_late number others false (Ok x) fine h = over_late number (is_over others) h
     closed_late number others false (Err kind) fine h = (h, λ is. absurd (goes_on kind fine is))
@@ -340,12 +340,12 @@ module _ (last : List ℕ) (more : List (List ℕ)) (some : is_nil more ≡ fals
     closed_both : (number : ℕ) (lines : List (List ℕ)) → number + length lines ≡ edge → Ends (close m number (lines ++ more)) (close m number (lines ++ last ∷ []))
     closed_both number [] is = let at : edge ≡ number = omega (arith, is) in subst (λ (n : ℕ). Ends (close m n more) (close m n (last ∷ []))) at (done_there m)
     closed_both number (line ∷ lines) is =
-        let first = not_over line (lines ++ more) (some_behind lines more some) in
-        let second = not_over line (lines ++ last ∷ []) (some_behind lines (last ∷ []) refl) in
+        let first = not_over line (lines ++ more) (some_after lines more some) in
+        let second = not_over line (lines ++ last ∷ []) (some_after lines (last ∷ []) refl) in
         rw (first, second) (wrong_before (trailing_at number) (omega (arith, is)) (λ is. absurd (cc)))
 
     end_both : (number : ℕ) (lines : List (List ℕ)) (b c : Bool) (r : Result Nothing Kind) → b ≡ false → c ≡ false → Fine IsOfLine r → number + (1 + length lines) ≡ edge
-        → Ends ((at_line number (cond b (Err truncated) r) >>= left_behind (number + 1) (lines ++ more)) >>= λ last. close m last.1.number last.1.lines) ((at_line number (cond c (Err truncated) r) >>= left_behind (number + 1) (lines ++ last ∷ [])) >>= λ last. close m last.1.number last.1.lines)
+        → Ends ((at_line number (cond b (Err truncated) r) >>= left_after (number + 1) (lines ++ more)) >>= λ last. close m last.1.number last.1.lines) ((at_line number (cond c (Err truncated) r) >>= left_after (number + 1) (lines ++ last ∷ [])) >>= λ last. close m last.1.number last.1.lines)
     end_both number lines true c r p q fine is = absurd (cc)
     end_both number lines false true r p q fine is = absurd (cc)
     end_both number lines false false (Ok x) p q fine is = closed_both (number + 1) lines (omega (arith, is))
@@ -353,7 +353,7 @@ module _ (last : List ℕ) (more : List (List ℕ)) (some : is_nil more ≡ fals
 
     end_along : (number : ℕ) (lines : List (List ℕ)) → number + length lines ≡ edge → Ends (at_the_end (rest_at number (lines ++ more))) (at_the_end (rest_at number (lines ++ last ∷ [])))
     end_along number [] is = let at : edge ≡ number = omega (arith, is) in subst (λ (n : ℕ). Ends (at_the_end (rest_at n more)) (at_the_end (rest_at n (last ∷ [])))) at (goes_past (at_the_end (rest_at edge more)) (end_late edge more (omega arith)))
-    end_along number (line ∷ lines) is = end_both number lines (is_nil (lines ++ more)) (is_nil (lines ++ last ∷ [])) (end_in line) (some_behind lines more some) (some_behind lines (last ∷ []) refl) (end_fine IsOfLine tt tt tt line) (omega (arith, is))
+    end_along number (line ∷ lines) is = end_both number lines (is_nil (lines ++ more)) (is_nil (lines ++ last ∷ [])) (end_in line) (some_after lines more some) (some_after lines (last ∷ []) refl) (end_fine IsOfLine tt tt tt line) (omega (arith, is))
 
     closes_end : Closes at_the_end
     closes_end = record { late = λ rest h. end_late rest.number rest.lines h; stuck = refl; along = end_along }

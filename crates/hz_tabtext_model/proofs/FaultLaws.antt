@@ -18,7 +18,7 @@ use Rattle.hz_tabtext_model.proofs.CutReading.{close, LateEnd, Ends, wrong_befor
 
 -- ---- a front of a text
 
--- The lines of a front that are ended, and what stands behind them.
+-- The lines of a front that are ended, and what comes after them.
 record Front (front : List ℕ) : Type 0 where
   ended : List (List ℕ)
   last : List ℕ
@@ -88,9 +88,9 @@ module _ {B : Type 0} (last : List ℕ) (more : List (List ℕ)) (some : is_nil 
 
   -- where the text has a later fault, the front is truncated
   truncated_front : (r s : Result B Fault) (f : Fault) → Alike r s → edge ≤ f.line → f.kind ≢ trailing → r ≡ Err f → s ≡ Err (truncated_at edge)
-  truncated_front r s f (wrong_before g lt kind) behind not e = let h = ap (λ (g : Fault). g.line) (err_is {A = B} g f e) in absurd (omega (arith, h))
-  truncated_front r s f (goes_past _ late) behind not e = refl
-  truncated_front r s f (done_there m) behind not e = absurd (not (ap (λ (g : Fault). g.kind) (close_at m edge more f e)))
+  truncated_front r s f (wrong_before g lt kind) beyond not e = let h = ap (λ (g : Fault). g.line) (err_is {A = B} g f e) in absurd (omega (arith, h))
+  truncated_front r s f (goes_past _ late) beyond not e = refl
+  truncated_front r s f (done_there m) beyond not e = absurd (not (ap (λ (g : Fault). g.kind) (close_at m edge more f e)))
 
   -- where the text is read and does not end with the front, the front is truncated
   truncated_machine : (r s : Result B Fault) (m : B) → Alike r s → is_over more ≡ false → r ≡ Ok m → s ≡ Err (truncated_at edge)
@@ -98,13 +98,13 @@ module _ {B : Type 0} (last : List ℕ) (more : List (List ℕ)) (some : is_nil 
   truncated_machine r s m (goes_past _ late) goes e = refl
   truncated_machine r s m (done_there n) goes e = let h : close n edge more ≡ Err (trailing_at edge) = ap (λ (b : Bool). cond b (Ok n) (Err (trailing_at edge))) goes in absurd (cc)
 
-  -- where the front is read, something behind it is trailing
+  -- where the front is read, something after it is trailing
   trailing_text : (r s : Result B Fault) (m : B) → Alike r s → is_over more ≡ false → s ≡ Ok m → r ≡ Err (trailing_at edge)
   trailing_text r s m (wrong_before g lt kind) goes e = absurd (cc)
   trailing_text r s m (goes_past _ late) goes e = absurd (cc)
   trailing_text r s m (done_there n) goes e = ap (λ (b : Bool). cond b (Ok n) (Err (trailing_at edge))) goes
 
-  -- what is trailing stands behind a front that is read, where that ends with a line
+  -- what is trailing comes after a front that is read, where that ends with a line
   trailing_front : (r s : Result B Fault) → Alike r s → last ≡ [] → r ≡ Err (trailing_at edge) → (m : B) × (s ≡ Ok m)
   trailing_front r s (wrong_before g lt kind) ends e = let h = ap (λ (g : Fault). g.line) (err_is {A = B} g (trailing_at edge) e) in absurd (omega (arith, h))
   trailing_front r s (goes_past _ late) ends e = let h = subst (LateEnd last more some edge) e late in let lt = h.1 refl in absurd (omega (arith, lt))
@@ -131,9 +131,9 @@ no_machine front more other fault machine lt e t =
     cc
 
 pub fault_is_cut : (front more : List ℕ) (fault : Fault) → fault.kind ≢ trailing → last_line front ≤ fault.line → tables_in (front ++ more) ≡ Err fault → tables_in front ≡ Err (truncated_at (last_line front))
-fault_is_cut front more fault not behind e =
+fault_is_cut front more fault not beyond e =
     let f = front_of front in
-    truncated_front f.last (lines_in (f.last ++ more)) (some_lines (f.last ++ more)) (last_line front) (tables_in (front ++ more)) (tables_in front) fault (read_alike front more f) behind not e
+    truncated_front f.last (lines_in (f.last ++ more)) (some_lines (f.last ++ more)) (last_line front) (tables_in (front ++ more)) (tables_in front) fault (read_alike front more f) beyond not e
 
 -- a text is over only where it is empty
 over_is_empty : (text : List ℕ) → is_over (lines_in text) ≡ true → text ≡ []
@@ -146,26 +146,26 @@ over_is_empty (b ∷ bs) h = absurd (by_byte (b == 10) (lines_in bs) (some_lines
     by_byte false [] some k = cc
     by_byte false (line ∷ others) some k = cc
 
-goes_on_behind : (last more : List ℕ) → more ≢ [] → is_over (lines_in (last ++ more)) ≡ false
-goes_on_behind last more some = by_end (is_over (lines_in (last ++ more))) refl
+goes_on_after : (last more : List ℕ) → more ≢ [] → is_over (lines_in (last ++ more)) ≡ false
+goes_on_after last more some = by_end (is_over (lines_in (last ++ more))) refl
   where
-    nothing_behind : (last : List ℕ) → last ++ more ≡ [] → more ≡ []
-    nothing_behind [] e = e
-    nothing_behind (b ∷ bs) e = absurd (cc)
+    nothing_after : (last : List ℕ) → last ++ more ≡ [] → more ≡ []
+    nothing_after [] e = e
+    nothing_after (b ∷ bs) e = absurd (cc)
 
     by_end : (b : Bool) → is_over (lines_in (last ++ more)) ≡ b → b ≡ false
-    by_end true h = absurd (some (nothing_behind last (over_is_empty (last ++ more) h)))
+    by_end true h = absurd (some (nothing_after last (over_is_empty (last ++ more) h)))
     by_end false h = refl
 
 pub machine_is_cut : (front more : List ℕ) (machine : Machine) → more ≢ [] → TableText (front ++ more) machine → tables_in front ≡ Err (truncated_at (last_line front))
 machine_is_cut front more machine some t =
     let f = front_of front in
-    truncated_machine f.last (lines_in (f.last ++ more)) (some_lines (f.last ++ more)) (last_line front) (tables_in (front ++ more)) (tables_in front) machine (read_alike front more f) (goes_on_behind f.last more some) (tables_again (front ++ more) machine t)
+    truncated_machine f.last (lines_in (f.last ++ more)) (some_lines (f.last ++ more)) (last_line front) (tables_in (front ++ more)) (tables_in front) machine (read_alike front more f) (goes_on_after f.last more some) (tables_again (front ++ more) machine t)
 
-pub behind_is_trailing : (front more : List ℕ) (machine : Machine) → TableText front machine → more ≢ [] → tables_in (front ++ more) ≡ Err (trailing_at (last_line front))
-behind_is_trailing front more machine t some =
+pub after_is_trailing : (front more : List ℕ) (machine : Machine) → TableText front machine → more ≢ [] → tables_in (front ++ more) ≡ Err (trailing_at (last_line front))
+after_is_trailing front more machine t some =
     let f = front_of front in
-    trailing_text f.last (lines_in (f.last ++ more)) (some_lines (f.last ++ more)) (last_line front) (tables_in (front ++ more)) (tables_in front) machine (read_alike front more f) (goes_on_behind f.last more some) (tables_again front machine t)
+    trailing_text f.last (lines_in (f.last ++ more)) (some_lines (f.last ++ more)) (last_line front) (tables_in (front ++ more)) (tables_in front) machine (read_alike front more f) (goes_on_after f.last more some) (tables_again front machine t)
 
 pub last_of_fault : (text : List ℕ) (fault : Fault) → tables_in text ≡ Err fault → (fault.line ≤ last_line text) × (fault.kind ≡ truncated → fault.line ≡ last_line text)
 last_of_fault text fault e =
@@ -241,7 +241,7 @@ cut_before (suc lines) (b ∷ bs) lt = by_byte (b == 10) refl (cut_before lines 
     by_byte true is fewer same l = cut_feed lines b bs is (fewer (omega (arith, l)))
     by_byte false is fewer same l = let long = onto_first_long b (lines_in bs) (some_lines bs) in cut_byte lines b bs is (same (omega (arith, l, long)))
 
--- What is trailing stands behind a text of a machine.
+-- What is trailing comes after a text of a machine.
 pub record Trailed (text : List ℕ) (line : ℕ) : Type 0 where
   pub front : List ℕ
   pub more : List ℕ
@@ -251,9 +251,9 @@ pub record Trailed (text : List ℕ) (line : ℕ) : Type 0 where
   pub read : TableText front machine
   pub at : line ≡ last_line front
 
-pub trailing_is_behind : (text : List ℕ) (line : ℕ) → tables_in text ≡ Err (trailing_at line) → Trailed text line
-trailing_is_behind text zero e = let first = first_of_fault text (trailing_at zero) e in absurd (omega (arith, first))
-trailing_is_behind text (suc lines) e =
+pub trailing_is_after : (text : List ℕ) (line : ℕ) → tables_in text ≡ Err (trailing_at line) → Trailed text line
+trailing_is_after text zero e = let first = first_of_fault text (trailing_at zero) e in absurd (omega (arith, first))
+trailing_is_after text (suc lines) e =
     let last = (last_of_fault text (trailing_at (suc lines)) e).0 in
     let c = cut_before lines text (omega (arith, last)) in
     let f = c.f in

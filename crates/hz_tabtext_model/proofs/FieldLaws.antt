@@ -11,7 +11,7 @@ use Rattle.std.proofs.lemmas.List.Splits.{slice_split_none, slice_split_at, join
 use Rattle.std.proofs.lemmas.Slice.Eq.{bytes_eq-Decides}
 use Rattle.hz_base_model.specs.Names.{is_name, is_name_byte, is_separator}
 use Rattle.hz_tabtext_model.specs.Judging.{Kind, bad_line}
-use Rattle.hz_tabtext_model.specs.Fields.{is_nil, fields_of, behind, operands, only}
+use Rattle.hz_tabtext_model.specs.Fields.{is_nil, fields_of, beyond, operands, only}
 use Rattle.hz_tabtext_model.specs.Texts.{joined, line_text}
 use Rattle.hz_tabtext_model.specs.Reading.{lines_in}
 use Rattle.hz_tabtext_model.proofs.Steps.{guard_ok, ok_is}
@@ -90,16 +90,16 @@ joined_without (field ∷ other ∷ fields) h =
 
 -- ---- the word of a line
 
-behind_takes : (word : List ℕ) (all fields : List (List ℕ)) → behind word all ≡ Ok fields → all ≡ word ∷ fields
-behind_takes word [] fields e = absurd (cc)
-behind_takes word (first ∷ rest) fields e =
+after_takes : (word : List ℕ) (all fields : List (List ℕ)) → beyond word all ≡ Ok fields → all ≡ word ∷ fields
+after_takes word [] fields e = absurd (cc)
+after_takes word (first ∷ rest) fields e =
     let g = guard_ok (bytes_eq first word && list_all (λ field. not (is_nil field)) rest) (Ok rest) bad_line fields e in
     let same = (bytes_eq-Decides first word).0 (and_parts (bytes_eq first word) (list_all (λ field. not (is_nil field)) rest) g.0).0 in
     ap (λ (w : List ℕ). w ∷ rest) same ∙ ap (λ (fs : List (List ℕ)). word ∷ fs) (ok_is {E = Kind} rest fields g.1)
 
 pub operands_take : (word line : List ℕ) (fields : List (List ℕ)) → operands word line ≡ Ok fields → line ≡ joined (word ∷ fields)
 unfolding operands
-operands_take word line fields e = sym (joined_fields line) ∙ ap joined (behind_takes word (fields_of line) fields e)
+operands_take word line fields e = sym (joined_fields line) ∙ ap joined (after_takes word (fields_of line) fields e)
 
 some_fields : (fields : List (List ℕ)) → list_all is_field fields ≡ true → list_all (λ field. not (is_nil field)) fields ≡ true
 some_fields fields h = list_all_weaker is_field (λ field. not (is_nil field)) (λ field f. (and_parts (not (is_nil field)) (list_all is_visible field) f).0) fields h

@@ -1,4 +1,4 @@
--- What is wrong with a line is never that the text ends there, nor that it goes on behind its end.
+-- What is wrong with a line is never that the text ends there, nor that it goes on after its end.
 use Rattle.std.proofs.Common.{ℕ, ◌+◌, Bool, true, false, cond, nat_lt, nat_le, List, [], ◌∷◌, ◌++◌, length, take, drop, Some, None, Result, Ok, Err, codes}
 use Rattle.std.specs.Prelude.{◌==◌, ◌&&◌, not, ◌^◌}
 use Rattle.std.specs.List.{list_all, before_first}
@@ -7,7 +7,7 @@ use Rattle.hz_base_model.specs.Names.{is_name}
 use Rattle.hz_base_model.specs.Lines.{number_from}
 use Rattle.hz_base_model.specs.Limits.{automaton_limit, class_limit, cycle_limit}
 use Rattle.hz_tabtext_model.specs.Judging.{Kind, bad_header, bad_line, bad_number, out_of_range, truncated, trailing, ◌>>=◌, each_by}
-use Rattle.hz_tabtext_model.specs.Fields.{is_nil, fields_of, behind, operands, only, three, one_in, three_in, is_decimal, passing, number_in, number_where, number_below, entry_in, advance_in, is_colon, has_unit, cycle_in, ask_entry_in}
+use Rattle.hz_tabtext_model.specs.Fields.{is_nil, fields_of, beyond, operands, only, three, one_in, three_in, is_decimal, passing, number_in, number_where, number_below, entry_in, advance_in, is_colon, has_unit, cycle_in, ask_entry_in}
 use Rattle.hz_tabtext_model.specs.Lines.{header_in, treatment_in, classes_in, is_new, class_in, automata_in, are_states, head_of, head_in, map_in, counts_of, counts_in, entries_of, row_in, place_of, origin_of, origin_in, grid_in, end_in, asks_of, asks_in, are_asks}
 
 -- what can be wrong with a line that is ended
@@ -50,13 +50,13 @@ module _ (P : Kind → Type 0) (no_line : P bad_line) (no_number : P bad_number)
 
   -- ---- fields
 
-  behind_fine : (word : List ℕ) (fields : List (List ℕ)) → Fine P (behind word fields)
-  behind_fine word [] = no_line
-  behind_fine word (first ∷ fields) = fine_if (bytes_eq first word && list_all (λ field. not (is_nil field)) fields) (Ok fields) (Err bad_line) tt no_line
+  after_fine : (word : List ℕ) (fields : List (List ℕ)) → Fine P (beyond word fields)
+  after_fine word [] = no_line
+  after_fine word (first ∷ fields) = fine_if (bytes_eq first word && list_all (λ field. not (is_nil field)) fields) (Ok fields) (Err bad_line) tt no_line
 
   operands_fine : (word line : List ℕ) → Fine P (operands word line)
   unfolding operands
-  operands_fine word line = behind_fine word (fields_of line)
+  operands_fine word line = after_fine word (fields_of line)
 
   only_fine : (fields : List (List ℕ)) → Fine P (only fields)
   only_fine [] = no_line

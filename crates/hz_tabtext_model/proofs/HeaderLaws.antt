@@ -1,4 +1,4 @@
--- The fault of a header is told of the first line alone.
+-- The fault of a header is reported of the first line alone.
 use Rattle.std.proofs.Common.{◌≡◌, ◌≢◌, ℕ, zero, suc, ◌+◌, ◌<◌, Bool, true, false, cond, List, [], ◌∷◌, ◌++◌, length, Result, Ok, Err, refl, sym, ap, ◌∙◌, subst, arith, codes, if◌then◌else◌}
 use Rattle.std.specs.Str.{bytes_eq}
 use Rattle.std.specs.List.{join_with_byte}
@@ -11,7 +11,7 @@ use Rattle.hz_tabtext_model.specs.Lines.{header_in, treatment_in, classes_in, cl
 use Rattle.hz_tabtext_model.specs.Reading.{Rest, at_line, judged, first_by, line_by, so_many, classes_at, comes, counts_at, grids_from, shown_at, row_at, part_at, is_over, machine_at, lines_in, tables_in, next_row, more_asks, asks_at}
 use Rattle.hz_tabtext_model.specs.Faults.{last_line, bad_header_at, truncated_at, trailing_at}
 use Rattle.hz_tabtext_model.proofs.FineLines.{Fine, treatment_fine, classes_fine, class_fine, automata_fine, head_fine, map_fine, counts_fine, row_fine, origin_fine, grid_fine, end_fine, asks_fine}
-use Rattle.hz_tabtext_model.proofs.CutReading.{close, left_behind, read_part, read_machine}
+use Rattle.hz_tabtext_model.proofs.CutReading.{close, left_after, read_part, read_machine}
 use Rattle.hz_tabtext_model.proofs.FaultLaws.{err_is}
 use Rattle.hz_tabtext_model.specs.Texts.{joined, header_line}
 
@@ -139,25 +139,25 @@ machine_never asked rest =
 
 -- ---- the first line
 
--- the first line, and behind it
-abbrev read_behind : (number : ℕ) (b c d : Bool) (others : List (List ℕ)) → Result Machine Fault
-read_behind number b c d others = (at_line number (cond b (Err truncated) (cond c (Ok true) (cond d (Ok false) (Err bad_header)))) >>= λ (x : Bool). left_behind (number + 1) others x) >>= λ header. machine_at header.0 header.1
+-- the first line, and after it
+abbrev read_after : (number : ℕ) (b c d : Bool) (others : List (List ℕ)) → Result Machine Fault
+read_after number b c d others = (at_line number (cond b (Err truncated) (cond c (Ok true) (cond d (Ok false) (Err bad_header)))) >>= λ (x : Bool). left_after (number + 1) others x) >>= λ header. machine_at header.0 header.1
 
 not_ended : (number line : ℕ) → ◌≡◌ {A = Result Machine Fault} (Err (truncated_at number)) (Err (bad_header_at line)) → ⊥
 not_ended number line e =
     let h : truncated ≡ bad_header = ap (λ (f : Fault). f.kind) (err_is {A = Machine} (truncated_at number) (bad_header_at line) e) in
     absurd (cc)
 
-never_behind : (asked : Bool) (rest : Rest) (line : ℕ) → machine_at asked rest ≡ Err (bad_header_at line) → ⊥
-never_behind asked rest line e = let h = machine_never asked rest in let k = subst Never e h in k refl
+never_after : (asked : Bool) (rest : Rest) (line : ℕ) → machine_at asked rest ≡ Err (bad_header_at line) → ⊥
+never_after asked rest line e = let h = machine_never asked rest in let k = subst Never e h in k refl
 
-first_wrong : (number : ℕ) (b c d : Bool) (others : List (List ℕ)) (line : ℕ) → read_behind number b c d others ≡ Err (bad_header_at line) → (b ≡ false) × (c ≡ false) × (d ≡ false) × (line ≡ number)
+first_wrong : (number : ℕ) (b c d : Bool) (others : List (List ℕ)) (line : ℕ) → read_after number b c d others ≡ Err (bad_header_at line) → (b ≡ false) × (c ≡ false) × (d ≡ false) × (line ≡ number)
 first_wrong number true c d others line e = absurd (not_ended number line e)
 first_wrong number false false false others line e = let h = ap (λ (f : Fault). f.line) (err_is {A = Machine} (bad_header_at number) (bad_header_at line) e) in (refl, refl, refl, sym h)
-first_wrong number false true d others line e = absurd (never_behind true (record { number = number + 1; lines = others }) line e)
-first_wrong number false false true others line e = absurd (never_behind false (record { number = number + 1; lines = others }) line e)
+first_wrong number false true d others line e = absurd (never_after true (record { number = number + 1; lines = others }) line e)
+first_wrong number false false true others line e = absurd (never_after false (record { number = number + 1; lines = others }) line e)
 
--- the text is its first line and what stands behind it
+-- the text is its first line and what comes after it
 first_line : (text line next : List ℕ) (others : List (List ℕ)) → lines_in text ≡ line ∷ next ∷ others → text ≡ line ++ 10 ∷ join_with_byte 10 (next ∷ others)
 first_line text line next others e = sym (join_with_byte-slice_split 10 text) ∙ ap (join_with_byte 10) e
 
@@ -171,14 +171,14 @@ header_text false = refl
 abbrev pub HasNoHeader : List ℕ → Type 0
 HasNoHeader text = (asked : Bool) (more : List ℕ) → text ≢ joined (header_line asked) ++ 10 ∷ more
 
-pub header_told : (text : List ℕ) → 1 < last_line text → HasNoHeader text → tables_in text ≡ Err (bad_header_at 1)
+pub header_reported : (text : List ℕ) → 1 < last_line text → HasNoHeader text → tables_in text ≡ Err (bad_header_at 1)
 unfolding tables_in header_in
-header_told text long other = by_lines (lines_in text) refl long
+header_reported text long other = by_lines (lines_in text) refl long
   where
     begins : (asked : Bool) (line next : List ℕ) (others : List (List ℕ)) → line ≡ (if asked then codes "hazard-tables 2" else codes "hazard-tables 1") → lines_in text ≡ line ∷ next ∷ others → ⊥
     begins asked line next others is e = other asked (join_with_byte 10 (next ∷ others)) (first_line text line next others e ∙ ap (λ (l : List ℕ). l ++ 10 ∷ join_with_byte 10 (next ∷ others)) (is ∙ sym (header_text asked)))
 
-    by_words : (line next : List ℕ) (others : List (List ℕ)) (b c : Bool) → bytes_eq line (codes "hazard-tables 2") ≡ b → bytes_eq line (codes "hazard-tables 1") ≡ c → lines_in text ≡ line ∷ next ∷ others → read_behind 1 false b c (next ∷ others) ≡ Err (bad_header_at 1)
+    by_words : (line next : List ℕ) (others : List (List ℕ)) (b c : Bool) → bytes_eq line (codes "hazard-tables 2") ≡ b → bytes_eq line (codes "hazard-tables 1") ≡ c → lines_in text ≡ line ∷ next ∷ others → read_after 1 false b c (next ∷ others) ≡ Err (bad_header_at 1)
     by_words line next others true c is also e = absurd (begins true line next others ((bytes_eq-Decides line (codes "hazard-tables 2")).0 is) e)
     by_words line next others false true is also e = absurd (begins false line next others ((bytes_eq-Decides line (codes "hazard-tables 1")).0 also) e)
     by_words line next others false false is also e = refl

@@ -148,7 +148,7 @@ ask_entries_seen : (number : ℕ) → number < 2 ^ 32 → (entries : List (Optio
 ask_entries_seen number small [] h = refl
 ask_entries_seen number small (e ∷ es) h = and_from (is_field (entry_field e)) (list_all is_field (map entry_field es)) (ask_entry_seen number small e h.0) (ask_entries_seen number small es h.1)
 
--- the entries of asks, and the advance behind them
+-- the entries of asks, and the advance after them
 module _ (asks states number : ℕ) (asked : List (Option ℕ)) (advance : ℕ) (small : states ≤ 2 ^ 32) (low : number < 2 ^ 32) (width : length asked ≡ asks) (stays : AllByRecursion (IsAskEntry number) asked) (goes : advance < states) where
   abbrev tail_fields : List (List ℕ)
   tail_fields = map entry_field (asked ++ Some advance ∷ [])
@@ -208,7 +208,7 @@ origin_again columns states (Some place) narrow small h =
     let second = where_again (λ n. nat_le n columns) place.1 (omega arith) (le-leb place.1 columns column) in
     record { seen = seen; again = rw (operands_again (codes "from") (decimal place.0 ∷ decimal place.1 ∷ []) refl seen, below_again states place.0 small row, second) refl }
 
--- the first colon of a pair stands behind its digits
+-- the first colon of a pair comes after its digits
 digits_then_colon : (ds rest : List ℕ) → list_all is_ascii_digit ds ≡ true → position_or_len is_colon (ds ++ 58 ∷ rest) ≡ length ds
 digits_then_colon [] rest h = refl
 digits_then_colon (d ∷ ds) rest h =
@@ -222,8 +222,8 @@ digits_then_colon (d ∷ ds) rest h =
 pair_cut : (ds rest : List ℕ) → list_all is_ascii_digit ds ≡ true → (before_first is_colon (ds ++ 58 ∷ rest) ≡ ds) × (after_first is_colon (ds ++ 58 ∷ rest) ≡ rest)
 pair_cut ds rest h =
     let at = digits_then_colon ds rest h in
-    let behind : drop (length ds + 1) (ds ++ 58 ∷ rest) ≡ rest = subst (λ (xs : List ℕ). drop (length ds + 1) xs ≡ rest) (append_more ds 58 rest) (drop_at (ds ++ 58 ∷ []) rest (length ds + 1) (length-append ds (58 ∷ []))) in
-    (ap (λ n. take n (ds ++ 58 ∷ rest)) at ∙ take_at ds (58 ∷ rest) (length ds) refl, ap (λ n. drop (n + 1) (ds ++ 58 ∷ rest)) at ∙ behind)
+    let beyond : drop (length ds + 1) (ds ++ 58 ∷ rest) ≡ rest = subst (λ (xs : List ℕ). drop (length ds + 1) xs ≡ rest) (append_more ds 58 rest) (drop_at (ds ++ 58 ∷ []) rest (length ds + 1) (length-append ds (58 ∷ []))) in
+    (ap (λ n. take n (ds ++ 58 ∷ rest)) at ∙ take_at ds (58 ∷ rest) (length ds) refl, ap (λ n. drop (n + 1) (ds ++ 58 ∷ rest)) at ∙ beyond)
   where
     append_more : (xs : List ℕ) (y : ℕ) (zs : List ℕ) → (xs ++ y ∷ []) ++ zs ≡ xs ++ y ∷ zs
     append_more [] y zs = refl

@@ -35,7 +35,7 @@ pub end_takes : (line : List ℕ) (x : Nothing) → end_in line ≡ Ok x → lin
 unfolding end_in
 end_takes line x e = same_bytes line (codes "end") (guard_ok (bytes_eq line (codes "end")) (Ok tt) bad_line x e).0
 
--- one field behind a word
+-- one field after a word
 one_takes : {A : Type 0} (word line : List ℕ) (f : List ℕ → Result A Kind) (x : A) → (one_in word line >>= f) ≡ Ok x → (field : List ℕ) × (line ≡ joined (word ∷ field ∷ [])) × (f field ≡ Ok x)
 one_takes word line f x e =
     let b = bind_ok (one_in word line) f x e in
@@ -85,7 +85,7 @@ three_take (a ∷ b ∷ []) x e = absurd (cc)
 three_take (a ∷ b ∷ c ∷ []) x e = let made : List ℕ × List ℕ × List ℕ = (a, b, c) in ap (λ (t : List ℕ × List ℕ × List ℕ). t.0 ∷ t.1 ∷ t.2 ∷ []) (ok_is {E = Kind} made x e)
 three_take (a ∷ b ∷ c ∷ d ∷ fields) x e = absurd (cc)
 
--- three fields behind a word
+-- three fields after a word
 three_in_takes : {A : Type 0} (word line : List ℕ) (f : List ℕ × List ℕ × List ℕ → Result A Kind) (x : A) → (three_in word line >>= f) ≡ Ok x
     → (t : List ℕ × List ℕ × List ℕ) × (line ≡ joined (word ∷ t.0 ∷ t.1 ∷ t.2 ∷ [])) × (f t ≡ Ok x)
 three_in_takes word line f x e =
@@ -237,8 +237,8 @@ entries_of_take columns asks states number fields entries long e =
     let width : length a.0 ≡ columns = sym (length-map a.0 entry_field) ∙ (ap length (sym first.0) ∙ omega (arith, length-take columns fields, long)) in
     let ask_width : length k.0 ≡ asks = sym (length-map k.0 entry_field) ∙ (ap length (sym middle.0) ∙ omega (arith, length-take asks rest, after)) in
     let same = ok_is {E = Kind} (a.0 ++ (k.0 ++ b.0)) entries b.2 in
-    let behind : rest ≡ map entry_field (k.0 ++ b.0) = sym (take-append-drop asks rest) ∙ (joins middle.0 last.2 ∙ sym (map-append entry_field k.0 b.0)) in
-    let all : fields ≡ map entry_field (a.0 ++ (k.0 ++ b.0)) = sym (take-append-drop columns fields) ∙ (joins first.0 behind ∙ sym (map-append entry_field a.0 (k.0 ++ b.0))) in (
+    let beyond : rest ≡ map entry_field (k.0 ++ b.0) = sym (take-append-drop asks rest) ∙ (joins middle.0 last.2 ∙ sym (map-append entry_field k.0 b.0)) in
+    let all : fields ≡ map entry_field (a.0 ++ (k.0 ++ b.0)) = sym (take-append-drop columns fields) ∙ (joins first.0 beyond ∙ sym (map-append entry_field a.0 (k.0 ++ b.0))) in (
       all ∙ ap (map entry_field) same,
       record {
         classes = a.0;

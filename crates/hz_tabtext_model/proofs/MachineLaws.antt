@@ -26,9 +26,9 @@ asked_entry number [] stays place next e = absurd (cc)
 asked_entry number (x ∷ asked) stays zero next e = subst (IsAskEntry number) e stays.0
 asked_entry number (x ∷ asked) stays (suc place) next e = asked_entry number asked stays.1 place next e
 
-get_or_behind : (xs ys : List (Option ℕ)) (place : ℕ) → get_or (xs ++ ys) (length xs + place) None ≡ get_or ys place None
-get_or_behind [] ys place = ap (λ (n : ℕ). get_or ys n None) (zero-add place)
-get_or_behind (x ∷ xs) ys place = let next : suc (length xs) + place ≡ suc (length xs + place) = omega arith in ap (λ (n : ℕ). get_or (x ∷ xs ++ ys) n None) next ∙ get_or_behind xs ys place
+get_or_after : (xs ys : List (Option ℕ)) (place : ℕ) → get_or (xs ++ ys) (length xs + place) None ≡ get_or ys place None
+get_or_after [] ys place = ap (λ (n : ℕ). get_or ys n None) (zero-add place)
+get_or_after (x ∷ xs) ys place = let next : suc (length xs) + place ≡ suc (length xs + place) = omega arith in ap (λ (n : ℕ). get_or (x ∷ xs ++ ys) n None) next ∙ get_or_after xs ys place
 
 row_at_of : (columns asks states number : ℕ) (rows : List RowText) → AreRows columns asks states number rows → (i : ℕ) → i < length rows → (d : RowText) → IsRow columns asks states (number + i) (get_or rows i d)
 row_at_of columns asks states number [] h i lt d = absurd (omega (arith, lt))
@@ -74,16 +74,16 @@ module _ (columns asks : ℕ) (rows : List RowText) (fit : AreRows columns asks 
           absurd (cc)
 
   -- an entry after those of classes
-  behind_classes : (state place : ℕ) (lt : state < length rows) → entry table_said state (columns + place) ≡ get_or ((row_said state lt).asked ++ Some (row_said state lt).advance ∷ []) place None
-  behind_classes state place lt =
+  after_classes : (state place : ℕ) (lt : state < length rows) → entry table_said state (columns + place) ≡ get_or ((row_said state lt).asked ++ Some (row_said state lt).advance ∷ []) place None
+  after_classes state place lt =
       let r = row_said state lt in
       let at : columns + place ≡ length r.classes + place = ap (λ (n : ℕ). n + place) (sym r.width) in
-      ap (λ (row : List (Option ℕ)). get_or row (columns + place) None) (row_is state lt ∙ r.entries) ∙ (ap (λ (n : ℕ). get_or (r.classes ++ (r.asked ++ Some r.advance ∷ [])) n None) at ∙ get_or_behind r.classes (r.asked ++ Some r.advance ∷ []) place)
+      ap (λ (row : List (Option ℕ)). get_or row (columns + place) None) (row_is state lt ∙ r.entries) ∙ (ap (λ (n : ℕ). get_or (r.classes ++ (r.asked ++ Some r.advance ∷ [])) n None) at ∙ get_or_after r.classes (r.asked ++ Some r.advance ∷ []) place)
 
   advance_is : (state : ℕ) → state < length rows → entry table_said state (columns + asks) ≢ None
   advance_is state lt e =
       let r = row_said state lt in
-      let there : entry table_said state (columns + asks) ≡ Some r.advance = behind_classes state asks lt ∙ get_or_at r.asked (Some r.advance) [] None asks r.ask_width in
+      let there : entry table_said state (columns + asks) ≡ Some r.advance = after_classes state asks lt ∙ get_or_at r.asked (Some r.advance) [] None asks r.ask_width in
       cc
 
   -- an ask leads to no other state
@@ -94,7 +94,7 @@ module _ (columns asks : ℕ) (rows : List RowText) (fit : AreRows columns asks 
       by_state state place next low e (inl lt) =
           let r = row_said state lt in
           let front : get_or (r.asked ++ Some r.advance ∷ []) place None ≡ get_or r.asked place None = get_or_append_left r.asked (Some r.advance ∷ []) None place (omega (arith, low, r.ask_width)) in
-          asked_entry state r.asked r.stays place next (sym front ∙ (sym (behind_classes state place lt) ∙ e))
+          asked_entry state r.asked r.stays place next (sym front ∙ (sym (after_classes state place lt) ∙ e))
       by_state state place next low e (inr far) =
           let none : row_of table_said state ≡ [] = get_or_past table_said state [] (omega (arith, length-map rows (λ (row : RowText). row.entries), far)) in
           let no_entry : entry table_said state (columns + place) ≡ None = ap (λ (row : List (Option ℕ)). get_or row (columns + place) None) none in
@@ -162,6 +162,6 @@ row_shape columns asks states number rest row after low some e =
     let parts : row ≡ h.classes ++ (h.asked ++ Some h.advance ∷ []) = sym same ∙ h.entries in
     (ap length parts ∙ omega (arith, length-append h.classes (h.asked ++ Some h.advance ∷ []), length-append h.asked (Some h.advance ∷ []), width, more), subst (AllByRecursion (IsEntry states)) (sym parts) (entries_then states number h.classes h.asked h.advance low h.targets h.stays h.goes))
 
--- what is read behind the header is a machine
+-- what is read after the header is a machine
 pub machine_read : (asked : Bool) (rest : Rest) (machine : Machine) → machine_at asked rest ≡ Ok machine → IsMachine machine
 machine_read asked rest machine e = let b = machine_at_takes asked rest machine e in subst IsMachine (sym b.stands) (machine_is b.says b.fits)

@@ -188,9 +188,9 @@ not_nil : (names : List (List ℕ)) → IsFalse (not (is_nil names)) → names �
 not_nil [] h = refl
 not_nil (name ∷ names) h = absurd (cc)
 
-told_there : (P : compiled.Shown → Type 0) (b : Bool) (o : Option compiled.Shown) → MatchBool b (IsSomeAnd o P) (o ≡ None) → (s : compiled.Shown) → o ≡ Some s → P s
-told_there P true o h s e = subst (λ (x : Option compiled.Shown). IsSomeAnd x P) e h
-told_there P false o h s e = absurd (cc)
+reported_there : (P : compiled.Shown → Type 0) (b : Bool) (o : Option compiled.Shown) → MatchBool b (IsSomeAnd o P) (o ≡ None) → (s : compiled.Shown) → o ≡ Some s → P s
+reported_there P true o h s e = subst (λ (x : Option compiled.Shown). IsSomeAnd x P) e h
+reported_there P false o h s e = absurd (cc)
 
 no_report : Report
 no_report = record { grids = 0; states = 0; members = 0; shown = None }
@@ -203,7 +203,7 @@ said_fits options automata reports m can is ranged =
     let some = is.some in
     let few = is.few in
     let parts = can.parts in
-    let told = can.told in
+    let reported = can.reported in
     let asked : asks_said (map make (enumerate_from 0 m.parts)) ≡ names_of m.parts = asks_made make (λ n part. refl) 0 m.parts in
     record {
       names = recursion_from_All (λ name. IsTrue (is_name name)) m.classes ranged.classes;
@@ -214,13 +214,13 @@ said_fits options automata reports m can is ranged =
       parts = each_made (IsPartText (length m.classes)) make no_part m.parts 0 (λ a low.
           let at : 0 + a ≡ a = omega arith in
           let automaton : a < length automata = omega (arith, low, parts) in
-          let report : a < length reports = omega (arith, low, parts, told) in
+          let report : a < length reports = omega (arith, low, parts, reported) in
           subst (λ (k : ℕ). IsPartText (length m.classes) (make (k, get_or m.parts a no_part))) (sym at)
           (part_fits (length m.classes) options.stats (automaton_at automata a).units (report_at reports a) (get_or m.parts a no_part)
           (is.parts a no_part low) (ranged.parts a no_part low) (ranged.asks a no_part low) (ranged.rows a no_part low)
           (ranged.units a no_automaton automaton) (ranged.counts a no_report report)
           (λ s e. record {
-            of = told_there (IsShownOf (automaton_at automata a).units (part_at m a)) (shows_states options) (report_at reports a).shown (can.shown a automaton) s e;
+            of = reported_there (IsShownOf (automaton_at automata a).units (part_at m a)) (shows_states options) (report_at reports a).shown (can.shown a automaton) s e;
             below = ranged.cycles a no_report report s e;
           })));
       asks = subst (λ (names : List (List ℕ)). AllPairs (λ a b. a ≢ b) names) (sym asked) is.ask_names;

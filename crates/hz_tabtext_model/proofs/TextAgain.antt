@@ -18,7 +18,7 @@ use Rattle.hz_tabtext_model.specs.Texts.{Shown, RowText, Counts, PartText, Table
 use Rattle.hz_tabtext_model.proofs.FieldLaws.{is_field, fields_joined, lines_spelled}
 use Rattle.hz_tabtext_model.proofs.LineTakes.{AreEntries, AreNew, AreAsks}
 use Rattle.hz_tabtext_model.proofs.LineAgain.{Spells, header_again, end_again, treatment_again, classes_again, class_again, automata_again, head_again, map_again, counts_again, row_again, origin_again, grid_again, asks_again, names_seen}
-use Rattle.hz_tabtext_model.proofs.TextTakes.{AllFrom, row_view, FitsBeside, BesideAll, lines_behind}
+use Rattle.hz_tabtext_model.proofs.TextTakes.{AllFrom, row_view, FitsBeside, BesideAll, lines_after}
 use Rattle.hz_pipeline_model.specs.Tables.StateLimits.{cell_limit}
 use Rattle.std.proofs.Math.Nat.{mul-le-mul_left}
 
@@ -35,7 +35,7 @@ line_again judge fields x s n others some = let again = s.again in rw (some, aga
 head_word : (word : List ℕ) (fields : List (List ℕ)) → list_all is_field (word ∷ fields) ≡ true → (w : List ℕ) → is_headed w (fields_of (joined (word ∷ fields))) ≡ bytes_eq word w
 head_word word fields seen w = ap (is_headed w) (fields_joined word fields seen)
 
--- What may stand behind a state: a line that tells nothing of it.
+-- What may come after a state: a line that tells nothing of it.
 record IsNext (lines : List (List ℕ)) : Type 0 where
   some : is_nil lines ≡ false
   no_origin : begin_with (codes "from") lines ≡ false
@@ -46,11 +46,11 @@ next_line word fields others p q seen = record { some = refl; no_origin = head_w
 
 -- ---- so many
 
--- What reading gives of these lines, whatever may stand behind them.
+-- What reading gives of these lines, whatever may come after them.
 abbrev Again : {A : Type 0} → (Rest → Result (A × Rest) Fault) → List (List (List ℕ)) → A → Type 0
 Again read lines x = (n : ℕ) (others : List (List ℕ)) → IsNext others → (m : ℕ) × (read (at n (map joined lines ++ others)) ≡ Ok (x, at m others))
 
--- the lines may stand behind a state, whatever stands behind them
+-- the lines may come after a state, whatever comes after them
 abbrev Starts : List (List (List ℕ)) → Type 0
 Starts lines = (others : List (List ℕ)) → IsNext (map joined lines ++ others)
 
@@ -115,7 +115,7 @@ differ_new before (name ∷ names) h =
       differ_new (before ++ name ∷ []) names (subst Differ (sym (append_assoc before (name ∷ []) names)) h),
     )
 
--- ---- what is told of a state
+-- ---- what is reported of a state
 
 grids_none : (n : ℕ) (others : List (List ℕ)) → IsNext others → grids_from n others ≡ Ok (at n others)
 unfolding grids_from
@@ -238,17 +238,17 @@ part_at_again asked classes small before part beside n others next =
     let asks = length part.asks in
     let head : Head = record { name = part.name; columns = part.columns; states = length part.rows } in
     let rows = flat_map row_lines part.rows in
-    let behind = map joined rows ++ others in
+    let beyond = map joined rows ++ others in
     let below = low_rows part.columns asks (length part.rows) 0 part.rows (omega (arith, states)) h.rows in
     let rows_next = next_many next_row (row_at part.columns asks (length part.rows)) row_lines row_view (IsLowRow part.columns asks (length part.rows)) (row_starts part.columns asks (length part.rows) states) 0 part.rows below others next in
-    let counted_lines = map joined (counts_lines part.counts) ++ behind in
-    let some_counts = nil_append (map joined (counts_lines part.counts)) behind rows_next.some in
+    let counted_lines = map joined (counts_lines part.counts) ++ beyond in
+    let some_counts = nil_append (map joined (counts_lines part.counts)) beyond rows_next.some in
     let asked_lines = map joined (asks_lines asked part.asks) ++ counted_lines in
     let some_asks = nil_append (map joined (asks_lines asked part.asks)) counted_lines some_counts in
     let first = line_again (head_in classes) (head_line part) head (head_again classes head small (record { name = h.name; columns = h.columns; some = h.some; few = h.few; cells = head_cells (length part.rows) part.columns asks h.cells })) n (joined (map_line part.map) ∷ asked_lines) refl in
     let second = line_again (map_in classes part.columns) (map_line part.map) part.map (map_again classes part.columns part.map (omega arith) h.each h.within) (n + 1) asked_lines some_asks in
     let asking = asks_at_again asked part.columns (length part.rows) before part.asks (asks_said_by classes before part h beside.new) beside.none (n + 1 + 1) counted_lines some_counts in
-    let third = counts_at_again part.counts h.counts asking.0 behind rows_next.some (no_counts part.columns asks (length part.rows) states part.rows h.some below others) in
+    let third = counts_at_again part.counts h.counts asking.0 beyond rows_next.some (no_counts part.columns asks (length part.rows) states part.rows h.some below others) in
     let fourth = many_again next_row (row_at part.columns asks (length part.rows)) row_lines row_view (IsLowRow part.columns asks (length part.rows)) (row_starts part.columns asks (length part.rows) states) (row_at_again part.columns asks (length part.rows) narrow states) 0 part.rows below third.0 others next in
     let answered = asking.1 in
     let counted = third.1 in
@@ -287,31 +287,31 @@ all_beside_of says h = beside_all says.asked (length says.classes) [] says.parts
 
 -- ---- the whole
 
--- the end of a text may stand behind a state
+-- the end of a text may come after a state
 end_next : IsNext ([] ∷ [])
 end_next = record { some = refl; no_origin = refl; no_grid = refl }
 
 machine_at_again : (says : TablesText) → IsTables says → (n : ℕ)
-    → machine_at says.asked (at n (map joined (lines_behind says.asked says) ++ [] ∷ [])) ≡ Ok (machine_of says)
+    → machine_at says.asked (at n (map joined (lines_after says.asked says) ++ [] ∷ [])) ≡ Ok (machine_of says)
 unfolding machine_at
 machine_at_again says h n =
     let parts = flat_map (part_lines says.asked) says.parts in
     let last = joined (codes "end" ∷ []) ∷ [] ∷ [] in
     let last_next : IsNext last = next_line (codes "end") [] ([] ∷ []) refl refl refl in
-    let behind_parts = map joined parts ++ last in
+    let after_parts = map joined parts ++ last in
     let starts = part_starts says.asked (length says.classes) h.class_count in
     let beside = all_beside_of says h in
-    let parts_next : IsNext behind_parts = next_many more_asks (part_at says.asked (length says.classes)) (part_lines says.asked) part_of (FitsBeside says.asked (length says.classes)) starts [] says.parts beside last last_next in
+    let parts_next : IsNext after_parts = next_many more_asks (part_at says.asked (length says.classes)) (part_lines says.asked) part_of (FitsBeside says.asked (length says.classes)) starts [] says.parts beside last last_next in
     let automata = automata_again (length says.parts) h.some h.few in
-    let behind_classes = joined (codes "automata" ∷ decimal (length says.parts) ∷ []) ∷ behind_parts in
-    let classes_next : IsNext behind_classes = next_line (codes "automata") (decimal (length says.parts) ∷ []) behind_parts refl refl automata.seen in
+    let after_classes = joined (codes "automata" ∷ decimal (length says.parts) ∷ []) ∷ after_parts in
+    let classes_next : IsNext after_classes = next_line (codes "automata") (decimal (length says.parts) ∷ []) after_parts refl refl automata.seen in
     let new = differ_new [] says.classes h.different in
-    let named_next = next_classes [] says.classes h.names new behind_classes classes_next in
-    let behind_count = map joined (map class_line says.classes) ++ behind_classes in
-    let first = line_again treatment_in (treatment_line says.ndfa) says.ndfa (treatment_again says.ndfa) n (joined (codes "classes" ∷ decimal (length says.classes) ∷ []) ∷ behind_count) refl in
-    let second = line_again classes_in (codes "classes" ∷ decimal (length says.classes) ∷ []) (length says.classes) (classes_again (length says.classes) h.class_count) (n + 1) behind_count named_next.some in
-    let third = classes_at_again [] says.classes h.names new (n + 1 + 1) behind_classes classes_next in
-    let fourth = line_again automata_in (codes "automata" ∷ decimal (length says.parts) ∷ []) (length says.parts) automata third.0 behind_parts parts_next.some in
+    let named_next = next_classes [] says.classes h.names new after_classes classes_next in
+    let after_count = map joined (map class_line says.classes) ++ after_classes in
+    let first = line_again treatment_in (treatment_line says.ndfa) says.ndfa (treatment_again says.ndfa) n (joined (codes "classes" ∷ decimal (length says.classes) ∷ []) ∷ after_count) refl in
+    let second = line_again classes_in (codes "classes" ∷ decimal (length says.classes) ∷ []) (length says.classes) (classes_again (length says.classes) h.class_count) (n + 1) after_count named_next.some in
+    let third = classes_at_again [] says.classes h.names new (n + 1 + 1) after_classes classes_next in
+    let fourth = line_again automata_in (codes "automata" ∷ decimal (length says.parts) ∷ []) (length says.parts) automata third.0 after_parts parts_next.some in
     let fifth = many_again more_asks (part_at says.asked (length says.classes)) (part_lines says.asked) part_of (FitsBeside says.asked (length says.classes)) starts (part_at_again says.asked (length says.classes) h.class_count) [] says.parts beside (third.0 + 1) last last_next in
     let sixth = line_again end_in (codes "end" ∷ []) tt end_again fifth.0 ([] ∷ []) refl in
     let named = third.1 in
@@ -385,20 +385,20 @@ pub tables_lines_seen : (says : TablesText) → IsTables says → AreLines (tabl
 tables_lines_seen says h =
     let classes = map class_line says.classes in
     let parts = flat_map (part_lines says.asked) says.parts in
-    let behind_parts = lines_then parts ((codes "end" ∷ []) ∷ []) (many_lines (IsPartText (length says.classes)) (part_lines says.asked) (part_lines_seen says.asked (length says.classes) h.class_count) says.parts h.parts) refl in
-    let behind_classes = line_then (codes "automata" ∷ decimal (length says.parts) ∷ []) (parts ++ (codes "end" ∷ []) ∷ []) (automata_again (length says.parts) h.some h.few).seen behind_parts in
-    let behind_count = lines_then classes ((codes "automata" ∷ decimal (length says.parts) ∷ []) ∷ (parts ++ (codes "end" ∷ []) ∷ [])) (each_line (λ name. IsTrue (is_name name)) class_line class_seen says.classes h.names) behind_classes in
-    let behind_treatment = line_then (codes "classes" ∷ decimal (length says.classes) ∷ []) (classes ++ (codes "automata" ∷ decimal (length says.parts) ∷ []) ∷ (parts ++ (codes "end" ∷ []) ∷ [])) (classes_again (length says.classes) h.class_count).seen behind_count in
+    let after_parts = lines_then parts ((codes "end" ∷ []) ∷ []) (many_lines (IsPartText (length says.classes)) (part_lines says.asked) (part_lines_seen says.asked (length says.classes) h.class_count) says.parts h.parts) refl in
+    let after_classes = line_then (codes "automata" ∷ decimal (length says.parts) ∷ []) (parts ++ (codes "end" ∷ []) ∷ []) (automata_again (length says.parts) h.some h.few).seen after_parts in
+    let after_count = lines_then classes ((codes "automata" ∷ decimal (length says.parts) ∷ []) ∷ (parts ++ (codes "end" ∷ []) ∷ [])) (each_line (λ name. IsTrue (is_name name)) class_line class_seen says.classes h.names) after_classes in
+    let after_treatment = line_then (codes "classes" ∷ decimal (length says.classes) ∷ []) (classes ++ (codes "automata" ∷ decimal (length says.parts) ∷ []) ∷ (parts ++ (codes "end" ∷ []) ∷ [])) (classes_again (length says.classes) h.class_count).seen after_count in
     line_then (header_line says.asked) (treatment_line says.ndfa ∷ (codes "classes" ∷ decimal (length says.classes) ∷ []) ∷ (classes ++ (codes "automata" ∷ decimal (length says.parts) ∷ []) ∷ (parts ++ (codes "end" ∷ []) ∷ []))) (header_again says.asked).seen
-    (line_then (treatment_line says.ndfa) ((codes "classes" ∷ decimal (length says.classes) ∷ []) ∷ (classes ++ (codes "automata" ∷ decimal (length says.parts) ∷ []) ∷ (parts ++ (codes "end" ∷ []) ∷ []))) (treatment_again says.ndfa).seen behind_treatment)
+    (line_then (treatment_line says.ndfa) ((codes "classes" ∷ decimal (length says.classes) ∷ []) ∷ (classes ++ (codes "automata" ∷ decimal (length says.parts) ∷ []) ∷ (parts ++ (codes "end" ∷ []) ∷ []))) (treatment_again says.ndfa).seen after_treatment)
 
 pub spelled_again : (says : TablesText) → IsTables says → tables_in (spelled says) ≡ Ok (machine_of says)
 unfolding tables_in
 spelled_again says h =
     let lines = lines_spelled (tables_lines says) (tables_lines_seen says h) in
-    let header = line_again header_in (header_line says.asked) says.asked (header_again says.asked) 1 (map joined (lines_behind says.asked says) ++ [] ∷ []) refl in
-    let behind = machine_at_again says h (1 + 1) in
-    ap (λ (ls : List (List ℕ)). line_by header_in (at 1 ls) >>= λ header. machine_at header.0 header.1) lines ∙ rw header behind
+    let header = line_again header_in (header_line says.asked) says.asked (header_again says.asked) 1 (map joined (lines_after says.asked says) ++ [] ∷ []) refl in
+    let beyond = machine_at_again says h (1 + 1) in
+    ap (λ (ls : List (List ℕ)). line_by header_in (at 1 ls) >>= λ header. machine_at header.0 header.1) lines ∙ rw header beyond
 
 pub tables_again : (text : List ℕ) (machine : machines.Machine) → TableText text machine → tables_in text ≡ Ok machine
 tables_again text machine t = ap tables_in t.spells ∙ (spelled_again t.says t.fits ∙ ap Ok (sym t.stands))

@@ -163,7 +163,7 @@ no_pairs i j d lt within = absurd (omega arith)
 pub new_names : (names : List (List ℕ)) → AreNew [] names → Differ names
 new_names names new = new_names_differ [] names no_pairs new
 
--- ---- what is told of a state
+-- ---- what is reported of a state
 
 record Grids (rest : Rest) (after : Rest) : Type 0 where
   grids : List (List (ℕ × List ℕ))
@@ -367,15 +367,15 @@ end_is : codes "end" ≡ joined (codes "end" ∷ [])
 unfolding joined
 end_is = refl
 
--- What stands behind the header of a text that is read.
-pub record Behind (asked : Bool) (rest : Rest) (machine : machines.Machine) : Type 0 where
+-- What comes after the header of a text that is read.
+pub record Beyond (asked : Bool) (rest : Rest) (machine : machines.Machine) : Type 0 where
   pub says : TablesText
   pub fits : IsTables says
   pub stands : machine ≡ machine_of says
   pub version : says.asked ≡ asked
   pub parts : rest.lines ≡ map joined (treatment_line says.ndfa ∷ (codes "classes" ∷ decimal (length says.classes) ∷ []) ∷ (map class_line says.classes ++ (codes "automata" ∷ decimal (length says.parts) ∷ []) ∷ (flat_map (part_lines asked) says.parts ++ (codes "end" ∷ []) ∷ []))) ++ [] ∷ []
 
-pub machine_at_takes : (asked : Bool) (rest : Rest) (machine : machines.Machine) → machine_at asked rest ≡ Ok machine → Behind asked rest machine
+pub machine_at_takes : (asked : Bool) (rest : Rest) (machine : machines.Machine) → machine_at asked rest ≡ Ok machine → Beyond asked rest machine
 unfolding machine_at
 machine_at_takes asked rest machine e =
     let a = bind_ok (line_by treatment_in rest)
@@ -400,7 +400,7 @@ machine_at_takes asked rest machine e =
     made : (ndfa : Bool) (one : Rest) (count : ℕ) (two : Rest) (classes : List (List ℕ)) (three : Rest) (automata : ℕ) (four : Rest) (parts : List machines.Part) (five : Rest) (x : Nothing) (six : Rest)
         (l : Line treatment_in rest ndfa one) (k : Line classes_in one count two) → classes_at count [] two ≡ Ok (classes, three) → (j : Line automata_in three automata four)
         → so_many more_asks (part_at asked count) automata [] four ≡ Ok (parts, five) → (i : Line end_in five x six) → is_over six.lines ≡ true
-        → ◌≡◌ {A = machines.Machine} (record { classes = classes; parts = parts }) machine → Behind asked rest machine
+        → ◌≡◌ {A = machines.Machine} (record { classes = classes; parts = parts }) machine → Beyond asked rest machine
     made ndfa one count two classes three automata four parts five x six l k named j looped i over is =
         let c = classes_at_take count [] two (classes, three) k.left named in
         let n = classes_take k.line count k.judged in
@@ -416,8 +416,8 @@ machine_at_takes asked rest machine e =
         let fifth = taken_then four five six (flat_map (part_lines asked) p.said) ((codes "end" ∷ []) ∷ []) p.taken sixth in
         let late = taken_then three four six ((codes "automata" ∷ decimal (length p.said) ∷ []) ∷ []) (flat_map (part_lines asked) p.said ++ (codes "end" ∷ []) ∷ []) fourth fifth in
         let middle = taken_then two three six (map class_line c.names) ((codes "automata" ∷ decimal (length p.said) ∷ []) ∷ (flat_map (part_lines asked) p.said ++ (codes "end" ∷ []) ∷ [])) c.taken late in
-        let behind = taken_then one two six ((codes "classes" ∷ decimal (length c.names) ∷ []) ∷ []) (map class_line c.names ++ (codes "automata" ∷ decimal (length p.said) ∷ []) ∷ (flat_map (part_lines asked) p.said ++ (codes "end" ∷ []) ∷ [])) second middle in
-        let whole = taken_then rest one six (treatment_line ndfa ∷ []) ((codes "classes" ∷ decimal (length c.names) ∷ []) ∷ (map class_line c.names ++ (codes "automata" ∷ decimal (length p.said) ∷ []) ∷ (flat_map (part_lines asked) p.said ++ (codes "end" ∷ []) ∷ []))) first behind in
+        let beyond = taken_then one two six ((codes "classes" ∷ decimal (length c.names) ∷ []) ∷ []) (map class_line c.names ++ (codes "automata" ∷ decimal (length p.said) ∷ []) ∷ (flat_map (part_lines asked) p.said ++ (codes "end" ∷ []) ∷ [])) second middle in
+        let whole = taken_then rest one six (treatment_line ndfa ∷ []) ((codes "classes" ∷ decimal (length c.names) ∷ []) ∷ (map class_line c.names ++ (codes "automata" ∷ decimal (length p.said) ∷ []) ∷ (flat_map (part_lines asked) p.said ++ (codes "end" ∷ []) ∷ []))) first beyond in
         let low = n.1 in
         let some = m.1 in
         let few = m.2 in
@@ -432,9 +432,9 @@ machine_at_takes asked rest machine e =
           parts = whole.parts ∙ ap (λ (xs : List (List ℕ)). map joined (treatment_line says.ndfa ∷ (codes "classes" ∷ decimal (length says.classes) ∷ []) ∷ (map class_line says.classes ++ (codes "automata" ∷ decimal (length says.parts) ∷ []) ∷ (flat_map (part_lines asked) says.parts ++ (codes "end" ∷ []) ∷ []))) ++ xs) (over_is six.lines i.left over);
         }
 
--- the lines behind the header
-abbrev pub lines_behind : (asked : Bool) → TablesText → List (List (List ℕ))
-lines_behind asked says = treatment_line says.ndfa ∷ (codes "classes" ∷ decimal (length says.classes) ∷ []) ∷ (map class_line says.classes ++ (codes "automata" ∷ decimal (length says.parts) ∷ []) ∷ (flat_map (part_lines asked) says.parts ++ (codes "end" ∷ []) ∷ []))
+-- the lines after the header
+abbrev pub lines_after : (asked : Bool) → TablesText → List (List (List ℕ))
+lines_after asked says = treatment_line says.ndfa ∷ (codes "classes" ∷ decimal (length says.classes) ∷ []) ∷ (map class_line says.classes ++ (codes "automata" ∷ decimal (length says.parts) ∷ []) ∷ (flat_map (part_lines asked) says.parts ++ (codes "end" ∷ []) ∷ []))
 
 pub tables_take : (text : List ℕ) (machine : machines.Machine) → tables_in text ≡ Ok machine → TableText text machine
 unfolding tables_in
@@ -443,6 +443,6 @@ tables_take text machine e =
     let l = line_takes header_in (record { number = 1; lines = lines_in text }) a.0 a.1 in
     let b = machine_at_takes a.0.0 a.0.1 machine a.2 in
     let first : l.line ≡ joined (header_line a.0.0) = header_takes l.line a.0.0 l.judged in
-    let lines : lines_in text ≡ map joined (header_line a.0.0 ∷ lines_behind a.0.0 b.says) ++ [] ∷ [] = l.parts ∙ (ap (λ (x : List ℕ). x ∷ a.0.1.lines) first ∙ ap (λ (xs : List (List ℕ)). joined (header_line a.0.0) ∷ xs) b.parts) in
-    let own = subst (λ (asked : Bool). lines_in text ≡ map joined (header_line asked ∷ lines_behind asked b.says) ++ [] ∷ []) (sym b.version) lines in
+    let lines : lines_in text ≡ map joined (header_line a.0.0 ∷ lines_after a.0.0 b.says) ++ [] ∷ [] = l.parts ∙ (ap (λ (x : List ℕ). x ∷ a.0.1.lines) first ∙ ap (λ (xs : List (List ℕ)). joined (header_line a.0.0) ∷ xs) b.parts) in
+    let own = subst (λ (asked : Bool). lines_in text ≡ map joined (header_line asked ∷ lines_after asked b.says) ++ [] ∷ []) (sym b.version) lines in
     record { says = b.says; fits = b.fits; spells = text_of_lines text (tables_lines b.says) own; stands = b.stands }

@@ -1,4 +1,4 @@
--- Where a text ends, and the faults that are told of its first line and of its end.
+-- Where a text ends, and the faults that are reported of its first line and of its end.
 use Rattle.std.specs.Prelude.{ℕ, List, length}
 use Rattle.hz_tabtext_model.specs.Judging.{Fault, bad_header, truncated, trailing}
 use Rattle.hz_tabtext_model.specs.Reading.{lines_in}
@@ -15,6 +15,6 @@ bad_header_at line = record { kind = bad_header; line = line }
 abbrev pub truncated_at : ℕ → Fault
 truncated_at line = record { kind = truncated; line = line }
 
--- something stands behind the end, from this line on
+-- something comes after the end, from this line on
 abbrev pub trailing_at : ℕ → Fault
 trailing_at line = record { kind = trailing; line = line }

@@ -22,14 +22,14 @@ abbrev pub is_headed : List ℕ → List (List ℕ) → Bool
 is_headed word [] = false
 is_headed word (first ∷ fields) = bytes_eq first word
 
--- the fields behind the word, none of them empty
-abbrev pub behind : List ℕ → List (List ℕ) → Result (List (List ℕ)) Kind
-behind word [] = Err bad_line
-behind word (first ∷ fields) = if bytes_eq first word && list_all (λ field. not (is_nil field)) fields then Ok fields else Err bad_line
+-- the fields after the word, none of them empty
+abbrev pub beyond : List ℕ → List (List ℕ) → Result (List (List ℕ)) Kind
+beyond word [] = Err bad_line
+beyond word (first ∷ fields) = if bytes_eq first word && list_all (λ field. not (is_nil field)) fields then Ok fields else Err bad_line
 
--- the fields that stand behind the word of a line
+-- the fields that come after the word of a line
 unfoldable pub operands : (word line : List ℕ) → Result (List (List ℕ)) Kind
-operands word line = behind word (fields_of line)
+operands word line = beyond word (fields_of line)
 
 -- the one field, where there is just one
 abbrev pub only : List (List ℕ) → Result (List ℕ) Kind
@@ -43,11 +43,11 @@ three (a ∷ []) = Err bad_line
 three (a ∷ b ∷ []) = Err bad_line
 three (a ∷ b ∷ c ∷ fields) = if is_nil fields then Ok (a, b, c) else Err bad_line
 
--- the one field behind the word of a line
+-- the one field after the word of a line
 abbrev pub one_in : (word line : List ℕ) → Result (List ℕ) Kind
 one_in word line = operands word line >>= only
 
--- the three fields behind the word of a line
+-- the three fields after the word of a line
 abbrev pub three_in : (word line : List ℕ) → Result (List ℕ × List ℕ × List ℕ) Kind
 three_in word line = operands word line >>= three
 
@@ -88,7 +88,7 @@ advance_in states field = number_below states field >>= λ state. Ok (Some state
 abbrev pub is_colon : ℕ → Bool
 is_colon b = b == 58
 
--- whether a field of a grid has a colon, and a name behind the first one
+-- whether a field of a grid has a colon, and a name after the first one
 abbrev pub has_unit : List ℕ → Bool
 has_unit field = is_name (after_first is_colon field)
 

@@ -2,11 +2,11 @@
 use Rattle.std.specs.Prelude.{ℕ, List, [], ◌∷◌, codes, Result, Ok, Err}
 
 -- What can be wrong with a tables text: its first line is another; a line that is no line of its place; a field that is
--- no number; a number out of its range; the text ends within a line; something stands behind the end.
+-- no number; a number out of its range; the text ends within a line; something comes after the end.
 pub data Kind : Type 0 where
   bad_header bad_line bad_number out_of_range truncated trailing : Kind
 
--- the word by which a fault is told: docs/FORMATS.md, 'Answers'
+-- the word by which a fault is reported: docs/FORMATS.md, 'Answers'
 abbrev pub tables_word : Kind → List ℕ
 tables_word bad_header = codes "BadHeader"
 tables_word bad_line = codes "BadLine"

@@ -1,4 +1,4 @@
--- What each line must be at its place. Of a line that may be dropped only what is wrong with it is told.
+-- What each line must be at its place. Of a line that may be dropped only what is wrong with it is reported.
 use Rattle.std.specs.Prelude.{ℕ, ◌+◌, ◌*◌, ◌==◌, ◌&&◌, not, nat_le, Bool, true, false, if◌then◌else◌, List, [], ◌∷◌, ◌++◌, Option, Result, Ok, Err, length, take, drop, codes}
 use Rattle.std.specs.List.{list_all, list_any}
 use Rattle.std.specs.Str.{bytes_eq}
@@ -32,7 +32,7 @@ classes_in line = do
 abbrev pub is_new : (before : List (List ℕ)) (name : List ℕ) → Bool
 is_new before name = not (list_any (bytes_eq name) before)
 
--- `class NAME`, behind other classes
+-- `class NAME`, after other classes
 unfoldable pub class_in : (before : List (List ℕ)) (line : List ℕ) → Result (List ℕ) Kind
 class_in before line = do
   name ← one_in (codes "class") line

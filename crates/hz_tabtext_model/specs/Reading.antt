@@ -6,7 +6,7 @@ use Rattle.hz_tabtext_model.specs.Judging.{Kind, truncated, trailing, Fault, ◌
 use Rattle.hz_tabtext_model.specs.Fields.{is_nil, fields_of, is_headed}
 use Rattle.hz_tabtext_model.specs.Lines.{header_in, treatment_in, classes_in, class_in, automata_in, head_in, map_in, counts_in, row_in, origin_in, grid_in, end_in, asks_in}
 
--- What is left of a text: the number of its first line, and its lines. The last is what stands behind the last line feed:
+-- What is left of a text: the number of its first line, and its lines. The last is what comes after the last line feed:
 -- it is not ended, and empty where the text ends with a line feed.
 pub record Rest : Type 0 where
   pub number : ℕ
@@ -38,7 +38,7 @@ so_many next read (suc n) known rest = do
   others ← so_many next read n (next known first.0) first.1
   Ok (first.0 ∷ others.0, others.1)
 
--- so many classes, behind others
+-- so many classes, after others
 unfoldable pub classes_at : ℕ → (before : List (List ℕ)) → Rest → Result (List (List ℕ) × Rest) Fault
 classes_at zero before rest = Ok (before, rest)
 classes_at (suc n) before rest = do
@@ -66,7 +66,7 @@ grids_from number (line ∷ others) =
     then (judged grid_in number line others >>= λ x. grids_from (number + 1) others)
     else Ok (record { number = number; lines = line ∷ others })
 
--- what is told of a state of a table of so many columns and states, where it comes
+-- what is reported of a state of a table of so many columns and states, where it comes
 unfoldable pub shown_at : (columns states : ℕ) → Rest → Result Rest Fault
 shown_at columns states rest =
     if comes (codes "from") rest
@@ -107,7 +107,7 @@ abbrev pub is_over : List (List ℕ) → Bool
 is_over [] = true
 is_over (line ∷ others) = is_nil line && is_nil others
 
--- behind the header
+-- after the header
 unfoldable pub machine_at : (asked : Bool) → Rest → Result Machine Fault
 machine_at asked rest = do
   treatment ← line_by treatment_in rest

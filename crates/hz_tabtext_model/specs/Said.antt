@@ -28,7 +28,7 @@ origin_said places state = if state == 0 then None else Some (place_of places st
 abbrev pub shown_said : (units : List (List ℕ)) → (state : ℕ) → compiled.Shown → Shown
 shown_said units state shown = record { origin = origin_said shown.parents state; grids = map (named_grid units) (slice_index_or shown.states state []) }
 
--- a state with its number: its row, and what it is, where that is told
+-- a state with its number: its row, and what it is, where that is reported
 abbrev pub row_said : (units : List (List ℕ)) → Option compiled.Shown → ℕ × List (Option ℕ) → RowText
 row_said units shown row = record { entries = row.1; shown = option_map (shown_said units row.0) shown }
 
@@ -36,7 +36,7 @@ row_said units shown row = record { entries = row.1; shown = option_map (shown_s
 abbrev pub counts_said : Report → Counts
 counts_said report = record { grids = report.grids; states = report.states; members = report.members }
 
--- an automaton with these units, of which this is told
+-- an automaton with these units, of which this is reported
 abbrev pub part_said : (stats : Bool) → (units : List (List ℕ)) → Report → Part → PartText
 part_said stats units report part = record {
   name = part.name;
@@ -48,7 +48,7 @@ part_said stats units report part = record {
 }
 
 -- All that is said of a machine: it has lines of asks exactly where a part has an ask; the treatment is that of the options,
--- and counts are told with the option `stats`.
+-- and counts are reported with the option `stats`.
 abbrev pub tables_said : Options → List AutomatonParts → List Report → Machine → TablesText
 tables_said options automata reports m = record {
   asked = not (is_nil (names_of m.parts));
@@ -65,11 +65,11 @@ pub record IsShownOf (units : List (List ℕ)) (part : Part) (shown : compiled.S
   pub within : (state : ℕ) → 0 < state → state < length part.rows → ((place_of shown.parents state).0 < length part.rows) × ((place_of shown.parents state).1 ≤ part.columns)
   pub named : All (All (All (λ pair. pair.unit < length units))) shown.states
 
--- A machine with a part and a report for each automaton. What each state is is told beside both `v` and
+-- A machine with a part and a report for each automaton. What each state is is reported beside both `v` and
 -- `no-minimization`, and never else. Law: `compiled_machines_can_be_said`.
 pub record CanBeSaid (options : Options) (automata : List AutomatonParts) (reports : List Report) (m : Machine) : Type 0 where
   pub parts : length m.parts ≡ length automata
-  pub told : length reports ≡ length automata
+  pub reported : length reports ≡ length automata
   pub shown : (a : ℕ) → a < length automata → MatchBool (shows_states options) (IsSomeAnd (report_at reports a).shown (IsShownOf (automaton_at automata a).units (part_at m a))) ((report_at reports a).shown ≡ None)
 
 -- What holds of a compiled description by the types of what it is made of: names are names, no table has too many rows,

@@ -7,13 +7,13 @@ use Rattle.hz_base_model.specs.Limits.{automaton_limit, class_limit, cycle_limit
 use Rattle.hz_pipeline_model.specs.Tables.StateLimits.{state_limit, cell_limit}
 use Rattle.hz_pipeline_model.specs.Tables.Machines as machines
 
--- What is told of a state beside its row: the row and column where it is read first, none for the start; and its grids,
+-- What is reported of a state beside its row: the row and column where it is read first, none for the start; and its grids,
 -- each a list of cycles and names of units.
 pub record Shown : Type 0 where
   pub origin : Option (ℕ × ℕ)
   pub grids : List (List (ℕ × List ℕ))
 
--- A state: its entries, the advance last, and what is told of it, if anything is.
+-- A state: its entries, the advance last, and what is reported of it, if anything is.
 pub record RowText : Type 0 where
   pub entries : List (Option ℕ)
   pub shown : Option Shown
@@ -25,7 +25,7 @@ pub record Counts : Type 0 where
   pub members : ℕ
 
 -- An automaton: its name, how many columns its classes have, the column of each class, the names of the units that are asked
--- for, its counts, if they are told, and its states.
+-- for, its counts, if they are reported, and its states.
 pub record PartText : Type 0 where
   pub name : List ℕ
   pub columns : ℕ
@@ -72,7 +72,7 @@ pair_field pair = decimal pair.0 ++ 58 ∷ pair.1
 abbrev pub grid_line : List (ℕ × List ℕ) → List (List ℕ)
 grid_line grid = codes "grid" ∷ map pair_field grid
 
--- the lines of what is told of a state
+-- the lines of what is reported of a state
 abbrev pub shown_lines : Option Shown → List (List (List ℕ))
 shown_lines None = []
 shown_lines (Some shown) = origin_line shown.origin ∷ map grid_line shown.grids
@@ -81,7 +81,7 @@ shown_lines (Some shown) = origin_line shown.origin ∷ map grid_line shown.grid
 abbrev pub row_lines : RowText → List (List (List ℕ))
 row_lines row = entries_line row.entries ∷ shown_lines row.shown
 
--- `stats GRIDS STATES MEMBERS`, where the counts are told
+-- `stats GRIDS STATES MEMBERS`, where the counts are reported
 abbrev pub counts_lines : Option Counts → List (List (List ℕ))
 counts_lines None = []
 counts_lines (Some counts) = (codes "stats" ∷ decimal counts.grids ∷ decimal counts.states ∷ decimal counts.members ∷ []) ∷ []
@@ -135,7 +135,7 @@ pub record IsPair (pair : ℕ × List ℕ) : Type 0 where
   pub cycle : pair.0 < cycle_limit
   pub unit : IsTrue (is_name pair.1)
 
--- What is told of a state of a table of so many columns and states: its origin is a row and a column of that table, the
+-- What is reported of a state of a table of so many columns and states: its origin is a row and a column of that table, the
 -- advance among them.
 pub record IsShown (columns states : ℕ) (shown : Shown) : Type 0 where
   pub origin : IfSome shown.origin (λ place. (place.0 < states) × (place.1 ≤ columns))
@@ -199,7 +199,7 @@ pub record IsTables (says : TablesText) : Type 0 where
   pub asks : AllPairs (λ a b. a ≢ b) (asks_said says.parts)
   pub version : IsFalse says.asked → asks_said says.parts ≡ []
 
--- an automaton as a part of a machine: its counts and what is told of its states are dropped
+-- an automaton as a part of a machine: its counts and what is reported of its states are dropped
 abbrev pub part_of : PartText → machines.Part
 part_of part = record { name = part.name; map = part.map; columns = part.columns; asks = part.asks; rows = map (λ row. row.entries) part.rows }
 

@@ -9,7 +9,7 @@ ghost use Rattle.hz_pipeline_model.specs.Tables.Machines.{Machine, IsMachine};
 ghost use Rattle.hz_tabtext_model.specs.Texts.{TableText, spelled};
 ghost use Rattle.hz_tabtext_model.specs.Said.{tables_said, CanBeSaid, IsInRange};
 
-/// What is said of a compiled description stands for its machine, whatever is told beside the rows.
+/// What is said of a compiled description stands for its machine, whatever is reported beside the rows.
 pub fn compiled_texts_stand_for_machines()
     ensures { (options : Options) (automata : List AutomatonParts) (reports : List Report) (m : Machine) → CanBeSaid options automata reports m → IsMachine m → IsInRange automata reports m → TableText (spelled (tables_said options automata reports m)) m }
 {}

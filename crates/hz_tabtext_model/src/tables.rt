@@ -23,7 +23,7 @@ pub fn machines_or_faults()
     ensures not_both { (text : List ℕ) (machine : Machine) (fault : Fault) → TableText text machine → tables_in text ≡ Err fault → ⊥ }
 {}
 
-/// What is spelled is read as the machine that is said, whichever lines are told beside it.
+/// What is spelled is read as the machine that is said, whichever lines are reported beside it.
 pub fn spelled_texts_are_read()
     ensures { (says : TablesText) → IsTables says → tables_in (spelled says) ≡ Ok (machine_of says) }
 {}

@@ -43,14 +43,14 @@ writes_stored [] = refl
 writes_stored (w ∷ writes) = ap (λ (xs : List Store). stored_by w ∷ xs) (writes_stored writes)
 
 pub state_left : (s : State) (writes : List Write) (lefts : List Left) → map note_of writes ≡ notes_of lefts → all_stored s (map stored_by writes) ≡ left_state s lefts
-state_left s writes lefts told =
-    ap (all_stored s) (writes_stored writes ∙ ap (map stored_note) told) ∙ sym (left_is s lefts)
+state_left s writes lefts reported =
+    ap (all_stored s) (writes_stored writes ∙ ap (map stored_note) reported) ∙ sym (left_is s lefts)
 
 -- what is left and what was read, together
 pub exposed_is : (block : List blocks.Instruction) (number : ℕ → ℕ → ℕ) (start : State) (slots : List Slot) (writes : List Write) (s : State) (reads : List Read) → s ≡ all_stored start (map stored_by writes)
     → map note_of writes ≡ notes_of (lefts_of block number start [] slots) → reads ≡ (exposed block number start slots).reads → record { state = s; reads = reads } ≡ exposed block number start slots
-exposed_is block number start slots writes s reads is told same =
-    join s (left_state start (lefts_of block number start [] slots)) reads (exposed block number start slots).reads (is ∙ state_left start writes (lefts_of block number start [] slots) told) same
+exposed_is block number start slots writes s reads is reported same =
+    join s (left_state start (lefts_of block number start [] slots)) reads (exposed block number start slots).reads (is ∙ state_left start writes (lefts_of block number start [] slots) reported) same
   where
     together : State → List Read → Timed
     together t rs = record { state = t; reads = rs }

@@ -24,10 +24,10 @@ abbrev pub last_write : (Write → Bool) → List Write → Option Write
 last_write test [] = None
 last_write test (w ∷ writes) = or_first (last_write test writes) (cond (test w) (Some w) None)
 
--- the numbers behind a first write
-behind_first : (test : Write → Bool) (w : Write) (writes : List Write) (n : ℕ) → last_below (passes test (w ∷ writes)) (suc n) ≡ or_first (option_map suc (last_below (passes test writes) n)) (cond (test w) (Some 0) None)
-behind_first test w writes zero = refl
-behind_first test w writes (suc n) = go (passes test writes n) (behind_first test w writes n)
+-- the numbers after a first write
+after_first : (test : Write → Bool) (w : Write) (writes : List Write) (n : ℕ) → last_below (passes test (w ∷ writes)) (suc n) ≡ or_first (option_map suc (last_below (passes test writes) n)) (cond (test w) (Some 0) None)
+after_first test w writes zero = refl
+after_first test w writes (suc n) = go (passes test writes n) (after_first test w writes n)
   where
     go : (b : Bool) → last_below (passes test (w ∷ writes)) (suc n) ≡ or_first (option_map suc (last_below (passes test writes) n)) (cond (test w) (Some 0) None)
         → cond b (Some (suc n)) (last_below (passes test (w ∷ writes)) (suc n)) ≡ or_first (option_map suc (cond b (Some n) (last_below (passes test writes) n))) (cond (test w) (Some 0) None)
@@ -37,7 +37,7 @@ behind_first test w writes (suc n) = go (passes test writes n) (behind_first tes
 found : (test : Write → Bool) (writes : List Write) → written_at writes (last_below (passes test writes) (length writes)) ≡ last_write test writes
 found test [] = refl
 found test (w ∷ writes) =
-    ap (written_at (w ∷ writes)) (behind_first test w writes (length writes))
+    ap (written_at (w ∷ writes)) (after_first test w writes (length writes))
     ∙ (go (last_below (passes test writes) (length writes)) (test w) (λ k e. last_is_below (passes test writes) (length writes) k e)
     ∙ ap (λ (o : Option Write). or_first o (cond (test w) (Some w) None)) (found test writes))
   where
@@ -66,7 +66,7 @@ as_notes test (w ∷ writes) =
 
 -- What a slot finds among the writes.
 module _ (block : List Instruction) (number : ℕ → ℕ → ℕ) (start : State) (writes : List Write) (lefts : List Left) (slot : Slot) (x : model.Slot) (same_place_is : x.place ≡ slot.place) (same_cycle : x.cycle ≡ slot.cycle)
-    (told : map note_of writes ≡ notes_of lefts) (p : Place) where
+    (reported : map note_of writes ≡ notes_of lefts) (p : Place) where
   abbrev ripe : ℕ → ℕ → Bool
   ripe place cycle = nat_le (cycle + number place slot.place) slot.cycle
 
@@ -80,7 +80,7 @@ module _ (block : List Instruction) (number : ℕ → ℕ → ℕ) (start : Stat
   note_is : option_map note_of (written_at writes (last_ripe number slot writes p)) ≡ last_of (notes.test ripe p) (notes_of lefts)
   note_is =
       ap (option_map note_of) (found test writes)
-      ∙ (sym (as_notes (notes.test ripe p) writes) ∙ ap (last_of (notes.test ripe p)) told)
+      ∙ (sym (as_notes (notes.test ripe p) writes) ∙ ap (last_of (notes.test ripe p)) reported)
 
   by_slot : newest (λ l. ripe l.place l.cycle) lefts p ≡ newest (is_ripe block number start x) lefts p
   by_slot = ap (λ (q : ℕ). newest (λ l. nat_le (l.cycle + number l.place q) slot.cycle) lefts p) (sym same_place_is) ∙ ap (λ (c : ℕ). newest (λ l. nat_le (l.cycle + number l.place x.place) c) lefts p) (sym same_cycle)

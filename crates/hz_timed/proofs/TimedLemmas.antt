@@ -18,12 +18,12 @@ use Rattle.hz_timed.specs.Reads.{read_among}
 use Rattle.hz_sched.specs.Shape.{slot_of}
 use Rattle.hz_timed.proofs.SeenLemmas.{sees_word, sees_writer}
 
-module _ (block : List Instruction) (number : ℕ → ℕ → ℕ) (start : State) (writes : List Write) (lefts : List Left) (slot : Slot) (i : Instruction) (here : slice_get block slot.place ≡ Some i) (told : map note_of writes ≡ notes_of lefts) where
+module _ (block : List Instruction) (number : ℕ → ℕ → ℕ) (start : State) (writes : List Write) (lefts : List Left) (slot : Slot) (i : Instruction) (here : slice_get block slot.place ≡ Some i) (reported : map note_of writes ≡ notes_of lefts) where
   seen_is : seen_by start writes number slot ≡ seen block number (words start) lefts (slot_of slot)
-  seen_is = fun_ext (λ p. sees_word block number (words start) writes lefts slot (slot_of slot) refl refl told p)
+  seen_is = fun_ext (λ p. sees_word block number (words start) writes lefts slot (slot_of slot) refl refl reported p)
 
   read_is : (n : ℕ) (p : model.Place) → read_among writes number slot n p ≡ read_by block number (words start) n lefts (slot_of slot) p
-  read_is n p = ap (λ (f : Option ℕ). record { slot = n; what = p; from = f }) (sees_writer block number (words start) writes lefts slot (slot_of slot) refl refl told p)
+  read_is n p = ap (λ (f : Option ℕ). record { slot = n; what = p; from = f }) (sees_writer block number (words start) writes lefts slot (slot_of slot) refl refl reported p)
 
   all_reads : (n : ℕ) (ps : List model.Place) → map (read_among writes number slot n) ps ≡ map (read_by block number (words start) n lefts (slot_of slot)) ps
   all_reads n [] = refl
@@ -42,7 +42,7 @@ module _ (block : List Instruction) (number : ℕ → ℕ → ℕ) (start : Stat
   pub notes_are : (stores : List Kept) → map store_of stores ≡ model.stores_of i (seen_by start writes number slot)
       → map note_of writes ++ map (λ (k : Kept). record { place = slot.place; cycle = slot.cycle; at = place_of k.what; word = k.word }) stores ≡ notes_of (left_by block number (words start) lefts (slot_of slot) ∷ lefts)
   notes_are stores are =
-      ap (λ (ns : List Note). ns ++ map (λ (k : Kept). record { place = slot.place; cycle = slot.cycle; at = place_of k.what; word = k.word }) stores) told
+      ap (λ (ns : List Note). ns ++ map (λ (k : Kept). record { place = slot.place; cycle = slot.cycle; at = place_of k.what; word = k.word }) stores) reported
       ∙ ap (λ (ns : List Note). notes_of lefts ++ ns) (twice stores ∙ ap (map (note (left_by block number (words start) lefts (slot_of slot)))) (are ∙ left_is))
     where
       left_is : model.stores_of i (seen_by start writes number slot) ≡ stores_in (slice_get block slot.place) (seen block number (words start) lefts (slot_of slot))

@@ -24,7 +24,7 @@ there [] k d lt = absurd (omega arith)
 there (x ∷ xs) zero d lt = Contains-head x xs
 there (x ∷ xs) (suc k) d lt = Contains-tail x (get_or xs k d) xs (there xs k d (omega arith))
 
--- writes and those of a slot behind them are of instructions of the block
+-- writes and those of a slot after them are of instructions of the block
 pub all_within : (before after : List Write) (slot : Slot) (stores : List Kept) (count : ℕ) → slot.place < count
     → map note_of after ≡ map note_of before ++ map (λ (k : Kept). record { place = slot.place; cycle = slot.cycle; at = place_of k.what; word = k.word }) stores
     → All (λ w. w.place < count) before → All (λ w. w.place < count) after

@@ -52,10 +52,10 @@ same_some x y h = cc
 
 -- The instruction at a place, counted from a number on, is the first whose class is wrong.
 pub record IsWrongAt (d : Description) (insns : List Insn) (n place : ℕ) (e : ClassFault) : Type 0 where
-  pub behind : ℕ
-  pub place_is : place ≡ n + behind
+  pub beyond : ℕ
+  pub place_is : place ≡ n + beyond
   pub insn : Insn
-  pub there : slice_get insns behind ≡ Some insn
+  pub there : slice_get insns beyond ≡ Some insn
   pub first : IsFirstClassFault d (map instruction insns) (instruction insn) e
 
 -- a graph has as many instructions as its block
@@ -129,19 +129,19 @@ module _ (d : Description) (checked : Checked) (is : IsCheckedOf d checked) wher
   wrong_from n (i ∷ rest) place e h = go (class_for checked i) (sym (class_same i)) h (wrong_from (suc n) rest place e)
     where
       go : (r : Result ℕ ClassFault) → class_in d (instruction i) ≡ r → first_of n r (first_class_fault (suc n) checked rest) ≡ Some (place, e) → (first_class_fault (suc n) checked rest ≡ Some (place, e) → IsWrongAt d rest (suc n) place e) → IsWrongAt d (i ∷ rest) n place e
-      go (Err wrong) same told further =
-          let (here, fault) = same_pair n place wrong e told in
+      go (Err wrong) same reported further =
+          let (here, fault) = same_pair n place wrong e reported in
           record {
-            behind = 0;
+            beyond = 0;
             place_is = omega (arith, here);
             insn = i;
             there = refl;
             first = record { before = []; after = map instruction rest; parts = refl; good = All-nil (λ j. (class : ℕ) × (class_in d j ≡ Ok class)); wrong = same ∙ ap (λ (w : ClassFault). Err w) fault };
           }
-      go (Ok class) same told further =
-          let later = further told in
+      go (Ok class) same reported further =
+          let later = further reported in
           record {
-            behind = suc later.behind;
+            beyond = suc later.beyond;
             place_is = let at = later.place_is in omega (arith, at);
             insn = later.insn;
             there = later.there;
@@ -156,9 +156,9 @@ module _ (d : Description) (checked : Checked) (is : IsCheckedOf d checked) wher
 
   -- the first instruction whose class is wrong
   pub first_wrong : (insns : List Insn) (place : ℕ) (e : ClassFault) (insn : Insn) → first_class_fault 0 checked insns ≡ Some (place, e) → slice_get insns place ≡ Some insn → IsFirstClassFault d (map instruction insns) (instruction insn) e
-  first_wrong insns place e insn told there =
-      let found = wrong_from 0 insns place e told in
-      let at : found.behind ≡ place = let is = found.place_is in omega (arith, is) in
+  first_wrong insns place e insn reported there =
+      let found = wrong_from 0 insns place e reported in
+      let at : found.beyond ≡ place = let is = found.place_is in omega (arith, is) in
       let one = same_some found.insn insn (sym found.there ∙ (ap (slice_get insns) at ∙ there)) in
       subst (λ (x : Insn). IsFirstClassFault d (map instruction insns) (instruction x) e) one found.first
 
@@ -212,7 +212,7 @@ one_below m (a ∷ b ∷ others) all =
     let rest = All-tail (λ k. k < m) a (b ∷ others) all in
     (All-head (λ k. k < m) a (b ∷ others) all, All-head (λ k. k < m) b others rest)
 
--- the classes that are told of an instruction are among those of the conditions
+-- the classes that are reported of an instruction are among those of the conditions
 class_below : (defined : List (List ℕ × List (List ℕ))) (defaults : List (List ℕ × List ℕ)) (conditions : List Condition) (given : List (List ℕ × List ℕ)) → MatchResult (classes.class_of defined defaults conditions given) (λ _. ⊤) (IsFaultIn (length conditions))
 class_below defined defaults conditions given =
     go (classes.first_fault defined given) (holding_from 0 (value_of given defaults) conditions) (first_below (length conditions) defined given) (holding_below 0 (length conditions) (value_of given defaults) conditions (omega arith))
@@ -221,14 +221,14 @@ class_below defined defaults conditions given =
     go (Some fault) numbers h all = h
     go None numbers h all = one_below (length conditions) numbers all
 
--- of all that is told of a block: the place is one of it, and the classes are of the description
+-- of all that is reported of a block: the place is one of it, and the classes are of the description
 pub wrong_within : (checked : Checked) (n : ℕ) (insns : List Insn) (place : ℕ) (e : ClassFault) → first_class_fault n checked insns ≡ Some (place, e) → place < n + length insns
 wrong_within checked n [] place e h = absurd (cc)
 wrong_within checked n (i ∷ insns) place e h = go (class_for checked i) h (wrong_within checked (suc n) insns place e)
   where
     go : (r : Result ℕ ClassFault) → first_of n r (first_class_fault (suc n) checked insns) ≡ Some (place, e) → (first_class_fault (suc n) checked insns ≡ Some (place, e) → place < suc n + length insns) → place < n + length (i ∷ insns)
-    go (Err wrong) told further = let here = (same_pair n place wrong e told).0 in omega (arith, here)
-    go (Ok class) told further = let low = further told in omega (arith, low)
+    go (Err wrong) reported further = let here = (same_pair n place wrong e reported).0 in omega (arith, here)
+    go (Ok class) reported further = let low = further reported in omega (arith, low)
 
 pub wrong_below : (checked : Checked) (n : ℕ) (insns : List Insn) (place : ℕ) (e : ClassFault) → first_class_fault n checked insns ≡ Some (place, e) → IsFaultIn (length checked.classes.items) e
 wrong_below checked n [] place e h = absurd (cc)
@@ -240,5 +240,5 @@ wrong_below checked n (i ∷ insns) place e h = go (class_for checked i) below h
         (class_below (map attribute_of checked.attributes.items) checked.defaults.items (conditions_of checked.classes.items) i.attrs.items)
 
     go : (r : Result ℕ ClassFault) → MatchResult r (λ _. ⊤) (IsFaultIn (length checked.classes.items)) → first_of n r (first_class_fault (suc n) checked insns) ≡ Some (place, e) → (first_class_fault (suc n) checked insns ≡ Some (place, e) → IsFaultIn (length checked.classes.items) e) → IsFaultIn (length checked.classes.items) e
-    go (Err wrong) fine told further = subst (IsFaultIn (length checked.classes.items)) (same_pair n place wrong e told).1 fine
-    go (Ok class) fine told further = further told
+    go (Err wrong) fine reported further = subst (IsFaultIn (length checked.classes.items)) (same_pair n place wrong e reported).1 fine
+    go (Ok class) fine reported further = further reported

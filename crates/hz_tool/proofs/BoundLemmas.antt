@@ -1,4 +1,4 @@
--- The bound that is made of what is held of a description is the one by the description, and its text is told.
+-- The bound that is made of what is held of a description is the one by the description, and its text is reported.
 use Rattle.std.proofs.Common.{◌≡◌, ℕ, List, map, sym, ap, ◌∙◌, subst}
 use Rattle.hz_block_model.specs.Running.Blocks.{Instruction}
 use Rattle.hz_block_model.specs.Scheduling.Schedules.{Graph, Slot, present}
@@ -27,8 +27,8 @@ module _ (d : Description) (checked : Checked) (is : IsCheckedOf d checked) wher
       (subst (λ (names : List (List (List ℕ))). IsBoundBy (ways_by (map (λ (c : ClassParts). c.lists) (map (class_parts d is.known) d.classes))) names g b) same_names
       (subst (λ (parts : List ClassParts). IsBoundBy (ways_by (map (λ (c : ClassParts). c.lists) parts)) (names_of checked) g b) is.classes h))
 
-  pub bound_told : (block : Block) (graph : depend.Graph) (b : Bound) (slots : List Slot) → map (λ i. i.number) graph.insns.items ≡ map (λ i. i.number) block.insns.items
+  pub bound_reported : (block : Block) (graph : depend.Graph) (b : Bound) (slots : List Slot) → map (λ i. i.number) graph.insns.items ≡ map (λ i. i.number) block.insns.items
       → bound_text (names_of checked) (map (λ i. i.number) graph.insns.items) b (present 0 slots) ≡ text_of_bound d (instructions block) b slots
-  bound_told block graph b slots numbers =
+  bound_reported block graph b slots numbers =
       ap (λ (names : List (List (List ℕ))). bound_text names (map (λ i. i.number) graph.insns.items) b (present 0 slots)) same_names
       ∙ ap (λ (ns : List ℕ). bound_text (unit_names d) ns b (present 0 slots)) (numbers ∙ sym (map_twice (λ (i : Instruction). i.number) instruction block.insns.items))

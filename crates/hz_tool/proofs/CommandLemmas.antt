@@ -78,7 +78,7 @@ module _ (d : Description) (checked : Checked) (is : IsCheckedOf d checked) (mac
   pub block_schedule : IsScheduleOf d is.known (instructions block) (graph_of graph) (slots_of schedule.slots.items)
   block_schedule = schedule_is d is.known (machine_of machine) (instructions block) (graph_of graph) (slots_of schedule.slots.items) for block_graph ranges by.legal by.greedy
 
-  -- what is told of it is the answer
+  -- what is reported of it is the answer
   pub scheduled_then : (name : List ℕ) (next : ℕ → List ℕ → Type 0) (s : ℕ) (t : List ℕ) → next s t → HasClasses name d (instructions block) (Starts name d is.known (instructions block) next) s t
   scheduled_then name next s t h =
       inl (all_have_classes d (classes_of (graph_of graph)) (instructions block) block_graph.classes, inl (each_starts d is.known (machine_of machine) for (graph_of graph) (instructions block) block_graph ranges by.starts, h))

@@ -34,9 +34,9 @@ module _ (d : Description) (checked : Checked) (is : IsCheckedOf d checked) (all
       let here = subst (λ (n : ℕ). Drawn (IsWalked m) n number turns t) (classes_count d is.known m machine) drawn in
       drawn_there (length d.classes) (IsWalked m) (Accepted (pipeline_with d is.known)) (λ s of_class. (machine.walks s of_class).0) (λ s of_class. (machine.walks s of_class).1) number turns t here
 
-  pub drill_told : IsMachine m → (number turns issues cycles : ℕ) (t : List Event) (states : List ℕ) → Drawn (IsWalked m) (length m.classes) number turns t → machine_walk m t ≡ Some states → issues ≡ issues_of t → cycles ≡ cycles_of t
+  pub drill_reported : IsMachine m → (number turns issues cycles : ℕ) (t : List Event) (states : List ℕ) → Drawn (IsWalked m) (length m.classes) number turns t → machine_walk m t ≡ Some states → issues ≡ issues_of t → cycles ≡ cycles_of t
       → Drills d is.known number turns 0 (drill_text turns issues cycles states)
-  drill_told kept number turns issues cycles t states drawn left counted passed = (
+  drill_reported kept number turns issues cycles t states drawn left counted passed = (
     refl,
     record {
       events = t;

@@ -121,7 +121,7 @@ module _ (name : List ℕ) (d : Description) (block : List Instruction) (next : 
 pub few_then : (most count : ℕ) (name : List ℕ) (next : ℕ → List ℕ → Type 0) → nat_lt most count ≡ false → (s : ℕ) (t : List ℕ) → next s t → HasAtMost most count name next s t
 few_then most count name next low s t h = subst (λ (b : Bool). MatchBool b (Says 3 (insns_line name) s t) (next s t)) (sym low) h
 
--- of too many the block is told
-pub many_told : (most count : ℕ) (name : List ℕ) (next : ℕ → List ℕ → Type 0) → nat_lt most count ≡ true → HasAtMost most count name next 3 (insns_line name)
-many_told most count name next high =
+-- of too many the block is reported
+pub many_reported : (most count : ℕ) (name : List ℕ) (next : ℕ → List ℕ → Type 0) → nat_lt most count ≡ true → HasAtMost most count name next 3 (insns_line name)
+many_reported most count name next high =
     subst (λ (b : Bool). MatchBool b (Says 3 (insns_line name) 3 (insns_line name)) (next 3 (insns_line name))) (sym high) (refl, refl)

@@ -1,4 +1,4 @@
--- The kernel that is made by what is held of a description is the one by the description, and its text is told.
+-- The kernel that is made by what is held of a description is the one by the description, and its text is reported.
 use Rattle.std.proofs.Common.{◌≡◌, ℕ, suc, List, map, sym, ap, ◌∙◌, subst}
 use Rattle.std.specs.List.{repeat}
 use Rattle.hz_answer_model.proofs.WalkLaws.{map_twice}
@@ -33,10 +33,10 @@ module _ (d : Description) (checked : Checked) (is : IsCheckedOf d checked) (blo
       → IsKernel m (instructions block) (timing_of_copies d (instructions block) (graph_of graph) 3) (graph_of graph) slots interval first second
   kernel_is m slots interval first second = subst (λ (t : Timing). IsKernel m (instructions block) t (graph_of graph) slots interval first second) (same_copies 3)
 
-  pub kernel_told : (names : List (List ℕ)) (slots : List Slot) (kernel : List KernelSlot) (interval count first second : ℕ) → names ≡ class_names d → map (λ i. i.number) graph.insns.items ≡ map (λ i. i.number) block.insns.items
+  pub kernel_reported : (names : List (List ℕ)) (slots : List Slot) (kernel : List KernelSlot) (interval count first second : ℕ) → names ≡ class_names d → map (λ i. i.number) graph.insns.items ≡ map (λ i. i.number) block.insns.items
       → kernel ≡ kernel_slots interval slots → count ≡ suc (stages interval slots)
       → text_of_slots names (map (λ i. i.number) graph.insns.items) (graph_of graph) kernel interval count first second (present 0 slots) ≡ text_of_kernel d (instructions block) (graph_of graph) slots interval first second
-  kernel_told names slots kernel interval count first second same numbers made counted =
+  kernel_reported names slots kernel interval count first second same numbers made counted =
       ap (λ (ns : List (List ℕ)). text_of_slots ns (map (λ i. i.number) graph.insns.items) (graph_of graph) kernel interval count first second (present 0 slots)) same
       ∙ (ap (λ (ns : List ℕ). text_of_slots (class_names d) ns (graph_of graph) kernel interval count first second (present 0 slots)) (numbers ∙ sym (map_twice (λ (i : Instruction). i.number) instruction block.insns.items))
       ∙ (ap (λ (xs : List KernelSlot). text_of_slots (class_names d) (map (λ i. i.number) (instructions block)) (graph_of graph) xs interval count first second (present 0 slots)) made

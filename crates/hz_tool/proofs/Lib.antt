@@ -16,4 +16,4 @@ pub mod SlotLemmas
 pub mod StartLemmas
 pub mod TablesLemmas
 pub mod TimedLemmas
-pub mod ToldStates
+pub mod ReportedStates

@@ -5,9 +5,9 @@ use Rattle.std.proofs.lemmas.List.{length-map}
 use Rattle.hz_pipeline_model.specs.Traces.TraceNames.{TraceNames}
 use Rattle.hz_answer_model.specs.Answers.{ReplaysTrace, TellsLimit}
 use Rattle.hz_answer_model.specs.TableAnswers.{WalksTrace}
-use Rattle.hz_answer_model.proofs.WalkLaws.{machine_names, map_twice, told_is_held, traced_both}
+use Rattle.hz_answer_model.proofs.WalkLaws.{machine_names, map_twice, reported_is_held, traced_both}
 use Rattle.hz_front_model.specs.Texts.{states_line}
-use Rattle.hz_pipeline_model.specs.Compiling.Compiled.{IsCompiled, IsFirstPast, Report as Told}
+use Rattle.hz_pipeline_model.specs.Compiling.Compiled.{IsCompiled, IsFirstPast, Report as Reported}
 use Rattle.hz_pipeline_model.proofs.Compiling.DescriptionLaws.{machine_accepts, all_keep, first_past}
 use Rattle.hz_checked.specs.declared.checked.Checked.{Checked}
 use Rattle.hz_check.specs.Checked.{IsCheckedOf}
@@ -19,7 +19,7 @@ use Rattle.hz_description_model.specs.Reading.Descriptions.{Description, Options
 use Rattle.hz_pipeline_model.specs.Reaching.Counts.{Count}
 use Rattle.hz_pipeline_model.specs.Tables.Machines.{Machine}
 use Rattle.hz_front.specs.Refusals.{Agrees}
-use Rattle.hz_tool.proofs.ToldStates.{IsStatesTold}
+use Rattle.hz_tool.proofs.ReportedStates.{IsStatesReported}
 use Rattle.hz_tool.specs.Machines.{IsMachineFor}
 use Rattle.hz_front.specs.declared.refusal.Refusal.{Refusal}
 use Rattle.hz_front.specs.declared.refusal.Refusal.TheVariants.{Automaton, Memory}
@@ -41,7 +41,7 @@ module _ (d : Description) (checked : Checked) (is : IsCheckedOf d checked) wher
   parts = map (class_parts d is.known) d.classes
 
   -- what is compiled of what is held is compiled of the description
-  pub compiled_of : (m : Machine) (reports : List Told) → IsCompiled (options_of checked.options) (map automaton_of checked.automata.items) (map class_of checked.classes.items) m reports → IsCompiled d.options (automata_of d) parts m reports
+  pub compiled_of : (m : Machine) (reports : List Reported) → IsCompiled (options_of checked.options) (map automaton_of checked.automata.items) (map class_of checked.classes.items) m reports → IsCompiled d.options (automata_of d) parts m reports
   compiled_of m reports h =
       subst (λ (o : Options). IsCompiled o (automata_of d) parts m reports) is.options
       (subst (λ as'. IsCompiled (options_of checked.options) as' parts m reports) is.automata
@@ -54,14 +54,14 @@ module _ (d : Description) (checked : Checked) (is : IsCheckedOf d checked) wher
       (subst (λ cs. IsFirstPast (options_of checked.options) (map automaton_of checked.automata.items) cs a kind) is.classes h))
 
   -- the machine is the description's
-  pub machine_for : (m : Machine) (reports : List Told) → IsCompiled (options_of checked.options) (map automaton_of checked.automata.items) (map class_of checked.classes.items) m reports → IsMachineFor d is.known m
+  pub machine_for : (m : Machine) (reports : List Reported) → IsCompiled (options_of checked.options) (map automaton_of checked.automata.items) (map class_of checked.classes.items) m reports → IsMachineFor d is.known m
   machine_for m reports h =
       let here = compiled_of m reports h in
       record {
         keeps = all_keep d is.known m reports here;
         names = machine_names d is.known m reports here;
         walks = λ t all. machine_accepts d is.known m reports here t all is.sound;
-        tells = told_is_held d is.known m reports here is.sound;
+        tells = reported_is_held d is.known m reports here is.sound;
       }
 
   names_from : (n : ℕ) (names : List (List ℕ)) → map (λ (p : AutomatonParts). p.name) (automata_from d n names) ≡ names
@@ -73,10 +73,10 @@ module _ (d : Description) (checked : Checked) (is : IsCheckedOf d checked) wher
       sym (map_twice (λ (p : AutomatonParts). p.name) automaton_of checked.automata.items)
       ∙ (ap (map (λ (p : AutomatonParts). p.name)) is.automata ∙ names_from 0 (automaton_names d))
 
-  -- a limit of its states is told
-  pub limit_told : (name : List ℕ) (a : ℕ) (kind : Count) → IsFirstPast (options_of checked.options) (map automaton_of checked.automata.items) (map class_of checked.classes.items) a kind
-      → (told : Refusal) → IsStatesTold name (slice_index_or (map (λ x. x.name) checked.automata.items) a []) told → Agrees (TellsLimit name d is.known) told
-  limit_told name a kind first (Automaton file at) (same, named) =
+  -- a limit of its states is reported
+  pub limit_reported : (name : List ℕ) (a : ℕ) (kind : Count) → IsFirstPast (options_of checked.options) (map automaton_of checked.automata.items) (map class_of checked.classes.items) a kind
+      → (reported : Refusal) → IsStatesReported name (slice_index_or (map (λ x. x.name) checked.automata.items) a []) reported → Agrees (TellsLimit name d is.known) reported
+  limit_reported name a kind first (Automaton file at) (same, named) =
       (a, first_past d is.known a kind (first_of a kind first), (refl, ap (λ (f : List ℕ). states_line f at) same ∙ ap (states_line name) (named ∙ ap (λ ns. slice_index_or ns a []) names_held)))
-  limit_told name a kind first Memory h = tt
-  limit_told name a kind first _ h = absurd h
+  limit_reported name a kind first Memory h = tt
+  limit_reported name a kind first _ h = absurd h

@@ -13,18 +13,18 @@ use Rattle.hz_checked.specs.declared.checked.Checked.{Checked}
 use Rattle.hz_mdread.specs.Shape.{options as options_of}
 use Rattle.hz_front.specs.Refusals.{IsJudged}
 use Rattle.hz_front.specs.declared.refusal.Refusal.{Refusal}
-use Rattle.hz_tool.proofs.ToldStates.{IsStatesTold}
+use Rattle.hz_tool.proofs.ReportedStates.{IsStatesReported}
 use Rattle.hz_tool.specs.Refusing.{refuse_states, limited}
 
--- an automaton past its limit is told by its name, or memory ran out
-pub states_told : {E : Type 0} (file : Bor (List ℕ)) (automaton : List ℕ) (copied : Result (List ℕ) E) → IfOk copied (λ name. name ≡ automaton) → IsStatesTold file.now automaton (refuse_states file copied)
-states_told file automaton (Ok name) same = (refl, same)
-states_told file automaton (Err refused) h = tt
+-- an automaton past its limit is reported by its name, or memory ran out
+pub states_reported : {E : Type 0} (file : Bor (List ℕ)) (automaton : List ℕ) (copied : Result (List ℕ) E) → IfOk copied (λ name. name ≡ automaton) → IsStatesReported file.now automaton (refuse_states file copied)
+states_reported file automaton (Ok name) same = (refl, same)
+states_reported file automaton (Err refused) h = tt
 
 -- an automaton past its limit is one of texts that were judged
-pub states_judged : {E : Type 0} (file : Bor (List ℕ)) (copied : Result (List ℕ) E) (told : Refusal) → told ≡ refuse_states file copied → IsJudged told
-states_judged file (Ok name) told is = subst IsJudged (sym is) tt
-states_judged file (Err refused) told is = subst IsJudged (sym is) tt
+pub states_judged : {E : Type 0} (file : Bor (List ℕ)) (copied : Result (List ℕ) E) (reported : Refusal) → reported ≡ refuse_states file copied → IsJudged reported
+states_judged file (Ok name) reported is = subst IsJudged (sym is) tt
+states_judged file (Err refused) reported is = subst IsJudged (sym is) tt
 
 same_number : (a b : ℕ) → Some a ≡ Some b → a ≡ b
 same_number a b e = cc

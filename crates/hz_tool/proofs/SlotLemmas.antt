@@ -1,4 +1,4 @@
--- The schedule that is made over a machine is the one by the description, and its text is told.
+-- The schedule that is made over a machine is the one by the description, and its text is reported.
 use Rattle.std.proofs.Common.{◌≡◌, ℕ, ◌<◌, List, length, map, All, sym, ap, ◌∙◌, subst}
 use Rattle.std.proofs.lemmas.List.Elements.{All-map}
 use Rattle.hz_pipeline_model.specs.Accepting.Events.{Event, IsOfClass}
@@ -26,9 +26,9 @@ pub nodes_below : (n m : ℕ) (graph : depend.Graph) → All (λ i. i.class < n)
 nodes_below n m graph all same = subst (λ (k : ℕ). All (λ (x : Node). x.class < k) (graph_of graph).nodes) same (All-map (λ (x : Node). x.class < n) node_of graph.insns.items all)
 
 -- the text by the names and numbers that are held
-pub text_told : (d : Description) (names : List (List ℕ)) (block : Block) (graph : depend.Graph) (slots : List Slot) → names ≡ class_names d → map (λ i. i.number) graph.insns.items ≡ map (λ i. i.number) block.insns.items
+pub text_reported : (d : Description) (names : List (List ℕ)) (block : Block) (graph : depend.Graph) (slots : List Slot) → names ≡ class_names d → map (λ i. i.number) graph.insns.items ≡ map (λ i. i.number) block.insns.items
     → schedule_by names (map (λ i. i.number) graph.insns.items) (graph_of graph) slots ≡ schedule_text d (instructions block) (graph_of graph) slots
-text_told d names block graph slots same numbers =
+text_reported d names block graph slots same numbers =
     ap (λ (ns : List (List ℕ)). schedule_by ns (map (λ i. i.number) graph.insns.items) (graph_of graph) slots) same
     ∙ ap (λ (ns : List ℕ). schedule_by (class_names d) ns (graph_of graph) slots) (numbers ∙ sym (map_twice (λ (i : Instruction). i.number) instruction block.insns.items))
 

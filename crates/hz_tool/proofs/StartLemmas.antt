@@ -30,14 +30,14 @@ module _ (d : Description) (known : Known) (m : Machine) (is : IsMachineFor d kn
       is.walks (issue (class_at g j) ∷ [])
       (All-cons (IsOfClass (length d.classes)) (issue (class_at g j)) [] (class_below (length d.classes) g ranges j low) (All-nil (IsOfClass (length d.classes))))
 
-  -- where no instruction is told, each can be issued from the start
+  -- where no instruction is reported, each can be issued from the start
   pub each_starts : cannot_start_alone m g ≡ None → All (StartsAlone d known) block
   each_starts none = starts_of_places d known block g graph (λ j low. (walks_one j low).0 (none_stuck m g none j low))
 
-  -- the one that is told is the first that can't
+  -- the one that is reported is the first that can't
   pub first_stuck : (place : ℕ) (i : Instruction) → cannot_start_alone m g ≡ Some place → slice_get block place ≡ Some i → IsFirstStuck d known block i
-  first_stuck place i told there =
-      let (low, cannot, can) = stuck_first m g place told in
+  first_stuck place i reported there =
+      let (low, cannot, can) = stuck_first m g place reported in
       let stuck = stuck_of_place d known block g graph place low
       (λ j before. (walks_one j (omega (arith, low, before))).0 (can j before))
       (λ accepted. not_both (can_start m (class_at g place)) ((walks_one place low).1 accepted) cannot) in

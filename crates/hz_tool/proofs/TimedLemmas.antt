@@ -1,4 +1,4 @@
--- What is read on an exposed pipeline, by what is held of a description, is what is read by the description, and its text is told.
+-- What is read on an exposed pipeline, by what is held of a description, is what is read by the description, and its text is reported.
 use Rattle.std.proofs.Common.{◌≡◌, ℕ, List, map, refl, sym, ap, ◌∙◌, subst}
 use Rattle.hz_answer_model.proofs.WalkLaws.{map_twice}
 use Rattle.hz_block_model.specs.Running.States.{State}

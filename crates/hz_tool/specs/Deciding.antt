@@ -57,7 +57,7 @@ abbrev pub done_status : Done → ℕ
 done_status (Replayed machine events outcome) = replay_status outcome
 done_status _ = 0
 
--- what is named is there to be told: a replay is that of its events, what is told of each automaton of tables, the instructions and the classes of a schedule,
+-- what is named is there to be reported: a replay is that of its events, what is reported of each automaton of tables, the instructions and the classes of a schedule,
 -- the slots and the instructions of what is read, the instructions and the unit of a bound, the instructions and the classes of two blocks,
 -- those of a kernel
 abbrev pub CanTell : Done → Type 0
@@ -84,7 +84,7 @@ Refuses answer refusal = IsJudged refusal × Agrees answer refusal
 abbrev pub Gives : {T : Type 0} → (T → Type 0) → (answer : ℕ → List ℕ → Type 0) → Result T Refusal → Type 0
 Gives is answer result = MatchResult result is (Refuses answer)
 
--- what a command does can be told, and is what is to be answered, or it refuses
+-- what a command does can be reported, and is what is to be answered, or it refuses
 abbrev pub Decides : (answer : ℕ → List ℕ → Type 0) → Result Done Refusal → Type 0
 Decides answer result = Gives (λ done. CanTell done × answer (done_status done) (done_text done)) answer result
 

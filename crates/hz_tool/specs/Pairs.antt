@@ -25,6 +25,6 @@ IsStuckOfTwo n m duo.NoMemory = ⊤
 
 -- What is refused of two blocks without a schedule, by the instruction at the place of the block of the context.
 abbrev pub TellsStuckOfTwo : Bor (List ℕ) → Bor (List ℕ) → List Insn → List Insn → DuoFault → Refusal → Type 0
-TellsStuckOfTwo first second one other (duo.CannotStartAlone context place) told =
-    MatchBool (context == 1) (TellsStuck first one (sched.CannotStartAlone place) told) (TellsStuck second other (sched.CannotStartAlone place) told)
-TellsStuckOfTwo first second one other duo.NoMemory told = told ≡ refusal.Memory
+TellsStuckOfTwo first second one other (duo.CannotStartAlone context place) reported =
+    MatchBool (context == 1) (TellsStuck first one (sched.CannotStartAlone place) reported) (TellsStuck second other (sched.CannotStartAlone place) reported)
+TellsStuckOfTwo first second one other duo.NoMemory reported = reported ≡ refusal.Memory

@@ -37,10 +37,10 @@ refuse_ambiguous file insn word (Err refused) = refusal.Memory
 
 -- What is refused of a block without a graph, by the instruction at the place.
 abbrev pub TellsDepend : Bor (List ℕ) → List (List ℕ) → List Insn → DependFault → Refusal → Type 0
-TellsDepend file names insns (depend.Class place fault) told = (insn : Insn) × (slice_get insns place ≡ Some insn) × Agrees (Says 2 (class_line file.now names (instruction insn) (fault_of fault))) told
-TellsDepend file names insns depend.NoMemory told = told ≡ refusal.Memory
+TellsDepend file names insns (depend.Class place fault) reported = (insn : Insn) × (slice_get insns place ≡ Some insn) × Agrees (Says 2 (class_line file.now names (instruction insn) (fault_of fault))) reported
+TellsDepend file names insns depend.NoMemory reported = reported ≡ refusal.Memory
 
 -- What is refused of a block without a schedule, by the instruction at the place.
 abbrev pub TellsStuck : Bor (List ℕ) → List Insn → SchedFault → Refusal → Type 0
-TellsStuck file insns (sched.CannotStartAlone place) told = (insn : Insn) × (slice_get insns place ≡ Some insn) × Agrees (Says 2 (stuck_line file.now (instruction insn))) told
-TellsStuck file insns sched.NoMemory told = told ≡ refusal.Memory
+TellsStuck file insns (sched.CannotStartAlone place) reported = (insn : Insn) × (slice_get insns place ≡ Some insn) × Agrees (Says 2 (stuck_line file.now (instruction insn))) reported
+TellsStuck file insns sched.NoMemory reported = reported ≡ refusal.Memory

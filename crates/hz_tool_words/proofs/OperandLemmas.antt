@@ -227,6 +227,6 @@ module _ (name : Word) (os : List Operand) (few : IsFew os) (words : List Word) 
         (at_places (value_of m) (λ place. first_value-rows (found_of m) (id_at place) ∙ ap (first_of (id_at place)) (here.1 reads_os.simple).0) all)
 
 -- nothing is found in refused words, which are not taken where memory lasts
-pub refusal_finds : {E : Type 0} (made : App) (words : List Word) (reason : ErrorKind) (told : Result (Option ArgMatches) E) → (takes made words ≡ true → reason ≡ OutOfMemory) → IsRefusal reason told → IfOk told (Finds made words)
+pub refusal_finds : {E : Type 0} (made : App) (words : List Word) (reason : ErrorKind) (reported : Result (Option ArgMatches) E) → (takes made words ≡ true → reason ≡ OutOfMemory) → IsRefusal reason reported → IfOk reported (Finds made words)
 refusal_finds made words reason (Ok found) short (empty, other) = subst (Finds made words) (sym empty) (λ (taken : takes made words ≡ true). other (short taken))
 refusal_finds made words reason (Err refused) short h = tt

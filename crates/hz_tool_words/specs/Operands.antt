@@ -39,7 +39,7 @@ abbrev pub Finds : App → List (List ℕ) → Option ArgMatches → Type 0
 Finds app words None = takes app words ≢ true
 Finds app words (Some matches) = (is_simple_and_free app ≡ true → fault_of app words ≡ []) × HasMatchesOf app words matches
 
--- what is told of words that `clap` refuses for this reason: nothing is found in them, but where memory ran out
+-- what is reported of words that `clap` refuses for this reason: nothing is found in them, but where memory ran out
 abbrev pub IsRefusal : {Found E : Type 0} → ErrorKind → Result (Option Found) E → Type 0
 IsRefusal reason (Ok found) = (found ≡ None) × (reason ≢ OutOfMemory)
 IsRefusal reason (Err refused) = reason ≡ OutOfMemory

@@ -51,7 +51,7 @@ pub fn make_command<'a>(
     Ok(command)
 }
 
-/// What is told of words that `clap` refuses: nothing is found in them, or memory ran out.
+/// What is reported of words that `clap` refuses: nothing is found in them, or memory ran out.
 fn refused<'a>(kind: ErrorKind) -> Result<Option<ArgMatches<'a>>, AllocError>
     ensures { IsRefusal kind result }
 {

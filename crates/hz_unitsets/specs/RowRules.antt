@@ -124,4 +124,4 @@ pub record FitsAt (statements : List (Statement ℕ)) (source add : List (Pair �
 -- rules that are asked, with their blocks
 pub record AreBuilt (rules : List Asked) (blocks : List Block) (all : ℕ) : Type 0 where
   pub asked : AreAsked rules all
-  pub told : All (IsBlock rules) blocks
+  pub reported : All (IsBlock rules) blocks

@@ -237,7 +237,7 @@ fn distinct(alloc: Global, sets: &[SetRule]) -> Result<IndexSet<Rule>, NoMemory>
     Ok(rules)
 }
 
-// Adds a rule behind the others where no equal one stands.
+// Adds a rule after the others where no equal one stands.
 fn keep(rules: &mut IndexSet<Rule>, rule: Rule) -> Result<(), NoMemory>
     requires rules { All IsBounded rules.old.keys }
     requires rule { IsBounded rule }

@@ -9,7 +9,7 @@ use Rattle.hz_description_model.specs.Check.Places.{Known}
 use Rattle.hz_description_model.specs.Reading.Descriptions.{Description}
 use Rattle.hz_pipeline_model.specs.Compiling.DescriptionLimits.{KeepsLimits, AllKeepLimits, PassesLimit, IsFirstPastLimit}
 use Rattle.hz_words_model.specs.Words.{replay}
-use Rattle.hz_laws.proofs.Leaving.LimitsTold.{are_counted}
+use Rattle.hz_laws.proofs.Leaving.LimitsReported.{are_counted}
 use Rattle.hz_pipeline_model.specs.Reaching.Counts.{Count}
 use Rattle.hz_front_model.specs.Descriptions.{HasDescription}
 use Rattle.hz_answer_model.specs.Answers.{ReplaysDescription, JudgesOrder, AnswersOrder, Judges}
@@ -28,9 +28,9 @@ whole : (file : List ℕ) (A : ℕ → List ℕ → Type 0) (status : ℕ) (text
 whole file A status text is = inl (text, [], (is, sym (append-nil text)))
 
 -- the first automaton past a limit, or none
-limits_told : (d : Description) (known : Known) → (n : ℕ) → n ≤ automaton_count d → ((a : ℕ) → a < n → KeepsLimits d known a) ⊎ ((a : ℕ) × IsFirstPastLimit d known a)
-limits_told d known zero few = inl (λ a low. absurd (omega (arith, low)))
-limits_told d known (suc n) few = ⊎_elim
+limits_reported : (d : Description) (known : Known) → (n : ℕ) → n ≤ automaton_count d → ((a : ℕ) → a < n → KeepsLimits d known a) ⊎ ((a : ℕ) × IsFirstPastLimit d known a)
+limits_reported d known zero few = inl (λ a low. absurd (omega (arith, low)))
+limits_reported d known (suc n) few = ⊎_elim
     (λ (kept : (a : ℕ) → a < n → KeepsLimits d known a). ⊎_elim
     (λ (here : KeepsLimits d known n). inl (λ a low. ⊎_elim
     (λ (less : a < n). kept a less)
@@ -39,7 +39,7 @@ limits_told d known (suc n) few = ⊎_elim
     (λ (past : (kind : Count) × PassesLimit d known n kind). inr (n, record { there = omega (arith, few); before = kept; kind = past.0; past = past.1 }))
     (are_counted d known n (omega (arith, few))))
     (λ first. inr first)
-    (limits_told d known n (omega (arith, few)))
+    (limits_reported d known n (omega (arith, few)))
 
 module _ (description trace traced : List ℕ) (d : Description) (known : Known) where
   abbrev Replayed : ℕ → List ℕ → Type 0
@@ -52,11 +52,11 @@ module _ (description trace traced : List ℕ) (d : Description) (known : Known)
   trace_begins status text (inr fault) = ⊎_elim
       (λ (kept : AllKeepLimits d known). inl (text, [], (inl (kept, inr fault), sym (append-nil text))))
       (λ (first : (a : ℕ) × IsFirstPastLimit d known a). inr (slice_index_or (automaton_names d) first.0 [], limited first))
-      (limits_told d known (automaton_count d) (omega arith))
+      (limits_reported d known (automaton_count d) (omega arith))
   trace_begins status text (inl (events, is, (answer, why, replayed, explained, parts))) = ⊎_elim
       (λ (kept : AllKeepLimits d known). inl (answer, why, (inl (kept, inl (events, is, replayed)), parts)))
       (λ (first : (a : ℕ) × IsFirstPastLimit d known a). inr (slice_index_or (automaton_names d) first.0 [], limited first))
-      (limits_told d known (automaton_count d) (omega arith))
+      (limits_reported d known (automaton_count d) (omega arith))
 
 module _ (description described trace traced : List ℕ) where
   abbrev Judged : ℕ → List ℕ → Type 0

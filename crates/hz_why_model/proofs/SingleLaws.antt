@@ -1,4 +1,4 @@
--- What is told of a trace is told in one way.
+-- What is reported of a trace is reported in one way.
 use Rattle.std.proofs.Common.{◌≡◌, ℕ, List, [], ◌∷◌, ◌++◌, inl, inr, Option, Some, None, MatchOption, take, sym, ap, ◌∙◌, subst}
 use Rattle.std.specs.Prelude.{slice_get}
 use Rattle.std.proofs.lemmas.Option.{same_Some}
@@ -48,8 +48,8 @@ module _ (w : Wording UnitPlace) (m : Pipeline UnitPlace) where
       (subst (λ (n : ℕ). TellsRefusal w m (take i events) lines n other) (sym class)
       (subst (λ (n : ℕ). TellsRefusal w m (take n events) lines l other) (sym place) tells'))
 
-told_single : (d : Description) (known : Known) (lines : List ℕ) (events : List Event) → IsSingle (ReplaysAndExplains d known lines events)
-told_single d known lines events s s' t t' (answer, why, replays, explains, is) (answer', why', replays', explains', is') =
+reported_single : (d : Description) (known : Known) (lines : List ℕ) (events : List Event) → IsSingle (ReplaysAndExplains d known lines events)
+reported_single d known lines events s s' t t' (answer, why, replays, explains, is) (answer', why', replays', explains', is') =
     let first = replays_single (pipeline_with d known) (held_in d known) (trace_names d) lines events s s' answer answer' replays replays' in
     let second = explains_single (wording_of d) (pipeline_with d known) events lines why why' explains explains' in
     (first.0, is ∙ ap (λ (xs : List ℕ). xs ++ why) first.1 ∙ ap (λ (xs : List ℕ). answer' ++ xs) second ∙ sym is')
@@ -58,7 +58,7 @@ texts_single : (description described trace traced : List ℕ) → IsSingle (Jud
 texts_single description described trace traced =
     description_single description described (ExplainsTrace trace traced) (λ d known.
     traces_single (trace_names d) trace traced (ReplaysAndExplains d known (event_lines (trace_names d) 1 (lines_of traced)))
-    (told_single d known (event_lines (trace_names d) 1 (lines_of traced))))
+    (reported_single d known (event_lines (trace_names d) 1 (lines_of traced))))
 
 both_single : (held : Held) (files : List ℕ × List ℕ) → IsSingle (AnswersFiles held files)
 both_single held files =

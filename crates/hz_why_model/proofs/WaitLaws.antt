@@ -70,7 +70,7 @@ module _ {U : Type 0} (same : U → U → Bool) (tells : Tells same) (m : Pipeli
   abbrev later : List Event → (k n : ℕ) → List Event
   later t k n = t ++ advance n ∷ issue k ∷ []
 
-  -- an issue that fits so many cycles later is accepted behind as many advances
+  -- an issue that fits so many cycles later is accepted after as many advances
   accepted_later : (t : List Event) (k n : ℕ) → MayFitLater m t k n → Accepted m (later t k n)
   accepted_later t k n (choices, is, (i, fits)) =
       let may = some_may same tells m (after n (left_by m t choices)) k i fits in
@@ -132,7 +132,7 @@ module _ {U : Type 0} (same : U → U → Bool) (tells : Tells same) (m : Pipeli
   least_below zero = inr (λ j low h. absurd (omega arith))
   least_below (suc n) = ⊎_elim inl (least_more n) (least_below n)
 
-  -- behind the last pair that any choices reserve it fits as where nothing is reserved
+  -- after the last pair that any choices reserve it fits as where nothing is reserved
   abbrev end : ℕ
   end = last_of (plays same m start t)
 

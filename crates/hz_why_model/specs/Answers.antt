@@ -1,4 +1,4 @@
--- What the program that explains answers: what `replay` answers, and behind it why. This profile, docs/FORMATS.md, 'Explanations'.
+-- What the program that explains answers: what `replay` answers, and after it why. This profile, docs/FORMATS.md, 'Explanations'.
 use Rattle.std.specs.Prelude.{◌≡◌, ◌⊎◌, ℕ, List, [], ◌∷◌, ◌++◌, take, codes, Option, Some, None, MatchOption, slice_get, slice_index_or, if◌then◌else◌}
 use Rattle.hz_base_model.specs.Lines.{lines_of}
 use Rattle.hz_base_model.specs.Names.{Held}
@@ -54,7 +54,7 @@ wording_of d = record {
 
 -- ---- what is answered
 
--- Behind what `replay` answers of events that stand on these lines: what they leave if all are accepted, or why one is refused.
+-- After what `replay` answers of events that stand on these lines: what they leave if all are accepted, or why one is refused.
 abbrev pub Explains : Wording UnitPlace → Pipeline UnitPlace → List Event → (lines text : List ℕ) → Type 0
 Explains w m events lines text =
     (Accepted m events × TellsLeft w m events lines text)

@@ -1,4 +1,4 @@
--- Which choices are told of. GCC Internals, 'Specifying processor pipeline description', on `ndfa`; the order is this profile's,
+-- Which choices are reported of. GCC Internals, 'Specifying processor pipeline description', on `ndfa`; the order is this profile's,
 -- docs/RULES.md, 'Reasons'.
 use Rattle.std.specs.Prelude.{◌≡◌, ℕ, List}
 use Rattle.std.specs.Ordering.{nat_cmp}

@@ -1,4 +1,4 @@
--- What is told of a trace behind what `replay` answers. This profile, docs/RULES.md, 'Reasons'; docs/FORMATS.md, 'Explanations'.
+-- What is reported of a trace after what `replay` answers. This profile, docs/RULES.md, 'Reasons'; docs/FORMATS.md, 'Explanations'.
 use Rattle.std.specs.Prelude.{◌≡◌, ℕ, suc, ◌-◌, ◌==◌, Bool, true, false, List, [], ◌∷◌, ◌++◌, codes, decimal, map, Option, Some, None, if◌then◌else◌}
 use Rattle.std.specs.List.{concat, flat_map}
 use Rattle.std.specs.declared.cmp.Ordering.{Ordering}
@@ -68,34 +68,34 @@ module _ {U : Type 0} (w : Wording U) (now : ℕ) (held : List (Entry U)) where
   alternative_lines number (reason ∷ reasons) = alternative_line number reason ++ alternative_lines (suc number) reasons
 
 module _ {U : Type 0} (w : Wording U) (m : Pipeline U) (t : List Event) (lines choices : List ℕ) where
-  -- what forbids each alternative of a class behind the events, in their order
+  -- what forbids each alternative of a class after the events, in their order
   abbrev pub reasons : (class : ℕ) → List (Option (Reason U))
   reasons k = map (reason_of w.same w.unit_cmp m.statements (calendar m 0 t choices) (cycles_of t)) (alternatives_at m k)
 
   -- the picture of what the events leave, with the pairs that are asked for from the present cycle on
-  abbrev pub picture_behind : (asked : List (Pair U)) → List ℕ
-  picture_behind asked = picture w.same w.unit (entries_from (cycles_of t) (entries m 0 t lines choices)) w.units asked
+  abbrev pub picture_after : (asked : List (Pair U)) → List ℕ
+  picture_after asked = picture w.same w.unit (entries_from (cycles_of t) (entries m 0 t lines choices)) w.units asked
 
-  -- behind accepted events: what they leave
+  -- after accepted events: what they leave
   abbrev pub left_text : List ℕ
-  left_text = choice_line m.treatment ++ picture_behind []
+  left_text = choice_line m.treatment ++ picture_after []
 
-  -- Behind events whose next issue, of this class, is refused: when it fits, what forbids each alternative, and what the events leave.
+  -- After events whose next issue, of this class, is refused: when it fits, what forbids each alternative, and what the events leave.
   abbrev pub refusal_text : (class : ℕ) → Option ℕ → List ℕ
   refusal_text k wait = concat (
       choice_line m.treatment
       ∷ wait_line wait
       ∷ alternative_lines w (cycles_of t) (entries m 0 t lines choices) 1 (reasons k)
-      ∷ picture_behind (flat_map (λ a. a.pairs) (alternatives_at m k))
+      ∷ picture_after (flat_map (λ a. a.pairs) (alternatives_at m k))
       ∷ [])
 
--- what is told of accepted events that stand on these lines
+-- what is reported of accepted events that stand on these lines
 pub record TellsLeft {U : Type 0} (w : Wording U) (m : Pipeline U) (t : List Event) (lines text : List ℕ) : Type 0 where
   pub choices : List ℕ
   pub first : IsFirstChoice m t choices
   pub is : text ≡ left_text w m t lines choices
 
--- what is told of accepted events that stand on these lines, behind which an issue of the class is refused
+-- what is reported of accepted events that stand on these lines, after which an issue of the class is refused
 pub record TellsRefusal {U : Type 0} (w : Wording U) (m : Pipeline U) (t : List Event) (lines : List ℕ) (class : ℕ) (text : List ℕ) : Type 0 where
   pub choices : List ℕ
   pub first : IsFirstChoice m t choices

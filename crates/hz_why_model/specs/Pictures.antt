@@ -44,9 +44,9 @@ pub record Layout : Type 0 where
 abbrev pub name_columns : List (List ℕ) → ℕ
 name_columns names = min name_limit (max 5 (longest names))
 
--- the columns that are left behind the names
-abbrev pub room_behind : ℕ → ℕ
-room_behind name = line_limit - (name + 2)
+-- the columns that are left after the names
+abbrev pub room_after : ℕ → ℕ
+room_after name = line_limit - (name + 2)
 
 -- the columns of each of so many cycles: as wide as the longest text, or narrower if there is no room for that
 abbrev pub cycle_columns : (room cycles longest_text : ℕ) → ℕ
@@ -54,11 +54,11 @@ cycle_columns room cycles longest_text = max 1 (min longest_text (room / cycles 
 
 -- the layout with these columns, for so many cycles
 abbrev pub layout_by : (name cycle cycles : ℕ) → Layout
-layout_by name cycle cycles = record { name = name; cycle = cycle; shown = min cycles (room_behind name / (cycle + 1)) }
+layout_by name cycle cycles = record { name = name; cycle = cycle; shown = min cycles (room_after name / (cycle + 1)) }
 
 -- the layout for rows of these names, and so many cycles with texts of at most this length
 abbrev pub layout_of : List (List ℕ) → (cycles longest_text : ℕ) → Layout
-layout_of names cycles longest_text = layout_by (name_columns names) (cycle_columns (room_behind (name_columns names)) cycles longest_text) cycles
+layout_of names cycles longest_text = layout_by (name_columns names) (cycle_columns (room_after (name_columns names)) cycles longest_text) cycles
 
 -- a line of a picture: a name, and a text for each cycle
 abbrev pub picture_line : Layout → List ℕ → List (List ℕ) → List ℕ

@@ -1,4 +1,4 @@
-//! Laws of the choices that are told of, for any units.
+//! Laws of the choices that are reported of, for any units.
 
 ghost use Rattle.std.specs.Prelude.{◌≡◌, ℕ, List};
 ghost use Rattle.hz_pipeline_model.specs.Accepting.Events.{Event};

@@ -1,4 +1,4 @@
-//! Worked examples of what is told, computed on the definitions.
+//! Worked examples of what is reported, computed on the definitions.
 
 ghost use Rattle.std.specs.Prelude.{◌≡◌, ◌++◌, List, [], ◌∷◌, codes, Some, None};
 ghost use Rattle.std.specs.List.{concat};
@@ -8,7 +8,7 @@ ghost use Rattle.hz_pipeline_model.specs.Accepting.Examples.{superscalar, supers
 ghost use Rattle.hz_why_model.specs.Explanations.{refusal_text, left_text};
 ghost use Rattle.hz_why_model.specs.Examples.{worded};
 
-/// The third `simple` of one cycle: each of the four alternatives is told by the first unit that is held, and by whom.
+/// The third `simple` of one cycle: each of the four alternatives is reported by the first unit that is held, and by whom.
 pub fn superscalar_text()
     ensures { refusal_text (worded superscalar_units (codes "simple" ∷ codes "mult" ∷ codes "div" ∷ codes "float" ∷ []) []) superscalar (issue simple ∷ issue simple ∷ []) (2 ∷ 5 ∷ []) (0 ∷ 3 ∷ []) simple (Some 1)
         ≡ concat (codes "fits 1 cycle later\n"
@@ -24,7 +24,7 @@ pub fn superscalar_text()
         ∷ []) }
 {}
 
-/// What the superscalar example has reserved behind an accepted `div`, a cycle later: the divider for seven cycles, and a port with
+/// What the superscalar example has reserved after an accepted `div`, a cycle later: the divider for seven cycles, and a port with
 /// its last.
 pub fn left_picture()
     ensures { left_text (worded superscalar_units [] []) superscalar (issue div ∷ advance 1 ∷ []) (4 ∷ 5 ∷ []) (0 ∷ [])

@@ -25,7 +25,7 @@ pub fn reasons_are_named_where_nothing_fits<U>()
     ensures alternative { (same : U → U → Bool) → Tells same → (unit_cmp : U → U → Ordering) → IsTotalOrder unit_cmp → IsAntisymmetric unit_cmp → (statements : List (Statement U)) (source : List (Pair U)) (now : ℕ) (a : Alternative U) → IsUnbroken statements source → reason_of same unit_cmp statements source now a ≡ None ↔ Fits statements source a.pairs now }
 {}
 
-/// An issue that is refused behind accepted events, whatever their choices, has for each alternative something that is named, and it
+/// An issue that is refused after accepted events, whatever their choices, has for each alternative something that is named, and it
 /// forbids the alternative.
 pub fn refused_alternatives_have_reasons<U>()
     ensures { (same : U → U → Bool) → Tells same → (unit_cmp : U → U → Ordering) → IsTotalOrder unit_cmp → IsAntisymmetric unit_cmp → (m : Pipeline U) (t : List Event) (choices : List ℕ) (k i : ℕ) (a : Alternative U) → IsChoice m t choices → (Accepted m (t ++ issue k ∷ []) → ⊥) → slice_get (alternatives_at m k) i ≡ Some a → (reason : Reason U) × (reason_of same unit_cmp m.statements (calendar m 0 t choices) (cycles_of t) a ≡ Some reason) × Forbids m.statements (calendar m 0 t choices) (placed (cycles_of t) (ascending_by unit_cmp a.pairs)) reason }

@@ -13,7 +13,7 @@ pub const ALTERNATIVE_LIMIT: u32 = 4096;
 /// For so many cycles may an alternative run. This profile, docs/RULES.md, 'Limits'.
 pub const CYCLE_LIMIT: u32 = CYCLES as u32;
 
-/// How many alternatives there are, and for how many cycles the longest runs: each number above its limit is told as the
+/// How many alternatives there are, and for how many cycles the longest runs: each number above its limit is reported as the
 /// limit and one.
 #[derive(Clone, Copy, Debug, PartialEq, Eq)]
 pub struct Extent {
@@ -27,7 +27,7 @@ pub struct Extent {
 
 impl Extent {
     ghost use Rattle.std.specs.Prelude.{◌≡◌, ◌≤◌, List};
-    ghost use Rattle.hz_altern.specs.Extents.{told, cut_extent, joined_extents, repeated_extent};
+    ghost use Rattle.hz_altern.specs.Extents.{reported, cut_extent, joined_extents, repeated_extent};
     ghost use Rattle.hz_altern.specs.Shapes.{alternatives};
     ghost use Rattle.hz_description_model.specs.Reservations.AlternativeLists.{AreSound, extent_of};
 
@@ -35,7 +35,7 @@ impl Extent {
     pub(crate) fn cut(count: u32, longest: u32) -> Extent
         requires some { 1 ≤ count }
         requires runs { 1 ≤ longest }
-        ensures { told result ≡ cut_extent count longest }
+        ensures { reported result ≡ cut_extent count longest }
     {
         Extent {
             count: count.min(ALTERNATIVE_LIMIT + 1),
@@ -45,7 +45,7 @@ impl Extent {
 
     /// The extent of two parts with a mark between them.
     pub(crate) fn joined(self, mark: Mark, other: Extent) -> Extent
-        ensures { told result ≡ joined_extents mark (told self) (told other) }
+        ensures { reported result ≡ joined_extents mark (reported self) (reported other) }
     {
         let choices = self.count * other.count;
         let longest = self.longest.max(other.longest);
@@ -59,7 +59,7 @@ impl Extent {
     /// The extent of so many copies one after another.
     pub(crate) fn repeated(self, times: u32) -> Extent
         requires { 1 ≤ times }
-        ensures { told result ≡ repeated_extent times (told self) }
+        ensures { reported result ≡ repeated_extent times (reported self) }
     {
         Extent::cut(
             self.count.saturating_pow(times),

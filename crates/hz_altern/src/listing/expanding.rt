@@ -4,7 +4,7 @@
 ghost use Rattle.std.specs.Prelude.{◌≡◌, ◌+◌, ◌<◌, ◌≤◌, ◌++◌, List, [], ◌∷◌, All, IsTrue, IfOk, IfErr, OnOk, length, map, take};
 ghost use Rattle.hz_altern.specs.Answers.{Expands, Refuses, weight, total_weight};
 ghost use Rattle.hz_altern.specs.Beside.{IsBeside};
-ghost use Rattle.hz_altern.specs.Joinings.{IsListed, joined_by, joined_parts, left_behind, listed_lists, listed_beside, only_listed};
+ghost use Rattle.hz_altern.specs.Joinings.{IsListed, joined_by, joined_parts, left_after, listed_lists, listed_beside, only_listed};
 ghost use Rattle.hz_altern.specs.Leaves.{Takes, AreTaken, AllEndBy};
 ghost use Rattle.hz_altern.specs.Shapes.{alternative_of, alternatives};
 ghost use Rattle.hz_altern.specs.Singles.{TellsSingles, TellSingles};
@@ -216,9 +216,9 @@ fn copies(alloc: Global, once: &Listing, times: u32, most: usize) -> Result<List
 }
 
 /// How large the second of two lists may be, where with a mark between them they may be no larger than `most`.
-fn left_behind(mark: Mark, first: &Listing, most: usize) -> usize
+fn left_after(mark: Mark, first: &Listing, most: usize) -> usize
     requires { total_weight first.now ≤ most }
-    ensures value { result ≡ left_behind mark (total_weight first.now) most }
+    ensures value { result ≡ left_after mark (total_weight first.now) most }
     ensures fits { result ≤ most }
 {
     match mark {
@@ -261,7 +261,7 @@ fn listing(
 ) -> Result<Listing, AlternFault>
     requires formed { IsTrue (is_expression (expression expr.now)) }
     requires known { IsTrue (all_names (is_held (alternatives_in known.now)) (expression expr.now)) }
-    requires told { TellsSingles (known_alternatives known.now) (expression expr.now) singles.now }
+    requires reported { TellsSingles (known_alternatives known.now) (expression expr.now) singles.now }
     requires short { greatest_length (alternatives_of (known_alternatives known.now) (expression expr.now)) ≤ cycle_limit }
     requires most { most ≤ size_limit }
     ensures ok { IfOk result (λ listing. listing ≡ map listed (alternatives_of (known_alternatives known.now) (expression expr.now))) }
@@ -298,7 +298,7 @@ fn listing_parts(
     requires some { 0 < length parts.now }
     requires formed { IsTrue (are_expressions (parts_of (expressions parts.now))) }
     requires known { IsTrue (all_names_in (is_held (alternatives_in known.now)) (parts_of (expressions parts.now))) }
-    requires told { TellSingles (known_alternatives known.now) (parts_of (expressions parts.now)) singles.now }
+    requires reported { TellSingles (known_alternatives known.now) (parts_of (expressions parts.now)) singles.now }
     requires short { greatest_length (joined_parts mark (known_alternatives known.now) (parts_of (expressions parts.now))) ≤ cycle_limit }
     requires most { most ≤ size_limit }
     ensures ok { IfOk result (λ listing. listing ≡ map listed (joined_parts mark (known_alternatives known.now) (parts_of (expressions parts.now)))) }
@@ -312,7 +312,7 @@ fn listing_parts(
     let (front, back) = parts.split_at(middle);
     let (front_singles, back_singles) = singles.split_at(middle);
     let first = listing_parts(alloc, front, front_singles, mark, known, most)?;
-    let left = left_behind(mark, &first, most);
+    let left = left_after(mark, &first, most);
     let second = listing_parts(alloc, back, back_singles, mark, known, left)?;
     joined_lists(alloc, mark, first, second, most)
 }
@@ -339,7 +339,7 @@ fn listing_together(
     requires some { 0 < length parts.now }
     requires formed { IsTrue (are_expressions (parts_of (expressions parts.now))) }
     requires known { IsTrue (all_names_in (is_held (alternatives_in known.now)) (parts_of (expressions parts.now))) }
-    requires told { TellSingles (known_alternatives known.now) (parts_of (expressions parts.now)) singles.now }
+    requires reported { TellSingles (known_alternatives known.now) (parts_of (expressions parts.now)) singles.now }
     requires short { greatest_length (together (known_alternatives known.now) (parts_of (expressions parts.now))) ≤ cycle_limit }
     requires most { most ≤ size_limit }
     ensures ok { IfOk result (λ listing. listing ≡ map listed (together (known_alternatives known.now) (parts_of (expressions parts.now)))) }
@@ -369,7 +369,7 @@ fn listing_added(
     requires some { 0 < length parts.now }
     requires formed { IsTrue (are_expressions (parts_of (expressions parts.now))) }
     requires known { IsTrue (all_names_in (is_held (alternatives_in known.now)) (parts_of (expressions parts.now))) }
-    requires told { TellSingles (known_alternatives known.now) (parts_of (expressions parts.now)) singles.now }
+    requires reported { TellSingles (known_alternatives known.now) (parts_of (expressions parts.now)) singles.now }
     requires short { greatest_length (together (known_alternatives known.now) (parts_of (expressions parts.now))) ≤ cycle_limit }
     requires most { most ≤ size_limit }
     requires before { IsBeside known.now [] beside.old.leaves beside.old.length beside.old.others }
@@ -394,7 +394,7 @@ fn add_parts(
 ) -> Result<(), AlternFault>
     requires formed { IsTrue (are_expressions (parts_of (expressions parts.now))) }
     requires known { IsTrue (all_names_in (is_held (alternatives_in known.now)) (parts_of (expressions parts.now))) }
-    requires told { TellSingles (known_alternatives known.now) (parts_of (expressions parts.now)) singles.now }
+    requires reported { TellSingles (known_alternatives known.now) (parts_of (expressions parts.now)) singles.now }
     requires short { greatest_length (together (known_alternatives known.now) (parts_of (expressions parts.now))) ≤ cycle_limit }
     requires most { most ≤ size_limit }
     requires before { IsBeside known.now [] beside.old.leaves beside.old.length beside.old.others }
@@ -421,7 +421,7 @@ fn add_part(
     requires place { place < length parts.now }
     requires formed { IsTrue (are_expressions (parts_of (expressions parts.now))) }
     requires known { IsTrue (all_names_in (is_held (alternatives_in known.now)) (parts_of (expressions parts.now))) }
-    requires told { TellSingles (known_alternatives known.now) (parts_of (expressions parts.now)) singles.now }
+    requires reported { TellSingles (known_alternatives known.now) (parts_of (expressions parts.now)) singles.now }
     requires short { greatest_length (together (known_alternatives known.now) (parts_of (expressions parts.now))) ≤ cycle_limit }
     requires most { most ≤ size_limit }
     requires before { IsBeside known.now (expressions (take place parts.now)) beside.old.leaves beside.old.length beside.old.others }
@@ -429,13 +429,13 @@ fn add_part(
     ensures err { IfErr result (Refuses most (map listed (together (known_alternatives known.now) (parts_of (expressions parts.now))))) }
 {
     let part = &parts[place];
-    let told = &singles[place];
-    if told.is_single() {
+    let reported = &singles[place];
+    if reported.is_single() {
         let length = gather(alloc, part, 0, known, &mut beside.leaves)?;
         beside.length = length.max(beside.length);
         return Ok(());
     }
-    let others = listing_beside(alloc, &beside.others, part, told, known, most)?;
+    let others = listing_beside(alloc, &beside.others, part, reported, known, most)?;
     beside.others = others;
     Ok(())
 }
@@ -454,7 +454,7 @@ fn listing_beside(
     requires each { All IsListed others.now }
     requires formed { IsTrue (is_expression (expression part.now)) }
     requires known { IsTrue (all_names (is_held (alternatives_in known.now)) (expression part.now)) }
-    requires told { TellsSingles (known_alternatives known.now) (expression part.now) singles.now }
+    requires reported { TellsSingles (known_alternatives known.now) (expression part.now) singles.now }
     requires short_part { greatest_length (alternatives_of (known_alternatives known.now) (expression part.now)) ≤ cycle_limit }
     requires short { greatest_length (listed_beside others.now (alternatives_of (known_alternatives known.now) (expression part.now))) ≤ cycle_limit }
     requires most { most ≤ size_limit }
@@ -468,7 +468,7 @@ fn listing_beside(
 
 /// The alternatives of a well-formed expression in their order, where each name in it is known. Choices are ordered with
 /// the leftmost part most significant, and equal alternatives stand each time. Number and cycles are counted before an
-/// alternative is made, the size while they are: the first limit that they pass is told, of number, cycles and size.
+/// alternative is made, the size while they are: the first limit that they pass is reported, of number, cycles and size.
 /// `NoMemory` stands in place of any answer where there was none. This profile, docs/RULES.md, 'Expressions' and 'Limits'.
 pub fn expand(alloc: Global, expr: &Expr, known: &Known) -> Result<Vec<Alt>, AlternFault>
     requires formed { IsTrue (is_expression (expression expr.now)) }

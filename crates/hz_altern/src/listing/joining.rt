@@ -35,7 +35,7 @@ impl Pair {
     }
 }
 
-/// The pairs, and behind them others so many cycles later.
+/// The pairs, and after them others so many cycles later.
 fn continued(
     alloc: Global,
     first: &[Pair],

@@ -108,7 +108,7 @@ fn gather_name(name: &Name, start: u32, known: &Known, leaves: &mut Leaves) -> R
     Ok(length)
 }
 
-/// Adds so many copies of other leaves, each so many cycles behind the one before and the first from a cycle on: one step
+/// Adds so many copies of other leaves, each so many cycles after the one before and the first from a cycle on: one step
 /// for each name.
 fn add_copies(
     once: &Leaves,

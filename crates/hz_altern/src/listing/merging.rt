@@ -54,7 +54,7 @@ pub fn union_len(first: &[Pair], second: &[Pair]) -> usize
     count
 }
 
-/// The first pair of two lists that ascend, and what is left of both behind it.
+/// The first pair of two lists that ascend, and what is left of both after it.
 fn least<'a>(first: &'a [Pair], second: &'a [Pair]) -> Option<(Pair, (&'a [Pair], &'a [Pair]))>
     requires first { IsAscending (pairs_of first.now) }
     requires second { IsAscending (pairs_of second.now) }

@@ -31,7 +31,7 @@ pub reading_on : {line last after : ℕ} {text rest left : List ℕ} {tokens oth
 reading_on {others = others} Reading.stops step = rw (append-nil others) at (Reading.steps step Reading.stops)
 reading_on {others = next_tokens} (Reading.steps {tokens = tokens} {others} first reading) step = rw (append_assoc tokens others next_tokens) (Reading.steps first (reading_on reading step))
 
--- A text is read up to a rest, with these frames open and these forms behind them.
+-- A text is read up to a rest, with these frames open and these forms after them.
 pub record Front (text : List ℕ) (frames : List Frame) (forms : Trees) (line : ℕ) (rest : List ℕ) : Type 0 where
   pub reading : Reading 1 text (front frames forms) line rest
   pub nests : open_after_all [] (front frames forms) ≡ Some (brackets frames)

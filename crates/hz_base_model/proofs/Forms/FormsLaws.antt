@@ -73,17 +73,17 @@ not_follows (quoted line bytes) rest others e Follows.bracket = cc
 not_follows (number line value) rest others e Follows.nothing = cc
 not_follows (number line value) rest others e Follows.bracket = cc
 
--- what stands behind the closing bracket
-behind : (xs ys end x y : List Token) → (xs ++ end) ++ x ≡ (ys ++ end) ++ y → xs ++ (end ++ x) ≡ ys ++ (end ++ y)
-behind xs ys end x y e = sym (append_assoc xs end x) ∙ e ∙ append_assoc ys end y
+-- what comes after the closing bracket
+beyond : (xs ys end x y : List Token) → (xs ++ end) ++ x ≡ (ys ++ end) ++ y → xs ++ (end ++ x) ≡ ys ++ (end ++ y)
+beyond xs ys end x y e = sym (append_assoc xs end x) ∙ e ∙ append_assoc ys end y
 
 -- tokens spell one tree, and one list of trees
 mutual
   one_tree : (a b : Tree) (x y : List Token) → spelled_tree a ++ x ≡ spelled_tree b ++ y → (a ≡ b) × (x ≡ y)
   one_tree (list line forms) (list line' forms') x y e =
-      let ih = one_list forms forms' (closes round ∷ x) (closes round ∷ y) Follows.bracket Follows.bracket (behind (spelled forms) (spelled forms') (closes round ∷ []) x y (cc)) in (cc, cc)
+      let ih = one_list forms forms' (closes round ∷ x) (closes round ∷ y) Follows.bracket Follows.bracket (beyond (spelled forms) (spelled forms') (closes round ∷ []) x y (cc)) in (cc, cc)
   one_tree (vector line forms) (vector line' forms') x y e =
-      let ih = one_list forms forms' (closes square ∷ x) (closes square ∷ y) Follows.bracket Follows.bracket (behind (spelled forms) (spelled forms') (closes square ∷ []) x y (cc)) in (cc, cc)
+      let ih = one_list forms forms' (closes square ∷ x) (closes square ∷ y) Follows.bracket Follows.bracket (beyond (spelled forms) (spelled forms') (closes square ∷ []) x y (cc)) in (cc, cc)
   one_tree (atom line bytes) (atom line' bytes') x y e = (cc, cc)
   one_tree (quoted line bytes) (quoted line' bytes') x y e = (cc, cc)
   one_tree (number line value) (number line' value') x y e = (cc, cc)

@@ -199,7 +199,7 @@ pub record Reads (text : List ℕ) (forms : Trees) : Type 0 where
 pub data FormFault : Type 0 where
   unclosed stray bad_escape too_deep bad_byte number_too_large : FormFault
 
--- the word by which a fault is told: docs/FORMATS.md, 'Answers'
+-- the word by which a fault is reported: docs/FORMATS.md, 'Answers'
 abbrev pub form_word : FormFault → List ℕ
 form_word unclosed = codes "Unclosed"
 form_word stray = codes "Stray"

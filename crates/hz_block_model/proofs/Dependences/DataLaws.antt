@@ -50,7 +50,7 @@ address_from (assign (cell_at b) v) a c = ⊎_elim
 address_from (clobber target) a c = absurd (Contains-nil a c)
 address_from (mention value) a c = absurd (Contains-nil a c)
 
--- what effects give, of each of which is told what it gives
+-- what effects give, of each of which is reported what it gives
 module _ {A : Type 0} (gives : Effect → List A) (made : A → Value → Effect) where
   given_from : ((e : Effect) (a : A) → Contains (gives e) a → (v : Value) × (e ≡ made a v)) → (effects : List Effect) (a : A) → Contains (flat_map gives effects) a → (v : Value) × Contains effects (made a v)
   given_from from [] a c = absurd (Contains-nil a c)

@@ -16,7 +16,7 @@ use Rattle.hz_block_model.proofs.Dependences.UpwardLaws.{upwards}
 use Rattle.hz_block_model.specs.Scheduling.Schedules.{Node, Graph}
 use Rattle.hz_block_model.specs.Scheduled.BlockGraphs.{class_in, latencies_in, timing_in, classes_of, IsGraphOf}
 use Rattle.hz_block_model.proofs.Scheduled.GraphLaws.{HasClass}
-use Rattle.hz_pipeline_model.proofs.Decidable.ToldLaws.{IsTold, same_told}
+use Rattle.hz_pipeline_model.proofs.Decidable.DecidedLaws.{IsDecided, same_reported}
 
 -- ---- edges
 
@@ -136,9 +136,9 @@ module _ (edges : List Edge) (latency : List ℕ) where
 
   most_of : (h : ℕ → ℕ) (i : ℕ) (xs : List Edge) → ((f : Edge) × IsMost xs h i f) ⊎ ((e : Edge) → Contains xs e → e.from ≡ i → ⊥)
   most_of h i [] = inr (λ e there from. Contains-nil e there)
-  most_of h i (x ∷ xs) = go (same_told x.from i) (most_of h i xs)
+  most_of h i (x ∷ xs) = go (same_reported x.from i) (most_of h i xs)
     where
-      go : IsTold (x.from ≡ i) → ((f : Edge) × IsMost xs h i f) ⊎ ((e : Edge) → Contains xs e → e.from ≡ i → ⊥) → ((f : Edge) × IsMost (x ∷ xs) h i f) ⊎ ((e : Edge) → Contains (x ∷ xs) e → e.from ≡ i → ⊥)
+      go : IsDecided (x.from ≡ i) → ((f : Edge) × IsMost xs h i f) ⊎ ((e : Edge) → Contains xs e → e.from ≡ i → ⊥) → ((f : Edge) × IsMost (x ∷ xs) h i f) ⊎ ((e : Edge) → Contains (x ∷ xs) e → e.from ≡ i → ⊥)
       go (inr other) (inr none) = inr (λ e c from. ⊎_elim
           (λ (same : x ≡ e). other (ap (λ (f : Edge). f.from) same ∙ from))
           (λ (m : Contains xs e). none e m from)

@@ -1,4 +1,4 @@
--- A graph has a schedule that is legal and greedy, where what is accepted can be told and instructions fit behind a while.
+-- A graph has a schedule that is legal and greedy, where what is accepted can be reported and instructions fit after a while.
 use Rattle.std.proofs.Common.{◌≡◌, ℕ, zero, suc, ◌+◌, ◌-◌, ◌<◌, ◌≤◌, ◌⊎◌, inl, inr, ⊎_elim, List, [], ◌∷◌, ◌++◌, length, Contains, sym, ap, subst, arith}
 use Rattle.std.specs.List.{AllPairs, range_with_len}
 use Rattle.std.proofs.lemmas.Bool.{cases_lt}
@@ -13,41 +13,41 @@ use Rattle.hz_block_model.specs.Scheduling.Schedules.{Graph, Slot, class_at, hei
 use Rattle.hz_block_model.proofs.Scheduling.OneSchedule.{Rises}
 use Rattle.hz_block_model.proofs.Scheduling.GrowLaws.{greedy-push, legal_when_all}
 use Rattle.hz_block_model.proofs.Schedulable.LeftLaws.{without}
-use Rattle.hz_pipeline_model.proofs.Decidable.ToldLaws.{IsTold, same_told, less_told, low_told, each_told, some_told, contained_told}
+use Rattle.hz_pipeline_model.proofs.Decidable.DecidedLaws.{IsDecided, same_reported, less_reported, low_reported, each_reported, some_reported, contained_reported}
 use Rattle.hz_block_model.proofs.Scheduling.SlotLaws.{spelled-push, advances_later, below_present, rising-push, no_front}
 
 -- numbers up to one
 last_or_less : (n j : ℕ) → j < suc n → (j < n) ⊎ (n ≡ j)
 last_or_less n j low = ⊎_elim (λ (less : j < n). inl less) (λ (high : n ≤ j). inr (omega arith)) (cases_lt j n)
 
-module _ (accepts : List Event → Type 0) (told : (t : List Event) → IsTold (accepts t)) (g : Graph) where
+module _ (accepts : List Event → Type 0) (reported : (t : List Event) → IsDecided (accepts t)) (g : Graph) where
   -- ---- candidates
 
   module _ (slots : List Slot) where
-    edge_told : (cycle j : ℕ) (e : Edge) → IsTold (e.to ≡ j → (x : Slot) × Contains slots x × (x.place ≡ e.from) × (x.cycle + e.cost ≤ cycle))
-    edge_told cycle j e = ⊎_elim
+    edge_reported : (cycle j : ℕ) (e : Edge) → IsDecided (e.to ≡ j → (x : Slot) × Contains slots x × (x.place ≡ e.from) × (x.cycle + e.cost ≤ cycle))
+    edge_reported cycle j e = ⊎_elim
         (λ (to : e.to ≡ j). ⊎_elim
         (λ (found : (x : Slot) × Contains slots x × ((x.place ≡ e.from) × (x.cycle + e.cost ≤ cycle))). inl (λ again. (found.0, found.1, (found.2).0, (found.2).1)))
         (λ (none : (x : Slot) → Contains slots x → (x.place ≡ e.from) × (x.cycle + e.cost ≤ cycle) → ⊥). inr (λ ready. let (x, there, place, late) = ready to in none x there (place, late)))
-        (some_told (λ x. (x.place ≡ e.from) × (x.cycle + e.cost ≤ cycle)) issue_told slots))
+        (some_reported (λ x. (x.place ≡ e.from) × (x.cycle + e.cost ≤ cycle)) issue_reported slots))
         (λ (other : e.to ≡ j → ⊥). inl (λ to. absurd (other to)))
-        (same_told e.to j)
+        (same_reported e.to j)
       where
-        issue_told : (x : Slot) → IsTold ((x.place ≡ e.from) × (x.cycle + e.cost ≤ cycle))
-        issue_told x = go (same_told x.place e.from) (low_told (x.cycle + e.cost) cycle)
+        issue_reported : (x : Slot) → IsDecided ((x.place ≡ e.from) × (x.cycle + e.cost ≤ cycle))
+        issue_reported x = go (same_reported x.place e.from) (low_reported (x.cycle + e.cost) cycle)
           where
-            go : IsTold (x.place ≡ e.from) → IsTold (x.cycle + e.cost ≤ cycle) → IsTold ((x.place ≡ e.from) × (x.cycle + e.cost ≤ cycle))
+            go : IsDecided (x.place ≡ e.from) → IsDecided (x.cycle + e.cost ≤ cycle) → IsDecided ((x.place ≡ e.from) × (x.cycle + e.cost ≤ cycle))
             go (inl a) (inl b) = inl (a, b)
             go (inl a) (inr b) = inr (λ both. b both.1)
             go (inr a) b = inr (λ both. a both.0)
 
-    ready_told : (cycle j : ℕ) → IsTold (IsReady g slots cycle j)
-    ready_told cycle j = each_told (λ e. e.to ≡ j → (x : Slot) × Contains slots x × (x.place ≡ e.from) × (x.cycle + e.cost ≤ cycle)) (edge_told cycle j) g.edges
+    ready_reported : (cycle j : ℕ) → IsDecided (IsReady g slots cycle j)
+    ready_reported cycle j = each_reported (λ e. e.to ≡ j → (x : Slot) × Contains slots x × (x.place ≡ e.from) × (x.cycle + e.cost ≤ cycle)) (edge_reported cycle j) g.edges
 
-    candidate_told : (cycle j : ℕ) → IsTold (IsCandidate accepts g slots cycle j)
-    candidate_told cycle j = go (less_told j (length g.nodes)) (contained_told (places slots) j) (ready_told cycle j) (told (spell g slots ++ (advance_to (present 0 slots) cycle ++ issue (class_at g j) ∷ [])))
+    candidate_reported : (cycle j : ℕ) → IsDecided (IsCandidate accepts g slots cycle j)
+    candidate_reported cycle j = go (less_reported j (length g.nodes)) (contained_reported (places slots) j) (ready_reported cycle j) (reported (spell g slots ++ (advance_to (present 0 slots) cycle ++ issue (class_at g j) ∷ [])))
       where
-        go : IsTold (j < length g.nodes) → IsTold (Contains (places slots) j) → IsTold (IsReady g slots cycle j) → IsTold (accepts (spell g slots ++ (advance_to (present 0 slots) cycle ++ issue (class_at g j) ∷ []))) → IsTold (IsCandidate accepts g slots cycle j)
+        go : IsDecided (j < length g.nodes) → IsDecided (Contains (places slots) j) → IsDecided (IsReady g slots cycle j) → IsDecided (accepts (spell g slots ++ (advance_to (present 0 slots) cycle ++ issue (class_at g j) ∷ []))) → IsDecided (IsCandidate accepts g slots cycle j)
         go (inr not_so) b c d = inr (λ k. not_so k.within)
         go (inl a) (inl is) c d = inr (λ k. k.left is)
         go (inl a) (inr b) (inr not_so) d = inr (λ k. not_so k.ready)
@@ -68,9 +68,9 @@ module _ (accepts : List Event → Type 0) (told : (t : List Event) → IsTold (
 
     best_below : (cycle n : ℕ) → ((place : ℕ) × IsBest cycle n place) ⊎ ((j : ℕ) → j < n → IsCandidate accepts g slots cycle j → ⊥)
     best_below cycle zero = inr (λ j low c. omega (arith, low))
-    best_below cycle (suc n) = go (candidate_told cycle n) (best_below cycle n)
+    best_below cycle (suc n) = go (candidate_reported cycle n) (best_below cycle n)
       where
-        go : IsTold (IsCandidate accepts g slots cycle n) → ((place : ℕ) × IsBest cycle n place) ⊎ ((j : ℕ) → j < n → IsCandidate accepts g slots cycle j → ⊥)
+        go : IsDecided (IsCandidate accepts g slots cycle n) → ((place : ℕ) × IsBest cycle n place) ⊎ ((j : ℕ) → j < n → IsCandidate accepts g slots cycle j → ⊥)
             → ((place : ℕ) × IsBest cycle (suc n) place) ⊎ ((j : ℕ) → j < suc n → IsCandidate accepts g slots cycle j → ⊥)
         go (inr not_so) (inr none) = inr (λ j low c. ⊎_elim
             (λ (less : j < n). none j less c)
@@ -180,11 +180,11 @@ module _ (accepts : List Event → Type 0) (told : (t : List Event) → IsTold (
   -- all places below a number are issued, or there is a least that is not
   least_left : (slots : List Slot) (n : ℕ) → ((j : ℕ) → j < n → Contains (places slots) j) ⊎ ((j : ℕ) × (j < n) × (Contains (places slots) j → ⊥) × ((i : ℕ) → i < j → Contains (places slots) i))
   least_left slots zero = inl (λ j low. absurd (omega (arith, low)))
-  least_left slots (suc n) = go (least_left slots n) (contained_told (places slots) n)
+  least_left slots (suc n) = go (least_left slots n) (contained_reported (places slots) n)
     where
-      go : ((j : ℕ) → j < n → Contains (places slots) j) ⊎ ((j : ℕ) × (j < n) × (Contains (places slots) j → ⊥) × ((i : ℕ) → i < j → Contains (places slots) i)) → IsTold (Contains (places slots) n)
+      go : ((j : ℕ) → j < n → Contains (places slots) j) ⊎ ((j : ℕ) × (j < n) × (Contains (places slots) j → ⊥) × ((i : ℕ) → i < j → Contains (places slots) i)) → IsDecided (Contains (places slots) n)
           → ((j : ℕ) → j < suc n → Contains (places slots) j) ⊎ ((j : ℕ) × (j < suc n) × (Contains (places slots) j → ⊥) × ((i : ℕ) → i < j → Contains (places slots) i))
-      go (inr (j, low, left, below)) told_here = inr (j, omega (arith, low), left, below)
+      go (inr (j, low, left, below)) reported_here = inr (j, omega (arith, low), left, below)
       go (inl all) (inr left) = inr (n, omega arith, left, all)
       go (inl all) (inl there) = inl (λ j low. ⊎_elim (λ (less : j < n). all j less) (λ (same : n ≡ j). subst (Contains (places slots)) same there) (last_or_less n j low))
 

@@ -23,7 +23,7 @@ use Rattle.hz_block_model.proofs.Scheduling.TraceLaws.{cycles_spelled}
 use Rattle.hz_block_model.specs.Scheduled.BlockGraphs.{class_in, classes_of, IsGraphOf}
 use Rattle.hz_block_model.specs.Scheduled.BlockSchedules.{StartsAlone, IsScheduleOf}
 use Rattle.hz_block_model.proofs.Scheduled.GraphLaws.{HasClass, as_many}
-use Rattle.hz_block_model.proofs.Schedulable.BehindLaws.{accepted_told, accepted_nothing, behind_while}
+use Rattle.hz_block_model.proofs.Schedulable.AfterLaws.{accepted_reported, accepted_nothing, after_while}
 use Rattle.hz_block_model.proofs.Schedulable.CostLaws.{cost_small}
 use Rattle.hz_block_model.proofs.Schedulable.GraphTotal.{some_graph}
 use Rattle.hz_block_model.proofs.Schedulable.GreedyLaws.{some_schedule}
@@ -53,8 +53,8 @@ module _ (d : Description) (known : Known) where
   pub some_schedule_of : (block : List Instruction) → IsCheckable d → IsSound d known → All (StartsAlone d known) block → (g : Graph) × (slots : List Slot) × IsScheduleOf d known block g slots
   some_schedule_of block formed sound all =
       let (g, graph) = some_graph d block (All-weaker (StartsAlone d known) (HasClass d) (λ i starts. (starts.0, starts.1)) block all) in
-      let (slots, legal, greedy) = some_schedule (Accepted (pipeline_with d known)) (accepted_told d known) g (upward_edges d block g formed graph)
-      (λ j low t n accepted long. (behind_while d known formed sound t (issue (class_at g j) ∷ []) n long accepted).1 (starts_at (classes_of g) block graph.classes all j (omega (arith, low, as_many d block g graph))))
+      let (slots, legal, greedy) = some_schedule (Accepted (pipeline_with d known)) (accepted_reported d known) g (upward_edges d block g formed graph)
+      (λ j low t n accepted long. (after_while d known formed sound t (issue (class_at g j) ∷ []) n long accepted).1 (starts_at (classes_of g) block graph.classes all j (omega (arith, low, as_many d block g graph))))
       (accepted_nothing d known) in
       (g, slots, record { graph = graph; legal = legal; greedy = greedy })
 
@@ -70,8 +70,8 @@ module _ (d : Description) (known : Known) where
       omega (arith, one, other, rise)
 
   module _ (block : List Instruction) (g : Graph) (slots : List Slot) (formed : IsCheckable d) (sound : IsSound d known) (is : IsScheduleOf d known block g slots) where
-    pub soon_behind : (before after : List Slot) (x : Slot) → slots ≡ before ++ x ∷ after → x.cycle ≤ present 0 before + most_wait
-    soon_behind before after x e = ⊎_elim
+    pub soon_after : (before after : List Slot) (x : Slot) → slots ≡ before ++ x ∷ after → x.cycle ≤ present 0 before + most_wait
+    soon_after before after x e = ⊎_elim
         (λ (late : present 0 before + most_wait < x.cycle). absurd (f.soonest (present 0 before + most_wait) x.place (omega arith) late (sooner late)))
         (λ (soon : x.cycle ≤ present 0 before + most_wait). soon)
         (cases_lt (present 0 before + most_wait) x.cycle)
@@ -96,16 +96,16 @@ module _ (d : Description) (known : Known) where
             front = prefix_accepted (pipeline_with d known) (spell g before) (advance (x.cycle - present 0 before) ∷ issue (class_at g x.place) ∷ []) then
 
             alone : Accepted (pipeline_with d known) (issue (class_at g x.place) ∷ [])
-            alone = (behind_while d known formed sound (spell g before) (issue (class_at g x.place) ∷ []) (x.cycle - present 0 before) (omega arith) front).0 then
+            alone = (after_while d known formed sound (spell g before) (issue (class_at g x.place) ∷ []) (x.cycle - present 0 before) (omega arith) front).0 then
 
             fits : Accepted (pipeline_with d known) (spell g before ++ (advance_to (present 0 before) (present 0 before + most_wait) ++ issue (class_at g x.place) ∷ []))
             fits = subst (λ (t : List Event). Accepted (pipeline_with d known) (spell g before ++ (t ++ issue (class_at g x.place) ∷ []))) (sym (advances_later (present 0 before) (present 0 before + most_wait) (omega arith)))
-                ((behind_while d known formed sound (spell g before) (issue (class_at g x.place) ∷ []) ((present 0 before + most_wait) - present 0 before) (omega arith) front).1 alone)
+                ((after_while d known formed sound (spell g before) (issue (class_at g x.place) ∷ []) ((present 0 before + most_wait) - present 0 before) (omega arith) front).1 alone)
 
     soon_from : (before after : List Slot) → slots ≡ before ++ after → present 0 before ≤ most_wait * length before → present 0 slots ≤ most_wait * length slots
     soon_from before [] e low = subst (λ (xs : List Slot). present 0 xs ≤ most_wait * length xs) (sym (e ∙ append-nil before)) low
     soon_from before (x ∷ after) e low =
-        let here = soon_behind before after x e in
+        let here = soon_after before after x e in
         let now = present-push 0 before x in
         let long = length-append before (x ∷ []) in
         soon_from (before ++ x ∷ []) after (e ∙ sym (append_assoc before (x ∷ []) after)) (omega (arith, here, now, long, low))
@@ -116,9 +116,9 @@ module _ (d : Description) (known : Known) where
 pub soon_issued : (d : Description) (known : Known) (block : List Instruction) (g : Graph) (slots : List Slot) → IsCheckable d → IsSound d known → IsScheduleOf d known block g slots → present 0 slots ≤ most_wait * length slots
 soon_issued d known block g slots formed sound is = soon_all d known block g slots formed sound is
 
--- each issue comes soon behind the one before it
+-- each issue comes soon after the one before it
 pub next_issued : (d : Description) (known : Known) (block : List Instruction) (g : Graph) (slots : List Slot) → IsCheckable d → IsSound d known → IsScheduleOf d known block g slots → (before after : List Slot) (x : Slot) → slots ≡ before ++ x ∷ after → x.cycle ≤ present 0 before + most_wait
-next_issued d known block g slots formed sound is = soon_behind d known block g slots formed sound is
+next_issued d known block g slots formed sound is = soon_after d known block g slots formed sound is
 
 -- the trace of a schedule is short
 pub short_trace : (d : Description) (known : Known) (block : List Instruction) (g : Graph) (slots : List Slot) → IsCheckable d → IsSound d known → IsScheduleOf d known block g slots → cycles_of (spell g slots) ≤ most_wait * length block

@@ -24,22 +24,22 @@ module _ (d : Description) (known : Known) (block : List Instruction) (g : Graph
   whole : IsOrder (length block) (places slots)
   whole = rw (sym (as_many d block g graph)) legal.order
 
-  behind_costs : (before after : List Slot) (x : Slot) (i : ℕ) → slots ≡ before ++ x ∷ after → depends block i x.place ≡ true → (y : Slot) × Contains before y × (y.place ≡ i) × (y.cycle + cost block (timing_in d (classes_of g) block) i x.place ≤ x.cycle)
-  behind_costs before after x i is depending =
+  after_costs : (before after : List Slot) (x : Slot) (i : ℕ) → slots ≡ before ++ x ∷ after → depends block i x.place ≡ true → (y : Slot) × Contains before y × (y.place ≡ i) × (y.cycle + cost block (timing_in d (classes_of g) block) i x.place ≤ x.cycle)
+  after_costs before after x i is depending =
       let (up, inside) = upwards block i x.place depending in
       legal.kept before after x is (edge block (timing_in d (classes_of g) block) i x.place) ((graph.edges).each i x.place (omega arith) inside depending) refl
 
   keeps : Keeps block (places slots)
   keeps before after i j is depending =
       let p = at_place slots before after j is in
-      let (y, there, place, late) = behind_costs p.front p.back p.slot i p.all (subst (λ (k : ℕ). depends block i k ≡ true) (sym p.place) depending) in
+      let (y, there, place, late) = after_costs p.front p.back p.slot i p.all (subst (λ (k : ℕ). depends block i k ≡ true) (sym p.place) depending) in
       subst (λ (ps : List ℕ). Contains ps i) p.places_before (subst (Contains (places p.front)) place (Contains-map (λ (z : Slot). z.place) p.front y there))
 
   pub legal_keeps : KeepsBlock d known block g slots
   legal_keeps = record {
     each = whole;
     rising = legal.rising;
-    kept = behind_costs;
+    kept = after_costs;
     accepted = legal.accepted;
     leaves = λ state. commutes block state (places slots) whole keeps;
   }

@@ -87,7 +87,7 @@ module _ (d : Description) (known : Known) where
       inr (first.0, record { before = f.before; after = f.after; parts = f.parts; start = f.good; stuck = f.is }))
       (all_or_first (StartsAlone d known) (λ i. StartsAlone d known i → ⊥) starts_or_not block)
 
-  -- ---- what is told by the places of a graph
+  -- ---- what is reported by the places of a graph
 
   -- instructions whose classes are accepted from the start, by their places
   starts_from : (classes : List ℕ) (block : List Instruction) → map Ok classes ≡ map (class_in d) block → ((j : ℕ) → j < length block → Accepted (pipeline_with d known) (issue (slice_index classes j) ∷ [])) → All (StartsAlone d known) block
@@ -118,10 +118,10 @@ module _ (d : Description) (known : Known) where
     };
   }
   stuck_from (class ∷ classes) (i ∷ block) are (suc place) low each stuck =
-      behind (stuck_from classes block (cc) place (omega arith) (λ j less. each (suc j) (omega arith)) stuck)
+      beyond (stuck_from classes block (cc) place (omega arith) (λ j less. each (suc j) (omega arith)) stuck)
     where
-      behind : IsStuckAt block place → IsStuckAt (i ∷ block) (suc place)
-      behind s = let f = s.first in record {
+      beyond : IsStuckAt block place → IsStuckAt (i ∷ block) (suc place)
+      beyond s = let f = s.first in record {
         insn = s.insn;
         there = s.there;
         first = record {

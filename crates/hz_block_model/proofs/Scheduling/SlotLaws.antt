@@ -52,7 +52,7 @@ rising-push slots y rising le = AllPairs-append Rises slots (y ∷ []) rising (�
 
 -- ---- fronts of slots
 
--- A slot of slots behind which one more stands: the last, or one of those before it.
+-- A slot of slots after which one more stands: the last, or one of those before it.
 pub data Split (slots : List Slot) (y : Slot) (before : List Slot) (x : Slot) : Type 0 where
   last : slots ≡ before → y ≡ x → Split slots y before x
   earlier : (rest : List Slot) → slots ≡ before ++ x ∷ rest → Split slots y before x

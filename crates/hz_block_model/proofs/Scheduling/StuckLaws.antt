@@ -25,7 +25,7 @@ module _ (m : Machine) (g : Graph) where
   class_is : (i : ℕ) → i < length g.nodes → class_at g i ≡ (get_or g.nodes i no_node).class
   class_is i lt = get_or-map (λ (n : Node). n.class) g.nodes i no_node 0 lt
 
-  -- what is told of the first that is stuck
+  -- what is reported of the first that is stuck
   pub first_stuck : (place : ℕ) → cannot_start_alone m g ≡ Some place → (place < length g.nodes) × (can_start m (class_at g place) ≡ false) × ((i : ℕ) → i < place → can_start m (class_at g i) ≡ true)
   first_stuck place e =
       let (inside, here, before) = position-Some (λ (n : Node). not (can_start m n.class)) g.nodes place no_node e in (
@@ -34,7 +34,7 @@ module _ (m : Machine) (g : Graph) where
         λ i lt. ap (can_start m) (class_is i (omega arith)) ∙ is_true _ (before i lt),
       )
 
-  -- what is told where none is
+  -- what is reported where none is
   pub none_stuck : cannot_start_alone m g ≡ None → (i : ℕ) → i < length g.nodes → can_start m (class_at g i) ≡ true
   none_stuck e i lt = ap (can_start m) (class_is i lt) ∙ is_true _ (go (nat_lt (position_or_len (λ (n : Node). not (can_start m n.class)) g.nodes) (length g.nodes)) (λ j. nat_lt (position_or_len (λ (n : Node). not (can_start m n.class)) g.nodes) (length g.nodes)) e)
     where

@@ -75,10 +75,10 @@ pub few_spelled : (g : Graph) (slots : List Slot) → length (spell g slots) ≤
 few_spelled g slots = few_from g 0 slots
 
 cycles_from : (g : Graph) (cycle : ℕ) (slots : List Slot) → All (λ x. cycle ≤ x.cycle) slots → AllPairs Rises slots → cycles_of (spelled g cycle slots) + cycle ≡ present cycle slots
-cycles_from g cycle [] behind rising = omega arith
-cycles_from g cycle (x ∷ slots) behind rising =
+cycles_from g cycle [] beyond rising = omega arith
+cycles_from g cycle (x ∷ slots) beyond rising =
     let both = cycles_of-append (advance_to cycle x.cycle) (issue (class_at g x.place) ∷ spelled g x.cycle slots) in
-    let first = advances_to cycle x.cycle (All-head (λ (y : Slot). cycle ≤ y.cycle) x slots behind) in
+    let first = advances_to cycle x.cycle (All-head (λ (y : Slot). cycle ≤ y.cycle) x slots beyond) in
     omega (arith, both, first, cycles_from g x.cycle slots (AllPairs-head Rises x slots rising) (AllPairs-tail Rises x slots rising))
 
 pub cycles_spelled : (g : Graph) (slots : List Slot) → AllPairs Rises slots → cycles_of (spell g slots) ≡ present 0 slots

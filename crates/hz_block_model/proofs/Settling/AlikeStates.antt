@@ -21,9 +21,9 @@ both true b f g = sym (f refl)
 both false true f g = g refl
 both false false f g = refl
 
--- What holds of a compiled part: what is walked is accepted, each column is that of a class, and told are the units that are
+-- What holds of a compiled part: what is walked is accepted, each column is that of a class, and reported are the units that are
 -- held. If there is a query unit, each issue takes the first alternative that fits.
-pub record IsTold {U : Type 0} (classes : ℕ) (m : Pipeline U) (queries : List U) (part : Part) : Type 0 where
+pub record IsReported {U : Type 0} (classes : ℕ) (m : Pipeline U) (queries : List U) (part : Part) : Type 0 where
   pub shape : IsShaped part
   pub filled : IsFilled classes part
   pub walks : WalksAccepted classes m part
@@ -36,7 +36,7 @@ pub record IsAlike {U : Type 0} (m : Pipeline U) (s t : List Event) : Type 0 whe
   pub accepted : (u : List Event) → Accepted m (s ++ u) ↔ Accepted m (t ++ u)
   pub held : m.treatment ≡ first_fit → (u : List Event) → Accepted m (s ++ u) → (unit : U) → IsHeld m (s ++ u) unit ↔ IsHeld m (t ++ u) unit
 
-module _ {U : Type 0} (classes : ℕ) (m : Pipeline U) (queries : List U) (part : Part) (told : IsTold classes m queries part) where
+module _ {U : Type 0} (classes : ℕ) (m : Pipeline U) (queries : List U) (part : Part) (reported : IsReported classes m queries part) where
   -- An event that takes a column.
   record Takes (column : ℕ) : Type 0 where
     event : Event
@@ -45,7 +45,7 @@ module _ {U : Type 0} (classes : ℕ) (m : Pipeline U) (queries : List U) (part 
 
   takes_class : (column : ℕ) → column < part.columns → Takes column
   takes_class column low =
-      let class = told.filled column low in
+      let class = reported.filled column low in
       record { event = issue class.0; of_class = class.1; word = ap (λ (c : ℕ). c ∷ []) class.2 }
 
   takes_advance : (column : ℕ) → advance_of part ≡ column → Takes column
@@ -69,18 +69,18 @@ module _ {U : Type 0} (classes : ℕ) (m : Pipeline U) (queries : List U) (part 
       -- they are walked after the one exactly if they are after the other
       walked_later : is_some (part_walk part 0 (s ++ u)) ≡ is_some (part_walk part 0 (t ++ u))
       walked_later =
-          let far = told.walks.walks (s ++ u) after_s in
-          let near = told.walks.walks (t ++ u) after_t in
+          let far = reported.walks.walks (s ++ u) after_s in
+          let near = reported.walks.walks (t ++ u) after_t in
           let same = alike.accepted u in
           both (is_some (part_walk part 0 (s ++ u))) (is_some (part_walk part 0 (t ++ u))) (λ h. near.1 (same.0 (far.0 h))) (λ h. far.1 (same.1 (near.0 h)))
 
-      -- and the same is told at an ask
-      told_later : (state mate query : ℕ) → part_walk part 0 (s ++ u) ≡ Some state → part_walk part 0 (t ++ u) ≡ Some mate → query < length part.asks → tells_reserved part state query ≡ tells_reserved part mate query
-      told_later state mate query ends led low =
-          let (unit, at) = some_at queries query (omega (arith, low, told.asks)) in
-          let far = told.held.held (s ++ u) state query unit after_s ends at in
-          let near = told.held.held (t ++ u) mate query unit after_t led at in
-          let same = alike.held (told.first (omega (arith, low, told.asks))) u ((told.walks.walks (s ++ u) after_s).0 (ap is_some ends)) unit in
+      -- and the same is reported at an ask
+      reported_later : (state mate query : ℕ) → part_walk part 0 (s ++ u) ≡ Some state → part_walk part 0 (t ++ u) ≡ Some mate → query < length part.asks → tells_reserved part state query ≡ tells_reserved part mate query
+      reported_later state mate query ends led low =
+          let (unit, at) = some_at queries query (omega (arith, low, reported.asks)) in
+          let far = reported.held.held (s ++ u) state query unit after_s ends at in
+          let near = reported.held.held (t ++ u) mate query unit after_t led at in
+          let same = alike.held (reported.first (omega (arith, low, reported.asks))) u ((reported.walks.walks (s ++ u) after_s).0 (ap is_some ends)) unit in
           both (tells_reserved part state query) (tells_reserved part mate query) (λ h. near.1 (same.0 (far.0 h))) (λ h. far.1 (same.1 (near.0 h)))
 
     -- the same is walked from the states after both
@@ -102,17 +102,17 @@ module _ {U : Type 0} (classes : ℕ) (m : Pipeline U) (queries : List U) (part 
 
       by_ask : (query : ℕ) → query < length part.asks → part.columns + query ≡ column → SameNext
       by_ask query low is_column =
-          let same = told_later u of_classes state mate query ends led low in
+          let same = reported_later u of_classes state mate query ends led low in
           both_from part.rows part.rows (entry part.rows state column) (entry part.rows mate column)
           (ap (λ (c : ℕ). is_some (entry part.rows state c)) (sym is_column) ∙ (same ∙ ap (λ (c : ℕ). is_some (entry part.rows mate c)) is_column)) w
           (λ next other e e'.
-          let stay = told.shape.stays.stays state query next low (ap (entry part.rows state) is_column ∙ e) in
-          let stay_too = told.shape.stays.stays mate query other low (ap (entry part.rows mate) is_column ∙ e') in
+          let stay = reported.shape.stays.stays state query next low (ap (entry part.rows state) is_column ∙ e) in
+          let stay_too = reported.shape.stays.stays mate query other low (ap (entry part.rows mate) is_column ∙ e') in
           rest u of_classes next other (ends ∙ ap Some (sym stay)) (led ∙ ap Some (sym stay_too)))
 
       nowhere : advance_of part < column → SameNext
       nowhere beyond =
-          let table = told.shape.table in
+          let table = reported.shape.table in
           let low : (state : ℕ) (v : List Event) → part_walk part 0 v ≡ Some state → state < length part.rows = λ state v h. walk_stays part.rows (advance_of part) table (Some 0) (starts part.rows table.start) state (word_of part v) h in
           let none = no_entry part.rows state column (advance_of part) (table.width state (low state (s ++ u) ends)) beyond in
           let none_too = no_entry part.rows mate column (advance_of part) (table.width mate (low mate (t ++ u) led)) beyond in

@@ -39,12 +39,12 @@ module _ (d : Description) (known : Known) (sound : IsSound d known) (m : Machin
   alone i lt = agree (issue (class_at g i) ∷ []) (All-cons (IsOfClass (length d.classes)) (issue (class_at g i)) [] (class_below (length d.classes) g ranges i lt) (All-nil (IsOfClass (length d.classes))))
 
   pub stuck_as_described : (place : ℕ) → cannot_start_alone m g ≡ Some place → (place < length g.nodes) × ((i : ℕ) → i < place → Accepted (pipeline_with d known) (issue (class_at g i) ∷ [])) × (Accepted (pipeline_with d known) (issue (class_at g place) ∷ []) → ⊥)
-  stuck_as_described place told =
-      let (inside, here, before) = first_stuck m g place told in (
+  stuck_as_described place reported =
+      let (inside, here, before) = first_stuck m g place reported in (
         inside,
         λ i lt. (alone i (omega arith)).0 (before i lt),
         λ accepted. let starts = (alone place inside).1 accepted in cc,
       )
 
   pub start_as_described : cannot_start_alone m g ≡ None → (i : ℕ) → i < length g.nodes → Accepted (pipeline_with d known) (issue (class_at g i) ∷ [])
-  start_as_described told i lt = (alone i lt).0 (none_stuck m g told i lt)
+  start_as_described reported i lt = (alone i lt).0 (none_stuck m g reported i lt)

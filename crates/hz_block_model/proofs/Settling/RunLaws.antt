@@ -1,4 +1,4 @@
--- What stands reserved `cycle_limit` cycles behind events: nothing. From there on the same events are accepted as from the start.
+-- What stands reserved `cycle_limit` cycles after events: nothing. From there on the same events are accepted as from the start.
 use Rattle.std.proofs.Common.{◌≡◌, ℕ, ◌+◌, ◌<◌, List, [], ◌∷◌, ◌++◌, Contains, refl, sym, ap, ◌∙◌, subst, arith, ⊎_elim}
 use Rattle.std.specs.Prelude.{◌↔◌}
 use Rattle.std.proofs.lemmas.List.Elements.{Contains-append_cases}
@@ -45,8 +45,8 @@ module _ {U : Type 0} (m : Pipeline U) where
   run_there [] grid s r q here there whole sound h = (r, refl, grid, subst (IsFuture grid) (sym h) here, there)
   run_there (e ∷ t) grid s r q here there whole sound (middle, step, rest) =
       let (next, leads, after) = leads_from_step m grid s here whole e middle step in
-      let (mate, other, behind) = step_from_leads m grid r there sound e next leads in
-      let (o, run, left, one, two) = run_there t next middle mate q after behind (unbroken_step m grid s here whole e middle step) (unbroken_step m grid r there sound e mate other) rest in
+      let (mate, other, beyond) = step_from_leads m grid r there sound e next leads in
+      let (o, run, left, one, two) = run_there t next middle mate q after beyond (unbroken_step m grid s here whole e middle step) (unbroken_step m grid r there sound e mate other) rest in
       (o, (mate, other, run), left, one, two)
 
   -- cycles are always accepted
@@ -97,9 +97,9 @@ module _ {U : Type 0} (m : Pipeline U) where
     pub settled_future : (t : List Event) → (a : Accepted m (settled t)) → IsFuture [] (left_by m (settled t) a.0)
     settled_future t (choices, is) = nothing_stands t (left_by m (settled t) choices) (run_of_choices m (settled t) choices is)
 
-    -- behind `cycle_limit` cycles the same is accepted as from the start
-    pub accepted_behind : (t u : List Event) → Accepted m (settled t) → Accepted m (settled t ++ u) ↔ Accepted m u
-    accepted_behind t u before = (
+    -- after `cycle_limit` cycles the same is accepted as from the start
+    pub accepted_after : (t u : List Event) → Accepted m (settled t) → Accepted m (settled t ++ u) ↔ Accepted m u
+    accepted_after t u before = (
       λ h.
           let (q, run) = runs_from_accepted m (settled t ++ u) h in
           let (s, one, two) = run_cut (settled t) u start q run in
@@ -113,8 +113,8 @@ module _ {U : Type 0} (m : Pipeline U) where
     )
 
     -- and then the same is held
-    pub held_behind : m.treatment ≡ first_fit → (t u : List Event) → Accepted m (settled t ++ u) → (unit : U) → IsHeld m (settled t ++ u) unit ↔ IsHeld m u unit
-    held_behind first t u h unit =
+    pub held_after : m.treatment ≡ first_fit → (t u : List Event) → Accepted m (settled t ++ u) → (unit : U) → IsHeld m (settled t ++ u) unit ↔ IsHeld m u unit
+    held_after first t u h unit =
         let (q, run) = runs_from_accepted m (settled t ++ u) h in
         let (s, one, two) = run_cut (settled t) u start q run in
         let (o, other, left, this, that) = run_there u [] s start q (nothing_stands t s one) empty_future (unbroken_run m (settled t) s one) (unbroken_empty m.statements) two in

@@ -25,7 +25,7 @@ use Rattle.hz_pipeline_model.specs.Compiling.CompiledParts.{WalksAccepted, Tells
 use Rattle.hz_block_model.specs.Scheduling.Machines.{Settles}
 use Rattle.hz_block_model.proofs.Settling.RunLaws.{IsShort, settled, accepted_settled}
 use Rattle.hz_block_model.proofs.Settling.PartLaws.{settles_at_start}
-use Rattle.hz_block_model.proofs.Settling.AlikeStates.{IsTold}
+use Rattle.hz_block_model.proofs.Settling.AlikeStates.{IsReported}
 use Rattle.hz_block_model.proofs.Settling.AskedTreatment.{first_where_asked}
 use Rattle.hz_pipeline_model.proofs.Single.WordLaws.{IsFilled}
 use Rattle.hz_pipeline_model.proofs.Single.PartLaws.{filled_part}
@@ -88,9 +88,9 @@ module _ (options : Options) (automata : List AutomatonParts) (classes : List Cl
         let held = subst (λ (n : ℕ). TellsWhatIsHeld n (automaton_pipeline options automata classes i) (queries_at automata i) part) (sym count) is.held in
         let asks : length (queries_at automata i) ≡ length part.asks = sym (ap length is.asks ∙ length-map (queries_at automata i) (λ unit. slice_index_or (automaton_at automata i).units unit [])) in
         let filled = subst (λ (n : ℕ). IsFilled n part) (sym count) (filled_part options.no_minimization options automata classes i part (report_at reports i) is) in
-        let told : IsTold (length (lists_at classes i)) (automaton_pipeline options automata classes i) (queries_at automata i) part =
+        let reported : IsReported (length (lists_at classes i)) (automaton_pipeline options automata classes i) (queries_at automata i) part =
         record { shape = record { table = kept_part.table; stays = kept_part.stays }; filled = filled; walks = walks; held = held; asks = asks; first = first_where_asked options automata classes nothing i there } in
-        settles_at_start (length (lists_at classes i)) (automaton_pipeline options automata classes i) (short_pipeline i there) (queries_at automata i) part told t classes_of now options.no_minimization
+        settles_at_start (length (lists_at classes i)) (automaton_pipeline options automata classes i) (short_pipeline i there) (queries_at automata i) part reported t classes_of now options.no_minimization
         (tells options.no_minimization (automaton_pipeline options automata classes i) part (sym count) is.tells)
       where
         tells : (stay : Bool) (pipeline : Pipeline ℕ) (part : Part) {n o : ℕ} → n ≡ o → MatchBool stay (TellsWhatIsLeft n pipeline part) (AllApart part.rows) → MatchBool stay (TellsWhatIsLeft o pipeline part) (AllApart part.rows)

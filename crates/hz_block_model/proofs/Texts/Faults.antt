@@ -376,8 +376,8 @@ headless_fault (new_cell given) other h form k = absurd (cc)
 -- ---- numbers and names
 
 -- a fault is the one that is found
-told : {kind : Kind} {form : Tree} (g f : RtlFault) (m l : ℕ) → ◌≡◌ {A = Option Fault} (Some (g, m)) (Some (f, l)) → Wrong kind form g m → Wrong kind form f l
-told {kind = kind} {form = form} g f m l h w =
+reported : {kind : Kind} {form : Tree} (g f : RtlFault) (m l : ℕ) → ◌≡◌ {A = Option Fault} (Some (g, m)) (Some (f, l)) → Wrong kind form g m → Wrong kind form f l
+reported {kind = kind} {form = form} g f m l h w =
     let pair : ◌≡◌ {A = Fault} (g, m) (f, l) = cc in
     let fault : g ≡ f = ap (λ (p : Fault). p.0) pair in
     let line : m ≡ l = ap (λ (p : Fault). p.1) pair in
@@ -388,22 +388,22 @@ register_fault (number line (pos n)) f l h = by_test (nat_lt n 256) refl h
   where
     by_test : (t : Bool) → nat_lt n 256 ≡ t → fault_in (cond t (Ok n) (Err (register_range, line))) ≡ Some (f, l) → Wrong register_kind (number line (pos n)) f l
     by_test true e h = absurd (cc)
-    by_test false e h = told register_range f line l h (Wrong.past_registers (λ m low same. (let equal : n ≡ m = cc in let high = ltb-false n 256 e in absurd (omega (arith, low, equal, high)))))
-register_fault (number line (negsuc n)) f l h = told register_range f line l h (Wrong.past_registers (λ m low same. absurd (cc)))
-register_fault (list line forms) f l h = told bad_shape f line l h (Wrong.no_register (λ at value e. absurd (cc)))
-register_fault (vector line forms) f l h = told bad_shape f line l h (Wrong.no_register (λ at value e. absurd (cc)))
-register_fault (atom line bytes) f l h = told bad_shape f line l h (Wrong.no_register (λ at value e. absurd (cc)))
-register_fault (quoted line bytes) f l h = told bad_shape f line l h (Wrong.no_register (λ at value e. absurd (cc)))
+    by_test false e h = reported register_range f line l h (Wrong.past_registers (λ m low same. (let equal : n ≡ m = cc in let high = ltb-false n 256 e in absurd (omega (arith, low, equal, high)))))
+register_fault (number line (negsuc n)) f l h = reported register_range f line l h (Wrong.past_registers (λ m low same. absurd (cc)))
+register_fault (list line forms) f l h = reported bad_shape f line l h (Wrong.no_register (λ at value e. absurd (cc)))
+register_fault (vector line forms) f l h = reported bad_shape f line l h (Wrong.no_register (λ at value e. absurd (cc)))
+register_fault (atom line bytes) f l h = reported bad_shape f line l h (Wrong.no_register (λ at value e. absurd (cc)))
+register_fault (quoted line bytes) f l h = reported bad_shape f line l h (Wrong.no_register (λ at value e. absurd (cc)))
 
 no_word_in : (form : Tree) → ((line : ℕ) (value : ℤ) → form ≡ number line value → ⊥) → (word : ℕ) → IsWord form word → ⊥
 no_word_in _ h _ (a_word {line = line} {value = value}) = h line value refl
 
 word_fault : (form : Tree) (f : RtlFault) (l : ℕ) → fault_in (word_in form) ≡ Some (f, l) → Wrong word_kind form f l
 word_fault (number line value) f l h = absurd (cc)
-word_fault (list line forms) f l h = told bad_shape f line l h (Wrong.no_word (no_word_in (list line forms) (λ at value e. absurd (cc))))
-word_fault (vector line forms) f l h = told bad_shape f line l h (Wrong.no_word (no_word_in (vector line forms) (λ at value e. absurd (cc))))
-word_fault (atom line bytes) f l h = told bad_shape f line l h (Wrong.no_word (no_word_in (atom line bytes) (λ at value e. absurd (cc))))
-word_fault (quoted line bytes) f l h = told bad_shape f line l h (Wrong.no_word (no_word_in (quoted line bytes) (λ at value e. absurd (cc))))
+word_fault (list line forms) f l h = reported bad_shape f line l h (Wrong.no_word (no_word_in (list line forms) (λ at value e. absurd (cc))))
+word_fault (vector line forms) f l h = reported bad_shape f line l h (Wrong.no_word (no_word_in (vector line forms) (λ at value e. absurd (cc))))
+word_fault (atom line bytes) f l h = reported bad_shape f line l h (Wrong.no_word (no_word_in (atom line bytes) (λ at value e. absurd (cc))))
+word_fault (quoted line bytes) f l h = reported bad_shape f line l h (Wrong.no_word (no_word_in (quoted line bytes) (λ at value e. absurd (cc))))
 
 -- what is no name is wrong there
 name_place : (form : Tree) (f : Fault) → name_in form ≡ Err f → ◌≡◌ {A = Fault} (bad_shape, line_of form) f
@@ -432,7 +432,7 @@ name_fault form f l = by_name (name_in form) refl
   where
     by_name : (judged : Judged (List ℕ)) → name_in form ≡ judged → fault_in judged ≡ Some (f, l) → Wrong name_kind form f l
     by_name (Ok name) e h = absurd (cc)
-    by_name (Err g) e h = told bad_shape f (line_of form) l (ap Some (name_place form g e) ∙ h) (Wrong.no_name (λ name is. not_ok (name_in form) g name e (name_comes is)))
+    by_name (Err g) e h = reported bad_shape f (line_of form) l (ap Some (name_place form g e) ∙ h) (Wrong.no_name (λ name is. not_ok (name_in form) g name e (name_comes is)))
 
 -- what is to be new
 twice_if : {A : Type 0} (t : Bool) (line : ℕ) (x : A) (f : Fault) → fault_in (unless_twice t line x) ≡ Some f → (t ≡ true) × (◌≡◌ {A = Fault} (twice, line) f)
@@ -445,7 +445,7 @@ new_name_fault given form f l = by_name (name_in form) refl
     by_name : (judged : Judged (List ℕ)) → name_in form ≡ judged → fault_in (and_then judged (λ n. unless_twice (blocks.gives given n) (line_of form) n)) ≡ Some (f, l) → Wrong (new_name given) form f l
     by_name (Ok name) e h =
         let (stands, at) = twice_if (blocks.gives given name) (line_of form) name (f, l) h in
-        told twice f (line_of form) l (ap Some at) (Wrong.name_twice (name_said form name e) (has_some name_key (λ y. bytes_eq y.0 name) name (name_tells name) given stands))
+        reported twice f (line_of form) l (ap Some at) (Wrong.name_twice (name_said form name e) (has_some name_key (λ y. bytes_eq y.0 name) name (name_tells name) given stands))
     by_name (Err g) e h = Wrong.no_new_name (name_fault form f l (ap fault_in e ∙ h))
 
 new_register_fault : (given : List Store) (form : Tree) (f : RtlFault) (l : ℕ) → fault_of (new_register given) form ≡ Some (f, l) → Wrong (new_register given) form f l
@@ -454,7 +454,7 @@ new_register_fault given form f l = by_register (register_in form) refl
     by_register : (judged : Judged ℕ) → register_in form ≡ judged → fault_in (and_then (and_then judged (λ n. Ok (reg n))) (λ p. unless_twice (states.gives given p) (line_of form) p)) ≡ Some (f, l) → Wrong (new_register given) form f l
     by_register (Ok n) e h =
         let (stands, at) = twice_if (states.gives given (reg n)) (line_of form) (reg n) (f, l) h in
-        told twice f (line_of form) l (ap Some at) (Wrong.register_twice (register_said form n e) (has_some place_key (λ s. same_place s.place (reg n)) (reg n) (given_tells (reg n)) given stands))
+        reported twice f (line_of form) l (ap Some at) (Wrong.register_twice (register_said form n e) (has_some place_key (λ s. same_place s.place (reg n)) (reg n) (given_tells (reg n)) given stands))
     by_register (Err g) e h = Wrong.no_new_register (register_fault form f l (ap fault_in e ∙ h))
 
 new_cell_fault : (given : List Store) (form : Tree) (f : RtlFault) (l : ℕ) → fault_of (new_cell given) form ≡ Some (f, l) → Wrong (new_cell given) form f l
@@ -463,7 +463,7 @@ new_cell_fault given form f l = by_word (word_in form) refl
     by_word : (judged : Judged ℕ) → word_in form ≡ judged → fault_in (and_then (and_then judged (λ a. Ok (cell a))) (λ p. unless_twice (states.gives given p) (line_of form) p)) ≡ Some (f, l) → Wrong (new_cell given) form f l
     by_word (Ok a) e h =
         let (stands, at) = twice_if (states.gives given (cell a)) (line_of form) (cell a) (f, l) h in
-        told twice f (line_of form) l (ap Some at) (Wrong.cell_twice (word_said form a e) (has_some place_key (λ s. same_place s.place (cell a)) (cell a) (given_tells (cell a)) given stands))
+        reported twice f (line_of form) l (ap Some at) (Wrong.cell_twice (word_said form a e) (has_some place_key (λ s. same_place s.place (cell a)) (cell a) (given_tells (cell a)) given stands))
     by_word (Err g) e h = Wrong.no_new_cell (word_fault form f l (ap fault_in e ∙ h))
 
 -- ---- what is right has no fault, and what has no fault is right
@@ -551,18 +551,18 @@ list_fault : (kind : Kind) (other : RtlFault) → other_word kind ≡ Some other
 list_fault kind other is line at word operands each f l h = ⊎_elim
     (λ (head : (kinds : List Kind) × Heads kind word kinds). by_count head.0 head.1)
     (λ (not_so : ((kinds : List Kind) → Heads kind word kinds → ⊥) × ((line at : ℕ) (operands : Trees) → fault_of kind (headed line at word operands) ≡ Some (other, line))).
-    told other f line l (sym (not_so.1 line at operands) ∙ h) (Wrong.unknown is not_so.0))
+    reported other f line l (sym (not_so.1 line at operands) ∙ h) (Wrong.unknown is not_so.0))
     (begun kind other is word)
   where
     by_count : (kinds : List Kind) → Heads kind word kinds → Wrong kind (headed line at word operands) f l
     by_count kinds head = ⊎_elim
         (λ (same : count operands ≡ length kinds). Wrong.inside head same (among_fault operands each kinds f l (sym (counted_fault head line at operands same) ∙ h)))
-        (λ (apart : count operands ≡ length kinds → ⊥). told bad_shape f line l (sym (miscounted_fault head line at operands apart) ∙ h) (Wrong.miscounted head apart))
+        (λ (apart : count operands ≡ length kinds → ⊥). reported bad_shape f line l (sym (miscounted_fault head line at operands apart) ∙ h) (Wrong.miscounted head apart))
         (same_or_not (count operands) (length kinds))
 
 -- a form that begins with no word, of a kind that is a list
 no_head_fault : (kind : Kind) (other : RtlFault) → other_word kind ≡ Some other → (form : Tree) → Headless form → (f : RtlFault) (l : ℕ) → fault_of kind form ≡ Some (f, l) → Wrong kind form f l
-no_head_fault kind other is form none_headed f l h = told bad_shape f (line_of form) l (sym (headless_fault kind other is form none_headed) ∙ h) (Wrong.headless is none_headed)
+no_head_fault kind other is form none_headed f l h = reported bad_shape f (line_of form) l (sym (headless_fault kind other is form none_headed) ∙ h) (Wrong.headless is none_headed)
 
 data HeadView : Tree → Type 0 where
   with_head : (line at : ℕ) (word : List ℕ) (operands : Trees) → HeadView (headed line at word operands)
@@ -597,11 +597,11 @@ inside_vector form = none
 vector_fault : (form : Tree) → EachWrong (inside_vector form) → (f : RtlFault) (l : ℕ) → fault_in (blocks.effect_vector form) ≡ Some (f, l) → Wrong vector_kind form f l
 vector_fault (vector line (more first others)) each f l h =
     Wrong.in_vector (among_fault (more first others) each (each_of effect_kind (more first others)) f l (sym (effects_fault (more first others)) ∙ h))
-vector_fault (vector line none) each f l h = told bad_shape f line l h (Wrong.no_vector (λ a b o e. absurd (cc)))
-vector_fault (list line forms) each f l h = told bad_shape f line l h (Wrong.no_vector (λ a b o e. absurd (cc)))
-vector_fault (atom line bytes) each f l h = told bad_shape f line l h (Wrong.no_vector (λ a b o e. absurd (cc)))
-vector_fault (quoted line bytes) each f l h = told bad_shape f line l h (Wrong.no_vector (λ a b o e. absurd (cc)))
-vector_fault (number line n) each f l h = told bad_shape f line l h (Wrong.no_vector (λ a b o e. absurd (cc)))
+vector_fault (vector line none) each f l h = reported bad_shape f line l h (Wrong.no_vector (λ a b o e. absurd (cc)))
+vector_fault (list line forms) each f l h = reported bad_shape f line l h (Wrong.no_vector (λ a b o e. absurd (cc)))
+vector_fault (atom line bytes) each f l h = reported bad_shape f line l h (Wrong.no_vector (λ a b o e. absurd (cc)))
+vector_fault (quoted line bytes) each f l h = reported bad_shape f line l h (Wrong.no_vector (λ a b o e. absurd (cc)))
+vector_fault (number line n) each f l h = reported bad_shape f line l h (Wrong.no_vector (λ a b o e. absurd (cc)))
 
 kind_fault : (kind : Kind) (form : Tree) → EachWrong (inner form) → EachWrong (inside_vector form) → (f : RtlFault) (l : ℕ) → fault_of kind form ≡ Some (f, l) → Wrong kind form f l
 kind_fault register_kind form each within = register_fault form

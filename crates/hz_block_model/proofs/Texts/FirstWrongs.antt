@@ -1,4 +1,4 @@
--- The first form that is wrong, behind a front that is read.
+-- The first form that is wrong, after a front that is read.
 use Rattle.std.proofs.Common.{◌≡◌, ℕ, List, [], ◌∷◌, ◌++◌, Ok, Err, refl, ap, ◌∙◌}
 use Rattle.hz_base_model.specs.Forms.Trees.{Tree, Trees, none, more, joined}
 use Rattle.hz_block_model.specs.Running.Blocks.{Instruction}
@@ -7,7 +7,7 @@ use Rattle.hz_block_model.specs.Texts.Operands.{Judged, RtlFault, and_then}
 use Rattle.hz_block_model.specs.Texts.BlockForms as blocks
 use Rattle.hz_block_model.specs.Texts.StateForms as states
 
--- a front that is read behind some items, and a form that is wrong behind it
+-- a front that is read after some items, and a form that is wrong after it
 record Wrong (A : Type 0) (item : List A → Tree → Judged A) (all : List A → Trees → Judged (List A)) (given : List A) (forms : Trees) (fault : RtlFault) (line : ℕ) : Type 0 where
   pub front : Trees
   pub before : List A

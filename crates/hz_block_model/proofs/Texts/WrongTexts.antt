@@ -64,8 +64,8 @@ no_number_err form not_so = by_number (number_in form) refl
     by_number (Err g) e = ap Err (sym (number_place form g e))
 
 -- a fault is the one that is found
-told : {before : List Instruction} {form : Tree} (g f : RtlFault) (m l : ℕ) → ◌≡◌ {A = Fault} (g, m) (f, l) → WrongInsn before form g m → WrongInsn before form f l
-told {before = before} {form = form} g f m l pair w =
+reported : {before : List Instruction} {form : Tree} (g f : RtlFault) (m l : ℕ) → ◌≡◌ {A = Fault} (g, m) (f, l) → WrongInsn before form g m → WrongInsn before form f l
+reported {before = before} {form = form} g f m l pair w =
     subst (λ (x : RtlFault). WrongInsn before form x l) (ap (λ (p : Fault). p.0) pair) (subst (λ (x : ℕ). WrongInsn before form g x) (ap (λ (p : Fault). p.1) pair) w)
 
 twice_err : {A : Type 0} (t : Bool) (line : ℕ) (x : A) (f : Fault) → unless_twice t line x ≡ Err f → (t ≡ true) × (◌≡◌ {A = Fault} (twice, line) f)
@@ -78,8 +78,8 @@ unless_ok false line x y h = refl
 
 module _ (before : List Instruction) where
   operands_wrong : (line at : ℕ) (operands : Trees) (f : RtlFault) (l : ℕ) → blocks.instruction_with before line operands ≡ Err (f, l) → WrongInsn before (headed line at (codes "insn") operands) f l
-  operands_wrong line at none f l h = told bad_shape f line l (cc) (too_short (omega arith))
-  operands_wrong line at (more a none) f l h = told bad_shape f line l (cc) (too_short (omega arith))
+  operands_wrong line at none f l h = reported bad_shape f line l (cc) (too_short (omega arith))
+  operands_wrong line at (more a none) f l h = reported bad_shape f line l (cc) (too_short (omega arith))
   operands_wrong line at (more a (more pattern others)) f l h =
       by_number (err_of (number_in a) (λ n. and_then (unless_twice (blocks.has_number before n) line n) (λ _. further n)) (f, l) h)
     where
@@ -103,13 +103,13 @@ module _ (before : List Instruction) where
       by_new : (n : ℕ) → IsNumber a n → (unless_twice (blocks.has_number before n) line n ≡ Err (f, l)) ⊎ ((m : ℕ) × (unless_twice (blocks.has_number before n) line n ≡ Ok m) × (further n ≡ Err (f, l))) → WrongInsn before whole f l
       by_new n is (inl e) =
           let (stands, at_line) = twice_err (blocks.has_number before n) line n (f, l) e in
-          told twice f line l at_line (number_twice is (has_some number_key (λ j. j.number == n) n (number_tells n) before stands))
+          reported twice f line l at_line (number_twice is (has_some number_key (λ j. j.number == n) n (number_tells n) before stands))
       by_new n is (inr (m, e, k)) =
           by_pattern n is (has_none number_key (λ j. j.number == n) n (number_tells n) before (unless_ok (blocks.has_number before n) line n m e))
           (err_of (blocks.pattern_of pattern) (λ effects. and_then (blocks.attributes_after [] others) (λ given. Ok (record { number = n; line = line; effects = effects; attributes = given }))) (f, l) k)
 
       by_number : (number_in a ≡ Err (f, l)) ⊎ ((n : ℕ) × (number_in a ≡ Ok n) × (and_then (unless_twice (blocks.has_number before n) line n) (λ _. further n) ≡ Err (f, l))) → WrongInsn before whole f l
-      by_number (inl e) = told bad_shape f (line_of a) l (number_place a (f, l) e) (no_number (not_number a (f, l) e))
+      by_number (inl e) = reported bad_shape f (line_of a) l (number_place a (f, l) e) (no_number (not_number a (f, l) e))
       by_number (inr (n, e, k)) = by_new n (number_said a n e) (err_of (unless_twice (blocks.has_number before n) line n) (λ _. further n) (f, l) k)
 
   instruction_wrong : (form : Tree) (f : RtlFault) (l : ℕ) → blocks.instruction_of before form ≡ Err (f, l) → WrongInsn before form f l
@@ -117,19 +117,19 @@ module _ (before : List Instruction) where
     where
       by_word : (t : Bool) → bytes_eq word (codes "insn") ≡ t → cond t (blocks.instruction_with before line operands) (Err (bad_shape, line)) ≡ Err (f, l) → WrongInsn before (headed line at word operands) f l
       by_word true e h = subst (λ (w : List ℕ). WrongInsn before (headed line at w operands) f l) (sym ((bytes_eq-Decides word (codes "insn")).0 e)) (operands_wrong line at operands f l h)
-      by_word false e h = told bad_shape f line l (cc) (no_insn (λ a b o k. other_word_then k))
+      by_word false e h = reported bad_shape f line l (cc) (no_insn (λ a b o k. other_word_then k))
         where
           other_word_then : {a b : ℕ} {o : Trees} → headed line at word operands ≡ headed a b (codes "insn") o → ⊥
           other_word_then k = absurd (let same : word ≡ codes "insn" = cc in let yes : bytes_eq word (codes "insn") ≡ true = (bytes_eq-Decides word (codes "insn")).1 same in cc)
-  instruction_wrong (list line none) f l = λ h. told bad_shape f line l (cc) (no_insn (λ a b o k. absurd (cc)))
-  instruction_wrong (list line (more (list at forms) operands)) f l = λ h. told bad_shape f line l (cc) (no_insn (λ a b o k. absurd (cc)))
-  instruction_wrong (list line (more (vector at forms) operands)) f l = λ h. told bad_shape f line l (cc) (no_insn (λ a b o k. absurd (cc)))
-  instruction_wrong (list line (more (quoted at bytes) operands)) f l = λ h. told bad_shape f line l (cc) (no_insn (λ a b o k. absurd (cc)))
-  instruction_wrong (list line (more (number at n) operands)) f l = λ h. told bad_shape f line l (cc) (no_insn (λ a b o k. absurd (cc)))
-  instruction_wrong (vector line forms) f l = λ h. told bad_shape f line l (cc) (no_insn (λ a b o k. absurd (cc)))
-  instruction_wrong (atom line bytes) f l = λ h. told bad_shape f line l (cc) (no_insn (λ a b o k. absurd (cc)))
-  instruction_wrong (quoted line bytes) f l = λ h. told bad_shape f line l (cc) (no_insn (λ a b o k. absurd (cc)))
-  instruction_wrong (number line n) f l = λ h. told bad_shape f line l (cc) (no_insn (λ a b o k. absurd (cc)))
+  instruction_wrong (list line none) f l = λ h. reported bad_shape f line l (cc) (no_insn (λ a b o k. absurd (cc)))
+  instruction_wrong (list line (more (list at forms) operands)) f l = λ h. reported bad_shape f line l (cc) (no_insn (λ a b o k. absurd (cc)))
+  instruction_wrong (list line (more (vector at forms) operands)) f l = λ h. reported bad_shape f line l (cc) (no_insn (λ a b o k. absurd (cc)))
+  instruction_wrong (list line (more (quoted at bytes) operands)) f l = λ h. reported bad_shape f line l (cc) (no_insn (λ a b o k. absurd (cc)))
+  instruction_wrong (list line (more (number at n) operands)) f l = λ h. reported bad_shape f line l (cc) (no_insn (λ a b o k. absurd (cc)))
+  instruction_wrong (vector line forms) f l = λ h. reported bad_shape f line l (cc) (no_insn (λ a b o k. absurd (cc)))
+  instruction_wrong (atom line bytes) f l = λ h. reported bad_shape f line l (cc) (no_insn (λ a b o k. absurd (cc)))
+  instruction_wrong (quoted line bytes) f l = λ h. reported bad_shape f line l (cc) (no_insn (λ a b o k. absurd (cc)))
+  instruction_wrong (number line n) f l = λ h. reported bad_shape f line l (cc) (no_insn (λ a b o k. absurd (cc)))
 
 next_wrong : (before : List Instruction) (form : Tree) (f : RtlFault) (l : ℕ) → blocks.next_instruction before form ≡ Err (f, l) → WrongInstruction before form f l
 next_wrong before form f l = by_room (nat_lt (length before) instruction_limit) refl

@@ -16,7 +16,7 @@ pub data ClassFault : Type 0 where
   unknown_attribute unknown_value no_class : ClassFault
   ambiguous : (a b : ℕ) → ClassFault
 
--- the word by which a fault is told: docs/FORMATS.md, 'Answers'
+-- the word by which a fault is reported: docs/FORMATS.md, 'Answers'
 abbrev pub class_word : ClassFault → List ℕ
 class_word unknown_attribute = codes "UnknownAttribute"
 class_word unknown_value = codes "UnknownValue"

@@ -56,7 +56,7 @@ base_written_by_first =
     record { number = 1; line = 1; effects = assign (cell_at (register 1)) (register 2) ∷ assign (into 1) eight_on ∷ []; attributes = [] }
     ∷ one (assign (into 4) (memory eight_on)) ∷ []
 
--- a load at r1 + 8 that also writes r1, behind a store at r1: the base is written by the second
+-- a load at r1 + 8 that also writes r1, after a store at r1: the base is written by the second
 abbrev pub base_written_by_second : List Instruction
 base_written_by_second =
     one (assign (cell_at (register 1)) (register 2))

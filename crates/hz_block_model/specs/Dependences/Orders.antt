@@ -11,10 +11,10 @@ pub record IsOrder (count : ℕ) (order : List ℕ) : Type 0 where
   pub only : (i : ℕ) → Contains order i → i < count
   pub once : (before after : List ℕ) (i : ℕ) → order ≡ before ++ i ∷ after → Contains before i → ⊥
 
--- Each place stands behind those that it depends on.
+-- Each place comes after those that it depends on.
 abbrev pub Keeps : List Instruction → List ℕ → Type 0
 Keeps block order = (before after : List ℕ) (i j : ℕ) → order ≡ before ++ j ∷ after → depends block i j ≡ true → Contains before i
 
--- Each place stands behind those from which an edge leads to it.
+-- Each place comes after those from which an edge leads to it.
 abbrev pub KeepsEdges : List Edge → List ℕ → Type 0
 KeepsEdges edges order = (before after : List ℕ) (e : Edge) → order ≡ before ++ e.to ∷ after → Contains edges e → Contains before e.from

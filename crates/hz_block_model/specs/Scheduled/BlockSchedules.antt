@@ -40,7 +40,7 @@ module _ (d : Description) (known : Known) where
     pub each : IsOrder (length block) (places slots)
     -- cycles don't fall
     pub rising : AllPairs (λ x y. x.cycle ≤ y.cycle) slots
-    -- every latency and bypass is kept: an instruction is issued behind each on which it depends, by the cost of the dependence
+    -- every latency and bypass is kept: an instruction is issued after each on which it depends, by the cost of the dependence
     pub kept : (before after : List Slot) (x : Slot) (i : ℕ) → slots ≡ before ++ x ∷ after → depends block i x.place ≡ true → (y : Slot) × Contains before y × (y.place ≡ i) × (y.cycle + cost block (timing_in d (classes_of g) block) i x.place ≤ x.cycle)
     -- their trace is accepted
     pub accepted : Accepted (pipeline_with d known) (spell g slots)

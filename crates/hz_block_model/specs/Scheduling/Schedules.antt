@@ -40,7 +40,7 @@ present cycle (x ∷ slots) = present x.cycle slots
 abbrev pub advance_to : ℕ → ℕ → List Event
 advance_to cycle later = if nat_lt cycle later then advance (later - cycle) ∷ [] else []
 
--- the trace of slots behind a cycle: for each the advance to its cycle, where that is later, and the issue of its class
+-- the trace of slots after a cycle: for each the advance to its cycle, where that is later, and the issue of its class
 abbrev pub spelled : Graph → ℕ → List Slot → List Event
 spelled g cycle [] = []
 spelled g cycle (x ∷ slots) = advance_to cycle x.cycle ++ issue (class_at g x.place) ∷ spelled g x.cycle slots
@@ -61,7 +61,7 @@ pub record Legal (accepts : List Event → Type 0) (g : Graph) (slots : List Slo
   pub kept : (before after : List Slot) (x : Slot) → slots ≡ before ++ x ∷ after → IsReady g before x.cycle x.place
   pub accepted : accepts (spell g slots)
 
--- An instruction may follow these slots at a cycle: it is not among them, it is ready, and its issue is accepted behind their trace
+-- An instruction may follow these slots at a cycle: it is not among them, it is ready, and its issue is accepted after their trace
 -- and the advance to the cycle.
 pub record IsCandidate (accepts : List Event → Type 0) (g : Graph) (slots : List Slot) (cycle j : ℕ) : Type 0 where
   pub within : j < length g.nodes
@@ -69,7 +69,7 @@ pub record IsCandidate (accepts : List Event → Type 0) (g : Graph) (slots : Li
   pub ready : IsReady g slots cycle j
   pub fits : accepts (spell g slots ++ (advance_to (present 0 slots) cycle ++ issue (class_at g j) ∷ []))
 
--- one instruction goes before another: its height is greater, or they are equal and it doesn't stand behind it in the source
+-- one instruction goes before another: its height is greater, or they are equal and it doesn't come after it in the source
 abbrev pub GoesBefore : Graph → ℕ → ℕ → Type 0
 GoesBefore g i j = (height_at g j < height_at g i) ⊎ ((height_at g i ≡ height_at g j) × (i ≤ j))
 

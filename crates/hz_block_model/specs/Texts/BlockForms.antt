@@ -74,7 +74,7 @@ abbrev pub instruction_of : List Instruction → Tree → Judged Instruction
 instruction_of before form =
     by_head (λ line word operands. if bytes_eq word (codes "insn") then instruction_with before line operands else Err (bad_shape, line)) form
 
--- the next instruction of a block; a form behind the last that may stand is wrong, whatever it holds
+-- the next instruction of a block; a form after the last that may stand is wrong, whatever it holds
 abbrev pub next_instruction : List Instruction → Tree → Judged Instruction
 next_instruction before form = if nat_lt (length before) instruction_limit then instruction_of before form else Err (insn_limit, line_of form)
 
@@ -91,7 +91,7 @@ Reads forms block = instructions_after [] forms ≡ Ok block
 abbrev pub FaultAt : Trees → RtlFault → ℕ → Type 0
 FaultAt forms fault line = instructions_after [] forms ≡ Err (fault, line)
 
--- Forms are a front that is a block, a form that is wrong behind it, and a rest. Law: `blocks_fail_at_their_first_wrong_form`.
+-- Forms are a front that is a block, a form that is wrong after it, and a rest. Law: `blocks_fail_at_their_first_wrong_form`.
 pub record FirstWrong (forms : Trees) (fault : RtlFault) (line : ℕ) : Type 0 where
   pub front : Trees
   pub before : List Instruction

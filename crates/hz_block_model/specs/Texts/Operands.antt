@@ -7,7 +7,7 @@ use Rattle.hz_base_model.specs.Forms.Trees.{Tree, Trees, list, quoted, number, a
 pub data RtlFault : Type 0 where
   bad_shape unknown_code register_range twice insn_limit : RtlFault
 
--- the word by which a fault is told: docs/FORMATS.md, 'Answers'
+-- the word by which a fault is reported: docs/FORMATS.md, 'Answers'
 abbrev pub rtl_word : RtlFault → List ℕ
 rtl_word bad_shape = codes "BadShape"
 rtl_word unknown_code = codes "UnknownCode"

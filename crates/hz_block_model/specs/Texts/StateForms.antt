@@ -51,7 +51,7 @@ pub record Reads (forms : Trees) (state : State) : Type 0 where
 abbrev pub FaultAt : Trees → RtlFault → ℕ → Type 0
 FaultAt forms fault line = stores_after [] forms ≡ Err (fault, line)
 
--- Forms are a front that gives words, a form that is wrong behind it, and a rest. Law: `states_fail_at_their_first_wrong_form`.
+-- Forms are a front that gives words, a form that is wrong after it, and a rest. Law: `states_fail_at_their_first_wrong_form`.
 pub record FirstWrong (forms : Trees) (fault : RtlFault) (line : ℕ) : Type 0 where
   pub front : Trees
   pub before : List Store

@@ -1,4 +1,4 @@
--- Query units: that they have numbers, and which of them is told under `ndfa`.
+-- Query units: that they have numbers, and which of them is reported under `ndfa`.
 use Rattle.std.proofs.Common.{◌≡◌, ℕ, ◌+◌, ◌<◌, ◌≤◌, Bool, true, cond, List, [], ◌∷◌, map, length, filter, drop, get_or, Some, ap, ◌∙◌, arith}
 use Rattle.std.proofs.lemmas.List.{length-map}
 use Rattle.hz_base_model.specs.Limits.{unit_limit}
@@ -22,9 +22,9 @@ few_in d within n =
     omega arith
 
 -- the next unit is the first query unit
-pub query_told : (d : Description) (items : List StoredUnit) (i : ℕ) (x : StoredUnit) → x ≡ get_or items i x → i < length items → query_units d ≡ filter (λ u. u.query) (map unit_item (drop i items))
+pub query_reported : (d : Description) (items : List StoredUnit) (i : ℕ) (x : StoredUnit) → x ≡ get_or items i x → i < length items → query_units d ≡ filter (λ u. u.query) (map unit_item (drop i items))
     → IsCheckable d → (d.options).ndfa ≡ true → x.query ≡ true → earliest (queries_under_ndfa d) ≡ Some (unit_site (unit_item x))
-query_told d items i x is lt kept formed stands query = first_listed d formed (unit_item x) later stands
+query_reported d items i x is lt kept formed stands query = first_listed d formed (unit_item x) later stands
     (kept ∙ (ap (λ (xs : List StoredUnit). filter (λ u. u.query) (map unit_item xs)) (drop_next items i x is lt) ∙ ap (λ (b : Bool). cond b (unit_item x ∷ later) later) query))
   where
     later : List UnitItem

@@ -28,9 +28,9 @@ pub found_next : {A : Type 0} (sites : A → List Site) (first here next all : O
     → item ≡ get_or items i item → i < length items → here ≡ earliest (sites item) → next ≡ earlier first here
     → earlier first (earliest (flat_map sites (drop i items))) ≡ all
     → earlier next (earliest (flat_map sites (drop (i + 1) items))) ≡ all
-found_next {A} sites first here next all items i item is lt told_here told_next kept =
+found_next {A} sites first here next all items i item is lt reported_here reported_next kept =
     let rest : List Site = flat_map sites (drop (i + 1) items) in
-    ap (λ (o : Option Site). earlier o (earliest rest)) (told_next ∙ ap (earlier first) told_here)
+    ap (λ (o : Option Site). earlier o (earliest rest)) (reported_next ∙ ap (earlier first) reported_here)
     ∙ (earlier-earlier first (earliest (sites item)) (earliest rest)
     ∙ (ap (earlier first) (sym (earliest-append (sites item) rest))
     ∙ (ap (λ (xs : List A). earlier first (earliest (flat_map sites xs))) (sym (drop_next items i item is lt)) ∙ kept)))
@@ -40,19 +40,19 @@ pub found_all : {A : Type 0} (sites : A → List Site) (first all : Option Site)
 found_all {A} sites first all items i end kept =
     sym (earlier-none first) ∙ (ap (λ (xs : List A). earlier first (earliest (flat_map sites xs))) (sym (drop_all i items end)) ∙ kept)
 
--- what is told is the earliest of the sites
-pub record IsOf (told : Option Site) (sites : List Site) : Type 0 where
-  pub is : told ≡ earliest sites
+-- what is reported is the earliest of the sites
+pub record IsOf (reported : Option Site) (sites : List Site) : Type 0 where
+  pub is : reported ≡ earliest sites
 
--- what is told of two lists
+-- what is reported of two lists
 pub joined : {xs ys : List Site} {first second both : Option Site} → both ≡ earlier first second → IsOf first xs → IsOf second ys → IsOf both (xs ++ ys)
-joined {xs} {ys} {first} {second} e told_first told_second = record {
-  is = e ∙ (ap (λ (o : Option Site). earlier o second) told_first.is ∙ (ap (earlier (earliest xs)) told_second.is ∙ sym (earliest-append xs ys)));
+joined {xs} {ys} {first} {second} e reported_first reported_second = record {
+  is = e ∙ (ap (λ (o : Option Site). earlier o second) reported_first.is ∙ (ap (earlier (earliest xs)) reported_second.is ∙ sym (earliest-append xs ys)));
 }
 
--- what is told of items that are stored, as the definition has it
-pub told_of_items : {A B : Type 0} (sites : B → List Site) (item : A → B) (slice xs : List A) (told : Option Site) → slice ≡ xs → told ≡ earliest (flat_map (λ x. sites (item x)) slice) → IsOf told (flat_map sites (map item xs))
-told_of_items {A} sites item slice xs told e is = record {
+-- what is reported of items that are stored, as the definition has it
+pub reported_of_items : {A B : Type 0} (sites : B → List Site) (item : A → B) (slice xs : List A) (reported : Option Site) → slice ≡ xs → reported ≡ earliest (flat_map (λ x. sites (item x)) slice) → IsOf reported (flat_map sites (map item xs))
+reported_of_items {A} sites item slice xs reported e is = record {
   is = is ∙ (ap (λ (ys : List A). earliest (flat_map (λ x. sites (item x)) ys)) e ∙ ap earliest (sym (flat_map-map sites item xs)));
 }
 
@@ -71,4 +71,4 @@ chosen_all {A} f item slice xs i first e end kept =
 -- the end of a loop over items that are stored, each of which may have several sites
 pub found_stored : {A B : Type 0} (sites : B → List Site) (item : A → B) (slice xs : List A) (i : ℕ) (first : Option Site) → slice ≡ xs → length slice ≤ i
     → earlier first (earliest (flat_map (λ x. sites (item x)) (drop i slice))) ≡ earliest (flat_map (λ x. sites (item x)) slice) → first ≡ earliest (flat_map sites (map item xs))
-found_stored {A} sites item slice xs i first e end kept = (told_of_items sites item slice xs first e (found_all (λ x. sites (item x)) first (earliest (flat_map (λ x. sites (item x)) slice)) slice i end kept)).is
+found_stored {A} sites item slice xs i first e end kept = (reported_of_items sites item slice xs first e (found_all (λ x. sites (item x)) first (earliest (flat_map (λ x. sites (item x)) slice)) slice i end kept)).is

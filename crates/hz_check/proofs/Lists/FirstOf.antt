@@ -18,7 +18,7 @@ same_form : (line form : ℕ) (name : List ℕ) (others : Option (List ℕ)) →
 same_form line form name None = refl
 same_form line form name (Some n) = grind (arith, nat_tests)
 
--- of names in one form the first is told
+-- of names in one form the first is reported
 pub earliest-sites_of : (line form : ℕ) (names : List (List ℕ)) → earliest (sites_of line form names) ≡ option_map (λ name. record { line = line; form = form; name = name }) (first_of names)
 earliest-sites_of line form [] = refl
 earliest-sites_of line form (name ∷ names) =
@@ -59,14 +59,14 @@ none_here {A} p names_of here items i item all is lt parts none kept =
 
 -- a loop that stops at the first item with a name: its first name is that of all
 module _ {A : Type 0} (f : A → List (List ℕ)) (items : List A) (i : ℕ) (item : A) (is : item ≡ get_or items i item) (lt : i < length items) where
-  behind : (o : Option (List ℕ)) → first_of (flat_map f (drop i items)) ≡ o → first_of (f item ++ flat_map f (drop (i + 1) items)) ≡ o
-  behind o kept = ap (λ (xs : List A). first_of (flat_map f xs)) (sym (drop_next items i item is lt)) ∙ kept
+  beyond : (o : Option (List ℕ)) → first_of (flat_map f (drop i items)) ≡ o → first_of (f item ++ flat_map f (drop (i + 1) items)) ≡ o
+  beyond o kept = ap (λ (xs : List A). first_of (flat_map f xs)) (sym (drop_next items i item is lt)) ∙ kept
 
   pub first_found : (name : List ℕ) → Some name ≡ first_of (f item) → first_of (flat_map f (drop i items)) ≡ first_of (flat_map f items) → Some name ≡ first_of (flat_map f items)
-  first_found name found kept = in_front (f item) (flat_map f (drop (i + 1) items)) name found ∙ behind (first_of (flat_map f items)) kept
+  first_found name found kept = in_front (f item) (flat_map f (drop (i + 1) items)) name found ∙ beyond (first_of (flat_map f items)) kept
 
   pub none_found : (all : Option (List ℕ)) → None ≡ first_of (f item) → first_of (flat_map f (drop i items)) ≡ all → first_of (flat_map f (drop (i + 1) items)) ≡ all
-  none_found all none kept = none_first (f item) (flat_map f (drop (i + 1) items)) none ∙ behind all kept
+  none_found all none kept = none_first (f item) (flat_map f (drop (i + 1) items)) none ∙ beyond all kept
 
 -- the first that passes of two lists
 pub first_of_both : (p : List ℕ → Bool) (xs ys : List (List ℕ)) → first_of (filter p (xs ++ ys)) ≡ option_or (first_of (filter p xs)) (first_of (filter p ys))

@@ -9,7 +9,7 @@ use Rattle.hz_description_model.specs.Reservations.Automata.{UnitPlace}
 use Rattle.hz_description_model.specs.Check.CheckFaults.{home, same_home, strangers}
 use Rattle.hz_description_model.specs.Reading.Descriptions.{Description, UnitItem}
 use Rattle.hz_base_model.specs.Lines.{place_of}
-use Rattle.hz_description_model.specs.Check.Places.{automaton_number, place_behind, places_behind, at_name}
+use Rattle.hz_description_model.specs.Check.Places.{automaton_number, place_after, places_after, at_name}
 
 module _ (d : Description) (name : List ℕ) where
   -- the automaton of the unit at a place
@@ -21,20 +21,20 @@ module _ (d : Description) (name : List ℕ) where
   one_more u units false None rest e = e
   one_more u units false (Some n) rest e = e
 
-  into : (before : List UnitItem) (u : UnitItem) (b : Bool) (rest : Option UnitPlace) → option_map (λ p. p.automaton) (cond b (Some (place_behind d before u)) rest) ≡ cond b (Some (automaton_number d u.automaton)) (option_map (λ p. p.automaton) rest)
+  into : (before : List UnitItem) (u : UnitItem) (b : Bool) (rest : Option UnitPlace) → option_map (λ p. p.automaton) (cond b (Some (place_after d before u)) rest) ≡ cond b (Some (automaton_number d u.automaton)) (option_map (λ p. p.automaton) rest)
   into before u true rest = refl
   into before u false rest = refl
 
-  behind : (before units : List UnitItem) → option_map (λ p. p.automaton) (at_name name (map (λ u. u.name) units) (places_behind d before units)) ≡ home_at units (place_of name (map (λ u. u.name) units))
-  behind before [] = refl
-  behind before (u ∷ units) =
+  beyond : (before units : List UnitItem) → option_map (λ p. p.automaton) (at_name name (map (λ u. u.name) units) (places_after d before units)) ≡ home_at units (place_of name (map (λ u. u.name) units))
+  beyond before [] = refl
+  beyond before (u ∷ units) =
       let names : List (List ℕ) = map (λ u. u.name) units in
-      into before u (bytes_eq name u.name) (at_name name names (places_behind d (before ++ u ∷ []) units))
-      ∙ (one_more u units (bytes_eq name u.name) (place_of name names) _ (behind (before ++ u ∷ []) units)
+      into before u (bytes_eq name u.name) (at_name name names (places_after d (before ++ u ∷ []) units))
+      ∙ (one_more u units (bytes_eq name u.name) (place_of name names) _ (beyond (before ++ u ∷ []) units)
       ∙ ap (home_at (u ∷ units)) (sym (position-cons (bytes_eq name) u.name names)))
 
   pub home-at : (place : Option ℕ) → place ≡ place_of name (map (λ u. u.name) d.units) → home d name ≡ home_at d.units place
-  home-at place is = behind [] d.units ∙ ap (home_at d.units) (sym is)
+  home-at place is = beyond [] d.units ∙ ap (home_at d.units) (sym is)
 
 -- a unit has its own automaton
 same_home_itself : (a : Option ℕ) → same_home a a ≡ true

@@ -22,7 +22,7 @@ some : (s : Site) (o : Option Site) → earlier (Some s) o ≡ None → ⊥
 some s None e = absurd (cc)
 some s (Some t) e = one_of s t (nat_le s.form t.form) e
 
--- no site is told where there is none
+-- no site is reported where there is none
 pub no_sites : (sites : List Site) → earliest sites ≡ None → sites ≡ []
 no_sites [] e = refl
 no_sites (s ∷ sites) e = absurd (some s (earliest sites) e)

@@ -1,4 +1,4 @@
--- Bypasses one by one: the first that gives a pair another number, and the numbers that are held behind one that does not.
+-- Bypasses one by one: the first that gives a pair another number, and the numbers that are held after one that does not.
 use Rattle.std.proofs.Common.{◌≡◌, ℕ, suc, ◌≤◌, ◌==◌, List, [], ◌∷◌, ◌++◌, filter, get_or, Option, Some, None, Bool, true, false, ◌||◌, ◌&&◌, not, is_some, refl, sym, ap, ◌∙◌, subst, arith, cond, All}
 use Rattle.std.proofs.Math.Bool.{or-false}
 use Rattle.std.proofs.lemmas.Bool.{eqb-true}
@@ -18,19 +18,19 @@ use Rattle.hz_check.proofs.Lists.FirstOf.{earliest-sites_of}
 use Rattle.hz_check.proofs.Lists.InOrder.{earlier_one}
 use Rattle.hz_check.proofs.Tables.NameLists.{is_among-list_any}
 use Rattle.hz_check.proofs.Telling.NumberSteps.{any-first, none_passes, same_name, any-numbers, first-numbers, IsFirstBy}
-use Rattle.hz_description_model.specs.Check.CheckFaults.{is_class, differs, renumbered, renumbered_behind}
+use Rattle.hz_description_model.specs.Check.CheckFaults.{is_class, differs, renumbered, renumbered_after}
 use Rattle.hz_description_model.specs.Check.CheckedParts.{class_numbers}
 use Rattle.hz_description_model.specs.Reading.Descriptions.{Description, BypassItem}
 use Rattle.hz_base_model.specs.Lines.{place_of}
 use Rattle.hz_description_model.specs.Check.Places.{class_names}
 use Rattle.hz_description_model.specs.Check.Sites.{Site, is_among, earlier, earliest}
 
--- bypasses of later forms are told later
-earlier_bypasses : (s : Site) (before bypasses : List BypassItem) → All (λ b. s.form ≤ b.form) bypasses → earlier (Some s) (earliest (renumbered_behind before bypasses)) ≡ Some s
+-- bypasses of later forms are reported later
+earlier_bypasses : (s : Site) (before bypasses : List BypassItem) → All (λ b. s.form ≤ b.form) bypasses → earlier (Some s) (earliest (renumbered_after before bypasses)) ≡ Some s
 earlier_bypasses s before [] all = refl
 earlier_bypasses s before (b ∷ bypasses) all =
-    let rest : Option Site = earliest (renumbered_behind (before ++ b ∷ []) bypasses) in
-    ap (earlier (Some s)) (earliest-append (renumbered before b) (renumbered_behind (before ++ b ∷ []) bypasses))
+    let rest : Option Site = earliest (renumbered_after (before ++ b ∷ []) bypasses) in
+    ap (earlier (Some s)) (earliest-append (renumbered before b) (renumbered_after (before ++ b ∷ []) bypasses))
     ∙ (sym (earlier-earlier (Some s) (earliest (renumbered before b)) rest)
     ∙ (ap (λ (o : Option Site). earlier o rest) (ap (earlier (Some s)) (earliest-sites_of b.line b.form (outs_of b)) ∙ one (first_of (outs_of b)))
     ∙ earlier_bypasses s (before ++ b ∷ []) bypasses (λ k d lt. all (suc k) d (omega arith))))
@@ -101,24 +101,24 @@ module _ (d : Description) (rows : List (List (Option ℕ))) (before : List Bypa
   first_out : IsFirstBy d by_name b.outs (first_of (filter by_number outs))
   first_out = subst (IsFirstBy d by_name b.outs) (sym (first_outs by_number)) (first-numbers d by_name by_number same_test b.outs known_outs)
 
-  -- a producing class has another number: it is told at its name
-  pub told_here : (o : ℕ) (later : List BypassItem) → first_of (filter by_number outs) ≡ Some o → All (λ c. b.form ≤ c.form) later
-      → Some (record { line = b.line; form = b.form; name = get_or (class_names d) o [] }) ≡ earliest (renumbered_behind before (b ∷ later))
-  told_here o later found all =
+  -- a producing class has another number: it is reported at its name
+  pub reported_here : (o : ℕ) (later : List BypassItem) → first_of (filter by_number outs) ≡ Some o → All (λ c. b.form ≤ c.form) later
+      → Some (record { line = b.line; form = b.form; name = get_or (class_names d) o [] }) ≡ earliest (renumbered_after before (b ∷ later))
+  reported_here o later found all =
       let at = subst (IsFirstBy d by_name b.outs) found first_out in
       let name = at.0 in
       let site : Site = record { line = b.line; form = b.form; name = get_or (class_names d) o [] } in
       let same : name ≡ get_or (class_names d) o [] = (bytes_eq-Decides name (get_or (class_names d) o [])).0 (position-Some (bytes_eq name) (class_names d) o [] at.2).1 in
-      let rest : List Site = renumbered_behind (before ++ b ∷ []) later in
+      let rest : List Site = renumbered_after (before ++ b ∷ []) later in
       let here : earliest (renumbered before b) ≡ Some site =
       earliest-sites_of b.line b.form (filter by_name b.outs) ∙ ap (option_map (λ (n : List ℕ). record { line = b.line; form = b.form; name = n })) (at.1 ∙ ap Some same) in
       sym (earliest-append (renumbered before b) rest ∙ (ap (λ (s : Option Site). earlier s (earliest rest)) here ∙ earlier_bypasses site (before ++ b ∷ []) later all))
 
-  -- no producing class has another number: the bypass is not told
-  pub not_here : (later : List BypassItem) → first_of (filter by_number outs) ≡ None → earliest (renumbered_behind before (b ∷ later)) ≡ earliest (renumbered_behind (before ++ b ∷ []) later)
+  -- no producing class has another number: the bypass is not reported
+  pub not_here : (later : List BypassItem) → first_of (filter by_number outs) ≡ None → earliest (renumbered_after before (b ∷ later)) ≡ earliest (renumbered_after (before ++ b ∷ []) later)
   not_here later none =
       let at : first_of (filter by_name b.outs) ≡ None = subst (IsFirstBy d by_name b.outs) none first_out in
-      let rest : List Site = renumbered_behind (before ++ b ∷ []) later in
+      let rest : List Site = renumbered_after (before ++ b ∷ []) later in
       earliest-append (renumbered before b) rest
       ∙ ap (λ (s : Option Site). earlier s (earliest rest)) (earliest-sites_of b.line b.form (filter by_name b.outs) ∙ ap (option_map (λ (n : List ℕ). record { line = b.line; form = b.form; name = n })) at)
 

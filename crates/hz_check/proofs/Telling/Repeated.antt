@@ -10,7 +10,7 @@ use Rattle.std.specs.Str.{bytes_eq}
 use Rattle.hz_description_model.specs.Check.Sites.{Site, is_among, is_preceded, repeated, earlier, earliest}
 use Rattle.std.specs.Bool.{then_some}
 use Rattle.hz_check_reservations.specs.declared.ordering.site.Site as stored
-use Rattle.hz_check_reservations.specs.Places.{site_of, told}
+use Rattle.hz_check_reservations.specs.Places.{site_of, reported}
 use Rattle.hz_check.specs.declared.names.by_name.ByName.{ByName}
 use Rattle.hz_check.specs.Names.Held.{held}
 use Rattle.hz_check.specs.Faults.Twice.{is_given, seen_with, repeated_by, unseen}
@@ -36,18 +36,18 @@ in_front : (b : Bool) (s : Site) (others : List Site) → earlier (cond b (Some 
 in_front true s others = refl
 in_front false s others = refl
 
--- one site more: what is told of it, and of all
+-- one site more: what is reported of it, and of all
 pub repeated_next : {A : Type 0} (site : A → Site) (given : Site → Bool) (seen new : List ℕ → Bool) (first wrong next all : Option Site) (items : List A) (i : ℕ) (item : A) (s : Site)
     → item ≡ get_or items i item → i < length items → s ≡ site item → ((name : List ℕ) → new name ≡ seen_with s.name seen name)
     → wrong ≡ cond (seen s.name || given s) (Some s) None → next ≡ earlier first wrong
     → earlier first (earliest (repeated_by given seen (map site (drop i items)))) ≡ all
     → earlier next (earliest (repeated_by given new (map site (drop (i + 1) items)))) ≡ all
-repeated_next {A} site given seen new first wrong next all items i item s is lt at more told_wrong told_next kept =
+repeated_next {A} site given seen new first wrong next all items i item s is lt at more reported_wrong reported_next kept =
     let rest : List Site = map site (drop (i + 1) items) in
     let here : Option Site = cond (seen s.name || given s) (Some s) None in
     let same : new ≡ seen_with s.name seen = fun_ext more in
     ap (λ (f : List ℕ → Bool). earlier next (earliest (repeated_by given f rest))) same
-    ∙ (ap (λ (o : Option Site). earlier o (earliest (repeated_by given (seen_with s.name seen) rest))) (told_next ∙ ap (earlier first) told_wrong)
+    ∙ (ap (λ (o : Option Site). earlier o (earliest (repeated_by given (seen_with s.name seen) rest))) (reported_next ∙ ap (earlier first) reported_wrong)
     ∙ (earlier-earlier first here (earliest (repeated_by given (seen_with s.name seen) rest))
     ∙ (ap (earlier first) (in_front (seen s.name || given s) s (repeated_by given (seen_with s.name seen) rest))
     ∙ (ap (λ (t : Site). earlier first (earliest (repeated_by given seen (t ∷ rest)))) at
@@ -81,9 +81,9 @@ module _ (held : List ℕ → Option ℕ) (name : List ℕ) (form : ℕ) (s : Si
       (λ (t : bytes_eq name s.name ≡ false). rw t refl)
       (cases_Bool (bytes_eq name s.name))
 
-pub told-then_some : (b : Bool) (s : stored.Site) → told (then_some b s) ≡ cond b (Some (site_of s)) None
-told-then_some true s = refl
-told-then_some false s = refl
+pub reported-then_some : (b : Bool) (s : stored.Site) → reported (then_some b s) ≡ cond b (Some (site_of s)) None
+reported-then_some true s = refl
+reported-then_some false s = refl
 
 module _ {A : Type 0} (site : A → Site) (items : List A) (i : ℕ) (item : A) (is : item ≡ get_or items i item) (lt : i < length items) (forms : ByName ℕ) (t : Site) (at : t ≡ site item) (s : Site) where
   -- what is given before the step, by its item
@@ -105,11 +105,11 @@ module _ {A : Type 0} (site : A → Site) (items : List A) (i : ℕ) (item : A) 
       → (is_given forms s || is_preceded (map site (drop i items)) s) ≡ all → (is_given forms s || is_preceded (map site (drop (i + 1) items)) s) ≡ all
   given_kept all before kept = given_same (held forms) t.name t.form s (is_preceded (map site (drop (i + 1) items)) s) before ∙ before_step all kept
 
--- what is told of items, as the definition has it
-pub told_twice : {A B : Type 0} (site : B → Site) (item : A → B) (given : Site → Bool) (others : List Site) (slice xs : List A) (o : Option Site) → ((s : Site) → given s ≡ is_preceded others s) → slice ≡ xs
+-- what is reported of items, as the definition has it
+pub reported_twice : {A B : Type 0} (site : B → Site) (item : A → B) (given : Site → Bool) (others : List Site) (slice xs : List A) (o : Option Site) → ((s : Site) → given s ≡ is_preceded others s) → slice ≡ xs
     → o ≡ earliest (repeated_by given unseen (map (λ x. site (item x)) slice)) → IsOf o (repeated others [] (map site (map item xs)))
-told_twice {A} site item given others slice xs o same is told = record {
-  is = told
+reported_twice {A} site item given others slice xs o same is reported = record {
+  is = reported
       ∙ (ap (λ (ys : List A). earliest (repeated_by given unseen (map (λ x. site (item x)) ys))) is
       ∙ (ap (λ (f : Site → Bool). earliest (repeated_by f unseen (map (λ x. site (item x)) xs))) (fun_ext same)
       ∙ (ap (λ (ys : List Site). earliest (repeated_by (is_preceded others) unseen ys)) (sym (map-map site item xs)) ∙ ap earliest (sym (repeated-by others [] (map site (map item xs)))))));

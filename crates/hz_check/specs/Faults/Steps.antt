@@ -1,7 +1,7 @@
 -- What is known between the steps of the check.
 use Rattle.std.specs.Prelude.{◌≡◌, ℕ, List, None, drop}
 use Rattle.hz_description_model.specs.Check.CheckFaults.{faults_of_names, self_exclusions, sets_across_automata, second_numbers, queries_under_ndfa, automaton_sites, class_sites, past_units}
-use Rattle.hz_description_model.specs.Check.FirstTold.{first_told}
+use Rattle.hz_description_model.specs.Check.FirstReported.{first_reported}
 use Rattle.hz_description_model.specs.Reading.DescriptionShape.{IsCheckable}
 use Rattle.hz_description_model.specs.Reading.Descriptions.{Description}
 use Rattle.hz_base_model.specs.Limits.{automaton_limit, class_limit}
@@ -17,7 +17,7 @@ use Rattle.std.specs.declared.vec.Vec.{Vec}
 
 -- the names are right, and reservations and classes have this counting order
 pub record IsOrdered (d : Description) (order : List ℕ) : Type 0 where
-  pub named : first_told (faults_of_names d) ≡ None
+  pub named : first_reported (faults_of_names d) ≡ None
   pub formed : IsCheckable d
   pub ordered : IsOrder d order
 

@@ -3,7 +3,7 @@
 ghost use Rattle.std.specs.Prelude.{◌≡◌, ◌<◌, ◌≤◌, ℕ, Bool, All, IfOk, None, filter, vec_len};
 ghost use Rattle.std.specs.List.{AllPairs};
 ghost use Rattle.hz_mdread.specs.Shape.{description};
-ghost use Rattle.hz_check_reservations.specs.Places.{told};
+ghost use Rattle.hz_check_reservations.specs.Places.{reported};
 ghost use Rattle.hz_check.specs.Names.First.{first_of};
 ghost use Rattle.hz_description_model.specs.Check.CheckFaults.{second_numbers, unknown_names};
 ghost use Rattle.hz_description_model.specs.Check.CheckedParts.{class_numbers};
@@ -37,7 +37,7 @@ pub(crate) fn second_number<'a>(
 ) -> Result<Option<Site<'a>>, NoMemory>
     requires known { earliest (unknown_names (description names.now.desc.now)) ≡ None }
     requires ordered { AllPairs (λ earlier later. earlier.form ≤ later.form) (description names.now.desc.now).bypasses }
-    ensures { IfOk result (λ site. told site ≡ earliest (second_numbers (description names.now.desc.now))) }
+    ensures { IfOk result (λ site. reported site ≡ earliest (second_numbers (description names.now.desc.now))) }
 {
     let desc = names.desc;
     let classes = desc.classes.len();

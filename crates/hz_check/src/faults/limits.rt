@@ -3,7 +3,7 @@
 ghost use Rattle.std.specs.Prelude.{◌≡◌, ◌≤◌, map, drop};
 ghost use Rattle.std.specs.List.{AllPairs};
 ghost use Rattle.hz_mdread.specs.Shape.{description};
-ghost use Rattle.hz_check_reservations.specs.Places.{told};
+ghost use Rattle.hz_check_reservations.specs.Places.{reported};
 ghost use Rattle.hz_description_model.specs.Check.CheckFaults.{automaton_sites, class_sites};
 ghost use Rattle.hz_base_model.specs.Limits as limits;
 ghost use Rattle.hz_description_model.specs.Check.Sites.{earliest};
@@ -21,7 +21,7 @@ pub(crate) const CLASSES: usize = 1024;
 /// The first item past a limit, of items that stand in the order of their forms.
 fn past<T: Defines>(items: &[T], limit: usize) -> Option<Site<'_>>
     requires { AllPairs (λ earlier later. earlier.form ≤ later.form) (map T.site items.now) }
-    ensures { told result ≡ earliest (drop limit (map T.site items.now)) }
+    ensures { reported result ≡ earliest (drop limit (map T.site items.now)) }
 {
     match items.get(limit) {
         Some(item) => Some(item.site()),
@@ -32,7 +32,7 @@ fn past<T: Defines>(items: &[T], limit: usize) -> Option<Site<'_>>
 /// The first automaton past the limit.
 pub(crate) fn past_automaton(desc: &Description) -> Option<Site<'_>>
     requires { AllPairs (λ earlier later. earlier.form ≤ later.form) (description desc.now).automata }
-    ensures { told result ≡ earliest (drop limits.automaton_limit (automaton_sites (description desc.now))) }
+    ensures { reported result ≡ earliest (drop limits.automaton_limit (automaton_sites (description desc.now))) }
 {
     past(&desc.automata, AUTOMATA)
 }
@@ -40,7 +40,7 @@ pub(crate) fn past_automaton(desc: &Description) -> Option<Site<'_>>
 /// The first class past the limit.
 pub(crate) fn past_class(desc: &Description) -> Option<Site<'_>>
     requires { AllPairs (λ earlier later. earlier.form ≤ later.form) (description desc.now).classes }
-    ensures { told result ≡ earliest (drop limits.class_limit (class_sites (description desc.now))) }
+    ensures { reported result ≡ earliest (drop limits.class_limit (class_sites (description desc.now))) }
 {
     past(&desc.classes, CLASSES)
 }

@@ -3,12 +3,12 @@
 ghost use Rattle.std.specs.Prelude.{◌≡◌, IfOk};
 ghost use Rattle.std.specs.Option.{option_map};
 ghost use Rattle.hz_mdread.specs.Shape.{description};
-ghost use Rattle.hz_check.specs.Faults.{told_of};
+ghost use Rattle.hz_check.specs.Faults.{reported_of};
 ghost use Rattle.hz_description_model.specs.Check.CheckFaults.{faults_of_names};
-ghost use Rattle.hz_description_model.specs.Check.FirstTold.{first_told};
+ghost use Rattle.hz_description_model.specs.Check.FirstReported.{first_reported};
 
+use crate::faults::reported::{Reported, Wrong, at};
 use crate::faults::reserved_name::reserved_name;
-use crate::faults::told::{Told, Wrong, at};
 use crate::faults::twice_defined::second_definition;
 use crate::faults::unit_needs_automaton::unit_without_automaton;
 use crate::faults::unknown_automaton::unknown_automaton;
@@ -21,8 +21,8 @@ use std::alloc::Global;
 pub(crate) fn fault_of_names<'a>(
     alloc: Global,
     names: &Names<'a>,
-) -> Result<Option<Told<'a>>, NoMemory>
-    ensures { IfOk result (λ told. option_map told_of told ≡ first_told (faults_of_names (description names.now.desc.now))) }
+) -> Result<Option<Reported<'a>>, NoMemory>
+    ensures { IfOk result (λ reported. option_map reported_of reported ≡ first_reported (faults_of_names (description names.now.desc.now))) }
 {
     let desc = names.desc;
     let twice = at(Wrong::TwiceDefined, second_definition(alloc, desc)?);

@@ -3,14 +3,14 @@
 ghost use Rattle.std.specs.Prelude.{IfOk, IfErr};
 ghost use Rattle.hz_mdread.specs.Shape.{description};
 ghost use Rattle.hz_check.specs.Faults.Steps.{IsOrdered, AreWithin};
-ghost use Rattle.hz_check.specs.Faults.{Tells, IsToldAt, IsListsOrSite};
+ghost use Rattle.hz_check.specs.Faults.{Tells, IsReportedAt, IsListsOrSite};
 ghost use Rattle.hz_check.specs.Faults.PastUnits.{ArePlaces};
 ghost use Rattle.hz_check_reservations.specs.Answers.{AreExpanded};
 ghost use Rattle.hz_check_reservations.specs.Past.{AreWithinExtents};
 ghost use Rattle.hz_check_reservations.specs.Orders.{reservings};
 
 use crate::fault::{CheckFault, LimitName};
-use crate::faults::told::{Wrong, refused};
+use crate::faults::reported::{Wrong, refused};
 use crate::names::site::Site;
 use hz_altern::Alt;
 use hz_check_reservations::{Unexpanded, UnitPlace, expand_all, past_extents};
@@ -32,7 +32,7 @@ fn lists_or_site<'a>(
 }
 
 /// The alternatives of each class, or the first limit on them that is passed. The units have these places, and the
-/// numbers of the order are places of reservations, and behind them places of classes.
+/// numbers of the order are places of reservations, and after them places of classes.
 pub(crate) fn expanded(
     alloc: Global,
     desc: &Description,
@@ -44,7 +44,7 @@ pub(crate) fn expanded(
     requires places { ArePlaces (description desc.now) units.now }
     ensures ok { IfOk result (λ lists. AreExpanded (description desc.now) (reservings (description desc.now) order.now) lists.items) }
     ensures extents { IfOk result (λ _. AreWithinExtents (description desc.now) (reservings (description desc.now) order.now)) }
-    ensures err { IfErr result (Tells (IsToldAt (description desc.now))) }
+    ensures err { IfErr result (Tells (IsReportedAt (description desc.now))) }
 {
     let past = past_extents(alloc, desc, order)?;
     if let Some(site) = past.alternatives {

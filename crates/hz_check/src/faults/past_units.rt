@@ -3,7 +3,7 @@
 ghost use Rattle.std.specs.Prelude.{◌≡◌, ◌≤◌, IfOk, map, length, []};
 ghost use Rattle.std.specs.List.{AllPairs};
 ghost use Rattle.hz_mdread.specs.Shape.{description};
-ghost use Rattle.hz_check_reservations.specs.Places.{told};
+ghost use Rattle.hz_check_reservations.specs.Places.{reported};
 ghost use Rattle.hz_check.specs.Faults.PastUnits.{ArePlaces};
 ghost use Rattle.hz_description_model.specs.Check.CheckFaults.{past_units};
 ghost use Rattle.hz_description_model.specs.Check.Places.{unit_places};
@@ -24,7 +24,7 @@ use std::alloc::Global;
 pub(crate) fn past_unit<'a>(names: &Names<'a>) -> Option<Site<'a>>
     requires few { length (description names.now.desc.now).automata ≤ limits.automaton_limit }
     requires ordered { AllPairs (λ earlier later. earlier.form ≤ later.form) (description names.now.desc.now).units }
-    ensures { told result ≡ earliest (past_units (description names.now.desc.now).units (unit_places (description names.now.desc.now))) }
+    ensures { reported result ≡ earliest (past_units (description names.now.desc.now).units (unit_places (description names.now.desc.now))) }
 {
     let desc = names.desc;
     let mut counts = [0u16; AUTOMATA];

@@ -3,7 +3,7 @@
 ghost use Rattle.std.specs.Prelude.{◌≡◌, map, filter, codes};
 ghost use Rattle.std.specs.Str.{bytes_eq};
 ghost use Rattle.hz_mdread.specs.Shape.{description};
-ghost use Rattle.hz_check_reservations.specs.Places.{told};
+ghost use Rattle.hz_check_reservations.specs.Places.{reported};
 ghost use Rattle.hz_description_model.specs.Check.CheckFaults.{reserved_names};
 ghost use Rattle.hz_description_model.specs.Check.Sites.{earliest};
 
@@ -13,7 +13,7 @@ use hz_mdread::Description;
 
 /// Where an item is called `nothing`.
 fn reserved_site<T: Defines>(items: &[T]) -> Option<Site<'_>>
-    ensures { told result ≡ earliest (filter (λ s. bytes_eq s.name (codes "nothing")) (map T.site items.now)) }
+    ensures { reported result ≡ earliest (filter (λ s. bytes_eq s.name (codes "nothing")) (map T.site items.now)) }
 {
     let mut first = None;
     for item in items {
@@ -27,7 +27,7 @@ fn reserved_site<T: Defines>(items: &[T]) -> Option<Site<'_>>
 
 /// Where a unit or a reservation is called `nothing`.
 pub(crate) fn reserved_name(desc: &Description) -> Option<Site<'_>>
-    ensures { told result ≡ earliest (reserved_names (description desc.now)) }
+    ensures { reported result ≡ earliest (reserved_names (description desc.now)) }
 {
     earlier(
         reserved_site(&desc.units),

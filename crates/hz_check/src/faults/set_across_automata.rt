@@ -4,7 +4,7 @@ ghost use Rattle.std.specs.Prelude.{◌≡◌, filter, not};
 ghost use Rattle.std.specs.List.{flat_map};
 ghost use Rattle.std.specs.Option.{option_copied};
 ghost use Rattle.hz_mdread.specs.Shape.{description, set_item};
-ghost use Rattle.hz_check_reservations.specs.Places.{told};
+ghost use Rattle.hz_check_reservations.specs.Places.{reported};
 ghost use Rattle.hz_check.specs.Names.First.{first_of};
 ghost use Rattle.hz_description_model.specs.Check.CheckFaults.{sites_of, home, same_home, strangers, names_of_set, sets_across_automata};
 ghost use Rattle.hz_description_model.specs.Check.Sites.{earliest};
@@ -63,7 +63,7 @@ fn first_unit(set: &SetItem) -> Option<&Name>
 
 /// Where a unit of the set has another automaton than its first unit.
 fn stranger_of<'a>(names: &Names<'a>, set: &'a SetItem) -> Option<Site<'a>>
-    ensures { told result ≡ earliest (sites_of set.now.line set.now.form (strangers (description names.now.desc.now) (names_of_set (set_item set.now)))) }
+    ensures { reported result ≡ earliest (sites_of set.now.line set.now.form (strangers (description names.now.desc.now) (names_of_set (set_item set.now)))) }
 {
     let automaton = names.home(first_unit(set)?);
     let unit = stranger(names, automaton, &set.units).or(stranger_in(
@@ -76,7 +76,7 @@ fn stranger_of<'a>(names: &Names<'a>, set: &'a SetItem) -> Option<Site<'a>>
 
 /// Where some set has units of two automata.
 pub(crate) fn set_across_automata<'a>(names: &Names<'a>) -> Option<Site<'a>>
-    ensures { told result ≡ earliest (sets_across_automata (description names.now.desc.now)) }
+    ensures { reported result ≡ earliest (sets_across_automata (description names.now.desc.now)) }
 {
     let desc = names.desc;
     let mut first = None;

@@ -3,7 +3,7 @@
 ghost use Rattle.std.specs.Prelude.{◌≡◌, ◌||◌, IfOk, map};
 ghost use Rattle.std.specs.List.{flat_map};
 ghost use Rattle.hz_mdread.specs.Shape.{description, attribute_item};
-ghost use Rattle.hz_check_reservations.specs.Places.{site_of, told};
+ghost use Rattle.hz_check_reservations.specs.Places.{site_of, reported};
 ghost use Rattle.hz_check.specs.Names.Held.{is_held};
 ghost use Rattle.hz_check.specs.Faults.Twice.{is_given, repeated_by, unseen};
 ghost use Rattle.hz_description_model.specs.Check.CheckFaults.{second_definitions, repeated_values};
@@ -51,7 +51,7 @@ fn second_site<'a, T: Defines>(
     items: &'a [T],
     others: &ByName<'a, u32>,
 ) -> Result<Option<Site<'a>>, NoMemory>
-    ensures { IfOk result (λ site. told site ≡ earliest (repeated_by (is_given others.now) unseen (map T.site items.now))) }
+    ensures { IfOk result (λ site. reported site ≡ earliest (repeated_by (is_given others.now) unseen (map T.site items.now))) }
 {
     let mut first = None;
     let mut seen = ByName::new(alloc);
@@ -66,7 +66,7 @@ fn second_site<'a, T: Defines>(
 
 /// Where an attribute has a value the second time.
 fn second_value_of(alloc: Global, item: &AttrItem) -> Result<Option<Site<'_>>, NoMemory>
-    ensures { IfOk result (λ site. told site ≡ earliest (repeated_values (attribute_item item.now))) }
+    ensures { IfOk result (λ site. reported site ≡ earliest (repeated_values (attribute_item item.now))) }
 {
     let mut first = None;
     let mut seen = ByName::new(alloc);
@@ -85,7 +85,7 @@ fn second_value_of(alloc: Global, item: &AttrItem) -> Result<Option<Site<'_>>, N
 
 /// Where some attribute has a value the second time.
 fn second_value(alloc: Global, items: &[AttrItem]) -> Result<Option<Site<'_>>, NoMemory>
-    ensures { IfOk result (λ site. told site ≡ earliest (flat_map (λ a. repeated_values (attribute_item a)) items.now)) }
+    ensures { IfOk result (λ site. reported site ≡ earliest (flat_map (λ a. repeated_values (attribute_item a)) items.now)) }
 {
     let mut first = None;
     for item in items {
@@ -99,7 +99,7 @@ pub(crate) fn second_definition(
     alloc: Global,
     desc: &Description,
 ) -> Result<Option<Site<'_>>, NoMemory>
-    ensures { IfOk result (λ site. told site ≡ earliest (second_definitions (description desc.now))) }
+    ensures { IfOk result (λ site. reported site ≡ earliest (second_definitions (description desc.now))) }
 {
     let none = ByName::new(alloc);
     let units = forms_of(alloc, &desc.units)?;

@@ -2,7 +2,7 @@
 
 ghost use Rattle.std.specs.Prelude.{◌≡◌};
 ghost use Rattle.hz_mdread.specs.Shape.{description, unit_item};
-ghost use Rattle.hz_check_reservations.specs.Places.{told};
+ghost use Rattle.hz_check_reservations.specs.Places.{reported};
 ghost use Rattle.hz_description_model.specs.Check.CheckFaults.{units_without_automaton, homeless};
 ghost use Rattle.hz_description_model.specs.Check.Sites.{earliest};
 
@@ -12,14 +12,14 @@ use hz_mdread::{Description, UnitItem};
 
 /// Where a unit names no automaton.
 fn homeless(unit: &UnitItem) -> Option<Site<'_>>
-    ensures { told result ≡ homeless (unit_item unit.now) }
+    ensures { reported result ≡ homeless (unit_item unit.now) }
 {
     unit.automaton.is_none().then_some(unit.site())
 }
 
 /// Where a unit names no automaton, though one is defined.
 pub(crate) fn unit_without_automaton(desc: &Description) -> Option<Site<'_>>
-    ensures { told result ≡ earliest (units_without_automaton (description desc.now)) }
+    ensures { reported result ≡ earliest (units_without_automaton (description desc.now)) }
 {
     if desc.automata.is_empty() {
         return None;

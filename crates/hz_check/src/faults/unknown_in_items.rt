@@ -6,7 +6,7 @@ ghost use Rattle.std.specs.Option.{option_copied};
 ghost use Rattle.hz_check.specs.Names.First.{first_of};
 ghost use Rattle.hz_mdread.specs.Shape.{description, condition, bypass_item, set_item};
 ghost use Rattle.hz_regexp.specs.Shape.{expression};
-ghost use Rattle.hz_check_reservations.specs.Places.{told};
+ghost use Rattle.hz_check_reservations.specs.Places.{reported};
 ghost use Rattle.hz_description_model.specs.Check.CheckFaults.{sites_of, is_unit, is_class, unknown_in_expression, unknown_in_condition, names_of_bypass, names_of_set};
 ghost use Rattle.hz_description_model.specs.Reading.Descriptions.{Description};
 ghost use Rattle.hz_description_model.specs.Check.Sites as sites;
@@ -25,7 +25,7 @@ pub(crate) trait Refers {
 
     /// The first name that is not known.
     fn unknown<'a>(&'a self, names: &Names<'a>) -> Option<Site<'a>>
-        ensures { told result ≡ earliest (unknown (description names.now.desc.now) self.now) };
+        ensures { reported result ≡ earliest (unknown (description names.now.desc.now) self.now) };
 }
 
 impl Refers for ReservationItem {

@@ -6,10 +6,10 @@ ghost use Rattle.hz_altern.specs.Tables.{alternatives_in};
 ghost use Rattle.hz_check_reservations.specs.Answers.{AreExpanded, Refuses};
 ghost use Rattle.hz_check_reservations.specs.Past.{AreWithinExtents};
 ghost use Rattle.hz_check_reservations.specs.Shape.{place_of};
-ghost use Rattle.hz_check_reservations.specs.Tables.{HasAlternatives, Holds, IsBehind, unit_names};
+ghost use Rattle.hz_check_reservations.specs.Tables.{HasAlternatives, Holds, IsAfter, unit_names};
 ghost use Rattle.hz_mdread.specs.Shape.{description};
 ghost use Rattle.hz_description_model.specs.Check.CheckFaults.{faults_of_names};
-ghost use Rattle.hz_description_model.specs.Check.FirstTold.{first_told};
+ghost use Rattle.hz_description_model.specs.Check.FirstReported.{first_reported};
 ghost use Rattle.hz_description_model.specs.Reading.DescriptionShape.{IsCheckable};
 ghost use Rattle.hz_base_model.specs.Limits.{automaton_limit, unit_limit};
 ghost use Rattle.hz_description_model.specs.Check.Places.{unit_places};
@@ -26,7 +26,7 @@ use std::alloc::Global;
 
 /// The alternatives of all units, where their places are given in the order of the file.
 fn known_units(alloc: Global, desc: &Description, places: &[UnitPlace]) -> Result<Known, NoMemory>
-    requires named { first_told (faults_of_names (description desc.now)) ≡ None }
+    requires named { first_reported (faults_of_names (description desc.now)) ≡ None }
     requires formed { IsCheckable (description desc.now) }
     requires places { map place_of places.now ≡ unit_places (description desc.now) }
     requires automata { All (λ place. place.automaton < automaton_limit) places.now }
@@ -41,14 +41,14 @@ fn known_units(alloc: Global, desc: &Description, places: &[UnitPlace]) -> Resul
     Ok(known)
 }
 
-/// The alternatives of each class, in the order of the file, behind units that are known.
-fn expand_behind<'a>(
+/// The alternatives of each class, in the order of the file, after units that are known.
+fn expand_after<'a>(
     alloc: Global,
     desc: &'a Description,
     known: Known,
     order: &[usize],
 ) -> Result<Vec<Vec<Alt>>, Unexpanded<'a>>
-    requires named { first_told (faults_of_names (description desc.now)) ≡ None }
+    requires named { first_reported (faults_of_names (description desc.now)) ≡ None }
     requires formed { IsCheckable (description desc.now) }
     requires order { IsOrder (description desc.now) order.now }
     requires extents { AreWithinExtents (description desc.now) (reservings (description desc.now) order.now) }
@@ -74,7 +74,7 @@ fn expand_behind<'a>(
 
 /// The alternatives of each class, in the order of the file: each list in its order, each alternative with its pairs in
 /// ascending order and each once. `places` has the units in the order of the file, and the numbers of the order are
-/// places of reservations, and behind them places of classes. `Unexpanded::Size` tells the first of the order at which the
+/// places of reservations, and after them places of classes. `Unexpanded::Size` tells the first of the order at which the
 /// sizes, known only as alternatives are made, pass 2,097,152 together, each once: what is left is asked before a list of
 /// alternatives grows. This profile, docs/RULES.md, 'Limits'.
 pub fn expand_all<'a>(
@@ -83,7 +83,7 @@ pub fn expand_all<'a>(
     places: &[UnitPlace],
     order: &[usize],
 ) -> Result<Vec<Vec<Alt>>, Unexpanded<'a>>
-    requires named { first_told (faults_of_names (description desc.now)) ≡ None }
+    requires named { first_reported (faults_of_names (description desc.now)) ≡ None }
     requires formed { IsCheckable (description desc.now) }
     requires order { IsOrder (description desc.now) order.now }
     requires extents { AreWithinExtents (description desc.now) (reservings (description desc.now) order.now) }
@@ -94,5 +94,5 @@ pub fn expand_all<'a>(
     ensures err { IfErr result (Refuses (description desc.now) (reservings (description desc.now) order.now)) }
 {
     let known = known_units(alloc, desc, places)?;
-    expand_behind(alloc, desc, known, order)
+    expand_after(alloc, desc, known, order)
 }

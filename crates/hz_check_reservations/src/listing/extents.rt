@@ -3,12 +3,12 @@
 ghost use Rattle.std.specs.Prelude.{◌≡◌, [], IfOk, OnOk, map, nat_lt, if◌then◌else◌, Some, None};
 ghost use Rattle.std.specs.List.{Contains};
 ghost use Rattle.hz_altern.specs.Tables.{extent_in};
-ghost use Rattle.hz_check_reservations.specs.Past.{AreCountable, ArePast, TellsBehind};
-ghost use Rattle.hz_check_reservations.specs.Places.{told};
-ghost use Rattle.hz_check_reservations.specs.Tables.{HasExtent, Holds, IsBehind, unit_names};
+ghost use Rattle.hz_check_reservations.specs.Past.{AreCountable, ArePast, TellsAfter};
+ghost use Rattle.hz_check_reservations.specs.Places.{reported};
+ghost use Rattle.hz_check_reservations.specs.Tables.{HasExtent, Holds, IsAfter, unit_names};
 ghost use Rattle.hz_mdread.specs.Shape.{description};
 ghost use Rattle.hz_description_model.specs.Check.CheckFaults.{faults_of_names};
-ghost use Rattle.hz_description_model.specs.Check.FirstTold.{first_told};
+ghost use Rattle.hz_description_model.specs.Check.FirstReported.{first_reported};
 ghost use Rattle.hz_description_model.specs.Reading.DescriptionShape.{IsCheckable};
 ghost use Rattle.hz_base_model.specs.Limits.{cycle_limit};
 ghost use Rattle.hz_description_model.specs.Reservations.Limits.{alternative_limit};
@@ -34,19 +34,19 @@ pub struct PastExtents<'a> {
 
 /// The site, where the test is passed.
 fn site_if(test: bool, site: Site<'_>) -> Option<Site<'_>>
-    ensures { told result ≡ (if test then Some (site_of site.entry) else None) }
+    ensures { reported result ≡ (if test then Some (site_of site.entry) else None) }
 {
     if test { Some(site) } else { None }
 }
 
-/// What is told where one more stands before those that were looked at.
+/// What is reported where one more stands before those that were looked at.
 fn past_before<'a>(
     reserving: Reserving<'a>,
     extent: Extent,
     past: PastExtents<'a>,
 ) -> PastExtents<'a>
-    ensures alternatives { told result.alternatives ≡ earlier_site (if nat_lt alternative_limit extent.count then Some (site_of reserving.entry.site) else None) (told past.entry.alternatives) }
-    ensures cycles { told result.cycles ≡ earlier_site (if nat_lt cycle_limit extent.longest then Some (site_of reserving.entry.site) else None) (told past.entry.cycles) }
+    ensures alternatives { reported result.alternatives ≡ earlier_site (if nat_lt alternative_limit extent.count then Some (site_of reserving.entry.site) else None) (reported past.entry.alternatives) }
+    ensures cycles { reported result.cycles ≡ earlier_site (if nat_lt cycle_limit extent.longest then Some (site_of reserving.entry.site) else None) (reported past.entry.cycles) }
 {
     let many = site_if(extent.count > ALTERNATIVE_LIMIT, reserving.site);
     let long = site_if(extent.longest > CYCLE_LIMIT, reserving.site);
@@ -56,16 +56,16 @@ fn past_before<'a>(
     }
 }
 
-/// What is told where items stand before those that were looked at.
+/// What is reported where items stand before those that were looked at.
 fn past_among<'a, T: Reserves>(
     items: &'a [T],
     extents: &Extents,
-    behind: PastExtents<'a>,
+    beyond: PastExtents<'a>,
 ) -> PastExtents<'a>
     requires { AreCountable (extent_in extents.now) (map T.reserves items.now) }
-    ensures { TellsBehind (extent_in extents.now) (map T.reserves items.now) behind.entry result }
+    ensures { TellsAfter (extent_in extents.now) (map T.reserves items.now) beyond.entry result }
 {
-    let mut past = behind;
+    let mut past = beyond;
     for i in (0..items.len()).rev() {
         let reserving = items[i].reserving();
         past = past_before(reserving, extent(reserving.expr, extents), past);
@@ -75,7 +75,7 @@ fn past_among<'a, T: Reserves>(
 
 /// The extents of all units.
 fn unit_extents(alloc: Global, desc: &Description) -> Result<Extents, NoMemory>
-    requires named { first_told (faults_of_names (description desc.now)) ≡ None }
+    requires named { first_reported (faults_of_names (description desc.now)) ≡ None }
     requires formed { IsCheckable (description desc.now) }
     ensures { IfOk result (λ extents. Holds (HasExtent (description desc.now)) (Contains (unit_names (description desc.now))) (extent_in extents)) }
 {
@@ -90,17 +90,17 @@ fn unit_extents(alloc: Global, desc: &Description) -> Result<Extents, NoMemory>
     Ok(extents)
 }
 
-/// Adds the extents of all reservations in an order where each stands behind those that it names.
+/// Adds the extents of all reservations in an order where each comes after those that it names.
 fn add_reservations(
     desc: &Description,
     order: &[usize],
     extents: &mut Extents,
 ) -> Result<(), NoMemory>
-    requires named { first_told (faults_of_names (description desc.now)) ≡ None }
+    requires named { first_reported (faults_of_names (description desc.now)) ≡ None }
     requires formed { IsCheckable (description desc.now) }
     requires order { IsOrder (description desc.now) order.now }
     requires units { Holds (HasExtent (description desc.now)) (Contains (unit_names (description desc.now))) (extent_in extents.old) }
-    ensures { OnOk result (Holds (HasExtent (description desc.now)) (IsBehind (description desc.now) order.now) (extent_in extents.new)) }
+    ensures { OnOk result (Holds (HasExtent (description desc.now)) (IsAfter (description desc.now) order.now) (extent_in extents.new)) }
 {
     for i in 0..order.len() {
         let reserving = reserving_at(desc, order[i]);
@@ -113,14 +113,14 @@ fn add_reservations(
 }
 
 /// The earliest reservation or class of the file with more than `ALTERNATIVE_LIMIT` alternatives, and the earliest with one
-/// of more than `CYCLE_LIMIT` cycles. The numbers of the order are places of reservations, and behind them places of classes. Each expression is
+/// of more than `CYCLE_LIMIT` cycles. The numbers of the order are places of reservations, and after them places of classes. Each expression is
 /// counted, and no alternative is made. `NoMemory` where there was none. This profile, docs/RULES.md, 'Limits'.
 pub fn past_extents<'a>(
     alloc: Global,
     desc: &'a Description,
     order: &[usize],
 ) -> Result<PastExtents<'a>, NoMemory>
-    requires named { first_told (faults_of_names (description desc.now)) ≡ None }
+    requires named { first_reported (faults_of_names (description desc.now)) ≡ None }
     requires formed { IsCheckable (description desc.now) }
     requires order { IsOrder (description desc.now) order.now }
     ensures { IfOk result (ArePast (description desc.now) (reservings (description desc.now) order.now)) }

@@ -101,7 +101,7 @@ impl Expansion {
         Ok(())
     }
 
-    /// Expands a reservation or class behind those that came. What is left of the limit of sizes is asked before a list of
+    /// Expands a reservation or class after those that came. What is left of the limit of sizes is asked before a list of
     /// alternatives grows, so that none which passes it is held.
     pub fn add<'a>(&mut self, alloc: Global, reserving: Reserving<'a>) -> Result<(), Unexpanded<'a>>
         requires new { reserving.is_class ≡ false → alternatives_in self.old.known reserving.site.name.now ≡ None }

@@ -34,7 +34,7 @@ fn comes_first(reservations: &[ReservationItem], i: usize, classes: &[ClassItem]
     }
 }
 
-/// The numbers of all reservations and classes in the order of the file. A class has its place behind all reservations.
+/// The numbers of all reservations and classes in the order of the file. A class has its place after all reservations.
 fn file_order(
     alloc: Global,
     reservations: &[ReservationItem],
@@ -87,7 +87,7 @@ fn add_classes(
     Ok(())
 }
 
-/// For each reservation, and behind them for each class, the numbers of the reservations that it names; last the numbers of
+/// For each reservation, and after them for each class, the numbers of the reservations that it names; last the numbers of
 /// all in the order of the file.
 pub fn graph(alloc: Global, description: &Description) -> Result<Vec<Vec<usize>>, NoMemory>
     ensures { IfOk result (λ edges. IsGraph (description_of description.now) (lists_of edges.items)) }

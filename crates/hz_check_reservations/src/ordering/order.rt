@@ -3,7 +3,7 @@
 ghost use Rattle.std.specs.Prelude.{◌≡◌, ◌+◌, ◌<◌, ◌^◌, IfErr, IfOk, None, OnOk, vec_len};
 ghost use Rattle.hz_mdread.specs.Shape.{description as description_of};
 ghost use Rattle.hz_description_model.specs.Check.CheckFaults.{faults_of_names};
-ghost use Rattle.hz_description_model.specs.Check.FirstTold.{first_told};
+ghost use Rattle.hz_description_model.specs.Check.FirstReported.{first_reported};
 ghost use Rattle.hz_description_model.specs.Reading.DescriptionShape.{IsCheckable};
 ghost use Rattle.hz_description_model.specs.Check.Places.{meaning};
 ghost use Rattle.hz_description_model.specs.Reservations.Meanings.{Unwinds};
@@ -21,7 +21,7 @@ use std::alloc::Global;
 /// reservations that it names and that have not come before, from left to right, and so before each of these.
 #[derive(Debug, Drop)]
 pub struct Order {
-    /// Their numbers: the place of a reservation among the reservations, and of a class its place among the classes behind
+    /// Their numbers: the place of a reservation among the reservations, and of a class its place among the classes after
     /// all reservations.
     pub numbers: Vec<usize>,
 }
@@ -29,7 +29,7 @@ pub struct Order {
 /// The counting order of a description whose names are right, or the first reservation of the file that reaches itself,
 /// or `NoMemory`. This profile, docs/RULES.md, 'Faults of a description'.
 pub fn counting_order(alloc: Global, description: &Description) -> Result<Order, OrderFault>
-    requires named { first_told (faults_of_names (description_of description.now)) ≡ None }
+    requires named { first_reported (faults_of_names (description_of description.now)) ≡ None }
     requires formed { IsCheckable (description_of description.now) }
     ensures ok { IfOk result (λ order. IsOrder (description_of description.now) order.numbers.items) }
     ensures unwinds { OnOk result (Unwinds (meaning (description_of description.now))) }
@@ -40,9 +40,9 @@ pub fn counting_order(alloc: Global, description: &Description) -> Result<Order,
 
 /// The same of any description: what it says holds where the names are right.
 pub(crate) fn order_of(alloc: Global, description: &Description) -> Result<Order, OrderFault>
-    ensures ok { first_told (faults_of_names (description_of description.now)) ≡ None → IsCheckable (description_of description.now) → IfOk result (λ order. IsOrder (description_of description.now) order.numbers.items) }
-    ensures unwinds { first_told (faults_of_names (description_of description.now)) ≡ None → IsCheckable (description_of description.now) → OnOk result (Unwinds (meaning (description_of description.now))) }
-    ensures err { first_told (faults_of_names (description_of description.now)) ≡ None → IsCheckable (description_of description.now) → IfErr result (TellsCircle (description_of description.now)) }
+    ensures ok { first_reported (faults_of_names (description_of description.now)) ≡ None → IsCheckable (description_of description.now) → IfOk result (λ order. IsOrder (description_of description.now) order.numbers.items) }
+    ensures unwinds { first_reported (faults_of_names (description_of description.now)) ≡ None → IsCheckable (description_of description.now) → OnOk result (Unwinds (meaning (description_of description.now))) }
+    ensures err { first_reported (faults_of_names (description_of description.now)) ≡ None → IsCheckable (description_of description.now) → IfErr result (TellsCircle (description_of description.now)) }
 {
     let lists = graph(alloc, description)?;
     let edges = lists.as_slice();

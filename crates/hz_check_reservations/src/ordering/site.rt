@@ -2,7 +2,7 @@
 
 ghost use Rattle.std.specs.Prelude.{◌≡◌};
 ghost use Rattle.hz_description_model.specs.Check.Sites as model;
-ghost use Rattle.hz_check_reservations.specs.Places.{told};
+ghost use Rattle.hz_check_reservations.specs.Places.{reported};
 
 use hz_regexp::Name;
 
@@ -16,7 +16,7 @@ pub struct Site<'a> {
 
 /// The site of the earlier form, the first one where both stand in one form, and the only one where one is `None`.
 pub fn earlier<'a>(first: Option<Site<'a>>, second: Option<Site<'a>>) -> Option<Site<'a>>
-    ensures { told result ≡ model.earlier (told first.entry) (told second.entry) }
+    ensures { reported result ≡ model.earlier (reported first.entry) (reported second.entry) }
 {
     match (first, second) {
         (Some(one), Some(other)) if other.form < one.form => second,

@@ -1,4 +1,4 @@
-//! A walk through a graph that leaves each node behind those that its edges lead to.
+//! A walk through a graph that leaves each node after those that its edges lead to.
 
 ghost use Rattle.std.specs.Prelude.{◌≡◌, ◌+◌, ◌<◌, ◌^◌, IfOk, OnOk, OnSome, length, slice_get, vec_len};
 ghost use Rattle.hz_check_reservations.specs.Graphs.{AreInside, ends_in, IsWalk};

@@ -4,19 +4,19 @@ ghost use Rattle.std.specs.Prelude.{◌≡◌, ◌&&◌, IfOk, OnOk, map, Some, 
 ghost use Rattle.std.specs.List.{Contains};
 ghost use Rattle.hz_description_model.specs.Check.CheckFaults.{faults_of_names};
 ghost use Rattle.hz_description_model.specs.Check.CountingOrder.{reserving_class};
-ghost use Rattle.hz_description_model.specs.Check.FirstTold.{first_told};
+ghost use Rattle.hz_description_model.specs.Check.FirstReported.{first_reported};
 ghost use Rattle.hz_description_model.specs.Check.Places.{unit_places};
 ghost use Rattle.hz_description_model.specs.Check.Sites.{earlier as earlier_site};
 ghost use Rattle.hz_check_reservations.specs.Past.{AreWithinExtents};
 ghost use Rattle.hz_check_reservations.specs.Shape.{place_of};
-ghost use Rattle.hz_check_reservations.specs.Tables.{Holds, IsBehind, unit_names};
+ghost use Rattle.hz_check_reservations.specs.Tables.{Holds, IsAfter, unit_names};
 ghost use Rattle.hz_mdread.specs.Shape.{class_item, description};
 ghost use Rattle.hz_description_model.specs.Reading.DescriptionShape.{IsCheckable};
 ghost use Rattle.hz_check_reservations.specs.Broken.{AreBroken};
 ghost use Rattle.hz_check_reservations.specs.Spreads.{are_several};
 ghost use Rattle.hz_check_reservations.specs.HabitTables.{HasHabits, habits_in};
 ghost use Rattle.hz_check_reservations.specs.Orders.{IsOrder, reservings};
-ghost use Rattle.hz_check_reservations.specs.Places.{site_of, told};
+ghost use Rattle.hz_check_reservations.specs.Places.{site_of, reported};
 
 use crate::rules::habits::Habits;
 use crate::rules::measuring::habits_of;
@@ -37,7 +37,7 @@ pub struct BrokenRules<'a> {
 
 /// The habits of all units, which have these places.
 fn unit_habits(alloc: Global, desc: &Description, units: &[UnitPlace]) -> Result<Table, NoMemory>
-    requires named { first_told (faults_of_names (description desc.now)) ≡ None }
+    requires named { first_reported (faults_of_names (description desc.now)) ≡ None }
     requires formed { IsCheckable (description desc.now) }
     requires places { map place_of units.now ≡ unit_places (description desc.now) }
     ensures { IfOk result (λ table. Holds (HasHabits (description desc.now)) (Contains (unit_names (description desc.now))) (habits_in table)) }
@@ -49,13 +49,13 @@ fn unit_habits(alloc: Global, desc: &Description, units: &[UnitPlace]) -> Result
     Ok(table)
 }
 
-/// Keeps the habits of all reservations, in an order where each stands behind those that it names.
+/// Keeps the habits of all reservations, in an order where each comes after those that it names.
 fn add_reservations(desc: &Description, order: &[usize], table: &mut Table) -> Result<(), NoMemory>
-    requires named { first_told (faults_of_names (description desc.now)) ≡ None }
+    requires named { first_reported (faults_of_names (description desc.now)) ≡ None }
     requires formed { IsCheckable (description desc.now) }
     requires order { IsOrder (description desc.now) order.now }
     requires units { Holds (HasHabits (description desc.now)) (Contains (unit_names (description desc.now))) (habits_in table.old) }
-    ensures { OnOk result (Holds (HasHabits (description desc.now)) (IsBehind (description desc.now) order.now) (habits_in table.new)) }
+    ensures { OnOk result (Holds (HasHabits (description desc.now)) (IsAfter (description desc.now) order.now) (habits_in table.new)) }
 {
     for i in 0..order.len() {
         let number = order[i];
@@ -70,19 +70,19 @@ fn add_reservations(desc: &Description, order: &[usize], table: &mut Table) -> R
 
 /// The site, where the test is passed.
 fn site_if(test: bool, site: Site<'_>) -> Option<Site<'_>>
-    ensures { told result ≡ (if test then Some (site_of site.entry) else None) }
+    ensures { reported result ≡ (if test then Some (site_of site.entry) else None) }
 {
     if test { Some(site) } else { None }
 }
 
-/// What is told where a class of these habits stands before those that were looked at.
+/// What is reported where a class of these habits stands before those that were looked at.
 fn broken_before<'a>(
     class: &'a ClassItem,
     habits: Habits,
     broken: BrokenRules<'a>,
 ) -> BrokenRules<'a>
-    ensures mixed { told result.mixed ≡ earlier_site (if habits.mixed then Some (reserving_class (class_item class.now)).site else None) (told broken.entry.mixed) }
-    ensures uneven { told result.uneven ≡ earlier_site (if are_several habits.spread && habits.uneven then Some (reserving_class (class_item class.now)).site else None) (told broken.entry.uneven) }
+    ensures mixed { reported result.mixed ≡ earlier_site (if habits.mixed then Some (reserving_class (class_item class.now)).site else None) (reported broken.entry.mixed) }
+    ensures uneven { reported result.uneven ≡ earlier_site (if are_several habits.spread && habits.uneven then Some (reserving_class (class_item class.now)).site else None) (reported broken.entry.uneven) }
 {
     let site = Site {
         line: class.line,
@@ -98,7 +98,7 @@ fn broken_before<'a>(
 }
 
 /// The earliest class of the file that breaks each of the two rules. The units have these places, the numbers of the order
-/// are places of reservations, and behind them places of classes, and the limits of alternatives and cycles are kept.
+/// are places of reservations, and after them places of classes, and the limits of alternatives and cycles are kept.
 /// `NoMemory` where there was none. This profile, docs/RULES.md, 'Automata and lists'.
 pub fn broken_rules<'a>(
     alloc: Global,
@@ -106,7 +106,7 @@ pub fn broken_rules<'a>(
     units: &[UnitPlace],
     order: &[usize],
 ) -> Result<BrokenRules<'a>, NoMemory>
-    requires named { first_told (faults_of_names (description desc.now)) ≡ None }
+    requires named { first_reported (faults_of_names (description desc.now)) ≡ None }
     requires formed { IsCheckable (description desc.now) }
     requires places { map place_of units.now ≡ unit_places (description desc.now) }
     requires order { IsOrder (description desc.now) order.now }

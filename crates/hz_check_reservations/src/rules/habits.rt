@@ -3,7 +3,7 @@
 use crate::rules::mark::{Mark, cut};
 use crate::rules::spread::Spread;
 
-/// What the two rules ask of an expression and of its alternatives. A length above the limit of cycles is told as the limit
+/// What the two rules ask of an expression and of its alternatives. A length above the limit of cycles is reported as the limit
 /// and one.
 #[derive(Clone, Copy, Debug, PartialEq, Eq)]
 pub struct Habits {
@@ -56,7 +56,7 @@ impl Habits {
         self.shortest != self.longest
     }
 
-    /// Whether the alternatives have two lengths where the mark behind them asks for one.
+    /// Whether the alternatives have two lengths where the mark after them asks for one.
     fn differs_before(self, mark: Mark) -> bool
         ensures { result ≡ is_comma mark && have_two_lengths self }
     {
@@ -66,7 +66,7 @@ impl Habits {
         }
     }
 
-    /// The habits of parts with a mark between them, where these are those of the first, and the others of all behind it.
+    /// The habits of parts with a mark between them, where these are those of the first, and the others of all after it.
     pub fn joined(self, mark: Mark, others: Habits) -> Habits
         ensures { result ≡ joined_habits mark self others }
     {

@@ -16,7 +16,7 @@ pub enum Mark {
     Plus,
 }
 
-/// A length, where one above the limit is told as the limit and one.
+/// A length, where one above the limit is reported as the limit and one.
 pub fn cut(cycles: u32) -> u32
     ensures { result ≡ cut_length cycles }
 {

@@ -22,7 +22,7 @@ pub fn height_at(nodes: &[Node<'_>], sums: &[Option<u32>], place: usize) -> u32
 }
 
 /// For each instruction the greatest sum of the cost of an edge that leads from it and the height where that leads, if one
-/// leads from it. No edge leads from a place at or behind one to which a later edge leads.
+/// leads from it. No edge leads from a place at or after one to which a later edge leads.
 pub fn sums_of(
     alloc: Global,
     nodes: &[Node<'_>],

@@ -48,7 +48,7 @@ impl Tables {
         })
     }
 
-    /// Notes an instruction, which stands behind all that are noted.
+    /// Notes an instruction, which comes after all that are noted.
     pub fn note(&mut self, node: &Node<'_>, place: u32) -> Result<(), NoMemory>
         ensures { OnOk result (HasNoted place (held node.now) (tables_of self.old) (tables_of self.new)) }
     {
@@ -61,7 +61,7 @@ impl Tables {
         Ok(())
     }
 
-    /// Marks those that an instruction may depend on, which stands behind all that are noted: the last writer of each register
+    /// Marks those that an instruction may depend on, which comes after all that are noted: the last writer of each register
     /// that it reads, all that read or write a register that it writes, and all that touch a cell which isn't apart from one of
     /// its own, where one of the two writes.
     #[tactic(auto, using(crate::proofs::MarkLemmas::marked_append))]

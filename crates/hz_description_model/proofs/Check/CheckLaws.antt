@@ -7,7 +7,7 @@ use Rattle.std.proofs.lemmas.List.Elements.{All-contains}
 use Rattle.hz_base_model.proofs.Elements.{Contains-tail}
 use Rattle.hz_description_model.specs.Check.CheckFaults.{CheckFault, faults_of_names, faults_of_meanings, IsFirst, IsCircular, IsUnfolded, CheckFaultAt, IsSound}
 use Rattle.hz_description_model.specs.Check.CountingOrder.{Reserving, Merged, Counted, IsCountingOrder, has_come, named_by, reservation_names, reservations_of, classes_of, reservation_site}
-use Rattle.hz_description_model.specs.Check.FirstTold.{Told, first_told}
+use Rattle.hz_description_model.specs.Check.FirstReported.{Reported, first_reported}
 use Rattle.hz_description_model.specs.Reading.Descriptions.{Description, ReservationItem}
 use Rattle.hz_description_model.specs.Check.Places.{IsKnown, meaning, Known}
 use Rattle.hz_description_model.specs.Check.Sites.{Site}
@@ -68,33 +68,33 @@ module _ (d : Description) where
   no_circle : (known : Known) (order : List Reserving) (r : ReservationItem) → IsUnfolded d known order → IsFirst (IsCircular d) d.reservations r → ⊥
   no_circle known order r u first = none_reaches_itself (meaning d) ((u.right).unwinds) r.name first.holds
 
-  -- what is told of meanings depends on the description alone
-  meanings_one : (known other : Known) (a b : List Reserving) → IsUnfolded d known a → IsUnfolded d other b → first_told (faults_of_meanings d known a) ≡ first_told (faults_of_meanings d other b)
+  -- what is reported of meanings depends on the description alone
+  meanings_one : (known other : Known) (a b : List Reserving) → IsUnfolded d known a → IsUnfolded d other b → first_reported (faults_of_meanings d known a) ≡ first_reported (faults_of_meanings d other b)
   meanings_one known other a b u v =
-      ap (λ (k : Known). first_told (faults_of_meanings d k a)) (known_one known other u.right v.right)
-      ∙ ap (λ (o : List Reserving). first_told (faults_of_meanings d other o)) (order_one a b u.counts v.counts)
+      ap (λ (k : Known). first_reported (faults_of_meanings d k a)) (known_one known other u.right v.right)
+      ∙ ap (λ (o : List Reserving). first_reported (faults_of_meanings d other o)) (order_one a b u.counts v.counts)
 
-  told_one : (o : Option (Told CheckFault)) (a b : Told CheckFault) → o ≡ Some a → o ≡ Some b → (a.fault ≡ b.fault) × (a.site ≡ b.site)
-  told_one o a b x y = let same = same_Some a b (sym x ∙ y) in (ap (λ (t : Told CheckFault). t.fault) same, ap (λ (t : Told CheckFault). t.site) same)
+  reported_one : (o : Option (Reported CheckFault)) (a b : Reported CheckFault) → o ≡ Some a → o ≡ Some b → (a.fault ≡ b.fault) × (a.site ≡ b.site)
+  reported_one o a b x y = let same = same_Some a b (sym x ∙ y) in (ap (λ (t : Reported CheckFault). t.fault) same, ap (λ (t : Reported CheckFault). t.site) same)
 
   -- a description has at most one fault, at one place
   pub fault_one : (f g : CheckFault) (s t : Site) → CheckFaultAt d f s → CheckFaultAt d g t → (f ≡ g) × (s ≡ t)
-  fault_one _ _ _ _ (CheckFaultAt.of_names {told = a} x) (CheckFaultAt.of_names {told = b} y) = told_one (first_told (faults_of_names d)) a b x y
-  fault_one _ _ _ _ (CheckFaultAt.of_names {told = a} x) (CheckFaultAt.of_circle y _) = absurd (none-some a (sym y ∙ x))
-  fault_one _ _ _ _ (CheckFaultAt.of_names {told = a} x) (CheckFaultAt.of_meanings u _) = absurd (none-some a (sym u.defined ∙ x))
-  fault_one _ _ _ _ (CheckFaultAt.of_circle x _) (CheckFaultAt.of_names {told = b} y) = absurd (none-some b (sym x ∙ y))
+  fault_one _ _ _ _ (CheckFaultAt.of_names {reported = a} x) (CheckFaultAt.of_names {reported = b} y) = reported_one (first_reported (faults_of_names d)) a b x y
+  fault_one _ _ _ _ (CheckFaultAt.of_names {reported = a} x) (CheckFaultAt.of_circle y _) = absurd (none-some a (sym y ∙ x))
+  fault_one _ _ _ _ (CheckFaultAt.of_names {reported = a} x) (CheckFaultAt.of_meanings u _) = absurd (none-some a (sym u.defined ∙ x))
+  fault_one _ _ _ _ (CheckFaultAt.of_circle x _) (CheckFaultAt.of_names {reported = b} y) = absurd (none-some b (sym x ∙ y))
   fault_one _ _ _ _ (CheckFaultAt.of_circle {r = r} _ x) (CheckFaultAt.of_circle {r = q} _ y) = (refl, ap reservation_site (first_one (IsCircular d) d.reservations r q x y))
   fault_one _ _ _ _ (CheckFaultAt.of_circle {r = r} _ x) (CheckFaultAt.of_meanings {known = known} {order = order} u _) = absurd (no_circle known order r u x)
-  fault_one _ _ _ _ (CheckFaultAt.of_meanings u _) (CheckFaultAt.of_names {told = b} y) = absurd (none-some b (sym u.defined ∙ y))
+  fault_one _ _ _ _ (CheckFaultAt.of_meanings u _) (CheckFaultAt.of_names {reported = b} y) = absurd (none-some b (sym u.defined ∙ y))
   fault_one _ _ _ _ (CheckFaultAt.of_meanings {known = known} {order = order} u _) (CheckFaultAt.of_circle {r = r} _ y) = absurd (no_circle known order r u y)
-  fault_one _ _ _ _ (CheckFaultAt.of_meanings {known = known} {order = order} {told = a} u x) (CheckFaultAt.of_meanings {known = other} {order = order'} {told = b} v y) =
-      told_one (first_told (faults_of_meanings d known order)) a b x (meanings_one known other order order' u v ∙ y)
+  fault_one _ _ _ _ (CheckFaultAt.of_meanings {known = known} {order = order} {reported = a} u x) (CheckFaultAt.of_meanings {known = other} {order = order'} {reported = b} v y) =
+      reported_one (first_reported (faults_of_meanings d known order)) a b x (meanings_one known other order order' u v ∙ y)
 
   -- and no sound description has one
   pub fault_or_sound : (f : CheckFault) (s : Site) (known : Known) → CheckFaultAt d f s → IsSound d known → ⊥
-  fault_or_sound _ _ known (CheckFaultAt.of_names {told = a} x) sound = none-some a (sym ((sound.unfolded).defined) ∙ x)
+  fault_or_sound _ _ known (CheckFaultAt.of_names {reported = a} x) sound = none-some a (sym ((sound.unfolded).defined) ∙ x)
   fault_or_sound _ _ known (CheckFaultAt.of_circle {r = r} _ x) sound = no_circle known sound.order r sound.unfolded x
-  fault_or_sound _ _ known (CheckFaultAt.of_meanings {known = other} {order = order} {told = a} u x) sound =
+  fault_or_sound _ _ known (CheckFaultAt.of_meanings {known = other} {order = order} {reported = a} u x) sound =
       none-some a (sym sound.free ∙ (meanings_one known other sound.order order sound.unfolded u ∙ x))
 
   -- a sound description has one assignment of alternatives

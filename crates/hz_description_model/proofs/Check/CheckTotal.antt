@@ -12,7 +12,7 @@ use Rattle.hz_description_model.specs.Reservations.Alternatives.{Expression}
 use Rattle.hz_description_model.specs.Reservations.Automata.{UnitPlace}
 use Rattle.hz_description_model.specs.Check.CheckFaults.{CheckFault, unit_site, twice_defined, circular_reservation, CheckFaultAt, IsSound, IsUnfolded, IsFirst, IsCircular, faults_of_names, faults_of_meanings, automaton_sites, unit_sites, reservation_sites, class_sites, attribute_sites, repeated_values, second_definitions}
 use Rattle.hz_description_model.specs.Check.CountingOrder.{IsCountingOrder, Reserving, reservation_site}
-use Rattle.hz_description_model.specs.Check.FirstTold.{Told, Standing, first_told, told_at}
+use Rattle.hz_description_model.specs.Check.FirstReported.{Reported, Standing, first_reported, reported_at}
 use Rattle.hz_description_model.specs.Reading.Descriptions.{Description, UnitItem, ReservationItem}
 use Rattle.hz_description_model.specs.Reading.DescriptionShape.{FormKind, define_cpu_unit, define_reservation, IsCheckable, IsForm, IsCheckableReservation}
 use Rattle.hz_description_model.specs.Check.Places.{at_name, unit_place, unit_places, reservation_named, unit_or_reservation, meaning, IsKnown, Known}
@@ -38,8 +38,8 @@ first_or_none P decide (x ∷ xs) = ⊎_elim
     (first_or_none P decide xs))
     (decide x)
 
--- where nothing is told, no site of the first fault stands
-first_standing : (fault : CheckFault) (o : Option Site) (otherwise : Option (Told CheckFault)) → told_at fault o otherwise ≡ None → o ≡ None
+-- where nothing is reported, no site of the first fault stands
+first_standing : (fault : CheckFault) (o : Option Site) (otherwise : Option (Reported CheckFault)) → reported_at fault o otherwise ≡ None → o ≡ None
 first_standing fault None otherwise e = refl
 first_standing fault (Some s) otherwise e = absurd (none-some _ (sym e))
 
@@ -81,8 +81,8 @@ parts_empty a b c e f g h =
     let front = front_empty (a ++ b ++ c) e (front_empty (a ++ b ++ c ++ e) f (front_empty (a ++ b ++ c ++ e ++ f) g h)) in
     (back_empty a b (front_empty (a ++ b) c front), back_empty (a ++ b) c front)
 
-first_empty : (s : Standing CheckFault) (others : List (Standing CheckFault)) → first_told (s ∷ others) ≡ None → s.sites ≡ []
-first_empty s others e = no_site s.sites (first_standing s.fault (earliest s.sites) (first_told others) e)
+first_empty : (s : Standing CheckFault) (others : List (Standing CheckFault)) → first_reported (s ∷ others) ≡ None → s.sites ≡ []
+first_empty s others e = no_site s.sites (first_standing s.fault (earliest s.sites) (first_reported others) e)
 
 -- two kinds are not of one form
 one_kind : (kinds : List FormKind) (query : Bool) (m n : ℕ) → m ≡ n → slice_get kinds m ≡ Some (define_cpu_unit query) → slice_get kinds n ≡ Some define_reservation → ⊥
@@ -93,7 +93,7 @@ named_reservation (Some u) o e is = absurd (cc)
 named_reservation None None e is = absurd (cc)
 named_reservation None (Some r) e is = (r, refl)
 
--- it is sound, or a fault is told of it
+-- it is sound, or a fault is reported of it
 abbrev pub Judged : Description → Type 0
 Judged d = ((known : Known) × IsSound d known) ⊎ ((fault : CheckFault) × (site : Site) × CheckFaultAt d fault site)
 
@@ -107,7 +107,7 @@ module _ (d : Description) where
       let found = named_reservation (unit_place d name) (reservation_named d name) e is in
       found_among name names d.reservations found.0 found.1
 
-  module _ (formed : IsCheckable d) (defined : first_told (faults_of_names d) ≡ None) where
+  module _ (formed : IsCheckable d) (defined : first_reported (faults_of_names d) ≡ None) where
     no_second : (repeated (reservation_sites d) [] (unit_sites d) ≡ []) × (repeated (unit_sites d) [] (reservation_sites d) ≡ [])
     no_second = parts_empty (repeated [] [] (automaton_sites d)) (repeated (reservation_sites d) [] (unit_sites d)) (repeated (unit_sites d) [] (reservation_sites d))
         (repeated [] [] (class_sites d)) (repeated [] [] (attribute_sites d)) (flat_map repeated_values d.attributes)
@@ -138,13 +138,13 @@ module _ (d : Description) where
             let named = at_name_named (λ (r : ReservationItem). r.name) name d.reservations r is in
             absurd (not_both u.0 r u.1 (at_name_in name (map (λ r. r.name) d.reservations) d.reservations r is) (u.2 ∙ sym named))
 
-    by_meanings : (known : Known) (order : List Reserving) → IsUnfolded d known order → (o : Option (Told CheckFault)) → first_told (faults_of_meanings d known order) ≡ o → Judged d
+    by_meanings : (known : Known) (order : List Reserving) → IsUnfolded d known order → (o : Option (Reported CheckFault)) → first_reported (faults_of_meanings d known order) ≡ o → Judged d
     by_meanings known order unfolded None e = inl (known, record { order = order; unfolded = unfolded; free = e })
-    by_meanings known order unfolded (Some told) e = inr (told.fault, told.site, CheckFaultAt.of_meanings unfolded e)
+    by_meanings known order unfolded (Some reported) e = inr (reported.fault, reported.site, CheckFaultAt.of_meanings unfolded e)
 
     judged : (known : Known) → IsKnown d known → (order : List Reserving) → IsCountingOrder d order → Judged d
     judged known right order counts =
-        by_meanings known order (record { defined = defined; right = right; counts = counts }) (first_told (faults_of_meanings d known order)) refl
+        by_meanings known order (record { defined = defined; right = right; counts = counts }) (first_reported (faults_of_meanings d known order)) refl
 
     by_circles : ((r : ReservationItem) × IsFirst (IsCircular d) d.reservations r) ⊎ All (λ r. IsCircular d r → ⊥) d.reservations → Judged d
     unfolding names
@@ -158,8 +158,8 @@ module _ (d : Description) where
         judged (assigned (meaning d) falling) (record { unwinds = falling; expands = assigned_right (meaning d) falling }) order.0 order.1
 
   pub sound_or_fault : IsCheckable d → Judged d
-  sound_or_fault formed = by_names (first_told (faults_of_names d)) refl
+  sound_or_fault formed = by_names (first_reported (faults_of_names d)) refl
     where
-      by_names : (o : Option (Told CheckFault)) → first_told (faults_of_names d) ≡ o → Judged d
+      by_names : (o : Option (Reported CheckFault)) → first_reported (faults_of_names d) ≡ o → Judged d
       by_names None defined = by_circles formed defined (first_or_none (IsCircular d) (λ r. reaches_or_not (meaning d) names listed r.name r.name) d.reservations)
-      by_names (Some told) e = inr (told.fault, told.site, CheckFaultAt.of_names e)
+      by_names (Some reported) e = inr (reported.fault, reported.site, CheckFaultAt.of_names e)

@@ -127,17 +127,17 @@ module _ {U : Type 0} (defined : List ℕ → Option (Meaning U)) where
     reach_more [] a b h = h
     reach_more (k ∷ ks) a b h = or_left (reach ks a b) (reach ks a k && reach ks k b) (reach_more ks a b h)
 
-    step_told : (a b : List ℕ) (e : Expression) → defined a ≡ Some (reservation e) → Mentions e b → list_any (bytes_eq b) (names_of (defined a)) ≡ true
-    step_told a b e is h = subst (λ (o : Option (Meaning U)). list_any (bytes_eq b) (names_of o) ≡ true) (sym is)
+    step_reported : (a b : List ℕ) (e : Expression) → defined a ≡ Some (reservation e) → Mentions e b → list_any (bytes_eq b) (names_of (defined a)) ≡ true
+    step_reported a b e is h = subst (λ (o : Option (Meaning U)). list_any (bytes_eq b) (names_of o) ≡ true) (sym is)
         (let there = named_there e b h in list_any_at (bytes_eq b) (names_in e) there.0 b there.1 ((bytes_eq-Decides b _).1 (sym there.2)))
 
-    reach_told : (a b : List ℕ) → Reaches defined a b → reach names a b ≡ true
-    reach_told a b (Reaches.mentions {expression = e} is h) = reach_more names a b (step_told a b e is h)
-    reach_told a b (Reaches.through {middle = m} p q) = reach_through names m a b (leads_listed m b q) (reach_told a m p) (reach_told m b q)
+    reach_reported : (a b : List ℕ) → Reaches defined a b → reach names a b ≡ true
+    reach_reported a b (Reaches.mentions {expression = e} is h) = reach_more names a b (step_reported a b e is h)
+    reach_reported a b (Reaches.through {middle = m} p q) = reach_through names m a b (leads_listed m b q) (reach_reported a m p) (reach_reported m b q)
 
     -- a name reaches another, or it does not
     pub reaches_or_not : (a b : List ℕ) → Reaches defined a b ⊎ (Reaches defined a b → ⊥)
-    reaches_or_not a b = ⊎_elim (λ e. inl (reach_right names a b e)) (λ e. inr (λ h. both_ways (reach names a b) e (reach_told a b h))) (cases_Bool (reach names a b))
+    reaches_or_not a b = ⊎_elim (λ e. inl (reach_right names a b e)) (λ e. inr (λ h. both_ways (reach names a b) e (reach_reported a b h))) (cases_Bool (reach names a b))
 
     module _ (none_circular : (name : List ℕ) → Reaches defined name name → ⊥) where
       -- how many of the names do not reach this one
@@ -148,7 +148,7 @@ module _ {U : Type 0} (defined : List ℕ → Option (Meaning U)) where
       unfolding rank
       rank_falls name other e is h =
           let there = listed name e is in
-          let leads = reach_told name other (Reaches.mentions is h) in
+          let leads = reach_reported name other (Reaches.mentions is h) in
           less (λ n. not (reach names n other)) (λ n. not (reach names n name))
           (λ n not_there. not_from_false (reach names n name) (false_from_ne_true (reach names n name) (λ arrives. both_ways (reach names n other) (not-true (reach names n other) not_there) (reach_through names name n other there arrives leads))))
           names name there (not_from_true (reach names name other) leads)

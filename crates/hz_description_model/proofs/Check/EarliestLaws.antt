@@ -18,7 +18,7 @@ pub no_site : (sites : List Site) → earliest sites ≡ None → sites ≡ []
 no_site [] e = refl
 no_site (s ∷ sites) e = absurd (earlier_some s (earliest sites) e)
 
--- a site of the first form, behind sites of later ones
+-- a site of the first form, after sites of later ones
 record Least (sites : List Site) (s : Site) : Type 0 where
   before : List Site
   after : List Site
@@ -82,8 +82,8 @@ first_of_first sites s e =
     }
 
 pub earliest_law : (sites : List Site) (s : Site) → earliest sites ≡ Some s ↔ IsFirst (λ t. All (λ o. t.form ≤ o.form) sites) sites s
-earliest_law sites s = (first_of_first sites s, λ first. told first (earliest sites) refl)
+earliest_law sites s = (first_of_first sites s, λ first. reported first (earliest sites) refl)
   where
-    told : IsFirst (IsOfFirst sites) sites s → (o : Option Site) → earliest sites ≡ o → o ≡ Some s
-    told first None e = absurd (Contains-nil s (subst (λ (os : List Site). Contains os s) (no_site sites e) (within sites first.before first.after s first.parts)))
-    told first (Some t) e = ap Some (first_one (IsOfFirst sites) sites t s (first_of_first sites t e) first)
+    reported : IsFirst (IsOfFirst sites) sites s → (o : Option Site) → earliest sites ≡ o → o ≡ Some s
+    reported first None e = absurd (Contains-nil s (subst (λ (os : List Site). Contains os s) (no_site sites e) (within sites first.before first.after s first.parts)))
+    reported first (Some t) e = ap Some (first_one (IsOfFirst sites) sites t s (first_of_first sites t e) first)

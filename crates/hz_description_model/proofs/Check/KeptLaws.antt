@@ -18,9 +18,9 @@ use Rattle.std.proofs.lemmas.Simd.{map-map}
 use Rattle.std.proofs.lemmas.Slice.Eq.{bytes_eq-Decides}
 use Rattle.hz_description_model.specs.Reservations.Alternatives.{Alternative, idle, followed_by, beside, taking, Expression, alternatives_of}
 use Rattle.hz_description_model.specs.Reservations.Automata.{cut, ascending, is_of, inside, without_repeats, UnitPlace, list_in}
-use Rattle.hz_description_model.specs.Check.CheckFaults.{names_of_set, has_too_long, is_unit, is_reservable, unknown_in_expression, unknown_in_condition, is_class, names_of_bypass, has_too_many, CheckFault, unit_site, IsSound, faults_of_names, faults_of_meanings, automaton_sites, unit_sites, reservation_sites, class_sites, attribute_sites, repeated_values, past_units, differs, renumbered, renumbered_behind, sites_of}
+use Rattle.hz_description_model.specs.Check.CheckFaults.{names_of_set, has_too_long, is_unit, is_reservable, unknown_in_expression, unknown_in_condition, is_class, names_of_bypass, has_too_many, CheckFault, unit_site, IsSound, faults_of_names, faults_of_meanings, automaton_sites, unit_sites, reservation_sites, class_sites, attribute_sites, repeated_values, past_units, differs, renumbered, renumbered_after, sites_of}
 use Rattle.hz_description_model.specs.Check.CountingOrder.{reserving_class, classes_of, reservations_of, reservation_site, Reserving}
-use Rattle.hz_description_model.specs.Check.FirstTold.{Told, Standing, first_told, told_at}
+use Rattle.hz_description_model.specs.Check.FirstReported.{Reported, Standing, first_reported, reported_at}
 use Rattle.hz_description_model.specs.Reservations.NamesIn.{names_in}
 use Rattle.hz_description_model.specs.Check.CheckedParts.{statements_in, class_numbers, AutomatonParts, ClassParts, BypassParts, automaton_names, automaton_count, units_in, automaton_parts, automata_from, automata_of, lists_of, class_parts, bypass_parts, attributes_of}
 use Rattle.hz_description_model.specs.Check.CheckedShape.{IsKept}
@@ -31,7 +31,7 @@ use Rattle.hz_base_model.specs.Limits.{cycle_limit, automaton_limit, unit_limit,
 use Rattle.hz_description_model.specs.Reservations.Limits.{alternative_limit}
 use Rattle.hz_description_model.specs.Reading.Limits.{latency_limit}
 use Rattle.hz_base_model.specs.Lines.{place_of}
-use Rattle.hz_description_model.specs.Check.Places.{unit_place, places_of, statement_of, reservation_named, unit_or_reservation, meaning, IsKnown, at_name, class_names, automaton_number, automaton_numbers, place_behind, places_behind, unit_places, Known}
+use Rattle.hz_description_model.specs.Check.Places.{unit_place, places_of, statement_of, reservation_named, unit_or_reservation, meaning, IsKnown, at_name, class_names, automaton_number, automaton_numbers, place_after, places_after, unit_places, Known}
 use Rattle.hz_description_model.specs.Reservations.Inside.{inside_statement, are_inside, is_inside, unit_numbers}
 use Rattle.hz_description_model.specs.Reservations.Meanings.{Meaning, reservation, Mentions, alternatives_of_meaning, IsClosed}
 use Rattle.hz_base_model.specs.Pairs.{Pair, placed, later, grid_eq}
@@ -51,15 +51,15 @@ use Rattle.hz_description_model.proofs.Reservations.MeaningLaws.{some_assigned}
 use Rattle.hz_description_model.proofs.Reservations.MentionLaws.{listed_from_mentions}
 use Rattle.hz_description_model.proofs.Reservations.PlacedLaws.{every_alternative}
 
--- where nothing is told, no fault stands anywhere
-told_none : (fault : CheckFault) (o : Option Site) (otherwise : Option (Told CheckFault)) → told_at fault o otherwise ≡ None → (o ≡ None) × (otherwise ≡ None)
-told_none fault None otherwise e = (refl, e)
-told_none fault (Some s) otherwise e = absurd (none-some _ (sym e))
+-- where nothing is reported, no fault stands anywhere
+reported_none : (fault : CheckFault) (o : Option Site) (otherwise : Option (Reported CheckFault)) → reported_at fault o otherwise ≡ None → (o ≡ None) × (otherwise ≡ None)
+reported_none fault None otherwise e = (refl, e)
+reported_none fault (Some s) otherwise e = absurd (none-some _ (sym e))
 
-pub none_stands : (standings : List (Standing CheckFault)) → first_told standings ≡ None → All (λ s. s.sites ≡ []) standings
+pub none_stands : (standings : List (Standing CheckFault)) → first_reported standings ≡ None → All (λ s. s.sites ≡ []) standings
 none_stands [] e = All-nil (λ s. s.sites ≡ [])
 none_stands (s ∷ others) e =
-    let here = told_none s.fault (earliest s.sites) (first_told others) e in
+    let here = reported_none s.fault (earliest s.sites) (first_reported others) e in
     All-cons (λ s. s.sites ≡ []) s others (no_site s.sites here.0) (none_stands others here.1)
 
 -- a name is among names
@@ -107,7 +107,7 @@ module _ {A : Type 0} (site : A → Site) (others : List Site) where
       ))
       e
 
--- where nothing stands behind the first of items they are not too many
+-- where nothing comes after the first of items they are not too many
 not_more : {A : Type 0} (n : ℕ) (xs : List A) → drop n xs ≡ [] → length xs ≤ n
 not_more n xs e = let long = length-drop n xs in let none = ap length e in omega arith
 
@@ -211,16 +211,16 @@ agree_before before b none a there out «in» p q r s = ⊎_elim
     (and_from (not (a.number == b.number)) (is_among out a.outs) (ap not other.0) (among out a.outs p)) (among «in» a.ins q))))))
     (eqb_tells a.number b.number)
 
-agreed : (before bypasses : List BypassItem) → renumbered_behind before bypasses ≡ [] → All (λ b. (a : BypassItem) → Contains before a → Agree a b) bypasses × AllPairs Agree bypasses
+agreed : (before bypasses : List BypassItem) → renumbered_after before bypasses ≡ [] → All (λ b. (a : BypassItem) → Contains before a → Agree a b) bypasses × AllPairs Agree bypasses
 agreed before [] e = (All-nil (λ b. (a : BypassItem) → Contains before a → Agree a b), λ i j d low within. absurd (omega arith))
 agreed before (b ∷ bypasses) e =
-    let behind = before ++ b ∷ [] in
-    let here = front_empty (renumbered before b) (renumbered_behind behind bypasses) e in
-    let more = agreed behind bypasses (back_empty (renumbered before b) (renumbered_behind behind bypasses) e) in (
+    let beyond = before ++ b ∷ [] in
+    let here = front_empty (renumbered before b) (renumbered_after beyond bypasses) e in
+    let more = agreed beyond bypasses (back_empty (renumbered before b) (renumbered_after beyond bypasses) e) in (
       All-cons (λ b. (a : BypassItem) → Contains before a → Agree a b) b bypasses (agree_before before b here)
-          (All-weaker (λ c. (a : BypassItem) → Contains behind a → Agree a c) (λ c. (a : BypassItem) → Contains before a → Agree a c) (λ c h a there. h a (Contains-append_left before (b ∷ []) a there)) bypasses more.0),
+          (All-weaker (λ c. (a : BypassItem) → Contains beyond a → Agree a c) (λ c. (a : BypassItem) → Contains before a → Agree a c) (λ c h a there. h a (Contains-append_left before (b ∷ []) a there)) bypasses more.0),
       AllPairs-cons Agree b bypasses
-          (All-weaker (λ c. (a : BypassItem) → Contains behind a → Agree a c) (Agree b) (λ c h. h b (Contains-append_right before (b ∷ []) b (Contains-head b []))) bypasses more.0) more.1,
+          (All-weaker (λ c. (a : BypassItem) → Contains beyond a → Agree a c) (Agree b) (λ c h. h b (Contains-append_right before (b ∷ []) b (Contains-head b []))) bypasses more.0) more.1,
     )
 
 abbrev SameNumber : BypassParts → BypassParts → Type 0
@@ -323,7 +323,7 @@ module _ (d : Description) where
   is_in automaton u = automaton_number d u.automaton == automaton
 
   -- the number of a unit is that of the units of its automaton before it
-  pub number_of : (before : List UnitItem) (u : UnitItem) → (place_behind d before u).unit ≡ length (filter (is_in (automaton_number d u.automaton)) before)
+  pub number_of : (before : List UnitItem) (u : UnitItem) → (place_after d before u).unit ≡ length (filter (is_in (automaton_number d u.automaton)) before)
   number_of before u = sym (length-filter (λ a. a == automaton_number d u.automaton) (automaton_numbers d before)) ∙ length_kept (λ v. automaton_number d v.automaton) (λ a. a == automaton_number d u.automaton) before
 
   names_of_automata : length (automata_of d) ≡ automaton_count d
@@ -348,48 +348,48 @@ module _ (d : Description) where
       (λ _. omega arith)
       (λ _. let long = length-map d.automata (λ (a : AutomatonItem). a.name) in omega arith)
 
-  pub few_units : (automaton : ℕ) (before units : List UnitItem) → length (filter (is_in automaton) before) ≤ unit_limit → past_units units (places_behind d before units) ≡ []
+  pub few_units : (automaton : ℕ) (before units : List UnitItem) → length (filter (is_in automaton) before) ≤ unit_limit → past_units units (places_after d before units) ≡ []
       → length (filter (is_in automaton) before) + length (filter (is_in automaton) units) ≤ unit_limit
   few_units automaton before [] few free = omega arith
   few_units automaton before (u ∷ units) few free =
-      let behind = before ++ u ∷ [] in
-      let place = place_behind d before u in
+      let beyond = before ++ u ∷ [] in
+      let place = place_after d before u in
       let site : Site = record { line = u.line; form = u.form; name = u.name } in
-      let rest = past_units units (places_behind d behind units) in
-      let both : length (filter (is_in automaton) behind) ≡ length (filter (is_in automaton) before) + length (filter (is_in automaton) (u ∷ [])) = ap length (filter-append (is_in automaton) before (u ∷ [])) ∙ length-append (filter (is_in automaton) before) (filter (is_in automaton) (u ∷ [])) in
+      let rest = past_units units (places_after d beyond units) in
+      let both : length (filter (is_in automaton) beyond) ≡ length (filter (is_in automaton) before) + length (filter (is_in automaton) (u ∷ [])) = ap length (filter-append (is_in automaton) before (u ∷ [])) ∙ length-append (filter (is_in automaton) before) (filter (is_in automaton) (u ∷ [])) in
       cond_both (nat_lt place.unit unit_limit) rest (site ∷ rest) (λ (ss : List Site). ss ≡ [] → length (filter (is_in automaton) before) + length (filter (is_in automaton) (u ∷ units)) ≤ unit_limit)
       (λ low free.
       let below : place.unit < unit_limit = ltb-true place.unit unit_limit low in
-      by_unit (is_in automaton u) refl below both (λ small. few_units automaton behind units small free))
+      by_unit (is_in automaton u) refl below both (λ small. few_units automaton beyond units small free))
       (λ _ e. absurd (cc)) free
     where
-      by_unit : (b : Bool) → is_in automaton u ≡ b → (place_behind d before u).unit < unit_limit → length (filter (is_in automaton) (before ++ u ∷ [])) ≡ length (filter (is_in automaton) before) + length (cond b (u ∷ []) [])
+      by_unit : (b : Bool) → is_in automaton u ≡ b → (place_after d before u).unit < unit_limit → length (filter (is_in automaton) (before ++ u ∷ [])) ≡ length (filter (is_in automaton) before) + length (cond b (u ∷ []) [])
           → (length (filter (is_in automaton) (before ++ u ∷ [])) ≤ unit_limit → length (filter (is_in automaton) (before ++ u ∷ [])) + length (filter (is_in automaton) units) ≤ unit_limit)
           → length (filter (is_in automaton) before) + length (cond b (u ∷ filter (is_in automaton) units) (filter (is_in automaton) units)) ≤ unit_limit
-      by_unit true e below both few_behind =
+      by_unit true e below both few_after =
           let same : automaton_number d u.automaton ≡ automaton = eqb-true (automaton_number d u.automaton) automaton e in
-          let number : (place_behind d before u).unit ≡ length (filter (is_in automaton) before) = subst (λ (a : ℕ). (place_behind d before u).unit ≡ length (filter (is_in a) before)) same (number_of before u) in
-          let more : length (filter (is_in automaton) (before ++ u ∷ [])) + length (filter (is_in automaton) units) ≤ unit_limit = few_behind (omega arith) in
+          let number : (place_after d before u).unit ≡ length (filter (is_in automaton) before) = subst (λ (a : ℕ). (place_after d before u).unit ≡ length (filter (is_in a) before)) same (number_of before u) in
+          let more : length (filter (is_in automaton) (before ++ u ∷ [])) + length (filter (is_in automaton) units) ≤ unit_limit = few_after (omega arith) in
           omega arith
-      by_unit false e below both few_behind =
-          let more : length (filter (is_in automaton) (before ++ u ∷ [])) + length (filter (is_in automaton) units) ≤ unit_limit = few_behind (omega arith) in
+      by_unit false e below both few_after =
+          let more : length (filter (is_in automaton) (before ++ u ∷ [])) + length (filter (is_in automaton) units) ≤ unit_limit = few_after (omega arith) in
           omega arith
 
   abbrev Apart : UnitItem → UnitItem → Type 0
   Apart u v = u.name ≢ v.name
 
   -- each unit of the automata from a number on is of one of them
-  unit_behind : (n : ℕ) (names : List (List ℕ)) (name : List ℕ) → Contains (flat_map (λ a. a.units) (automata_from d n names)) name
+  unit_after : (n : ℕ) (names : List (List ℕ)) (name : List ℕ) → Contains (flat_map (λ a. a.units) (automata_from d n names)) name
       → (u : UnitItem) × Contains d.units u × (u.name ≡ name) × (n ≤ automaton_number d u.automaton)
-  unit_behind n [] name there = absurd (Contains-nil name there)
-  unit_behind n (first ∷ names) name there = ⊎_elim
+  unit_after n [] name there = absurd (Contains-nil name there)
+  unit_after n (first ∷ names) name there = ⊎_elim
       (λ (k : Contains (units_in d n) name).
       let found = Contains-from_map (λ (u : UnitItem). u.name) (filter (is_in n) d.units) name k in
       let kept = Contains-from_filter (is_in n) found.0 d.units found.1 in
       let same = eqb-true (automaton_number d ((found.0).automaton)) n kept.1 in
       (found.0, kept.0, found.2, omega arith))
       (λ (k : Contains (flat_map (λ a. a.units) (automata_from d (suc n) names)) name).
-      let rest = unit_behind (suc n) names name k in
+      let rest = unit_after (suc n) names name k in
       let low = rest.3 in
       (rest.0, rest.1, rest.2, omega arith))
       (Contains-append_cases (units_in d n) (flat_map (λ a. a.units) (automata_from d (suc n) names)) name there)
@@ -402,7 +402,7 @@ module _ (d : Description) where
       (λ a b there here same.
       let found = Contains-from_map (λ (u : UnitItem). u.name) (filter (is_in n) d.units) a there in
       let kept = Contains-from_filter (is_in n) found.0 d.units found.1 in
-      let rest = unit_behind (suc n) names b here in
+      let rest = unit_after (suc n) names b here in
       let one = one_item (λ (u : UnitItem). u.name) d.units found.0 rest.0 apart kept.0 rest.1 (found.2 ∙ same ∙ sym rest.2) in
       let number = eqb-true (automaton_number d ((found.0).automaton)) n kept.1 in
       let other = ap (λ (u : UnitItem). automaton_number d u.automaton) one in
@@ -410,19 +410,19 @@ module _ (d : Description) where
       omega arith)
 
   -- the place of a unit is one of its automaton
-  places_low : (before units : List UnitItem) (p : UnitPlace) → Contains (places_behind d before units) p → p.unit < length (filter (is_in p.automaton) (before ++ units))
+  places_low : (before units : List UnitItem) (p : UnitPlace) → Contains (places_after d before units) p → p.unit < length (filter (is_in p.automaton) (before ++ units))
   places_low before [] p there = absurd (Contains-nil p there)
   places_low before (u ∷ units) p there = ⊎_elim
-      (λ (same : place_behind d before u ≡ p). subst (λ (q : UnitPlace). q.unit < length (filter (is_in q.automaton) (before ++ u ∷ units))) same
+      (λ (same : place_after d before u ≡ p). subst (λ (q : UnitPlace). q.unit < length (filter (is_in q.automaton) (before ++ u ∷ units))) same
       (let a = automaton_number d u.automaton in
       let number = number_of before u in
       let here = Contains-filter (is_in a) u (eq-eqb a a refl) (u ∷ units) (Contains-head u units) in
       let some = here.1 in
       let long = ap length (filter-append (is_in a) before (u ∷ units)) ∙ length-append (filter (is_in a) before) (filter (is_in a) (u ∷ units)) in
       omega (arith, number, some, long)))
-      (λ (k : Contains (places_behind d (before ++ u ∷ []) units) p).
+      (λ (k : Contains (places_after d (before ++ u ∷ []) units) p).
       subst (λ (us : List UnitItem). p.unit < length (filter (is_in p.automaton) us)) (append_assoc before (u ∷ []) units) (places_low (before ++ u ∷ []) units p k))
-      (Contains-cons_cases (place_behind d before u) p (places_behind d (before ++ u ∷ []) units) there)
+      (Contains-cons_cases (place_after d before u) p (places_after d (before ++ u ∷ []) units) there)
 
   abbrev InPlace : UnitPlace → Type 0
   InPlace p = p.unit < length (units_in d p.automaton)
@@ -507,7 +507,7 @@ module _ (d : Description) where
   abbrev AreGrids : List (List (List (Pair ℕ))) → Type 0
   AreGrids lists = (n : ℕ) (a : AutomatonParts) → slice_get (automata_of d) n ≡ Some a → IsListOf (get_or lists n []) a
 
-  length_places : (before units : List UnitItem) → length (places_behind d before units) ≡ length units
+  length_places : (before units : List UnitItem) → length (places_after d before units) ≡ length units
   length_places before [] = refl
   length_places before (u ∷ units) = ap suc (length_places (before ++ u ∷ []) units)
 
@@ -527,7 +527,7 @@ module _ (d : Description) where
       (cases_Bool (is_reservable d name)))
 
   -- no two reservations have one name, and no two classes
-  pub names_apart : first_told (faults_of_names d) ≡ None → AllPairs (λ a b. a ≢ b) (map (λ (r : ReservationItem). r.name) d.reservations) × AllPairs (λ a b. a ≢ b) (map (λ (s : Reserving). s.site.name) (classes_of d))
+  pub names_apart : first_reported (faults_of_names d) ≡ None → AllPairs (λ a b. a ≢ b) (map (λ (r : ReservationItem). r.name) d.reservations) × AllPairs (λ a b. a ≢ b) (map (λ (s : Reserving). s.site.name) (classes_of d))
   names_apart free =
       let none = none_stands (faults_of_names d) free 0 (record { fault = CheckFault.twice_defined; sites = [] }) (omega arith) in
       let empty = five_empty (repeated [] [] (automaton_sites d)) (repeated (reservation_sites d) [] (unit_sites d)) (repeated (unit_sites d) [] (reservation_sites d)) (repeated [] [] (class_sites d)) (repeated [] [] (attribute_sites d)) (flat_map repeated_values d.attributes) none in (

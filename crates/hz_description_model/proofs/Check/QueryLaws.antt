@@ -1,4 +1,4 @@
--- Which query unit is told under `ndfa`, and that there is none in a description without a fault.
+-- Which query unit is reported under `ndfa`, and that there is none in a description without a fault.
 use Rattle.std.proofs.Common.{◌≡◌, ℕ, suc, ◌≤◌, Bool, true, false, cond, List, [], ◌∷◌, ◌++◌, map, filter, Contains, All, Some, get_or, refl, sym, ap, ◌∙◌, subst, arith}
 use Rattle.std.specs.Prelude.{◌↔◌, ◌==◌, IsTrue, IsFalse}
 use Rattle.std.specs.List.{AllPairs}
@@ -15,7 +15,7 @@ use Rattle.hz_description_model.specs.Check.CheckedParts.{unit_items_in, places_
 use Rattle.hz_description_model.specs.Check.CheckedShape.{AskNothingUnderNdfa}
 use Rattle.hz_description_model.specs.Check.Places.{Known, automaton_number}
 use Rattle.hz_description_model.specs.Check.Sites.{Site, earlier, earliest}
-use Rattle.hz_description_model.specs.Check.ToldPlaces.{TellsFirstQuery}
+use Rattle.hz_description_model.specs.Check.ReportedPlaces.{TellsFirstQuery}
 use Rattle.hz_description_model.proofs.Check.KeptLaws.{none_stands}
 
 -- of sites in order the first is the earliest
@@ -51,8 +51,8 @@ module _ (d : Description) where
   abbrev IsQuery : UnitItem → Type 0
   IsQuery u = IsTrue u.query
 
-  abbrev queries_told : Bool → List Site
-  queries_told b = cond b (map unit_site (query_units d)) []
+  abbrev queries_reported : Bool → List Site
+  queries_reported b = cond b (map unit_site (query_units d)) []
 
   module _ (formed : IsCheckable d) where
     ordered : AllPairs (λ (a b : Site). a.form ≤ b.form) (map unit_site (query_units d))
@@ -64,17 +64,17 @@ module _ (d : Description) where
             (All-map (λ (b : Site). u.form ≤ b.form) unit_site us (AllPairs-head (λ (a b : UnitItem). a.form ≤ b.form) u us h))
             (sites_ordered us (AllPairs-tail (λ (a b : UnitItem). a.form ≤ b.form) u us h))
 
-    first_told_of : (s : Site) (us : List UnitItem) → query_units d ≡ us → earliest (map unit_site us) ≡ Some s → (u : UnitItem) × IsFirst IsQuery d.units u × (s ≡ unit_site u)
-    first_told_of s [] is e = absurd (none-some s e)
-    first_told_of s (u ∷ us) is e =
+    first_reported_of : (s : Site) (us : List UnitItem) → query_units d ≡ us → earliest (map unit_site us) ≡ Some s → (u : UnitItem) × IsFirst IsQuery d.units u × (s ≡ unit_site u)
+    first_reported_of s [] is e = absurd (none-some s e)
+    first_reported_of s (u ∷ us) is e =
         let there = earliest_in_order (unit_site u) (map unit_site us) (subst (λ (us : List UnitItem). AllPairs (λ (a b : Site). a.form ≤ b.form) (map unit_site us)) is ordered) in
         (u, first_passing (λ (u : UnitItem). u.query) d.units u us is, same_Some s (unit_site u) (sym e ∙ there))
 
-    -- the first of those that are listed is told
+    -- the first of those that are listed is reported
     pub first_listed : (u : UnitItem) (us : List UnitItem) → IsTrue (d.options).ndfa → query_units d ≡ u ∷ us → earliest (queries_under_ndfa d) ≡ Some (unit_site u)
     first_listed u us stands is =
         let first = earliest_in_order (unit_site u) (map unit_site us) (subst (λ (us : List UnitItem). AllPairs (λ (a b : Site). a.form ≤ b.form) (map unit_site us)) is ordered) in
-        ap (λ b. earliest (queries_told b)) stands ∙ (ap (λ (us : List UnitItem). earliest (map unit_site us)) is ∙ first)
+        ap (λ b. earliest (queries_reported b)) stands ∙ (ap (λ (us : List UnitItem). earliest (map unit_site us)) is ∙ first)
 
     pub first_query : (s : Site) → earliest (queries_under_ndfa d) ≡ Some s ↔ TellsFirstQuery d s
     first_query s = (there, back)
@@ -82,8 +82,8 @@ module _ (d : Description) where
         there : earliest (queries_under_ndfa d) ≡ Some s → TellsFirstQuery d s
         there e = by_option ((d.options).ndfa) refl e
           where
-            by_option : (b : Bool) → (d.options).ndfa ≡ b → earliest (queries_told b) ≡ Some s → TellsFirstQuery d s
-            by_option true is e = let found = first_told_of s (query_units d) refl e in record { ndfa = is; u = found.0; first = found.1; is = found.2 }
+            by_option : (b : Bool) → (d.options).ndfa ≡ b → earliest (queries_reported b) ≡ Some s → TellsFirstQuery d s
+            by_option true is e = let found = first_reported_of s (query_units d) refl e in record { ndfa = is; u = found.0; first = found.1; is = found.2 }
             by_option false is e = absurd (none-some s e)
 
         back : TellsFirstQuery d s → earliest (queries_under_ndfa d) ≡ Some s
@@ -95,7 +95,7 @@ module _ (d : Description) where
   -- with the option there are none in a description without a fault
   module _ (known : Known) (sound : IsSound d known) where
     pub no_query : IsTrue (d.options).ndfa → query_units d ≡ []
-    no_query stands = unmade (query_units d) (ap queries_told (sym stands) ∙ none_stands (faults_of_meanings d known sound.order) sound.free 11 (record { fault = CheckFault.bypass_twice; sites = [] }) (omega arith))
+    no_query stands = unmade (query_units d) (ap queries_reported (sym stands) ∙ none_stands (faults_of_meanings d known sound.order) sound.free 11 (record { fault = CheckFault.bypass_twice; sites = [] }) (omega arith))
       where
         unmade : (us : List UnitItem) → map unit_site us ≡ [] → us ≡ []
         unmade [] e = refl

@@ -13,8 +13,8 @@ ended_outer : (inner : Open) (outer : List Open) (part value whole : Expression)
 ended_outer inner [] part value whole e h = ap Some (e ∙ h.1)
 ended_outer inner (o ∷ outer) part value whole e h = absurd (let clash = h.is in cc)
 
-ended_further : (inner : Open) (outer : List Open) (part : Expression) {behind_all behind_choice rest : List Token} {together choices sequence : List Expression} (whole value : Expression)
-    → Further plus [] together behind_all → Further bar behind_all choices behind_choice → Further comma behind_choice sequence rest
+ended_further : (inner : Open) (outer : List Open) (part : Expression) {after_all after_choice rest : List Token} {together choices sequence : List Expression} (whole value : Expression)
+    → Further plus [] together after_all → Further bar after_all choices after_choice → Further comma after_choice sequence rest
     → joined_by comma (inner.sequence ++ joined_by bar (inner.choices ++ joined_by plus (inner.together ++ part ∷ together) ∷ choices) ∷ sequence) ≡ value
     → EndsIn whole outer value rest → finish_part inner outer part ≡ Some whole
 ended_further inner outer part whole value Further.ends Further.ends Further.ends e h = ended_outer inner outer part value whole e h

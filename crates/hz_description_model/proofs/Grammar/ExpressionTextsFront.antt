@@ -27,9 +27,9 @@ meets (z ∷ a) x xs (w ∷ b) y ys e = let head : z ≡ w = cc in go (meets a x
     go (Meets.earlier mid p q) = Meets.earlier mid (cc) q
     go (Meets.later mid p q) = Meets.later mid (cc) q
 
--- a token and those behind it
-pub behind : (front : List Token) (token : Token) (rest : List Token) → (front ++ token ∷ []) ++ rest ≡ front ++ token ∷ rest
-behind front token rest = append_assoc front (token ∷ []) rest
+-- a token and those after it
+pub beyond : (front : List Token) (token : Token) (rest : List Token) → (front ++ token ∷ []) ++ rest ≡ front ++ token ∷ rest
+beyond front token rest = append_assoc front (token ∷ []) rest
 
 -- how a step counts parentheses and stars
 abbrev pub Counts : ℕ → Token → Option State → Type 0
@@ -98,8 +98,8 @@ pub step_leads : (front : List Token) (s after : State) (token : Token) → Lead
 step_leads front s after token leads e now =
     let counts = subst (λ o. Counts (length s.outer) token o) e (counts_last s.inner s.outer s.last token) in
     record {
-      to = λ rest whole h. subst (λ o. CompletesAfter o rest whole) e (forth s token rest whole (leads.to (token ∷ rest) whole (rw (behind front token rest) at h)));
-      from = λ rest whole h. rw (behind front token rest) (leads.from (token ∷ rest) whole (back s token rest whole (subst (λ o. CompletesAfter o rest whole) (sym e) h)));
+      to = λ rest whole h. subst (λ o. CompletesAfter o rest whole) e (forth s token rest whole (leads.to (token ∷ rest) whole (rw (beyond front token rest) at h)));
+      from = λ rest whole h. rw (beyond front token rest) (leads.from (token ∷ rest) whole (back s token rest whole (subst (λ o. CompletesAfter o rest whole) (sym e) h)));
       deep = fold_push depth_after 0 front token ∙ (ap (λ n. depth_after n token) leads.deep ∙ counts.0);
       starred = fold_push (λ _ t. is_star t) false front token ∙ counts.1;
       limits = push_limits front token leads.limits now;
@@ -113,13 +113,13 @@ leads_sound front s leads = let e = can_end s in record { begins = (e.tokens, e.
 -- a token that is taken continues an expression, and one that is not does not
 pub taken_begins : (front : List Token) (s after : State) (token : Token) → Leads front s → step s token ≡ Some after → Begins (front ++ token ∷ [])
 taken_begins front s after token leads e = let c = can_end after in
-    (c.tokens, c.whole, rw (behind front token c.tokens) (leads.from (token ∷ c.tokens) c.whole (back s token c.tokens c.whole (subst (λ o. CompletesAfter o c.tokens c.whole) (sym e) c.complete))))
+    (c.tokens, c.whole, rw (beyond front token c.tokens) (leads.from (token ∷ c.tokens) c.whole (back s token c.tokens c.whole (subst (λ o. CompletesAfter o c.tokens c.whole) (sym e) c.complete))))
 
 pub begins_taken : (front : List Token) (s : State) (token : Token) (rest : List Token) (whole : Expression) → Leads front s → IsWhole (front ++ token ∷ rest) whole → CompletesAfter (step s token) rest whole
 begins_taken front s token rest whole leads h = forth s token rest whole (leads.to (token ∷ rest) whole h)
 
 pub refused_begins : (front : List Token) (s : State) (token : Token) → Leads front s → step s token ≡ None → Begins (front ++ token ∷ []) → ⊥
-refused_begins front s token leads e b = subst (λ o. CompletesAfter o b.0 b.1) e (begins_taken front s token b.0 b.1 leads (rw (behind front token b.0) at b.2))
+refused_begins front s token leads e b = subst (λ o. CompletesAfter o b.0 b.1) e (begins_taken front s token b.0 b.1 leads (rw (beyond front token b.0) at b.2))
 
 -- a token that is taken leads on
 pub take_leads : (front : List Token) (s after : State) (token : Token) → Leads front s → take s token ≡ Ok after → Leads (front ++ token ∷ []) after

@@ -8,12 +8,12 @@ use Rattle.hz_description_model.specs.Grammar.ExpressionSteps.{take, judged, Sta
 use Rattle.hz_description_model.proofs.Grammar.ExpressionTextsRest.{CompletesAfter}
 use Rattle.hz_description_model.proofs.Grammar.ExpressionTextsEnd.{ended, finished}
 use Rattle.hz_description_model.proofs.Grammar.ExpressionTextsFormed.{formed_finish}
-use Rattle.hz_description_model.proofs.Grammar.ExpressionTextsFront.{behind, limit_held, Leads, start_leads, step_leads, leads_sound, taken_begins, begins_taken, refused_begins}
+use Rattle.hz_description_model.proofs.Grammar.ExpressionTextsFront.{beyond, limit_held, Leads, start_leads, step_leads, leads_sound, taken_begins, begins_taken, refused_begins}
 
 abbrev pub Outcome : Type 0
 Outcome = Result Expression (ExpressionFault × ℕ)
 
--- what comes of a token: a fault, or what comes of those behind it
+-- what comes of a token: a fault, or what comes of those after it
 abbrev pub outcome_at : Token → Option State → Option ExpressionFault → (State → Outcome) → Outcome
 outcome_at token None fault on = Err (unexpected, place token)
 outcome_at token (Some s) (Some fault) on = Err (fault, place token)
@@ -25,31 +25,31 @@ outcome_end size [] value = Err (no_token, 0)
 outcome_end size (token ∷ front) None = Err (unexpected, size)
 outcome_end size (token ∷ front) (Some value) = Ok value
 
--- what comes of tokens behind a front
+-- what comes of tokens after a front
 abbrev pub outcome : ℕ → State → List Token → List Token → Outcome
 outcome size s front [] = outcome_end size front (finish s)
 outcome size s front (token ∷ rest) = outcome_at token (step s token) (limit_fault front token) (λ after. outcome size after (front ++ token ∷ []) rest)
 
--- a front that leads somewhere, behind which the outcome is that of the whole
+-- a front that leads somewhere, after which the outcome is that of the whole
 record Walked (size : ℕ) (s : State) (front more rest : List Token) : Type 0 where
   state : State
   leads : Leads (front ++ more) state
   same : outcome size s front (more ++ rest) ≡ outcome size state (front ++ more) rest
 
-walk_on : (size : ℕ) (s : State) (front : List Token) (token : Token) (more rest behind_all : List Token) (whole : Expression) → Leads front s → limit_fault front token ≡ None
+walk_on : (size : ℕ) (s : State) (front : List Token) (token : Token) (more rest after_all : List Token) (whole : Expression) → Leads front s → limit_fault front token ≡ None
     → ((after : State) → Leads (front ++ token ∷ []) after → Walked size after (front ++ token ∷ []) more rest)
-    → (after : Option State) → step s token ≡ after → CompletesAfter after behind_all whole → Walked size s front (token ∷ more) rest
-walk_on size s front token more rest behind_all whole leads now on None e h = absurd h
-walk_on size s front token more rest behind_all whole leads now on (Some after) e h =
+    → (after : Option State) → step s token ≡ after → CompletesAfter after after_all whole → Walked size s front (token ∷ more) rest
+walk_on size s front token more rest after_all whole leads now on None e h = absurd h
+walk_on size s front token more rest after_all whole leads now on (Some after) e h =
     let w = on after (step_leads front s after token leads e now) in
-    record { state = w.state; leads = rw (behind front token more) at w.leads; same = rw (e, now) (w.same ∙ ap (λ f. outcome size w.state f rest) (behind front token more)) }
+    record { state = w.state; leads = rw (beyond front token more) at w.leads; same = rw (e, now) (w.same ∙ ap (λ f. outcome size w.state f rest) (beyond front token more)) }
 
 walk : (size : ℕ) (s : State) (front more rest : List Token) → Leads front s → IsSound (front ++ more) → Walked size s front more rest
 walk size s front [] rest leads sound = record { state = s; leads = rw (append-nil front) leads; same = rw (append-nil front) refl }
 walk size s front (token ∷ more) rest leads sound =
     let b = sound.begins in
     walk_on size s front token more rest (more ++ b.0) b.1 leads (sound.limits front token more refl)
-    (λ after now. walk size after (front ++ token ∷ []) more rest now (rw (behind front token more) sound))
+    (λ after now. walk size after (front ++ token ∷ []) more rest now (rw (beyond front token more) sound))
     (step s token) refl (begins_taken front s token (more ++ b.0) b.1 leads (rw append_assoc at b.2))
 
 -- the outcome of a text
@@ -177,7 +177,7 @@ decided_at text front rest token s e leads on (Some after) f None now = on after
 
 decided : (text : List ℕ) (front rest : List Token) (s : State) → tokens text ≡ front ++ rest → Leads front s → Decided text
 decided text front [] s e leads = decided_end text front s (e ∙ append-nil front) leads (finish s) refl
-decided text front (token ∷ rest) s e leads = decided_at text front rest token s e leads (λ after now. decided text (front ++ token ∷ []) rest after (e ∙ sym (behind front token rest)) now)
+decided text front (token ∷ rest) s e leads = decided_at text front rest token s e leads (λ after now. decided text (front ++ token ∷ []) rest after (e ∙ sym (beyond front token rest)) now)
     (step s token) refl (limit_fault front token) refl
 
 -- Every text has an expression or a fault.

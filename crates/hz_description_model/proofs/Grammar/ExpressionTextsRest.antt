@@ -1,4 +1,4 @@
--- What is left to read, behind what is held: how it ends in an expression, token by token in both directions.
+-- What is left to read, after what is held: how it ends in an expression, token by token in both directions.
 use Rattle.std.proofs.Common.{◌≡◌, ℕ, ◌++◌, List, [], ◌∷◌, refl, sym, subst, Option, Some, None, append_assoc}
 use Rattle.std.specs.Option.{option_map}
 use Rattle.hz_description_model.specs.Reservations.Alternatives.{Expression, repeat}
@@ -7,24 +7,24 @@ use Rattle.hz_description_model.specs.Grammar.ExpressionTexts as grammar
 use Rattle.hz_description_model.specs.Grammar.ExpressionSteps.{Open, unopened, Last, nothing_yet, element, starred, repeated, State, sequence_with, before, step_first, step_part, step_element, step_star, step}
 use Rattle.hz_base_model.specs.Lines.{number_of}
 
--- behind an element: nothing, or `*` and a number
+-- after an element: nothing, or `*` and a number
 pub data Repeat : Expression → List Token → Expression → List Token → Type 0 where
   once : {value : Expression} {rest : List Token} → Repeat value rest value rest
   times : {value : Expression} {at last number : ℕ} {bytes : List ℕ} {rest : List Token} → number_of bytes ≡ Some number → Repeat value (star at ∷ word last bytes ∷ rest) (repeat value number) rest
 
--- behind a part: further parts up to the end of its parentheses, and the value of all in them
+-- after a part: further parts up to the end of its parentheses, and the value of all in them
 pub record Encloses (o : Open) (part : Expression) (tokens : List Token) (value : Expression) (rest : List Token) : Type 0 where
   pub together : List Expression
   pub choices : List Expression
   pub sequence : List Expression
-  pub behind_all : List Token
-  pub behind_choice : List Token
-  pub is_all : Further plus tokens together behind_all
-  pub is_choice : Further bar behind_all choices behind_choice
-  pub is_sequence : Further comma behind_choice sequence rest
+  pub after_all : List Token
+  pub after_choice : List Token
+  pub is_all : Further plus tokens together after_all
+  pub is_choice : Further bar after_all choices after_choice
+  pub is_sequence : Further comma after_choice sequence rest
   pub is : joined_by comma (o.sequence ++ joined_by bar (o.choices ++ joined_by plus (o.together ++ part ∷ together) ∷ choices) ∷ sequence) ≡ value
 
--- what ends behind a part, an element, `*` or where an element is wanted, if what ends behind the parentheses is known
+-- what ends after a part, an element, `*` or where an element is wanted, if what ends after the parentheses is known
 pub record PartEnds (o : Open) (Ends : Expression → List Token → Type 0) (part : Expression) (tokens : List Token) : Type 0 where
   pub value : Expression
   pub rest : List Token
@@ -52,7 +52,7 @@ pub record FirstEnds (o : Open) (Ends : Expression → List Token → Type 0) (t
   pub spells : Spells grammar.repeated tokens part left
   pub ends : PartEnds o Ends part left
 
--- behind the innermost parentheses: nothing is left, or they are closed and those around them end
+-- after the innermost parentheses: nothing is left, or they are closed and those around them end
 pub record Closes (o : Open) (Ends : Expression → List Token → Type 0) (value : Expression) (tokens : List Token) : Type 0 where
   pub at : ℕ
   pub left : List Token
@@ -77,15 +77,15 @@ abbrev pub CompletesAfter : Option State → List Token → Expression → Type 
 CompletesAfter None tokens whole = ⊥
 CompletesAfter (Some s) tokens whole = Completes s tokens whole
 
-enclosing : {o : Open} {part value : Expression} {tokens behind_all behind_choice rest : List Token} {together choices sequence : List Expression}
-    → Further plus tokens together behind_all → Further bar behind_all choices behind_choice → Further comma behind_choice sequence rest
+enclosing : {o : Open} {part value : Expression} {tokens after_all after_choice rest : List Token} {together choices sequence : List Expression}
+    → Further plus tokens together after_all → Further bar after_all choices after_choice → Further comma after_choice sequence rest
     → joined_by comma (o.sequence ++ joined_by bar (o.choices ++ joined_by plus (o.together ++ part ∷ together) ∷ choices) ∷ sequence) ≡ value → Encloses o part tokens value rest
-enclosing {behind_all = behind_all} {behind_choice} {together = together} {choices} {sequence} all choice several e = record {
+enclosing {after_all = after_all} {after_choice} {together = together} {choices} {sequence} all choice several e = record {
   together = together;
   choices = choices;
   sequence = sequence;
-  behind_all = behind_all;
-  behind_choice = behind_choice;
+  after_all = after_all;
+  after_choice = after_choice;
   is_all = all;
   is_choice = choice;
   is_sequence = several;
@@ -115,11 +115,11 @@ repeated_is : {tokens left rest : List Token} {value part : Expression} → Spel
 repeated_is spells Repeat.once = Spells.once spells
 repeated_is spells (Repeat.times e) = Spells.times spells e
 
--- a part with nothing of its parentheses behind it
+-- a part with nothing of its parentheses after it
 pub alone : (o : Open) (part : Expression) (tokens : List Token) → Encloses o part tokens (sequence_with o part) tokens
 alone o part tokens = enclosing Further.ends Further.ends Further.ends refl
 
--- Backwards: what completes the state behind a token completes, with the token, the state before it.
+-- Backwards: what completes the state after a token completes, with the token, the state before it.
 back_first : (inner : Open) (outer : List Open) (token : Token) (tokens : List Token) (whole : Expression) → CompletesAfter (step_first inner outer token) tokens whole
     → FirstEnds inner (EndsIn whole outer) (token ∷ tokens)
 back_first inner outer (word at bytes) tokens whole h = record { part = h.part; left = h.left; spells = repeated_is Spells.name h.repeats; ends = h.ends }
@@ -153,7 +153,7 @@ back_element inner outer value (mark at kind) tokens whole h = record { part = v
 back_element inner outer value (closes at) tokens whole h = record { part = value; left = closes at ∷ tokens; repeats = Repeat.once; ends = back_part inner outer value (closes at) tokens whole h }
 back_element inner outer value token tokens whole h = absurd h
 
--- the state behind the number of a repeat
+-- the state after the number of a repeat
 abbrev pub numbered : Open → List Open → Expression → ℕ → State
 numbered inner outer value number = record { inner = inner; outer = outer; last = repeated (repeat value number) }
 
@@ -177,7 +177,7 @@ back_last inner outer (repeated value) token tokens whole h = back_part inner ou
 pub back : (s : State) (token : Token) (tokens : List Token) (whole : Expression) → CompletesAfter (step s token) tokens whole → Completes s (token ∷ tokens) whole
 back s token tokens whole h = back_last s.inner s.outer s.last token tokens whole h
 
--- Forwards: what completes a state begins with a token that it takes, and goes on behind it.
+-- Forwards: what completes a state begins with a token that it takes, and goes on after it.
 forth_element_first : (inner : Open) (outer : List Open) {token : Token} {tokens left : List Token} {value : Expression} (whole : Expression) → Spells grammar.element (token ∷ tokens) value left
     → ElementEnds inner (EndsIn whole outer) value left → CompletesAfter (step_first inner outer token) tokens whole
 forth_element_first inner outer whole Spells.name h = h
@@ -206,8 +206,8 @@ closed_outer inner (o ∷ outer) part token tokens whole value e h =
     let ends = subst (λ v. ElementEnds o (EndsIn whole outer) v h.left) (sym e) h.ends in
     subst (λ t. CompletesAfter (step_part inner (o ∷ outer) part t) tokens whole) token_is (subst (λ ts. ElementEnds o (EndsIn whole outer) (sequence_with inner part) ts) left_is ends)
 
-forth_further : (inner : Open) (outer : List Open) (part : Expression) {token : Token} {tokens behind_all behind_choice rest : List Token} {together choices sequence : List Expression} (whole value : Expression)
-    → Further plus (token ∷ tokens) together behind_all → Further bar behind_all choices behind_choice → Further comma behind_choice sequence rest
+forth_further : (inner : Open) (outer : List Open) (part : Expression) {token : Token} {tokens after_all after_choice rest : List Token} {together choices sequence : List Expression} (whole value : Expression)
+    → Further plus (token ∷ tokens) together after_all → Further bar after_all choices after_choice → Further comma after_choice sequence rest
     → joined_by comma (inner.sequence ++ joined_by bar (inner.choices ++ joined_by plus (inner.together ++ part ∷ together) ∷ choices) ∷ sequence) ≡ value
     → EndsIn whole outer value rest → CompletesAfter (step_part inner outer part token) tokens whole
 forth_further inner outer part whole value (Further.next spells all) choice several e h = first_ends spells (ending (enclosing all choice several (rw append_assoc e)) h)
@@ -219,15 +219,15 @@ forth_part : (inner : Open) (outer : List Open) (part : Expression) (token : Tok
     → CompletesAfter (step_part inner outer part token) tokens whole
 forth_part inner outer part token tokens whole h = let e = h.encloses in forth_further inner outer part whole h.value e.is_all e.is_choice e.is_sequence e.is h.ends
 
-behind_element : (inner : Open) (outer : List Open) (value : Expression) (token : Token) (tokens : List Token) (whole : Expression) → CompletesAfter (step_part inner outer value token) tokens whole
+after_element : (inner : Open) (outer : List Open) (value : Expression) (token : Token) (tokens : List Token) (whole : Expression) → CompletesAfter (step_part inner outer value token) tokens whole
     → CompletesAfter (step_element inner outer value token) tokens whole
-behind_element inner outer value (mark at kind) tokens whole h = h
-behind_element inner outer value (closes at) tokens whole h = h
-behind_element inner outer value token tokens whole h = absurd h
+after_element inner outer value (mark at kind) tokens whole h = h
+after_element inner outer value (closes at) tokens whole h = h
+after_element inner outer value token tokens whole h = absurd h
 
 forth_repeat : (inner : Open) (outer : List Open) {token : Token} {tokens left : List Token} {value part : Expression} (whole : Expression) → Repeat value (token ∷ tokens) part left
     → PartEnds inner (EndsIn whole outer) part left → CompletesAfter (step_element inner outer value token) tokens whole
-forth_repeat inner outer {token} {tokens} {value = value} whole Repeat.once h = behind_element inner outer value token tokens whole (forth_part inner outer value token tokens whole h)
+forth_repeat inner outer {token} {tokens} {value = value} whole Repeat.once h = after_element inner outer value token tokens whole (forth_part inner outer value token tokens whole h)
 forth_repeat inner outer whole (Repeat.times {last = last} {number} {bytes} {rest} e) h = record { at = last; number = number; bytes = bytes; left = rest; is = refl; is_number = e; ends = h }
 
 forth_star : (inner : Open) (outer : List Open) (value : Expression) (token : Token) (tokens : List Token) (whole : Expression) → StarEnds inner (EndsIn whole outer) value (token ∷ tokens)

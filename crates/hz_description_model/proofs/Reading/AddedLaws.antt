@@ -1,11 +1,11 @@
--- Each list of a description that is read has what the forms add, and a fault stands behind a front that is read.
+-- Each list of a description that is read has what the forms add, and a fault comes after a front that is read.
 use Rattle.std.proofs.Common.{◌≡◌, ℕ, ◌+◌, List, [], ◌∷◌, ◌++◌, Result, Ok, Err, refl, sym, ap, ◌∙◌, subst, arith, append_assoc}
 use Rattle.std.proofs.lemmas.List.{append-nil}
 use Rattle.std.specs.List.{flat_map}
 use Rattle.hz_base_model.specs.Forms.Trees.{Tree, Trees, none, more, line_of, joined}
 use Rattle.hz_description_model.specs.Reading.Descriptions.{Description, no_items}
 use Rattle.hz_description_model.specs.Reading.DescriptionForms.{DescriptionFault, Said, Addition, automata, units, reservation, class, bypass, set, options, attribute, and_then, at_line, form_says, forms_say, form_count, with_addition, Reads, FaultAt}
-use Rattle.hz_description_model.specs.Reading.AddedItems.{Add, nothing, adds, added_automata, added_units, added_reservations, added_classes, added_bypasses, added_sets, added_attributes, HasItems, StandsBehind}
+use Rattle.hz_description_model.specs.Reading.AddedItems.{Add, nothing, adds, added_automata, added_units, added_reservations, added_classes, added_bypasses, added_sets, added_attributes, HasItems, StandsAfter}
 use Rattle.hz_description_model.proofs.Reading.DescriptionFormed.{then_ok}
 
 pub line_ok : {A : Type 0} (line : ℕ) (r : Result A DescriptionFault) (x : A) → at_line line r ≡ Ok x → r ≡ Ok x
@@ -137,7 +137,7 @@ items_added forms d r =
 -- Where a fault stands.
 
 -- a front that says a description, the wrong form, and the rest
-record Behind (read : List ℕ → Said) (n : ℕ) (d : Description) (forms : Trees) (w : DescriptionFault × ℕ) : Type 0 where
+record Beyond (read : List ℕ → Said) (n : ℕ) (d : Description) (forms : Trees) (w : DescriptionFault × ℕ) : Type 0 where
   front : Trees
   form : Tree
   rest : Trees
@@ -151,11 +151,11 @@ said_line : {A B : Type 0} (line : ℕ) (r : Result A DescriptionFault) (x : A) 
 said_line line (Ok y) x next e = let same : y ≡ x = cc in ap next same
 said_line line (Err f) x next e = absurd (cc)
 
-fault_behind : (read : List ℕ → Said) (n : ℕ) (d : Description) (forms : Trees) (w : DescriptionFault × ℕ) → forms_say read n d forms ≡ Err w → Behind read n d forms w
-fault_behind read n d none w h = absurd (cc)
-fault_behind read n d (more first others) w h = go (λ a. fault_behind read (n + 1) (with_addition d a) others w) (form_says read n first) refl
+fault_after : (read : List ℕ → Said) (n : ℕ) (d : Description) (forms : Trees) (w : DescriptionFault × ℕ) → forms_say read n d forms ≡ Err w → Beyond read n d forms w
+fault_after read n d none w h = absurd (cc)
+fault_after read n d (more first others) w h = go (λ a. fault_after read (n + 1) (with_addition d a) others w) (form_says read n first) refl
   where
-    go : ((a : Addition) → forms_say read (n + 1) (with_addition d a) others ≡ Err w → Behind read (n + 1) (with_addition d a) others w) → (r : Result Addition DescriptionFault) → form_says read n first ≡ r → Behind read n d (more first others) w
+    go : ((a : Addition) → forms_say read (n + 1) (with_addition d a) others ≡ Err w → Beyond read (n + 1) (with_addition d a) others w) → (r : Result Addition DescriptionFault) → form_says read n first ≡ r → Beyond read n d (more first others) w
     go later (Ok a) e =
         let b = later a (sym (said_line (line_of first) (form_says read n first) a (λ x. forms_say read (n + 1) (with_addition d x) others) e) ∙ h) in
         let count : (n + 1) + form_count b.front ≡ n + (form_count b.front + 1) = omega arith in
@@ -184,9 +184,9 @@ fault_behind read n d (more first others) w h = go (λ a. fault_behind read (n +
           there = sym (ap (λ x. x.1) same);
         }
 
-pub stands_behind : (forms : Trees) (fault : DescriptionFault) (line : ℕ) → FaultAt forms fault line → StandsBehind forms fault line
-stands_behind forms fault line f =
-    let b = fault_behind f.read 0 no_items forms (fault, line) f.says in
+pub stands_after : (forms : Trees) (fault : DescriptionFault) (line : ℕ) → FaultAt forms fault line → StandsAfter forms fault line
+stands_after forms fault line f =
+    let b = fault_after f.read 0 no_items forms (fault, line) f.says in
     let count : 0 + form_count b.front ≡ form_count b.front = omega arith in
     record {
       front = b.front;
@@ -199,23 +199,23 @@ stands_behind forms fault line f =
       there = b.there;
     }
 
--- forms behind a front that says a description
-behind_front : (read : List ℕ → Said) (n : ℕ) (d e : Description) (front after : Trees) → forms_say read n d front ≡ Ok e → forms_say read n d (joined front after) ≡ forms_say read (n + form_count front) e after
-behind_front read n d e none after h =
+-- forms after a front that says a description
+after_front : (read : List ℕ → Said) (n : ℕ) (d e : Description) (front after : Trees) → forms_say read n d front ≡ Ok e → forms_say read n d (joined front after) ≡ forms_say read (n + form_count front) e after
+after_front read n d e none after h =
     let same : d ≡ e = cc in
     let count : n ≡ n + 0 = omega arith in
     ap (λ m. forms_say read m d after) count ∙ ap (λ x. forms_say read (n + 0) x after) same
-behind_front read n d e (more first others) after h =
+after_front read n d e (more first others) after h =
     let (a, is, rest) = then_ok (at_line (line_of first) (form_says read n first)) _ e h in
     let says = line_ok (line_of first) (form_says read n first) a is in
     let count : (n + 1) + form_count others ≡ n + (form_count others + 1) = omega arith in
     said_line (line_of first) (form_says read n first) a (λ x. forms_say read (n + 1) (with_addition d x) (joined others after)) says
-    ∙ (behind_front read (n + 1) (with_addition d a) e others after rest ∙ ap (λ m. forms_say read m e after) count)
+    ∙ (after_front read (n + 1) (with_addition d a) e others after rest ∙ ap (λ m. forms_say read m e after) count)
 
 wrong_first : (read : List ℕ → Said) (n : ℕ) (e : Description) (form : Tree) (rest : Trees) (fault : DescriptionFault) → form_says read n form ≡ Err fault → forms_say read n e (more form rest) ≡ Err (fault, line_of form)
 wrong_first read n e form rest fault h = ap (λ r. and_then (at_line (line_of form) r) (λ x. forms_say read (n + 1) (with_addition e x) rest)) h
 
-pub fault_there : (forms : Trees) (fault : DescriptionFault) (line : ℕ) → StandsBehind forms fault line → FaultAt forms fault line
+pub fault_there : (forms : Trees) (fault : DescriptionFault) (line : ℕ) → StandsAfter forms fault line → FaultAt forms fault line
 fault_there forms fault line s =
     let r = s.reads in
     let count : 0 + form_count s.front ≡ form_count s.front = omega arith in
@@ -224,7 +224,7 @@ fault_there forms fault line s =
       read = r.read;
       reading = r.reading;
       says = ap (forms_say r.read 0 no_items) s.parts
-          ∙ (behind_front r.read 0 no_items s.d s.front (more s.form s.rest) r.says
+          ∙ (after_front r.read 0 no_items s.d s.front (more s.form s.rest) r.says
           ∙ (ap (λ m. forms_say r.read m s.d (more s.form s.rest)) count
           ∙ (there ∙ ap (λ l. Err (fault, l)) (sym s.there))));
     }

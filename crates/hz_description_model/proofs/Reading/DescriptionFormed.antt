@@ -18,7 +18,7 @@ use Rattle.hz_base_model.specs.Forms.Trees.{Tree, Trees, list, atom, number, non
 use Rattle.hz_description_model.specs.Reading.Descriptions.{Condition, Conditions, constant, negation, conjunction, disjunction, AutomatonItem, UnitItem, ReservationItem, ClassItem, BypassItem, SetItem, AttributeItem, Description, no_items}
 use Rattle.hz_description_model.specs.Reading.Descriptions as model
 use Rattle.hz_description_model.specs.Reading.DescriptionShape.{are_names, are_patterns, are_several, is_condition, are_conditions}
-use Rattle.hz_description_model.specs.Reading.DescriptionForms.{DescriptionFault, bad_shape, latency_limit, unknown_guard, Addition, bypass, guard_in, has_other_guard, bypass_with, bypass_of, bypass_form, and_then, shaped, kept, quoted_bytes, name_in, names_of, names_in, patterns_of, patterns_in, single_patterns, set_patterns, limited_number, string_in, fallback_in, without_blanks, behind_mark, test_behind, test_of, constant_of, constant_in, test_in, negated, several, joined, condition_in, conditions_in, Said, IsReading, expression_of, expression_in, headed}
+use Rattle.hz_description_model.specs.Reading.DescriptionForms.{DescriptionFault, bad_shape, latency_limit, unknown_guard, Addition, bypass, guard_in, has_other_guard, bypass_with, bypass_of, bypass_form, and_then, shaped, kept, quoted_bytes, name_in, names_of, names_in, patterns_of, patterns_in, single_patterns, set_patterns, limited_number, string_in, fallback_in, without_blanks, after_mark, test_after, test_of, constant_of, constant_in, test_in, negated, several, joined, condition_in, conditions_in, Said, IsReading, expression_of, expression_in, headed}
 use Rattle.hz_description_model.proofs.Grammar.ExpressionTextsLaws.{well_formed}
 use Rattle.hz_description_model.proofs.Reading.FormSizes.{first_true, second_true}
 
@@ -103,17 +103,17 @@ fallback_formed operand name h = let (parts, is, k) = then_some (headed operand)
 
 -- Conditions.
 
-test_behind_formed : (of bytes : List ℕ) (but : Bool) (test : Condition) → is_name of ≡ true → test_behind of but bytes ≡ Some test → is_condition test ≡ true
-test_behind_formed of bytes but test named h =
+test_after_formed : (of bytes : List ℕ) (but : Bool) (test : Condition) → is_name of ≡ true → test_after of but bytes ≡ Some test → is_condition test ≡ true
+test_after_formed of bytes but test named h =
     let (values, is, same) = map_some (names_of bytes) _ test h in
     rw (← same) (both_true named (list_formed bytes values is))
 
 test_of_formed : (of bytes : List ℕ) (test : Condition) → is_name of ≡ true → test_of of bytes ≡ Some test → is_condition test ≡ true
-test_of_formed of bytes test named h = go (behind_mark (without_blanks bytes)) h
+test_of_formed of bytes test named h = go (after_mark (without_blanks bytes)) h
   where
-    go : (o : Option (List ℕ)) → option_map_or (test_behind of true) o (test_behind of false bytes) ≡ Some test → is_condition test ≡ true
-    go None k = test_behind_formed of bytes false test named k
-    go (Some others) k = test_behind_formed of others true test named k
+    go : (o : Option (List ℕ)) → option_map_or (test_after of true) o (test_after of false bytes) ≡ Some test → is_condition test ≡ true
+    go None k = test_after_formed of bytes false test named k
+    go (Some others) k = test_after_formed of others true test named k
 
 test_formed : (operands : Trees) (test : Condition) → test_in operands ≡ Some test → is_condition test ≡ true
 test_formed (more of (more values none)) test h =
@@ -216,10 +216,10 @@ bypass_of_says line form (more latency (more outs (more ins none))) added h = by
 bypass_of_says line form (more latency (more outs (more ins (more guard none)))) added h = bypass_with_says line form latency outs ins (shaped (guard_in guard)) added h
 bypass_of_says line form _ added h = absurd (cc)
 
-not_told : {A E : Type 0} (b : Bool) (e : E) (r : Result A E) (y : A) → cond b (Err e) r ≡ Ok y → r ≡ Ok y
-not_told true e r y h = absurd (cc)
-not_told false e r y h = h
+not_reported : {A E : Type 0} (b : Bool) (e : E) (r : Result A E) (y : A) → cond b (Err e) r ≡ Ok y → r ≡ Ok y
+not_reported true e r y h = absurd (cc)
+not_reported false e r y h = h
 
 -- what the operands of a bypass say that is read
 pub bypass_says : (line form : ℕ) (operands : Trees) (added : Addition) → bypass_form line form operands ≡ Ok added → SaysBypass line form added
-bypass_says line form operands added h = bypass_of_says line form operands added (not_told (has_other_guard operands) unknown_guard (bypass_of line form operands) added h)
+bypass_says line form operands added h = bypass_of_says line form operands added (not_reported (has_other_guard operands) unknown_guard (bypass_of line form operands) added h)

@@ -182,7 +182,7 @@ last_form (first ∷ kinds) kind = last_form kinds kind
 form_within : (kinds : List FormKind) (n : ℕ) (of : FormKind) → IsForm kinds n of → n < length kinds
 form_within kinds n of h = slice_get_within kinds n of h
 
--- items of one number stand behind items of no greater numbers
+-- items of one number come after items of no greater numbers
 in_order : {X : Type 0} (key : X → ℕ) (n : ℕ) (xs ys : List X) → AllPairs (λ x y. key x ≤ key y) xs → All (λ x. key x ≤ n) xs → All (λ y. key y ≡ n) ys → AllPairs (λ x y. key x ≤ key y) (xs ++ ys)
 in_order key n xs [] pairs low same = rw (append-nil xs) pairs
 in_order {X} key n xs (y ∷ ys) pairs low same =
@@ -191,7 +191,7 @@ in_order {X} key n xs (y ∷ ys) pairs low same =
     let high : All (λ x. key x ≤ n) (xs ++ y ∷ []) = All-push (λ x. key x ≤ n) xs y low (omega (arith, last)) in
     subst (λ (zs : List X). AllPairs (λ x z. key x ≤ key z) zs) (append_assoc xs (y ∷ []) ys) (in_order key n (xs ++ y ∷ []) ys more high (λ k d inside. same (suc k) d (omega arith)))
 
--- units of the form n, which have one automaton, behind units of other forms
+-- units of the form n, which have one automaton, after units of other forms
 shared_more : (n : ℕ) (automaton : Option (List ℕ)) (xs ys : List UnitItem) → AllPairs SharesAutomaton xs → All (λ (x : UnitItem). x.form ≡ n → x.automaton ≡ automaton) xs → All (λ (y : UnitItem). (y.form ≡ n) × (y.automaton ≡ automaton)) ys
     → AllPairs SharesAutomaton (xs ++ ys)
 shared_more n automaton xs [] pairs before same = rw (append-nil xs) pairs
@@ -297,7 +297,7 @@ module _ (kinds : List FormKind) (kind : FormKind) where
     joins (attribute item) is = record { automata = stays.automata; units = stays.units; shared = stays.shared; reservations = stays.reservations; classes = stays.classes; bypasses = stays.bypasses; sets = stays.sets; attributes = one_more (λ i. i.form) (IsAttribute kinds) (IsAttribute after) (length kinds) attribute_stay d.attributes item p.attributes is }
     joins (options o) is = record { automata = stays.automata; units = stays.units; shared = stays.shared; reservations = stays.reservations; classes = stays.classes; bypasses = stays.bypasses; sets = stays.sets; attributes = stays.attributes }
 
--- forms that are left, behind forms of these kinds
+-- forms that are left, after forms of these kinds
 all_formed : (read : List ℕ → Said) (reading : IsReading read) (kinds : List FormKind) (d e : Description) (forms : Trees) → Formed kinds d → forms_say read (length kinds) d forms ≡ Ok e
     → (all : List FormKind) × Formed all e × (length all ≡ length kinds + form_count forms)
 all_formed read reading kinds d e none p h =

@@ -233,7 +233,7 @@ adds_options read n form o h =
     by_kind parts begins define_attr of made = absurd (other_kind (line_of form) n read define_attr parts.1 (options o) (λ e. absurd (cc)) made)
     by_kind parts begins (set_form kind) of made = absurd (other_kind (line_of form) n read (set_form kind) parts.1 (options o) (λ e. absurd (cc)) made)
 
--- One option, told by a field and its word.
+-- One option, reported by a field and its word.
 module _ (f : Options → Bool) (word : List ℕ) (no : f no_options ≡ false) (both : (a b : Options) → f (all_options a b) ≡ (f a || f b))
     (step : (o p : Options) (w : List ℕ) → with_option o w ≡ Some p → f p ≡ (f o || bytes_eq w word)) where
   in_list : (o p : Options) (words : List (List ℕ)) → with_options o words ≡ Some p → IsTrue (f p) ↔ (IsTrue (f o) ⊎ Contains words word)

@@ -12,7 +12,7 @@ pub length-each_choice : {A : Type 0} (join : A → A → A) (xs ys : List A) �
 length-each_choice join [] ys = omega arith
 length-each_choice join (x ∷ xs) ys = omega (arith, length-append (map (join x) ys) (each_choice join xs ys), length-map ys (join x), length-each_choice join xs ys)
 
--- the choice of item i and item j stands behind those of all items before i, and of all before j with i
+-- the choice of item i and item j comes after those of all items before i, and of all before j with i
 pub ordered_choices : {A : Type 0} (join : A → A → A) (xs ys : List A) (i j : ℕ) (d : A) → i < length xs → j < length ys → get_or (each_choice join xs ys) (i * length ys + j) d ≡ join (get_or xs i d) (get_or ys j d)
 ordered_choices join [] ys i j d h k = absurd (omega arith)
 ordered_choices join (x ∷ xs) ys zero j d h k =

@@ -23,14 +23,14 @@ module _ {A : Type 0} where
       let rest = numbered xs i (omega arith) in
       record { item = rest.item; is = rest.is; before = x ∷ rest.before; after = rest.after; parts = ap (λ (ys : List A). x ∷ ys) rest.parts; count = omega (arith, rest.count) }
 
-  -- the item behind a front has the front's length as its number
-  pub number_behind : (before : List A) (x : A) (after : List A) → slice_get (before ++ x ∷ after) (length before) ≡ Some x
-  number_behind [] x after = refl
-  number_behind (y ∷ before) x after = number_behind before x after
+  -- the item after a front has the front's length as its number
+  pub number_after : (before : List A) (x : A) (after : List A) → slice_get (before ++ x ∷ after) (length before) ≡ Some x
+  number_after [] x after = refl
+  number_after (y ∷ before) x after = number_after before x after
 
-  pub behind_within : (before : List A) (x : A) (after : List A) → length before < length (before ++ x ∷ after)
-  behind_within [] x after = omega arith
-  behind_within (y ∷ before) x after = let rest = behind_within before x after in omega arith
+  pub after_within : (before : List A) (x : A) (after : List A) → length before < length (before ++ x ∷ after)
+  after_within [] x after = omega arith
+  after_within (y ∷ before) x after = let rest = after_within before x after in omega arith
 
   -- an item in front
   pub in_front : (before after : List A) (j : ℕ) → j < length before → (y : A) × (slice_get (before ++ after) j ≡ Some y) × Contains before y
@@ -66,26 +66,26 @@ module _ {A : Type 0} where
     kept = ap (λ (b : Bool). cond b (z ∷ filter p rest.before) (filter p rest.before)) fails ∙ rest.kept;
   }
 
-  before_filter : (p : A → Bool) (xs : List A) (front : List A) (x : A) (behind : List A) → filter p xs ≡ front ++ x ∷ behind → LeftIn p xs x front
-  before_filter p [] [] x behind e = absurd (cc)
-  before_filter p [] (y ∷ front) x behind e = absurd (cc)
-  before_filter p (z ∷ xs) [] x behind e = cond_both (p z) (z ∷ filter p xs) (filter p xs) (λ (zs : List A). zs ≡ x ∷ behind → LeftIn p (z ∷ xs) x [])
-      (λ (passes : p z ≡ true) (e : z ∷ filter p xs ≡ x ∷ behind).
+  before_filter : (p : A → Bool) (xs : List A) (front : List A) (x : A) (beyond : List A) → filter p xs ≡ front ++ x ∷ beyond → LeftIn p xs x front
+  before_filter p [] [] x beyond e = absurd (cc)
+  before_filter p [] (y ∷ front) x beyond e = absurd (cc)
+  before_filter p (z ∷ xs) [] x beyond e = cond_both (p z) (z ∷ filter p xs) (filter p xs) (λ (zs : List A). zs ≡ x ∷ beyond → LeftIn p (z ∷ xs) x [])
+      (λ (passes : p z ≡ true) (e : z ∷ filter p xs ≡ x ∷ beyond).
       let same : z ≡ x = cc in
       record { before = []; after = xs; parts = ap (λ (y : A). y ∷ xs) same; kept = refl })
-      (λ (fails : p z ≡ false) (e : filter p xs ≡ x ∷ behind). skipped p z xs [] x fails (before_filter p xs [] x behind e)) e
-  before_filter p (z ∷ xs) (y ∷ front) x behind e = cond_both (p z) (z ∷ filter p xs) (filter p xs) (λ (zs : List A). zs ≡ y ∷ (front ++ x ∷ behind) → LeftIn p (z ∷ xs) x (y ∷ front))
-      (λ (passes : p z ≡ true) (e : z ∷ filter p xs ≡ y ∷ (front ++ x ∷ behind)).
+      (λ (fails : p z ≡ false) (e : filter p xs ≡ x ∷ beyond). skipped p z xs [] x fails (before_filter p xs [] x beyond e)) e
+  before_filter p (z ∷ xs) (y ∷ front) x beyond e = cond_both (p z) (z ∷ filter p xs) (filter p xs) (λ (zs : List A). zs ≡ y ∷ (front ++ x ∷ beyond) → LeftIn p (z ∷ xs) x (y ∷ front))
+      (λ (passes : p z ≡ true) (e : z ∷ filter p xs ≡ y ∷ (front ++ x ∷ beyond)).
       let same : z ≡ y = cc in
-      let tail : filter p xs ≡ front ++ x ∷ behind = cc in
-      let rest = before_filter p xs front x behind tail in
+      let tail : filter p xs ≡ front ++ x ∷ beyond = cc in
+      let rest = before_filter p xs front x beyond tail in
       record {
         before = z ∷ rest.before;
         after = rest.after;
         parts = ap (λ (zs : List A). z ∷ zs) rest.parts;
         kept = ap (λ (b : Bool). cond b (z ∷ filter p rest.before) (filter p rest.before)) passes ∙ (ap (λ (w : A). w ∷ filter p rest.before) same ∙ ap (λ (zs : List A). y ∷ zs) rest.kept);
       })
-      (λ (fails : p z ≡ false) (e : filter p xs ≡ y ∷ (front ++ x ∷ behind)). skipped p z xs (y ∷ front) x fails (before_filter p xs (y ∷ front) x behind e)) e
+      (λ (fails : p z ≡ false) (e : filter p xs ≡ y ∷ (front ++ x ∷ beyond)). skipped p z xs (y ∷ front) x fails (before_filter p xs (y ∷ front) x beyond e)) e
 
 -- an item of a mapped list, with those before it
 pub record MappedIn {A B : Type 0} (f : A → B) (xs : List A) (front : List B) (y : B) : Type 0 where
@@ -96,14 +96,14 @@ pub record MappedIn {A B : Type 0} (f : A → B) (xs : List A) (front : List B) 
   pub is : f item ≡ y
   pub mapped : map f before ≡ front
 
-pub before_map : {A B : Type 0} (f : A → B) (xs : List A) (front : List B) (y : B) (behind : List B) → map f xs ≡ front ++ y ∷ behind → MappedIn f xs front y
-before_map f [] [] y behind e = absurd (cc)
-before_map f [] (z ∷ front) y behind e = absurd (cc)
-before_map f (x ∷ xs) [] y behind e = record { item = x; before = []; after = xs; parts = refl; is = cc; mapped = refl }
-before_map f (x ∷ xs) (z ∷ front) y behind e =
-    let tail : map f xs ≡ front ++ y ∷ behind = cc in
+pub before_map : {A B : Type 0} (f : A → B) (xs : List A) (front : List B) (y : B) (beyond : List B) → map f xs ≡ front ++ y ∷ beyond → MappedIn f xs front y
+before_map f [] [] y beyond e = absurd (cc)
+before_map f [] (z ∷ front) y beyond e = absurd (cc)
+before_map f (x ∷ xs) [] y beyond e = record { item = x; before = []; after = xs; parts = refl; is = cc; mapped = refl }
+before_map f (x ∷ xs) (z ∷ front) y beyond e =
+    let tail : map f xs ≡ front ++ y ∷ beyond = cc in
     let head : f x ≡ z = cc in
-    let rest = before_map f xs front y behind tail in
+    let rest = before_map f xs front y beyond tail in
     record {
       item = rest.item;
       before = x ∷ rest.before;
@@ -151,16 +151,16 @@ module _ {A : Type 0} (same : A → A → Bool) (tells : (x y : A) → Decides (
       (cases_Bool (differs z x))
 
   -- each item that is left stood first where nothing stood before it but what is left before it
-  pub was_first : (xs front : List A) (x : A) (behind : List A) → without_repeats same xs ≡ front ++ x ∷ behind → KeptFirst xs front x
-  was_first [] [] x behind e = absurd (cc)
-  was_first [] (y ∷ front) x behind e = absurd (cc)
-  was_first (z ∷ xs) [] x behind e =
+  pub was_first : (xs front : List A) (x : A) (beyond : List A) → without_repeats same xs ≡ front ++ x ∷ beyond → KeptFirst xs front x
+  was_first [] [] x beyond e = absurd (cc)
+  was_first [] (y ∷ front) x beyond e = absurd (cc)
+  was_first (z ∷ xs) [] x beyond e =
       let head : z ≡ x = cc in
       record { before = []; after = xs; parts = ap (λ (y : A). y ∷ xs) head; within = λ y h. h }
-  was_first (z ∷ xs) (w ∷ front) x behind e =
+  was_first (z ∷ xs) (w ∷ front) x beyond e =
       let head : z ≡ w = cc in
-      let tail : filter (differs z) (without_repeats same xs) ≡ front ++ x ∷ behind = cc in
-      let left = before_filter (differs z) (without_repeats same xs) front x behind tail in
+      let tail : filter (differs z) (without_repeats same xs) ≡ front ++ x ∷ beyond = cc in
+      let left = before_filter (differs z) (without_repeats same xs) front x beyond tail in
       let rest = was_first xs left.before x left.after left.parts in
       let here : (y : A) → z ≡ y → Contains (w ∷ front) y = λ (y : A) (e : z ≡ y). subst (λ (v : A). Contains (v ∷ front) y) (sym e ∙ head) (Contains-head y front) in
       record {

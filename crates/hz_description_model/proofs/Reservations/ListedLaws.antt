@@ -137,16 +137,16 @@ IsWithin a = All (λ p. p.cycle < a.cycles) a.pairs
 
 pub listed_followed : (a b : Alternative UnitPlace) → IsWithin a → listed (followed_by a b) ≡ followed_by (listed a) (listed b)
 listed_followed a b within =
-    let behind = placed a.cycles (ascending b.pairs) in
-    let up = AllPairs-append Precedes (ascending a.pairs) behind (IsAscending-ascending a.pairs) (IsAscending-placed a.cycles (ascending b.pairs) (IsAscending-ascending b.pairs))
+    let beyond = placed a.cycles (ascending b.pairs) in
+    let up = AllPairs-append Precedes (ascending a.pairs) beyond (IsAscending-ascending a.pairs) (IsAscending-placed a.cycles (ascending b.pairs) (IsAscending-ascending b.pairs))
     (λ p q m n.
     let from = Contains-from_map (later a.cycles) (ascending b.pairs) q n in
     let low : p.cycle < a.cycles = All-contains (λ (x : Pair UnitPlace). x.cycle < a.cycles) a.pairs p within (Contains-from_ascending p a.pairs m) in
     let high : a.cycles + from.0.cycle ≡ q.cycle = ap (λ (x : Pair UnitPlace). x.cycle) from.2 in
     Precedes-earlier p q (omega arith)) in
     ap (λ ws. whole ws (a.cycles + b.cycles))
-    (ascending_is (a.pairs ++ placed a.cycles b.pairs) (ascending a.pairs ++ behind) up
-    (same_append (ascending a.pairs) behind a.pairs (placed a.cycles b.pairs) (same_ascending a.pairs) (same_placed a.cycles (ascending b.pairs) b.pairs (same_ascending b.pairs))))
+    (ascending_is (a.pairs ++ placed a.cycles b.pairs) (ascending a.pairs ++ beyond) up
+    (same_append (ascending a.pairs) beyond a.pairs (placed a.cycles b.pairs) (same_ascending a.pairs) (same_placed a.cycles (ascending b.pairs) b.pairs (same_ascending b.pairs))))
 
 pub listed_beside : (a b : Alternative UnitPlace) → listed (beside a b) ≡ listed (beside (listed a) (listed b))
 listed_beside a b =

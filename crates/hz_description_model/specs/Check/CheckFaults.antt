@@ -1,4 +1,4 @@
--- What can be wrong with a description that is read, and which fault is told. This profile, docs/RULES.md, 'Faults of a description'.
+-- What can be wrong with a description that is read, and which fault is reported. This profile, docs/RULES.md, 'Faults of a description'.
 use Rattle.std.specs.Prelude.{◌≡◌, ℕ, Bool, false, true, ◌&&◌, ◌||◌, ◌==◌, not, nat_lt, List, [], ◌∷◌, ◌++◌, map, filter, length, drop, All, codes, Option, Some, None, option_and_then, is_none, if◌then◌else◌}
 use Rattle.std.specs.Option.{option_map}
 use Rattle.std.specs.List.{list_any, flat_map, filter_map}
@@ -13,7 +13,7 @@ use Rattle.hz_description_model.specs.Reservations.Sets.{SetKind, exclusion}
 use Rattle.hz_description_model.specs.Reading.Descriptions.{Description, Condition, Conditions, UnitItem, ReservationItem, ClassItem, BypassItem, SetItem, AttributeItem, unguarded}
 use Rattle.hz_description_model.specs.Reading.Descriptions as condition
 use Rattle.hz_description_model.specs.Check.CountingOrder.{Reserving, reservation_site, reservations_of, classes_of, alternatives_in, IsCountingOrder, past_size}
-use Rattle.hz_description_model.specs.Check.FirstTold.{Standing, Told, first_told}
+use Rattle.hz_description_model.specs.Check.FirstReported.{Standing, Reported, first_reported}
 use Rattle.hz_description_model.specs.Check.Places.{Known, class_names, meaning, unit_place, unit_places, IsKnown}
 use Rattle.hz_description_model.specs.Check.Sites.{Site, is_among, repeated}
 use Rattle.hz_description_model.specs.Check.SplitClasses.{mixed_classes, uneven_classes}
@@ -22,7 +22,7 @@ use Rattle.hz_description_model.specs.Check.SplitClasses.{mixed_classes, uneven_
 pub data LimitName : Type 0 where
   automata units classes alternatives cycles size : LimitName
 
--- the word by which a limit is told: docs/FORMATS.md, 'Answers'
+-- the word by which a limit is reported: docs/FORMATS.md, 'Answers'
 abbrev pub limit_word : LimitName → List ℕ
 limit_word automata = codes "Automata"
 limit_word units = codes "Units"
@@ -37,7 +37,7 @@ pub data CheckFault : Type 0 where
   limit : (what : LimitName) → CheckFault
   alternation_of_two_automata alternation_of_two_lengths bypass_twice query_under_ndfa : CheckFault
 
--- the word by which a fault is told: docs/FORMATS.md, 'Answers'
+-- the word by which a fault is reported: docs/FORMATS.md, 'Answers'
 abbrev pub check_word : CheckFault → List ℕ
 check_word twice_defined = codes "TwiceDefined"
 check_word reserved_name = codes "ReservedName"
@@ -265,13 +265,13 @@ differs number out «in» b = not (b.number == number) && is_among out b.outs &&
 abbrev pub renumbered : List BypassItem → BypassItem → List Site
 renumbered before b = sites_of b.line b.form (filter (λ out. list_any (λ «in». list_any (differs b.number out «in») before) b.ins) b.outs)
 
--- the same of bypasses behind these
-abbrev pub renumbered_behind : List BypassItem → List BypassItem → List Site
-renumbered_behind before [] = []
-renumbered_behind before (b ∷ bypasses) = renumbered before b ++ renumbered_behind (before ++ b ∷ []) bypasses
+-- the same of bypasses after these
+abbrev pub renumbered_after : List BypassItem → List BypassItem → List Site
+renumbered_after before [] = []
+renumbered_after before (b ∷ bypasses) = renumbered before b ++ renumbered_after (before ++ b ∷ []) bypasses
 
 abbrev pub second_numbers : Description → List Site
-second_numbers d = renumbered_behind [] (unguarded d.bypasses)
+second_numbers d = renumbered_after [] (unguarded d.bypasses)
 
 -- Query under ndfa: a query unit is defined, and the option `ndfa` is given.
 
@@ -302,7 +302,7 @@ faults_of_classes d known = record { fault = alternation_of_two_automata; sites 
     ∷ record { fault = alternation_of_two_lengths; sites = uneven_classes d known }
     ∷ []
 
--- the faults behind that of circular reservations, in their order
+-- the faults after that of circular reservations, in their order
 abbrev pub faults_of_meanings : Description → Known → List Reserving → List (Standing CheckFault)
 faults_of_meanings d known order = record { fault = self_exclusion; sites = self_exclusions d }
     ∷ record { fault = set_across_automata; sites = sets_across_automata d }
@@ -310,20 +310,20 @@ faults_of_meanings d known order = record { fault = self_exclusion; sites = self
 
 -- The names are right: each has its alternatives, and there is a counting order.
 pub record IsUnfolded (d : Description) (known : Known) (order : List Reserving) : Type 0 where
-  pub defined : first_told (faults_of_names d) ≡ None
+  pub defined : first_reported (faults_of_names d) ≡ None
   pub right : IsKnown d known
   pub counts : IsCountingOrder d order
 
--- The fault that is told of a description, and where.
+-- The fault that is reported of a description, and where.
 pub data CheckFaultAt (d : Description) : (fault : CheckFault) (site : Site) → Type 0 where
-  of_names : {told : Told CheckFault} → first_told (faults_of_names d) ≡ Some told → CheckFaultAt d told.fault told.site
-  of_circle : {r : ReservationItem} → first_told (faults_of_names d) ≡ None → IsFirst (IsCircular d) d.reservations r
+  of_names : {reported : Reported CheckFault} → first_reported (faults_of_names d) ≡ Some reported → CheckFaultAt d reported.fault reported.site
+  of_circle : {r : ReservationItem} → first_reported (faults_of_names d) ≡ None → IsFirst (IsCircular d) d.reservations r
       → CheckFaultAt d circular_reservation (reservation_site r)
-  of_meanings : {known : Known} {order : List Reserving} {told : Told CheckFault} → IsUnfolded d known order
-      → first_told (faults_of_meanings d known order) ≡ Some told → CheckFaultAt d told.fault told.site
+  of_meanings : {known : Known} {order : List Reserving} {reported : Reported CheckFault} → IsUnfolded d known order
+      → first_reported (faults_of_meanings d known order) ≡ Some reported → CheckFaultAt d reported.fault reported.site
 
 -- The description has no fault, and its names have these alternatives.
 pub record IsSound (d : Description) (known : Known) : Type 0 where
   pub order : List Reserving
   pub unfolded : IsUnfolded d known order
-  pub free : first_told (faults_of_meanings d known order) ≡ None
+  pub free : first_reported (faults_of_meanings d known order) ≡ None

@@ -57,7 +57,7 @@ abbrev pub reservation_names : List Reserving → List (List ℕ)
 reservation_names [] = []
 reservation_names (r ∷ others) = if r.is_class then reservation_names others else r.site.name ∷ reservation_names others
 
--- The order in which they count, behind reservations of these names: directly before each come the reservations that
+-- The order in which they count, after reservations of these names: directly before each come the reservations that
 -- it names and that have not come before, from left to right, and so before each of these.
 pub data Counted (d : Description) : (before : List (List ℕ)) (items order : List Reserving) → Type 0 where
   ends : {before : List (List ℕ)} → Counted d before [] []
@@ -72,8 +72,8 @@ pub record IsCountingOrder (d : Description) (order : List Reserving) : Type 0 w
   pub merged : Merged (reservations_of d) (classes_of d) file
   pub counted : Counted d [] file order
 
--- the first of them at which the sizes together pass the limit, behind those that have this size together
+-- the first of them at which the sizes together pass the limit, after those that have this size together
 abbrev pub past_size : Known → ℕ → List Reserving → List Site
-past_size known behind [] = []
-past_size known behind (r ∷ others) =
-    if nat_lt size_limit (behind + total_size (alternatives_in known r)) then r.site ∷ [] else past_size known (behind + total_size (alternatives_in known r)) others
+past_size known beyond [] = []
+past_size known beyond (r ∷ others) =
+    if nat_lt size_limit (beyond + total_size (alternatives_in known r)) then r.site ∷ [] else past_size known (beyond + total_size (alternatives_in known r)) others

@@ -22,19 +22,19 @@ automaton_number d (Some name) = unwrap_or (place_of name (map (λ a. a.name) d.
 abbrev pub automaton_numbers : Description → List UnitItem → List ℕ
 automaton_numbers d units = map (λ u. automaton_number d u.automaton) units
 
--- the place of a unit behind those before it: its automaton, and how many of them are of it
-abbrev pub place_behind : Description → List UnitItem → UnitItem → UnitPlace
-place_behind d before u =
+-- the place of a unit after those before it: its automaton, and how many of them are of it
+abbrev pub place_after : Description → List UnitItem → UnitItem → UnitPlace
+place_after d before u =
     record { automaton = automaton_number d u.automaton; unit = count_by (λ a. a == automaton_number d u.automaton) (automaton_numbers d before) }
 
 -- the places of units, of which these stand before the first
-abbrev pub places_behind : Description → List UnitItem → List UnitItem → List UnitPlace
-places_behind d before [] = []
-places_behind d before (u ∷ units) = place_behind d before u ∷ places_behind d (before ++ u ∷ []) units
+abbrev pub places_after : Description → List UnitItem → List UnitItem → List UnitPlace
+places_after d before [] = []
+places_after d before (u ∷ units) = place_after d before u ∷ places_after d (before ++ u ∷ []) units
 
 -- the places of all units, in the order of the file
 abbrev pub unit_places : Description → List UnitPlace
-unit_places d = places_behind d [] d.units
+unit_places d = places_after d [] d.units
 
 -- the item at the first place of its name
 abbrev pub at_name : {A : Type 0} → List ℕ → List (List ℕ) → List A → Option A

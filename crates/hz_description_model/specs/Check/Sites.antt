@@ -1,4 +1,4 @@
--- Names where they stand in a file, and which of several wrong ones is told. This profile, docs/RULES.md, 'Faults of a description'.
+-- Names where they stand in a file, and which of several wrong ones is reported. This profile, docs/RULES.md, 'Faults of a description'.
 use Rattle.std.specs.Prelude.{ℕ, Bool, ◌&&◌, ◌||◌, nat_lt, nat_le, List, [], ◌∷◌, Option, Some, None, is_some, if◌then◌else◌}
 use Rattle.std.specs.List.{list_any}
 use Rattle.std.specs.Str.{bytes_eq}

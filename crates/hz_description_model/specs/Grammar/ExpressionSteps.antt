@@ -42,7 +42,7 @@ choice_with o value = joined_by bar (o.choices ++ all_with o value ∷ [])
 abbrev pub sequence_with : Open → Expression → Expression
 sequence_with o value = joined_by comma (o.sequence ++ choice_with o value ∷ [])
 
--- a part and a mark behind it
+-- a part and a mark after it
 abbrev pub before : Mark → Open → Expression → Open
 before plus o value = record { sequence = o.sequence; choices = o.choices; together = o.together ++ value ∷ [] }
 before bar o value = record { sequence = o.sequence; choices = o.choices ++ all_with o value ∷ []; together = [] }
@@ -54,23 +54,23 @@ step_first inner outer (word at bytes) = Some (record { inner = inner; outer = o
 step_first inner outer (opens at) = Some (record { inner = unopened; outer = inner ∷ outer; last = nothing_yet })
 step_first inner outer _ = None
 
--- a token behind a part
+-- a token after a part
 abbrev pub step_part : Open → List Open → Expression → Token → Option State
 step_part inner outer value (mark at kind) = Some (record { inner = before kind inner value; outer = outer; last = nothing_yet })
 step_part inner (outer ∷ others) value (closes at) = Some (record { inner = outer; outer = others; last = element (sequence_with inner value) })
 step_part inner outer value _ = None
 
--- a token behind an element
+-- a token after an element
 abbrev pub step_element : Open → List Open → Expression → Token → Option State
 step_element inner outer value (star at) = Some (record { inner = inner; outer = outer; last = starred value })
 step_element inner outer value token = step_part inner outer value token
 
--- a token behind an element and `*`
+-- a token after an element and `*`
 abbrev pub step_star : Open → List Open → Expression → Token → Option State
 step_star inner outer value (word at bytes) = option_map (λ number. record { inner = inner; outer = outer; last = repeated (repeat value number) }) (number_of bytes)
 step_star inner outer value _ = None
 
--- a token behind the last ones
+-- a token after the last ones
 abbrev pub step_last : Open → List Open → Last → Token → Option State
 step_last inner outer nothing_yet token = step_first inner outer token
 step_last inner outer (element value) token = step_element inner outer value token
@@ -81,12 +81,12 @@ step_last inner outer (repeated value) token = step_part inner outer value token
 abbrev pub step : State → Token → Option State
 step s token = step_last s.inner s.outer s.last token
 
--- the expression at the end behind a part
+-- the expression at the end after a part
 abbrev pub finish_part : Open → List Open → Expression → Option Expression
 finish_part inner [] value = Some (sequence_with inner value)
 finish_part inner (outer ∷ others) value = None
 
--- the expression at the end behind the last tokens
+-- the expression at the end after the last tokens
 abbrev pub finish_last : Open → List Open → Last → Option Expression
 finish_last inner outer (element value) = finish_part inner outer value
 finish_last inner outer (repeated value) = finish_part inner outer value

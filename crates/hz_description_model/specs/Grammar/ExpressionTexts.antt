@@ -83,7 +83,7 @@ below bar = joined plus
 below plus = repeated
 
 -- Tokens begin with the spelling of an expression, and the rest is left: a name; an expression in parentheses;
--- an element; an element, `*` and digits; a part with any number of further ones behind it.
+-- an element; an element, `*` and digits; a part with any number of further ones after it.
 mutual
   pub data Spells : (level : Level) (tokens : List Token) (value : Expression) (rest : List Token) → Type 0 where
     name : {at : ℕ} {bytes : List ℕ} {rest : List Token} → Spells element (word at bytes ∷ rest) (element_of bytes) rest
@@ -95,7 +95,7 @@ mutual
     parts : {kind : Mark} {tokens others rest : List Token} {first : Expression} {values : List Expression} → Spells (below kind) tokens first others
         → Further kind others values rest → Spells (joined kind) tokens (joined_by kind (first ∷ values)) rest
 
-  -- any number of further parts, each behind a mark of the kind
+  -- any number of further parts, each after a mark of the kind
   pub data Further : (kind : Mark) (tokens : List Token) (values : List Expression) (rest : List Token) → Type 0 where
     ends : {kind : Mark} {rest : List Token} → Further kind rest [] rest
     next : {kind : Mark} {at : ℕ} {tokens others rest : List Token} {value : Expression} {values : List Expression} → Spells (below kind) tokens value others
@@ -105,7 +105,7 @@ mutual
 abbrev pub IsWhole : List Token → Expression → Type 0
 IsWhole tokens value = Spells (joined comma) tokens value []
 
--- the tokens begin an expression: with some others behind them they are one
+-- the tokens begin an expression: with some others after them they are one
 abbrev pub Begins : List Token → Type 0
 Begins front = (rest : List Token) × (value : Expression) × IsWhole (front ++ rest) value
 
@@ -113,7 +113,7 @@ Begins front = (rest : List Token) × (value : Expression) × IsWhole (front ++ 
 pub data ExpressionFault : Type 0 where
   unexpected no_token repeat_zero too_deep number_too_large : ExpressionFault
 
--- the word by which a fault is told: docs/FORMATS.md, 'Answers'
+-- the word by which a fault is reported: docs/FORMATS.md, 'Answers'
 abbrev pub expression_word : ExpressionFault → List ℕ
 expression_word unexpected = codes "Unexpected"
 expression_word no_token = codes "Empty"
@@ -125,13 +125,13 @@ expression_word number_too_large = codes "NumberTooLarge"
 abbrev pub parentheses_limit : ℕ
 parentheses_limit = 64
 
--- how many parentheses are open behind a token
+-- how many parentheses are open after a token
 abbrev pub depth_after : ℕ → Token → ℕ
 depth_after deep (opens at) = deep + 1
 depth_after deep (closes at) = deep - 1
 depth_after deep _ = deep
 
--- how many are open behind tokens
+-- how many are open after tokens
 abbrev pub depth : List Token → ℕ
 depth front = fold depth_after 0 front
 
@@ -149,13 +149,13 @@ abbrev pub number_fault : Option ℕ → Option ExpressionFault
 number_fault None = None
 number_fault (Some number) = if number == 0 then Some repeat_zero else if nat_le number repeat_limit then None else Some number_too_large
 
--- what a token passes where so many parentheses are open, and behind a `*` or not
+-- what a token passes where so many parentheses are open, and after a `*` or not
 abbrev pub limit_past : ℕ → Bool → Token → Option ExpressionFault
 limit_past deep starred (opens at) = if nat_lt deep parentheses_limit then None else Some too_deep
 limit_past deep starred (word at bytes) = if starred then number_fault (number_of bytes) else None
 limit_past deep starred _ = None
 
--- what a token passes behind a front that it continues: the depth of parentheses, or the range of a repeat's number
+-- what a token passes after a front that it continues: the depth of parentheses, or the range of a repeat's number
 abbrev pub limit_fault : List Token → Token → Option ExpressionFault
 limit_fault front token = limit_past (depth front) (ends_in_star front) token
 

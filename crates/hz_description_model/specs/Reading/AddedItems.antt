@@ -1,5 +1,5 @@
 -- What the forms of a file add, one by one: what a description that is read has, said of each of its lists and options,
--- and where a fault stands. Laws: `items_are_what_forms_add`, `options_stand_in_forms`, `faults_stand_behind_a_front`.
+-- and where a fault stands. Laws: `items_are_what_forms_add`, `options_stand_in_forms`, `faults_stand_after_a_front`.
 use Rattle.std.specs.Prelude.{◌≡◌, ◌↔◌, ◌⊎◌, ℕ, ◌+◌, List, [], ◌∷◌, codes, Ok, Err, IsTrue}
 use Rattle.std.specs.List.{Contains, flat_map}
 use Rattle.hz_base_model.specs.Lines.{separated}
@@ -79,7 +79,7 @@ pub record HasOptions (o : Options) (forms : Trees) : Type 0 where
   pub no_comb_vect : IsTrue o.no_comb_vect ↔ HasOption forms (codes "no-comb-vect")
 
 -- The forms are a front that is read, a form with this fault and line, and a rest.
-pub record StandsBehind (forms : Trees) (fault : DescriptionFault) (line : ℕ) : Type 0 where
+pub record StandsAfter (forms : Trees) (fault : DescriptionFault) (line : ℕ) : Type 0 where
   pub front : Trees
   pub form : Tree
   pub rest : Trees

@@ -23,7 +23,7 @@ pub data DescriptionFault : Type 0 where
   unknown_form bad_shape bad_condition unknown_option latency_limit unknown_guard : DescriptionFault
   bad_expression : (fault : ExpressionFault) (at : ℕ) → DescriptionFault
 
--- the word by which a fault is told: docs/FORMATS.md, 'Answers'
+-- the word by which a fault is reported: docs/FORMATS.md, 'Answers'
 abbrev pub description_word : DescriptionFault → List ℕ
 description_word unknown_form = codes "UnknownForm"
 description_word bad_shape = codes "BadShape"
@@ -106,7 +106,7 @@ limited_number (number _ (pos n)) = if nat_le n limits.latency_limit then Ok n e
 limited_number (number _ (negsuc n)) = Err latency_limit
 limited_number _ = Err bad_shape
 
--- `"value"` behind `const_string`
+-- `"value"` after `const_string`
 abbrev pub string_in : Trees → Option (List ℕ)
 string_in (more value none) = name_in value
 string_in _ = None
@@ -122,17 +122,17 @@ abbrev pub without_blanks : List ℕ → List ℕ
 without_blanks bytes = drop (prefix_len is_ascii_whitespace bytes) bytes
 
 -- what follows a `!` at the front, if one stands there
-abbrev pub behind_mark : List ℕ → Option (List ℕ)
-behind_mark [] = None
-behind_mark (b ∷ bytes) = if b == 33 then Some bytes else None
+abbrev pub after_mark : List ℕ → Option (List ℕ)
+after_mark [] = None
+after_mark (b ∷ bytes) = if b == 33 then Some bytes else None
 
 -- the test of an attribute against the values of a list, or against all others
-abbrev pub test_behind : List ℕ → Bool → List ℕ → Option Condition
-test_behind attribute negated bytes = option_map (λ values. matches attribute values negated) (names_of bytes)
+abbrev pub test_after : List ℕ → Bool → List ℕ → Option Condition
+test_after attribute negated bytes = option_map (λ values. matches attribute values negated) (names_of bytes)
 
 -- the same, where a `!` before the list says against all others
 abbrev pub test_of : List ℕ → List ℕ → Option Condition
-test_of attribute bytes = option_map_or (test_behind attribute true) (behind_mark (without_blanks bytes)) (test_behind attribute false bytes)
+test_of attribute bytes = option_map_or (test_after attribute true) (after_mark (without_blanks bytes)) (test_after attribute false bytes)
 
 abbrev pub constant_of : Tree → Option Condition
 constant_of (number _ value) = Some (constant value)
@@ -157,7 +157,7 @@ negated _ = None
 abbrev pub several : (Conditions → Condition) → Conditions → Option Condition
 several join tests = kept (are_several tests) (join tests)
 
--- tests behind a word that joins them
+-- tests after a word that joins them
 abbrev pub joined : List ℕ → Conditions → Option Condition
 joined word tests =
     if bytes_eq word (codes "not") then negated tests
@@ -279,7 +279,7 @@ options_form _ = Err bad_shape
 abbrev pub guard_in : Tree → Option Bool
 guard_in operand = option_map (λ bytes. bytes_eq bytes (codes "store_data_bypass_p")) (quoted_bytes operand)
 
--- a string that says another guard stands behind three operands
+-- a string that says another guard comes after three operands
 abbrev pub has_other_guard : Trees → Bool
 has_other_guard (more _ (more _ (more _ (more guard _)))) = option_map_or not (guard_in guard) false
 has_other_guard _ = false
@@ -339,13 +339,13 @@ module _ (line form : ℕ) where
       and_then guard (λ guard.
       Ok (bypass (record { line = line; form = form; number = latency; outs = outs; ins = ins; guard = guard }))))))
 
-  -- a bypass by its operands, where no string behind three of them says another guard
+  -- a bypass by its operands, where no string after three of them says another guard
   abbrev pub bypass_of : Trees → Result Addition DescriptionFault
   bypass_of (more latency (more outs (more ins none))) = bypass_with latency outs ins (Ok false)
   bypass_of (more latency (more outs (more ins (more guard none)))) = bypass_with latency outs ins (shaped (guard_in guard))
   bypass_of _ = Err bad_shape
 
-  -- `(define_bypass number "outs" "ins")` and `(define_bypass number "outs" "ins" "store_data_bypass_p")`; another guard is told
+  -- `(define_bypass number "outs" "ins")` and `(define_bypass number "outs" "ins" "store_data_bypass_p")`; another guard is reported
   -- with the number of the operands, before any of them is judged
   abbrev pub bypass_form : Trees → Result Addition DescriptionFault
   bypass_form operands = if has_other_guard operands then Err unknown_guard else bypass_of operands

@@ -12,7 +12,7 @@ abbrev pub greatest_length : {U : Type 0} → List (Alternative U) → ℕ
 greatest_length [] = 0
 greatest_length (first ∷ others) = max first.cycles (greatest_length others)
 
--- How many alternatives there are and for how many cycles the longest runs, each told up to one above its limit.
+-- How many alternatives there are and for how many cycles the longest runs, each reported up to one above its limit.
 pub record Extent : Type 0 where
   pub count : ℕ
   pub longest : ℕ

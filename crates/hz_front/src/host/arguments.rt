@@ -2,7 +2,7 @@
 
 ghost use Rattle.std.specs.Prelude.{◌≡◌, ◌↔◌, [], IsNone, IfSome};
 
-use crate::host::behind::Behind;
+use crate::host::own_arguments::OwnArguments;
 use std::alloc::Global;
 use std::env;
 use std::io::ErrorKind;
@@ -20,10 +20,10 @@ fn words_without(alloc: Global, reason: ErrorKind) -> Option<Vec<String>>
     }
 }
 
-/// The words behind the program's own name. Words that are no text are taken as no words at all, and None is want of
+/// The words after the program's own name. Words that are no text are taken as no words at all, and None is want of
 /// memory.
 pub fn words<R: Env + AllocGlobal>(rt: &R) -> Option<Vec<String>> {
-    match env::args(&Behind { rt }) {
+    match env::args(&OwnArguments { rt }) {
         Ok(args) => args.collect(rt.alloc()).ok(),
         Err(error) => words_without(rt.alloc(), error.kind()),
     }

@@ -1,4 +1,4 @@
-//! The host's files and its standard output. Contracts are told nothing of what they hold.
+//! The host's files and its standard output. Contracts are reported nothing of what they hold.
 
 ghost use Rattle.std.specs.Prelude.{◌≡◌, ◌-◌, ◌^◌, ◌<◌, None};
 ghost use Rattle.std.specs.Io.{ReadsAtMost};

@@ -12,15 +12,15 @@ use Rattle.hz_base_model.proofs.Ascending.{AllPairs-append}
 use Rattle.hz_base_model.proofs.Elements.{Contains-nil, Contains-cons_cases}
 use Rattle.hz_pipeline_model.specs.Compiling.ClassColumns.{IsColumns}
 use Rattle.hz_pipeline_model.specs.Compiling.CompiledParts.{HasColumns}
-use Rattle.hz_pipeline_model.proofs.Decidable.ToldLaws.{IsTold, some_told}
-use Rattle.hz_laws.proofs.Leaving.ListingLaws.{told_by}
+use Rattle.hz_pipeline_model.proofs.Decidable.DecidedLaws.{IsDecided, some_reported}
+use Rattle.hz_laws.proofs.Leaving.ListingLaws.{reported_by}
 use Rattle.hz_base_model.proofs.PairOrder.{grid_eq-Decides}
 
 abbrev ClassLists : Type 0
 ClassLists = List (List (List (Pair ℕ)))
 
-same_list_told : (xs ys : List (List (Pair ℕ))) → IsTold (xs ≡ ys)
-same_list_told xs ys = told_by _ (slice_eq-Decides grid_eq-Decides xs ys _ refl)
+same_list_reported : (xs ys : List (List (Pair ℕ))) → IsDecided (xs ≡ ys)
+same_list_reported xs ys = reported_by _ (slice_eq-Decides grid_eq-Decides xs ys _ refl)
 
 module _ {X : Type 0} (xs : List X) (x : X) where
   -- the items before one more, and that one
@@ -112,7 +112,7 @@ module _ (lists columns : ClassLists) (map : List ℕ) (is : IsColumns lists col
       (columns, map ++ k ∷ [], columns_more k columns (grown_by_none k low at)))
       (λ (none : (x : List (List (Pair ℕ))) → Contains columns x → x ≡ list → ⊥).
       (columns ++ list ∷ [], map ++ length columns ∷ [], columns_more (length columns) (columns ++ list ∷ []) (grown_by_one (λ there. none list there refl))))
-      (some_told (λ x. x ≡ list) (λ x. same_list_told x list) columns)
+      (some_reported (λ x. x ≡ list) (λ x. same_list_reported x list) columns)
 
 abbrev HasSomeColumns : ClassLists → Type 0
 HasSomeColumns lists = (columns : ClassLists) × (map : List ℕ) × IsColumns lists columns map

@@ -1,4 +1,4 @@
--- Exploring from a start: where there are so many ways on, and it can be told which items are the same, every count of
+-- Exploring from a start: where there are so many ways on, and it can be reported which items are the same, every count of
 -- what is led to is at most a number or above it.
 use Rattle.std.proofs.Common.{◌≡◌, ℕ, zero, suc, ◌<◌, ◌≤◌, ◌⊎◌, inl, inr, ⊎_elim, List, [], ◌∷◌, map, length, get_or, Contains, refl, subst, arith}
 use Rattle.std.specs.List.{sum_by}
@@ -9,7 +9,7 @@ use Rattle.std.proofs.lemmas.List.Sums.{sum_by-cons}
 use Rattle.hz_base_model.proofs.Elements.{Contains-nil, Contains-head, Contains-tail, Contains-cons_cases, Contains-map}
 use Rattle.hz_pipeline_model.specs.Reaching.Reach.{AreDifferent}
 use Rattle.hz_pipeline_model.specs.Reaching.Counts.{IsAbove, IsAtMost}
-use Rattle.hz_pipeline_model.proofs.Decidable.ToldLaws.{IsTold, some_told}
+use Rattle.hz_pipeline_model.proofs.Decidable.DecidedLaws.{IsDecided, some_reported}
 
 -- What is led to from a start: it, and what the ways on from there lead to.
 pub data IsLed {X L : Type 0} (ways : List L) (next : L → X → List X) (start : X) : X → Type 0 where
@@ -24,10 +24,10 @@ at_least weight (x ∷ xs) each =
     omega (arith, sum_by-cons weight x xs, each x (Contains-head x xs), rest)
 
 -- whether some item of a list is so
-pub some_is_told : {X : Type 0} (P : X → Type 0) → ((x : X) → IsTold (P x)) → (xs : List X) → IsTold ((x : X) × Contains xs x × P x)
-some_is_told P told xs = ⊎_elim inl (λ none. inr (λ found. none found.0 found.1 found.2)) (some_told P told xs)
+pub some_is_reported : {X : Type 0} (P : X → Type 0) → ((x : X) → IsDecided (P x)) → (xs : List X) → IsDecided ((x : X) × Contains xs x × P x)
+some_is_reported P reported xs = ⊎_elim inl (λ none. inr (λ found. none found.0 found.1 found.2)) (some_reported P reported xs)
 
-module _ {X L : Type 0} (Same : X → X → Type 0) (told : (x y : X) → IsTold (Same x y)) (itself : (x : X) → Same x x) (joined : (x y z : X) → Same x y → Same y z → Same x z) (ways : List L) (next : L → X → List X) (start : X) (alike : (x y : X) → IsLed ways next start x → IsLed ways next start y → Same x y → (way : L) → (x' : X) → Contains (next way x) x' → (y' : X) × Contains (next way y) y' × Same x' y') where
+module _ {X L : Type 0} (Same : X → X → Type 0) (reported : (x y : X) → IsDecided (Same x y)) (itself : (x : X) → Same x x) (joined : (x y z : X) → Same x y → Same y z → Same x z) (ways : List L) (next : L → X → List X) (start : X) (alike : (x y : X) → IsLed ways next start x → IsLed ways next start y → Same x y → (way : L) → (x' : X) → Contains (next way x) x' → (y' : X) × Contains (next way y) y' × Same x' y') where
   abbrev Has : List X → X → Type 0
   Has items x = (y : X) × Contains items y × Same x y
 
@@ -51,29 +51,29 @@ module _ {X L : Type 0} (Same : X → X → Type 0) (told : (x y : X) → IsTold
     there : Contains items item
     out : IsWayOut items item
 
-  has_told : (items : List X) (x : X) → IsTold (Has items x)
-  has_told items x = some_is_told (Same x) (told x) items
+  has_reported : (items : List X) (x : X) → IsDecided (Has items x)
+  has_reported items x = some_is_reported (Same x) (reported x) items
 
-  new_told : (items : List X) (x : X) → IsTold (Has items x → ⊥)
-  new_told items x = ⊎_elim (λ has. inr (λ new. new has)) (λ new. inl new) (has_told items x)
+  new_reported : (items : List X) (x : X) → IsDecided (Has items x → ⊥)
+  new_reported items x = ⊎_elim (λ has. inr (λ new. new has)) (λ new. inl new) (has_reported items x)
 
-  leads_told : (items : List X) (x : X) (way : L) → IsTold (LeadsOut items x way)
-  leads_told items x way = ⊎_elim
+  leads_reported : (items : List X) (x : X) (way : L) → IsDecided (LeadsOut items x way)
+  leads_reported items x way = ⊎_elim
       (λ found. inl (record { new = found.0; led = found.1; other = found.2 }))
       (λ none. inr (λ out. none (out.new, out.led, out.other)))
-      (some_is_told (λ y. Has items y → ⊥) (new_told items) (next way x))
+      (some_is_reported (λ y. Has items y → ⊥) (new_reported items) (next way x))
 
-  way_told : (items : List X) (x : X) → IsTold (IsWayOut items x)
-  way_told items x = ⊎_elim
+  way_reported : (items : List X) (x : X) → IsDecided (IsWayOut items x)
+  way_reported items x = ⊎_elim
       (λ found. inl (record { way = found.0; there = found.1; leads = found.2 }))
       (λ none. inr (λ out. none (out.way, out.there, out.leads)))
-      (some_is_told (LeadsOut items x) (leads_told items x) ways)
+      (some_is_reported (LeadsOut items x) (leads_reported items x) ways)
 
-  open_told : (items : List X) → IsTold (IsOpen items)
-  open_told items = ⊎_elim
+  open_reported : (items : List X) → IsDecided (IsOpen items)
+  open_reported items = ⊎_elim
       (λ found. inl (record { item = found.0; there = found.1; out = found.2 }))
       (λ none. inr (λ out. none (out.item, out.there, out.out)))
-      (some_is_told (IsWayOut items) (way_told items) items)
+      (some_is_reported (IsWayOut items) (way_reported items) items)
 
   closed_or_open : (items : List X) → IsClosed items ⊎ IsOpen items
   closed_or_open items = ⊎_elim
@@ -81,8 +81,8 @@ module _ {X L : Type 0} (Same : X → X → Type 0) (told : (x y : X) → IsTold
       (λ none. inl (λ x is way there y led. ⊎_elim
       (λ has. has)
       (λ new. absurd (none (record { item = x; there = is; out = record { way = way; there = there; leads = record { new = y; led = led; other = new } } })))
-      (has_told items y)))
-      (open_told items)
+      (has_reported items y)))
+      (open_reported items)
 
   -- Different items that are led to: all of them, or so many.
   record Explored (many : ℕ) : Type 0 where
@@ -138,8 +138,8 @@ module _ {X L : Type 0} (Same : X → X → Type 0) (told : (x y : X) → IsTold
       let found = closed here.0 here.1 way there also.0 also.1 in
       (found.0, found.1, joined y also.0 found.0 also.2 found.2)
 
-  pub count_told : (weight : X → ℕ) → ((x : X) → IsLed ways next start x → 1 ≤ weight x) → (n : ℕ) → IsAtMost (IsLed ways next start) Same weight n ⊎ IsAbove (IsLed ways next start) Same weight n
-  count_told weight heavy n = by_end (explored (suc n))
+  pub count_reported : (weight : X → ℕ) → ((x : X) → IsLed ways next start x → 1 ≤ weight x) → (n : ℕ) → IsAtMost (IsLed ways next start) Same weight n ⊎ IsAbove (IsLed ways next start) Same weight n
+  count_reported weight heavy n = by_end (explored (suc n))
     where
       by_end : Explored (suc n) → IsAtMost (IsLed ways next start) Same weight n ⊎ IsAbove (IsLed ways next start) Same weight n
       by_end end = ⊎_elim

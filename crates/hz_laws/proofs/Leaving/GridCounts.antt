@@ -1,4 +1,4 @@
--- The count of reached grids is told.
+-- The count of reached grids is reported.
 use Rattle.std.proofs.Common.{ℕ, ◌≤◌, ◌⊎◌, inl, inr, ⊎_elim, Bool, List, [], ◌∷◌, ◌++◌, length, Contains, refl, sym, subst, arith}
 use Rattle.std.proofs.lemmas.List.Elements.{All-head, All-tail}
 use Rattle.hz_base_model.specs.Pairs.{Pair, SamePairs}
@@ -16,8 +16,8 @@ use Rattle.hz_pipeline_model.proofs.Reaching.LeavingLaws.{plays_from_leaves, lea
 use Rattle.hz_pipeline_model.proofs.Reaching.PathLaws.{empty_future}
 use Rattle.hz_pipeline_model.proofs.Reaching.StepLaws.{one_future, future_with, leads_from_step, unbroken_step}
 use Rattle.hz_pipeline_model.proofs.Reaching.WordLaws.{spelled_columns, leaves_spelled, inside_of_leaves}
-use Rattle.hz_laws.proofs.Leaving.ListingLaws.{pairs_told}
-use Rattle.hz_laws.proofs.Leaving.ExploreLaws.{IsLed, first, onward, count_told}
+use Rattle.hz_laws.proofs.Leaving.ListingLaws.{pairs_reported}
+use Rattle.hz_laws.proofs.Leaving.ExploreLaws.{IsLed, first, onward, count_reported}
 use Rattle.hz_laws.proofs.Leaving.OnwardLaws.{no_class, steps, is_step, more_leaves, leads_alike, next_grids, leads_of_next, next_of_leads}
 
 module _ {U : Type 0} (same : U → U → Bool) (tells : Tells same) (m : Pipeline U) where
@@ -55,8 +55,8 @@ module _ {U : Type 0} (same : U → U → Bool) (tells : Tells same) (m : Pipeli
       let found = led_run (spelled columns t) are [] first start run.0 empty_future (unbroken_empty m.statements) run.1 in
       (found.0, found.1, one_future grid found.0 run.0 run.2 found.2)
 
-  pub grids_told : (n : ℕ) → IsAtMost (IsReachedGrid m) SamePairs (λ _. 1) n ⊎ IsAbove (IsReachedGrid m) SamePairs (λ _. 1) n
-  grids_told n = ⊎_elim
+  pub grids_reported : (n : ℕ) → IsAtMost (IsReachedGrid m) SamePairs (λ _. 1) n ⊎ IsAbove (IsReachedGrid m) SamePairs (λ _. 1) n
+  grids_reported n = ⊎_elim
       (λ (most : IsAtMost IsLedGrid SamePairs (λ _. 1) n). inl (record {
         items = most.items;
         all = λ grid is.
@@ -71,4 +71,4 @@ module _ {U : Type 0} (same : U → U → Bool) (tells : Tells same) (m : Pipeli
         different = above.different;
         above = above.above;
       }))
-      (count_told SamePairs (pairs_told same tells) same_pairs_itself same_pairs_then (steps m) (next_grids m same tells) [] grids_alike (λ _. 1) (λ x led. omega arith) n)
+      (count_reported SamePairs (pairs_reported same tells) same_pairs_itself same_pairs_then (steps m) (next_grids m same tells) [] grids_alike (λ _. 1) (λ x led. omega arith) n)

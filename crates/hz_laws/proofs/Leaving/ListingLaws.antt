@@ -13,23 +13,23 @@ use Rattle.hz_pipeline_model.specs.Reaching.Reach.{IsLeft, Leaves}
 use Rattle.hz_pipeline_model.proofs.Reaching.CountLaws.{same_pairs_back, same_pairs_then, same_pairs_itself}
 use Rattle.hz_pipeline_model.proofs.Reaching.LeavingLaws.{plays_from_leaves, leaves_from_plays}
 use Rattle.hz_pipeline_model.proofs.Reaching.StepLaws.{planned, planned_future, one_future}
-use Rattle.hz_pipeline_model.proofs.Decidable.ToldLaws.{IsTold, each_told}
+use Rattle.hz_pipeline_model.proofs.Decidable.DecidedLaws.{IsDecided, each_reported}
 use Rattle.hz_laws.proofs.Leaving.OnceLaws.{HasEachOnce, each_once}
 
--- what a test decides is told
-pub told_by : {P : Type 0} (b : Bool) → Decides b P → IsTold P
-told_by true decides = inl (decides.0 refl)
-told_by false decides = inr (λ p. both_ways false refl (decides.1 p))
+-- what a test decides is reported
+pub reported_by : {P : Type 0} (b : Bool) → Decides b P → IsDecided P
+reported_by true decides = inl (decides.0 refl)
+reported_by false decides = inr (λ p. both_ways false refl (decides.1 p))
 
 module _ {U : Type 0} (same : U → U → Bool) (tells : Tells same) where
   -- whether all pairs of a list are in another
-  within_told : (xs ys : List (Pair U)) → IsTold ((p : Pair U) → Contains xs p → Contains ys p)
-  within_told xs ys = each_told (Contains ys) (λ p. told_by (has same ys p) (has_decides same tells ys p)) xs
+  within_reported : (xs ys : List (Pair U)) → IsDecided ((p : Pair U) → Contains xs p → Contains ys p)
+  within_reported xs ys = each_reported (Contains ys) (λ p. reported_by (has same ys p) (has_decides same tells ys p)) xs
 
-  pub pairs_told : (xs ys : List (Pair U)) → IsTold (SamePairs xs ys)
-  pairs_told xs ys = go (within_told xs ys) (within_told ys xs)
+  pub pairs_reported : (xs ys : List (Pair U)) → IsDecided (SamePairs xs ys)
+  pairs_reported xs ys = go (within_reported xs ys) (within_reported ys xs)
     where
-      go : IsTold ((p : Pair U) → Contains xs p → Contains ys p) → IsTold ((p : Pair U) → Contains ys p → Contains xs p) → IsTold (SamePairs xs ys)
+      go : IsDecided ((p : Pair U) → Contains xs p → Contains ys p) → IsDecided ((p : Pair U) → Contains ys p → Contains xs p) → IsDecided (SamePairs xs ys)
       go (inl there) (inl back) = inl (λ p. (there p, back p))
       go (inl there) (inr none) = inr (λ alike. none (λ p. (alike p).1))
       go (inr none) back = inr (λ alike. none (λ p. (alike p).0))
@@ -61,5 +61,5 @@ module _ {U : Type 0} (same : U → U → Bool) (tells : Tells same) where
 
     pub left_listed : (grids : List (List (Pair U))) × IsLeft m t grids
     left_listed =
-        let once = each_once SamePairs pairs_told same_pairs_itself same_pairs_back futures in
+        let once = each_once SamePairs pairs_reported same_pairs_itself same_pairs_back futures in
         (once.0, left_of_once once.0 once.1)

@@ -1,10 +1,10 @@
--- Of every list there is one that has each item once, where it can be told which items are the same.
+-- Of every list there is one that has each item once, where it can be reported which items are the same.
 use Rattle.std.proofs.Common.{◌≡◌, ⊎_elim, List, [], ◌∷◌, get_or, Contains, subst, arith}
 use Rattle.std.proofs.lemmas.List.Elements.{Contains-get_or}
 use Rattle.std.proofs.lemmas.List.Kept.{AllPairs-cons}
 use Rattle.hz_base_model.proofs.Elements.{Contains-nil, Contains-head, Contains-tail, Contains-cons_cases}
 use Rattle.hz_pipeline_model.specs.Reaching.Reach.{AreDifferent}
-use Rattle.hz_pipeline_model.proofs.Decidable.ToldLaws.{IsTold, some_told}
+use Rattle.hz_pipeline_model.proofs.Decidable.DecidedLaws.{IsDecided, some_reported}
 
 -- Different items of a list, and the same one for each item of it.
 pub record HasEachOnce {X : Type 0} (Same : X → X → Type 0) (xs ys : List X) : Type 0 where
@@ -12,7 +12,7 @@ pub record HasEachOnce {X : Type 0} (Same : X → X → Type 0) (xs ys : List X)
   pub all : (x : X) → Contains xs x → (y : X) × Contains ys y × Same y x
   pub only : (y : X) → Contains ys y → Contains xs y
 
-module _ {X : Type 0} (Same : X → X → Type 0) (told : (x y : X) → IsTold (Same x y)) (itself : (x : X) → Same x x) (back : (x y : X) → Same x y → Same y x) where
+module _ {X : Type 0} (Same : X → X → Type 0) (reported : (x y : X) → IsDecided (Same x y)) (itself : (x : X) → Same x x) (back : (x y : X) → Same x y → Same y x) where
   -- an item that is there
   with_same : (x : X) (xs ys : List X) → HasEachOnce Same xs ys → (y : X) × Contains ys y × Same y x → HasEachOnce Same (x ∷ xs) ys
   with_same x xs ys has found = record {
@@ -47,4 +47,4 @@ module _ {X : Type 0} (Same : X → X → Type 0) (told : (x y : X) → IsTold (
       ⊎_elim
       (λ (found : (y : X) × Contains rest.0 y × Same y x). (rest.0, with_same x xs rest.0 rest.1 found))
       (λ (none : (y : X) → Contains rest.0 y → Same y x → ⊥). (x ∷ rest.0, with_other x xs rest.0 rest.1 none))
-      (some_told (λ y. Same y x) (λ y. told y x) rest.0)
+      (some_reported (λ y. Same y x) (λ y. reported y x) rest.0)

@@ -1,4 +1,4 @@
--- The counts of reached states are told: as many as accepted lists of steps that leave different ones.
+-- The counts of reached states are reported: as many as accepted lists of steps that leave different ones.
 use Rattle.std.proofs.Common.{◌≡◌, ℕ, ◌≤◌, ◌⊎◌, inl, inr, ⊎_elim, Bool, List, [], ◌∷◌, ◌++◌, length, filter, Contains, refl, sym, ◌∙◌, subst, append_assoc, arith}
 use Rattle.std.proofs.lemmas.List.{append-nil}
 use Rattle.std.proofs.lemmas.List.Elements.{All-head, All-tail}
@@ -16,9 +16,9 @@ use Rattle.hz_pipeline_model.specs.Reaching.Reach.{Leaves, IsLeft, IsReachedStat
 use Rattle.hz_pipeline_model.proofs.Reaching.AutomatonLaws.{leaves_of_accepted, accepted_of_leaves}
 use Rattle.hz_pipeline_model.proofs.Reaching.CountLaws.{same_pairs_back, same_pairs_itself, has_then, above_named}
 use Rattle.hz_pipeline_model.proofs.Reaching.WordLaws.{spelled_columns, leaves_spelled, leaves_from_spelled, inside_of_leaves}
-use Rattle.hz_pipeline_model.proofs.Decidable.ToldLaws.{IsTold, each_told}
-use Rattle.hz_laws.proofs.Leaving.ListingLaws.{pairs_told, left_listed}
-use Rattle.hz_laws.proofs.Leaving.ExploreLaws.{IsLed, first, onward, some_is_told, count_told, at_most_named}
+use Rattle.hz_pipeline_model.proofs.Decidable.DecidedLaws.{IsDecided, each_reported}
+use Rattle.hz_laws.proofs.Leaving.ListingLaws.{pairs_reported, left_listed}
+use Rattle.hz_laws.proofs.Leaving.ExploreLaws.{IsLed, first, onward, some_is_reported, count_reported, at_most_named}
 use Rattle.hz_laws.proofs.Leaving.OnwardLaws.{no_class, steps, is_step, leaves_alike, more_leaves, fewer_leaves}
 
 module _ {U : Type 0} where
@@ -43,13 +43,13 @@ module _ {U : Type 0} where
       leaves_alike m v there.0 grid (λ p. (λ h. (there.2 p).0 ((found.2 p).1 h), λ h. (found.2 p).0 ((there.2 p).1 h))) (also.only there.0 there.1)
 
 module _ {U : Type 0} (same : U → U → Bool) (tells : Tells same) (m : Pipeline U) where
-  has_grids_told : (xs ys : List (List (Pair U))) → IsTold (HasGrids xs ys)
-  has_grids_told xs ys = each_told (λ (x : List (Pair U)). (y : List (Pair U)) × Contains ys y × SamePairs x y) (λ x. some_is_told (SamePairs x) (pairs_told same tells x) ys) xs
+  has_grids_reported : (xs ys : List (List (Pair U))) → IsDecided (HasGrids xs ys)
+  has_grids_reported xs ys = each_reported (λ (x : List (Pair U)). (y : List (Pair U)) × Contains ys y × SamePairs x y) (λ x. some_is_reported (SamePairs x) (pairs_reported same tells x) ys) xs
 
-  pub same_grids_told : (xs ys : List (List (Pair U))) → IsTold (SameGrids xs ys)
-  same_grids_told xs ys = go (has_grids_told xs ys) (has_grids_told ys xs)
+  pub same_grids_reported : (xs ys : List (List (Pair U))) → IsDecided (SameGrids xs ys)
+  same_grids_reported xs ys = go (has_grids_reported xs ys) (has_grids_reported ys xs)
     where
-      go : IsTold (HasGrids xs ys) → IsTold (HasGrids ys xs) → IsTold (SameGrids xs ys)
+      go : IsDecided (HasGrids xs ys) → IsDecided (HasGrids ys xs) → IsDecided (SameGrids xs ys)
       go (inl there) (inl back) = inl (record { there = there; back = back })
       go (inl there) (inr none) = inr (λ alike. none alike.back)
       go (inr none) back = inr (λ alike. none alike.there)
@@ -153,13 +153,13 @@ module _ {U : Type 0} (same : U → U → Bool) (tells : Tells same) (m : Pipeli
       let within = found.1.1 in
       omega arith
 
-  pub states_told : (weight : List (List (Pair U)) → ℕ) → ((gs : List (List (Pair U))) → 1 ≤ length gs → 1 ≤ weight gs) → (n : ℕ) → IsAtMost (IsReachedState m) SameGrids weight n ⊎ IsAbove (IsReachedState m) SameGrids weight n
-  states_told weight heavy n = ⊎_elim
+  pub states_reported : (weight : List (List (Pair U)) → ℕ) → ((gs : List (List (Pair U))) → 1 ≤ length gs → 1 ≤ weight gs) → (n : ℕ) → IsAtMost (IsReachedState m) SameGrids weight n ⊎ IsAbove (IsReachedState m) SameGrids weight n
+  states_reported weight heavy n = ⊎_elim
       (λ (most : IsAtMost IsLedTo (λ t v. SameGrids (left_of t) (left_of v)) (λ t. weight (left_of t)) n). inl
       (at_most_named IsLedTo (λ t v. SameGrids (left_of t) (left_of v)) (λ t. weight (left_of t)) (IsReachedState m) SameGrids weight left_of n
       led_reached (λ gs t v one other. grids_joined gs (left_of t) (left_of v) one other) (λ t. refl) most))
       (λ (above : IsAbove IsLedTo (λ t v. SameGrids (left_of t) (left_of v)) (λ t. weight (left_of t)) n). inr
       (above_named IsLedTo (λ t v. SameGrids (left_of t) (left_of v)) (λ t. weight (left_of t)) (IsReachedState m) SameGrids weight left_of n
       reached_led (λ x y _ _ alike. alike) (λ x _. refl) above))
-      (count_told (λ t v. SameGrids (left_of t) (left_of v)) (λ t v. same_grids_told (left_of t) (left_of v)) (λ t. grids_itself (left_of t)) (λ t v w. grids_joined (left_of t) (left_of v) (left_of w))
+      (count_reported (λ t v. SameGrids (left_of t) (left_of v)) (λ t v. same_grids_reported (left_of t) (left_of v)) (λ t. grids_itself (left_of t)) (λ t v w. grids_joined (left_of t) (left_of v) (left_of w))
       (steps m) next_events [] events_alike (λ t. weight (left_of t)) (λ t led. heavy (left_of t) (some_grid t led)) n)

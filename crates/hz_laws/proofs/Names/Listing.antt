@@ -1,11 +1,11 @@
--- What lists that are made of items contain, and what is told behind what stands before.
+-- What lists that are made of items contain, and what is reported after what stands before.
 use Rattle.std.proofs.Common.{◌≡◌, ◌⊎◌, inl, inr, ⊎_elim, List, [], ◌∷◌, ◌++◌, Contains, Option, Some, None, refl, sym, ap, ◌∙◌, subst, append_assoc}
 use Rattle.std.specs.List.{filter_map, cons_option}
 use Rattle.std.proofs.lemmas.List.{append-nil}
 use Rattle.std.proofs.lemmas.Option.{none-some, same_Some}
 use Rattle.hz_base_model.proofs.Elements.{Contains-nil, Contains-head, Contains-tail, Contains-cons_cases}
 use Rattle.hz_description_model.specs.Check.Sites.{Site}
-use Rattle.hz_description_model.specs.Check.ToldPlaces.{ToldBehind}
+use Rattle.hz_description_model.specs.Check.ReportedPlaces.{ReportedAfter}
 
 one_kept : {A B : Type 0} (f : A → Option B) (z x : A) (xs : List A) (y : B) (o : Option B) → f z ≡ o → f x ≡ Some y → (Contains xs x → Contains (filter_map f xs) y) → (z ≡ x) ⊎ Contains xs x → Contains (cons_option o (filter_map f xs)) y
 one_kept f z x xs y None is e rest (inl same) = absurd (none-some y (sym is ∙ ap f same ∙ e))
@@ -18,7 +18,7 @@ in_filter_map f [] x y there e = absurd (Contains-nil x there)
 in_filter_map f (z ∷ xs) x y there e = one_kept f z x xs y (f z) refl e (λ k. in_filter_map f xs x y k e) (Contains-cons_cases z x xs there)
 
 module _ {A : Type 0} (IsWrong : List A → A → Type 0) (site : A → Site) where
-  -- the site is that of an item of these that is wrong behind those and what stands before it
+  -- the site is that of an item of these that is wrong after those and what stands before it
   pub record Tells (before items : List A) (t : Site) : Type 0 where
     pub front : List A
     pub item : A
@@ -55,21 +55,21 @@ module _ {A : Type 0} (IsWrong : List A → A → Type 0) (site : A → Site) wh
           let moved = subst (λ (xs : List A). IsWrong xs h.item) (sym (append_assoc before (x ∷ []) front)) (subst (λ (z : A). IsWrong (before ++ z ∷ front) h.item) first wrong) in
           inr (record { front = front; item = h.item; after = h.after; parts = rest; wrong = moved; is = h.is })
 
-  pub told_tells : (before items : List A) (told : List Site) → ToldBehind IsWrong site before items told → (t : Site) → Contains told t → Tells before items t
-  told_tells _ _ _ ToldBehind.ends t c = absurd (Contains-nil t c)
-  told_tells _ _ _ (ToldBehind.tells {before = before} {items = items} {item = item} {told = told} wrong rest) t c = ⊎_elim
+  pub reported_tells : (before items : List A) (reported : List Site) → ReportedAfter IsWrong site before items reported → (t : Site) → Contains reported t → Tells before items t
+  reported_tells _ _ _ ReportedAfter.ends t c = absurd (Contains-nil t c)
+  reported_tells _ _ _ (ReportedAfter.tells {before = before} {items = items} {item = item} {reported = reported} wrong rest) t c = ⊎_elim
       (λ (same : site item ≡ t). record { front = []; item = item; after = items; parts = refl; wrong = subst (λ (xs : List A). IsWrong xs item) (sym (append-nil before)) wrong; is = same })
-      (λ (k : Contains told t). later before items item t (told_tells (before ++ item ∷ []) items told rest t k))
-      (Contains-cons_cases (site item) t told c)
-  told_tells _ _ _ (ToldBehind.passes {before = before} {items = items} {item = item} {told = told} right rest) t c = later before items item t (told_tells (before ++ item ∷ []) items told rest t c)
+      (λ (k : Contains reported t). later before items item t (reported_tells (before ++ item ∷ []) items reported rest t k))
+      (Contains-cons_cases (site item) t reported c)
+  reported_tells _ _ _ (ReportedAfter.passes {before = before} {items = items} {item = item} {reported = reported} right rest) t c = later before items item t (reported_tells (before ++ item ∷ []) items reported rest t c)
 
-  pub tells_told : (before items : List A) (told : List Site) → ToldBehind IsWrong site before items told → (t : Site) → Tells before items t → Contains told t
-  tells_told _ _ _ ToldBehind.ends t h = absurd (no_parts h.front h.item h.after h.parts)
-  tells_told _ _ _ (ToldBehind.tells {before = before} {items = items} {item = item} {told = told} wrong rest) t h = ⊎_elim
-      (λ (here : IsWrong before item × (site item ≡ t)). subst (λ (x : Site). Contains (site item ∷ told) x) here.1 (Contains-head (site item) told))
-      (λ (k : Tells (before ++ item ∷ []) items t). Contains-tail (site item) t told (tells_told (before ++ item ∷ []) items told rest t k))
+  pub tells_reported : (before items : List A) (reported : List Site) → ReportedAfter IsWrong site before items reported → (t : Site) → Tells before items t → Contains reported t
+  tells_reported _ _ _ ReportedAfter.ends t h = absurd (no_parts h.front h.item h.after h.parts)
+  tells_reported _ _ _ (ReportedAfter.tells {before = before} {items = items} {item = item} {reported = reported} wrong rest) t h = ⊎_elim
+      (λ (here : IsWrong before item × (site item ≡ t)). subst (λ (x : Site). Contains (site item ∷ reported) x) here.1 (Contains-head (site item) reported))
+      (λ (k : Tells (before ++ item ∷ []) items t). Contains-tail (site item) t reported (tells_reported (before ++ item ∷ []) items reported rest t k))
       (first_or_later before items item t h)
-  tells_told _ _ _ (ToldBehind.passes {before = before} {items = items} {item = item} {told = told} right rest) t h = ⊎_elim
+  tells_reported _ _ _ (ReportedAfter.passes {before = before} {items = items} {item = item} {reported = reported} right rest) t h = ⊎_elim
       (λ (here : IsWrong before item × (site item ≡ t)). absurd (right here.0))
-      (λ (k : Tells (before ++ item ∷ []) items t). tells_told (before ++ item ∷ []) items told rest t k)
+      (λ (k : Tells (before ++ item ∷ []) items t). tells_reported (before ++ item ∷ []) items reported rest t k)
       (first_or_later before items item t h)

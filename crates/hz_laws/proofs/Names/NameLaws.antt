@@ -1,4 +1,4 @@
--- Faults of names that are told by name spaces, automata and sets, fault by fault.
+-- Faults of names that are reported by name spaces, automata and sets, fault by fault.
 use Rattle.std.proofs.Common.{◌≡◌, ◌≢◌, inl, inr, ⊎_elim, ℕ, Bool, true, false, cond, List, [], ◌∷◌, ◌++◌, map, filter, length, Contains, Option, Some, None, refl, sym, ap, ◌∙◌, subst, arith}
 use Rattle.std.specs.Prelude.{◌==◌, ◌↔◌, codes, option_and_then, is_none, if◌then◌else◌}
 use Rattle.std.specs.List.{flat_map, filter_map}
@@ -12,14 +12,14 @@ use Rattle.hz_description_model.specs.Reservations.Sets.{SetKind, exclusion, pre
 use Rattle.hz_description_model.specs.Reading.Descriptions.{Description, AutomatonItem, UnitItem, SetItem}
 use Rattle.hz_description_model.specs.Check.CheckFaults.{names_of_set, home, same_home, strangers, sets_across_automata, automaton_sites, unit_sites, unit_site, reservation_sites, class_sites, attribute_sites, sites_of, repeated_values, second_definitions, reserved_names, unknown_automaton_of, unknown_automata, homeless, units_without_automaton, is_exclusion, units_of_patterns, self_excluded, self_exclusions}
 use Rattle.hz_description_model.specs.Check.Sites.{Site, is_among, repeated}
-use Rattle.hz_description_model.specs.Check.ToldPlaces.{StandsBefore}
+use Rattle.hz_description_model.specs.Check.ReportedPlaces.{StandsBefore}
 use Rattle.hz_description_model.proofs.Check.KeptLaws.{among, from_among}
 use Rattle.hz_description_model.proofs.Check.PlaceLaws.{from_filter_map}
-use Rattle.hz_description_model.proofs.Check.ToldLaws.{second_names}
+use Rattle.hz_description_model.proofs.Check.ReportedLaws.{second_names}
 use Rattle.hz_laws.specs.Names.NameFaults.{IsNameSpace, IsSecondName, IsReservedName, IsUnknownAutomaton, IsWithoutAutomaton, IsSelfExclusion, IsStranger, IsAt, site_at}
-use Rattle.hz_laws.proofs.Names.NamesAt.{site_told, among_items, kept}
+use Rattle.hz_laws.proofs.Names.NamesAt.{site_reported, among_items, kept}
 use Rattle.hz_pipeline_model.proofs.Decidable.FlatLists.{from_flat_map, in_flat_map}
-use Rattle.hz_laws.proofs.Names.Listing.{in_filter_map, told_tells, tells_told}
+use Rattle.hz_laws.proofs.Names.Listing.{in_filter_map, reported_tells, tells_reported}
 
 -- Names that stand twice.
 
@@ -35,10 +35,10 @@ by_list a b c e f g s P in_a in_b in_c in_e in_f in_g k = ⊎_elim
     in_f (Contains-append_cases (a ++ b ++ c ++ e) f s k))
     in_g (Contains-append_cases (a ++ b ++ c ++ e ++ f) g s k)
 
--- what is told of one list, and what stands twice in it
+-- what is reported of one list, and what stands twice in it
 second_in : (d : Description) (others sites : List Site) → IsNameSpace d others sites → (s : Site) → Contains (repeated others [] sites) s → IsSecondName d s
 second_in d others sites space s c =
-    let t = told_tells (StandsBefore others) (λ x. x) [] sites (repeated others [] sites) (second_names others sites) s c in
+    let t = reported_tells (StandsBefore others) (λ x. x) [] sites (repeated others [] sites) (second_names others sites) s c in
     record {
       others = others;
       sites = sites;
@@ -50,10 +50,10 @@ second_in d others sites space s c =
     }
 
 in_list : (d : Description) (s : Site) (h : IsSecondName d s) → Contains (repeated h.others [] h.sites) s
-in_list d s h = tells_told (StandsBefore h.others) (λ x. x) [] h.sites (repeated h.others [] h.sites) (second_names h.others h.sites) s
+in_list d s h = tells_reported (StandsBefore h.others) (λ x. x) [] h.sites (repeated h.others [] h.sites) (second_names h.others h.sites) s
     (record { front = h.before; item = s; after = h.after; parts = h.parts; wrong = h.second; is = refl })
 
--- the lists of the names that are told, name space by name space
+-- the lists of the names that are reported, name space by name space
 abbrev automata_twice : Description → List Site
 automata_twice d = repeated [] [] (automaton_sites d)
 
@@ -74,10 +74,10 @@ values_twice d = flat_map repeated_values d.attributes
 
 of_value : (d : Description) (s : Site) → Contains (values_twice d) s → IsSecondName d s
 of_value d s k =
-    let (a, there, told) = from_flat_map repeated_values d.attributes s k in
-    second_in d [] (sites_of a.line a.form a.values) (IsNameSpace.of_values {a = a} there) s told
+    let (a, there, reported) = from_flat_map repeated_values d.attributes s k in
+    second_in d [] (sites_of a.line a.form a.values) (IsNameSpace.of_values {a = a} there) s reported
 
--- what the first lists tell is told
+-- what the first lists tell is reported
 of_two : (d : Description) (s : Site) → Contains (automata_twice d ++ units_twice d) s → Contains (automata_twice d ++ units_twice d ++ reservations_twice d ++ classes_twice d) s
 of_two d s k = Contains-append_left (automata_twice d ++ units_twice d ++ reservations_twice d) (classes_twice d) s (Contains-append_left (automata_twice d ++ units_twice d) (reservations_twice d) s k)
 
@@ -168,10 +168,10 @@ unknown_automaton d s = (there, back)
     back h =
         let fails = (no_automaton d s.name).1 h.unknown in
         let made : ◌≡◌ {A = Site} (site_at (h.u).line (h.u).form s.name) s = λ i. record { line = sym (h.place).0 i; form = sym (h.place).1 i; name = s.name } in
-        let told : unknown_automaton_of (automaton_names d) h.u ≡ Some s =
+        let reported : unknown_automaton_of (automaton_names d) h.u ≡ Some s =
         ap (λ (o : Option (List ℕ)). option_and_then (λ name. if is_among name (automaton_names d) then None else Some (site_at (h.u).line (h.u).form name)) o) h.named
         ∙ subst (λ (b : Bool). cond b None (Some (site_at (h.u).line (h.u).form s.name)) ≡ Some s) (sym fails) (ap Some made) in
-        in_filter_map (unknown_automaton_of (automaton_names d)) d.units h.u s h.there told
+        in_filter_map (unknown_automaton_of (automaton_names d)) d.units h.u s h.there reported
 
 -- Units without an automaton.
 
@@ -190,7 +190,7 @@ pub without_automaton : (d : Description) (s : Site) → Contains (units_without
 without_automaton d s = (there, back)
   where
     there : Contains (units_without_automaton d) s → IsWithoutAutomaton d s
-    there c = cond_both (length d.automata == 0) [] (filter_map homeless d.units) (λ (told : List Site). Contains told s → IsWithoutAutomaton d s)
+    there c = cond_both (length d.automata == 0) [] (filter_map homeless d.units) (λ (reported : List Site). Contains reported s → IsWithoutAutomaton d s)
         (λ _ k. absurd (Contains-nil s k))
         (λ some k.
         let first = some_item d.automata some in
@@ -201,8 +201,8 @@ without_automaton d s = (there, back)
 
     back : IsWithoutAutomaton d s → Contains (units_without_automaton d) s
     back h =
-        let told : homeless h.u ≡ Some s = ap (λ (o : Option (List ℕ)). cond (is_none o) (Some (unit_site h.u)) None) h.named ∙ ap Some (sym h.is) in
-        subst (λ (b : Bool). Contains (cond b [] (filter_map homeless d.units)) s) (sym (not_none d.automata h.a h.defined)) (in_filter_map homeless d.units h.u s h.there told)
+        let reported : homeless h.u ≡ Some s = ap (λ (o : Option (List ℕ)). cond (is_none o) (Some (unit_site h.u)) None) h.named ∙ ap Some (sym h.is) in
+        subst (λ (b : Bool). Contains (cond b [] (filter_map homeless d.units)) s) (sym (not_none d.automata h.a h.defined)) (in_filter_map homeless d.units h.u s h.there reported)
 
 -- Self exclusions.
 
@@ -222,21 +222,21 @@ excluded_itself d s = (there, back)
   where
     there : Contains (self_exclusions d) s → IsSelfExclusion d s
     there c =
-        let (e, stands, told) = from_flat_map self_excluded d.sets s c in
+        let (e, stands, reported) = from_flat_map self_excluded d.sets s c in
         cond_both (is_exclusion e.kind) (sites_of e.line e.form (in_both e)) [] (λ (sites : List Site). Contains sites s → IsSelfExclusion d s)
         (λ kind k.
-        let named = (site_told e.line e.form (in_both e) s).0 k in
+        let named = (site_reported e.line e.form (in_both e) s).0 k in
         let (unit, good) = Contains-from_filter (λ name. is_among name (units_of_patterns e)) s.name e.units named.0 in
         let (pattern, other, again) = from_flat_map (λ (pattern : List (List ℕ)). pattern) e.patterns s.name (from_among s.name (units_of_patterns e) good) in
         record { e = e; there = stands; kind = exclusion_is e.kind kind; unit = unit; pattern = pattern; other = other; again = again; place = named.1 })
         (λ _ k. absurd (Contains-nil s k))
-        told
+        reported
 
     back : IsSelfExclusion d s → Contains (self_exclusions d) s
     back h =
         let e = h.e in
         let good = among s.name (units_of_patterns e) (in_flat_map (λ (pattern : List (List ℕ)). pattern) e.patterns h.pattern s.name h.other h.again) in
-        let named = (site_told e.line e.form (in_both e) s).1 (Contains-filter (λ name. is_among name (units_of_patterns e)) s.name good e.units h.unit, h.place) in
+        let named = (site_reported e.line e.form (in_both e) s).1 (Contains-filter (λ name. is_among name (units_of_patterns e)) s.name good e.units h.unit, h.place) in
         in_flat_map self_excluded d.sets e s h.there (subst (λ (k : SetKind). Contains (cond (is_exclusion k) (sites_of e.line e.form (in_both e)) []) s) (sym h.kind) named)
 
 -- Units of another automaton.
@@ -271,8 +271,8 @@ stranger d s = (there, back)
   where
     there : Contains (sets_across_automata d) s → IsStranger d s
     there c =
-        let (e, stands, told) = from_flat_map (λ s. sites_of s.line s.form (strangers d (names_of_set s))) d.sets s c in
-        let found = (site_told e.line e.form (strangers d (names_of_set e)) s).0 told in
+        let (e, stands, reported) = from_flat_map (λ s. sites_of s.line s.form (strangers d (names_of_set s))) d.sets s c in
+        let found = (site_reported e.line e.form (strangers d (names_of_set e)) s).0 reported in
         strangers_of d s e stands found.1 (names_of_set e) refl found.0
 
     back : IsStranger d s → Contains (sets_across_automata d) s
@@ -280,4 +280,4 @@ stranger d s = (there, back)
         let differ = false_from_ne_true (same_home (home d s.name) (home d h.first)) (λ k. h.apart (same_is (home d s.name) (home d h.first) k)) in
         let named = (kept (λ name. same_home (home d name) (home d h.first)) h.others s.name).1 (h.named, differ) in
         in_flat_map (λ s. sites_of s.line s.form (strangers d (names_of_set s))) d.sets h.e s h.there
-        ((site_told (h.e).line (h.e).form (strangers d (names_of_set h.e)) s).1 (subst (λ (names : List (List ℕ)). Contains (strangers d names) s.name) (sym h.names) named, h.place))
+        ((site_reported (h.e).line (h.e).form (strangers d (names_of_set h.e)) s).1 (subst (λ (names : List (List ℕ)). Contains (strangers d names) s.name) (sym h.names) named, h.place))

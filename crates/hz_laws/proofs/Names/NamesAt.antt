@@ -9,8 +9,8 @@ use Rattle.hz_description_model.proofs.Check.KeptLaws.{among, from_among}
 use Rattle.hz_laws.specs.Names.NameFaults.{IsAt}
 
 -- the sites of one form
-pub site_told : (line form : ℕ) (names : List (List ℕ)) (s : Site) → Contains (sites_of line form names) s ↔ (Contains names s.name × IsAt s line form)
-site_told line form names s = (there, back)
+pub site_reported : (line form : ℕ) (names : List (List ℕ)) (s : Site) → Contains (sites_of line form names) s ↔ (Contains names s.name × IsAt s line form)
+site_reported line form names s = (there, back)
   where
     there : Contains (sites_of line form names) s → Contains names s.name × IsAt s line form
     there c =

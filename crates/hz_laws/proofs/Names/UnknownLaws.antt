@@ -1,4 +1,4 @@
--- Names that are told as unknown.
+-- Names that are reported as unknown.
 use Rattle.std.proofs.Common.{inl, inr, ◌≡◌, ◌≢◌, ⊎_elim, ℕ, suc, Bool, false, List, [], ◌∷◌, ◌++◌, map, filter, Contains, All, Option, Some, None, refl, sym, ap, ◌∙◌, subst, arith}
 use Rattle.std.specs.Prelude.{◌↔◌, not}
 use Rattle.std.specs.List.{flat_map}
@@ -18,7 +18,7 @@ use Rattle.hz_description_model.proofs.Check.KeptLaws.{among, from_among}
 use Rattle.hz_laws.specs.Names.NameFaults.{IsAt}
 use Rattle.hz_laws.specs.Names.UnknownNames.{IsNoUnit, IsNoReservation, IsNoClass, IsNamedBy, IsOneOf, IsUnknownIn, IsUnknownName}
 use Rattle.hz_pipeline_model.proofs.Decidable.FlatLists.{from_flat_map, in_flat_map}
-use Rattle.hz_laws.proofs.Names.NamesAt.{site_told, among_items, kept}
+use Rattle.hz_laws.proofs.Names.NamesAt.{site_reported, among_items, kept}
 
 no_unit : (d : Description) (name : List ℕ) → is_unit d name ≡ false ↔ IsNoUnit d name
 no_unit d name = among_items (λ (u : UnitItem). u.name) d.units name
@@ -35,9 +35,9 @@ not_reservable d name = (
 in_expression : (d : Description) (e : Expression) (name : List ℕ) → Contains (unknown_in_expression d e) name ↔ (Contains (names_in e) name × IsNoUnit d name × IsNoReservation d name)
 in_expression d e name =
     let both = kept (is_reservable d) (names_in e) name in
-    let told = not_reservable d name in (
-      λ c. let found = both.0 c in let none = told.0 found.1 in (found.0, none.0, none.1),
-      λ h. both.1 (h.0, told.1 (h.1, h.2)),
+    let reported = not_reservable d name in (
+      λ c. let found = both.0 c in let none = reported.0 found.1 in (found.0, none.0, none.1),
+      λ h. both.1 (h.0, reported.1 (h.1, h.2)),
     )
 
 -- the attribute of a name, by its values
@@ -90,44 +90,44 @@ first_values attributes name before after a parts holds others = ap (λ (xs : Li
 -- Conditions.
 
 module _ (d : Description) (name : List ℕ) where
-  test_told : (attribute : List ℕ) (values : List (List ℕ)) (negated : Bool) (o : Option (List (List ℕ))) → values_of d.attributes attribute ≡ o → Contains (unknown_in_test o attribute values) name → IsUnknownIn d (condition.matches attribute values negated) name
-  test_told attribute values negated None e c = ⊎_elim
+  test_reported : (attribute : List ℕ) (values : List (List ℕ)) (negated : Bool) (o : Option (List (List ℕ))) → values_of d.attributes attribute ≡ o → Contains (unknown_in_test o attribute values) name → IsUnknownIn d (condition.matches attribute values negated) name
+  test_reported attribute values negated None e c = ⊎_elim
       (λ (same : attribute ≡ name). subst (λ (n : List ℕ). IsUnknownIn d (condition.matches attribute values negated) n) same (IsUnknownIn.of_attribute (values_none d.attributes attribute e)))
       (λ (k : Contains [] name). absurd (Contains-nil name k))
       (Contains-cons_cases attribute name [] c)
-  test_told attribute values negated (Some defined) e c =
+  test_reported attribute values negated (Some defined) e c =
       let (a, first, is) = values_some d.attributes attribute defined e in
       let found = (kept (λ n. is_among n defined) values name).0 c in
       IsUnknownIn.of_value first found.0 (λ k. both_ways (is_among name defined) found.1 (among name defined (subst (λ (xs : List (List ℕ)). Contains xs name) is k)))
 
   mutual
-    condition_told : (test : Condition) → Contains (unknown_in_condition d test) name → IsUnknownIn d test name
-    condition_told (condition.constant value) c = absurd (Contains-nil name c)
-    condition_told (condition.matches attribute values negated) c = test_told attribute values negated (values_of d.attributes attribute) refl c
-    condition_told (condition.negation test) c = IsUnknownIn.of_negation (condition_told test c)
-    condition_told (condition.conjunction tests) c = let found = conditions_told tests c in IsUnknownIn.of_conjunction found.1 found.2
-    condition_told (condition.disjunction tests) c = let found = conditions_told tests c in IsUnknownIn.of_disjunction found.1 found.2
+    condition_reported : (test : Condition) → Contains (unknown_in_condition d test) name → IsUnknownIn d test name
+    condition_reported (condition.constant value) c = absurd (Contains-nil name c)
+    condition_reported (condition.matches attribute values negated) c = test_reported attribute values negated (values_of d.attributes attribute) refl c
+    condition_reported (condition.negation test) c = IsUnknownIn.of_negation (condition_reported test c)
+    condition_reported (condition.conjunction tests) c = let found = conditions_reported tests c in IsUnknownIn.of_conjunction found.1 found.2
+    condition_reported (condition.disjunction tests) c = let found = conditions_reported tests c in IsUnknownIn.of_disjunction found.1 found.2
 
-    conditions_told : (tests : Conditions) → Contains (unknown_in_conditions d tests) name → (test : Condition) × IsOneOf test tests × IsUnknownIn d test name
-    conditions_told condition.none c = absurd (Contains-nil name c)
-    conditions_told (condition.more first others) c = ⊎_elim
-        (λ (k : Contains (unknown_in_condition d first) name). (first, IsOneOf.here, condition_told first k))
-        (λ (k : Contains (unknown_in_conditions d others) name). let found = conditions_told others k in (found.0, IsOneOf.later found.1, found.2))
+    conditions_reported : (tests : Conditions) → Contains (unknown_in_conditions d tests) name → (test : Condition) × IsOneOf test tests × IsUnknownIn d test name
+    conditions_reported condition.none c = absurd (Contains-nil name c)
+    conditions_reported (condition.more first others) c = ⊎_elim
+        (λ (k : Contains (unknown_in_condition d first) name). (first, IsOneOf.here, condition_reported first k))
+        (λ (k : Contains (unknown_in_conditions d others) name). let found = conditions_reported others k in (found.0, IsOneOf.later found.1, found.2))
         (Contains-append_cases (unknown_in_condition d first) (unknown_in_conditions d others) name c)
 
-  one_told : (test : Condition) (tests : Conditions) → IsOneOf test tests → Contains (unknown_in_condition d test) name → Contains (unknown_in_conditions d tests) name
-  one_told test _ (IsOneOf.here {others = others}) k = Contains-append_left (unknown_in_condition d test) (unknown_in_conditions d others) name k
-  one_told test _ (IsOneOf.later {first = first} {others = others} there) k = Contains-append_right (unknown_in_condition d first) (unknown_in_conditions d others) name (one_told test others there k)
+  one_reported : (test : Condition) (tests : Conditions) → IsOneOf test tests → Contains (unknown_in_condition d test) name → Contains (unknown_in_conditions d tests) name
+  one_reported test _ (IsOneOf.here {others = others}) k = Contains-append_left (unknown_in_condition d test) (unknown_in_conditions d others) name k
+  one_reported test _ (IsOneOf.later {first = first} {others = others} there) k = Contains-append_right (unknown_in_condition d first) (unknown_in_conditions d others) name (one_reported test others there k)
 
-told_condition : (d : Description) (test : Condition) (name : List ℕ) → IsUnknownIn d test name → Contains (unknown_in_condition d test) name
-told_condition d _ _ (IsUnknownIn.of_attribute {attribute = attribute} {values = values} none) =
+reported_condition : (d : Description) (test : Condition) (name : List ℕ) → IsUnknownIn d test name → Contains (unknown_in_condition d test) name
+reported_condition d _ _ (IsUnknownIn.of_attribute {attribute = attribute} {values = values} none) =
     subst (λ (o : Option (List (List ℕ))). Contains (unknown_in_test o attribute values) attribute) (sym (none_values d.attributes attribute none)) (Contains-head attribute [])
-told_condition d _ _ (IsUnknownIn.of_value {attribute = attribute} {value = value} {values = values} {a = a} first there lacks) =
+reported_condition d _ _ (IsUnknownIn.of_value {attribute = attribute} {value = value} {values = values} {a = a} first there lacks) =
     subst (λ (o : Option (List (List ℕ))). Contains (unknown_in_test o attribute values) value) (sym (first_values d.attributes attribute first.before first.after a first.parts first.holds first.others))
     ((kept (λ n. is_among n a.values) values value).1 (there, false_from_ne_true (is_among value a.values) (λ k. lacks (from_among value a.values k))))
-told_condition d _ _ (IsUnknownIn.of_negation {test = test} {name = name} h) = told_condition d test name h
-told_condition d _ _ (IsUnknownIn.of_conjunction {test = test} {tests = tests} {name = name} there h) = one_told d name test tests there (told_condition d test name h)
-told_condition d _ _ (IsUnknownIn.of_disjunction {test = test} {tests = tests} {name = name} there h) = one_told d name test tests there (told_condition d test name h)
+reported_condition d _ _ (IsUnknownIn.of_negation {test = test} {name = name} h) = reported_condition d test name h
+reported_condition d _ _ (IsUnknownIn.of_conjunction {test = test} {tests = tests} {name = name} there h) = one_reported d name test tests there (reported_condition d test name h)
+reported_condition d _ _ (IsUnknownIn.of_disjunction {test = test} {tests = tests} {name = name} there h) = one_reported d name test tests there (reported_condition d test name h)
 
 -- Unknown names, list by list.
 
@@ -146,26 +146,26 @@ of_sets d = flat_map (λ s. sites_of s.line s.form (filter (λ name. not (is_uni
 abbrev of_attributes : Description → List Site
 of_attributes d = flat_map (λ a. sites_of a.line a.form (filter (λ name. not (is_among name a.values)) (a.fallback ∷ []))) d.attributes
 
-reservation_told : (d : Description) (s : Site) → Contains (of_reservations d) s → IsUnknownName d s
-reservation_told d s c =
-    let (r, there, told) = from_flat_map (λ r. sites_of r.line r.form (unknown_in_expression d r.expression)) d.reservations s c in
-    let found = (site_told r.line r.form (unknown_in_expression d r.expression) s).0 told in
+reservation_reported : (d : Description) (s : Site) → Contains (of_reservations d) s → IsUnknownName d s
+reservation_reported d s c =
+    let (r, there, reported) = from_flat_map (λ r. sites_of r.line r.form (unknown_in_expression d r.expression)) d.reservations s c in
+    let found = (site_reported r.line r.form (unknown_in_expression d r.expression) s).0 reported in
     let none = (in_expression d r.expression s.name).0 found.0 in
     IsUnknownName.of_reservation {r = r} there found.1 none.0 none.1 none.2
 
-class_told : (d : Description) (s : Site) → Contains (of_classes d) s → IsUnknownName d s
-class_told d s c =
-    let (k, there, told) = from_flat_map (λ c. sites_of c.line c.form (unknown_in_condition d c.condition ++ unknown_in_expression d c.expression)) d.classes s c in
-    let found = (site_told k.line k.form (unknown_in_condition d k.condition ++ unknown_in_expression d k.expression) s).0 told in
+class_reported : (d : Description) (s : Site) → Contains (of_classes d) s → IsUnknownName d s
+class_reported d s c =
+    let (k, there, reported) = from_flat_map (λ c. sites_of c.line c.form (unknown_in_condition d c.condition ++ unknown_in_expression d c.expression)) d.classes s c in
+    let found = (site_reported k.line k.form (unknown_in_condition d k.condition ++ unknown_in_expression d k.expression) s).0 reported in
     ⊎_elim
-    (λ (i : Contains (unknown_in_condition d k.condition) s.name). IsUnknownName.of_condition {c = k} there found.1 (condition_told d s.name k.condition i))
+    (λ (i : Contains (unknown_in_condition d k.condition) s.name). IsUnknownName.of_condition {c = k} there found.1 (condition_reported d s.name k.condition i))
     (λ (i : Contains (unknown_in_expression d k.expression) s.name). let none = (in_expression d k.expression s.name).0 i in IsUnknownName.of_class {c = k} there found.1 none.0 none.1 none.2)
     (Contains-append_cases (unknown_in_condition d k.condition) (unknown_in_expression d k.expression) s.name found.0)
 
-bypass_told : (d : Description) (s : Site) → Contains (of_bypasses d) s → IsUnknownName d s
-bypass_told d s c =
-    let (b, there, told) = from_flat_map (λ b. sites_of b.line b.form (filter (λ name. not (is_class d name)) (names_of_bypass b))) d.bypasses s c in
-    let found = (site_told b.line b.form (filter (λ name. not (is_class d name)) (names_of_bypass b)) s).0 told in
+bypass_reported : (d : Description) (s : Site) → Contains (of_bypasses d) s → IsUnknownName d s
+bypass_reported d s c =
+    let (b, there, reported) = from_flat_map (λ b. sites_of b.line b.form (filter (λ name. not (is_class d name)) (names_of_bypass b))) d.bypasses s c in
+    let found = (site_reported b.line b.form (filter (λ name. not (is_class d name)) (names_of_bypass b)) s).0 reported in
     let none = (kept (is_class d) (names_of_bypass b) s.name).0 found.0 in
     IsUnknownName.of_bypass {b = b} there found.1 (Contains-append_cases b.outs b.ins s.name none.0) ((no_class d s.name).0 none.1)
 
@@ -182,70 +182,70 @@ named_by e name = (
       h,
 )
 
-set_told : (d : Description) (s : Site) → Contains (of_sets d) s → IsUnknownName d s
-set_told d s c =
-    let (e, there, told) = from_flat_map (λ s. sites_of s.line s.form (filter (λ name. not (is_unit d name)) (names_of_set s))) d.sets s c in
-    let found = (site_told e.line e.form (filter (λ name. not (is_unit d name)) (names_of_set e)) s).0 told in
+set_reported : (d : Description) (s : Site) → Contains (of_sets d) s → IsUnknownName d s
+set_reported d s c =
+    let (e, there, reported) = from_flat_map (λ s. sites_of s.line s.form (filter (λ name. not (is_unit d name)) (names_of_set s))) d.sets s c in
+    let found = (site_reported e.line e.form (filter (λ name. not (is_unit d name)) (names_of_set e)) s).0 reported in
     let none = (kept (is_unit d) (names_of_set e) s.name).0 found.0 in
     IsUnknownName.of_set {e = e} there found.1 ((named_by e s.name).0 none.0) ((no_unit d s.name).0 none.1)
 
-default_told : (d : Description) (s : Site) → Contains (of_attributes d) s → IsUnknownName d s
-default_told d s c =
-    let (a, there, told) = from_flat_map (λ a. sites_of a.line a.form (filter (λ name. not (is_among name a.values)) (a.fallback ∷ []))) d.attributes s c in
-    let found = (site_told a.line a.form (filter (λ name. not (is_among name a.values)) (a.fallback ∷ [])) s).0 told in
+default_reported : (d : Description) (s : Site) → Contains (of_attributes d) s → IsUnknownName d s
+default_reported d s c =
+    let (a, there, reported) = from_flat_map (λ a. sites_of a.line a.form (filter (λ name. not (is_among name a.values)) (a.fallback ∷ []))) d.attributes s c in
+    let found = (site_reported a.line a.form (filter (λ name. not (is_among name a.values)) (a.fallback ∷ [])) s).0 reported in
     let none = (kept (λ name. is_among name a.values) (a.fallback ∷ []) s.name).0 found.0 in
     IsUnknownName.of_default {a = a} there found.1
     (⊎_elim (λ (same : a.fallback ≡ s.name). sym same) (λ (k : Contains [] s.name). absurd (Contains-nil s.name k)) (Contains-cons_cases a.fallback s.name [] none.0))
     (λ k. both_ways (is_among s.name a.values) none.1 (among s.name a.values k))
 
-unknown_told : (d : Description) (s : Site) → Contains (unknown_names d) s → IsUnknownName d s
-unknown_told d s c = ⊎_elim
+unknown_reported : (d : Description) (s : Site) → Contains (unknown_names d) s → IsUnknownName d s
+unknown_reported d s c = ⊎_elim
     (λ (k : Contains (of_reservations d ++ of_classes d ++ of_bypasses d ++ of_sets d) s). ⊎_elim
     (λ (k : Contains (of_reservations d ++ of_classes d ++ of_bypasses d) s). ⊎_elim
-    (λ (k : Contains (of_reservations d ++ of_classes d) s). ⊎_elim (reservation_told d s) (class_told d s) (Contains-append_cases (of_reservations d) (of_classes d) s k))
-    (bypass_told d s) (Contains-append_cases (of_reservations d ++ of_classes d) (of_bypasses d) s k))
-    (set_told d s) (Contains-append_cases (of_reservations d ++ of_classes d ++ of_bypasses d) (of_sets d) s k))
-    (default_told d s) (Contains-append_cases (of_reservations d ++ of_classes d ++ of_bypasses d ++ of_sets d) (of_attributes d) s c)
+    (λ (k : Contains (of_reservations d ++ of_classes d) s). ⊎_elim (reservation_reported d s) (class_reported d s) (Contains-append_cases (of_reservations d) (of_classes d) s k))
+    (bypass_reported d s) (Contains-append_cases (of_reservations d ++ of_classes d) (of_bypasses d) s k))
+    (set_reported d s) (Contains-append_cases (of_reservations d ++ of_classes d ++ of_bypasses d) (of_sets d) s k))
+    (default_reported d s) (Contains-append_cases (of_reservations d ++ of_classes d ++ of_bypasses d ++ of_sets d) (of_attributes d) s c)
 
--- what the first lists tell is told
+-- what the first lists tell is reported
 of_first : (d : Description) (s : Site) → Contains (of_reservations d ++ of_classes d) s → Contains (unknown_names d) s
 of_first d s k = Contains-append_left (of_reservations d ++ of_classes d ++ of_bypasses d ++ of_sets d) (of_attributes d) s
     (Contains-append_left (of_reservations d ++ of_classes d ++ of_bypasses d) (of_sets d) s (Contains-append_left (of_reservations d ++ of_classes d) (of_bypasses d) s k))
 
-told_class : (d : Description) (s : Site) (c : ClassItem) → Contains d.classes c → IsAt s c.line c.form → Contains (unknown_in_condition d c.condition ++ unknown_in_expression d c.expression) s.name → Contains (unknown_names d) s
-told_class d s c there place k = of_first d s (Contains-append_right (of_reservations d) (of_classes d) s
+reported_class : (d : Description) (s : Site) (c : ClassItem) → Contains d.classes c → IsAt s c.line c.form → Contains (unknown_in_condition d c.condition ++ unknown_in_expression d c.expression) s.name → Contains (unknown_names d) s
+reported_class d s c there place k = of_first d s (Contains-append_right (of_reservations d) (of_classes d) s
     (in_flat_map (λ c. sites_of c.line c.form (unknown_in_condition d c.condition ++ unknown_in_expression d c.expression)) d.classes c s there
-    ((site_told c.line c.form (unknown_in_condition d c.condition ++ unknown_in_expression d c.expression) s).1 (k, place))))
+    ((site_reported c.line c.form (unknown_in_condition d c.condition ++ unknown_in_expression d c.expression) s).1 (k, place))))
 
-told_unknown : (d : Description) (s : Site) → IsUnknownName d s → Contains (unknown_names d) s
-told_unknown d s (IsUnknownName.of_reservation {r = r} there place named unit reservation) = of_first d s (Contains-append_left (of_reservations d) (of_classes d) s
+reported_unknown : (d : Description) (s : Site) → IsUnknownName d s → Contains (unknown_names d) s
+reported_unknown d s (IsUnknownName.of_reservation {r = r} there place named unit reservation) = of_first d s (Contains-append_left (of_reservations d) (of_classes d) s
     (in_flat_map (λ r. sites_of r.line r.form (unknown_in_expression d r.expression)) d.reservations r s there
-    ((site_told r.line r.form (unknown_in_expression d r.expression) s).1 ((in_expression d r.expression s.name).1 (named, unit, reservation), place))))
-told_unknown d s (IsUnknownName.of_class {c = c} there place named unit reservation) =
-    told_class d s c there place (Contains-append_right (unknown_in_condition d c.condition) (unknown_in_expression d c.expression) s.name ((in_expression d c.expression s.name).1 (named, unit, reservation)))
-told_unknown d s (IsUnknownName.of_condition {c = c} there place named) =
-    told_class d s c there place (Contains-append_left (unknown_in_condition d c.condition) (unknown_in_expression d c.expression) s.name (told_condition d c.condition s.name named))
-told_unknown d s (IsUnknownName.of_bypass {b = b} there place named none) =
+    ((site_reported r.line r.form (unknown_in_expression d r.expression) s).1 ((in_expression d r.expression s.name).1 (named, unit, reservation), place))))
+reported_unknown d s (IsUnknownName.of_class {c = c} there place named unit reservation) =
+    reported_class d s c there place (Contains-append_right (unknown_in_condition d c.condition) (unknown_in_expression d c.expression) s.name ((in_expression d c.expression s.name).1 (named, unit, reservation)))
+reported_unknown d s (IsUnknownName.of_condition {c = c} there place named) =
+    reported_class d s c there place (Contains-append_left (unknown_in_condition d c.condition) (unknown_in_expression d c.expression) s.name (reported_condition d c.condition s.name named))
+reported_unknown d s (IsUnknownName.of_bypass {b = b} there place named none) =
     Contains-append_left (of_reservations d ++ of_classes d ++ of_bypasses d ++ of_sets d) (of_attributes d) s
     (Contains-append_left (of_reservations d ++ of_classes d ++ of_bypasses d) (of_sets d) s
     (Contains-append_right (of_reservations d ++ of_classes d) (of_bypasses d) s
     (in_flat_map (λ b. sites_of b.line b.form (filter (λ name. not (is_class d name)) (names_of_bypass b))) d.bypasses b s there
-    ((site_told b.line b.form (filter (λ name. not (is_class d name)) (names_of_bypass b)) s).1 (
+    ((site_reported b.line b.form (filter (λ name. not (is_class d name)) (names_of_bypass b)) s).1 (
       (kept (is_class d) (names_of_bypass b) s.name).1 (
         ⊎_elim (λ (k : Contains b.outs s.name). Contains-append_left b.outs b.ins s.name k) (λ (k : Contains b.ins s.name). Contains-append_right b.outs b.ins s.name k) named,
         (no_class d s.name).1 none,
       ),
       place,
     )))))
-told_unknown d s (IsUnknownName.of_set {e = e} there place named none) =
+reported_unknown d s (IsUnknownName.of_set {e = e} there place named none) =
     Contains-append_left (of_reservations d ++ of_classes d ++ of_bypasses d ++ of_sets d) (of_attributes d) s
     (Contains-append_right (of_reservations d ++ of_classes d ++ of_bypasses d) (of_sets d) s
     (in_flat_map (λ s. sites_of s.line s.form (filter (λ name. not (is_unit d name)) (names_of_set s))) d.sets e s there
-    ((site_told e.line e.form (filter (λ name. not (is_unit d name)) (names_of_set e)) s).1 ((kept (is_unit d) (names_of_set e) s.name).1 ((named_by e s.name).1 named, (no_unit d s.name).1 none), place))))
-told_unknown d s (IsUnknownName.of_default {a = a} there place same lacks) =
+    ((site_reported e.line e.form (filter (λ name. not (is_unit d name)) (names_of_set e)) s).1 ((kept (is_unit d) (names_of_set e) s.name).1 ((named_by e s.name).1 named, (no_unit d s.name).1 none), place))))
+reported_unknown d s (IsUnknownName.of_default {a = a} there place same lacks) =
     Contains-append_right (of_reservations d ++ of_classes d ++ of_bypasses d ++ of_sets d) (of_attributes d) s
     (in_flat_map (λ a. sites_of a.line a.form (filter (λ name. not (is_among name a.values)) (a.fallback ∷ []))) d.attributes a s there
-    ((site_told a.line a.form (filter (λ name. not (is_among name a.values)) (a.fallback ∷ [])) s).1 (
+    ((site_reported a.line a.form (filter (λ name. not (is_among name a.values)) (a.fallback ∷ [])) s).1 (
       (kept (λ name. is_among name a.values) (a.fallback ∷ []) s.name).1 (
         subst (λ (n : List ℕ). Contains (a.fallback ∷ []) n) (sym same) (Contains-head a.fallback []),
         false_from_ne_true (is_among s.name a.values) (λ k. lacks (from_among s.name a.values k)),
@@ -254,4 +254,4 @@ told_unknown d s (IsUnknownName.of_default {a = a} there place same lacks) =
     )))
 
 pub unknown_name : (d : Description) (s : Site) → Contains (unknown_names d) s ↔ IsUnknownName d s
-unknown_name d s = (unknown_told d s, told_unknown d s)
+unknown_name d s = (unknown_reported d s, reported_unknown d s)

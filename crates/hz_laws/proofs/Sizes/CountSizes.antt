@@ -1,4 +1,4 @@
--- The counts that are told of a compiled automaton are small, its rows are few, and where states are not shown nothing is told
+-- The counts that are reported of a compiled automaton are small, its rows are few, and where states are not shown nothing is reported
 -- of them.
 use Rattle.std.proofs.Common.{◌≡◌, ℕ, ◌+◌, ◌^◌, ◌<◌, ◌≤◌, Bool, true, false, List, length, All, Option, None, ⊎_elim, sym, subst, arith, ap, ◌∙◌, []}
 use Rattle.std.specs.Prelude.{MatchBool, IsSomeAnd, slice_index_or}
@@ -21,7 +21,7 @@ use Rattle.hz_pipeline_model.proofs.Single.PartLaws.{filled_part}
 use Rattle.hz_laws.specs.Sizes.Extents.{unnamed_limit, bytes_of_names}
 use Rattle.hz_laws.proofs.Sizes.RowSizes.{rows_few}
 use Rattle.hz_laws.proofs.Sizes.TextSizes.{TellsCounts, spelled_most}
-use Rattle.hz_block_model.proofs.Settling.AlikeStates.{IsTold}
+use Rattle.hz_block_model.proofs.Settling.AlikeStates.{IsReported}
 use Rattle.hz_block_model.proofs.Settling.AskedTreatment.{first_where_asked}
 use Rattle.hz_description_model.specs.Check.CheckedShape.{AskNothingUnderNdfa}
 
@@ -67,7 +67,7 @@ module _ (options : Options) (automata : List AutomatonParts) (classes : List Cl
       let shown = shows_states options in
       let within = part.within.counts in
       let fits = machine.parts a no_part low in
-      let told : IsTold (length classes) (automaton_pipeline options automata classes a) (queries_at automata a) (part_at m a) = record {
+      let reported : IsReported (length classes) (automaton_pipeline options automata classes a) (queries_at automata a) (part_at m a) = record {
         shape = record { table = fits.table; stays = fits.stays };
         filled = filled_part options.no_minimization options automata classes a (part_at m a) (report_at reports a) part;
         walks = part.walks;
@@ -75,7 +75,7 @@ module _ (options : Options) (automata : List AutomatonParts) (classes : List Cl
         asks = sym (ap length part.asks ∙ length-map (queries_at automata a) (λ unit. slice_index_or (automaton_at automata a).units unit []));
         first = first_where_asked options automata classes nothing a (omega (arith, low, each));
       } in
-      let few = rows_few (length classes) (automaton_pipeline options automata classes a) (queries_at automata a) (part_at m a) told options.no_minimization part.tells (within grids) part.numbered.reached (cap_of shown states) (within states) in
+      let few = rows_few (length classes) (automaton_pipeline options automata classes a) (queries_at automata a) (part_at m a) reported options.no_minimization part.tells (within grids) part.numbered.reached (cap_of shown states) (within states) in
       let caps = caps_low shown in
       let here : length (part_at m a).rows ≤ state_limit = omega (arith, few, caps.1) in
       subst (λ (p : Part). length p.rows ≤ state_limit) (sym (get_or_default m.parts a d no_part low)) here

@@ -22,35 +22,35 @@ use Rattle.hz_block_model.proofs.Settling.RunLaws.{run_there}
 use Rattle.hz_pipeline_model.proofs.Single.WordLaws.{Spells, spell}
 use Rattle.hz_pipeline_model.proofs.Single.LeftLaws.{left_not_none}
 use Rattle.hz_pipeline_model.proofs.Asks.BareWords.{bare, bare_columns, bare_walk}
-use Rattle.hz_block_model.proofs.Settling.AlikeStates.{IsTold, IsAlike, walked_alike}
+use Rattle.hz_block_model.proofs.Settling.AlikeStates.{IsReported, IsAlike, walked_alike}
 use Rattle.hz_pipeline_model.specs.Accepting.Asking.{IsHeld}
 use Rattle.hz_pipeline_model.proofs.Reaching.HeldLaws.{held_is_present}
 
--- what can be run behind some events can be run behind others that leave the same
+-- what can be run after some events can be run after others that leave the same
 module _ {U : Type 0} (m : Pipeline U) where
   accepted_also : (t u v : List Event) (xs ys : List (List (Pair U))) → IsLeft m t xs → IsLeft m u ys → HasGrids xs ys → Accepted m (t ++ v) → Accepted m (u ++ v)
   accepted_also t u v xs ys left left' has accepted =
       let (q, run) = runs_from_accepted m (t ++ v) accepted in
-      let (r, before, behind) = run_split m start q t v run in
+      let (r, before, beyond) = run_split m start q t v run in
       let grid = planned r in
       let (one, there, same) = left.all grid (leaves_from_plays m t grid (r, before, planned_future r)) in
       let (other, there', same') = has one there in
       let (s, run', future) = plays_from_leaves m u other (left'.only other there') in
       let own = future_with other grid r (same_pairs_then other one grid (same_pairs_back one other same') same) (planned_future r) in
-      let (o, also, last, this, that) = run_there m v other r s q own future (unbroken_run m t r before) (unbroken_run m u s run') behind in
+      let (o, also, last, this, that) = run_there m v other r s q own future (unbroken_run m t r before) (unbroken_run m u s run') beyond in
       accepted_from_runs m (u ++ v) (o, run_join m start s o u v run' also)
 
   -- and then the same is held
   held_also : m.treatment ≡ first_fit → (t u v : List Event) (xs ys : List (List (Pair U))) → IsLeft m t xs → IsLeft m u ys → HasGrids xs ys → Accepted m (t ++ v) → (unit : U) → IsHeld m (t ++ v) unit ↔ IsHeld m (u ++ v) unit
   held_also first t u v xs ys left left' has accepted unit =
       let (q, run) = runs_from_accepted m (t ++ v) accepted in
-      let (r, before, behind) = run_split m start q t v run in
+      let (r, before, beyond) = run_split m start q t v run in
       let grid = planned r in
       let (one, there, same) = left.all grid (leaves_from_plays m t grid (r, before, planned_future r)) in
       let (other, there', same') = has one there in
       let (s, run', future) = plays_from_leaves m u other (left'.only other there') in
       let own = future_with other grid r (same_pairs_then other one grid (same_pairs_back one other same') same) (planned_future r) in
-      let (o, also, last, this, that) = run_there m v other r s q own future (unbroken_run m t r before) (unbroken_run m u s run') behind in
+      let (o, also, last, this, that) = run_there m v other r s q own future (unbroken_run m t r before) (unbroken_run m u s run') beyond in
       let here = held_is_present m first (t ++ v) last (leaves_from_plays m (t ++ v) last (q, run, this)) unit in
       let later = held_is_present m first (u ++ v) last (leaves_from_plays m (u ++ v) last (o, run_join m start s o u v run' also, that)) unit in
       (λ h. later.1 (here.0 h), λ h. here.1 (later.0 h))
@@ -62,9 +62,9 @@ module _ {U : Type 0} (m : Pipeline U) where
     held = λ first v h unit. held_also first t u v xs ys left left' same.there h unit;
   }
 
-module _ {U : Type 0} (classes : ℕ) (m : Pipeline U) (queries : List U) (part : Part) (told : IsTold classes m queries part) where
+module _ {U : Type 0} (classes : ℕ) (m : Pipeline U) (queries : List U) (part : Part) (reported : IsReported classes m queries part) where
   walks : WalksAccepted classes m part
-  walks = told.walks
+  walks = reported.walks
 
   -- events that lead to a state, and what they leave
   record LeadsTo (state : ℕ) (xs : List (List (Pair U))) : Type 0 where
@@ -86,7 +86,7 @@ module _ {U : Type 0} (classes : ℕ) (m : Pipeline U) (queries : List U) (part 
       (λ (e : i ≡ j). e)
       (λ (differ : i ≢ j).
       let tell = apart.apart i j low low' differ in
-      absurd (tell.once (walked_alike classes m queries part told t.events u.events t.inside u.inside (alike_where_left m t.events u.events xs ys t.left u.left same) tell.word i j t.ends u.ends)))
+      absurd (tell.once (walked_alike classes m queries part reported t.events u.events t.inside u.inside (alike_where_left m t.events u.events xs ys t.left u.left same) tell.word i j t.ends u.ends)))
       (cases_eq i j)
 
   -- lists of grids to which events lead at the states from this one on
@@ -100,8 +100,8 @@ module _ {U : Type 0} (classes : ℕ) (m : Pipeline U) (queries : List U) (part 
   leads_not_none {weight} {n} most reached (suc count) state low none =
       let (w, e) = reached state (omega (arith, low)) in
       let columns = bare part.columns (length part.asks) w in
-      let s : Spells classes part columns = spell classes part told.filled columns (bare_columns part.columns (length part.asks) w) in
-      let ends = ap (walk part.rows (Some 0)) s.word ∙ bare_walk part.rows part.columns (length part.asks) told.shape.table told.shape.stays w 0 state e in
+      let s : Spells classes part columns = spell classes part reported.filled columns (bare_columns part.columns (length part.asks) w) in
+      let ends = ap (walk part.rows (Some 0)) s.word ∙ bare_walk part.rows part.columns (length part.asks) reported.shape.table reported.shape.stays w 0 state e in
       left_not_none m weight n most s.events (λ xs left.
       leads_not_none most reached count (suc state) (omega (arith, low)) (λ items long lead.
       none (xs ∷ items) (ap suc long) (record { events = s.events; inside = s.inside; ends = ends; left = left }, lead)))
@@ -111,16 +111,16 @@ module _ {U : Type 0} (classes : ℕ) (m : Pipeline U) (queries : List U) (part 
   reached_all state (xs ∷ items) lead = All-cons (IsReachedState m) xs items (lead.0.events, accepted state xs lead.0, lead.0.left) (reached_all (suc state) items lead.1)
 
   module _ (stay : Bool) (tells : MatchBool stay (TellsWhatIsLeft classes m part) (AllApart part.rows)) where
-    apart_behind : (i : ℕ) (xs : List (List (Pair U))) → i < length part.rows → LeadsTo i xs → (state : ℕ) → i < state → (items : List (List (List (Pair U)))) → state + length items ≤ length part.rows → LeadFrom state items → All (λ ys. SameGrids xs ys → ⊥) items
-    apart_behind i xs low t state before [] within lead = All-nil (λ ys. SameGrids xs ys → ⊥)
-    apart_behind i xs low t state before (ys ∷ items) within lead = All-cons (λ zs. SameGrids xs zs → ⊥) ys items
+    apart_after : (i : ℕ) (xs : List (List (Pair U))) → i < length part.rows → LeadsTo i xs → (state : ℕ) → i < state → (items : List (List (List (Pair U)))) → state + length items ≤ length part.rows → LeadFrom state items → All (λ ys. SameGrids xs ys → ⊥) items
+    apart_after i xs low t state before [] within lead = All-nil (λ ys. SameGrids xs ys → ⊥)
+    apart_after i xs low t state before (ys ∷ items) within lead = All-cons (λ zs. SameGrids xs zs → ⊥) ys items
         (λ same. let one = same_state stay tells i state low (omega (arith, within)) xs ys t lead.0 same in omega (arith, one, before))
-        (apart_behind i xs low t (suc state) (omega (arith, before)) items (omega (arith, within)) lead.1)
+        (apart_after i xs low t (suc state) (omega (arith, before)) items (omega (arith, within)) lead.1)
 
     all_apart : (state : ℕ) (items : List (List (List (Pair U)))) → state + length items ≤ length part.rows → LeadFrom state items → AreDifferent SameGrids items
     all_apart state [] within lead = λ i j d less low. absurd (omega (arith, low))
     all_apart state (xs ∷ items) within lead = AllPairs-cons (λ x y. SameGrids x y → ⊥) xs items
-        (apart_behind state xs (omega (arith, within)) lead.0 (suc state) (omega arith) items (omega (arith, within)) lead.1)
+        (apart_after state xs (omega (arith, within)) lead.0 (suc state) (omega arith) items (omega (arith, within)) lead.1)
         (all_apart (suc state) items (omega (arith, within)) lead.1)
 
     -- as many rows as states, at most

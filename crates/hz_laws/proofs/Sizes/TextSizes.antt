@@ -1,4 +1,4 @@
--- How long the text of a machine is, beside its names, where nothing is told of its states.
+-- How long the text of a machine is, beside its names, where nothing is reported of its states.
 use Rattle.std.proofs.Common.{◌≡◌, ℕ, zero, suc, ◌+◌, ◌*◌, ◌^◌, ◌<◌, ◌≤◌, Bool, true, false, List, [], ◌∷◌, ◌++◌, map, length, get_or, All, Option, Some, None, if◌then◌else◌, refl, sym, ◌∙◌, subst, arith, decimal, codes, not}
 use Rattle.std.specs.List.{sum_by, flat_map, enumerate_from}
 use Rattle.std.proofs.lemmas.Fmt.{length-decimal-le}
@@ -167,12 +167,12 @@ treatment_most : (ndfa : Bool) → line_bytes (treatment_line ndfa) ≤ 16
 treatment_most true = omega (arith, line_is (codes "treatment") (codes "ndfa" ∷ []), sum_by-cons (λ f. length f + 1) (codes "ndfa") [])
 treatment_most false = omega (arith, line_is (codes "treatment") (codes "first" ∷ []), sum_by-cons (λ f. length f + 1) (codes "first") [])
 
--- what is said of a machine of whose states nothing is told
+-- what is said of a machine of whose states nothing is reported
 module _ (options : Options) (automata : List AutomatonParts) (reports : List Report) (m : Machine) where
   abbrev said_at : ℕ × Part → PartText
   said_at part = part_said options.stats (automaton_at automata part.0).units (report_at reports part.0) part.1
 
-  -- counts that can be told, and nothing of states
+  -- counts that can be reported, and nothing of states
   pub record TellsCounts (a : ℕ) : Type 0 where
     pub counts : AreCounts (counts_said (report_at reports a))
     pub nothing : (report_at reports a).shown ≡ None
@@ -186,14 +186,14 @@ module _ (options : Options) (automata : List AutomatonParts) (reports : List Re
       let long : length says ≡ length m.parts = length-map (enumerate_from 0 m.parts) said_at ∙ length-enumerate_from 0 m.parts in
       let parts : text_bytes (flat_map (part_lines asked) says) ≤ length m.parts * part_limit + sum_by (λ part. length part.name) m.parts + sum_by length (names_of m.parts) = parts_most asked said_at 0 m.parts (λ a low.
       let at : 0 + a ≡ a = omega arith in
-      let told = tells a low in
+      let reported = tells a low in
       subst (λ (k : ℕ). text_bytes (part_lines asked (said_at (k, get_or m.parts a no_part))) ≤ name_bytes (get_or m.parts a no_part) + part_limit) (sym at)
-      (part_most asked (length m.classes) options.stats (automaton_at automata a).units (report_at reports a) (get_or m.parts a no_part) class_count (is.parts a no_part low) (rows a no_part low) told.counts told.nothing)) in
+      (part_most asked (length m.classes) options.stats (automaton_at automata a).units (report_at reports a) (get_or m.parts a no_part) class_count (is.parts a no_part low) (rows a no_part low) reported.counts reported.nothing)) in
       let title = header_line asked in
       let classes = codes "classes" ∷ decimal (length m.classes) ∷ [] in
       let automata_line = codes "automata" ∷ decimal (length says) ∷ [] in
-      let behind = flat_map (part_lines asked) says ++ (codes "end" ∷ []) ∷ [] in
-      let after = map class_line m.classes ++ automata_line ∷ behind in
+      let beyond = flat_map (part_lines asked) says ++ (codes "end" ∷ []) ∷ [] in
+      let after = map class_line m.classes ++ automata_line ∷ beyond in
       omega (
         arith,
         few,
@@ -206,9 +206,9 @@ module _ (options : Options) (automata : List AutomatonParts) (reports : List Re
         treatment_most options.ndfa,
         text_more classes after,
         number_most (codes "classes") (length m.classes) (omega (arith, class_count)),
-        text_append (map class_line m.classes) (automata_line ∷ behind),
+        text_append (map class_line m.classes) (automata_line ∷ beyond),
         classes_most m.classes,
-        text_more automata_line behind,
+        text_more automata_line beyond,
         number_most (codes "automata") (length says) (omega (arith, few, long)),
         text_append (flat_map (part_lines asked) says) ((codes "end" ∷ []) ∷ []),
         text_more (codes "end" ∷ []) [],

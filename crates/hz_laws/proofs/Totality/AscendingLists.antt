@@ -10,7 +10,7 @@ use Rattle.std.proofs.lemmas.List.Kept.{AllPairs-cons}
 use Rattle.hz_base_model.specs.Pairs.{Pair, grid_cmp}
 use Rattle.hz_base_model.proofs.Ascending.{AllPairs-head, AllPairs-tail, AllPairs-append}
 use Rattle.hz_base_model.proofs.Elements.{Contains-nil, Contains-head, Contains-tail, Contains-cons_cases}
-use Rattle.hz_pipeline_model.proofs.Decidable.ToldLaws.{IsTold}
+use Rattle.hz_pipeline_model.proofs.Decidable.DecidedLaws.{IsDecided}
 use Rattle.hz_base_model.proofs.PairOrder.{grid_total, grid_exact}
 
 -- The items of the one list and one more, in ascending order.
@@ -144,10 +144,10 @@ pub record AreBelow (P : ℕ → Type 0) (n : ℕ) (xs : List ℕ) : Type 0 wher
   pub only : (b : ℕ) → Contains xs b → (b < n) × P b
   pub all : (b : ℕ) → b < n → P b → Contains xs b
 
-pub numbers_listed : (P : ℕ → Type 0) → ((b : ℕ) → IsTold (P b)) → (n : ℕ) → (xs : List ℕ) × AreBelow P n xs
-numbers_listed P told zero = ([], record { up = none_ascends (λ a b. a < b); only = λ b h. absurd (Contains-nil b h); all = λ b low is. absurd (omega (arith, low)) })
-numbers_listed P told (suc n) =
-    let (xs, are) = numbers_listed P told n in
+pub numbers_listed : (P : ℕ → Type 0) → ((b : ℕ) → IsDecided (P b)) → (n : ℕ) → (xs : List ℕ) × AreBelow P n xs
+numbers_listed P reported zero = ([], record { up = none_ascends (λ a b. a < b); only = λ b h. absurd (Contains-nil b h); all = λ b low is. absurd (omega (arith, low)) })
+numbers_listed P reported (suc n) =
+    let (xs, are) = numbers_listed P reported n in
     ⊎_elim
     (λ (is : P n). (
       xs ++ n ∷ [],
@@ -181,4 +181,4 @@ numbers_listed P told (suc n) =
             (cases_lt b n);
       },
     ))
-    (told n)
+    (reported n)

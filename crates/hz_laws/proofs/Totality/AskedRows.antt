@@ -47,20 +47,20 @@ module _ (columns asks : ℕ) (marks : ℕ → ℕ → Bool) where
     class_there : (column : ℕ) → column < columns → get_or (asked_row state row) column None ≡ get_or row column None
     class_there column low = get_or_append_left (take columns row) (marks_at state ++ drop columns row) None column (omega (arith, low, front)) ∙ get_or-take columns row column None low
 
-    behind_front : (place : ℕ) → get_or (asked_row state row) (columns + place) None ≡ get_or (marks_at state ++ drop columns row) place None
-    behind_front place =
+    after_front : (place : ℕ) → get_or (asked_row state row) (columns + place) None ≡ get_or (marks_at state ++ drop columns row) place None
+    after_front place =
         let at : columns + place - columns ≡ place = omega arith in
         get_or-append_right (take columns row) (marks_at state ++ drop columns row) columns (columns + place) None front (omega arith) ∙ ap (λ n. get_or (marks_at state ++ drop columns row) n None) at
 
     mark_there : (ask : ℕ) → ask < asks → get_or (asked_row state row) (columns + ask) None ≡ mark_at state ask
     mark_there ask low =
-        behind_front ask ∙ (get_or_append_left (marks_at state) (drop columns row) None ask (omega (arith, low, many_marks state)) ∙ get_or-map-range_with_len (mark_at state) 0 asks ask ask None low (omega arith))
+        after_front ask ∙ (get_or_append_left (marks_at state) (drop columns row) None ask (omega (arith, low, many_marks state)) ∙ get_or-map-range_with_len (mark_at state) 0 asks ask ask None low (omega arith))
 
     advance_there : get_or (asked_row state row) (columns + asks) None ≡ get_or row columns None
     advance_there =
         let none : asks - asks ≡ 0 = omega arith in
         let at : columns + 0 ≡ columns = omega arith in
-        behind_front asks
+        after_front asks
         ∙ (get_or-append_right (marks_at state) (drop columns row) asks asks None (many_marks state) (omega arith)
         ∙ (ap (λ n. get_or (drop columns row) n None) none ∙ (get_or-drop columns row 0 None ∙ ap (λ n. get_or row n None) at)))
 

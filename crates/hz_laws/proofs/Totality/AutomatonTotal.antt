@@ -27,11 +27,11 @@ use Rattle.hz_pipeline_model.specs.Reaching.Reach.{AreDifferent, Leaves, IsLeft,
 use Rattle.hz_pipeline_model.proofs.Reaching.AutomatonLaws.{leaves_of_accepted, accepted_of_leaves}
 use Rattle.hz_pipeline_model.proofs.Reaching.CountLaws.{weighs, sum_by_ones, same_pairs_then}
 use Rattle.hz_pipeline_model.proofs.Reaching.WordLaws.{event_of_advance, spelled_columns, leaves_spelled, leaves_from_spelled, inside_of_leaves}
-use Rattle.hz_pipeline_model.proofs.Decidable.ToldLaws.{IsTold, low_told}
-use Rattle.hz_laws.proofs.Leaving.ListingLaws.{told_by, pairs_told}
-use Rattle.hz_laws.proofs.Leaving.ExploreLaws.{some_is_told}
+use Rattle.hz_pipeline_model.proofs.Decidable.DecidedLaws.{IsDecided, low_reported}
+use Rattle.hz_laws.proofs.Leaving.ListingLaws.{reported_by, pairs_reported}
+use Rattle.hz_laws.proofs.Leaving.ExploreLaws.{some_is_reported}
 use Rattle.hz_laws.proofs.Leaving.OnwardLaws.{leaves_alike}
-use Rattle.hz_laws.proofs.Leaving.StateCounts.{grids_itself, grids_joined, same_left, same_grids_told, left_of, is_left, forth, back, more_alike, accepted_front}
+use Rattle.hz_laws.proofs.Leaving.StateCounts.{grids_itself, grids_joined, same_left, same_grids_reported, left_of, is_left, forth, back, more_alike, accepted_front}
 use Rattle.hz_laws.proofs.Totality.AscendingLists.{IsListed, IsBelow, AreBelow, grids_listed, below_once, numbers_listed}
 use Rattle.hz_laws.proofs.Totality.NumberingLaws.{Numbered, finished, all_led, all_different, some_is}
 use Rattle.hz_laws.proofs.Totality.NumberedTables.{Alike, Stands, run, listed_values, IsNumberedTable, some_table, all_items, walked_at, some_alike, entry_row}
@@ -41,23 +41,23 @@ use Rattle.std.specs.FinMap.{nat_cmp-IsAntisymmetric}
 use Rattle.std.proofs.lemmas.Cmp.{nat_cmp_total}
 
 -- an item, if both hold
-abbrev taken : {A B X : Type 0} → IsTold A → IsTold B → X → Option X
+abbrev taken : {A B X : Type 0} → IsDecided A → IsDecided B → X → Option X
 taken (inl a) (inl b) x = Some x
 taken (inl a) (inr none) x = None
 taken (inr none) b x = None
 
 module _ {A B X : Type 0} where
-  taken_some : (p : IsTold A) (q : IsTold B) (x : X) → A → B → taken p q x ≡ Some x
+  taken_some : (p : IsDecided A) (q : IsDecided B) (x : X) → A → B → taken p q x ≡ Some x
   taken_some (inl a) (inl b) x is also = refl
   taken_some (inl a) (inr none) x is also = absurd (none also)
   taken_some (inr none) q x is also = absurd (none is)
 
-  taken_is : (p : IsTold A) (q : IsTold B) (x y : X) → taken p q x ≡ Some y → B × (x ≡ y)
+  taken_is : (p : IsDecided A) (q : IsDecided B) (x y : X) → taken p q x ≡ Some y → B × (x ≡ y)
   taken_is (inl a) (inl b) x y e = (b, some_is x y e)
   taken_is (inl a) (inr none) x y e = absurd (none-some y e)
   taken_is (inr none) q x y e = absurd (none-some y e)
 
-  taken_none : (p : IsTold A) (q : IsTold B) (x : X) → (A → ⊥) → taken p q x ≡ None
+  taken_none : (p : IsDecided A) (q : IsDecided B) (x : X) → (A → ⊥) → taken p q x ≡ None
   taken_none (inl a) q x not = absurd (not a)
   taken_none (inr none) q x not = refl
 
@@ -72,8 +72,8 @@ module _ (m : Pipeline ℕ) (columns : ℕ) where
   abbrev Same : List Event → List Event → Type 0
   Same t v = SameGrids (left t) (left v)
 
-  told : (t v : List Event) → IsTold (Same t v)
-  told t v = same_grids_told ◌==◌ numbers_tell m (left t) (left v)
+  reported : (t v : List Event) → IsDecided (Same t v)
+  reported t v = same_grids_reported ◌==◌ numbers_tell m (left t) (left v)
 
   itself : (t : List Event) → Same t t
   itself t = grids_itself (left t)
@@ -87,24 +87,24 @@ module _ (m : Pipeline ℕ) (columns : ℕ) where
   abbrev more : ℕ → List Event → List Event
   more c t = t ++ event_at columns c ∷ []
 
-  accepted_told : (t : List Event) → IsTold (Accepted m t)
-  accepted_told t = told_by (accepts ◌==◌ m t) (accepts_decides ◌==◌ numbers_tell m t)
+  accepted_reported : (t : List Event) → IsDecided (Accepted m t)
+  accepted_reported t = reported_by (accepts ◌==◌ m t) (accepts_decides ◌==◌ numbers_tell m t)
 
   -- what is accepted with the event of one column more
   next : ℕ → List Event → Option (List Event)
-  next c t = taken (low_told c columns) (accepted_told (more c t)) (more c t)
+  next c t = taken (low_reported c columns) (accepted_reported (more c t)) (more c t)
 
   next_some : (c : ℕ) (t : List Event) → c ≤ columns → Accepted m (more c t) → next c t ≡ Some (more c t)
   unfolding next
-  next_some c t low accepted = taken_some (low_told c columns) (accepted_told (more c t)) (more c t) low accepted
+  next_some c t low accepted = taken_some (low_reported c columns) (accepted_reported (more c t)) (more c t) low accepted
 
   next_is : (c : ℕ) (t v : List Event) → next c t ≡ Some v → Accepted m (more c t) × (more c t ≡ v)
   unfolding next
-  next_is c t v e = taken_is (low_told c columns) (accepted_told (more c t)) (more c t) v e
+  next_is c t v e = taken_is (low_reported c columns) (accepted_reported (more c t)) (more c t) v e
 
   past : (c : ℕ) (t : List Event) → columns < c → next c t ≡ None
   unfolding next
-  past c t high = taken_none (low_told c columns) (accepted_told (more c t)) (more c t) (λ low. omega (arith, low, high))
+  past c t high = taken_none (low_reported c columns) (accepted_reported (more c t)) (more c t) (λ low. omega (arith, low, high))
 
   -- where the same is left, the same is accepted next, and leaves the same
   more_accepted : (t v : List Event) → Same t v → (c : ℕ) → Accepted m (more c t) → Accepted m (more c v)
@@ -124,7 +124,7 @@ module _ (m : Pipeline ℕ) (columns : ℕ) where
       (λ (high : c ≤ columns → ⊥).
       let out : columns < c = ⊎_elim (λ (more : columns < c). more) (λ (few : c ≤ columns). absurd (high few)) (cases_lt columns c) in
       subst (λ o. Alike Same o (next c v)) (sym (past c t out)) (subst (Alike Same None) (sym (past c v out)) tt))
-      (low_told c columns)
+      (low_reported c columns)
     where
       by_next : c ≤ columns → (o p : Option (List Event)) → next c t ≡ o → next c v ≡ p → Alike Same o p
       by_next low None None e f = tt
@@ -312,11 +312,11 @@ module _ (m : Pipeline ℕ) (columns : ℕ) where
       abbrev IsOf : ℕ → ℕ → Type 0
       IsOf k n = (g : List (Pair ℕ)) × Contains (left (item k)) g × SamePairs (grid_at grids n) g
 
-      of_told : (k n : ℕ) → IsTold (IsOf k n)
-      of_told k n = some_is_told (SamePairs (grid_at grids n)) (pairs_told ◌==◌ numbers_tell (grid_at grids n)) (left (item k))
+      of_reported : (k n : ℕ) → IsDecided (IsOf k n)
+      of_reported k n = some_is_reported (SamePairs (grid_at grids n)) (pairs_reported ◌==◌ numbers_tell (grid_at grids n)) (left (item k))
 
       set_there : (k : ℕ) → k < length table → (set : List ℕ) × AreBelow (IsOf k) (length grids) set
-      set_there k low = numbers_listed (IsOf k) (of_told k) (length grids)
+      set_there k low = numbers_listed (IsOf k) (of_reported k) (length grids)
 
       sets_there : (sets : List (List ℕ)) × (length sets ≡ length table) × ((k : ℕ) → k < length table → AreBelow (IsOf k) (length grids) (get_or sets k []))
       sets_there = listed_values [] (λ k set. AreBelow (IsOf k) (length grids) set) (length table) set_there
@@ -403,7 +403,7 @@ pub record HasAutomaton (m : Pipeline ℕ) (columns : ℕ) : Type 0 where
 
 pub some_automaton : (m : Pipeline ℕ) (columns : ℕ) → ((k : ℕ) → columns ≤ k → alternatives_at m k ≡ []) → (n : ℕ) → CountIsAtMost m columns count.states n → HasAutomaton m columns
 some_automaton m columns none n most =
-    let (k, s, all) = finished (Same m columns) columns (next m columns) [] (told m columns) (itself m columns) (turned m columns) n (few_words m columns n most) in
+    let (k, s, all) = finished (Same m columns) columns (next m columns) [] (reported m columns) (itself m columns) (turned m columns) n (few_words m columns n most) in
     let (table, numbers) = some_table (Same m columns) (turned m columns) (joined m columns) columns (next m columns) [] k s all in
     let (gs, gather, only) = gathered m columns s.items in
     let (grids, listed) = grids_listed gs in

@@ -9,24 +9,24 @@ use Rattle.hz_base_model.proofs.Elements.{Contains-range}
 use Rattle.hz_pipeline_model.specs.Tables.Tables.{Table, entry, walk, IsTable}
 use Rattle.hz_pipeline_model.specs.Tables.Apart.{Apart, AllApart, WalkTheSame}
 use Rattle.hz_pipeline_model.specs.Least.Normal.{IsNormal}
-use Rattle.hz_pipeline_model.proofs.Decidable.ToldLaws.{IsTold}
+use Rattle.hz_pipeline_model.proofs.Decidable.DecidedLaws.{IsDecided}
 use Rattle.hz_laws.proofs.Totality.NumberingLaws.{Numbered, finished, all_led, all_different}
 use Rattle.hz_laws.proofs.Totality.NumberedTables.{Alike, Stands, run, IsNumberedTable, some_table, all_items, walked_at, some_alike, entry_row}
-use Rattle.hz_laws.proofs.Totality.ApartTold.{no_more, ended, none_past, apart_told}
+use Rattle.hz_laws.proofs.Totality.ApartReported.{no_more, ended, none_past, apart_reported}
 
-bool_told : (a b : Bool) → IsTold (a ≡ b)
-bool_told true true = inl refl
-bool_told true false = inr (λ e. cc)
-bool_told false true = inr (λ e. cc)
-bool_told false false = inl refl
+bool_reported : (a b : Bool) → IsDecided (a ≡ b)
+bool_reported true true = inl refl
+bool_reported true false = inr (λ e. cc)
+bool_reported false true = inr (λ e. cc)
+bool_reported false false = inl refl
 
 module _ (table : Table) (columns : ℕ) (is : IsTable table columns) where
   -- states that are not apart
   abbrev Same : ℕ → ℕ → Type 0
   Same a b = Apart table a b → ⊥
 
-  same_states_told : (a b : ℕ) → IsTold (Same a b)
-  same_states_told a b = ⊎_elim (λ (apart : Apart table a b). inr (λ same. same apart)) (λ (none : Apart table a b → ⊥). inl none) (apart_told table columns is a b)
+  same_states_reported : (a b : ℕ) → IsDecided (Same a b)
+  same_states_reported a b = ⊎_elim (λ (apart : Apart table a b). inr (λ same. same apart)) (λ (none : Apart table a b → ⊥). inl none) (apart_reported table columns is a b)
 
   itself : (a : ℕ) → Same a a
   itself a apart = apart.once refl
@@ -36,12 +36,12 @@ module _ (table : Table) (columns : ℕ) (is : IsTable table columns) where
 
   joined : (a b c : ℕ) → Same a b → Same b c → Same a c
   joined a b c one other apart =
-      go (bool_told (walked a) (walked b)) (bool_told (walked b) (walked c))
+      go (bool_reported (walked a) (walked b)) (bool_reported (walked b) (walked c))
     where
       walked : ℕ → Bool
       walked s = is_some (walk table (Some s) apart.word)
 
-      go : IsTold (walked a ≡ walked b) → IsTold (walked b ≡ walked c) → ⊥
+      go : IsDecided (walked a ≡ walked b) → IsDecided (walked b ≡ walked c) → ⊥
       go (inl e) (inl f) = apart.once (e ∙ f)
       go (inl e) (inr none) = other (record { word = apart.word; once = none })
       go (inr none) f = one (record { word = apart.word; once = none })
@@ -124,7 +124,7 @@ module _ (table : Table) (columns : ℕ) (is : IsTable table columns) where
             once = λ e. apart.once (walks_from (get_or items one 0) one low (itself (get_or items one 0)) apart.word ∙ (e ∙ sym (walks_from (get_or items other 0) other low' (itself (get_or items other 0)) apart.word)));
           })
           (λ (same : Same (get_or items one 0) (get_or items other 0)). absurd (differ one other low low' not same))
-          (apart_told table columns is (get_or items one 0) (get_or items other 0));
+          (apart_reported table columns is (get_or items one 0) (get_or items other 0));
     }
 
     targets : (state column to : ℕ) → entry rows state column ≡ Some to → to < length rows
@@ -149,6 +149,6 @@ module _ (table : Table) (columns : ℕ) (is : IsTable table columns) where
   -- the least table that walks the same
   pub least_table : (rows : Table) × IsNormal rows columns × WalkTheSame table rows × (length rows ≤ length table)
   least_table =
-      let (n, s, all) = finished Same columns next 0 same_states_told itself turned (length table) (λ row s. few_states row 0 s) in
+      let (n, s, all) = finished Same columns next 0 same_states_reported itself turned (length table) (λ row s. few_states row 0 s) in
       let (rows, numbers) = some_table Same turned joined columns next 0 n s all in
       (rows, normal rows s.items s.places numbers, walks rows s.items s.places numbers, (let few = few_states n 0 s in let each = numbers.each in omega (arith, few, each)))

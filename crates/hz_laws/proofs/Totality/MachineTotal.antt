@@ -32,8 +32,8 @@ use Rattle.hz_pipeline_model.specs.Compiling.DescriptionLimits.{AllKeepLimits}
 use Rattle.hz_pipeline_model.proofs.Compiling.CompiledLaws.{above_alike}
 use Rattle.hz_pipeline_model.proofs.Compiling.DescriptionLaws.{automata_count, queries_there}
 use Rattle.hz_pipeline_model.proofs.Compiling.PipelineLaws.{list_there, restricted_moved}
-use Rattle.hz_laws.proofs.Leaving.CountsTold.{counts_told}
-use Rattle.hz_pipeline_model.specs.Single.Told.{ListsAscending}
+use Rattle.hz_laws.proofs.Leaving.CountsReported.{counts_reported}
+use Rattle.hz_pipeline_model.specs.Single.Reported.{ListsAscending}
 use Rattle.hz_tabtext_model.specs.Said.{IsInRange, counts_said}
 use Rattle.hz_tabtext_model.specs.Texts.{AreCounts}
 use Rattle.hz_laws.proofs.Totality.PartTotal.{AreLow, HasPart, some_part, AreQueries}
@@ -190,7 +190,7 @@ module _ (d : Description) (known : Known) (formed : IsWellFormed d) (sound : Is
             (λ many. absurd (no_count_both (restricted a (pipeline_with d known)) width (cap_of shown kind) kind
             (above_alike (restricted a (pipeline_with d known)) (pipeline_of a) (restricted_moved d known a low) width (cap_of shown kind) kind many)
             (subst (λ n. CountIsAtMost (restricted a (pipeline_with d known)) n kind (cap_of shown kind)) same (keeps.counts kind))))
-            (counts_told ◌==◌ numbers_tell (pipeline_of a) width kind (cap_of shown kind));
+            (counts_reported ◌==◌ numbers_tell (pipeline_of a) width kind (cap_of shown kind));
       }
 
   -- the query units of an automaton are not too many, and there is none with the option `ndfa`
@@ -246,7 +246,7 @@ module _ (d : Description) (known : Known) (formed : IsWellFormed d) (sound : Is
     compiled = record {
       names = refl;
       each = length-map all (λ both. both.0) ∙ count;
-      told = length-map all (λ both. both.1) ∙ count;
+      reported = length-map all (λ both. both.1) ∙ count;
       parts = λ a low.
           let inside : a < length all = omega (arith, low, count) in
           let none : Part × Report = (no_part, no_report) in

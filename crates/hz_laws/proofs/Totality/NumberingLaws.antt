@@ -6,7 +6,7 @@ use Rattle.std.proofs.lemmas.List.Elements.{Contains-get_or}
 use Rattle.std.proofs.lemmas.Option.{none-some}
 use Rattle.hz_pipeline_model.specs.Reaching.Reach.{AreDifferent}
 use Rattle.hz_pipeline_model.specs.Tables.Orders.{IsReadBefore, place_of}
-use Rattle.hz_pipeline_model.proofs.Decidable.ToldLaws.{IsTold, some_told}
+use Rattle.hz_pipeline_model.proofs.Decidable.DecidedLaws.{IsDecided, some_reported}
 
 -- One item is no other.
 pub some_is : {X : Type 0} (x y : X) → Some x ≡ Some y → x ≡ y
@@ -57,7 +57,7 @@ module _ {X : Type 0} (Same : X → X → Type 0) (columns : ℕ) (next : ℕ �
     pub begun : place_of places 0 ≡ (0, 0)
     pub different : (i j : ℕ) → i < j → j < length items → Same (item items i) (item items j) → ⊥
     pub origins : (k : ℕ) → 0 < k → k < length items → IsOrigin items k (place_of places k)
-    pub behind : (k : ℕ) → 0 < k → k < length items → IsReadBefore (place_of places k) (row, column)
+    pub beyond : (k : ℕ) → 0 < k → k < length items → IsReadBefore (place_of places k) (row, column)
     pub ascending : (i j : ℕ) → 0 < i → i < j → j < length items → IsReadBefore (place_of places i) (place_of places j)
     pub known : (r c : ℕ) → c ≤ columns → r < length items → IsReadBefore (r, c) (row, column) → IsKnown items (length items) r c
 
@@ -74,7 +74,7 @@ module _ {X : Type 0} (Same : X → X → Type 0) (columns : ℕ) (next : ℕ �
     begun = refl;
     different = λ i j low within same. absurd (omega (arith, low, within));
     origins = λ k high low. absurd (omega (arith, high, low));
-    behind = λ k high low. absurd (omega (arith, high, low));
+    beyond = λ k high low. absurd (omega (arith, high, low));
     ascending = λ i j high more low. absurd (omega (arith, high, more, low));
     known = λ r c low there before. none r c before;
   }
@@ -94,7 +94,7 @@ module _ {X : Type 0} (Same : X → X → Type 0) (columns : ℕ) (next : ℕ �
     begun = s.begun;
     different = s.different;
     origins = s.origins;
-    behind = λ k high low. read_later (place_of s.places k) row column (s.behind k high low);
+    beyond = λ k high low. read_later (place_of s.places k) row column (s.beyond k high low);
     ascending = s.ascending;
     known = λ r c low there before. ⊎_elim
         (λ early. s.known r c low there early)
@@ -180,9 +180,9 @@ module _ {X : Type 0} (Same : X → X → Type 0) (columns : ℕ) (next : ℕ �
         (λ (last : length s.items ≡ k). subst (λ j. IsOrigin more j (place_of further j)) last (subst (IsOrigin more (length s.items)) (sym new_place) origin_new))
         (old_or_new k below)
 
-    behind_more : (k : ℕ) → 0 < k → k < length more → IsReadBefore (place_of further k) (row, suc column)
-    behind_more k high below = ⊎_elim
-        (λ (here : k < length s.items). subst (λ p. IsReadBefore p (row, suc column)) (sym (old_place k here)) (read_later (place_of s.places k) row column (s.behind k high here)))
+    after_more : (k : ℕ) → 0 < k → k < length more → IsReadBefore (place_of further k) (row, suc column)
+    after_more k high below = ⊎_elim
+        (λ (here : k < length s.items). subst (λ p. IsReadBefore p (row, suc column)) (sym (old_place k here)) (read_later (place_of s.places k) row column (s.beyond k high here)))
         (λ (last : length s.items ≡ k). subst (λ j. IsReadBefore (place_of further j) (row, suc column)) last (subst (λ p. IsReadBefore p (row, suc column)) (sym new_place) (inr (refl, omega arith))))
         (old_or_new k below)
 
@@ -191,7 +191,7 @@ module _ {X : Type 0} (Same : X → X → Type 0) (columns : ℕ) (next : ℕ �
         (λ (here : j < length s.items). subst (IsReadBefore (place_of further i)) (sym (old_place j here)) (subst (λ p. IsReadBefore p (place_of s.places j)) (sym (old_place i (omega (arith, less, here)))) (s.ascending i j high less here)))
         (λ (last : length s.items ≡ j).
         let early : i < length s.items = omega (arith, less, last) in
-        subst (λ k. IsReadBefore (place_of further i) (place_of further k)) last (subst (IsReadBefore (place_of further i)) (sym new_place) (subst (λ p. IsReadBefore p (row, column)) (sym (old_place i early)) (s.behind i high early))))
+        subst (λ k. IsReadBefore (place_of further i) (place_of further k)) last (subst (IsReadBefore (place_of further i)) (sym new_place) (subst (λ p. IsReadBefore p (row, column)) (sym (old_place i early)) (s.beyond i high early))))
         (old_or_new j below)
 
     known_after : (r c : ℕ) → c ≤ columns → r < length more → IsReadBefore (r, c) (row, suc column) → IsKnown more (length more) r c
@@ -214,12 +214,12 @@ module _ {X : Type 0} (Same : X → X → Type 0) (columns : ℕ) (next : ℕ �
           begun = old_place 0 some ∙ s.begun;
           different = different_more;
           origins = origins_more;
-          behind = behind_more;
+          beyond = after_more;
           ascending = ascending_more;
           known = known_after;
         }
 
-  module _ (told : (x y : X) → IsTold (Same x y)) (itself : (x : X) → Same x x) (turned : (x y : X) → Same x y → Same y x) where
+  module _ (reported : (x y : X) → IsDecided (Same x y)) (itself : (x : X) → Same x x) (turned : (x y : X) → Same x y → Same y x) where
     -- one place is read
     place_read : (row column : ℕ) → column ≤ columns → (s : Numbered row column) → row < length s.items → (t : Numbered row (suc column)) × (length s.items ≤ length t.items)
     place_read row column low s there = by_next (next column (item s.items row)) refl
@@ -231,7 +231,7 @@ module _ {X : Type 0} (Same : X → X → Type 0) (columns : ℕ) (next : ℕ �
             let (k, below, at) = there_at s.items found.0 found.1 in
             (skip row column s (λ z led. (k, below, subst (λ x. Same x (item s.items k)) (some_is y z (sym e ∙ led)) (subst (Same y) (sym at) found.2))), omega arith))
             (λ (none : (x : X) → Contains s.items x → Same y x → ⊥). (add row column low s there y e none itself turned, omega (arith, length_push s.items y)))
-            (some_told (Same y) (told y) s.items)
+            (some_reported (Same y) (reported y) s.items)
 
     -- so many columns of a row are read
     columns_read : (row : ℕ) (s : Numbered row 0) → row < length s.items → (n : ℕ) → n ≤ columns + 1 → (t : Numbered row n) × (length s.items ≤ length t.items)
@@ -252,7 +252,7 @@ module _ {X : Type 0} (Same : X → X → Type 0) (columns : ℕ) (next : ℕ �
       begun = s.begun;
       different = s.different;
       origins = s.origins;
-      behind = λ k high low. over (place_of s.places k) (s.behind k high low);
+      beyond = λ k high low. over (place_of s.places k) (s.beyond k high low);
       ascending = s.ascending;
       known = λ r c low there before. s.known r c low there (back r c low before);
     }

@@ -43,12 +43,12 @@ use Rattle.hz_pipeline_model.specs.Compiling.Counted.{CountIs}
 use Rattle.hz_pipeline_model.proofs.Compiling.ColumnLaws.{nothing_past}
 use Rattle.hz_pipeline_model.proofs.Compiling.CompiledLaws.{walks_accepted, tells_left, numbered, stands, low, counts_above, counts_most, tells_held}
 use Rattle.hz_pipeline_model.proofs.Compiling.ReportLaws.{states_of, grid_count, state_count, cell_count, member_count}
-use Rattle.hz_laws.proofs.Leaving.CountsTold.{counts_told}
-use Rattle.hz_pipeline_model.specs.Single.Told.{ListsAscending}
+use Rattle.hz_laws.proofs.Leaving.CountsReported.{counts_reported}
+use Rattle.hz_pipeline_model.specs.Single.Reported.{ListsAscending}
 use Rattle.hz_tabtext_model.specs.Said.{counts_said}
 use Rattle.hz_tabtext_model.specs.Texts.{AreCounts}
 use Rattle.hz_laws.proofs.Totality.AscendingLists.{IsBelow, sorted_below}
-use Rattle.hz_laws.proofs.Totality.ApartTold.{no_more}
+use Rattle.hz_laws.proofs.Totality.ApartReported.{no_more}
 use Rattle.hz_laws.proofs.Totality.NumberingLaws.{some_is}
 use Rattle.hz_laws.proofs.Totality.LeastTables.{least_table}
 use Rattle.hz_laws.proofs.Totality.AutomatonTotal.{HasAutomaton, some_automaton}
@@ -156,7 +156,7 @@ caps false = (omega arith, omega arith, omega arith)
 
 -- ---- parts
 
--- A part that is compiled, and what is told of it.
+-- A part that is compiled, and what is reported of it.
 pub record HasPart (stay : Bool) (options : Options) (automata : List AutomatonParts) (classes : List ClassParts) (a : ℕ) : Type 0 where
   pub part : Part
   pub report : Report
@@ -218,7 +218,7 @@ module _ (options : Options) (automata : List AutomatonParts) (classes : List Cl
     most_states = ⊎_elim
         (λ few. few)
         (λ many. absurd (no_count_both m n (cap_of (shows_states options) count.states) count.states (above n count.states (cap_of (shows_states options) count.states) many) (counts count.states)))
-        (counts_told ◌==◌ numbers_tell by_column n count.states (cap_of (shows_states options) count.states))
+        (counts_reported ◌==◌ numbers_tell by_column n count.states (cap_of (shows_states options) count.states))
 
     module _ (has : HasAutomaton by_column n) where
       abbrev marks : ℕ → ℕ → Bool
@@ -284,9 +284,9 @@ module _ (options : Options) (automata : List AutomatonParts) (classes : List Cl
         ascending = all_states (IsSorted grid_cmp) (λ state inside. sorted_below (state_at has.grids has.sets state) (state_below state inside));
       }
 
-      shown_told : (b : Bool) → MatchBool b (IsSomeAnd (shown_by b) (IsShown (length classes) m part)) (shown_by b ≡ None)
-      shown_told true = is_shown
-      shown_told false = refl
+      shown_reported : (b : Bool) → MatchBool b (IsSomeAnd (shown_by b) (IsShown (length classes) m part)) (shown_by b ≡ None)
+      shown_reported true = is_shown
+      shown_reported false = refl
 
       for_shown : (P : Shown → Type 0) → P shown → (b : Bool) → ForSome (shown_by b) P
       for_shown P is true = λ s e. subst P (some_is shown s e) is
@@ -332,7 +332,7 @@ module _ (options : Options) (automata : List AutomatonParts) (classes : List Cl
         grids = grids_are;
         states = states_are;
         members = members_are;
-        shown = shown_told (shows_states options);
+        shown = shown_reported (shows_states options);
       }
 
       few_rows : length has.table ≤ state_limit

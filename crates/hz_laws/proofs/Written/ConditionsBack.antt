@@ -4,7 +4,7 @@ use Rattle.std.specs.List.{list_all}
 use Rattle.std.proofs.lemmas.Bool.{and_parts, ne_eqb}
 use Rattle.hz_base_model.specs.Forms.Trees.{Tree, Trees}
 use Rattle.hz_base_model.specs.Names.{is_name, is_name_byte}
-use Rattle.hz_description_model.specs.Reading.DescriptionForms.{behind_mark, without_blanks, test_of, condition_in, conditions_in}
+use Rattle.hz_description_model.specs.Reading.DescriptionForms.{after_mark, without_blanks, test_of, condition_in, conditions_in}
 use Rattle.hz_description_model.specs.Reading.DescriptionShape.{are_names}
 use Rattle.hz_description_model.specs.Reading.Descriptions.{Condition, Conditions, matches}
 use Rattle.hz_description_model.specs.Reading.Descriptions as items
@@ -32,15 +32,15 @@ begins ((b ∷ name) ∷ next ∷ names) h = record {
   low = first_low b name (and_parts (is_name (b ∷ name)) (list_all is_name (next ∷ names)) h).0;
 }
 
--- a list that begins with no mark is not behind one
-unmarked : (b : ℕ) (bytes : List ℕ) → 33 ≤ b → IsUnmarked (b ∷ bytes) → behind_mark (without_blanks (b ∷ bytes)) ≡ None
+-- a list that begins with no mark is not after one
+unmarked : (b : ℕ) (bytes : List ℕ) → 33 ≤ b → IsUnmarked (b ∷ bytes) → after_mark (without_blanks (b ∷ bytes)) ≡ None
 unmarked b bytes low not_mark = rw (no_space b low, ne_eqb b 33 not_mark) refl
 
 match_back : (name : List ℕ) (values : List (List ℕ)) → are_names values ≡ true → IsUnmarked (listed values) → test_of name (listed values) ≡ Some (matches name values false)
 match_back name values h not_mark =
     let b = begins values h in
     let none = unmarked b.first b.others b.low (subst IsUnmarked b.is not_mark) in
-    let mark : behind_mark (without_blanks (listed values)) ≡ None = subst (λ (bytes : List ℕ). behind_mark (without_blanks bytes) ≡ None) (sym b.is) none in
+    let mark : after_mark (without_blanks (listed values)) ≡ None = subst (λ (bytes : List ℕ). after_mark (without_blanks bytes) ≡ None) (sym b.is) none in
     rw (mark, names_back values h) refl
 
 no_match_back : (name : List ℕ) (values : List (List ℕ)) → are_names values ≡ true → test_of name (33 ∷ listed values) ≡ Some (matches name values true)

@@ -1,4 +1,4 @@
--- Where the faults of names stand that are told by name spaces, automata and sets. This profile, docs/RULES.md, 'Names' and
+-- Where the faults of names stand that are reported by name spaces, automata and sets. This profile, docs/RULES.md, 'Names' and
 -- 'Faults of a description'.
 use Rattle.std.specs.Prelude.{◌≡◌, ◌≢◌, ◌⊎◌, ℕ, List, [], ◌∷◌, ◌++◌, Some, None, codes, map}
 use Rattle.std.specs.Option.{option_map}
@@ -7,7 +7,7 @@ use Rattle.hz_description_model.specs.Reservations.Sets.{exclusion}
 use Rattle.hz_description_model.specs.Reading.Descriptions.{Description, AutomatonItem, UnitItem, SetItem, AttributeItem}
 use Rattle.hz_description_model.specs.Check.Places.{unit_place}
 use Rattle.hz_description_model.specs.Check.Sites.{Site}
-use Rattle.hz_description_model.specs.Check.ToldPlaces.{StandsBefore}
+use Rattle.hz_description_model.specs.Check.ReportedPlaces.{StandsBefore}
 
 -- a name in the form of this line and number
 abbrev pub site_at : ℕ → ℕ → List ℕ → Site

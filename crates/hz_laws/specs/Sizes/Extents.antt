@@ -23,7 +23,7 @@ abbrev mutual
 abbrev pub bytes_of_names : Machine → ℕ
 bytes_of_names m = sum_by length m.classes + sum_by (λ part. length part.name) m.parts + sum_by length (names_of m.parts)
 
--- The bytes of a tables text without names, at most, where nothing is told of states: for each automaton six for each entry, four
+-- The bytes of a tables text without names, at most, where nothing is reported of states: for each automaton six for each entry, four
 -- more for each row, five for each class in its map, one for each ask, and its other lines; seven for each class, and the other
 -- lines of the text.
 abbrev pub unnamed_limit : ℕ

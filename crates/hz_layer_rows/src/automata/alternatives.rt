@@ -143,7 +143,7 @@ fn write_pair(out: &mut String, pair: Pair) -> Option<()> {
     write!(out, "{}", pair.cycle).ok()
 }
 
-/// Writes the pairs of an alternative, and behind a `/` its length.
+/// Writes the pairs of an alternative, and after a `/` its length.
 fn write_alt(out: &mut String, alt: &Alt) -> Option<()> {
     for pair in &alt.pairs {
         write_pair(out, *pair)?;
@@ -191,7 +191,7 @@ pub fn answer_limits(alloc: Global, text: &str, beside: &str) -> Option<String> 
     Some(out)
 }
 
-/// How many alternatives the expression behind a `/` has, which may have so many cycles and pairs together as is said before it,
+/// How many alternatives the expression after a `/` has, which may have so many cycles and pairs together as is said before it,
 /// or the limit that they pass.
 pub fn answer_within(alloc: Global, text: &str, beside: &str) -> Option<String> {
     let (most, expr) = text.split_once('/')?;
@@ -207,7 +207,7 @@ pub fn answer_within(alloc: Global, text: &str, beside: &str) -> Option<String> 
     }
 }
 
-/// The grids in an automaton of the alternatives of the expression behind a `/`.
+/// The grids in an automaton of the alternatives of the expression after a `/`.
 pub fn answer_projected(alloc: Global, text: &str, beside: &str) -> Option<String> {
     let (automaton, expr) = text.split_once('/')?;
     let automaton = automaton.trim().parse::<u8>().ok()?;
@@ -256,7 +256,7 @@ fn alt_of(alloc: Global, text: &str) -> Option<Alt>
     Some(Alt { pairs, length: 3 })
 }
 
-/// The grids of two alternatives of three cycles, whose pairs stand before and behind a bar, in any order.
+/// The grids of two alternatives of three cycles, whose pairs stand before and after a bar, in any order.
 pub fn answer_unordered(alloc: Global, text: &str) -> Option<String> {
     let (first, second) = text.split_once('|')?;
     let first = alt_of(alloc, first)?;

@@ -18,7 +18,7 @@ fn set_of(text: &str) -> Option<Cycles> {
     Some(set)
 }
 
-/// Writes the cycles of a set: `-` and the last one of several in a row behind the first of them, and `none` where it is empty.
+/// Writes the cycles of a set: `-` and the last one of several in a row after the first of them, and `none` where it is empty.
 fn write_set(out: &mut String, set: Cycles) -> Option<()> {
     if set.is_empty() {
         return out.push_str(" none").ok();
@@ -87,7 +87,7 @@ fn take_all(table: &mut ReservationTable, text: &str) -> Option<()> {
     Some(())
 }
 
-/// The cycles that are taken for each unit behind a `/`, where those before it are taken.
+/// The cycles that are taken for each unit after a `/`, where those before it are taken.
 pub fn answer_reserved(alloc: Global, text: &str) -> Option<String> {
     let (taken, units) = text.split_once('/')?;
     let mut table = ReservationTable::new(alloc).ok()?;

@@ -1,7 +1,7 @@
 //! Automata of columns of grids under rules.
 //!
 //! Columns have a semicolon between them, and the grids of each a bar; `none` is no column. What is made is `first`, the first
-//! treatment, or `subset`, the one of `ndfa`, and behind that caps on grids, states, members and cells, if any.
+//! treatment, or `subset`, the one of `ndfa`, and after that caps on grids, states, members and cells, if any.
 
 ghost use Rattle.std.specs.Prelude.{◌≡◌, ◌<◌, All, length};
 ghost use Rattle.std.specs.Bool.{OnTrue};
@@ -77,7 +77,7 @@ fn explore(
     }
 }
 
-/// The automaton of the columns behind a `/`, as is said before it, under the statements beside.
+/// The automaton of the columns after a `/`, as is said before it, under the statements beside.
 fn automaton_of(alloc: Global, text: &str, beside: &str) -> Option<Result<Explored, StateFault>> {
     let (made, columns) = text.split_once('/')?;
     let (word, caps) = made.split_once(' ')?;

@@ -54,7 +54,7 @@ fn write_joined(alloc: Global, out: &mut String, first: &Grid, second: &Grid) ->
     write_meeting(alloc, out, &joined, first, second)
 }
 
-/// What the grids before and behind a `/` are together, and whether they meet, each the other one; where they do not, whether
+/// What the grids before and after a `/` are together, and whether they meet, each the other one; where they do not, whether
 /// their union is the same.
 pub fn answer_join(alloc: Global, text: &str) -> Option<String> {
     let (first, second) = text.split_once('/')?;
@@ -78,7 +78,7 @@ fn write_row(out: &mut String, row: Row<4>) -> Option<()> {
     Some(())
 }
 
-/// For each pair behind a `/` whether the grid before it has it, with the units of its cycle.
+/// For each pair after a `/` whether the grid before it has it, with the units of its cycle.
 pub fn answer_rows(alloc: Global, text: &str) -> Option<String> {
     let (grid, pairs) = text.split_once('/')?;
     let grid = grid_of(alloc, grid)?;
@@ -99,7 +99,7 @@ fn row_of(text: &str) -> Option<Row<4>> {
     Some(row)
 }
 
-/// Whether the rows before and behind a `/` meet, whether the first is in the second, and their union.
+/// Whether the rows before and after a `/` meet, whether the first is in the second, and their union.
 pub fn answer_units(alloc: Global, text: &str) -> Option<String> {
     let (first, second) = text.split_once('/')?;
     let first = row_of(first)?;

@@ -1,6 +1,6 @@
 //! Set statements, and what fits beside what stands reserved.
 //!
-//! A statement is its kind, units, and behind a `/` patterns with a bar between them: `presence 1 / 0 3 | 4`. Statements have
+//! A statement is its kind, units, and after a `/` patterns with a bar between them: `presence 1 / 0 3 | 4`. Statements have
 //! a semicolon between them.
 
 ghost use Rattle.std.specs.Prelude.{◌<◌, All, IsTrue};
@@ -78,13 +78,13 @@ pub fn rules_of(alloc: Global, text: &str) -> Option<Rules> {
     None
 }
 
-/// Whether the grid behind a `/` fits the one before it under rules.
+/// Whether the grid after a `/` fits the one before it under rules.
 fn judge(alloc: Global, rules: &Rules, text: &str) -> Option<bool> {
     let (source, added) = text.split_once('/')?;
     Some(rules.fits(&grid_of(alloc, source)?, &grid_of(alloc, added)?))
 }
 
-/// Whether the grid behind a `/` fits the one before it under the statements beside.
+/// Whether the grid after a `/` fits the one before it under the statements beside.
 pub fn answer(alloc: Global, text: &str, beside: &str) -> Option<String> {
     let fits = judge(alloc, &rules_of(alloc, beside)?, text)?;
     let word = if fits { "fits" } else { "does not fit" };

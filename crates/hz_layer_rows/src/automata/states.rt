@@ -17,7 +17,7 @@ fn write_number(out: &mut String, number: Result<u32, StateFault>) -> Option<()>
     }
 }
 
-/// Writes grids, each behind a bar.
+/// Writes grids, each after a bar.
 pub fn write_grids(out: &mut String, grids: &[Grid]) -> Option<()> {
     for grid in grids {
         out.push_str(" | ").ok()?;
@@ -64,7 +64,7 @@ fn write_limited(alloc: Global, out: &mut String, limit: u32, grids: &str) -> Op
     write_all(alloc, out, interner)
 }
 
-/// Whether nothing is kept, the numbers of the grids behind a `/`, of which so many may be kept as is said before it, and all
+/// Whether nothing is kept, the numbers of the grids after a `/`, of which so many may be kept as is said before it, and all
 /// that are kept, by number and once more.
 pub fn answer_grids(alloc: Global, text: &str) -> Option<String> {
     let (limit, grids) = text.split_once('/')?;
@@ -127,7 +127,7 @@ fn keep_lists(
     write_kept_lists(out, interner)
 }
 
-/// Whether nothing is kept, the numbers of the lists behind a `/`, of which so many may be kept, with so many numbers together,
+/// Whether nothing is kept, the numbers of the lists after a `/`, of which so many may be kept, with so many numbers together,
 /// as is said before it, and all that are kept, by number and once more.
 pub fn answer_lists(alloc: Global, text: &str) -> Option<String> {
     let (limits, lists) = text.split_once('/')?;

@@ -157,7 +157,7 @@ fn write_row(out: &mut String, plain: &Plain, state: u32) -> Option<()>
     out.push(';').ok()
 }
 
-/// Writes the rows of a table, with a semicolon behind each.
+/// Writes the rows of a table, with a semicolon after each.
 pub fn write_table(out: &mut String, plain: &Plain) -> Option<()> {
     for state in 0..plain.states() {
         write_row(out, plain, state)?;
@@ -208,7 +208,7 @@ fn write_packed<const W: usize>(
     write!(out, " {} {} {few}", packed.states(), packed.columns()).ok()
 }
 
-/// States and columns of the table behind a `/` as it is packed over cells of one, two and four bytes, and whether its rows take
+/// States and columns of the table after a `/` as it is packed over cells of one, two and four bytes, and whether its rows take
 /// no more than so many places as is said before it.
 pub fn answer_packed(alloc: Global, text: &str) -> Option<String> {
     let (most, table) = text.split_once('/')?;

@@ -1,6 +1,6 @@
 //! Grids and numbers of texts.
 //!
-//! A grid is pairs between blanks, each `UNIT.CYCLE`. Behind a `>` stands a grid of which this is left one cycle later.
+//! A grid is pairs between blanks, each `UNIT.CYCLE`. After a `>` stands a grid of which this is left one cycle later.
 
 use hz_grid::{CYCLES, Grid, UNITS};
 use std::alloc::Global;
@@ -70,7 +70,7 @@ pub fn grids_of(alloc: Global, text: &str) -> Option<Vec<Grid>> {
     Some(grids)
 }
 
-/// Writes the length of a grid, and behind a colon its pairs, by cycle and then by unit.
+/// Writes the length of a grid, and after a colon its pairs, by cycle and then by unit.
 pub fn write_grid(out: &mut String, grid: &Grid) -> Option<()> {
     write!(out, "{}:", grid.length()).ok()?;
     for cycle in 0..grid.length() {

@@ -79,7 +79,7 @@ fn slots_of(alloc: Global, text: &str) -> Option<Schedule> {
     Some(Schedule { slots })
 }
 
-/// What the slots behind a `/` read and leave, of the block before it, where a description and behind a `/` a state stand beside.
+/// What the slots after a `/` read and leave, of the block before it, where a description and after a `/` a state stand beside.
 /// A `;` stands for the end of a line.
 pub fn answer(alloc: Global, text: &str, beside: &str) -> Option<String> {
     let (block, slots) = text.split_once('/')?;

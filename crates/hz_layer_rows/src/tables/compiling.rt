@@ -1,4 +1,4 @@
-//! Machines of descriptions: how many states they have, and what is told of them.
+//! Machines of descriptions: how many states they have, and what is reported of them.
 
 use crate::texts::checks::checked_of;
 use crate::texts::forms::MOST_BYTES;
@@ -50,7 +50,7 @@ fn write_report(out: &mut String, report: &AutoReport) -> Option<()> {
     }
 }
 
-/// Writes the states of each part with how its table is kept, and what is told of each automaton.
+/// Writes the states of each part with how its table is kept, and what is reported of each automaton.
 fn write_compiled(out: &mut String, all: &Compiled) -> Option<()> {
     for place in 0..all.machine.parts.len() {
         let table = &all.machine.parts[place].table;

@@ -28,7 +28,7 @@ fn compiled_text(alloc: Global, checked: &Checked, room: u32) -> Option<String> 
     }
 }
 
-/// Whether a sink with so much room takes the tables text of the description behind a `/`, whose option stands beside, and what it
+/// Whether a sink with so much room takes the tables text of the description after a `/`, whose option stands beside, and what it
 /// has then. A `/` stands for a line feed.
 pub fn answer(alloc: Global, text: &str, beside: &str) -> Option<String> {
     let (room, forms) = text.split_once('/')?;

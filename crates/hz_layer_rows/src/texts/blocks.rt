@@ -8,7 +8,7 @@ use hz_sexp::{Form, read_forms};
 use std::alloc::{AllocError, Global};
 use std::fmt::Write;
 
-/// Writes the state: `rN V` for each register and `mA V` for each cell that isn't 0, each behind a blank.
+/// Writes the state: `rN V` for each register and `mA V` for each cell that isn't 0, each after a blank.
 fn write_state(out: &mut String, state: &State) -> Result<(), AllocError> {
     for (number, word) in state.registers.iter().enumerate() {
         if *word != 0 {

@@ -1,4 +1,4 @@
-//! Checks of descriptions, and what is told of them.
+//! Checks of descriptions, and what is reported of them.
 
 ghost use Rattle.std.specs.Prelude.{◌<◌, ◌^◌, length};
 
@@ -48,8 +48,8 @@ fn name_in(fault: &CheckFault) -> Option<&Name> {
     }
 }
 
-/// A fault as it is told, before its name, and before that what a limit counts.
-fn told(alloc: Global, fault: &CheckFault) -> Result<String, AllocError> {
+/// A fault as it is reported, before its name, and before that what a limit counts.
+fn reported(alloc: Global, fault: &CheckFault) -> Result<String, AllocError> {
     let name = match name_in(fault) {
         Some(name) => text_of(name.bytes()),
         None => "no name",
@@ -64,19 +64,19 @@ fn told(alloc: Global, fault: &CheckFault) -> Result<String, AllocError> {
     }
 }
 
-/// What is told of a description, or `right`.
+/// What is reported of a description, or `right`.
 pub fn answer(alloc: Global, text: &[u8]) -> Result<String, AllocError> {
     if text.len() > MOST_BYTES {
         return String::from_str(alloc, "too long");
     }
     match checked_of(alloc, text) {
         Some(Ok(_)) => String::from_str(alloc, "right"),
-        Some(Err(fault)) => told(alloc, &fault),
+        Some(Err(fault)) => reported(alloc, &fault),
         None => String::from_str(alloc, "no description"),
     }
 }
 
-/// What is told of a description as less and less counts before the others, each fault once: so the names that are too much
+/// What is reported of a description as less and less counts before the others, each fault once: so the names that are too much
 /// come in the order in which they count. In the text `##` stands for the cycles that count before, 256 to 249.
 pub fn answer_order(alloc: Global, text: &[u8]) -> Result<String, AllocError> {
     let mut out = String::new(alloc);
@@ -84,11 +84,11 @@ pub fn answer_order(alloc: Global, text: &[u8]) -> Result<String, AllocError> {
     for cycles in (249..257u32).rev() {
         let cycles = cycles.to_string(alloc)?;
         let filled = text_of(text).replace(alloc, "##", cycles.as_str())?;
-        let told = answer(alloc, filled.as_bytes())?;
-        if told != last {
+        let reported = answer(alloc, filled.as_bytes())?;
+        if reported != last {
             out.push_str("; ")?;
-            out.push_str(told.as_str())?;
-            last = told;
+            out.push_str(reported.as_str())?;
+            last = reported;
         }
     }
     String::from_str(alloc, out.trim_start_matches("; "))

@@ -21,7 +21,7 @@ fn pairs_of(alloc: Global, text: &str) -> Result<Vec<(Name, Name)>, AllocError> 
     Ok(pairs)
 }
 
-/// Whether the condition of the first class holds, where the attributes are given, and behind a ` / ` have defaults.
+/// Whether the condition of the first class holds, where the attributes are given, and after a ` / ` have defaults.
 fn holds(alloc: Global, d: &Description, beside: &str) -> Result<String, AllocError> {
     let (given, defaults) = beside.split_once(" / ").unwrap_or((beside, ""));
     let given = pairs_of(alloc, given)?;

@@ -17,7 +17,7 @@ pub fn answer_class(alloc: Global, text: &[u8], beside: &[u8]) -> Result<String,
     Ok(out)
 }
 
-/// Heights, and behind a bar edges with their costs.
+/// Heights, and after a bar edges with their costs.
 fn shown(alloc: Global, made: &Graph) -> Result<String, AllocError> {
     let mut out = String::new(alloc);
     for insn in &made.insns {

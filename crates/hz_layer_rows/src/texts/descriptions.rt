@@ -14,7 +14,7 @@ use hz_sexp::read_forms;
 use std::alloc::{AllocError, Global};
 use std::fmt::Write;
 
-/// Writes conditions behind a word, in parentheses.
+/// Writes conditions after a word, in parentheses.
 #[cycle(show)]
 fn write_conditions(out: &mut String, word: &str, tests: &[Condition]) -> Result<(), AllocError> {
     out.push_str(word)?;

@@ -40,7 +40,7 @@ pub fn answer_reading(alloc: Global, text: &[u8]) -> Result<String, AllocError> 
     }
 }
 
-/// A file of two bytes `a`, one at a time, which counts what it is asked for: behind a second opening, and behind its end,
+/// A file of two bytes `a`, one at a time, which counts what it is asked for: after a second opening, and after its end,
 /// it reads `z`.
 #[derive(Drop)]
 struct Once {

@@ -30,7 +30,7 @@ fn write_node(out: &mut String, node: &Node) -> Result<(), AllocError> {
     }
 }
 
-/// Writes each form behind a blank and its line.
+/// Writes each form after a blank and its line.
 #[cycle(show)]
 fn write_forms(out: &mut String, forms: &[Form]) -> Result<(), AllocError> {
     for form in forms {

@@ -4,7 +4,7 @@ use crate::written::text_of;
 use hz_tool_words::order_of;
 use std::alloc::{AllocError, Global};
 
-/// The words of a line, each behind a blank but the first: two blanks have an empty word between them. A line of one byte 0
+/// The words of a line, each after a blank but the first: two blanks have an empty word between them. A line of one byte 0
 /// has no word.
 fn words_of(alloc: Global, line: &str) -> Result<Vec<String>, AllocError> {
     let mut words = Vec::new(alloc);

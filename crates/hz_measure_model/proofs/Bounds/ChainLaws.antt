@@ -5,7 +5,7 @@ use Rattle.std.proofs.lemmas.Bool.{cases_lt}
 use Rattle.std.proofs.lemmas.List.Sums.{sum_by-cons}
 use Rattle.hz_block_model.specs.Dependences.Graphs.{Edge}
 use Rattle.hz_block_model.specs.Scheduling.Schedules.{Graph}
-use Rattle.hz_pipeline_model.proofs.Decidable.ToldLaws.{IsTold, same_told, less_told, some_told}
+use Rattle.hz_pipeline_model.proofs.Decidable.DecidedLaws.{IsDecided, same_reported, less_reported, some_reported}
 use Rattle.hz_measure_model.specs.Bounds.Paths.{greatest, AreTails, CarriesOn, IsLeast, GoesOn, HasGreatest, IsChain, LeadAlong}
 
 -- ---- least numbers
@@ -17,7 +17,7 @@ module _ (P : ℕ → Type 0) where
       (λ (le : j ≤ i). ⊎_elim (λ (lt : j < i). absurd (a.first j lt b.is)) (λ (ge : i ≤ j). omega (arith, le, ge)) (cases_lt j i))
       (cases_lt i j)
 
-  module _ (told : (i : ℕ) → IsTold (P i)) where
+  module _ (reported : (i : ℕ) → IsDecided (P i)) where
     abbrev Least : ℕ → Type 0
     Least k = (j : ℕ) × IsLeast P j × (j ≤ k)
 
@@ -35,7 +35,7 @@ module _ (P : ℕ → Type 0) where
         (λ (lt : i < k). least_from fuel (suc i) k holds (omega (arith, near)) (omega (arith, lt)) (none_more i none not_so))
         (λ (le : k ≤ i). let e : k ≡ i = omega (arith, le, low) in absurd (not_so (subst P e holds)))
         (cases_lt i k))
-        (told i)
+        (reported i)
 
     pub some_least : (k : ℕ) → P k → (j : ℕ) × IsLeast P j × (j ≤ k)
     some_least k holds = least_from k 0 k holds (omega arith) (omega arith) (λ j lt is. omega (arith, lt))
@@ -75,19 +75,19 @@ module _ (g : Graph) (tails : List ℕ) where
 
   -- ---- and there is one
 
-  carries_told : (j k : ℕ) → IsTold (CarriesOn g tails j k)
-  carries_told j k = ⊎_elim
+  carries_reported : (j k : ℕ) → IsDecided (CarriesOn g tails j k)
+  carries_reported j k = ⊎_elim
       (λ (found : (e : Edge) × Contains g.edges e × Carries e). inl (record { by = found.0; there = found.1; leaves = (found.2).0; leads = (found.2).1; whole = (found.2).2 }))
       (λ (none : (e : Edge) → Contains g.edges e → Carries e → ⊥). inr (λ c. none c.by c.there (c.leaves, c.leads, c.whole)))
-      (some_told Carries each g.edges)
+      (some_reported Carries each g.edges)
     where
       Carries : Edge → Type 0
       Carries e = (e.from ≡ j) × (e.to ≡ k) × (slice_index tails j ≡ e.cost + slice_index tails k)
 
-      each : (e : Edge) → IsTold (Carries e)
-      each e = all (same_told e.from j) (same_told e.to k) (same_told (slice_index tails j) (e.cost + slice_index tails k))
+      each : (e : Edge) → IsDecided (Carries e)
+      each e = all (same_reported e.from j) (same_reported e.to k) (same_reported (slice_index tails j) (e.cost + slice_index tails k))
         where
-          all : IsTold (e.from ≡ j) → IsTold (e.to ≡ k) → IsTold (slice_index tails j ≡ e.cost + slice_index tails k) → IsTold (Carries e)
+          all : IsDecided (e.from ≡ j) → IsDecided (e.to ≡ k) → IsDecided (slice_index tails j ≡ e.cost + slice_index tails k) → IsDecided (Carries e)
           all (inl a) (inl b) (inl c) = inl (a, b, c)
           all (inr a) b c = inr (λ is. a is.0)
           all (inl a) (inr b) c = inr (λ is. b is.1)
@@ -102,14 +102,14 @@ module _ (g : Graph) (tails : List ℕ) where
         let (up, low) = upward e there in
         (e.to, record { by = e; there = there; leaves = leaves; leads = refl; whole = whole }, omega (arith, up, leaves), low))
         (λ (none : (e : Edge) → Contains g.edges e → e.from ≡ j → ⊥). absurd (let is = (are.each j lt).none none in omega (arith, is, more)))
-        (some_told (λ e. e.from ≡ j) (λ e. same_told e.from j) g.edges)
+        (some_reported (λ e. e.from ≡ j) (λ e. same_reported e.from j) g.edges)
 
     some_rest : (fuel j : ℕ) → j < length g.nodes → length g.nodes ≤ j + fuel → (chain : List ℕ) × GoesOn g tails j chain
     some_rest zero j lt near = absurd (omega (arith, lt, near))
     some_rest (suc fuel) j lt near = ⊎_elim
         (λ (more : 0 < slice_index tails j).
         let (k, by, up, low) = carried j lt more in
-        let (l, least, le) = some_least (CarriesOn g tails j) (carries_told j) k by in
+        let (l, least, le) = some_least (CarriesOn g tails j) (carries_reported j) k by in
         let on = least.is in
         let (higher, inside) = upward on.by on.there in
         let from = on.leaves in
@@ -135,16 +135,16 @@ module _ (g : Graph) (tails : List ℕ) where
         (λ (some : 0 < length g.nodes).
         let long = are.long in
         let (i, inside, is) = some_greatest tails (omega (arith, some, long)) in
-        let (j, least, le) = some_least (HasGreatest g tails) told i (omega (arith, inside, long), is) in
+        let (j, least, le) = some_least (HasGreatest g tails) reported i (omega (arith, inside, long), is) in
         let (chain, rest) = some_rest (length g.nodes) j (least.is).0 (omega arith) in
         (j ∷ chain, (least, rest)))
         (λ (none : length g.nodes ≤ 0). ([], omega (arith, none)))
         (cases_lt 0 (length g.nodes))
       where
-        told : (i : ℕ) → IsTold (HasGreatest g tails i)
-        told i = go (less_told i (length g.nodes)) (same_told (slice_index tails i) (greatest tails))
+        reported : (i : ℕ) → IsDecided (HasGreatest g tails i)
+        reported i = go (less_reported i (length g.nodes)) (same_reported (slice_index tails i) (greatest tails))
           where
-            go : IsTold (i < length g.nodes) → IsTold (slice_index tails i ≡ greatest tails) → IsTold (HasGreatest g tails i)
+            go : IsDecided (i < length g.nodes) → IsDecided (slice_index tails i ≡ greatest tails) → IsDecided (HasGreatest g tails i)
             go (inl a) (inl b) = inl (a, b)
             go (inr a) b = inr (λ is. a is.0)
             go (inl a) (inr b) = inr (λ is. b is.1)

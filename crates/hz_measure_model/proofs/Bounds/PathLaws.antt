@@ -26,7 +26,7 @@ around {X} (y ∷ xs) x there = ⊎_elim
 
 module _ (g : Graph) (tails : List ℕ) (are : AreTails g tails) (upward : (e : Edge) → Contains g.edges e → (e.from < e.to) × (e.to < length g.nodes)) where
   module _ (accepts : List Event → Type 0) (slots : List Slot) (legal : Legal accepts g slots) where
-    -- A slot of a place behind which there is room for its tail.
+    -- A slot of a place after which there is room for its tail.
     record HasRoom (i : ℕ) : Type 0 where
       slot : Slot
       there : Contains slots slot

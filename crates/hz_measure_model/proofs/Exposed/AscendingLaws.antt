@@ -42,7 +42,7 @@ with_it n (a ∷ ns) = go (nat_lt n a) (nat_lt a n) refl refl (with_it n ns)
 abbrev pub Below : ℕ → List ℕ → Type 0
 Below a ns = (m : ℕ) → Contains ns m → a < m
 
--- each number stands below all behind it
+-- each number stands below all after it
 abbrev pub Ascends : List ℕ → Type 0
 Ascends [] = Unit {0}
 Ascends (a ∷ ns) = Below a ns × Ascends ns

@@ -1,4 +1,4 @@
--- The last instruction of the source that stores to a place, and slots behind past ones.
+-- The last instruction of the source that stores to a place, and slots after past ones.
 use Rattle.std.proofs.Common.{◌≡◌, ℕ, zero, suc, ◌<◌, ◌≤◌, ◌==◌, Bool, true, false, ◌||◌, ◌⊎◌, inl, inr, ⊎_elim, List, [], ◌∷◌, ◌++◌, Contains, refl, sym, ap, ◌∙◌, append_assoc, arith}
 use Rattle.std.specs.List.{flat_map}
 use Rattle.std.proofs.lemmas.Bool.{cases_lt}
@@ -55,7 +55,7 @@ module _ (block : List Instruction) (s : State) where
       touched (given block s k) u (source block s k) p hit
       ∙ sym (stays (suc k) n p (omega arith) (λ m low high. none m (omega arith) high))
 
--- ---- slots behind past ones, of which the newest stands first
+-- ---- slots after past ones, of which the newest stands first
 
 abbrev pub onto : List Slot → List Slot → List Slot
 onto [] rest = rest
@@ -80,13 +80,13 @@ in_onto (x ∷ past) rest y c = ⊎_elim
     ap_head : x ≡ y → Contains (x ∷ past) y
     ap_head e = (0, omega arith, e)
 
-behind_onto : (past rest : List Slot) (y : Slot) → Contains rest y → Contains (onto past rest) y
-behind_onto [] rest y c = c
-behind_onto (x ∷ past) rest y c = behind_onto past (x ∷ rest) y (Contains-tail x y rest c)
+after_onto : (past rest : List Slot) (y : Slot) → Contains rest y → Contains (onto past rest) y
+after_onto [] rest y c = c
+after_onto (x ∷ past) rest y c = after_onto past (x ∷ rest) y (Contains-tail x y rest c)
 
 pub past_onto : (past rest : List Slot) (y : Slot) → Contains past y → Contains (onto past rest) y
 past_onto [] rest y c = absurd (Contains-nil y c)
 past_onto (x ∷ past) rest y c = ⊎_elim
-    (λ (e : x ≡ y). behind_onto past (x ∷ rest) y (0, omega arith, e))
+    (λ (e : x ≡ y). after_onto past (x ∷ rest) y (0, omega arith, e))
     (λ (m : Contains past y). past_onto past (x ∷ rest) y m)
     (Contains-cons_cases x y past c)

@@ -62,8 +62,8 @@ record IsBefore (block : List Instruction) (y x : Slot) : Type 0 where
 
 module _ (block : List Instruction) (t : Timing) (g : Graph) (slots : List Slot) (s : State) (graph : IsGraph block t g.edges) (whole : IsOrder (length block) (places slots))
     (kept : (before after : List Slot) (x : Slot) → slots ≡ before ++ x ∷ after → IsReady g before x.cycle x.place) where
-  behind : (before after : List Slot) (x : Slot) (i : ℕ) → slots ≡ before ++ x ∷ after → depends block i x.place ≡ true → (y : Slot) × Contains before y × (y.place ≡ i) × (y.cycle + cost block t i x.place ≤ x.cycle)
-  behind before after x i is depending =
+  beyond : (before after : List Slot) (x : Slot) (i : ℕ) → slots ≡ before ++ x ∷ after → depends block i x.place ≡ true → (y : Slot) × Contains before y × (y.place ≡ i) × (y.cycle + cost block t i x.place ≤ x.cycle)
+  beyond before after x i is depending =
       let (up, inside) = upwards block i x.place (is_true_test (depends block i x.place) depending) in
       kept before after x is (edge block t i x.place) (graph.each i x.place (omega arith) inside depending) refl
 
@@ -89,7 +89,7 @@ module _ (block : List Instruction) (t : Timing) (g : Graph) (slots : List Slot)
 
       free : depends block x.place z.place ≡ true → ⊥
       free d =
-          let (y', there, place, late) = behind (onto past []) (mid ++ x ∷ rest) z x.place (is ∙ onto_front past (z ∷ (mid ++ x ∷ rest))) d in
+          let (y', there, place, late) = beyond (onto past []) (mid ++ x ∷ rest) z x.place (is ∙ onto_front past (z ∷ (mid ++ x ∷ rest))) d in
           whole.once (places (onto past [] ++ z ∷ mid)) (places rest) x.place order
           (subst (λ (k : ℕ). Contains (places (onto past [] ++ z ∷ mid)) k) place (Contains-map (λ (w : Slot). w.place) (onto past [] ++ z ∷ mid) y' (Contains-append_left (onto past []) (z ∷ mid) y' there)))
 
@@ -169,7 +169,7 @@ module _ (block : List Instruction) (t : Timing) (g : Graph) (slots : List Slot)
         go (at k lt hit none) =
             let v = storer_at block s k p hit in
             let (truth, depending) = truly block s k x.place lt v.who w v.is there p v.hit read none in
-            let (y, c, place, late) = behind (onto past []) rest x k (is ∙ onto_front past (x ∷ rest)) depending in
+            let (y, c, place, late) = beyond (onto past []) rest x k (is ∙ onto_front past (x ∷ rest)) depending in
             let enough = true_costs block s k x.place lt v.who w v.is there t truth in
             let number_is : t.number y.place x.place ≡ t.number k x.place = ap (λ (i : ℕ). t.number i x.place) place in
             let m : Contains past y = ⊎_elim (λ (h : Contains past y). h) (λ (h : Contains [] y). absurd (Contains-nil y h)) (in_onto past [] y c) in
@@ -188,7 +188,7 @@ module _ (block : List Instruction) (t : Timing) (g : Graph) (slots : List Slot)
         go (at k lt hit none) =
             let v = storer_at block s k p hit in
             let (truth, depending) = truly block s k x.place lt v.who w v.is there p v.hit read none in
-            let (y, c, place, late) = behind (onto past []) rest x k (is ∙ onto_front past (x ∷ rest)) depending in
+            let (y, c, place, late) = beyond (onto past []) rest x k (is ∙ onto_front past (x ∷ rest)) depending in
             let enough = true_costs block s k x.place lt v.who w v.is there t truth in
             let number_is : t.number y.place x.place ≡ t.number k x.place = ap (λ (i : ℕ). t.number i x.place) place in
             let m : Contains past y = ⊎_elim (λ (h : Contains past y). h) (λ (h : Contains [] y). absurd (Contains-nil y h)) (in_onto past [] y c) in

@@ -40,7 +40,7 @@ some_of : {X : Type 0} (o : Option X) → is_some o ≡ true → (x : X) × (o �
 some_of None e = absurd (cc)
 some_of (Some x) e = (x, refl)
 
--- behind events that are walked any advance is walked
+-- after events that are walked any advance is walked
 pub walked_on : (m : Machine) → IsMachine m → (t : List Event) (n : ℕ) → IsWalked m t → IsWalked m (t ++ advance n ∷ [])
 walked_on m is t n walked =
     let states = some_of (machine_walk m t) walked in

@@ -46,7 +46,7 @@ module _ (part : Part) where
     abbrev issued : List ℕ → List ℕ
     issued places = map (class_at g) places
 
-    -- The word of slots and of the advance to a cycle, behind an earlier cycle: first the advances from there.
+    -- The word of slots and of the advance to a cycle, after an earlier cycle: first the advances from there.
     abbrev Says : List Slot → ℕ → ℕ → List ℕ → Type 0
     Says slots begin end w = (cycle gap : ℕ) → cycle + gap ≡ begin → word_of part (spelled g cycle slots ++ advance_to (present cycle slots) end) ≡ replicate gap (advance_of part) ++ w
 

@@ -14,11 +14,11 @@ use Rattle.hz_measure_model.proofs.Kernels.UnrollLaws.{get-repeat, written-shift
 -- a test of two instructions asks what they are, and what is written between them
 module _ (test : (between since : ℕ → Bool) (first second : Access) → Bool) (one other : List Instruction) (i j k l : ℕ) (x y : Instruction)
     (at_i : slice_get one i ≡ Some x) (at_j : slice_get one j ≡ Some y) (at_k : slice_get other k ≡ Some x) (at_l : slice_get other l ≡ Some y)
-    (behind : (r : ℕ) → is_written one (i + 1) j r ≡ is_written other (k + 1) l r) (from : (r : ℕ) → is_written one i j r ≡ is_written other k l r) where
+    (beyond : (r : ℕ) → is_written one (i + 1) j r ≡ is_written other (k + 1) l r) (from : (r : ℕ) → is_written one i j r ≡ is_written other k l r) where
   pub same_test : at_places test one i j (slice_get one i) (slice_get one j) ≡ at_places test other k l (slice_get other k) (slice_get other l)
   same_test =
       (λ t. at_places test one i j (at_i t) (at_j t))
-      ∙ ((λ t. test (fun_ext behind t) (fun_ext from t) (access_of x) (access_of y))
+      ∙ ((λ t. test (fun_ext beyond t) (fun_ext from t) (access_of x) (access_of y))
       ∙ sym (λ t. at_places test other k l (at_k t) (at_l t)))
 
 -- two pairs of places at which the same stands, and between which the same is written
@@ -29,13 +29,13 @@ pub record Alike (one other : List Instruction) (i j k l : ℕ) : Type 0 where
   pub at_j : slice_get one j ≡ Some second
   pub at_k : slice_get other k ≡ Some first
   pub at_l : slice_get other l ≡ Some second
-  pub behind : (r : ℕ) → is_written one (i + 1) j r ≡ is_written other (k + 1) l r
+  pub beyond : (r : ℕ) → is_written one (i + 1) j r ≡ is_written other (k + 1) l r
   pub from : (r : ℕ) → is_written one i j r ≡ is_written other k l r
   pub order : nat_lt i j ≡ nat_lt k l
 
 module _ (one other : List Instruction) (i j k l : ℕ) (a : Alike one other i j k l) where
   test_alike : (test : (between since : ℕ → Bool) (first second : Access) → Bool) → at_places test one i j (slice_get one i) (slice_get one j) ≡ at_places test other k l (slice_get other k) (slice_get other l)
-  test_alike test = same_test test one other i j k l a.first a.second a.at_i a.at_j a.at_k a.at_l a.behind a.from
+  test_alike test = same_test test one other i j k l a.first a.second a.at_i a.at_j a.at_k a.at_l a.beyond a.from
 
   pub depends_alike : depends one i j ≡ depends other k l
   depends_alike = λ t. (a.order) t && test_alike (λ b s f g. is_true b s f g || is_anti b s f g || is_output b s f g) t
@@ -73,7 +73,7 @@ module _ (body : List Instruction) where
         at_j = ap (slice_get (repeat (k + (n + rest)) body)) copies ∙ (get-repeat (k + (n + rest)) (k + d) q body (omega arith) inside ∙ there);
         at_k = ap (slice_get (repeat n body)) (sym front) ∙ (get-repeat n 0 p body (omega arith) low ∙ at);
         at_l = get-repeat n d q body far inside ∙ there;
-        behind = λ r. ap (λ (i : ℕ). is_written (repeat (k + (n + rest)) body) i (k * length body + (d * length body + q)) r) next ∙ written-shift body k n rest (p + 1) (d * length body + q) r end;
+        beyond = λ r. ap (λ (i : ℕ). is_written (repeat (k + (n + rest)) body) i (k * length body + (d * length body + q)) r) next ∙ written-shift body k n rest (p + 1) (d * length body + q) r end;
         from = λ r. written-shift body k n rest p (d * length body + q) r end;
         order = same_order (k * length body + p) (k * length body + (d * length body + q)) p (d * length body + q) (omega arith) up;
       }
@@ -99,7 +99,7 @@ module _ (body : List Instruction) where
         at_j = get-repeat n d q body within inside ∙ there;
         at_k = ap (slice_get (repeat 3 body)) (sym front) ∙ (get-repeat 3 0 p body (omega arith) low ∙ at);
         at_l = get-repeat 3 2 q body (omega arith) inside ∙ there;
-        behind = λ r. written-around body n (p + 1) (d * length body + q) r (omega arith) (omega arith) end
+        beyond = λ r. written-around body n (p + 1) (d * length body + q) r (omega arith) (omega arith) end
             ∙ sym (written-around body 3 (p + 1) (2 * length body + q) r (omega arith) (omega arith) (omega arith));
         from = λ r. written-around body n p (d * length body + q) r (omega arith) (omega arith) end
             ∙ sym (written-around body 3 p (2 * length body + q) r (omega arith) (omega arith) (omega arith));
@@ -119,7 +119,7 @@ pub record IsOfCopies (size count : ℕ) (t u : Timing) : Type 0 where
 -- ---- three copies are enough
 
 -- Each dependence of so many copies of a body is kept, where `at` tells which places of the body are issued at which cycles, and each
--- copy is issued this interval behind the one before it.
+-- copy is issued this interval after the one before it.
 abbrev pub CopiesKeep : (body : List Instruction) (t : Timing) (interval : ℕ) (at : ℕ → ℕ → Type 0) (count : ℕ) → Type 0
 CopiesKeep body t interval at count =
     (k p a l q b : ℕ) → k < count → l < count → p < length body → q < length body → at p a → at q b

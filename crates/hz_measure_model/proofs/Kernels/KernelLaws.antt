@@ -41,7 +41,7 @@ cut_advance part t a b c is =
     ∙ sym (word_of-append part (t ++ advance a ∷ []) (advance b ∷ [])))))
 
 module _ (m : Machine) (machine : IsMachine m) (settle : Settles m) where
-  -- behind any events so many cycles more lead to the start
+  -- after any events so many cycles more lead to the start
   settles_later : (t : List Event) (c : ℕ) → cycle_limit ≤ c → All (IsOfClass (length m.classes)) t → IsWalked m t → machine_walk m (t ++ advance c ∷ []) ≡ Some (starts_of m)
   settles_later t c le all walked =
       walks_alike m.parts (starts_of m) (t ++ advance c ∷ []) ((t ++ advance (c - cycle_limit) ∷ []) ++ advance cycle_limit ∷ []) (λ part. cut_advance part t (c - cycle_limit) cycle_limit c (omega (arith, le)))

@@ -37,14 +37,14 @@ module _ {A : Type 0} (H : ℕ → List A) where
 
   -- what is empty outside of a range may be left out
   range_within : (a m rest all : ℕ) → a + (m + rest) ≡ all → ((k : ℕ) → k < a → H k ≡ []) → ((k : ℕ) → a + m ≤ k → H k ≡ []) → flat_map H (range_with_len 0 all) ≡ flat_map H (range_with_len a m)
-  range_within a m rest all is before behind =
+  range_within a m rest all is before beyond =
       let begin : 0 + a ≡ a = omega arith in
       ap (λ (n : ℕ). flat_map H (range_with_len 0 n)) (sym is)
       ∙ (range-more H 0 a (m + rest)
       ∙ (ap (λ (xs : List A). xs ++ flat_map H (range_with_len (0 + a) (m + rest))) (range_none 0 a (λ k low high. before k (omega arith)))
       ∙ (ap (λ (n : ℕ). flat_map H (range_with_len n (m + rest))) begin
       ∙ (range-more H a m rest
-      ∙ (ap (λ (xs : List A). flat_map H (range_with_len a m) ++ xs) (range_none (a + m) rest (λ k low high. behind k low))
+      ∙ (ap (λ (xs : List A). flat_map H (range_with_len a m) ++ xs) (range_none (a + m) rest (λ k low high. beyond k low))
       ∙ append-nil (flat_map H (range_with_len a m)))))))
 
 -- ---- the rows of a kernel

@@ -6,7 +6,7 @@ use Rattle.hz_block_model.specs.Dependences.Dependences.{Timing}
 use Rattle.hz_pipeline_model.specs.Tables.Machines.{Machine}
 use Rattle.hz_block_model.specs.Scheduling.Schedules.{Graph, Slot}
 use Rattle.hz_measure_model.specs.Kernels.Repeats.{Repeats, IsKernel}
-use Rattle.hz_measure_model.proofs.Kernels.TellLaws.{IsLeast, least_told, RepeatsSoon, soon_told, soon_from, one_pair}
+use Rattle.hz_measure_model.proofs.Kernels.TellLaws.{IsLeast, least_reported, RepeatsSoon, soon_reported, soon_from, one_pair}
 
 module _ (m : Machine) (body : List Instruction) (t : Timing) (g : Graph) (slots : List Slot) where
   pub one_kernel : (i a b j c d : ℕ) → IsKernel m body t g slots i a b → IsKernel m body t g slots j c d → (i ≡ j) × (a ≡ c) × (b ≡ d)
@@ -37,4 +37,4 @@ module _ (m : Machine) (body : List Instruction) (t : Timing) (g : Graph) (slots
       (λ (none : (k : ℕ) → k < interval → RepeatsSoon m body t g slots (suc k) → ⊥).
       let before : interval ≡ suc (interval - 1) = omega arith in
       absurd (none (interval - 1) (omega arith) (subst (RepeatsSoon m body t g slots) before (soon_from m body t g slots interval first second repeats))))
-      (least_told (λ k. RepeatsSoon m body t g slots (suc k)) (λ k. soon_told m body t g slots (suc k)) interval)
+      (least_reported (λ k. RepeatsSoon m body t g slots (suc k)) (λ k. soon_reported m body t g slots (suc k)) interval)

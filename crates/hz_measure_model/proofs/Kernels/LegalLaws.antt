@@ -22,7 +22,7 @@ use Rattle.hz_measure_model.specs.Kernels.Repeats.{KeepsCosts}
 use Rattle.hz_measure_model.proofs.Kernels.UnrollLaws.{length-repeat}
 use Rattle.hz_measure_model.proofs.Kernels.DepLaws.{more_copies, alike_shifted, depends_alike, IsOfCopies, CopiesKeep, three_are_enough}
 use Rattle.hz_measure_model.proofs.Kernels.CycleLaws.{slot_at}
-use Rattle.hz_measure_model.proofs.Kernels.PairLaws.{pair_behind, pair_before, pairs_from_splits}
+use Rattle.hz_measure_model.proofs.Kernels.PairLaws.{pair_after, pair_before, pairs_from_splits}
 use Rattle.hz_measure_model.proofs.Kernels.TurnLaws.{IsOfTurn, from_turns, in_turns, turns_pairs}
 
 tested : (b : Bool) → b ≡ true → IsTrue b
@@ -92,7 +92,7 @@ module _ (accepts : List Event → Type 0) (body : List Instruction) (t : Timing
   -- no slot depends on a later one, and their places are different
   record Stands (a b : Slot) : Type 0 where
     different : a.place ≢ b.place
-    behind : depends body b.place a.place ≡ true → ⊥
+    beyond : depends body b.place a.place ≡ true → ⊥
 
   whole : IsOrder (length g.nodes) (places slots)
   whole = legal.order
@@ -104,7 +104,7 @@ module _ (accepts : List Event → Type 0) (body : List Instruction) (t : Timing
   stand : AllPairs Stands slots
   stand = pairs_from_splits Stands slots (λ before after x y is c. record {
     different = λ e. apart_before before after x y.place is (Contains-map (λ (z : Slot). z.place) before y c) e;
-    behind = λ depending.
+    beyond = λ depending.
         let (front, back, at) = split_of before y c in
         let inside = goes_inside body x.place y.place depending in
         let up = goes_up body x.place y.place depending in
@@ -129,7 +129,7 @@ module _ (accepts : List Event → Type 0) (body : List Instruction) (t : Timing
     record Earlier (x y : Slot) : Type 0 where
       different : x.place ≢ y.place
       rises : x.cycle ≤ y.cycle
-      behind : depends (repeat n body) y.place x.place ≡ true → x.cycle < y.cycle
+      beyond : depends (repeat n body) y.place x.place ≡ true → x.cycle < y.cycle
 
     earlier_turn : (x y : Slot) (f : IsOfTurn (length body) interval slots n x) (h : IsOfTurn (length body) interval slots n y) → f.turn < h.turn → x.place < y.place
     earlier_turn x y f h lt =
@@ -146,7 +146,7 @@ module _ (accepts : List Event → Type 0) (body : List Instruction) (t : Timing
             record {
               different = λ e. s.different (omega (arith, e));
               rises = omega arith;
-              behind = λ depending. absurd (s.behind (inside_copy body n turn _ _ (low _ (Contains-get_or xs j d inside)) (low _ (Contains-get_or xs i d (omega arith))) depending));
+              beyond = λ depending. absurd (s.beyond (inside_copy body n turn _ _ (low _ (Contains-get_or xs j d inside)) (low _ (Contains-get_or xs i d (omega arith))) depending));
             }
 
     ordered : AllPairs Earlier (turns (length body) interval slots n)
@@ -158,14 +158,14 @@ module _ (accepts : List Event → Type 0) (body : List Instruction) (t : Timing
               let same : x.cycle ≡ y.cycle = f.cycle ∙ ((λ i. turn i * interval + (one i).cycle) ∙ sym h.cycle) in
               omega (arith, same);
           rises = omega arith;
-          behind = λ depending. lt;
+          beyond = λ depending. lt;
         })
         (λ x y f h same lt.
         let below = earlier_turn x y f h lt in
         record {
           different = λ e. omega (arith, e, below);
           rises = omega (arith, same);
-          behind = λ depending. let up = goes_up (repeat n body) y.place x.place depending in absurd (omega arith);
+          beyond = λ depending. let up = goes_up (repeat n body) y.place x.place depending in absurd (omega arith);
         })
         stand_copied
         (n * interval + (present 0 slots + 1))
@@ -220,8 +220,8 @@ module _ (accepts : List Event → Type 0) (body : List Instruction) (t : Timing
           (λ (rest : Contains (x ∷ after) y). ⊎_elim
           (λ (same : x ≡ y). let equal = ap (λ (z : Slot). z.place) same in absurd (omega (arith, equal, place, to, up)))
           (λ (back : Contains after y).
-          let wrong = pair_behind Earlier before after x y (subst (AllPairs Earlier) is ordered) back in
-          let less = wrong.behind between in
+          let wrong = pair_after Earlier before after x y (subst (AllPairs Earlier) is ordered) back in
+          let less = wrong.beyond between in
           absurd (omega (arith, less, late)))
           (Contains-cons_cases x y after rest))
           (Contains-append_cases before (x ∷ after) y (subst (λ (xs : List Slot). Contains xs y) is found))

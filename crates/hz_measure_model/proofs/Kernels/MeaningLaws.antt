@@ -13,20 +13,20 @@ abbrev pub run_all : List Instruction → State → State
 run_all [] s = s
 run_all (i ∷ rest) s = run_all rest (after i s)
 
-behind_front : (front rest : List Instruction) (x : Instruction) → slice_get (front ++ x ∷ rest) (length front) ≡ Some x
-behind_front [] rest x = refl
-behind_front (y ∷ front) rest x = behind_front front rest x
+after_front : (front rest : List Instruction) (x : Instruction) → slice_get (front ++ x ∷ rest) (length front) ≡ Some x
+after_front [] rest x = refl
+after_front (y ∷ front) rest x = after_front front rest x
 
-run_behind : (front block : List Instruction) (s : State) → run (front ++ block) (range_with_len (length front) (length block)) s ≡ run_all block s
-run_behind front [] s = refl
-run_behind front (x ∷ block) s =
+run_after : (front block : List Instruction) (s : State) → run (front ++ block) (range_with_len (length front) (length block)) s ≡ run_all block s
+run_after front [] s = refl
+run_after front (x ∷ block) s =
     let next : length front + 1 ≡ length (front ++ x ∷ []) = let long = length-append front (x ∷ []) in omega (arith, long) in
-    (λ i. run (front ++ x ∷ block) (range_with_len (length front + 1) (length block)) (after_place (behind_front front block x i) s))
+    (λ i. run (front ++ x ∷ block) (range_with_len (length front + 1) (length block)) (after_place (after_front front block x i) s))
     ∙ ((λ i. run (sym (append_assoc front (x ∷ []) block) i) (range_with_len (next i) (length block)) (after x s))
-    ∙ run_behind (front ++ x ∷ []) block (after x s))
+    ∙ run_after (front ++ x ∷ []) block (after x s))
 
 pub run_whole : (block : List Instruction) (s : State) → run block (range_with_len 0 (length block)) s ≡ run_all block s
-run_whole block s = run_behind [] block s
+run_whole block s = run_after [] block s
 
 run_both : (xs ys : List Instruction) (s : State) → run_all (xs ++ ys) s ≡ run_all ys (run_all xs s)
 run_both [] ys s = refl

@@ -29,11 +29,11 @@ module _ {A : Type 0} where
   from_range f a zero y c = absurd (Contains-nil y c)
   from_range f a (suc n) y c = ⊎_elim
       (λ (here : Contains (f a) y). record { number = a; low = omega arith; high = omega arith; there = here })
-      (λ (more : Contains (flat_map f (range_with_len (a + 1) n)) y). behind (from_range f (a + 1) n y more))
+      (λ (more : Contains (flat_map f (range_with_len (a + 1) n)) y). beyond (from_range f (a + 1) n y more))
       (Contains-append_cases (f a) (flat_map f (range_with_len (a + 1) n)) y c)
     where
-      behind : InRange f (a + 1) n y → InRange f a (suc n) y
-      behind r = record { number = r.number; low = let h = r.low in omega arith; high = let h = r.high in omega arith; there = r.there }
+      beyond : InRange f (a + 1) n y → InRange f a (suc n) y
+      beyond r = record { number = r.number; low = let h = r.low in omega arith; high = let h = r.high in omega arith; there = r.there }
 
   module _ (R : A → A → Type 0) where
     pub pairs_range : (f : ℕ → List A) (a n : ℕ) → ((k : ℕ) → a ≤ k → k < a + n → AllPairs R (f k))
@@ -44,9 +44,9 @@ module _ {A : Type 0} where
         (λ x y c e. let r = from_range f (a + 1) n y e in let low = r.low in let high = r.high in across a r.number (omega arith) (omega arith) (omega arith) x y c r.there)
 
     -- an element goes before all later ones
-    pub pair_behind : (before after : List A) (x y : A) → AllPairs R (before ++ x ∷ after) → Contains after y → R x y
-    pair_behind [] after x y pairs c = All-contains (R x) after y (AllPairs-head R x after pairs) c
-    pair_behind (b ∷ before) after x y pairs c = pair_behind before after x y (AllPairs-tail R b (before ++ x ∷ after) pairs) c
+    pub pair_after : (before after : List A) (x y : A) → AllPairs R (before ++ x ∷ after) → Contains after y → R x y
+    pair_after [] after x y pairs c = All-contains (R x) after y (AllPairs-head R x after pairs) c
+    pair_after (b ∷ before) after x y pairs c = pair_after before after x y (AllPairs-tail R b (before ++ x ∷ after) pairs) c
 
     pub pair_before : (before after : List A) (x y : A) → AllPairs R (before ++ x ∷ after) → Contains before y → R y x
     pair_before [] after x y pairs c = absurd (Contains-nil y c)
@@ -55,7 +55,7 @@ module _ {A : Type 0} where
         (λ (m : Contains before y). pair_before before after x y (AllPairs-tail R b (before ++ x ∷ after) pairs) m)
         (Contains-cons_cases b y before c)
 
-    -- where each element goes behind those before it
+    -- where each element goes past those before it
     pub pairs_from_splits : (xs : List A) → ((before after : List A) (x y : A) → xs ≡ before ++ x ∷ after → Contains before y → R y x) → AllPairs R xs
     pairs_from_splits [] splits = λ i j d lt inside. absurd (omega arith)
     pairs_from_splits (z ∷ xs) splits = AllPairs-cons R z xs

@@ -45,7 +45,7 @@ module _ (interval : ℕ) (slots : List Slot) (g : Graph) where
       ∙ append-nil (classes_in count cycle))))
 
   module _ (last : ℕ) (all : All (λ x. x.cycle ≤ last) slots) where
-    -- behind the first turn's last cycle all is as an interval before
+    -- after the first turn's last cycle all is as an interval before
     pub one_interval_on : (count cycle : ℕ) → last < cycle + interval → classes_in (suc count) (cycle + interval) ≡ classes_in count cycle
     one_interval_on count cycle lt =
         let first : classes_by 0 (cycle + interval) ≡ [] = none_issued 0 (cycle + interval) (λ i d low e. let h = all i d low in omega (arith, e)) in
@@ -65,7 +65,7 @@ module _ (interval : ℕ) (slots : List Slot) (g : Graph) where
   abbrev pub period : ℕ → List Event
   period turn = by_cycles (classes_in (suc turn)) (turn * interval) interval
 
-  -- the events behind the start of a turn that does not come
+  -- the events after the start of a turn that does not come
   abbrev pub drain : ℕ → ℕ → List Event
   drain cycles turn = by_cycles (classes_in turn) (turn * interval) cycles
 

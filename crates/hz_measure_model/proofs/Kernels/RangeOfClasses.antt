@@ -20,7 +20,7 @@ holding_below n m value (c ∷ conditions) le = go (holds value c) (holding_belo
     go true all = All-cons (λ k. k < m) n (holding_from (n + 1) value conditions) (omega (arith, le)) all
     go false all = all
 
--- a class that is told is below a bound
+-- a class that is reported is below a bound
 abbrev IsBelow : ℕ → Result ℕ ClassFault → Type 0
 IsBelow m r = MatchResult r (λ k. k < m) (λ _. ⊤)
 

@@ -1,4 +1,4 @@
--- Where the states at two starts are the same, the turns are walked for ever, and drained behind any number of them.
+-- Where the states at two starts are the same, the turns are walked for ever, and drained after any number of them.
 use Rattle.std.proofs.Common.{◌≡◌, ℕ, zero, suc, ◌+◌, ◌*◌, ◌-◌, ◌<◌, ◌≤◌, ◌==◌, Bool, true, false, cond, List, [], ◌∷◌, ◌++◌, map, length, All, Option, Some, None, ⊎_elim, refl, sym, ap, ◌∙◌, append-nil, arith}
 use Rattle.std.specs.Prelude.{slice_index, nat_lt, is_some, unwrap_or, option_and_then}
 use Rattle.std.specs.List.{range_with_len, repeat}
@@ -85,7 +85,7 @@ module _ (m : Machine) (interval : ℕ) (slots : List Slot) (g : Graph) (within 
       ∙ (parts_walk-append m.parts (starts_of m) (by_cycles (classes_in interval slots g turn) 0 (turn * interval)) (period interval slots g turn)
       ∙ ap (on m (period interval slots g turn)) (sym (edge_cycles turn))))
 
-  -- the trace of so many turns, advanced behind the last cycle
+  -- the trace of so many turns, advanced after the last cycle
   abbrev advanced : ℕ → List Event
   advanced n = spell (repeated g n) (turns (length g.nodes) interval slots n) ++ advance_to (present 0 (turns (length g.nodes) interval slots n)) (n * interval + (present 0 slots + 1))
 
@@ -147,7 +147,7 @@ module _ (m : Machine) (interval : ℕ) (slots : List Slot) (g : Graph) (within 
           whole a ∙ ap (λ (t : List Event). on m t (edge a)) (ap (drain interval slots g (present 0 slots + 1)) is ∙ steadily_drained (a - stages interval slots))
 
       module _ (first second : ℕ) (settled : stages interval slots ≤ first) (before : first < second) (same : edge first ≡ edge second) where
-        -- so all starts behind the two are the same too
+        -- so all starts after the two are the same too
         pub same_on : (j : ℕ) → edge (first + j) ≡ edge (second + j)
         same_on zero =
             let one : first + 0 ≡ first = omega arith in

@@ -43,7 +43,7 @@ module _ (m : Machine) (interval : ℕ) (slots : List Slot) (g : Graph) (within 
       ∙ (sym (on-same _ _ (λ states. interval_walked interval slots g all far (suc turn) turn m.parts states) (edge m interval slots g within turn))
       ∙ ap (λ (least : ℕ). on m (interval_trace g interval least turn (kernel_slots interval slots)) (edge m interval slots g within turn)) (let none : (turn + 1) - suc turn ≡ 0 = omega arith in none))
 
-  -- so many intervals behind the start of a turn that does not come: the kernel with the stages of the turns that have
+  -- so many intervals after the start of a turn that does not come: the kernel with the stages of the turns that have
   abbrev pub drained : (turn intervals : ℕ) → Option (List ℕ)
   drained turn zero = edge m interval slots g within turn
   drained turn (suc intervals) = on m (interval_trace g interval (intervals + 1) (turn + intervals) (kernel_slots interval slots)) (drained turn intervals)
@@ -63,7 +63,7 @@ module _ (m : Machine) (interval : ℕ) (slots : List Slot) (g : Graph) (within 
       ∙ (sym (cycles_more interval slots g (classes_in interval slots g turn) 0 ((turn + intervals) * interval) interval)
       ∙ ap (by_cycles (classes_in interval slots g turn) 0) more)))))
 
-  -- behind the last cycle nothing is issued
+  -- after the last cycle nothing is issued
   none_left : (count cycle : ℕ) → count * interval + (present 0 slots + 1) ≤ cycle → map (slot_at cycle) (issued_at (length g.nodes) interval slots count cycle) ≡ []
   none_left count cycle le = ap (map (slot_at cycle)) (range_none (λ turn. map (λ x. turn * length g.nodes + x.place) (issued_by interval slots turn cycle)) 0 count (λ turn low high.
       ap (map (λ (x : Slot). turn * length g.nodes + x.place)) (filter_none (λ x. turn * interval + x.cycle == cycle) slots

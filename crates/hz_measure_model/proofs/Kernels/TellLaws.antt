@@ -1,4 +1,4 @@
--- Whether an interval repeats can be told.
+-- Whether an interval repeats can be reported.
 use Rattle.std.proofs.Common.{◌≡◌, ℕ, zero, suc, ◌+◌, ◌<◌, ◌≤◌, Bool, true, false, inl, inr, ⊎_elim, List, [], ◌∷◌, length, Contains, Option, Some, None, refl, sym, ap, ◌∙◌, subst, arith}
 use Rattle.std.specs.Prelude.{◌⊎◌}
 use Rattle.std.specs.List.{repeat}
@@ -7,45 +7,45 @@ use Rattle.hz_block_model.specs.Running.Blocks.{Instruction}
 use Rattle.hz_block_model.specs.Dependences.Dependences.{depends, Timing, cost}
 use Rattle.hz_pipeline_model.specs.Tables.Machines.{Machine, machine_walk, IsWalked}
 use Rattle.hz_block_model.specs.Scheduling.Schedules.{Graph, Slot, spell}
-use Rattle.hz_pipeline_model.proofs.Decidable.ToldLaws.{IsTold, low_told, less_told, same_told, each_told}
+use Rattle.hz_pipeline_model.proofs.Decidable.DecidedLaws.{IsDecided, low_reported, less_reported, same_reported, each_reported}
 use Rattle.hz_measure_model.specs.Kernels.Turns.{repeated, turns, start, stages}
 use Rattle.hz_measure_model.specs.Kernels.Repeats.{KeepsCosts, stage_limit, repeat_limit, Repeats}
 
--- ---- what can be told
+-- ---- what can be reported
 
-both_told : {A B : Type 0} → IsTold A → IsTold B → IsTold (A × B)
-both_told {A} {B} one other = ⊎_elim
+both_reported : {A B : Type 0} → IsDecided A → IsDecided B → IsDecided (A × B)
+both_reported {A} {B} one other = ⊎_elim
     (λ (a : A). ⊎_elim (λ (b : B). inl (a, b)) (λ (no : B → ⊥). inr (λ p. no p.1)) other)
     (λ (no : A → ⊥). inr (λ p. no p.0))
     one
 
-from_told : {A B : Type 0} → IsTold A → IsTold B → IsTold (A → B)
-from_told {A} {B} one other = ⊎_elim
+from_reported : {A B : Type 0} → IsDecided A → IsDecided B → IsDecided (A → B)
+from_reported {A} {B} one other = ⊎_elim
     (λ (a : A). ⊎_elim (λ (b : B). inl (λ _. b)) (λ (no : B → ⊥). inr (λ f. no (f a))) other)
     (λ (no : A → ⊥). inl (λ a. absurd (no a)))
     one
 
-none_told : {A : Type 0} → IsTold A → IsTold (A → ⊥)
-none_told {A} told = ⊎_elim (λ (a : A). inr (λ no. no a)) (λ (no : A → ⊥). inl no) told
+none_reported : {A : Type 0} → IsDecided A → IsDecided (A → ⊥)
+none_reported {A} reported = ⊎_elim (λ (a : A). inr (λ no. no a)) (λ (no : A → ⊥). inl no) reported
 
-by_told : {A B : Type 0} → (A → B) → (B → A) → IsTold A → IsTold B
-by_told {A} {B} there back told = ⊎_elim (λ (a : A). inl (there a)) (λ (no : A → ⊥). inr (λ b. no (back b))) told
+by_reported : {A B : Type 0} → (A → B) → (B → A) → IsDecided A → IsDecided B
+by_reported {A} {B} there back reported = ⊎_elim (λ (a : A). inl (there a)) (λ (no : A → ⊥). inr (λ b. no (back b))) reported
 
-true_told : (b : Bool) → IsTold (b ≡ true)
-true_told true = inl refl
-true_told false = inr (λ e. cc)
+true_reported : (b : Bool) → IsDecided (b ≡ true)
+true_reported true = inl refl
+true_reported false = inr (λ e. cc)
 
-list_told : (xs ys : List ℕ) → IsTold (xs ≡ ys)
-list_told [] [] = inl refl
-list_told [] (y ∷ ys) = inr (λ e. cc)
-list_told (x ∷ xs) [] = inr (λ e. cc)
-list_told (x ∷ xs) (y ∷ ys) = by_told (λ (p : (x ≡ y) × (xs ≡ ys)). λ i. p.0 i ∷ p.1 i) (λ e. (cc, cc)) (both_told (same_told x y) (list_told xs ys))
+list_reported : (xs ys : List ℕ) → IsDecided (xs ≡ ys)
+list_reported [] [] = inl refl
+list_reported [] (y ∷ ys) = inr (λ e. cc)
+list_reported (x ∷ xs) [] = inr (λ e. cc)
+list_reported (x ∷ xs) (y ∷ ys) = by_reported (λ (p : (x ≡ y) × (xs ≡ ys)). λ i. p.0 i ∷ p.1 i) (λ e. (cc, cc)) (both_reported (same_reported x y) (list_reported xs ys))
 
-states_told : (one other : Option (List ℕ)) → IsTold (one ≡ other)
-states_told None None = inl refl
-states_told None (Some ys) = inr (λ e. cc)
-states_told (Some xs) None = inr (λ e. cc)
-states_told (Some xs) (Some ys) = by_told (λ (e : xs ≡ ys). ap Some e) (λ e. cc) (list_told xs ys)
+states_reported : (one other : Option (List ℕ)) → IsDecided (one ≡ other)
+states_reported None None = inl refl
+states_reported None (Some ys) = inr (λ e. cc)
+states_reported (Some xs) None = inr (λ e. cc)
+states_reported (Some xs) (Some ys) = by_reported (λ (e : xs ≡ ys). ap Some e) (λ e. cc) (list_reported xs ys)
 
 -- A number below a bound of which it holds, and of none below it.
 pub record IsLeast (P : ℕ → Type 0) (n : ℕ) : Type 0 where
@@ -54,37 +54,37 @@ pub record IsLeast (P : ℕ → Type 0) (n : ℕ) : Type 0 where
   pub holds : P number
   pub least : (k : ℕ) → k < number → P k → ⊥
 
-module _ (P : ℕ → Type 0) (told : (k : ℕ) → IsTold (P k)) where
+module _ (P : ℕ → Type 0) (reported : (k : ℕ) → IsDecided (P k)) where
   -- of each number below a bound
-  pub below_told : (n : ℕ) → IsTold ((k : ℕ) → k < n → P k)
-  below_told zero = inl (λ k lt. absurd (omega arith))
-  below_told (suc n) = by_told
+  pub below_reported : (n : ℕ) → IsDecided ((k : ℕ) → k < n → P k)
+  below_reported zero = inl (λ k lt. absurd (omega arith))
+  below_reported (suc n) = by_reported
       (λ (p : ((k : ℕ) → k < n → P k) × P n). λ k lt. ⊎_elim (λ (e : k ≡ n). subst P (sym e) p.1) (λ (ne : k ≡ n → ⊥). p.0 k (less k lt ne)) (cases_eq k n))
       (λ all. ((λ k lt. all k (omega arith)), all n (omega arith)))
-      (both_told (below_told n) (told n))
+      (both_reported (below_reported n) (reported n))
     where
       less : (k : ℕ) → k < suc n → (k ≡ n → ⊥) → k < n
       less k lt ne = ⊎_elim (λ (l : k < n). l) (λ (ge : n ≤ k). absurd (ne (omega arith))) (cases_lt k n)
 
   -- the least number below a bound, or none
-  pub least_told : (n : ℕ) → IsLeast P n ⊎ ((k : ℕ) → k < n → P k → ⊥)
-  least_told zero = inr (λ k lt h. omega arith)
-  least_told (suc n) = ⊎_elim
+  pub least_reported : (n : ℕ) → IsLeast P n ⊎ ((k : ℕ) → k < n → P k → ⊥)
+  least_reported zero = inr (λ k lt h. omega arith)
+  least_reported (suc n) = ⊎_elim
       (λ (found : IsLeast P n). inl (record { number = found.number; within = let w = found.within in omega arith; holds = found.holds; least = found.least }))
       (λ (none : (k : ℕ) → k < n → P k → ⊥). ⊎_elim
       (λ (h : P n). inl (record { number = n; within = omega arith; holds = h; least = none }))
       (λ (no : P n → ⊥). inr (λ k lt h. ⊎_elim (λ (e : k ≡ n). no (subst P e h)) (λ (ne : k ≡ n → ⊥). none k (less k lt ne) h) (cases_eq k n)))
-      (told n))
-      (least_told n)
+      (reported n))
+      (least_reported n)
     where
       less : (k : ℕ) → k < suc n → (k ≡ n → ⊥) → k < n
       less k lt ne = ⊎_elim (λ (l : k < n). l) (λ (ge : n ≤ k). absurd (ne (omega arith))) (cases_lt k n)
 
-  pub some_below_told : (n : ℕ) → IsTold ((k : ℕ) × (k < n) × P k)
-  some_below_told n = ⊎_elim
+  pub some_below_reported : (n : ℕ) → IsDecided ((k : ℕ) × (k < n) × P k)
+  some_below_reported n = ⊎_elim
       (λ (found : IsLeast P n). inl (found.number, found.within, found.holds))
       (λ (none : (k : ℕ) → k < n → P k → ⊥). inr (λ s. none s.0 s.1 s.2))
-      (least_told n)
+      (least_reported n)
 
 -- ---- an interval
 
@@ -95,30 +95,30 @@ module _ (m : Machine) (body : List Instruction) (t : Timing) (g : Graph) (slots
   abbrev three : List Slot
   three = turns (length body) interval slots 3
 
-  kept_told : (x y : Slot) → IsTold (depends (repeat 3 body) x.place y.place ≡ true → x.cycle + cost (repeat 3 body) t x.place y.place ≤ y.cycle)
-  kept_told x y = from_told (true_told (depends (repeat 3 body) x.place y.place)) (low_told (x.cycle + cost (repeat 3 body) t x.place y.place) y.cycle)
+  kept_reported : (x y : Slot) → IsDecided (depends (repeat 3 body) x.place y.place ≡ true → x.cycle + cost (repeat 3 body) t x.place y.place ≤ y.cycle)
+  kept_reported x y = from_reported (true_reported (depends (repeat 3 body) x.place y.place)) (low_reported (x.cycle + cost (repeat 3 body) t x.place y.place) y.cycle)
 
-  costs_told : IsTold (KeepsCosts body t interval slots 3)
-  costs_told = by_told
+  costs_reported : IsDecided (KeepsCosts body t interval slots 3)
+  costs_reported = by_reported
       (λ (h : (x : Slot) → Contains three x → (y : Slot) → Contains three y → depends (repeat 3 body) x.place y.place ≡ true → x.cycle + cost (repeat 3 body) t x.place y.place ≤ y.cycle). λ x y c e. h x c y e)
       (λ h. λ x c y e. h x y c e)
-      (each_told (λ x. (y : Slot) → Contains three y → depends (repeat 3 body) x.place y.place ≡ true → x.cycle + cost (repeat 3 body) t x.place y.place ≤ y.cycle)
-      (λ x. each_told (λ y. depends (repeat 3 body) x.place y.place ≡ true → x.cycle + cost (repeat 3 body) t x.place y.place ≤ y.cycle) (λ y. kept_told x y) three) three)
+      (each_reported (λ x. (y : Slot) → Contains three y → depends (repeat 3 body) x.place y.place ≡ true → x.cycle + cost (repeat 3 body) t x.place y.place ≤ y.cycle)
+      (λ x. each_reported (λ y. depends (repeat 3 body) x.place y.place ≡ true → x.cycle + cost (repeat 3 body) t x.place y.place ≤ y.cycle) (λ y. kept_reported x y) three) three)
 
   -- two starts below a bound are different
   abbrev Differ : ℕ → Type 0
   Differ second = (b : ℕ) → b < second → (a : ℕ) → a < b → stages interval slots ≤ a → edge_at a ≡ edge_at b → ⊥
 
-  differ_told : (second : ℕ) → IsTold (Differ second)
-  differ_told second = below_told (λ b. (a : ℕ) → a < b → stages interval slots ≤ a → edge_at a ≡ edge_at b → ⊥)
-      (λ b. below_told (λ a. stages interval slots ≤ a → edge_at a ≡ edge_at b → ⊥)
-      (λ a. from_told (low_told (stages interval slots) a) (none_told (states_told (edge_at a) (edge_at b)))) b) second
+  differ_reported : (second : ℕ) → IsDecided (Differ second)
+  differ_reported second = below_reported (λ b. (a : ℕ) → a < b → stages interval slots ≤ a → edge_at a ≡ edge_at b → ⊥)
+      (λ b. below_reported (λ a. stages interval slots ≤ a → edge_at a ≡ edge_at b → ⊥)
+      (λ a. from_reported (low_reported (stages interval slots) a) (none_reported (states_reported (edge_at a) (edge_at b)))) b) second
 
   abbrev EachWalked : ℕ → Type 0
   EachWalked second = (count : ℕ) → count < suc second → IsWalked m (spell (repeated g count) (turns (length body) interval slots count))
 
-  each_walked_told : (second : ℕ) → IsTold (EachWalked second)
-  each_walked_told second = below_told (λ count. IsWalked m (spell (repeated g count) (turns (length body) interval slots count))) (λ count. true_told _) (suc second)
+  each_walked_reported : (second : ℕ) → IsDecided (EachWalked second)
+  each_walked_reported second = below_reported (λ count. IsWalked m (spell (repeated g count) (turns (length body) interval slots count))) (λ count. true_reported _) (suc second)
 
   abbrev Parts : ℕ → ℕ → Type 0
   Parts first second =
@@ -127,8 +127,8 @@ module _ (m : Machine) (body : List Instruction) (t : Timing) (g : Graph) (slots
       × ((IsWalked m (start (length body) interval slots g first) × (edge_at first ≡ edge_at second))
       × (Differ second × EachWalked second))))
 
-  pub repeats_told : (first second : ℕ) → IsTold (Repeats m body t g slots interval first second)
-  repeats_told first second = by_told
+  pub repeats_reported : (first second : ℕ) → IsDecided (Repeats m body t g slots interval first second)
+  repeats_reported first second = by_reported
       (λ (p : Parts first second). record {
         few = p.0.0;
         costs = p.0.1;
@@ -144,16 +144,16 @@ module _ (m : Machine) (body : List Instruction) (t : Timing) (g : Graph) (slots
         (r.few, r.costs),
         ((r.settled, r.before), (r.soon, ((r.walked, r.same), ((λ b high a lt low e. r.different a b low lt high e), (λ count lt. r.each count (omega arith)))))),
       ))
-      (both_told (both_told (low_told _ _) costs_told) (both_told (both_told (low_told _ _) (less_told _ _)) (both_told (low_told _ _)
-      (both_told (both_told (true_told _) (states_told _ _)) (both_told (differ_told second) (each_walked_told second))))))
+      (both_reported (both_reported (low_reported _ _) costs_reported) (both_reported (both_reported (low_reported _ _) (less_reported _ _)) (both_reported (low_reported _ _)
+      (both_reported (both_reported (true_reported _) (states_reported _ _)) (both_reported (differ_reported second) (each_walked_reported second))))))
 
   -- some two starts are the first that are the same
   abbrev pub RepeatsSoon : Type 0
   RepeatsSoon = (second : ℕ) × (second < suc (stages interval slots + repeat_limit)) × ((first : ℕ) × (first < second) × Repeats m body t g slots interval first second)
 
-  pub soon_told : IsTold RepeatsSoon
-  soon_told = some_below_told (λ second. (first : ℕ) × (first < second) × Repeats m body t g slots interval first second)
-      (λ second. some_below_told (λ first. Repeats m body t g slots interval first second) (λ first. repeats_told first second) second)
+  pub soon_reported : IsDecided RepeatsSoon
+  soon_reported = some_below_reported (λ second. (first : ℕ) × (first < second) × Repeats m body t g slots interval first second)
+      (λ second. some_below_reported (λ first. Repeats m body t g slots interval first second) (λ first. repeats_reported first second) second)
       (suc (stages interval slots + repeat_limit))
 
   pub soon_from : (first second : ℕ) → Repeats m body t g slots interval first second → RepeatsSoon

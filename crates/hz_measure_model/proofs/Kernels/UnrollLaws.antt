@@ -45,7 +45,7 @@ module _ {X : Type 0} where
       let second : suc (length xs) + j ≡ suc (length xs + j) = omega arith in
       ap (λ (n : ℕ). drop n (take (suc (length xs) + j) (x ∷ (xs ++ ys)))) first ∙ (ap (λ (n : ℕ). drop (suc (length xs + i)) (take n (x ∷ (xs ++ ys)))) second ∙ cut-past xs ys i j)
 
-  -- what is cut of copies is cut of fewer, where the first copies stand before it and the last behind it
+  -- what is cut of copies is cut of fewer, where the first copies stand before it and the last after it
   pub cut-repeat : (k n rest i j : ℕ) (xs : List X) → j ≤ n * length xs → drop (k * length xs + i) (take (k * length xs + j) (repeat (k + (n + rest)) xs)) ≡ drop i (take j (repeat n xs))
   cut-repeat k n rest i j xs le =
       let long : length (repeat k xs) ≡ k * length xs = length-repeat k xs in

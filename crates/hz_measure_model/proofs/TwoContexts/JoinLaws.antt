@@ -61,19 +61,19 @@ module _ {A B : Type 0} (p : A → Bool) (f : A → B) where
       mapped true e = ap (λ (c : Bool). map f (cond c (z ∷ filter p k.before) (filter p k.before))) e ∙ ap (λ (ys : List B). f z ∷ ys) k.mapped
       mapped false e = ap (λ (c : Bool). map f (cond c (z ∷ filter p k.before) (filter p k.before))) e ∙ k.mapped
 
-  pub before_kept : (xs : List A) (front : List B) (y : B) (behind : List B) → kept xs ≡ front ++ y ∷ behind → KeptIn xs front y
-  before_kept [] [] y behind e = absurd (cc)
-  before_kept [] (z ∷ front) y behind e = absurd (cc)
-  before_kept (x ∷ xs) front y behind e = go (p x) refl e (λ front e. before_kept xs front y behind e)
+  pub before_kept : (xs : List A) (front : List B) (y : B) (beyond : List B) → kept xs ≡ front ++ y ∷ beyond → KeptIn xs front y
+  before_kept [] [] y beyond e = absurd (cc)
+  before_kept [] (z ∷ front) y beyond e = absurd (cc)
+  before_kept (x ∷ xs) front y beyond e = go (p x) refl e (λ front e. before_kept xs front y beyond e)
     where
-      here : p x ≡ true → (front : List B) → f x ∷ kept xs ≡ front ++ y ∷ behind → ((front : List B) → kept xs ≡ front ++ y ∷ behind → KeptIn xs front y) → KeptIn (x ∷ xs) front y
+      here : p x ≡ true → (front : List B) → f x ∷ kept xs ≡ front ++ y ∷ beyond → ((front : List B) → kept xs ≡ front ++ y ∷ beyond → KeptIn xs front y) → KeptIn (x ∷ xs) front y
       here passes [] e later = record { item = x; before = []; after = xs; parts = refl; passes = passes; is = cc; mapped = refl }
       here passes (z ∷ front) e later =
-          let tail : kept xs ≡ front ++ y ∷ behind = cc in
+          let tail : kept xs ≡ front ++ y ∷ beyond = cc in
           let head : f x ≡ z = cc in
           subst (λ (w : B). KeptIn (x ∷ xs) (w ∷ front) y) head (further x xs front y true passes (later front tail))
 
-      go : (b : Bool) → p x ≡ b → map f (cond b (x ∷ filter p xs) (filter p xs)) ≡ front ++ y ∷ behind → ((front : List B) → kept xs ≡ front ++ y ∷ behind → KeptIn xs front y) → KeptIn (x ∷ xs) front y
+      go : (b : Bool) → p x ≡ b → map f (cond b (x ∷ filter p xs) (filter p xs)) ≡ front ++ y ∷ beyond → ((front : List B) → kept xs ≡ front ++ y ∷ beyond → KeptIn xs front y) → KeptIn (x ∷ xs) front y
       go true passes e later = here passes front e later
       go false fails e later = further x xs front y false fails (later front e)
 

@@ -20,7 +20,7 @@ use Rattle.hz_block_model.proofs.Scheduling.AlikeGraphs.{AreAlike, alike_back, a
 use Rattle.hz_block_model.specs.Scheduled.BlockGraphs.{class_in, classes_of}
 use Rattle.hz_block_model.specs.Scheduled.BlockSchedules.{StartsAlone}
 use Rattle.hz_block_model.proofs.Scheduled.GraphLaws.{HasClass, as_many, graphs_alike}
-use Rattle.hz_block_model.proofs.Schedulable.BehindLaws.{accepted_told, accepted_nothing, behind_while}
+use Rattle.hz_block_model.proofs.Schedulable.AfterLaws.{accepted_reported, accepted_nothing, after_while}
 use Rattle.hz_block_model.proofs.Schedulable.GraphTotal.{some_graph}
 use Rattle.hz_block_model.proofs.Schedulable.GreedyLaws.{some_schedule}
 use Rattle.hz_block_model.proofs.Schedulable.ScheduleTotal.{upward_edges, starts_at}
@@ -76,9 +76,9 @@ module _ (d : Description) (known : Known) where
       let classes : map Ok (classes_of g ++ classes_of h) ≡ map (class_in d) (first ++ second) =
       map-append Ok (classes_of g) (classes_of h) ∙ (ap (λ (rs : List (Result ℕ ClassFault)). rs ++ map Ok (classes_of h)) of_first.classes ∙ (ap (λ (rs : List (Result ℕ ClassFault)). map (class_in d) first ++ rs) of_second.classes ∙ sym (map-append (class_in d) first second))) in
       let joins = map-append (λ (n : Node). n.class) g.nodes h.nodes in
-      let (slots, legal, greedy) = some_schedule (Accepted (pipeline_with d known)) (accepted_told d known) (joined g h)
+      let (slots, legal, greedy) = some_schedule (Accepted (pipeline_with d known)) (accepted_reported d known) (joined g h)
       (joined_upward g h (upward_edges d first g formed of_first) (upward_edges d second h formed of_second))
-      (λ j low t n accepted long. (behind_while d known formed sound t (issue (class_at (joined g h) j) ∷ []) n long accepted).1
+      (λ j low t n accepted long. (after_while d known formed sound t (issue (class_at (joined g h) j) ∷ []) n long accepted).1
       (subst (λ (cs : List ℕ). Accepted (pipeline_with d known) (issue (slice_index cs j) ∷ [])) (sym joins)
       (starts_at d known (classes_of g ++ classes_of h) (first ++ second) classes (All-append (StartsAlone d known) first second one other) j (omega (arith, low, length-append g.nodes h.nodes, length-append first second, as_many d first g of_first, as_many d second h of_second)))))
       (accepted_nothing d known) in

@@ -29,7 +29,7 @@ pub record IsLeast (P : ℕ → Type 0) (i : ℕ) : Type 0 where
   pub is : P i
   pub first : (j : ℕ) → j < i → P j → ⊥
 
--- how a chain goes on behind a place: to the least place to which its tail is carried on, as long as that is above 0
+-- how a chain goes on after a place: to the least place to which its tail is carried on, as long as that is above 0
 abbrev pub GoesOn : Graph → List ℕ → ℕ → List ℕ → Type 0
 GoesOn g tails j [] = slice_index tails j ≡ 0
 GoesOn g tails j (k ∷ chain) = (0 < slice_index tails j) × IsLeast (CarriesOn g tails j) k × GoesOn g tails k chain

@@ -8,7 +8,7 @@ use Rattle.hz_block_model.specs.Scheduling.Schedules.{Slot, present}
 use Rattle.hz_measure_model.specs.Bounds.Loads.{Load}
 use Rattle.hz_measure_model.specs.Bounds.Bounds.{unit_names, UnitLoad, Bound}
 
--- a number behind a space
+-- a number after a space
 abbrev pub number_field : ℕ → List ℕ
 number_field n = concat (codes " " ∷ decimal n ∷ [])
 

@@ -74,11 +74,11 @@ module _ (block : List Instruction) (number : ℕ → ℕ → ℕ) (start : Stat
   abbrev pub seen : List Left → Slot → State
   seen lefts x = λ p. word_left start (newest (is_ripe x) lefts p) p
 
-  -- what a slot leaves behind others: all of it is computed of what it sees
+  -- what a slot leaves after others: all of it is computed of what it sees
   abbrev pub left_by : List Left → Slot → Left
   left_by lefts x = record { place = x.place; cycle = x.cycle; stores = stores_in (slice_get block x.place) (seen lefts x) }
 
-  -- what slots leave behind others, the newest first
+  -- what slots leave after others, the newest first
   abbrev pub lefts_of : List Left → List Slot → List Left
   lefts_of lefts [] = lefts
   lefts_of lefts (x ∷ slots) = lefts_of (left_by lefts x ∷ lefts) slots
@@ -87,7 +87,7 @@ module _ (block : List Instruction) (number : ℕ → ℕ → ℕ) (start : Stat
   abbrev pub read_by : ℕ → List Left → Slot → Place → Read
   read_by slot lefts x p = record { slot = slot; what = p; from = option_map (λ l. l.place) (newest (is_ripe x) lefts p) }
 
-  -- what slots read, from a place of the schedule on, behind others
+  -- what slots read, from a place of the schedule on, after others
   abbrev pub reads_of : ℕ → List Left → List Slot → List Read
   reads_of slot lefts [] = []
   reads_of slot lefts (x ∷ slots) =

@@ -27,7 +27,7 @@ module _ (d : Description) (known : Known) where
   pub record KeepsContext (block : List Instruction) (g : Graph) (slots : List Slot) : Type 0 where
     -- each instruction stands there once, and no other
     pub each : IsOrder (length block) (places slots)
-    -- every latency and bypass is kept: an instruction is issued behind each on which it depends, by the cost of the dependence
+    -- every latency and bypass is kept: an instruction is issued after each on which it depends, by the cost of the dependence
     pub kept : (before after : List Slot) (x : Slot) (i : ℕ) → slots ≡ before ++ x ∷ after → depends block i x.place ≡ true → (y : Slot) × Contains before y × (y.place ≡ i) × (y.cycle + cost block (timing_in d (classes_of g) block) i x.place ≤ x.cycle)
 
   -- What slots keep of two blocks.

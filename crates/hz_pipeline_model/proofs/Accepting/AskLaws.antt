@@ -70,28 +70,28 @@ record Among (t before after : List Event) (k : ℕ) : Type 0 where
   parts : t ≡ front ++ issue k ∷ rest
   bare : issues_and_advances front ≡ before
 
-behind_event : (e : Event) (t before after : List Event) (k : ℕ) → ((es : List Event) → issues_and_advances (e ∷ es) ≡ e ∷ issues_and_advances es) → Among t before after k → Among (e ∷ t) (e ∷ before) after k
-behind_event e t before after k stays a = record {
+after_event : (e : Event) (t before after : List Event) (k : ℕ) → ((es : List Event) → issues_and_advances (e ∷ es) ≡ e ∷ issues_and_advances es) → Among t before after k → Among (e ∷ t) (e ∷ before) after k
+after_event e t before after k stays a = record {
   front = e ∷ a.front;
   rest = a.rest;
   parts = ap (λ (es : List Event). e ∷ es) a.parts;
   bare = stays a.front ∙ ap (λ (es : List Event). e ∷ es) a.bare;
 }
 
-behind_ask : (a u : ℕ) (t before after : List Event) (k : ℕ) → Among t before after k → Among (ask a u ∷ t) before after k
-behind_ask a u t before after k there = record { front = ask a u ∷ there.front; rest = there.rest; parts = ap (λ (es : List Event). ask a u ∷ es) there.parts; bare = there.bare }
+after_ask : (a u : ℕ) (t before after : List Event) (k : ℕ) → Among t before after k → Among (ask a u ∷ t) before after k
+after_ask a u t before after k there = record { front = ask a u ∷ there.front; rest = there.rest; parts = ap (λ (es : List Event). ask a u ∷ es) there.parts; bare = there.bare }
 
 among : (t before after : List Event) (k : ℕ) → issues_and_advances t ≡ before ++ issue k ∷ after → Among t before after k
 among [] before after k e = absurd (none_last before after k e)
-among (ask a u ∷ t) before after k e = behind_ask a u t before after k (among t before after k e)
+among (ask a u ∷ t) before after k e = after_ask a u t before after k (among t before after k e)
 among (issue l ∷ t) [] after k e = record { front = []; rest = t; parts = ap (λ (f : Event). f ∷ t) (same_first _ _ _ _ e); bare = refl }
 among (issue l ∷ t) (f ∷ before) after k e =
     subst (λ (g : Event). Among (issue l ∷ t) (g ∷ before) after k) (same_first _ _ _ _ e)
-    (behind_event (issue l) t before after k (λ es. refl) (among t before after k (same_rest _ _ _ _ e)))
+    (after_event (issue l) t before after k (λ es. refl) (among t before after k (same_rest _ _ _ _ e)))
 among (advance n ∷ t) [] after k e = absurd (no_advance n k (same_first _ _ _ _ e))
 among (advance n ∷ t) (f ∷ before) after k e =
     subst (λ (g : Event). Among (advance n ∷ t) (g ∷ before) after k) (same_first _ _ _ _ e)
-    (behind_event (advance n) t before after k (λ es. refl) (among t before after k (same_rest _ _ _ _ e)))
+    (after_event (advance n) t before after k (λ es. refl) (among t before after k (same_rest _ _ _ _ e)))
 
 module _ {U : Type 0} (m : Pipeline U) where
   left_without : (t : List Event) (choices : List ℕ) → left_by m (issues_and_advances t) choices ≡ left_by m t choices

@@ -14,7 +14,7 @@ use Rattle.hz_pipeline_model.specs.Accepting.Restricted.{of_pairs, class_in, res
 use Rattle.hz_pipeline_model.specs.Accepting.Replay.{Class, Pipeline, State, start, Step, Plays, FitsAt, MayTake, Accepted, FirstRefused, alternatives_at, of_class, chosen, pairs_at, first_fit}
 use Rattle.hz_pipeline_model.specs.Accepting.Events.{Event, issue, advance, ask}
 use Rattle.hz_base_model.proofs.Elements.{Contains-nil, Contains-head, Contains-map, Contains-from_map}
-use Rattle.hz_description_model.proofs.Reservations.FirstPlaces.{numbered, number_behind, in_front, front_number, before_map, still_first, was_first}
+use Rattle.hz_description_model.proofs.Reservations.FirstPlaces.{numbered, number_after, in_front, front_number, before_map, still_first, was_first}
 use Rattle.hz_pipeline_model.proofs.Accepting.ReplayLaws.{runs_from_accepted, accepted_from_runs}
 use Rattle.hz_pipeline_model.proofs.Accepting.InsideFits.{IsSeen, seen_nil, seen_append, seen_placed, seen_cut, restricted_statements, fits_inside, allowed_outside, apart_outside}
 use Rattle.hz_base_model.proofs.PairOrder.{grid_eq-Decides}
@@ -99,7 +99,7 @@ module _ {U : Type 0} (m : Pipeline U) (s : State U) (k : ℕ) where
 
   may_take : (i : ℕ) (pairs : List (Pair U)) → TakesFrom m s lists_at i pairs → MayTake m s k i × (chosen m k i ≡ pairs)
   may_take i pairs t =
-      let is : slice_get lists_at i ≡ Some pairs = ap (λ (ls : List (List (Pair U))). slice_get ls i) t.parts ∙ (ap (slice_get (t.before ++ pairs ∷ t.after)) (sym t.count) ∙ number_behind t.before pairs t.after) in (
+      let is : slice_get lists_at i ≡ Some pairs = ap (λ (ls : List (List (Pair U))). slice_get ls i) t.parts ∙ (ap (slice_get (t.before ++ pairs ∷ t.after)) (sym t.count) ∙ number_after t.before pairs t.after) in (
         record {
           fits = fits_at i pairs is t.fits;
           first = λ f j lt fits.

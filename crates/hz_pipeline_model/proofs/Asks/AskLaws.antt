@@ -150,14 +150,14 @@ module _ (first least : Table) (columns asks : ℕ) (whole : IsTable first (colu
     abbrev reached : IsReached least state
     reached = breadth_first_reached least (columns + asks) normal.parents normal.order state within
 
-    behind : (v : List ℕ) → is_some (walk least (Some state) v) ≡ is_some (walk first (walk first (Some 0) (reached.0)) v)
-    behind v = ap is_some (ap (λ (o : Option ℕ). walk least o v) (sym reached.1) ∙ sym (walk-append least (Some 0) reached.0 v)) ∙ sym (same.same (reached.0 ++ v)) ∙ ap is_some (walk-append first (Some 0) reached.0 v)
+    beyond : (v : List ℕ) → is_some (walk least (Some state) v) ≡ is_some (walk first (walk first (Some 0) (reached.0)) v)
+    beyond v = ap is_some (ap (λ (o : Option ℕ). walk least o v) (sym reached.1) ∙ sym (walk-append least (Some 0) reached.0 v)) ∙ sym (same.same (reached.0 ++ v)) ∙ ap is_some (walk-append first (Some 0) reached.0 v)
 
     origin : (r : ℕ) × (walk first (Some 0) reached.0 ≡ Some r)
     origin = some_of (walk first (Some 0) reached.0) (same.same reached.0 ∙ ap is_some reached.1)
 
     from_origin : (v : List ℕ) → is_some (walk least (Some state) v) ≡ is_some (walk first (Some origin.0) v)
-    from_origin v = behind v ∙ ap (λ (o : Option ℕ). is_some (walk first o v)) origin.1
+    from_origin v = beyond v ∙ ap (λ (o : Option ℕ). is_some (walk first o v)) origin.1
 
     asked_there : entry first origin.0 column ≡ Some origin.0
     asked_there =
@@ -166,8 +166,8 @@ module _ (first least : Table) (columns asks : ℕ) (whole : IsTable first (colu
         let found = some_of (entry first origin.0 column) some in
         found.1 ∙ ap Some (stay.stays origin.0 ask found.0 lt found.1)
 
-    same_behind : (v : List ℕ) → is_some (walk least (Some next) v) ≡ is_some (walk least (Some state) v)
-    same_behind v =
+    same_after : (v : List ℕ) → is_some (walk least (Some next) v) ≡ is_some (walk least (Some state) v)
+    same_after v =
         ap (λ (o : Option ℕ). is_some (walk least o v)) (sym there) ∙ from_origin (column ∷ v) ∙ ap (λ (o : Option ℕ). is_some (walk first o v)) asked_there ∙ sym (from_origin v)
 
     stays_there : next ≡ state
@@ -176,7 +176,7 @@ module _ (first least : Table) (columns asks : ℕ) (whole : IsTable first (colu
         (λ (e : next ≡ state). e)
         (λ (other : next ≢ state).
         let apart = normal.apart.apart next state (normal.is.targets state column next there) within other in
-        absurd (apart.once (same_behind apart.word)))
+        absurd (apart.once (same_after apart.word)))
         (cases_eq next state)
 
   pub least_stays : AsksStay least columns asks

@@ -115,7 +115,7 @@ module _ (treatment : Treatment) (statements rules : List (Statement ℕ)) (asks
         breadth_first = order;
       }
 
-  -- where each state's queries are marked by its grid, they are told where they are held
+  -- where each state's queries are marked by its grid, they are reported where they are held
   module _ (first : treatment ≡ first_fit) (queries : List ℕ) (many : length queries ≡ length part.asks) (present : MarksPresent grids sets queries marks) where
     one_grid : (t : List Event) (state : ℕ) → Accepted classes t → IsLeft classes t (state_at grids sets state) → (grid : List (Pair ℕ)) × (state_at grids sets state ≡ grid ∷ [])
     one_grid t state accepted left = by_list (state_at grids sets state) left

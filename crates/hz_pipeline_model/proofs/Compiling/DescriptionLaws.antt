@@ -146,7 +146,7 @@ module _ (d : Description) where
             let both = accepted_in_automata d known sound t in
             (λ h. both.1 (each_part h), λ accepted. every_part (both.0 accepted))
 
-        -- a query unit is told to be reserved where the description holds it
+        -- a query unit is reported to be reserved where the description holds it
         module _ (sound : IsSound d known) (states : List ℕ) (walked : machine_walk m t ≡ Some states) (a query : ℕ) (low : a < automaton_count d) (asked : query < length (queries_in d a)) where
           abbrev unit : ℕ
           unit = slice_index_or (queries_in d a) query 0
@@ -156,8 +156,8 @@ module _ (d : Description) where
               let each = machine_walk-each m t states walked in
               sym (machine_walk-part m t states walked a (part_at m a) (part_there a low)) ∙ slice_get-get_or states a 0 (omega (arith, low, each, parts_number))
 
-          told : (states_tell m states a query ≡ true) ↔ IsHeld (pipeline_of a) t unit
-          told = ((is.parts a (omega (arith, low, automata_count))).held).held t (slice_index_or states a 0) query unit (subst (λ n. All (IsOfClass n) t) (sym classes_number) all) part_state
+          reported : (states_tell m states a query ≡ true) ↔ IsHeld (pipeline_of a) t unit
+          reported = ((is.parts a (omega (arith, low, automata_count))).held).held t (slice_index_or states a 0) query unit (subst (λ n. All (IsOfClass n) t) (sym classes_number) all) part_state
               (ap (λ queries. slice_get queries query) (queries_there a low) ∙ slice_get-get_or (queries_in d a) query 0 asked)
 
           without_ndfa : d.options.ndfa ≡ false
@@ -178,4 +178,4 @@ module _ (d : Description) where
               let first = ap (λ b. if b then any_fit else first_fit) without_ndfa in
               let own = held_alike (restricted a (pipeline_with d known)) (pipeline_of a) (restricted_moved d known a low) first t ((accepted_alike (restricted a (pipeline_with d known)) (pipeline_of a) (restricted_moved d known a low) t).1 ((accepted_in_automata d known sound t).0 accepted a low)) unit in
               let together = held_in_one (automaton_count d) (pipeline_with d known) (joint d known sound) a low first t accepted unit in
-              (λ h. together.1 (own.1 (told.0 h)), λ h. told.1 (own.0 (together.0 h)))
+              (λ h. together.1 (own.1 (reported.0 h)), λ h. reported.1 (own.0 (together.0 h)))

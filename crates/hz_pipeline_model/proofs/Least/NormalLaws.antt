@@ -9,9 +9,9 @@ use Rattle.hz_pipeline_model.proofs.Tables.TableLaws.{walk-append}
 use Rattle.hz_pipeline_model.specs.Least.Normal.{IsNormal}
 use Rattle.hz_pipeline_model.proofs.Least.NumberedLaws.{MeetAlso, within, walks_turned, numbered_one}
 
--- behind a list of columns both tables walk the same
-behind : (one other : Table) → WalkTheSame one other → (v x : List ℕ) (state : ℕ) → walk one (Some 0) v ≡ Some state → is_some (walk other (walk other (Some 0) v) x) ≡ is_some (walk one (Some state) x)
-behind one other walks v x state e =
+-- after a list of columns both tables walk the same
+beyond : (one other : Table) → WalkTheSame one other → (v x : List ℕ) (state : ℕ) → walk one (Some 0) v ≡ Some state → is_some (walk other (walk other (Some 0) v) x) ≡ is_some (walk one (Some state) x)
+beyond one other walks v x state e =
     ap is_some (sym (walk-append other (Some 0) v x))
     ∙ (sym (walks.same (v ++ x))
     ∙ (ap is_some (walk-append one (Some 0) v x)
@@ -22,16 +22,16 @@ meet_apart : (columns : ℕ) (one other : Table) → IsTable other columns → A
 meet_apart columns one other is all walks = record { meet = λ v w state e e'. by_ends v w state e e' (walk other (Some 0) v) (walk other (Some 0) w) refl refl }
   where
     by_ends : (v w : List ℕ) (state : ℕ) → walk one (Some 0) v ≡ Some state → walk one (Some 0) w ≡ Some state → (o p : Option ℕ) → walk other (Some 0) v ≡ o → walk other (Some 0) w ≡ p → walk other (Some 0) v ≡ walk other (Some 0) w
-    by_ends v w state e e' None p at at' = let none = sym (ap (λ (from : Option ℕ). is_some (walk other from [])) at) ∙ behind one other walks v [] state e in absurd (cc)
-    by_ends v w state e e' (Some s) None at at' = let none = sym (ap (λ (from : Option ℕ). is_some (walk other from [])) at') ∙ behind one other walks w [] state e' in absurd (cc)
+    by_ends v w state e e' None p at at' = let none = sym (ap (λ (from : Option ℕ). is_some (walk other from [])) at) ∙ beyond one other walks v [] state e in absurd (cc)
+    by_ends v w state e e' (Some s) None at at' = let none = sym (ap (λ (from : Option ℕ). is_some (walk other from [])) at') ∙ beyond one other walks w [] state e' in absurd (cc)
     by_ends v w state e e' (Some s) (Some t) at at' = ⊎_elim
         (λ (same : s ≡ t). at ∙ (ap Some same ∙ sym at'))
         (λ (differ : s ≢ t).
         let apart = all.apart s t (within other columns is v s at) (within other columns is w t at') differ in
         absurd (apart.once
         (sym (ap (λ (from : Option ℕ). is_some (walk other from apart.word)) at)
-        ∙ (behind one other walks v apart.word state e
-        ∙ (sym (behind one other walks w apart.word state e')
+        ∙ (beyond one other walks v apart.word state e
+        ∙ (sym (beyond one other walks w apart.word state e')
         ∙ ap (λ (from : Option ℕ). is_some (walk other from apart.word)) at')))))
         (cases_eq s t)
 

@@ -33,7 +33,7 @@ one_mate one other meets state mate last both both' =
 pub within : (table : Table) (columns : ℕ) → IsTable table columns → (w : List ℕ) (state : ℕ) → walk table (Some 0) w ≡ Some state → state < length table
 within table columns is w state e = walk_stays table columns is (Some 0) (λ first h. let same : 0 ≡ first = cc in subst (λ n. n < length table) same is.start) state w e
 
--- one column behind a list that is walked
+-- one column after a list that is walked
 step_on : (table : Table) (w : List ℕ) (state column : ℕ) → walk table (Some 0) w ≡ Some state → walk table (Some 0) (w ++ column ∷ []) ≡ walk table (entry table state column) []
 step_on table w state column e = walk-append table (Some 0) w (column ∷ []) ∙ ap (λ from. walk table from (column ∷ [])) e
 

@@ -31,9 +31,9 @@ module _ {A : Type 0} where
   in_front (x ∷ xs) ys zero lt = refl
   in_front (x ∷ xs) ys (suc n) lt = in_front xs ys n (omega arith)
 
-  behind : (xs ys : List A) (n : ℕ) → slice_get (xs ++ ys) (length xs + n) ≡ slice_get ys n
-  behind [] ys n = ap (slice_get ys) (zero-add n)
-  behind (x ∷ xs) ys n = ap (slice_get (x ∷ xs ++ ys)) (suc-add (length xs) n) ∙ behind xs ys n
+  beyond : (xs ys : List A) (n : ℕ) → slice_get (xs ++ ys) (length xs + n) ≡ slice_get ys n
+  beyond [] ys n = ap (slice_get ys) (zero-add n)
+  beyond (x ∷ xs) ys n = ap (slice_get (x ∷ xs ++ ys)) (suc-add (length xs) n) ∙ beyond xs ys n
 
   -- the item of a choice of two
   pub chosen_is : (join : A → A → A) (xs ys : List A) (i j : ℕ) (x y : A) → slice_get xs i ≡ Some x → slice_get ys j ≡ Some y → slice_get (each_choice join xs ys) (i * length ys + j) ≡ Some (join x y)
@@ -48,7 +48,7 @@ module _ {A : Type 0} where
   chosen_is join (z ∷ xs) ys (suc i) j x y a b =
       let at : suc i * length ys + j ≡ length (map (join z) ys) + (i * length ys + j) = omega (arith, suc-mul i (length ys), length-map ys (join z)) in
       ap (slice_get (each_choice join (z ∷ xs) ys)) at
-      ∙ (behind (map (join z) ys) (each_choice join xs ys) (i * length ys + j) ∙ chosen_is join xs ys i j x y a b)
+      ∙ (beyond (map (join z) ys) (each_choice join xs ys) (i * length ys + j) ∙ chosen_is join xs ys i j x y a b)
 
   abbrev pub pair : (join : A → A → A) (xs ys : List A) → At xs → At ys → At (each_choice join xs ys)
   pair join xs ys x y = record { number = x.number * length ys + y.number; item = join x.item y.item; is = chosen_is join xs ys x.number y.number x.item y.item x.is y.is }
@@ -79,7 +79,7 @@ module _ {A : Type 0} where
       (sym (slice_get-map (join x) ys n) ∙ (sym (in_front (map (join x) ys) (each_choice join xs ys) n (omega arith)) ∙ e)))
       (λ (high : length ys ≤ n).
       let at : length (map (join x) ys) + (n - length ys) ≡ n = omega arith in
-      let rest = halves join xs ys (n - length ys) z (sym (behind (map (join x) ys) (each_choice join xs ys) (n - length ys)) ∙ (ap (slice_get (each_choice join (x ∷ xs) ys)) at ∙ e)) in
+      let rest = halves join xs ys (n - length ys) z (sym (beyond (map (join x) ys) (each_choice join xs ys) (n - length ys)) ∙ (ap (slice_get (each_choice join (x ∷ xs) ys)) at ∙ e)) in
       let first = rest.first in
       let second = rest.second in
       let count = rest.count in

@@ -59,7 +59,7 @@ module _ (count : ℕ) (some : 0 < count) where
           (λ (ge : count ≤ q.unit.automaton). one_factors count 0 xs (record { below = some; of = λ x h p k low. absurd (let is = same x h p k in omega arith) }))
           (cases_lt q.unit.automaton count)
 
-  -- one list behind another of one length, and beside another
+  -- one list after another of one length, and beside another
   followed_factors : (xs ys : List Alt) → differ_in_length xs ≡ false → Factors count xs → Factors count ys → Factors count (each_choice followed_by xs ys)
   followed_factors xs ys one f g = each_factors count followed_by xs ys
       (λ a x x' y y' h k. alike_followed a x.item x'.item y.item y'.item (one_length xs one x.item x'.item (there xs x) (there xs x')) h k) f g

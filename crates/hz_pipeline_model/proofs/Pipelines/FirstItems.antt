@@ -3,7 +3,7 @@ use Rattle.std.proofs.Common.{◌≡◌, ℕ, ◌<◌, Bool, List, ◌∷◌, �
 use Rattle.std.specs.Bool.{Decides}
 use Rattle.hz_description_model.specs.Reservations.Automata.{without_repeats}
 use Rattle.hz_base_model.proofs.Elements.{Contains-map}
-use Rattle.hz_description_model.proofs.Reservations.FirstPlaces.{NumberedIn, numbered, number_behind, in_front, front_number, MappedIn, before_map, KeptFirst, was_first}
+use Rattle.hz_description_model.proofs.Reservations.FirstPlaces.{NumberedIn, numbered, number_after, in_front, front_number, MappedIn, before_map, KeptFirst, was_first}
 use Rattle.hz_pipeline_model.proofs.Pipelines.Choices.{At, within, one_item}
 
 module _ {A B : Type 0} (f : A → B) (same : B → B → Bool) (tells : (x y : B) → Decides (same x y) (x ≡ y)) (xs : List A) where
@@ -18,7 +18,7 @@ module _ {A B : Type 0} (f : A → B) (same : B → B → Bool) (tells : (x y : 
 
   module _ (g : At values) (number : NumberedIn values g.number) (first : KeptFirst same tells (map f xs) number.before number.item) (split : MappedIn f xs first.before number.item) where
     chosen : At xs
-    chosen = record { number = length split.before; item = split.item; is = ap (λ (ys : List A). slice_get ys (length split.before)) split.parts ∙ number_behind split.before split.item split.after }
+    chosen = record { number = length split.before; item = split.item; is = ap (λ (ys : List A). slice_get ys (length split.before)) split.parts ∙ number_after split.before split.item split.after }
 
     its_value : f split.item ≡ g.item
     its_value = split.is ∙ one_item values (record { number = g.number; item = number.item; is = number.is }) g refl

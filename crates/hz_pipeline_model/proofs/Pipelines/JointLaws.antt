@@ -18,9 +18,9 @@ use Rattle.hz_description_model.specs.Reservations.Sets.{Statement}
 use Rattle.hz_pipeline_model.specs.Accepting.Replay.{Class, alternatives_at, of_class}
 use Rattle.hz_description_model.specs.Reading.Descriptions.{Description, AutomatonItem, UnitItem, ReservationItem, ClassItem, SetItem}
 use Rattle.hz_description_model.specs.Check.CheckFaults.{CheckFault, IsSound, faults_of_meanings, sites_of, units_of_patterns, names_of_set, home, same_home, strangers, sets_across_automata}
-use Rattle.hz_description_model.specs.Check.FirstTold.{Told, Standing, first_told, told_at}
+use Rattle.hz_description_model.specs.Check.FirstReported.{Reported, Standing, first_reported, reported_at}
 use Rattle.hz_description_model.specs.Check.CheckedParts.{automaton_count}
-use Rattle.hz_description_model.specs.Check.Places.{automaton_number, place_behind, places_behind, unit_places, unit_place, reservation_named, unit_or_reservation, meaning, places_of, statement_of, IsKnown, Known}
+use Rattle.hz_description_model.specs.Check.Places.{automaton_number, place_after, places_after, unit_places, unit_place, reservation_named, unit_or_reservation, meaning, places_of, statement_of, IsKnown, Known}
 use Rattle.hz_description_model.specs.Check.Sites.{Site, earliest}
 use Rattle.hz_pipeline_model.specs.Pipelines.Pipelines.{class_of, pipeline_with}
 use Rattle.hz_base_model.proofs.Elements.{Contains-nil, Contains-cons_cases, Contains-map, Contains-from_map, Contains-filter}
@@ -33,15 +33,15 @@ use Rattle.hz_pipeline_model.proofs.Pipelines.ExpressionFactors.{Contains-flat_m
 use Rattle.hz_description_model.proofs.Check.RankLaws.{ranks, ranks_low}
 use Rattle.hz_pipeline_model.proofs.Pipelines.SideBySide.{IsJoint}
 
--- where nothing is told, no fault stands anywhere
-told_none : (fault : CheckFault) (o : Option Site) (otherwise : Option (Told CheckFault)) → told_at fault o otherwise ≡ None → (o ≡ None) × (otherwise ≡ None)
-told_none fault None otherwise e = (refl, e)
-told_none fault (Some s) otherwise e = absurd (none-some _ (sym e))
+-- where nothing is reported, no fault stands anywhere
+reported_none : (fault : CheckFault) (o : Option Site) (otherwise : Option (Reported CheckFault)) → reported_at fault o otherwise ≡ None → (o ≡ None) × (otherwise ≡ None)
+reported_none fault None otherwise e = (refl, e)
+reported_none fault (Some s) otherwise e = absurd (none-some _ (sym e))
 
-none_stands : (standings : List (Standing CheckFault)) → first_told standings ≡ None → All (λ s. s.sites ≡ []) standings
+none_stands : (standings : List (Standing CheckFault)) → first_reported standings ≡ None → All (λ s. s.sites ≡ []) standings
 none_stands [] e = All-nil (λ s. s.sites ≡ [])
 none_stands (s ∷ others) e =
-    let here = told_none s.fault (earliest s.sites) (first_told others) e in
+    let here = reported_none s.fault (earliest s.sites) (first_reported others) e in
     All-cons (λ s. s.sites ≡ []) s others (no_site s.sites here.0) (none_stands others here.1)
 
 -- both are one number
@@ -74,12 +74,12 @@ module _ (d : Description) where
           (λ none. let empty = eqb-true (length d.automata) 0 none in let long = length-map d.automata (λ (a : AutomatonItem). a.name) in absurd (omega arith))
           (λ some. low)
 
-  places_low : (before units : List UnitItem) (u : UnitPlace) → Contains (places_behind d before units) u → u.automaton < automaton_count d
+  places_low : (before units : List UnitItem) (u : UnitPlace) → Contains (places_after d before units) u → u.automaton < automaton_count d
   places_low before [] u h = absurd (Contains-nil u h)
   places_low before (item ∷ units) u h = ⊎_elim
-      (λ (e : place_behind d before item ≡ u). subst (λ (v : UnitPlace). v.automaton < automaton_count d) e (number_low item.automaton))
-      (λ (k : Contains (places_behind d (before ++ item ∷ []) units) u). places_low (before ++ item ∷ []) units u k)
-      (Contains-cons_cases (place_behind d before item) u (places_behind d (before ++ item ∷ []) units) h)
+      (λ (e : place_after d before item ≡ u). subst (λ (v : UnitPlace). v.automaton < automaton_count d) e (number_low item.automaton))
+      (λ (k : Contains (places_after d (before ++ item ∷ []) units) u). places_low (before ++ item ∷ []) units u k)
+      (Contains-cons_cases (place_after d before item) u (places_after d (before ++ item ∷ []) units) h)
 
   unit_low : (name : List ℕ) (u : UnitPlace) → unit_place d name ≡ Some u → u.automaton < automaton_count d
   unit_low name u e = places_low [] d.units u (at_name_in name (map (λ v. v.name) d.units) (unit_places d) u e)
@@ -95,9 +95,9 @@ module _ (d : Description) where
     at_home first names e name h = true_from_ne_false (same_home (home d name) (home d first))
         (λ strange.
         let stranger = Contains-filter (λ n. not (same_home (home d n) (home d first))) name (not_from_false (same_home (home d name) (home d first)) strange) names h in
-        let told = Contains-map site_of (strangers d (names_of_set s)) name (subst (λ (ns : List (List ℕ)). Contains (strangers d ns) name) (sym e) stranger) in
+        let reported = Contains-map site_of (strangers d (names_of_set s)) name (subst (λ (ns : List (List ℕ)). Contains (strangers d ns) name) (sym e) stranger) in
         let site : Site = record { line = s.line; form = s.form; name = name } in
-        let all = Contains-flat_map (λ (s : SetItem). sites_of s.line s.form (strangers d (names_of_set s))) d.sets s site stands told in
+        let all = Contains-flat_map (λ (s : SetItem). sites_of s.line s.form (strangers d (names_of_set s))) d.sets s site stands reported in
         Contains-nil site (subst (λ (ss : List Site). Contains ss site) within all))
 
     -- the units of its names are of one automaton

@@ -12,7 +12,7 @@ use Rattle.hz_description_model.specs.Reservations.Alternatives.{Alternative, ta
 use Rattle.hz_description_model.specs.Reservations.Automata.{UnitPlace}
 use Rattle.hz_description_model.specs.Reading.Descriptions.{Description, UnitItem, ReservationItem, ClassItem, SetItem}
 use Rattle.hz_description_model.specs.Reservations.Meanings.{Meaning, reservation, Mentions, alternatives_of_meaning}
-use Rattle.hz_description_model.specs.Check.Places.{automaton_number, place_behind, places_behind, unit_places, unit_place, reservation_named, unit_or_reservation, meaning, places_of, statement_of, IsKnown}
+use Rattle.hz_description_model.specs.Check.Places.{automaton_number, place_after, places_after, unit_places, unit_place, reservation_named, unit_or_reservation, meaning, places_of, statement_of, IsKnown}
 use Rattle.hz_pipeline_model.specs.Pipelines.Pipelines.{class_of, pipeline_with, IsPipelineOf}
 use Rattle.hz_description_model.specs.Reservations.Inside.{IsStatementOf}
 use Rattle.hz_pipeline_model.specs.Accepting.Restricted.{IsOf}
@@ -34,12 +34,12 @@ module _ (d : Description) (few : length d.automata ≤ 1) where
   number_zero None = refl
   number_zero (Some name) = place_of_one name (map (λ a. a.name) d.automata) (omega (arith, few, length-map d.automata (λ a. a.name)))
 
-  places_zero : (before units : List UnitItem) (u : UnitPlace) → Contains (places_behind d before units) u → u.automaton ≡ 0
+  places_zero : (before units : List UnitItem) (u : UnitPlace) → Contains (places_after d before units) u → u.automaton ≡ 0
   places_zero before [] u h = absurd (Contains-nil u h)
   places_zero before (item ∷ units) u h = ⊎_elim
-      (λ (e : place_behind d before item ≡ u). ap (λ (v : UnitPlace). v.automaton) (sym e) ∙ number_zero item.automaton)
-      (λ (k : Contains (places_behind d (before ++ item ∷ []) units) u). places_zero (before ++ item ∷ []) units u k)
-      (Contains-cons_cases (place_behind d before item) u (places_behind d (before ++ item ∷ []) units) h)
+      (λ (e : place_after d before item ≡ u). ap (λ (v : UnitPlace). v.automaton) (sym e) ∙ number_zero item.automaton)
+      (λ (k : Contains (places_after d (before ++ item ∷ []) units) u). places_zero (before ++ item ∷ []) units u k)
+      (Contains-cons_cases (place_after d before item) u (places_after d (before ++ item ∷ []) units) h)
 
   unit_zero : (name : List ℕ) (u : UnitPlace) → unit_place d name ≡ Some u → u.automaton ≡ 0
   unit_zero name u e = places_zero [] d.units u (at_name_in name (map (λ v. v.name) d.units) (unit_places d) u e)

@@ -90,7 +90,7 @@ module _ (m : Pipeline UnitPlace) where
   grid_of : (a k : ℕ) (x : At (alternatives_at m k)) → (g : At (grids a k)) × (g.item ≡ cut a ((x.item).pairs))
   grid_of a k x = at_contained (grids a k) (cut a ((x.item).pairs)) (Contains-list_in a (alternatives_at m k) x.item (there (alternatives_at m k) x))
 
-  -- an alternative that agrees with one of a grid stands at or behind the first of that grid, and of each grid before it
+  -- an alternative that agrees with one of a grid stands at or after the first of that grid, and of each grid before it
   first_low : (a k : ℕ) (g h : At (grids a k)) (f : FirstOf a k g) → g.number ≤ h.number → (y : At (alternatives_at m k)) → cut a ((y.item).pairs) ≡ h.item → ((f.at).number) ≤ y.number
   first_low a k g h f low y same = ⊎_elim
       (λ (lt : y.number < (f.at).number).

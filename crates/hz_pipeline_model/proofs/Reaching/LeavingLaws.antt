@@ -7,7 +7,7 @@ use Rattle.hz_pipeline_model.specs.Accepting.Fitting.{IsFuture}
 use Rattle.hz_pipeline_model.proofs.Accepting.ReplayLaws.{run_of_choices, chosen_run}
 use Rattle.hz_pipeline_model.specs.Reaching.Reach.{Leaves}
 
--- The grid is what stands reserved behind a run.
+-- The grid is what stands reserved after a run.
 abbrev pub PlaysTo : {U : Type 0} → Pipeline U → List Event → List (Pair U) → Type 0
 PlaysTo {U} m t grid = (s : State U) × Plays m start t s × IsFuture grid s
 

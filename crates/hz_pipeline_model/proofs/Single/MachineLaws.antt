@@ -1,17 +1,17 @@
--- There is one machine that is compiled of automata and classes, and the same is told of it.
+-- There is one machine that is compiled of automata and classes, and the same is reported of it.
 use Rattle.std.proofs.Common.{◌≡◌, ℕ, ◌<◌, List, length, All, None, sym, ◌∙◌, arith}
 use Rattle.std.proofs.lemmas.List.{ext_get_or}
 use Rattle.hz_description_model.specs.Reading.Descriptions.{Options}
 use Rattle.hz_description_model.specs.Check.CheckedParts.{AutomatonParts, ClassParts}
 use Rattle.hz_pipeline_model.specs.Tables.Machines.{Machine, Part, part_at, no_part, IsPart, IsMachine}
 use Rattle.hz_pipeline_model.specs.Compiling.Compiled.{Report, IsCompiledPart, IsCompiled, report_at}
-use Rattle.hz_pipeline_model.specs.Single.Told.{TellTheSame, AllTellTheSame, ListsAscending}
+use Rattle.hz_pipeline_model.specs.Single.Reported.{TellTheSame, AllTellTheSame, ListsAscending}
 use Rattle.hz_pipeline_model.proofs.Single.PartLaws.{one_part, IsShaped}
 use Rattle.hz_pipeline_model.proofs.Single.ReportLaws.{tell_the_same, one_report}
 
--- what is told where no automaton is
-abbrev nothing_told : Report
-nothing_told = record { grids = 0; states = 0; members = 0; shown = None }
+-- what is reported where no automaton is
+abbrev nothing_reported : Report
+nothing_reported = record { grids = 0; states = 0; members = 0; shown = None }
 
 module _ (options : Options) (automata : List AutomatonParts) (classes : List ClassParts) (m m' : Machine) (reports reports' : List Report) (machine : IsMachine m) (machine' : IsMachine m') (is : IsCompiled options automata classes m reports) (is' : IsCompiled options automata classes m' reports') where
   -- a fact of two compiled parts holds of those of each number
@@ -30,11 +30,11 @@ module _ (options : Options) (automata : List AutomatonParts) (classes : List Cl
 
   pub all_tell_the_same : AllTellTheSame reports reports'
   all_tell_the_same = record {
-    each = is.told ∙ sym is'.told;
-    told = λ a low. of_each (λ part other report report'. TellTheSame report report') (tell_the_same options.no_minimization options automata classes) a (omega (arith, low, is.told));
+    each = is.reported ∙ sym is'.reported;
+    reported = λ a low. of_each (λ part other report report'. TellTheSame report report') (tell_the_same options.no_minimization options automata classes) a (omega (arith, low, is.reported));
   }
 
-  pub one_told : All ListsAscending reports → All ListsAscending reports' → reports ≡ reports'
-  one_told up up' = ext_get_or nothing_told reports reports' (is.told ∙ sym is'.told)
-      (λ a low. of_each (λ part other report report'. ListsAscending report → ListsAscending report' → report ≡ report') (one_report options.no_minimization options automata classes) a (omega (arith, low, is.told))
-      (up a nothing_told low) (up' a nothing_told (omega (arith, low, is.told, is'.told))))
+  pub one_reported : All ListsAscending reports → All ListsAscending reports' → reports ≡ reports'
+  one_reported up up' = ext_get_or nothing_reported reports reports' (is.reported ∙ sym is'.reported)
+      (λ a low. of_each (λ part other report report'. ListsAscending report → ListsAscending report' → report ≡ report') (one_report options.no_minimization options automata classes) a (omega (arith, low, is.reported))
+      (up a nothing_reported low) (up' a nothing_reported (omega (arith, low, is.reported, is'.reported))))

@@ -59,7 +59,7 @@ both_ways true b f g = sym (f refl)
 both_ways false true f g = g refl
 both_ways false false f g = refl
 
--- where walks lead to states of both tables or of neither, one more column is told alike
+-- where walks lead to states of both tables or of neither, one more column is reported alike
 one_more : (first second : Table) (v : List ℕ) (column : ℕ) → is_some (walk first (Some 0) v) ≡ is_some (walk second (Some 0) v)
     → ((state mate : ℕ) → walk first (Some 0) v ≡ Some state → walk second (Some 0) v ≡ Some mate → is_some (entry first state column) ≡ is_some (entry second mate column))
     → is_some (walk first (Some 0) (v ++ column ∷ [])) ≡ is_some (walk second (Some 0) (v ++ column ∷ []))

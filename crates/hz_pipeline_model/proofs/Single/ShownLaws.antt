@@ -16,7 +16,7 @@ use Rattle.hz_pipeline_model.proofs.Reaching.CountLaws.{same_pairs_itself}
 use Rattle.hz_pipeline_model.proofs.Least.PlaceLaws.{Order, before, after, at, order}
 use Rattle.hz_pipeline_model.specs.Compiling.Compiled.{Shown, IsShown}
 use Rattle.hz_pipeline_model.proofs.Compiling.CompiledLaws.{left_same}
-use Rattle.hz_pipeline_model.specs.Single.Told.{ShowTheSame}
+use Rattle.hz_pipeline_model.specs.Single.Reported.{ShowTheSame}
 use Rattle.hz_pipeline_model.proofs.Single.OrderLaws.{sorted_one}
 use Rattle.hz_pipeline_model.proofs.Single.WordLaws.{IsFilled, spell}
 use Rattle.hz_base_model.proofs.PairOrder.{grid_one, grid_total, grid_exact}

@@ -20,8 +20,8 @@ module _ (names : TraceNames) where
     counted : number ≡ from + length before
     event_is : line_says names line ≡ says event
 
-  behind_line : (from : ℕ) (line : List ℕ) (lines : List (List ℕ)) (number : ℕ) (event : Event) → SaysFrom (from + 1) lines number event → SaysFrom from (line ∷ lines) number event
-  behind_line from line lines number event s = record {
+  after_line : (from : ℕ) (line : List ℕ) (lines : List (List ℕ)) (number : ℕ) (event : Event) → SaysFrom (from + 1) lines number event → SaysFrom from (line ∷ lines) number event
+  after_line from line lines number event s = record {
     before = line ∷ s.before;
     line = s.line;
     after = s.after;
@@ -34,14 +34,14 @@ module _ (names : TraceNames) where
       → slice_get events place ≡ Some event → slice_get (event_lines names from lines) place ≡ Some number → SaysFrom from lines number event
   says_from from Say.nothing place number event is at = absurd (cc)
   says_from from (Say.skips {line = line} {lines = lines} here rest) place number event is at =
-      behind_line from line lines number event (says_from (from + 1) rest place number event is (ap (λ (l : Line). slice_get (numbered l from (event_lines names (from + 1) lines)) place) (sym here) ∙ at))
+      after_line from line lines number event (says_from (from + 1) rest place number event is (ap (λ (l : Line). slice_get (numbered l from (event_lines names (from + 1) lines)) place) (sym here) ∙ at))
   says_from from (Say.tells {line = line} {lines = lines} {event = first} here rest) zero number event is at =
       let same : first ≡ event = cc in
       let there : ◌≡◌ {A = Option ℕ} (Some from) (Some number) = ap (λ (l : Line). slice_get (numbered l from (event_lines names (from + 1) lines)) zero) (sym here) ∙ at in
       let count : from ≡ number = cc in
       record { before = []; line = line; after = lines; parts = refl; counted = omega (arith, count); event_is = here ∙ ap says same }
   says_from from (Say.tells {line = line} {lines = lines} here rest) (suc place) number event is at =
-      behind_line from line lines number event (says_from (from + 1) rest place number event is (ap (λ (l : Line). slice_get (numbered l from (event_lines names (from + 1) lines)) (suc place)) (sym here) ∙ at))
+      after_line from line lines number event (says_from (from + 1) rest place number event is (ap (λ (l : Line). slice_get (numbered l from (event_lines names (from + 1) lines)) (suc place)) (sym here) ∙ at))
 
   pub event_in_line : (text : List ℕ) (events : List Event) → Trace names text events → (place number : ℕ) (event : Event)
       → slice_get events place ≡ Some event → slice_get (event_lines names 1 (lines_of text)) place ≡ Some number → SaysEvent names text number event

@@ -139,10 +139,10 @@ module _ (name : List ℕ) where
       let count : from ≡ from + 0 = omega arith in
       ap (λ (o : Option ℕ). found_first from o (query_from (from + 1) others name)) here ∙ ap (λ (n : ℕ). Some (n, query)) count
   placed_from from (units ∷ others) apart (suc automaton) query there =
-      let behind = placed_from (from + 1) others (back_apart (λ a b. a ≢ b) units (all_of others) apart) automaton query there in
+      let beyond = placed_from (from + 1) others (back_apart (λ a b. a ≢ b) units (all_of others) apart) automaton query there in
       let none : place_of name units ≡ None = not_before (place_of name units) refl in
       let count : from + 1 + automaton ≡ from + suc automaton = omega arith in
-      ap (λ (o : Option ℕ). found_first from o (query_from (from + 1) others name)) none ∙ (behind ∙ ap (λ (n : ℕ). Some (n, query)) count)
+      ap (λ (o : Option ℕ). found_first from o (query_from (from + 1) others name)) none ∙ (beyond ∙ ap (λ (n : ℕ). Some (n, query)) count)
     where
       not_before : (o : Option ℕ) → place_of name units ≡ o → place_of name units ≡ None
       not_before None is = is

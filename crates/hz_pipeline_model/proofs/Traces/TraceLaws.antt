@@ -94,16 +94,16 @@ module _ (names : TraceNames) where
   broken_here advanced line lines fault room is = inr (record { before = []; line = line; after = lines; events = []; fault = fault; parts = refl; say = Say.nothing; short = omega arith; is = rw add-zero is })
 
   -- a line that says nothing or one event leads on
-  behind : (advanced gain : ℕ) (line : List ℕ) (lines : List (List ℕ)) (told : List Event) → ((es : List Event) → cycles_of (told ++ es) ≡ gain + cycles_of es)
-      → ((ls : List (List ℕ)) (es : List Event) → Say names ls es → Say names (line ∷ ls) (told ++ es)) → Settled (advanced + gain) lines → Settled advanced (line ∷ lines)
-  behind advanced gain line lines told sum more (inl (events, say, short)) = inl (told ++ events, more lines events say, omega (arith, sum events))
-  behind advanced gain line lines told sum more (inr b) =
-      let same : advanced + gain + cycles_of b.events ≡ advanced + cycles_of (told ++ b.events) = omega (arith, sum b.events) in
+  beyond : (advanced gain : ℕ) (line : List ℕ) (lines : List (List ℕ)) (reported : List Event) → ((es : List Event) → cycles_of (reported ++ es) ≡ gain + cycles_of es)
+      → ((ls : List (List ℕ)) (es : List Event) → Say names ls es → Say names (line ∷ ls) (reported ++ es)) → Settled (advanced + gain) lines → Settled advanced (line ∷ lines)
+  beyond advanced gain line lines reported sum more (inl (events, say, short)) = inl (reported ++ events, more lines events say, omega (arith, sum events))
+  beyond advanced gain line lines reported sum more (inr b) =
+      let same : advanced + gain + cycles_of b.events ≡ advanced + cycles_of (reported ++ b.events) = omega (arith, sum b.events) in
       inr (record {
         before = line ∷ b.before;
         line = b.line;
         after = b.after;
-        events = told ++ b.events;
+        events = reported ++ b.events;
         fault = b.fault;
         parts = ap (λ (ls : List (List ℕ)). line ∷ ls) b.parts;
         say = more b.before b.events b.say;
@@ -116,12 +116,12 @@ module _ (names : TraceNames) where
   settled advanced (line ∷ lines) room = by_line (line_says names line) refl (λ a more. settled a lines more)
     where
       by_line : (l : Line) → line_says names line ≡ l → ((a : ℕ) → a ≤ advance_limit → Settled a lines) → Settled advanced (line ∷ lines)
-      by_line skipped e rest = behind advanced 0 line lines [] (λ es. omega arith) (λ ls es say. Say.skips e say) (rest (advanced + 0) (omega arith))
-      by_line (says (issue k)) e rest = behind advanced 0 line lines (issue k ∷ []) (λ es. omega arith) (λ ls es say. Say.tells e say) (rest (advanced + 0) (omega arith))
-      by_line (says (ask a u)) e rest = behind advanced 0 line lines (ask a u ∷ []) (λ es. omega arith) (λ ls es say. Say.tells e say) (rest (advanced + 0) (omega arith))
+      by_line skipped e rest = beyond advanced 0 line lines [] (λ es. omega arith) (λ ls es say. Say.skips e say) (rest (advanced + 0) (omega arith))
+      by_line (says (issue k)) e rest = beyond advanced 0 line lines (issue k ∷ []) (λ es. omega arith) (λ ls es say. Say.tells e say) (rest (advanced + 0) (omega arith))
+      by_line (says (ask a u)) e rest = beyond advanced 0 line lines (ask a u ∷ []) (λ es. omega arith) (λ ls es say. Say.tells e say) (rest (advanced + 0) (omega arith))
       by_line (says (advance n)) e rest = ⊎_elim
           (λ far. broken_here advanced line lines too_many_advances room (WrongAfter.advances e far))
-          (λ near. behind advanced n line lines (advance n ∷ []) (λ es. refl) (λ ls es say. Say.tells e say) (rest (advanced + n) near))
+          (λ near. beyond advanced n line lines (advance n ∷ []) (λ es. refl) (λ ls es say. Say.tells e say) (rest (advanced + n) near))
           (cases_lt advance_limit (advanced + n))
       by_line (wrong fault) e rest = broken_here advanced line lines fault room (WrongAfter.line_alone e)
 

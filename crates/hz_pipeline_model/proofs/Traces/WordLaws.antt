@@ -70,13 +70,13 @@ all_reversed p (b ∷ bs) h =
 abbrev Ends : (ℕ → Bool) → List ℕ → Type 0
 Ends p xs = Stops p (reverse xs)
 
-behind_long : (p : ℕ → Bool) (xs right : List ℕ) → Ends p xs → list_all p right ≡ true → suffix_len p (xs ++ right) ≡ length right
-behind_long p xs right ends all =
+after_long : (p : ℕ → Bool) (xs right : List ℕ) → Ends p xs → list_all p right ≡ true → suffix_len p (xs ++ right) ≡ length right
+after_long p xs right ends all =
     rw (reverse-append xs right) (front_long p (reverse right) (reverse xs) (all_reversed p right all) ends ∙ length-reverse right)
 
-behind_dropped : (p : ℕ → Bool) (xs right : List ℕ) → Ends p xs → list_all p right ≡ true → take (length (xs ++ right) - suffix_len p (xs ++ right)) (xs ++ right) ≡ xs
-behind_dropped p xs right ends all =
-    let left : length (xs ++ right) - suffix_len p (xs ++ right) ≡ length xs = omega (arith, behind_long p xs right ends all, length-append xs right) in
+after_dropped : (p : ℕ → Bool) (xs right : List ℕ) → Ends p xs → list_all p right ≡ true → take (length (xs ++ right) - suffix_len p (xs ++ right)) (xs ++ right) ≡ xs
+after_dropped p xs right ends all =
+    let left : length (xs ++ right) - suffix_len p (xs ++ right) ≡ length xs = omega (arith, after_long p xs right ends all, length-append xs right) in
     rw left (take-append_seam xs right)
 
 -- ---- a line without its margins
@@ -93,9 +93,9 @@ record Middle (line middle : List ℕ) : Type 0 where
 -- where something stands between the margins, it is what is left
 middle_is : (left : List ℕ) (b : ℕ) (bs right : List ℕ) → list_all is_margin left ≡ true → is_margin b ≡ false → Ends is_margin (b ∷ bs) → list_all is_margin right ≡ true
     → without_margin (left ++ ((b ∷ bs) ++ right)) ≡ b ∷ bs
-middle_is left b bs right before begins ends behind =
+middle_is left b bs right before begins ends beyond =
     ap (λ (rest : List ℕ). take (length rest - suffix_len is_margin rest) rest) (front_dropped is_margin left ((b ∷ bs) ++ right) before begins)
-    ∙ behind_dropped is_margin (b ∷ bs) right ends behind
+    ∙ after_dropped is_margin (b ∷ bs) right ends beyond
 
 blank_is : (line : List ℕ) → list_all is_margin line ≡ true → without_margin line ≡ []
 blank_is line all =
@@ -126,13 +126,13 @@ middle_of line = go (front_of is_margin line)
                 let right : List ℕ = reverse g.front in
                 let whole : b ∷ bs ≡ middle ++ right = sym (reverse-reverse (b ∷ bs)) ∙ (ap reverse g.parts ∙ reverse-append g.front g.rest) in
                 let ends : Ends is_margin middle = subst (Stops is_margin) (sym (reverse-reverse g.rest)) g.stops in
-                let behind : list_all is_margin right ≡ true = all_reversed is_margin g.front g.passes in
+                let beyond : list_all is_margin right ≡ true = all_reversed is_margin g.front g.passes in
                 let line_is : line ≡ f.front ++ (middle ++ right) = parts ∙ ap (λ (xs : List ℕ). f.front ++ xs) whole in
                 let left : without_margin line ≡ middle =
                 ap (λ (rest : List ℕ). take (length rest - suffix_len is_margin rest) rest)
                 (ap (λ (xs : List ℕ). drop (prefix_len is_margin xs) xs) parts ∙ (front_dropped is_margin f.front (b ∷ bs) f.passes stops ∙ whole))
-                ∙ behind_dropped is_margin middle right ends behind in
-                rw left (record { left = f.front; right = right; parts = line_is; margin_left = f.passes; begins = first_stays b bs middle right whole stops; ends = ends; margin_right = behind })
+                ∙ after_dropped is_margin middle right ends beyond in
+                rw left (record { left = f.front; right = right; parts = line_is; margin_left = f.passes; begins = first_stays b bs middle right whole stops; ends = ends; margin_right = beyond })
 
 marked_line : (left rest : List ℕ) → list_all is_margin left ≡ true → without_margin (left ++ 59 ∷ rest) ≡ take (length (59 ∷ rest) - suffix_len is_margin (59 ∷ rest)) (59 ∷ rest)
 marked_line left rest all = ap (λ (xs : List ℕ). take (length xs - suffix_len is_margin xs) xs) (front_dropped is_margin left (59 ∷ rest) all refl)
@@ -192,9 +192,9 @@ words_of content = go (front_of (λ b. not (is_gap b)) content)
 
         by_gap : Front is_gap f.rest → Words content (first_word content) (operand content)
         by_gap g =
-            let behind : drop (position_or_len is_gap content) content ≡ f.rest = ap (λ (xs : List ℕ). drop (position_or_len is_gap xs) xs) f.parts ∙ front_dropped (λ b. not (is_gap b)) f.front f.rest f.passes f.stops in
+            let beyond : drop (position_or_len is_gap content) content ≡ f.rest = ap (λ (xs : List ℕ). drop (position_or_len is_gap xs) xs) f.parts ∙ front_dropped (λ b. not (is_gap b)) f.front f.rest f.passes f.stops in
             let operand_is : operand content ≡ g.rest =
-            ap (λ (xs : List ℕ). drop (prefix_len is_gap xs) xs) (behind ∙ g.parts) ∙ front_dropped is_gap g.front g.rest g.passes g.stops in
+            ap (λ (xs : List ℕ). drop (prefix_len is_gap xs) xs) (beyond ∙ g.parts) ∙ front_dropped is_gap g.front g.rest g.passes g.stops in
             rw (word_is, operand_is) (record {
               gap = g.front;
               parts = f.parts ∙ ap (λ (xs : List ℕ). f.front ++ xs) g.parts;
@@ -391,9 +391,9 @@ module _ (names : TraceNames) where
       by_back : Front is_margin (reverse (59 ∷ rest)) → says_content names (take (length (59 ∷ rest) - suffix_len is_margin (59 ∷ rest)) (59 ∷ rest)) ≡ skipped
       by_back g =
           let whole : 59 ∷ rest ≡ reverse g.rest ++ reverse g.front = sym (reverse-reverse (59 ∷ rest)) ∙ (ap reverse g.parts ∙ reverse-append g.front g.rest) in
-          let behind : list_all is_margin (reverse g.front) ≡ true = all_reversed is_margin g.front g.passes in
-          let left = behind_dropped is_margin (reverse g.rest) (reverse g.front) (subst (Stops is_margin) (sym (reverse-reverse g.rest)) g.stops) behind in
-          ap (says_content names) (ap (λ (xs : List ℕ). take (length xs - suffix_len is_margin xs) xs) whole ∙ left) ∙ by_first (reverse g.rest) (reverse g.front) whole behind
+          let beyond : list_all is_margin (reverse g.front) ≡ true = all_reversed is_margin g.front g.passes in
+          let left = after_dropped is_margin (reverse g.rest) (reverse g.front) (subst (Stops is_margin) (sym (reverse-reverse g.rest)) g.stops) beyond in
+          ap (says_content names) (ap (λ (xs : List ℕ). take (length xs - suffix_len is_margin xs) xs) whole ∙ left) ∙ by_first (reverse g.rest) (reverse g.front) whole beyond
 
   -- the laws
   pub issue_line : (line : List ℕ) (class : ℕ) → (line_says names line ≡ says (issue class)) ↔ ((name : List ℕ) × IsWords line (codes "issue") name × IsTrue (is_name name) × (place_of name names.classes ≡ Some class))

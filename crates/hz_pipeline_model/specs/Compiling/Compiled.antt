@@ -1,5 +1,5 @@
--- The machine that is compiled of automata and classes, and what is told of it. Bala and Rubin, 'Efficient Instruction
--- Scheduling Using Finite State Automata', MICRO-28; the limits and what is told are this profile's, docs/RULES.md.
+-- The machine that is compiled of automata and classes, and what is reported of it. Bala and Rubin, 'Efficient Instruction
+-- Scheduling Using Finite State Automata', MICRO-28; the limits and what is reported are this profile's, docs/RULES.md.
 use Rattle.std.specs.Prelude.{◌≡◌, ℕ, ◌<◌, ◌⊎◌, Bool, false, ◌&&◌, MatchBool, List, [], Option, Some, None, IsSomeAnd, IsSorted, length, map, All, slice_index_or}
 use Rattle.hz_base_model.specs.Pairs.{Pair, grid_cmp}
 use Rattle.hz_pipeline_model.specs.Accepting.Events.{Event, IsOfClass}
@@ -24,7 +24,7 @@ pub record Shown : Type 0 where
   pub parents : List (ℕ × ℕ)
   pub states : List (List (List (Pair ℕ)))
 
--- What is told of an automaton: how many grids and states are reached and how many grids all states have together, and
+-- What is reported of an automaton: how many grids and states are reached and how many grids all states have together, and
 -- what each state is, where that is to be shown.
 pub record Report : Type 0 where
   pub grids : ℕ
@@ -44,10 +44,10 @@ pub record IsShown (classes : ℕ) (m : Pipeline ℕ) (part : Part) (shown : Sho
   pub left : (t : List Event) (state : ℕ) → All (IsOfClass classes) t → part_walk part 0 t ≡ Some state → IsLeft m t (slice_index_or shown.states state [])
   pub ascending : All (λ grids. IsSorted grid_cmp grids) shown.states
 
--- The part of an automaton of this number, and what is told of it: it has the automaton's name; classes with equal
--- lists share a column; its query units have a column each and are told where they are held; it walks just what the
+-- The part of an automaton of this number, and what is reported of it: it has the automaton's name; classes with equal
+-- lists share a column; its query units have a column each and are reported where they are held; it walks just what the
 -- automaton's pipeline accepts; its states are what accepted events leave where they stay as they were found, else they are
--- apart from one another; they are numbered breadth-first; no count is above its limit, and those that are told are the
+-- apart from one another; they are numbered breadth-first; no count is above its limit, and those that are reported are the
 -- automaton's, before minimisation.
 pub record IsCompiledPart (stay : Bool) (options : Options) (automata : List AutomatonParts) (classes : List ClassParts) (a : ℕ) (part : Part) (report : Report) : Type 0 where
   pub name : part.name ≡ (automaton_at automata a).name
@@ -65,7 +65,7 @@ pub record IsCompiledPart (stay : Bool) (options : Options) (automata : List Aut
   pub members : CountIs (automaton_pipeline options automata classes a) part.columns count.members report.members
   pub shown : MatchBool (shows_states options) (IsSomeAnd report.shown (IsShown (length classes) (automaton_pipeline options automata classes a) part)) (report.shown ≡ None)
 
--- what is told of the automaton of this number
+-- what is reported of the automaton of this number
 abbrev pub report_at : List Report → ℕ → Report
 report_at reports a = slice_index_or reports a (record { grids = 0; states = 0; members = 0; shown = None })
 
@@ -73,7 +73,7 @@ report_at reports a = slice_index_or reports a (record { grids = 0; states = 0; 
 pub record IsCompiled (options : Options) (automata : List AutomatonParts) (classes : List ClassParts) (m : Machine) (reports : List Report) : Type 0 where
   pub names : m.classes ≡ map (λ c. c.name) classes
   pub each : length m.parts ≡ length automata
-  pub told : length reports ≡ length automata
+  pub reported : length reports ≡ length automata
   pub parts : (a : ℕ) → a < length automata → IsCompiledPart options.no_minimization options automata classes a (part_at m a) (report_at reports a)
 
 -- The automaton of this number is the first that has a count above its limit, and that of this kind is. In the first

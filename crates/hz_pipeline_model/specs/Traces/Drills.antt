@@ -29,7 +29,7 @@ number_after number (suc turns) = number_after (next_number number) turns
 abbrev pub draw : (classes number : ℕ) → Option ℕ
 draw classes number = if classes == 0 then None else Some (number / upper_from % classes)
 
--- The event of a turn behind those before it: the issue of the class that is drawn where it is accepted behind them, else the advance
+-- The event of a turn after those before it: the issue of the class that is drawn where it is accepted after them, else the advance
 -- of one cycle.
 abbrev pub IsTurn : (accepts : List Event → Type 0) → (before : List Event) → (drawn : Option ℕ) → Event → Type 0
 IsTurn accepts before None e = e ≡ advance 1
@@ -42,7 +42,7 @@ IsOfTurn classes (issue k) = k < classes
 IsOfTurn classes (advance n) = n ≡ 1
 IsOfTurn classes (ask a u) = ⊥
 
--- the events of so many turns behind those before them, from a number on
+-- the events of so many turns after those before them, from a number on
 abbrev pub Draws : (accepts : List Event → Type 0) → (classes : ℕ) → (before : List Event) → (number turns : ℕ) → List Event → Type 0
 Draws accepts classes before number zero events = events ≡ []
 Draws accepts classes before number (suc turns) [] = ⊥

@@ -14,7 +14,7 @@ use Rattle.hz_pipeline_model.specs.Traces.TraceNames.{TraceNames, query_place}
 pub data TraceFault : Type 0 where
   bad_line unknown_class too_many_advances unknown_unit : TraceFault
 
--- the word by which a fault is told: docs/FORMATS.md, 'Answers'
+-- the word by which a fault is reported: docs/FORMATS.md, 'Answers'
 abbrev pub trace_word : TraceFault → List ℕ
 trace_word bad_line = codes "BadLine"
 trace_word unknown_class = codes "UnknownClass"
@@ -46,12 +46,12 @@ without_margin line = without_end (drop (prefix_len is_margin line) line)
 abbrev pub first_word : List ℕ → List ℕ
 first_word line = take (position_or_len is_gap line) line
 
--- what follows it behind spaces and tabs
+-- what follows it after spaces and tabs
 abbrev pub operand : List ℕ → List ℕ
-operand line = behind_gap (drop (position_or_len is_gap line) line)
+operand line = after_gap (drop (position_or_len is_gap line) line)
   where
-    behind_gap : List ℕ → List ℕ
-    behind_gap rest = drop (prefix_len is_gap rest) rest
+    after_gap : List ℕ → List ℕ
+    after_gap rest = drop (prefix_len is_gap rest) rest
 
 -- `issue NAME`
 abbrev pub says_issue : List (List ℕ) → List ℕ → Line
@@ -94,7 +94,7 @@ pub record Trace (names : TraceNames) (text : List ℕ) (events : List Event) : 
   pub lines : Say names (lines_of text) events
   pub short : cycles_of events ≤ advance_limit
 
--- What is wrong with a line behind so many advances: with the line itself, or with the sum of all advances so far.
+-- What is wrong with a line after so many advances: with the line itself, or with the sum of all advances so far.
 pub data WrongAfter (names : TraceNames) (advanced : ℕ) (line : List ℕ) : (fault : TraceFault) → Type 0 where
   line_alone : {fault : TraceFault} → line_says names line ≡ wrong fault → WrongAfter names advanced line fault
   advances : {cycles : ℕ} → line_says names line ≡ says (advance cycles) → advance_limit < advanced + cycles → WrongAfter names advanced line too_many_advances

@@ -86,7 +86,7 @@ fn has_number(insns: &[Insn], number: u32) -> bool
     insns.iter().any(|insn| insn.number == number)
 }
 
-/// `(insn NUMBER pattern attr ..)`, behind these instructions
+/// `(insn NUMBER pattern attr ..)`, after these instructions
 #[tactic(auto, using(crate::proofs::ReaderLemmas::has_number_is))]
 fn insn_with(alloc: Global, before: &[Insn], line: u32, operands: &[Form]) -> Result<Insn, RtlFault>
     ensures ok { IfOk result (λ insn. model.instruction_with (map instruction before.now) line (trees operands.now) ≡ Ok (instruction insn)) }
@@ -112,7 +112,7 @@ fn insn_with(alloc: Global, before: &[Insn], line: u32, operands: &[Form]) -> Re
     })
 }
 
-/// The instruction that a form is, behind these.
+/// The instruction that a form is, after these.
 #[tactic(auto, using(crate::proofs::HeadLemmas::headed_says, crate::proofs::HeadLemmas::unheaded_says))]
 fn insn_of(alloc: Global, before: &[Insn], form: &Form) -> Result<Insn, RtlFault>
     ensures ok { IfOk result (λ insn. model.instruction_of (map instruction before.now) (tree form.now) ≡ Ok (instruction insn)) }
@@ -129,7 +129,7 @@ fn insn_of(alloc: Global, before: &[Insn], form: &Form) -> Result<Insn, RtlFault
     }
 }
 
-/// The next instruction of a block, behind these.
+/// The next instruction of a block, after these.
 #[tactic(auto, using(crate::proofs::HeadLemmas::line_is))]
 fn next_insn(alloc: Global, before: &[Insn], form: &Form) -> Result<Insn, RtlFault>
     ensures ok { IfOk result (λ insn. model.next_instruction (map instruction before.now) (tree form.now) ≡ Ok (instruction insn)) }
@@ -144,7 +144,7 @@ fn next_insn(alloc: Global, before: &[Insn], form: &Form) -> Result<Insn, RtlFau
 
 /// The block that forms are, at most 4,096 instructions of different numbers. Forms are judged in their order; in a list first
 /// the word that it begins with, then the number of its operands, then each of them from left to right. The first that is
-/// wrong decides which fault is told, at the line of the innermost form that is wrong, and an instruction number that stands
+/// wrong decides which fault is reported, at the line of the innermost form that is wrong, and an instruction number that stands
 /// twice at that of its `insn`; `NoMemory` where there was none. This profile, docs/RULES.md, 'Blocks'.
 pub fn read_block(alloc: Global, forms: &[Form]) -> Result<Block, RtlFault>
     ensures reads { IfOk result (λ block. model.Reads (trees forms.now) (instructions block)) }

@@ -29,7 +29,7 @@ fn spot_of(code: PlaceCode, operand: &Form) -> Result<Spot, RtlFault>
     }
 }
 
-/// `(reg N V)` or `(mem A V)`, behind what is given
+/// `(reg N V)` or `(mem A V)`, after what is given
 #[tactic(auto, using(crate::proofs::EffectLemmas::no_store, crate::proofs::HeadLemmas::line_is))]
 fn store_with(
     given: &Given,
@@ -54,7 +54,7 @@ fn store_with(
     Ok(Store { spot, word })
 }
 
-/// What a form gives, behind what is given.
+/// What a form gives, after what is given.
 #[tactic(auto, using(crate::proofs::HeadLemmas::headed_says, crate::proofs::HeadLemmas::unheaded_says))]
 fn store_of(given: &Given, form: &Form) -> Result<Store, RtlFault>
     ensures ok { IfOk result (λ one. model.store_of (map store given.now.stores.items) (tree form.now) ≡ Ok (store one)) }
@@ -85,7 +85,7 @@ fn stores_of(alloc: Global, forms: &[Form]) -> Result<Vec<Store>, RtlFault>
 
 /// The state that forms give; what isn't given is 0. Forms are judged in their order; in a list first the word that it begins
 /// with, then the number of its operands, then each of them from left to right. The first that is wrong decides which fault is
-/// told, at the line of the innermost form that is wrong; `NoMemory` where there was none, and never `InsnLimit`. This profile,
+/// reported, at the line of the innermost form that is wrong; `NoMemory` where there was none, and never `InsnLimit`. This profile,
 /// docs/RULES.md, 'Blocks'.
 pub fn read_state(alloc: Global, forms: &[Form]) -> Result<State, RtlFault>
     ensures reads { IfOk result (λ state. model.Reads (trees forms.now) (words state)) }

@@ -12,7 +12,7 @@ pub fn place(text: &[u8], byte: u8) -> Option<usize>
     text.iter().position(|b| *b == byte)
 }
 
-/// The piece of a text before the first such byte, and what stands behind it, if the byte stands there.
+/// The piece of a text before the first such byte, and what comes after it, if the byte stands there.
 pub fn cut(text: &[u8], byte: u8) -> (&[u8], Option<&[u8]>)
     ensures pieces { slice_split (λ b. b == byte) text.now ≡ result.0.now ∷ pieces byte result.1 }
     ensures long { IfSome result.1 (λ rest. length result.0.now + 1 + length rest.now ≡ length text.now) }

@@ -1,7 +1,7 @@
 //! Why a text stands for no machine.
 
 ghost use Rattle.std.specs.Prelude.{◌≡◌};
-ghost use Rattle.hz_base_model.specs.Told.{told_by, told_in};
+ghost use Rattle.hz_base_model.specs.Reported.{reported_by, reported_in};
 ghost use Rattle.hz_tabfile.specs.Given.{fault_of};
 ghost use Rattle.hz_tabtext_model.specs.Judging.{tables_word};
 ghost use Rattle.hz_tabfile.specs.declared.reading.fault.TabFault.TheVariants.{NoMemory as no_memory};
@@ -28,8 +28,8 @@ pub enum TabFault {
     /// The text ends before this line does.
     #[error("line {line} is not ended")]
     Truncated { line: u32 },
-    /// Something stands behind the end.
-    #[error("line {line} stands behind the end")]
+    /// Something comes after the end.
+    #[error("line {line} comes after the end")]
     Trailing { line: u32 },
     /// Memory ran out.
     #[error("out of memory")]
@@ -37,9 +37,9 @@ pub enum TabFault {
 }
 
 impl TabFault {
-    /// The word by which the fault is told, and its line; None for want of memory. docs/FORMATS.md, 'Answers'.
-    pub fn told(&self) -> Option<(&'static str, u32)>
-        ensures { told_in result ≡ told_by tables_word (fault_of self.now) }
+    /// The word by which the fault is reported, and its line; None for want of memory. docs/FORMATS.md, 'Answers'.
+    pub fn reported(&self) -> Option<(&'static str, u32)>
+        ensures { reported_in result ≡ reported_by tables_word (fault_of self.now) }
     {
         match self {
             TabFault::BadHeader { line } => Some(("BadHeader", *line)),

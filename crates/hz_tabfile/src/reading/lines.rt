@@ -60,7 +60,7 @@ pub fn classes(line: &[u8]) -> Result<u32, Wrong>
     Ok(count)
 }
 
-/// Adds a class behind those before it: `class NAME`, with another name than each of them.
+/// Adds a class after those before it: `class NAME`, with another name than each of them.
 #[tactic(auto, unfolding(hz_tabtext_model::specs::Lines::class_in))]
 pub fn class(alloc: Global, names: &mut IndexSet<Name>, line: &[u8]) -> Result<(), Wrong>
     ensures { Judges (λ _. names.new.keys) result (class_onto names.old.keys line.now) }

@@ -15,9 +15,9 @@ ghost use Rattle.hz_tabfile.specs.Rests.{left_of};
 
 use super::cutting::{cut, is_word};
 use super::fault::TabFault;
+use super::reported::{automata_at, classes_at, end_at, treatment_at};
 use super::rest::Rest;
 use super::text::{names_at, parts_at};
-use super::told::{automata_at, classes_at, end_at, treatment_at};
 use hz_regexp::Name;
 use hz_tables::{Machine, Part};
 use std::alloc::Global;
@@ -46,9 +46,9 @@ fn header(line: &[u8]) -> Option<bool>
     None
 }
 
-/// What is left of a text behind its header, and whether it has lines of asks.
+/// What is left of a text after its header, and whether it has lines of asks.
 #[tactic(auto, using(crate::proofs::Pieces::nil_pieces))]
-fn behind_header(bytes: &[u8]) -> Result<(bool, Rest), TabFault>
+fn after_header(bytes: &[u8]) -> Result<(bool, Rest), TabFault>
     requires { length bytes.now < 2 ^ 32 }
     ensures { Gives (λ x. (x.0, left_of x.1)) result (model.line_by header_in (rest_at 1 bytes.now)) }
 {
@@ -62,9 +62,9 @@ fn behind_header(bytes: &[u8]) -> Result<(bool, Rest), TabFault>
     Ok((asked, Rest { bytes, number: 2 }))
 }
 
-/// The classes and the automata of a text behind its header.
+/// The classes and the automata of a text after its header.
 #[tactic(auto, unfolding(hz_tabtext_model::specs::Reading::machine_at))]
-fn parts_behind(alloc: Global, asked: bool, rest: Rest) -> Result<(Vec<Name>, Vec<Part>), TabFault>
+fn parts_after(alloc: Global, asked: bool, rest: Rest) -> Result<(Vec<Name>, Vec<Part>), TabFault>
     ensures read { Gives (λ x. record { classes = x.0.items; parts = map part_of x.1.items }) result (model.machine_at asked (left_of rest.entry)) }
     ensures packed { IfOk result (λ x. All (λ part. IsLeastWidth part.table) x.1.items) }
 {
@@ -80,12 +80,12 @@ fn parts_behind(alloc: Global, asked: bool, rest: Rest) -> Result<(Vec<Name>, Ve
     Ok((classes, parts))
 }
 
-/// The machine of a text behind its header.
-fn machine_behind(alloc: Global, asked: bool, rest: Rest) -> Result<Machine, TabFault>
+/// The machine of a text after its header.
+fn machine_after(alloc: Global, asked: bool, rest: Rest) -> Result<Machine, TabFault>
     ensures read { Gives machine_of result (model.machine_at asked (left_of rest.entry)) }
     ensures packed { IfOk result (λ machine. All (λ part. IsLeastWidth part.table) machine.parts.items) }
 {
-    let (classes, parts) = parts_behind(alloc, asked, rest)?;
+    let (classes, parts) = parts_after(alloc, asked, rest)?;
     Ok(Machine { classes, parts })
 }
 
@@ -96,8 +96,8 @@ fn whole(alloc: Global, bytes: &[u8]) -> Result<Machine, TabFault>
     ensures read { Gives machine_of result (model.tables_in bytes.now) }
     ensures packed { IfOk result (λ machine. All (λ part. IsLeastWidth part.table) machine.parts.items) }
 {
-    let (asked, rest) = behind_header(bytes)?;
-    let machine = machine_behind(alloc, asked, rest)?;
+    let (asked, rest) = after_header(bytes)?;
+    let machine = machine_after(alloc, asked, rest)?;
     Ok(machine)
 }
 

@@ -1,4 +1,4 @@
-//! The fields behind the word of a line.
+//! The fields after the word of a line.
 
 ghost use Rattle.std.specs.Prelude.{◌≡◌, ◌∷◌, [], length, IfOk, IfErr};
 ghost use Rattle.hz_tabtext_model.specs.Fields as model;
@@ -8,14 +8,14 @@ ghost use Rattle.hz_tabfile.specs.Judged.{Judges};
 use super::cutting::{cut, field_count, is_word};
 use super::wrong::Wrong;
 
-/// What stands behind the word of a line: fields, none of them empty, and how many they are.
+/// What comes after the word of a line: fields, none of them empty, and how many they are.
 #[derive(Clone, Copy)]
 pub struct Fields<'a> {
     pub left: Option<&'a [u8]>,
     pub count: usize,
 }
 
-/// The fields behind the word that a line must begin with.
+/// The fields after the word that a line must begin with.
 #[tactic(auto, unfolding(hz_tabtext_model::specs::Fields::operands, crate::specs::Cutting::counted))]
 pub fn operands<'a>(line: &'a [u8], word: &[u8]) -> Result<Fields<'a>, Wrong>
     ensures judged { Judges (λ o. fields_in o.left) result (model.operands word.now line.now) }
@@ -31,7 +31,7 @@ pub fn operands<'a>(line: &'a [u8], word: &[u8]) -> Result<Fields<'a>, Wrong>
     }
 }
 
-/// The next field, and those behind it.
+/// The next field, and those after it.
 pub fn next_field(fields: Option<&[u8]>) -> Result<(&[u8], Option<&[u8]>), Wrong>
     ensures found { IfOk result (λ x. fields_in fields.entry ≡ x.0.now ∷ fields_in x.1) }
     ensures none { IfErr result (λ wrong. (wrong ≡ Wrong.BadLine) × (fields_in fields.entry ≡ [])) }
@@ -42,7 +42,7 @@ pub fn next_field(fields: Option<&[u8]>) -> Result<(&[u8], Option<&[u8]>), Wrong
     }
 }
 
-/// The one field behind the word of a line.
+/// The one field after the word of a line.
 #[tactic(auto, using(crate::proofs::Pieces::nil_fields))]
 pub fn one<'a>(line: &'a [u8], word: &[u8]) -> Result<&'a [u8], Wrong>
     ensures { Judges (λ f. f.now) result (model.one_in word.now line.now) }
@@ -55,7 +55,7 @@ pub fn one<'a>(line: &'a [u8], word: &[u8]) -> Result<&'a [u8], Wrong>
     Ok(field)
 }
 
-/// The three fields behind the word of a line.
+/// The three fields after the word of a line.
 #[tactic(auto, using(crate::proofs::Pieces::nil_fields))]
 pub fn three<'a>(line: &'a [u8], word: &[u8]) -> Result<(&'a [u8], &'a [u8], &'a [u8]), Wrong>
     ensures { Judges (λ f. (f.0.now, f.1.now, f.2.now)) result (model.three_in word.now line.now) }

@@ -21,8 +21,8 @@ fn before_colon(field: &[u8]) -> &[u8]
     }
 }
 
-/// What stands behind the first colon, or nothing where there is none.
-fn behind_colon(field: &[u8]) -> &[u8]
+/// What comes after the first colon, or nothing where there is none.
+fn after_colon(field: &[u8]) -> &[u8]
     ensures { result.now ≡ after_first model.is_colon field.now }
 {
     match place(field, b':') {
@@ -31,11 +31,11 @@ fn behind_colon(field: &[u8]) -> &[u8]
     }
 }
 
-/// Whether a field has a colon, and a name behind the first one.
+/// Whether a field has a colon, and a name after the first one.
 pub fn has_unit(field: &[u8]) -> bool
     ensures { result ≡ model.has_unit field.now }
 {
-    is_name(behind_colon(field))
+    is_name(after_colon(field))
 }
 
 /// The cycle of a field, which is dropped.

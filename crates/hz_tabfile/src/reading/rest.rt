@@ -5,7 +5,7 @@ ghost use Rattle.std.specs.Prelude.{◌+◌, ◌<◌, ◌^◌, length};
 use super::cutting::{cut, is_word};
 use super::fault::TabFault;
 
-/// What is left of a text behind its header, and the number of its first line.
+/// What is left of a text after its header, and the number of its first line.
 #[derive(Clone, Copy)]
 pub struct Rest<'a> {
     pub bytes: &'a [u8],
@@ -20,7 +20,7 @@ impl<'a> Rest<'a> {
     ghost use Rattle.hz_tabfile.specs.Rests.{left_of};
 
     #[tactic(auto, using(crate::proofs::Pieces::nil_pieces))]
-    /// The next line, and what is left behind it; `Truncated` where it is not ended.
+    /// The next line, and what is left after it; `Truncated` where it is not ended.
     pub fn line(self) -> Result<(&'a [u8], Rest<'a>), TabFault>
         ensures taken { Gives (λ x. (x.0.now, left_of x.1)) result (model.line_by (λ line. Ok line) (left_of self.entry)) }
         ensures shorter { IfOk result (λ x. length x.1.bytes.now < length self.entry.bytes.now) }
@@ -45,7 +45,7 @@ impl<'a> Rest<'a> {
         is_word(first, word)
     }
 
-    #[tactic(auto, using(crate::proofs::Told::over_by_length))]
+    #[tactic(auto, using(crate::proofs::Reported::over_by_length))]
     /// Whether nothing is left.
     pub fn is_over(self) -> bool
         ensures { result ≡ model.is_over (left_of self.entry).lines }

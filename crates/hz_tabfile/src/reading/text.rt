@@ -1,4 +1,4 @@
-//! A text behind its header: classes, automata and their states.
+//! A text after its header: classes, automata and their states.
 
 ghost use Rattle.std.specs.Prelude.{◌≡◌, ◌+◌, ◌<◌, ◌≤◌, ◌++◌, [], length, map, All, IfOk};
 ghost use Rattle.hz_base_model.specs.Limits.{class_limit, unit_limit};
@@ -11,9 +11,11 @@ ghost use Rattle.hz_tabfile.specs.Texts.{grids_read, AreTargets};
 
 use super::fault::TabFault;
 use super::head::Head;
+use super::reported::{
+    asked_at, class_at, entries_at, grid_at, head_at, map_at, origin_at, stats_at,
+};
 use super::rest::Rest;
 use super::size::Size;
-use super::told::{asked_at, class_at, entries_at, grid_at, head_at, map_at, origin_at, stats_at};
 use hz_regexp::{Name, NoMemory};
 use hz_tables::{Part, Plain, Table};
 use indexmap::IndexSet;
@@ -42,7 +44,7 @@ fn grids_at(rest: Rest) -> Result<Rest, TabFault>
     Ok(rest)
 }
 
-/// What is told of a state, where it comes; it is dropped.
+/// What is reported of a state, where it comes; it is dropped.
 #[tactic(auto, unfolding(hz_tabtext_model::specs::Reading::shown_at, crate::specs::Texts::grids_read))]
 fn shown_at(rest: Rest, columns: u32, states: u32) -> Result<Rest, TabFault>
     ensures { Gives left_of result (model.shown_at columns states (left_of rest.entry)) }

@@ -14,7 +14,7 @@ use hz_io::{Failed, Sink};
 use hz_regexp::Name;
 use itoa::Buffer;
 
-/// Adds a number behind a space.
+/// Adds a number after a space.
 pub fn add_number<S: Sink>(out: &mut S, page: &mut Page, number: u32) -> Result<(), Failed>
     requires { S.faults out.old < 2 ^ 64 - 1 }
     ensures { Adds S.written S.room S.faults out.old out.new page.old.items page.new.items (spaced (decimal number)) result }
@@ -23,7 +23,7 @@ pub fn add_number<S: Sink>(out: &mut S, page: &mut Page, number: u32) -> Result<
     add_all(out, page, &[b" ", digits.format(number).as_bytes()])
 }
 
-/// Adds an entry behind a space.
+/// Adds an entry after a space.
 pub fn add_entry<S: Sink>(out: &mut S, page: &mut Page, entry: Option<u32>) -> Result<(), Failed>
     requires { S.faults out.old < 2 ^ 64 - 1 }
     ensures { Adds S.written S.room S.faults out.old out.new page.old.items page.new.items (spaced (entry_field entry)) result }
@@ -34,7 +34,7 @@ pub fn add_entry<S: Sink>(out: &mut S, page: &mut Page, entry: Option<u32>) -> R
     }
 }
 
-/// Adds numbers, each behind a space.
+/// Adds numbers, each after a space.
 fn add_numbers<S: Sink>(out: &mut S, page: &mut Page, numbers: &[u32]) -> Result<(), Failed>
     requires { S.faults out.old < 2 ^ 64 - 1 }
     ensures { Adds S.written S.room S.faults out.old out.new page.old.items page.new.items (flat_map (λ number. spaced (decimal number)) numbers.now) result }
@@ -112,7 +112,7 @@ pub fn add_map<S: Sink>(out: &mut S, page: &mut Page, columns: &[u32]) -> Result
     end_line(out, page)
 }
 
-/// Adds a name behind a space.
+/// Adds a name after a space.
 fn add_name<S: Sink>(out: &mut S, page: &mut Page, name: &Name) -> Result<(), Failed>
     requires { S.faults out.old < 2 ^ 64 - 1 }
     ensures { Adds S.written S.room S.faults out.old out.new page.old.items page.new.items (spaced name.now) result }
@@ -120,7 +120,7 @@ fn add_name<S: Sink>(out: &mut S, page: &mut Page, name: &Name) -> Result<(), Fa
     add_all(out, page, &[b" ", name.bytes()])
 }
 
-/// Adds names, each behind a space.
+/// Adds names, each after a space.
 fn add_names<S: Sink>(out: &mut S, page: &mut Page, names: &[Name]) -> Result<(), Failed>
     requires { S.faults out.old < 2 ^ 64 - 1 }
     ensures { Adds S.written S.room S.faults out.old out.new page.old.items page.new.items (flat_map spaced names.now) result }
@@ -184,17 +184,17 @@ fn add_stats<S: Sink>(out: &mut S, page: &mut Page, report: &AutoReport) -> Resu
     )
 }
 
-/// Adds the line of counts, where they are told.
+/// Adds the line of counts, where they are reported.
 pub fn add_counts<S: Sink>(
     out: &mut S,
     page: &mut Page,
-    told: bool,
+    reported: bool,
     report: &AutoReport,
 ) -> Result<(), Failed>
     requires { S.faults out.old < 2 ^ 64 - 1 }
-    ensures { Adds S.written S.room S.faults out.old out.new page.old.items page.new.items (flat_map line_text (counts_lines (if told then Some (counts_said (report_of report.now)) else None))) result }
+    ensures { Adds S.written S.room S.faults out.old out.new page.old.items page.new.items (flat_map line_text (counts_lines (if reported then Some (counts_said (report_of report.now)) else None))) result }
 {
-    if told {
+    if reported {
         add_stats(out, page, report)
     } else {
         Ok(())

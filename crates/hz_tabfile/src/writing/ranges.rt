@@ -10,7 +10,7 @@ ghost use Rattle.hz_checked.specs.Shape.{automaton_of};
 ghost use Rattle.hz_auto.specs.Reports.{shown_of, report_of};
 ghost use Rattle.hz_auto.specs.Machines.{reports_of};
 ghost use Rattle.hz_grid.specs.Grids.{IsGrid};
-ghost use Rattle.hz_pipeline_model.specs.Single.Told.{ListsAscending};
+ghost use Rattle.hz_pipeline_model.specs.Single.Reported.{ListsAscending};
 ghost use Rattle.hz_tabtext_model.specs.Texts.{AreCounts};
 ghost use Rattle.hz_tabtext_model.specs.Said.{counts_said, IsInRange};
 

@@ -24,7 +24,7 @@ use hz_tables::{Part, Steps, Table};
 use std::marker::Brand;
 use std::sync::ledger::{Blank, Ledger};
 
-/// Adds the entries of a state, each behind a space, with steps that nobody counts.
+/// Adds the entries of a state, each after a space, with steps that nobody counts.
 fn add_entries<S: Sink, L: Ledger>(
     out: &mut S,
     page: &mut Page,

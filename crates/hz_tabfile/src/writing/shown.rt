@@ -71,7 +71,7 @@ fn add_place<S: Sink>(out: &mut S, page: &mut Page, row: u32, column: u32) -> Re
     )
 }
 
-/// Adds a pair of a grid behind a space.
+/// Adds a pair of a grid after a space.
 fn add_pair<S: Sink>(out: &mut S, page: &mut Page, cycle: u16, unit: &Name) -> Result<(), Failed>
     requires { S.faults out.old < 2 ^ 64 - 1 }
     ensures { Adds S.written S.room S.faults out.old out.new page.old.items page.new.items (spaced (pair_field (cycle, unit.now))) result }
@@ -84,7 +84,7 @@ fn add_pair<S: Sink>(out: &mut S, page: &mut Page, cycle: u16, unit: &Name) -> R
     )
 }
 
-/// Adds a unit of this number behind a space, where the row has it.
+/// Adds a unit of this number after a space, where the row has it.
 fn add_unit<S: Sink>(
     out: &mut S,
     page: &mut Page,
@@ -124,7 +124,7 @@ fn add_cycle<S: Sink>(
     Ok(())
 }
 
-/// Adds the pairs of a grid, each behind a space.
+/// Adds the pairs of a grid, each after a space.
 fn add_pairs<S: Sink>(
     out: &mut S,
     page: &mut Page,

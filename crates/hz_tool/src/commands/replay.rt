@@ -62,7 +62,7 @@ fn judge_trace<'a>(
 {
     match read_trace(alloc, text, machine) {
         Ok(events) => Ok(events),
-        Err(fault) => Err(refuse_fault(file, fault.told(), None)),
+        Err(fault) => Err(refuse_fault(file, fault.reported(), None)),
     }
 }
 

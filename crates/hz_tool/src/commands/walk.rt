@@ -27,7 +27,7 @@ fn judge_tables<'a>(alloc: Global, file: &'a str, text: &[u8]) -> Result<Machine
 {
     match read_tables(alloc, text) {
         Ok(machine) => Ok(machine),
-        Err(fault) => Err(refuse_fault(file, fault.told(), None)),
+        Err(fault) => Err(refuse_fault(file, fault.reported(), None)),
     }
 }
 

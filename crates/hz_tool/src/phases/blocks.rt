@@ -101,7 +101,7 @@ pub fn refuse_stuck<'a>(file: &'a str, block: &Block, fault: SchedFault) -> Refu
     ensures kind { IsJudged result }
     ensures answer { TellsStuck file.entry block.now.insns.items fault result }
 {
-    match fault.told() {
+    match fault.reported() {
         Some((word, place)) => refuse_insn(file, insn_at(block, place), word, None, None),
         None => Refusal::Memory,
     }
@@ -116,7 +116,7 @@ fn judge_block<'a>(alloc: Global, file: &'a str, read: &[Form]) -> Result<Block,
 {
     match read_block(alloc, read) {
         Ok(block) => Ok(block),
-        Err(fault) => Err(refuse_fault(file, fault.told(), None)),
+        Err(fault) => Err(refuse_fault(file, fault.reported(), None)),
     }
 }
 
@@ -146,7 +146,7 @@ pub fn judge_graph<'a>(
     ensures ok { IfOk result (IsGraphOf checked.now block.now) }
     ensures schedulable { IfOk result (IsSchedulable (length machine.now.classes.items)) }
     ensures kind { IfErr result IsJudged }
-    ensures err { IfErr result (λ told. (d : Description) (is : IsCheckedOf d checked.now) → machine.now.classes.items ≡ class_names d → Agrees (HasClasses file.entry.now d (instructions block.now) Nothing) told) }
+    ensures err { IfErr result (λ reported. (d : Description) (is : IsCheckedOf d checked.now) → machine.now.classes.items ≡ class_names d → Agrees (HasClasses file.entry.now d (instructions block.now) Nothing) reported) }
 {
     match graph(alloc, checked, block) {
         Ok(graph) => Ok(graph),

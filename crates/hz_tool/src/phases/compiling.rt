@@ -36,7 +36,7 @@ fn name_of(checked: &Checked, automaton: u32) -> Result<Name, NoMemory>
 fn refuse_limit<'a>(file: &'a str, checked: &Checked, fault: AutoFault) -> Refusal<'a>
     requires { IsFaultOf checked.now fault }
     ensures kind { IsJudged result }
-    ensures told { (d : Description) (is : IsCheckedOf d checked.now) → Agrees (TellsLimit file.entry.now d is.known) result }
+    ensures reported { (d : Description) (is : IsCheckedOf d checked.now) → Agrees (TellsLimit file.entry.now d is.known) result }
 {
     match limited(fault) {
         Some(automaton) => refuse_states(file, name_of(checked, automaton)),

@@ -26,7 +26,7 @@ fn judge_state<'a>(alloc: Global, file: &'a str, read: &[Form]) -> Result<State,
 {
     match read_state(alloc, read) {
         Ok(state) => Ok(state),
-        Err(fault) => Err(refuse_fault(file, fault.told(), None)),
+        Err(fault) => Err(refuse_fault(file, fault.reported(), None)),
     }
 }
 

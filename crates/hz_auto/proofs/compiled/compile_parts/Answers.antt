@@ -3,11 +3,11 @@ use Rattle.std.proofs.lemmas.List.Elements.{All-push}
 use Rattle.hz_pipeline_model.specs.Tables.Machines.{IsPart}
 use Rattle.hz_tables.specs.Parts.{part_of}
 use Rattle.hz_auto.specs.Parts.{IsKept}
-use Rattle.hz_auto.proofs.MachineLemmas.{fault_told, compiled_more, asks_told}
+use Rattle.hz_auto.proofs.MachineLemmas.{fault_reported, compiled_more, asks_reported}
 use Rattle.hz_auto.proofs.compiled.compile_parts.Goals as goal
 
 pub returns-in-Err-clause-fault : goal.returns-in-Err-clause-fault
-returns-in-Err-clause-fault c = fault_told c.args.checked.now c.loop-automaton.automaton c.loop-automaton.all.parts.items c.loop-automaton.all.reports.items c.loop-automaton.invariant.compiled (let h = c.loop-automaton-test.true in let e = c.len-automaton-end.ensures in let ok = c.args.checked.now.automata.ok in omega (arith, h, e, ok)) c.in-Err.fault c.fault_at.result c.in-Err.ensures.fault c.fault_at.ensures
+returns-in-Err-clause-fault c = fault_reported c.args.checked.now c.loop-automaton.automaton c.loop-automaton.all.parts.items c.loop-automaton.all.reports.items c.loop-automaton.invariant.compiled (let h = c.loop-automaton-test.true in let e = c.len-automaton-end.ensures in let ok = c.args.checked.now.automata.ok in omega (arith, h, e, ok)) c.in-Err.fault c.fault_at.result c.in-Err.ensures.fault c.fault_at.ensures
 
 pub loop-automaton-preserved : goal.loop-automaton-preserved
 loop-automaton-preserved c = record {
@@ -17,4 +17,4 @@ loop-automaton-preserved c = record {
 }
 
 pub returns-clause-asks : goal.returns-clause-asks
-returns-clause-asks c = asks_told c.args.checked.now c.loop-automaton.all.parts.items c.loop-automaton.all.reports.items (search rules)
+returns-clause-asks c = asks_reported c.args.checked.now c.loop-automaton.all.parts.items c.loop-automaton.all.reports.items (search rules)

@@ -9,7 +9,7 @@ use Rattle.hz_determ.specs.Spaces.{pipeline_of, lists_of}
 use Rattle.hz_checked.specs.Shape.{automaton_of}
 use Rattle.hz_auto.specs.Parts.{IsCapped, IsWhole}
 use Rattle.hz_auto.proofs.CheckedFacts.{have_lists, sets_in_range, queries_below}
-use Rattle.hz_auto.proofs.ExploredLemmas.{columns_now, asks_now, columns_few, past, members_told, grids_told, numbers_there, askable, past_asked, kept, has_table, whole_compiled, both_then}
+use Rattle.hz_auto.proofs.ExploredLemmas.{columns_now, asks_now, columns_few, past, members_reported, grids_reported, numbers_there, askable, past_asked, kept, has_table, whole_compiled, both_then}
 use Rattle.hz_auto.proofs.part.found_part.Goals as goal
 
 pub columns_of-requires-clause-lists : goal.columns_of-requires-clause-lists
@@ -41,7 +41,7 @@ whole-requires-clause-members c =
     let asks = asks_now rules c.deref-2.result.now d.sets.items c.deref-2.ensures.value c.in_ok-rules.ensures.same in
     let built = subst (λ xs. IsBuilt (if c.args.checked.now.options.ndfa then any_fit else first_fit) rules xs c.in-Ok.explored) c.deref-3.ensures.value c.in-Ok.ensures.built in
     let within = subst (λ xs. AreWithin (pipeline_of (if c.args.checked.now.options.ndfa then any_fit else first_fit) rules xs) (length xs) c.caps_of-caps.result) c.deref-3.ensures.value c.in-Ok.ensures.within in
-    members_told c.args.checked.now c.args.automaton c.requires d c.index-parts.ensures columns maps is rules asks c.caps_of-caps.result c.caps_of-caps.ensures.caps c.in-Ok.explored built within
+    members_reported c.args.checked.now c.args.automaton c.requires d c.index-parts.ensures columns maps is rules asks c.caps_of-caps.result c.caps_of-caps.ensures.caps c.in-Ok.explored built within
 
 pub whole-requires-clause-numbers : goal.whole-requires-clause-numbers
 whole-requires-clause-numbers c =
@@ -65,7 +65,7 @@ whole-requires-clause-few c =
     let asks = asks_now rules c.deref-2.result.now d.sets.items c.deref-2.ensures.value c.in_ok-rules.ensures.same in
     let built = subst (λ xs. IsBuilt (if c.args.checked.now.options.ndfa then any_fit else first_fit) rules xs c.in-Ok.explored) c.deref-3.ensures.value c.in-Ok.ensures.built in
     let within = subst (λ xs. AreWithin (pipeline_of (if c.args.checked.now.options.ndfa then any_fit else first_fit) rules xs) (length xs) c.caps_of-caps.result) c.deref-3.ensures.value c.in-Ok.ensures.within in
-    grids_told c.args.checked.now c.args.automaton c.requires d c.index-parts.ensures columns maps is rules asks c.caps_of-caps.result c.caps_of-caps.ensures.caps c.in-Ok.explored built within
+    grids_reported c.args.checked.now c.args.automaton c.requires d c.index-parts.ensures columns maps is rules asks c.caps_of-caps.result c.caps_of-caps.ensures.caps c.in-Ok.explored built within
 
 pub whole-requires-clause-askable : goal.whole-requires-clause-askable
 whole-requires-clause-askable c =
@@ -128,7 +128,7 @@ returns-in-Ok-clause-fault c =
     let asks = asks_now rules c.deref-2.result.now d.sets.items c.deref-2.ensures.value c.in_ok-rules.ensures.same in
     let built = subst (λ xs. IsBuilt (if c.args.checked.now.options.ndfa then any_fit else first_fit) rules xs c.in-Ok.explored) c.deref-3.ensures.value c.in-Ok.ensures.built in
     let within = subst (λ xs. AreWithin (pipeline_of (if c.args.checked.now.options.ndfa then any_fit else first_fit) rules xs) (length xs) c.caps_of-caps.result) c.deref-3.ensures.value c.in-Ok.ensures.within in
-    IfErr-weaker c.whole.result _ _ (λ fault told. past_asked c.args.checked.now c.args.automaton c.requires d c.index-parts.ensures columns maps is rules asks c.caps_of-caps.result c.caps_of-caps.ensures.caps c.in-Ok.explored built within (subst (λ b. IsCapped b c.caps_of-caps.result) c.shows_states-shown.ensures c.caps_of-caps.ensures.capped) fault told) c.whole.ensures.fault
+    IfErr-weaker c.whole.result _ _ (λ fault reported. past_asked c.args.checked.now c.args.automaton c.requires d c.index-parts.ensures columns maps is rules asks c.caps_of-caps.result c.caps_of-caps.ensures.caps c.in-Ok.explored built within (subst (λ b. IsCapped b c.caps_of-caps.result) c.shows_states-shown.ensures c.caps_of-caps.ensures.capped) fault reported) c.whole.ensures.fault
 
 pub returns-clause-fault : goal.returns-clause-fault
 returns-clause-fault c =

@@ -8,7 +8,7 @@ pub returns-clause-greedy : goal.returns-clause-greedy
 returns-clause-greedy c = λ d known sound m reports compiled g ranges slots. greedy_as_described d known sound m reports compiled g ranges slots
 
 pub returns-clause-stuck : goal.returns-clause-stuck
-returns-clause-stuck c = λ d known sound m reports compiled g ranges place told. stuck_as_described d known sound m reports compiled g ranges place told
+returns-clause-stuck c = λ d known sound m reports compiled g ranges place reported. stuck_as_described d known sound m reports compiled g ranges place reported
 
 pub returns-clause-start : goal.returns-clause-start
-returns-clause-start c = λ d known sound m reports compiled g ranges told i lt. start_as_described d known sound m reports compiled g ranges told i lt
+returns-clause-start c = λ d known sound m reports compiled g ranges reported i lt. start_as_described d known sound m reports compiled g ranges reported i lt

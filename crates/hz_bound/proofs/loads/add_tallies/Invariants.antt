@@ -3,7 +3,7 @@ use Rattle.hz_bound.specs.Tallies.{tally_at, forced}
 use Rattle.hz_bound.specs.Sums.{total_at, with_times}
 use Rattle.hz_bound.proofs.loads.add_tallies.Given as goal
 
--- the units up to one are told
+-- the units up to one are reported
 abbrev pub invariant-loop-unit : goal.invariant-loop-unit
 invariant-loop-unit l = record {
   long : length l.totals ≡ length l.initial.totals;

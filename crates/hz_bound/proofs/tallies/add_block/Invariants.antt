@@ -2,7 +2,7 @@ use Rattle.std.proofs.Common.{◌≤◌, ◌+◌}
 use Rattle.hz_bound.specs.Tallies.{IsStepped}
 use Rattle.hz_bound.proofs.tallies.add_block.Given as goal
 
--- the units up to one are told
+-- the units up to one are reported
 abbrev pub invariant-loop-unit : goal.invariant-loop-unit
 invariant-loop-unit l = record {
   low : l.first ≤ l.unit;

@@ -1,6 +1,6 @@
 use Rattle.std.proofs.Common.{◌≡◌, All, map, refl, sym, ap, ◌∙◌, subst}
 use Rattle.hz_mdread.specs.Shape.{description}
-use Rattle.hz_check.proofs.Telling.CheckSteps.{behind, skip}
+use Rattle.hz_check.proofs.Telling.CheckSteps.{beyond, skip}
 use Rattle.hz_check_reservations.proofs.Unwinding.{unfolded}
 use Rattle.hz_altern.specs.Shapes.{alternatives}
 use Rattle.hz_description_model.specs.Reservations.AlternativeLists.{AreSound}
@@ -22,7 +22,7 @@ returns-clause-ok c =
       sound = record {
         order = reservings d c.args.order.now;
         unfolded = all.1;
-        free = (behind d all.0 (reservings d c.args.order.now) c.in-Ok.ensures.within
+        free = (beyond d all.0 (reservings d c.args.order.now) c.in-Ok.ensures.within
             (skip (lists.extents.few all.0 right) (skip (lists.extents.short all.0 right) (skip (lists.expanded.within all.0 right)
             (skip (lists.rules.mixed all.0 right) (skip (lists.rules.uneven all.0 right) (skip lists.once (skip lists.queries (record { is = refl }))))))))).is;
       };

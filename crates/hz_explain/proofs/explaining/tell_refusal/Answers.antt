@@ -17,8 +17,8 @@ returns c = λ m t lines is frontier are.
     let choices = (first_of c.args.frontier).choices in
     let here = subst (AreHolders m t lines choices) (sym c.deref.ensures.value) are in
     let chosen = c.first.ensures.chosen m t frontier in
-    let told = subst (AreReasons m (left_by m t choices) k) (sym c.deref-2.ensures.value) (c.in_ok-reasons.ensures m (left_by m t choices) is chosen.stands.future) in (
+    let reported = subst (AreReasons m (left_by m t choices) k) (sym c.deref-2.ensures.value) (c.in_ok-reasons.ensures m (left_by m t choices) is chosen.stands.future) in (
       c.in_ok-wait.wait,
       c.in_ok-wait.ensures m t is frontier,
-      c.in_ok-add_refusal.ensures m t lines choices is told here ∙ ap (λ xs. xs ++ refusal_text (wording_of (description c.args.desc.now)) m t lines choices k c.in_ok-wait.wait) c.new-text.ensures.items,
+      c.in_ok-add_refusal.ensures m t lines choices is reported here ∙ ap (λ xs. xs ++ refusal_text (wording_of (description c.args.desc.now)) m t lines choices k c.in_ok-wait.wait) c.new-text.ensures.items,
     )

@@ -16,7 +16,7 @@ pub returns-clause-file : goal.returns-clause-file
 returns-clause-file g c = run.file _ _ _ _ _ _ (decided_in c.decide-decided.result) c.finish-status.ensures.low c.finish-status.ensures.ends _ _ c.decide-decided.ensures.counts
 
 pub returns-clause-lacks : goal.returns-clause-lacks
-returns-clause-lacks g c = λ held told steady more. run.lacks _ _ _ _ _ _ (decided_in c.decide-decided.result) c.finish-status.ensures.low c.finish-status.ensures.ends _ _ c.decide-decided.ensures.counts (WhyAnswer (words_in c.args.words.now) held) more (c.decide-decided.ensures.answer held told (inr steady))
+returns-clause-lacks g c = λ held reported steady more. run.lacks _ _ _ _ _ _ (decided_in c.decide-decided.result) c.finish-status.ensures.low c.finish-status.ensures.ends _ _ c.decide-decided.ensures.counts (WhyAnswer (words_in c.args.words.now) held) more (c.decide-decided.ensures.answer held reported (inr steady))
 
 pub returns-clause-rises : goal.returns-clause-rises
 returns-clause-rises g c = run.rises _ _ _ _ _ _ (decided_in c.decide-decided.result) c.finish-status.ensures.low c.finish-status.ensures.ends _ _ c.decide-decided.ensures.counts
@@ -42,13 +42,13 @@ pub returns-clause-file_line : goal.returns-clause-file_line
 returns-clause-file_line g c = run.file_written _ _ _ _ _ _ (decided_in c.decide-decided.result) c.finish-status.ensures.low c.finish-status.ensures.ends _ _ c.decide-decided.ensures.counts (IsFileWord (words_in c.args.words.now)) c.decide-decided.ensures.file
 
 pub returns-clause-complete : goal.returns-clause-complete
-returns-clause-complete g c = λ held told same which. run.complete _ _ _ _ _ _ (decided_in c.decide-decided.result) c.finish-status.ensures.low c.finish-status.ensures.ends (WhyAnswer (words_in c.args.words.now) held) (c.decide-decided.ensures.answer held told which) same
+returns-clause-complete g c = λ held reported same which. run.complete _ _ _ _ _ _ (decided_in c.decide-decided.result) c.finish-status.ensures.low c.finish-status.ensures.ends (WhyAnswer (words_in c.args.words.now) held) (c.decide-decided.ensures.answer held reported which) same
 
 pub returns-clause-exact : goal.returns-clause-exact
-returns-clause-exact g c = λ held told same which. run.exact _ _ _ _ _ _ (decided_in c.decide-decided.result) c.finish-status.ensures.low c.finish-status.ensures.ends (WhyAnswer (words_in c.args.words.now) held) (why_single (words_in c.args.words.now) held) (c.decide-decided.ensures.answer held told which) same
+returns-clause-exact g c = λ held reported same which. run.exact _ _ _ _ _ _ (decided_in c.decide-decided.result) c.finish-status.ensures.low c.finish-status.ensures.ends (WhyAnswer (words_in c.args.words.now) held) (why_single (words_in c.args.words.now) held) (c.decide-decided.ensures.answer held reported which) same
 
 pub returns-clause-cut : goal.returns-clause-cut
-returns-clause-cut g c = λ held told. run.cut _ _ _ _ _ _ (decided_in c.decide-decided.result) c.finish-status.ensures.low c.finish-status.ensures.ends _ _ c.decide-decided.ensures.counts (IsFileWord (words_in c.args.words.now)) c.decide-decided.ensures.file (WhyAnswer (words_in c.args.words.now) held) (g.F.Files.steady c.args.files.now) (c.decide-decided.ensures.answer held told)
+returns-clause-cut g c = λ held reported. run.cut _ _ _ _ _ _ (decided_in c.decide-decided.result) c.finish-status.ensures.low c.finish-status.ensures.ends _ _ c.decide-decided.ensures.counts (IsFileWord (words_in c.args.words.now)) c.decide-decided.ensures.file (WhyAnswer (words_in c.args.words.now) held) (g.F.Files.steady c.args.files.now) (c.decide-decided.ensures.answer held reported)
 
 pub returns-clause-neither : goal.returns-clause-neither
-returns-clause-neither g c = λ held told steady all. run.neither _ _ _ _ _ _ (decided_in c.decide-decided.result) c.finish-status.ensures.low c.finish-status.ensures.ends _ _ c.decide-decided.ensures.counts (IsFileWord (words_in c.args.words.now)) c.decide-decided.ensures.file (WhyAnswer (words_in c.args.words.now) held) held all (c.decide-decided.ensures.lacks held told steady) (c.decide-decided.ensures.answer held told (inr steady))
+returns-clause-neither g c = λ held reported steady all. run.neither _ _ _ _ _ _ (decided_in c.decide-decided.result) c.finish-status.ensures.low c.finish-status.ensures.ends _ _ c.decide-decided.ensures.counts (IsFileWord (words_in c.args.words.now)) c.decide-decided.ensures.file (WhyAnswer (words_in c.args.words.now) held) held all (c.decide-decided.ensures.lacks held reported steady) (c.decide-decided.ensures.answer held reported (inr steady))

@@ -18,11 +18,11 @@ query_names-requires c =
     subst (All AsksUnits) (sym c.deref.ensures.value) (λ i a inside. (apart i a inside).units)
 
 pub returns : goal.returns
-returns c = if_ok_then _ _ c.answer_replay.result c.answer_replay.ensures.replays (λ text told is plan are chooses asked.
+returns c = if_ok_then _ _ c.answer_replay.result c.answer_replay.ensures.replays (λ text reported is plan are chooses asked.
     let d = description c.args.desc.now in
     let es = c.args.events.now in
     let refused = c.args.walked.now.refused in
     let units = ap names_at c.deref-3.ensures.value ∙ (c.in_ok-units.ensures ∙ ap (λ xs. map ask_names (map automaton_of xs)) c.deref.ensures.value) in
     let trace = trace_is d c.args.parts.now is c.deref-2.result.now (names_at c.deref-3.result.now) (events_in es) (c.deref-2.ensures.value ∙ c.in_ok-classes.ensures) units c.requires.classes c.requires.asks in
-    told d is.known plan trace are chooses
+    reported d is.known plan trace are chooses
     (subst (λ (qs : List (List ℕ)). AreAsked (pipeline_with d is.known) qs [] (lines_in (taken refused es)) (events_in (taken refused es)) c.args.walked.now.asked.items) (queries_are d c.args.parts.now is) asked))

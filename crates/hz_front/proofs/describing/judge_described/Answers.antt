@@ -20,13 +20,13 @@ judge_said-requires-clause-strings c =
 
 pub returns-in-Ok-clause-ok : goal.returns-in-Ok-clause-ok
 returns-in-Ok-clause-ok c =
-    let told = subst (λ (fs : List Form). IfOk c.judge_said.result (λ checked. (d : Description) × Reads (trees fs) d × IsCheckedOf d checked)) c.deref.ensures.value c.judge_said.ensures.ok in
-    if_ok (λ checked (d, says, is). record { read = trees c.in-Ok.read.items; d = d; forms = c.in-Ok.ensures.ok; says = says; is = is }) c.judge_said.result told
+    let reported = subst (λ (fs : List Form). IfOk c.judge_said.result (λ checked. (d : Description) × Reads (trees fs) d × IsCheckedOf d checked)) c.deref.ensures.value c.judge_said.ensures.ok in
+    if_ok (λ checked (d, says, is). record { read = trees c.in-Ok.read.items; d = d; forms = c.in-Ok.ensures.ok; says = says; is = is }) c.judge_said.result reported
 
 pub returns-in-Ok-clause-err : goal.returns-in-Ok-clause-err
 returns-in-Ok-clause-err c =
-    let told = subst (λ (fs : List Form). IfErr c.judge_said.result (TellsSaid c.args.file.now (trees fs))) c.deref.ensures.value c.judge_said.ensures.err in
-    if_err (λ told h. inr (trees c.in-Ok.read.items, c.in-Ok.ensures.ok, h)) c.judge_said.result told
+    let reported = subst (λ (fs : List Form). IfErr c.judge_said.result (TellsSaid c.args.file.now (trees fs))) c.deref.ensures.value c.judge_said.ensures.err in
+    if_err (λ reported h. inr (trees c.in-Ok.read.items, c.in-Ok.ensures.ok, h)) c.judge_said.result reported
 
 pub returns-in-Err-clause-err : goal.returns-in-Err-clause-err
 returns-in-Err-clause-err c = inl c.in-Err.ensures.err

@@ -14,7 +14,7 @@ pub returns-in-Ok-clause-ok : goal.returns-in-Ok-clause-ok
 returns-in-Ok-clause-ok c = if_ok (λ checked is. (description c.in-Ok.described, c.in-Ok.ensures.ok, is)) c.judge_check.result c.judge_check.ensures.ok
 
 pub returns-in-Ok-clause-err : goal.returns-in-Ok-clause-err
-returns-in-Ok-clause-err c = if_err (λ told h. inr (description c.in-Ok.described, c.in-Ok.ensures.ok, h)) c.judge_check.result c.judge_check.ensures.err
+returns-in-Ok-clause-err c = if_err (λ reported h. inr (description c.in-Ok.described, c.in-Ok.ensures.ok, h)) c.judge_check.result c.judge_check.ensures.err
 
 pub returns-in-Err-clause-err : goal.returns-in-Err-clause-err
 returns-in-Err-clause-err c = inl c.in-Err.ensures.err

@@ -5,4 +5,4 @@ use Rattle.hz_front.proofs.judging.judge_description.Goals as goal
 
 pub returns-in-Err-clause-err : goal.returns-in-Err-clause-err
 returns-in-Err-clause-err c =
-    tells_description c.args.file (trees c.args.read.now) c.told.result c.at.result (fault_of c.in-Err.fault) _ c.refuse_fault.result c.told.ensures c.at.ensures c.in-Err.ensures.faults c.refuse_fault.ensures.value
+    tells_description c.args.file (trees c.args.read.now) c.reported.result c.at.result (fault_of c.in-Err.fault) _ c.refuse_fault.result c.reported.ensures c.at.ensures c.in-Err.ensures.faults c.refuse_fault.ensures.value

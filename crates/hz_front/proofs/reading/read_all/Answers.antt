@@ -13,10 +13,10 @@ returns-in-Err-clause-kind g c =
     (λ name same. subst (Contains (map (λ file. file.name) (wanted_in wanted))) (sym same) (named_at wanted c.loop-file.file-index _ (omega arith))) c.in-Err.refusal c.in-Err.ensures.kind
 
 pub returns-in-Err-clause-refused : goal.returns-in-Err-clause-refused
-returns-in-Err-clause-refused g c = λ held told known.
+returns-in-Err-clause-refused g c = λ held reported known.
     let before = c.loop-file.invariant in
-    refused_at held c.args.wanted.now c.loop-file.file-index _ (texts_in c.loop-file.texts.items) c.in-Err.refusal (omega arith) (before.read held told) c.in-Err.ensures.kind
-    (c.in-Err.ensures.tells held (before.kept ∙ told) (⊎_elim (λ same. inl (same ∙ sym before.same)) (λ steady. inr (before.still steady)) known))
+    refused_at held c.args.wanted.now c.loop-file.file-index _ (texts_in c.loop-file.texts.items) c.in-Err.refusal (omega arith) (before.read held reported) c.in-Err.ensures.kind
+    (c.in-Err.ensures.tells held (before.kept ∙ reported) (⊎_elim (λ same. inl (same ∙ sym before.same)) (λ steady. inr (before.still steady)) known))
 
 pub loop-file-preserved : goal.loop-file-preserved
 loop-file-preserved g c =
@@ -32,7 +32,7 @@ loop-file-preserved g c =
       same = c.in-Ok.ensures.counts ∙ before.same;
       kept = c.in-Ok.ensures.held ∙ before.kept;
       still = λ steady. c.in-Ok.ensures.steady (before.still steady);
-      read = λ held told. read_next held wanted c.loop-file.file-index _ c.loop-file.texts.items c.push.new.self.items text within items (before.read held told) (c.in-Ok.ensures.tells held (before.kept ∙ told) (inl c.in-Ok.ensures.counts)) (omega (arith, few, long));
+      read = λ held reported. read_next held wanted c.loop-file.file-index _ c.loop-file.texts.items c.push.new.self.items text within items (before.read held reported) (c.in-Ok.ensures.tells held (before.kept ∙ reported) (inl c.in-Ok.ensures.counts)) (omega (arith, few, long));
       long = omega (arith, before.long, ap length items, length-append c.loop-file.texts.items (text ∷ []), length-take c.loop-file.file-index wanted, length-take (c.loop-file.file-index + 1) wanted, within);
       short = subst (All (λ text. length text.items < 2 ^ 32)) (sym items) (All-push (λ text. length text.items < 2 ^ 32) c.loop-file.texts.items text before.short (omega (arith, few, long, most)));
     }

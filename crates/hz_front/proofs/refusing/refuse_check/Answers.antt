@@ -4,4 +4,4 @@ use Rattle.hz_front.proofs.refusing.refuse_check.Goals as goal
 
 pub returns-clause-answer : goal.returns-clause-answer
 returns-clause-answer c = λ d h.
-    tells_check c.args.file d c.told-told.result c.limit-limit.result c.into_name.result (fault_of c.args.fault) c.refuse_named.result c.told-told.ensures c.limit-limit.ensures c.into_name.ensures h c.refuse_named.ensures.value
+    tells_check c.args.file d c.reported-reported.result c.limit-limit.result c.into_name.result (fault_of c.args.fault) c.refuse_named.result c.reported-reported.ensures c.limit-limit.ensures c.into_name.ensures h c.refuse_named.ensures.value

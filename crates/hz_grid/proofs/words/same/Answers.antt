@@ -8,8 +8,8 @@ pub returns-then-word_at : goal.returns-then-word_at
 returns-then-word_at c = (
   λ t. absurd (false≢true t),
   λ e.
-      let told = words_same c.args.first.now c.args.second.now c.loop-place.place c.requires.first c.requires.second e in
-      absurd (c.if-word_at.true (c.word_at.ensures ∙ told ∙ sym c.word_at-in-loop-place.ensures)),
+      let reported = words_same c.args.first.now c.args.second.now c.loop-place.place c.requires.first c.requires.second e in
+      absurd (c.if-word_at.true (c.word_at.ensures ∙ reported ∙ sym c.word_at-in-loop-place.ensures)),
 )
 
 pub returns : goal.returns

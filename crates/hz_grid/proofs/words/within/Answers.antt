@@ -8,8 +8,8 @@ pub returns-then-first-place : goal.returns-then-first-place
 returns-then-first-place c = (
   λ t. absurd (false≢true t),
   λ is.
-      let told = or_from_within _ _ (words_within c.args.first.now c.args.second.now c.loop-place.place c.requires.first c.requires.second is) in
-      absurd (c.if-first-place.true (rw c.word_at-other.ensures told)),
+      let reported = or_from_within _ _ (words_within c.args.first.now c.args.second.now c.loop-place.place c.requires.first c.requires.second is) in
+      absurd (c.if-first-place.true (rw c.word_at-other.ensures reported)),
 )
 
 pub loop-place-preserved : goal.loop-place-preserved

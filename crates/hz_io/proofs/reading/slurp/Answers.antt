@@ -1,4 +1,4 @@
-use Rattle.hz_io.proofs.ReadLemmas.{tells_opened, lacks_untold}
+use Rattle.hz_io.proofs.ReadLemmas.{tells_opened, lacks_unreported}
 use Rattle.hz_io.proofs.reading.slurp.Goals as goal
 
 pub returns-clause-tells : goal.returns-clause-tells
@@ -7,4 +7,4 @@ returns-clause-tells g c =
 
 pub returns-clause-lacks : goal.returns-clause-lacks
 returns-clause-lacks g c =
-    λ steady. lacks_untold _ _ _ (rw (← c.in_ok-open.ensures.held) (c.read_to_end.ensures.fails (c.in_ok-open.ensures.steady steady)))
+    λ steady. lacks_unreported _ _ _ (rw (← c.in_ok-open.ensures.held) (c.read_to_end.ensures.fails (c.in_ok-open.ensures.steady steady)))

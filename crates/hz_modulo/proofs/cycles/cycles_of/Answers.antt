@@ -3,7 +3,7 @@ use Rattle.std.proofs.lemmas.List.{take_all, length-set}
 use Rattle.std.proofs.lemmas.List.Elements.{All-set}
 use Rattle.hz_sched.specs.declared.parts.Slot.{Slot}
 use Rattle.hz_sched.specs.Shape.{slots_of}
-use Rattle.hz_modulo.proofs.CycleLemmas.{no_slot, told_more}
+use Rattle.hz_modulo.proofs.CycleLemmas.{no_slot, reported_more}
 use Rattle.hz_modulo.proofs.cycles.cycles_of.Goals as goal
 
 pub loop-slot-preserved : goal.loop-slot-preserved
@@ -17,8 +17,8 @@ loop-slot-preserved c =
     record {
       size = length-set cycles s.place s.cycle ∙ c.loop-slot.invariant.size;
       small = All-set (λ (n : ℕ). n < 2 ^ 30) cycles s.place s.cycle (c.requires.small i no_slot inside) c.loop-slot.invariant.small;
-      told = told_more slots c.requires.once i inside cycles low c.loop-slot.invariant.told;
+      reported = reported_more slots c.requires.once i inside cycles low c.loop-slot.invariant.reported;
     }
 
-pub returns-clause-told : goal.returns-clause-told
-returns-clause-told c = λ x there. c.loop-slot.invariant.told x (subst (λ (xs : List Slot). Contains (slots_of xs) x) (sym (take_all c.loop-slot.slot-index c.args.slots.now (omega (arith, c.loop-slot-test.false)))) there)
+pub returns-clause-reported : goal.returns-clause-reported
+returns-clause-reported c = λ x there. c.loop-slot.invariant.reported x (subst (λ (xs : List Slot). Contains (slots_of xs) x) (sym (take_all c.loop-slot.slot-index c.args.slots.now (omega (arith, c.loop-slot-test.false)))) there)

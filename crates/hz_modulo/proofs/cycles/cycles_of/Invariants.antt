@@ -8,5 +8,5 @@ abbrev pub invariant-loop-slot : goal.invariant-loop-slot
 invariant-loop-slot l = record {
   size : length l.cycles.items ≡ l.size;
   small : All (λ c. c < 2 ^ 30) l.cycles.items;
-  told : (x : model.Slot) → Contains (slots_of (take l.slot-index l.slots)) x → slice_index l.cycles.items x.place ≡ x.cycle;
+  reported : (x : model.Slot) → Contains (slots_of (take l.slot-index l.slots)) x → slice_index l.cycles.items x.place ≡ x.cycle;
 }

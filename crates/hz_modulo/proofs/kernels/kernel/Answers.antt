@@ -51,21 +51,21 @@ first_with_room-requires-clause-some c =
     let are : c.in_ok-classes.classes.items ≡ map (λ i. i.class) c.args.graph.now.insns.items = c.in_ok-classes.ensures ∙ ap (map (λ (i : GraphInsn). i.class)) c.deref.ensures.value in
     let last = c.last_cycle-last.ensures in
     let size : length c.in_ok-cycles.cycles.items ≡ length c.args.graph.now.insns.items = c.in_ok-cycles.ensures.size ∙ (c.len.ensures ∙ c.args.graph.now.insns.ok.0) in
-    let told = subst (λ (xs : List Slot). (x : model.Slot) → Contains (slots_of xs) x → slice_index c.in_ok-cycles.cycles.items x.place ≡ x.cycle) c.deref-2.ensures.value c.in_ok-cycles.ensures.told in
+    let reported = subst (λ (xs : List Slot). (x : model.Slot) → Contains (slots_of xs) x → slice_index c.in_ok-cycles.cycles.items x.place ≡ x.cycle) c.deref-2.ensures.value c.in_ok-cycles.ensures.reported in
     let first : c.first_interval-first.result ≡ first_interval (length c.in_ok-cycles.cycles.items) (slice_index c.in_ok-cycles.cycles.items) c.last_cycle-last.result (map edge_of c.in_ok-edges.edges.items) =
     c.first_interval-first.ensures ∙ (λ i. first_interval (length (c.deref-3.ensures.value i)) (slice_index (c.deref-3.ensures.value i)) c.last_cycle-last.result (map edge_of (c.deref-4.ensures.value i))) in
-    first_some c.args.machine.now c.args.checked.now c.args.block.now c.args.graph.now c.args.schedule.now.slots.items c.requires.graph c.requires.legal c.requires.settles c.requires.schedulable c.in_ok-edges.edges.items c.in_ok-edges.ensures c.in_ok-classes.classes.items are c.in_ok-cycles.cycles.items size told c.last_cycle-last.result c.first_interval-first.result last first
+    first_some c.args.machine.now c.args.checked.now c.args.block.now c.args.graph.now c.args.schedule.now.slots.items c.requires.graph c.requires.legal c.requires.settles c.requires.schedulable c.in_ok-edges.edges.items c.in_ok-edges.ensures c.in_ok-classes.classes.items are c.in_ok-cycles.cycles.items size reported c.last_cycle-last.result c.first_interval-first.result last first
 
 pub first_with_room-requires-clause-few : goal.first_with_room-requires-clause-few
 first_with_room-requires-clause-few c =
     let are : c.in_ok-classes.classes.items ≡ map (λ i. i.class) c.args.graph.now.insns.items = c.in_ok-classes.ensures ∙ ap (map (λ (i : GraphInsn). i.class)) c.deref.ensures.value in
     let last = c.last_cycle-last.ensures in
     let size : length c.in_ok-cycles.cycles.items ≡ length c.args.graph.now.insns.items = c.in_ok-cycles.ensures.size ∙ (c.len.ensures ∙ c.args.graph.now.insns.ok.0) in
-    let told = subst (λ (xs : List Slot). (x : model.Slot) → Contains (slots_of xs) x → slice_index c.in_ok-cycles.cycles.items x.place ≡ x.cycle) c.deref-2.ensures.value c.in_ok-cycles.ensures.told in
+    let reported = subst (λ (xs : List Slot). (x : model.Slot) → Contains (slots_of xs) x → slice_index c.in_ok-cycles.cycles.items x.place ≡ x.cycle) c.deref-2.ensures.value c.in_ok-cycles.ensures.reported in
     let first : c.first_interval-first.result ≡ first_interval (length c.in_ok-cycles.cycles.items) (slice_index c.in_ok-cycles.cycles.items) c.last_cycle-last.result (map edge_of c.in_ok-edges.edges.items) =
     c.first_interval-first.ensures ∙ (λ i. first_interval (length (c.deref-3.ensures.value i)) (slice_index (c.deref-3.ensures.value i)) c.last_cycle-last.result (map edge_of (c.deref-4.ensures.value i))) in
     subst (λ (xs : List Slot). (interval : ℕ) → c.first_interval-first.result ≤ interval → stages interval (slots_of xs) ≤ stage_limit) (sym c.deref-6.ensures.value)
-    (few_from c.args.machine.now c.args.checked.now c.args.block.now c.args.graph.now c.args.schedule.now.slots.items c.requires.graph c.requires.legal c.requires.settles c.requires.schedulable c.in_ok-edges.edges.items c.in_ok-edges.ensures c.in_ok-classes.classes.items are c.in_ok-cycles.cycles.items size told c.last_cycle-last.result c.first_interval-first.result last first)
+    (few_from c.args.machine.now c.args.checked.now c.args.block.now c.args.graph.now c.args.schedule.now.slots.items c.requires.graph c.requires.legal c.requires.settles c.requires.schedulable c.in_ok-edges.edges.items c.in_ok-edges.ensures c.in_ok-classes.classes.items are c.in_ok-cycles.cycles.items size reported c.last_cycle-last.result c.first_interval-first.result last first)
 
 pub cycles_of-requires-clause-places : goal.cycles_of-requires-clause-places
 cycles_of-requires-clause-places c =
@@ -109,10 +109,10 @@ first_with_room-requires-clause-near c =
     let are : c.in_ok-classes.classes.items ≡ map (λ i. i.class) c.args.graph.now.insns.items = c.in_ok-classes.ensures ∙ ap (map (λ (i : GraphInsn). i.class)) c.deref.ensures.value in
     let last = c.last_cycle-last.ensures in
     let size : length c.in_ok-cycles.cycles.items ≡ length c.args.graph.now.insns.items = c.in_ok-cycles.ensures.size ∙ (c.len.ensures ∙ c.args.graph.now.insns.ok.0) in
-    let told = subst (λ (xs : List Slot). (x : model.Slot) → Contains (slots_of xs) x → slice_index c.in_ok-cycles.cycles.items x.place ≡ x.cycle) c.deref-2.ensures.value c.in_ok-cycles.ensures.told in
+    let reported = subst (λ (xs : List Slot). (x : model.Slot) → Contains (slots_of xs) x → slice_index c.in_ok-cycles.cycles.items x.place ≡ x.cycle) c.deref-2.ensures.value c.in_ok-cycles.ensures.reported in
     let first : c.first_interval-first.result ≡ first_interval (length c.in_ok-cycles.cycles.items) (slice_index c.in_ok-cycles.cycles.items) c.last_cycle-last.result (map edge_of c.in_ok-edges.edges.items) =
     c.first_interval-first.ensures ∙ (λ i. first_interval (length (c.deref-3.ensures.value i)) (slice_index (c.deref-3.ensures.value i)) c.last_cycle-last.result (map edge_of (c.deref-4.ensures.value i))) in
-    first_near c.args.machine.now c.args.checked.now c.args.block.now c.args.graph.now c.args.schedule.now.slots.items c.requires.graph c.requires.legal c.requires.settles c.requires.schedulable c.in_ok-edges.edges.items c.in_ok-edges.ensures c.in_ok-classes.classes.items are c.in_ok-cycles.cycles.items size told c.last_cycle-last.result c.first_interval-first.result last first
+    first_near c.args.machine.now c.args.checked.now c.args.block.now c.args.graph.now c.args.schedule.now.slots.items c.requires.graph c.requires.legal c.requires.settles c.requires.schedulable c.in_ok-edges.edges.items c.in_ok-edges.ensures c.in_ok-classes.classes.items are c.in_ok-cycles.cycles.items size reported c.last_cycle-last.result c.first_interval-first.result last first
 
 pub first_with_room-requires-clause-long : goal.first_with_room-requires-clause-long
 first_with_room-requires-clause-long c =
@@ -134,10 +134,10 @@ returns-clause-kernel c =
     let are : c.in_ok-classes.classes.items ≡ map (λ i. i.class) c.args.graph.now.insns.items = c.in_ok-classes.ensures ∙ ap (map (λ (i : GraphInsn). i.class)) c.deref.ensures.value in
     let last = c.last_cycle-last.ensures in
     let size : length c.in_ok-cycles.cycles.items ≡ length c.args.graph.now.insns.items = c.in_ok-cycles.ensures.size ∙ (c.len.ensures ∙ c.args.graph.now.insns.ok.0) in
-    let told = subst (λ (xs : List Slot). (x : model.Slot) → Contains (slots_of xs) x → slice_index c.in_ok-cycles.cycles.items x.place ≡ x.cycle) c.deref-2.ensures.value c.in_ok-cycles.ensures.told in
+    let reported = subst (λ (xs : List Slot). (x : model.Slot) → Contains (slots_of xs) x → slice_index c.in_ok-cycles.cycles.items x.place ≡ x.cycle) c.deref-2.ensures.value c.in_ok-cycles.ensures.reported in
     let first : c.first_interval-first.result ≡ first_interval (length c.in_ok-cycles.cycles.items) (slice_index c.in_ok-cycles.cycles.items) c.last_cycle-last.result (map edge_of c.in_ok-edges.edges.items) =
     c.first_interval-first.ensures ∙ (λ i. first_interval (length (c.deref-3.ensures.value i)) (slice_index (c.deref-3.ensures.value i)) c.last_cycle-last.result (map edge_of (c.deref-4.ensures.value i))) in
-    ok_weaker _ _ c.first_with_room.result (λ k x. kernel_is c.args.machine.now c.args.checked.now c.args.block.now c.args.graph.now c.args.schedule.now.slots.items c.requires.graph c.requires.legal c.requires.settles c.requires.schedulable c.in_ok-edges.edges.items c.in_ok-edges.ensures c.in_ok-classes.classes.items are c.in_ok-cycles.cycles.items size told c.last_cycle-last.result c.first_interval-first.result last first k
+    ok_weaker _ _ c.first_with_room.result (λ k x. kernel_is c.args.machine.now c.args.checked.now c.args.block.now c.args.graph.now c.args.schedule.now.slots.items c.requires.graph c.requires.legal c.requires.settles c.requires.schedulable c.in_ok-edges.edges.items c.in_ok-edges.ensures c.in_ok-classes.classes.items are c.in_ok-cycles.cycles.items size reported c.last_cycle-last.result c.first_interval-first.result last first k
     (subst (λ (ks : List ℕ). IsRoomyFrom (machine_of c.args.machine.now) ks (slots_of c.args.schedule.now.slots.items) c.first_interval-first.result k) c.deref-5.ensures.value
     (subst (λ (xs : List Slot). IsRoomyFrom (machine_of c.args.machine.now) c.deref-5.result.now (slots_of xs) c.first_interval-first.result k) c.deref-6.ensures.value x)))
     c.first_with_room.ensures.first

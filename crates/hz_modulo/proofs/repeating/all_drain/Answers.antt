@@ -6,7 +6,7 @@ use Rattle.hz_measure_model.specs.Kernels.Kernels.{interval_trace}
 use Rattle.hz_modulo.specs.Walking.{kernel_slot_of, graph_of, drained_from}
 use Rattle.hz_modulo.specs.Repeating.{edge_by, drain_by}
 use Rattle.hz_modulo.proofs.AdvanceLemmas.{starts_are}
-use Rattle.hz_modulo.proofs.WalkingLemmas.{stands_behind}
+use Rattle.hz_modulo.proofs.WalkingLemmas.{stands_after}
 use Rattle.hz_modulo.proofs.DrainLemmas.{drained_here, undrained_here, undrained_next, not_some, up_to, on_true, on_false}
 use Rattle.hz_modulo.proofs.repeating.all_drain.Goals as goal
 
@@ -36,7 +36,7 @@ loop-turn-preserved g c =
     let edge_next : edge (suc turn) ≡ Some next = ap (option_and_then (λ states. parts_walk m.parts states (interval_trace gr c.args.interval 0 turn kernel))) c.loop-turn.invariant.here ∙ taken in
     record {
       machine = c.walk_interval.ensures.machine ∙ c.loop-turn.invariant.machine;
-      stands = stands_behind m.parts states next (interval_trace gr c.args.interval 0 turn kernel) taken;
+      stands = stands_after m.parts states next (interval_trace gr c.args.interval 0 turn kernel) taken;
       here = ap edge more ∙ edge_next;
       fewer = up_to (drain_by m gr c.args.interval kernel c.args.stages) turn c.loop-turn.invariant.fewer (drained_here m gr c.args.interval kernel c.args.stages turn states c.loop-turn.invariant.here drained);
     }

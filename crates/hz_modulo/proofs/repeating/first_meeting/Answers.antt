@@ -6,7 +6,7 @@ use Rattle.hz_measure_model.specs.Kernels.Kernels.{interval_trace}
 use Rattle.hz_modulo.specs.Walking.{kernel_slot_of, graph_of}
 use Rattle.hz_modulo.specs.Repeating.{edge_by, lists_in}
 use Rattle.hz_modulo.proofs.AdvanceLemmas.{starts_are}
-use Rattle.hz_modulo.proofs.WalkingLemmas.{stands_behind}
+use Rattle.hz_modulo.proofs.WalkingLemmas.{stands_after}
 use Rattle.hz_modulo.proofs.ScanLemmas.{IsScanned, scan_start, scan_next, scan_stops}
 use Rattle.hz_modulo.proofs.HeldLemmas.{if_none, is_new, kept_more}
 use Rattle.hz_modulo.proofs.repeating.first_meeting.Goals as goal
@@ -61,7 +61,7 @@ loop-turn-preserved g c =
     let edge_next : edge (suc turn) ≡ Some next = ap (option_and_then (λ states. parts_walk m.parts states (interval_trace gr c.args.interval 0 turn kernel))) c.loop-turn.invariant.here ∙ taken in
     record {
       machine = c.walk_interval.ensures.machine ∙ c.loop-turn.invariant.machine;
-      stands = stands_behind m.parts states next (interval_trace gr c.args.interval 0 turn kernel) taken;
+      stands = stands_after m.parts states next (interval_trace gr c.args.interval 0 turn kernel) taken;
       here = ap edge more ∙ edge_next;
       scanned = subst (λ (n : ℕ). IsScanned edge drain c.args.stages n) (sym more) (scan_next edge drain c.args.stages turn c.loop-turn.invariant.scanned refl
           (is_new edge c.args.stages turn states c.loop-turn.invariant.here (lists_in c.loop-turn.held.items) c.loop-turn.invariant.kept (λ i lt e. none i lt (e ∙ sym c.states.ensures)))

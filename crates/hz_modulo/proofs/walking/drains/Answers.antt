@@ -3,7 +3,7 @@ use Rattle.std.proofs.lemmas.Bool.{OnTrue_at, OnFalse_at}
 use Rattle.hz_pipeline_model.specs.Tables.Machines.{Machine, parts_walk}
 use Rattle.hz_measure_model.specs.Kernels.Kernels.{interval_trace}
 use Rattle.hz_modulo.specs.Walking.{kernel_slot_of, graph_of}
-use Rattle.hz_modulo.proofs.WalkingLemmas.{stands_behind, drained_more, none_at_end}
+use Rattle.hz_modulo.proofs.WalkingLemmas.{stands_after, drained_more, none_at_end}
 use Rattle.hz_modulo.proofs.walking.drains.Goals as goal
 
 pub returns-then-not-walk_interval-clause-stuck : goal.returns-then-not-walk_interval-clause-stuck
@@ -28,6 +28,6 @@ loop-back-preserved g c =
     let taken = subst (λ (n : Machine). parts_walk n.parts c.loop-back.drain.states (interval_trace gr c.args.interval (i + 1) (c.args.turn + i) kernel) ≡ Some c.walk_interval.new.walker.states) c.loop-back.invariant.machine (OnTrue_at c.if-not-walk_interval.false c.walk_interval.ensures.taken) in
     record {
       machine = c.walk_interval.ensures.machine ∙ c.loop-back.invariant.machine;
-      stands = stands_behind m.parts c.loop-back.drain.states next (interval_trace gr c.args.interval (i + 1) (c.args.turn + i) kernel) taken;
+      stands = stands_after m.parts c.loop-back.drain.states next (interval_trace gr c.args.interval (i + 1) (c.args.turn + i) kernel) taken;
       walked = drained_more m gr c.args.interval kernel c.args.turn from i c.loop-back.drain.states (Some next) c.loop-back.invariant.walked taken;
     }

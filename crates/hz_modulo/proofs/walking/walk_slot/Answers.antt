@@ -1,11 +1,11 @@
 use Rattle.std.proofs.Common.{Some, None, sym, ◌∙◌}
 use Rattle.std.proofs.lemmas.Bool.{OnTrue_at, OnFalse_at}
 use Rattle.hz_modulo.specs.Walking.{graph_of}
-use Rattle.hz_modulo.proofs.WalkingLemmas.{stands_behind, rest_issued, class_issued}
+use Rattle.hz_modulo.proofs.WalkingLemmas.{stands_after, rest_issued, class_issued}
 use Rattle.hz_modulo.proofs.walking.walk_slot.Goals as goal
 
 pub returns-then-issue_at-clause-stands : goal.returns-then-issue_at-clause-stands
-returns-then-issue_at-clause-stands g c = λ _. stands_behind _ _ _ _ (OnTrue_at c.if-issue_at.true c.issue_at.ensures.taken)
+returns-then-issue_at-clause-stands g c = λ _. stands_after _ _ _ _ (OnTrue_at c.if-issue_at.true c.issue_at.ensures.taken)
 
 pub returns-then-issue_at-clause-walked : goal.returns-then-issue_at-clause-walked
 returns-then-issue_at-clause-walked g c = λ interval kernel.

@@ -9,7 +9,7 @@ use Rattle.hz_replay.specs.Lines.{event_of}
 use Rattle.hz_replay.specs.Traces.{events_in, lines_in}
 use Rattle.hz_replay.specs.declared.event.Event.{Event}
 use Rattle.hz_replay.proofs.EventLemmas.{nothing_walked}
-use Rattle.hz_replay.proofs.DrillLemmas.{turn_behind, walked_behind, events_push, lines_push, places_push}
+use Rattle.hz_replay.proofs.DrillLemmas.{turn_after, walked_after, events_push, lines_push, places_push}
 use Rattle.hz_replay.proofs.drilling.drill_from.Goals as goal
 
 pub loop-turn-init : goal.loop-turn-init
@@ -41,13 +41,13 @@ loop-turn-preserved g c =
     let pushed = c.in_ok-push.ensures.items in
     let number : c.next_number-present.result ≡ next_number (number_after c.args.number i) = c.next_number-present.ensures ∙ ap next_number before.number in
     let drawn : c.draw.result ≡ draw c.args.classes (next_number (number_after c.args.number i)) = c.draw.ensures.drawn ∙ ap (draw c.args.classes) number in
-    let turn = subst (λ (o : Option ℕ). IsTurn (WalksFrom start) t o e) drawn (turn_behind start now t before.machine before.walked c.draw.result e c.take_turn-what.ensures.turn) in
+    let turn = subst (λ (o : Option ℕ). IsTurn (WalksFrom start) t o e) drawn (turn_after start now t before.machine before.walked c.draw.result e c.take_turn-what.ensures.turn) in
     let events : events_in c.push.new.self.items ≡ t ++ e ∷ [] = ap events_in pushed ∙ events_push c.loop-turn.events.items _ in
     record {
       machine = c.take_turn-what.ensures.machine ∙ before.machine;
       number = number ∙ sym (number_more c.args.number i);
       drawn = subst (λ (es : List model.Event). Drawn (WalksFrom start) c.args.classes c.args.number (i + 1) es) (sym events) (draws_more (WalksFrom start) c.args.classes [] c.args.number i t e before.drawn turn);
-      walked = ap (parts_walk start.machine.parts start.states) events ∙ walked_behind start now t before.machine before.walked e c.take_turn-what.new.replayer.states c.take_turn-what.ensures.moved;
+      walked = ap (parts_walk start.machine.parts start.states) events ∙ walked_after start now t before.machine before.walked e c.take_turn-what.new.replayer.states c.take_turn-what.ensures.moved;
       lines = ap lines_in pushed ∙ (lines_push c.loop-turn.events.items _ ∙ (ap (λ (ks : List ℕ). ks ++ (i + 1) ∷ []) before.lines ∙ sym (places_push i (i + 1) refl)));
       many = omega (arith, c.in_ok-push.ensures.len, before.many);
       room = omega (arith, c.in_ok-push.ensures.capacity, before.room);

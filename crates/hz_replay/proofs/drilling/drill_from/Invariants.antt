@@ -7,7 +7,7 @@ use Rattle.hz_replay.specs.Drilling.{WalksFrom}
 use Rattle.hz_replay.specs.Traces.{events_in, lines_in}
 use Rattle.hz_replay.proofs.drilling.drill_from.Given as goal
 
--- the turns so far are drawn, and the replayer stands behind them
+-- the turns so far are drawn, and the replayer comes after them
 abbrev pub invariant-loop-turn : goal.invariant-loop-turn
 invariant-loop-turn g l = record {
   machine : l.replayer.machine ≡ l.fn.replayer.machine;

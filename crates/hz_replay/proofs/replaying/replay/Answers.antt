@@ -47,7 +47,7 @@ play-requires-clause-each g c =
     machine_walk-each m (events_in (take c.loop-place.place c.args.events.now)) c.loop-place.replayer.states c.loop-place.invariant.walked
     ∙ ap (λ (x : Machine). length x.parts) (sym c.loop-place.invariant.machine)
 
--- the steps behind one more event
+-- the steps after one more event
 stepped : (m : Machine) (parts : ℕ) (es : List Event) (i issues cycles from now next : ℕ) → length m.parts ≡ parts → i < length es
     → issues ≡ issues_of (events_in (take i es)) → cycles ≡ cycles_of (events_in (take i es)) → now ≤ from + 4 * parts * (issues + cycles)
     → next ≤ now + 4 * length m.parts * (issues_in (event_at es i) + cycles_of_one (event_at es i))

@@ -8,7 +8,7 @@ use Rattle.hz_replay.proofs.trace.read_events.Given as goal
 -- the events so far, with those of the rest, are those of the text
 abbrev pub invariant-loop-at : goal.invariant-loop-at
 invariant-loop-at l = record {
-  told : trace_from l.names (placed_in l.events.items) l.advanced (l.number + 1) (lines_of (drop l.at l.text)) ≡ trace_from l.names [] 0 1 (lines_of l.text);
+  reported : trace_from l.names (placed_in l.events.items) l.advanced (l.number + 1) (lines_of (drop l.at l.text)) ≡ trace_from l.names [] 0 1 (lines_of l.text);
   source : l.reading ≡ record { names = l.names; text = l.text };
   low : l.advanced ≤ advance_limit;
   counted : l.number ≤ l.at;

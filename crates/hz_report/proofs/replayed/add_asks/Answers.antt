@@ -4,7 +4,7 @@ use Rattle.hz_pipeline_model.specs.Tables.MachineNames.{names_of_machine}
 use Rattle.hz_pipeline_model.specs.Tables.Machines.{starts_of}
 use Rattle.hz_io.specs.Pages.{Added, Stopped}
 use Rattle.hz_io.proofs.Adding.{added_then, added_then_stopped, stopped_before}
-use Rattle.hz_report.proofs.BehindLemmas.{later}
+use Rattle.hz_report.proofs.AfterLemmas.{later}
 use Rattle.hz_report.proofs.ReplayLemmas.{asks_after, asks_more, asks_parts, event_at}
 use Rattle.hz_report.specs.Replays.{no_event}
 use Rattle.hz_tables.specs.Machines.{machine_of}
@@ -28,5 +28,5 @@ loop-place-preserved g c =
     let i = c.loop-place.place in
     record {
       added = subst (λ (bytes : List ℕ). Added g.S.Sink.written g.S.Sink.room g.S.Sink.faults c.args.out.now c.add_event.new.out c.args.page.now.items c.add_event.new.page.items bytes) (sym (asks_more m (starts_of m) events i no_event (c.loop-place-test.true))) (added_then c.loop-place.invariant.added c.in-Ok.ensures.added);
-      behind = later m events i c.add_event.new.parts c.add_event.ensures.behind;
+      beyond = later m events i c.add_event.new.parts c.add_event.ensures.beyond;
     }

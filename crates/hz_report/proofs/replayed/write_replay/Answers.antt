@@ -7,7 +7,7 @@ use Rattle.hz_io.specs.Sink.{Cut, Wrote}
 use Rattle.hz_io.proofs.Writing.{cut_before, writes_then}
 use Rattle.hz_replay.specs.Traces.{events_in}
 use Rattle.hz_replay.specs.declared.event.Event.{Event}
-use Rattle.hz_report.proofs.BehindLemmas.{taken_walked, walked_to}
+use Rattle.hz_report.proofs.AfterLemmas.{taken_walked, walked_to}
 use Rattle.hz_report.proofs.ReplayLemmas.{all_taken, asks_first}
 use Rattle.hz_report.specs.Replays.{asks_from, end_line, taken}
 use Rattle.hz_tables.specs.Machines.{machine_of}

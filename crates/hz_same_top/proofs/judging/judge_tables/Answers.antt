@@ -5,4 +5,4 @@ use Rattle.hz_tabtext_model.specs.Judging.{tables_word}
 use Rattle.hz_same_top.proofs.judging.judge_tables.Goals as goal
 
 pub returns-in-Err-clause-err : goal.returns-in-Err-clause-err
-returns-in-Err-clause-err c = tells_fault tables_word (TablesFaultAt c.args.text.now) c.args.file c.told.result (fault_of c.in-Err.fault) c.refuse_fault.result c.told.ensures c.in-Err.ensures.exact c.refuse_fault.ensures.value
+returns-in-Err-clause-err c = tells_fault tables_word (TablesFaultAt c.args.text.now) c.args.file c.reported.result (fault_of c.in-Err.fault) c.refuse_fault.result c.reported.ensures c.in-Err.ensures.exact c.refuse_fault.ensures.value

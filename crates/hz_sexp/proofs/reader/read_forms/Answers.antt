@@ -31,4 +31,4 @@ loop-b-preserved c = front_skip _ _ c.loop-b.invariant (rw c.in_default-token.is
 pub returns-clause-faults : goal.returns-clause-faults
 returns-clause-faults c = let end = rw c.in_default.ensures at c.loop-b.invariant in
     IfErr-weaker c.finish.result (Tells (IsOpen c.loop-b.reader)) (Tells (FaultAt c.args.bytes.now))
-    (λ e told. front_wrong c.loop-b.reader end e (open_at_end c.loop-b.reader c.loop-b.place.line e told)) c.finish.ensures.err
+    (λ e reported. front_wrong c.loop-b.reader end e (open_at_end c.loop-b.reader c.loop-b.place.line e reported)) c.finish.ensures.err

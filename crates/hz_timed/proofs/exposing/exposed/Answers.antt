@@ -22,9 +22,9 @@ returns-clause-timed c =
     let start = words c.args.state.now in
     let slots = c.args.schedule.now.slots.items in
     let ran = c.in_ok-ran.ran in
-    let told : notes_in ran.written ≡ notes_of (lefts_of block number start [] (slots_of slots)) = c.in_ok-ran.ensures.written ∙ ap (λ (xs : List Slot). notes_of (lefts_of block number start [] (slots_of xs))) c.deref.ensures.value in
+    let reported : notes_in ran.written ≡ notes_of (lefts_of block number start [] (slots_of slots)) = c.in_ok-ran.ensures.written ∙ ap (λ (xs : List Slot). notes_of (lefts_of block number start [] (slots_of xs))) c.deref.ensures.value in
     exposed_is block number start (slots_of slots) ran.written.writes.items (words c.in_ok-state_after.field-0) (map read_of ran.reads.items)
-    (c.in_ok-state_after.ensures ∙ ap (λ (ws : List Write). states.all_stored start (map stored_by ws)) c.deref-2.ensures.value) told
+    (c.in_ok-state_after.ensures ∙ ap (λ (ws : List Write). states.all_stored start (map stored_by ws)) c.deref-2.ensures.value) reported
     (c.in_ok-ran.ensures.reads ∙ ap (λ (xs : List Slot). (model.exposed block number start (slots_of xs)).reads) c.deref.ensures.value)
 
 pub returns-clause-range : goal.returns-clause-range

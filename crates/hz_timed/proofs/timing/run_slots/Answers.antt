@@ -27,6 +27,6 @@ loop-number-preserved c =
       c.in_ok-time_slot.ensures.indexed,
       c.in_ok-time_slot.ensures.places,
       timed_more block (number_by c.args.waits.now) (words c.args.start.now) (slots_of slots) c.loop-number.written c.time_slot.new.written (map read_of c.loop-number.reads.items) (map read_of c.time_slot.new.reads.items) n (slot_of x) inside same c.loop-number.invariant.2
-          (λ lefts told. c.in_ok-time_slot.ensures.reads lefts told)
-          (λ lefts told. c.in_ok-time_slot.ensures.noted lefts told),
+          (λ lefts reported. c.in_ok-time_slot.ensures.reads lefts reported)
+          (λ lefts reported. c.in_ok-time_slot.ensures.noted lefts reported),
     )

@@ -1,5 +1,5 @@
 use Rattle.std.proofs.Common.{◌≡◌, ◌/◌, length, rules, arith, IsTrue, sym, ap, ◌∙◌, take, drop}
-use Rattle.hz_altern.specs.Extents.{told}
+use Rattle.hz_altern.specs.Extents.{reported}
 use Rattle.hz_altern.specs.Joinings.{joined_parts}
 use Rattle.hz_description_model.specs.Reservations.AlternativeLists.{Extent, extent_of}
 use Rattle.hz_description_model.specs.Reservations.Expressions.{are_expressions}
@@ -22,21 +22,21 @@ measured-returns g t c = λ known right.
     extent_of_both c.match-expr.result extent result ∙ says_same held _ e extent is says known right in
     elim c.match-expr.branch [
       | measured-in-Named+in-Some w ↦
-          says_all (named w.in-Named.name) (told w.in-Some.extent) (ap expression w.in-Named.is ∙ named_is w.in-Named.name) w.result-is
-          (says_named held w.in-Named.name (told w.in-Some.extent) (sym w.extent.ensures ∙ ap (option_map told) w.in-Some.is))
+          says_all (named w.in-Named.name) (reported w.in-Some.extent) (ap expression w.in-Named.is ∙ named_is w.in-Named.name) w.result-is
+          (says_named held w.in-Named.name (reported w.in-Some.extent) (sym w.extent.ensures ∙ ap (option_map reported) w.in-Some.is))
       | measured-in-Nothing w ↦ says_all nothing (record { count = 1; longest = 1 }) (ap expression w.in-Nothing.is ∙ nothing_is) w.result-is (says_nothing held)
       | measured-in-Seq w ↦
-          says_all (sequence (parts_of (expressions w.in-Seq.parts.items))) (told w.measured_parts.result) (ap expression w.in-Seq.is ∙ seq_is w.in-Seq.parts) w.result-is
+          says_all (sequence (parts_of (expressions w.in-Seq.parts.items))) (reported w.measured_parts.result) (ap expression w.in-Seq.is ∙ seq_is w.in-Seq.parts) w.result-is
           (λ k r. (rw w.deref.ensures.value at w.measured_parts.ensures) k (record { each = r.each; some = r.some }))
       | measured-in-Oneof w ↦
-          says_all (one_of (parts_of (expressions w.in-Oneof.parts.items))) (told w.measured_parts-in-Oneof.result) (ap expression w.in-Oneof.is ∙ oneof_is w.in-Oneof.parts) w.result-is
+          says_all (one_of (parts_of (expressions w.in-Oneof.parts.items))) (reported w.measured_parts-in-Oneof.result) (ap expression w.in-Oneof.is ∙ oneof_is w.in-Oneof.parts) w.result-is
           (λ k r. (rw w.deref-in-Oneof.ensures.value at w.measured_parts-in-Oneof.ensures) k (record { each = r.each; some = r.some }))
       | measured-in-Allof w ↦
-          says_all (all_of (parts_of (expressions w.in-Allof.parts.items))) (told w.measured_parts-in-Allof.result) (ap expression w.in-Allof.is ∙ allof_is w.in-Allof.parts) w.result-is
+          says_all (all_of (parts_of (expressions w.in-Allof.parts.items))) (reported w.measured_parts-in-Allof.result) (ap expression w.in-Allof.is ∙ allof_is w.in-Allof.parts) w.result-is
           (λ k r. (rw w.deref-in-Allof.ensures.value at w.measured_parts-in-Allof.ensures) k (record { each = r.each; some = r.some }))
       | measured-in-Repeat w ↦
           let is = ap expression w.in-Repeat.is ∙ repeat_is w.in-Repeat.part w.in-Repeat.times in
-          says_all (repeat (expression w.in-Repeat.part.value) w.in-Repeat.times) (told w.repeated.result) is w.result-is
+          says_all (repeat (expression w.in-Repeat.part.value) w.in-Repeat.times) (reported w.repeated.result) is w.result-is
           (λ k r. w.repeated.ensures ∙ says_repeat held _ _ _ (rw is at c.requires.formed) (rw w.deref-in-Repeat.ensures at w.measured.ensures) k r)
     ]
 
@@ -75,6 +75,6 @@ measured_parts-returns g t c = λ known right.
     let parts = c.args.parts.now in
     let middle = length parts / 2 in
     let held = g.T.Held.held c.args.table.now in
-    let front : Measures c.args.mark held (take middle parts) (told c.measured_parts.result) = rw (← c.split_at.ensures.front) c.measured_parts.ensures in
-    let back : Measures c.args.mark held (drop middle parts) (told c.measured_parts-2.result) = rw (← c.split_at.ensures.back) c.measured_parts-2.ensures in
+    let front : Measures c.args.mark held (take middle parts) (reported c.measured_parts.result) = rw (← c.split_at.ensures.front) c.measured_parts.ensures in
+    let back : Measures c.args.mark held (drop middle parts) (reported c.measured_parts-2.result) = rw (← c.split_at.ensures.back) c.measured_parts-2.ensures in
     c.joined.ensures ∙ extent-halves c.args.mark held middle parts (omega arith) (omega arith) c.requires.formed _ _ front back known right

@@ -17,7 +17,7 @@ use Rattle.hz_altern.proofs.HalfLemmas.{halved, single, repeated}
 use Rattle.hz_altern.proofs.KnownLemmas.{named_listed, placed_of, all_listed}
 use Rattle.hz_altern.proofs.Nodes.{nodes, nodes_of_repeat}
 use Rattle.hz_altern.proofs.Shapes.{named_is, repeat_is}
-use Rattle.hz_altern.proofs.SingleLemmas.{one_told, tell_at, tell_halves, tell_length}
+use Rattle.hz_altern.proofs.SingleLemmas.{one_reported, tell_at, tell_halves, tell_length}
 use Rattle.hz_altern.specs.Singles.{TellsSingles, TellSingles}
 use Rattle.hz_description_model.specs.Reservations.Alternatives.{Alternative, Expression, named, repeat, alternatives_of, parts_of}
 use Rattle.hz_description_model.specs.Reservations.AlternativeLists.{greatest_length}
@@ -33,7 +33,7 @@ listing_parts-listing-requires t c =
     let named = one.named in
     let short = one.short in
     let counted = one.counted in
-    let told = tell_at (known_alternatives c.args.known.now) c.args.parts.now c.args.singles.now 0 c.index-parts-0.result c.index-singles-0.result c.requires.some c.index-parts-0.is c.index-singles-0.is c.requires.told in
+    let reported = tell_at (known_alternatives c.args.known.now) c.args.parts.now c.args.singles.now 0 c.index-parts-0.result c.index-singles-0.result c.requires.some c.index-parts-0.is c.index-singles-0.is c.requires.reported in
     search rules
 
 pub listing_parts-returns-then-middle-eq0-clause-ok : goal.listing_parts-returns-then-middle-eq0-clause-ok
@@ -54,8 +54,8 @@ listing_parts-listing_parts-requires t c =
     let formed = half.formed_front in
     let named = half.named_front in
     let short = half.short_front in
-    let told : TellSingles (known_alternatives c.args.known.now) (parts_of (expressions c.split_at.result.0.now)) c.split_at-2.result.0.now =
-    rw (c.split_at.ensures.front, c.split_at-2.ensures.front) (tell_halves (known_alternatives c.args.known.now) (length c.args.parts.now / 2) c.args.parts.now c.args.singles.now c.requires.told).0 in
+    let reported : TellSingles (known_alternatives c.args.known.now) (parts_of (expressions c.split_at.result.0.now)) c.split_at-2.result.0.now =
+    rw (c.split_at.ensures.front, c.split_at-2.ensures.front) (tell_halves (known_alternatives c.args.known.now) (length c.args.parts.now / 2) c.args.parts.now c.args.singles.now c.requires.reported).0 in
     search rules
 
 pub listing_parts-listing_parts-requires-2 : goal.listing_parts-listing_parts-requires-2
@@ -66,9 +66,9 @@ listing_parts-listing_parts-requires-2 t c =
     let formed = half.formed_back in
     let named = half.named_back in
     let short = half.short_back in
-    let told : TellSingles (known_alternatives c.args.known.now) (parts_of (expressions c.split_at.result.1.now)) c.split_at-2.result.1.now =
-    rw (c.split_at.ensures.back, c.split_at-2.ensures.back) (tell_halves (known_alternatives c.args.known.now) (length c.args.parts.now / 2) c.args.parts.now c.args.singles.now c.requires.told).1 in
-    let most : c.left_behind-left.result ≤ size_limit = omega (arith, c.left_behind-left.ensures.fits, c.requires.most) in
+    let reported : TellSingles (known_alternatives c.args.known.now) (parts_of (expressions c.split_at.result.1.now)) c.split_at-2.result.1.now =
+    rw (c.split_at.ensures.back, c.split_at-2.ensures.back) (tell_halves (known_alternatives c.args.known.now) (length c.args.parts.now / 2) c.args.parts.now c.args.singles.now c.requires.reported).1 in
+    let most : c.left_after-left.result ≤ size_limit = omega (arith, c.left_after-left.ensures.fits, c.requires.most) in
     search rules
 
 pub listing_parts-returns-in_err-first-clause-err : goal.listing_parts-returns-in_err-first-clause-err
@@ -81,7 +81,7 @@ pub listing_parts-returns-in_err-second-clause-err : goal.listing_parts-returns-
 listing_parts-returns-in_err-second-clause-err t c =
     let half = halved c.args.known.now c.args.mark c.args.parts.now _ _ c.split_at.ensures.front c.split_at.ensures.back c.if-middle-eq0.false c.requires.formed c.requires.known c.requires.short in
     let p = err_from_is_err_and c.from_residual-in_err-second.result c.from_residual-in_err-second.ensures.1 in
-    rw (p.1, p.2) (half.refused_back c.args.most _ (rw (c.left_behind-left.ensures.value, c.in_ok-first.ensures.ok) at c.in_err-second.ensures.err))
+    rw (p.1, p.2) (half.refused_back c.args.most _ (rw (c.left_after-left.ensures.value, c.in_ok-first.ensures.ok) at c.in_err-second.ensures.err))
 
 pub listing_parts-joined_lists-requires-clause-first : goal.listing_parts-joined_lists-requires-clause-first
 listing_parts-joined_lists-requires-clause-first t c =
@@ -117,7 +117,7 @@ listing-listing-requires t c =
     let counted : nodes c.args.expr.now ≡ nodes c.in-Repeat.part.value + 1 = ap nodes c.in-Repeat.is ∙ nodes_of_repeat c.in-Repeat.part c.in-Repeat.times in
     let same = ap nodes c.deref-in-Repeat.ensures in
     let is : expression c.args.expr.now ≡ repeat (expression c.in-Repeat.part.value) c.in-Repeat.times = ap expression c.in-Repeat.is ∙ repeat_is c.in-Repeat.part c.in-Repeat.times in
-    let told : TellsSingles (known_alternatives c.args.known.now) (expression c.deref-in-Repeat.result.now) c.args.singles.now = rw c.deref-in-Repeat.ensures (subst (λ (e : Expression). TellsSingles (known_alternatives c.args.known.now) e c.args.singles.now) is c.requires.told) in
+    let reported : TellsSingles (known_alternatives c.args.known.now) (expression c.deref-in-Repeat.result.now) c.args.singles.now = rw c.deref-in-Repeat.ensures (subst (λ (e : Expression). TellsSingles (known_alternatives c.args.known.now) e c.args.singles.now) is c.requires.reported) in
     search rules
 
 pub listing-returns-in_err-once-in-Repeat-clause-err : goal.listing-returns-in_err-once-in-Repeat-clause-err
@@ -195,8 +195,8 @@ add_part-gather-requires-clause-held t c =
 pub add_part-gather-requires-clause-one : goal.add_part-gather-requires-clause-one
 add_part-gather-requires-clause-one t c =
     let part = part_at (is_held (alternatives_in c.args.known.now)) c.args.parts.now c.args.place c.index-parts-place.result c.requires.place c.index-parts-place.is c.requires.formed c.requires.known in
-    let told = tell_at (known_alternatives c.args.known.now) c.args.parts.now c.args.singles.now c.args.place c.index-parts-place.result c.index-singles-place.result c.requires.place c.index-parts-place.is c.index-singles-place.is c.requires.told in
-    one_told (known_alternatives c.args.known.now) (expression c.index-parts-place.result) c.index-singles-place.result part.formed told c.is_single.result c.is_single.ensures c.if-is_single.true
+    let reported = tell_at (known_alternatives c.args.known.now) c.args.parts.now c.args.singles.now c.args.place c.index-parts-place.result c.index-singles-place.result c.requires.place c.index-parts-place.is c.index-singles-place.is c.requires.reported in
+    one_reported (known_alternatives c.args.known.now) (expression c.index-parts-place.result) c.index-singles-place.result part.formed reported c.is_single.result c.is_single.ensures c.if-is_single.true
 
 pub add_part-gather-requires-clause-short : goal.add_part-gather-requires-clause-short
 add_part-gather-requires-clause-short t c =
@@ -210,8 +210,8 @@ add_part-returns-then-is_single-clause-ok t c =
     let at = beside_at c.args.known.now c.args.parts.now c.args.place c.index-parts-place.result c.requires.place c.index-parts-place.is c.requires.formed c.requires.known c.requires.short in
     let before = expressions (take c.args.place c.args.parts.now) in
     let e = expression c.index-parts-place.result in
-    let told = tell_at (known_alternatives c.args.known.now) c.args.parts.now c.args.singles.now c.args.place c.index-parts-place.result c.index-singles-place.result c.requires.place c.index-parts-place.is c.index-singles-place.is c.requires.told in
-    let one = one_told (known_alternatives c.args.known.now) e c.index-singles-place.result part.formed told c.is_single.result c.is_single.ensures c.if-is_single.true in
+    let reported = tell_at (known_alternatives c.args.known.now) c.args.parts.now c.args.singles.now c.args.place c.index-parts-place.result c.index-singles-place.result c.requires.place c.index-parts-place.is c.index-singles-place.is c.requires.reported in
+    let one = one_reported (known_alternatives c.args.known.now) e c.index-singles-place.result part.formed reported c.is_single.result c.is_single.ensures c.if-is_single.true in
     rw part.next (single_more c.args.known.now before e c.args.beside.now.leaves c.args.beside.now.length c.args.beside.now.others c.requires.before part.formed at.short c.gather.new.leaves c.max-beside.result one c.in_ok-length.ensures.gathered (c.max-beside.ensures ∙ ap (λ (n : ℕ). max n c.args.beside.now.length) c.in_ok-length.ensures.length))
 
 pub add_part-returns-clause-ok : goal.add_part-returns-clause-ok
@@ -223,10 +223,10 @@ add_part-returns-clause-ok t c =
     rw part.next (others_more c.args.known.now before e c.args.beside.now.leaves c.args.beside.now.length c.args.beside.now.others c.requires.before part.formed at.short part.names_known c.in_ok-others.others c.in_ok-others.ensures.ok)
 
 pub add_part-bounds-singles-place : goal.add_part-bounds-singles-place
-add_part-bounds-singles-place t c = omega (arith, tell_length (known_alternatives c.args.known.now) c.args.parts.now c.args.singles.now c.requires.told, c.requires.place)
+add_part-bounds-singles-place t c = omega (arith, tell_length (known_alternatives c.args.known.now) c.args.parts.now c.args.singles.now c.requires.reported, c.requires.place)
 
 pub listing_parts-split_at-requires-2 : goal.listing_parts-split_at-requires-2
-listing_parts-split_at-requires-2 t c = omega (arith, tell_length (known_alternatives c.args.known.now) c.args.parts.now c.args.singles.now c.requires.told)
+listing_parts-split_at-requires-2 t c = omega (arith, tell_length (known_alternatives c.args.known.now) c.args.parts.now c.args.singles.now c.requires.reported)
 
 pub listing_together-returns-in_err-others-clause-err : goal.listing_together-returns-in_err-others-clause-err
 listing_together-returns-in_err-others-clause-err t c =
@@ -248,7 +248,7 @@ add_part-listing_beside-requires t c =
     let some = c.requires.before.some in
     let each = c.requires.before.are_listed in
     let short = short_more c.args.known.now before e c.args.beside.now.leaves c.args.beside.now.length c.args.beside.now.others c.requires.before part.formed at.short part.names_known in
-    let told = tell_at (known_alternatives c.args.known.now) c.args.parts.now c.args.singles.now c.args.place c.index-parts-place.result c.index-singles-place.result c.requires.place c.index-parts-place.is c.index-singles-place.is c.requires.told in
+    let reported = tell_at (known_alternatives c.args.known.now) c.args.parts.now c.args.singles.now c.args.place c.index-parts-place.result c.index-singles-place.result c.requires.place c.index-parts-place.is c.index-singles-place.is c.requires.reported in
     search rules
 
 pub add_part-returns-in_err-others-clause-err : goal.add_part-returns-in_err-others-clause-err

@@ -12,6 +12,6 @@ returns c =
     let all = alternatives entry.alts.items in
     let same : known_alternatives c.args.known.now c.args.name.now ≡ all = ap (λ o. unwrap_or o []) (sym c.in-Some.ensures) in
     let long = ap greatest_length same in
-    let told = ap (λ e. e.longest) entry.told in
+    let reported = ap (λ e. e.longest) entry.reported in
     let short = greatest_sound all entry.sound.each in
     omega arith

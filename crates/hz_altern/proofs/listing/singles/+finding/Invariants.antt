@@ -12,6 +12,6 @@ decreases-find_singles l = 2 * nodes l.expr.now
 abbrev pub decreases-find_singles_in : goal.decreases-find_singles_in
 decreases-find_singles_in l = 2 * all_nodes l.parts.now + 1
 
--- the parts so far are told
+-- the parts so far are reported
 abbrev pub invariant-find_singles_in-loop-part : goal.invariant-find_singles_in-loop-part
 invariant-find_singles_in-loop-part l = TellSingles (known_alternatives l.known) (parts_of (expressions (take l.part-index l.parts))) l.all.items

@@ -9,12 +9,12 @@ use Rattle.hz_mdread.specs.Shape.{description, bypass_item, class_item}
 use Rattle.hz_checked.specs.NumberRows.{rows_of, number_at, is_other}
 use Rattle.hz_check.proofs.HeldNumbers.{HoldsNumbers}
 use Rattle.hz_check.specs.Names.First.{first_of}
-use Rattle.hz_check.proofs.Telling.BypassSteps.{told_here, not_here, holds_next}
+use Rattle.hz_check.proofs.Telling.BypassSteps.{reported_here, not_here, holds_next}
 use Rattle.hz_checked.proofs.RowSteps.{AllPairs-drop}
 use Rattle.hz_check.proofs.Tables.KnownNames.{known_bypass, first_holds, item_at}
 use Rattle.hz_check.proofs.Lists.Next.{drop_next, done_next}
 use Rattle.hz_base_model.proofs.Ascending.{AllPairs-head}
-use Rattle.hz_description_model.specs.Check.CheckFaults.{unknown_names, is_class, renumbered_behind}
+use Rattle.hz_description_model.specs.Check.CheckFaults.{unknown_names, is_class, renumbered_after}
 use Rattle.hz_description_model.specs.Check.Places.{class_names}
 use Rattle.hz_description_model.specs.Check.Sites.{earliest}
 use Rattle.hz_description_model.specs.Check.CheckedParts.{class_numbers}
@@ -95,11 +95,11 @@ returns-in-Some c =
     let ordered = subst (λ (xs : List StoredBypass). AllPairs (λ a b. a.form ≤ b.form) (map bypass_item xs)) (sym c.deref-bypass-items.ensures.value) c.requires.ordered in
     let within = first_holds (λ o. o < stored.classes.len) _ c.deref-in-loop-bypass-3.result.now out (subst (λ os. All (λ o. o < stored.classes.len) os) (sym c.deref-in-loop-bypass-3.ensures.value) c.in_ok-outs.ensures.within) c.in-Some.ensures in
     ap (λ name. Some (record { line = item.line; form = item.form; name = name })) (sym (class_name stored out c.index.result.now within c.index.ensures))
-    ∙ (told_here d (rows_of rows) (unguarded (map bypass_item (take i items))) (bypass_item item) outs ins c.loop-bypass.invariant.numbers known.0 known.1
+    ∙ (reported_here d (rows_of rows) (unguarded (map bypass_item (take i items))) (bypass_item item) outs ins c.loop-bypass.invariant.numbers known.0 known.1
     (λ p. c.in_ok-outs.ensures.firsts p ∙ ap (λ names. first_of (filter p (class_numbers d names))) c.deref.ensures.value)
     (λ p. c.in_ok-ins.ensures.firsts p ∙ ap (λ names. first_of (filter p (class_numbers d names))) c.deref-in-loop-bypass.ensures.value)
     out (unguarded (map bypass_item (drop (i + 1) items))) found (All-filter (λ (b : BypassItem). not b.guard) (λ b. item.form ≤ b.form) (map bypass_item (drop (i + 1) items)) (later_forms items i item c.bypass-item.is c.loop-bypass-test.true ordered))
-    ∙ sym (c.loop-bypass.invariant.rest ∙ ap (λ bs. earliest (renumbered_behind (unguarded (map bypass_item (take i items))) bs)) (left_plain items i item c.bypass-item.is c.loop-bypass-test.true c.if-bypass.false)))
+    ∙ sym (c.loop-bypass.invariant.rest ∙ ap (λ bs. earliest (renumbered_after (unguarded (map bypass_item (take i items))) bs)) (left_plain items i item c.bypass-item.is c.loop-bypass-test.true c.if-bypass.false)))
 
 pub loop-bypass-preserved : goal.loop-bypass-preserved
 loop-bypass-preserved c =
@@ -125,7 +125,7 @@ loop-bypass-preserved c =
           ∙ (ap (λ os. cond (list_any (λ p. p == o) os && list_any (λ k. k == j) c.deref-in-loop-bypass-6.result.now) (Some item.number) (number_at (rows_of rows) o j)) c.deref-in-loop-bypass-5.ensures.value
           ∙ ap (λ is. cond (list_any (λ p. p == o) outs && list_any (λ k. k == j) is) (Some item.number) (number_at (rows_of rows) o j)) c.deref-in-loop-bypass-6.ensures.value)));
       rest = c.loop-bypass.invariant.rest
-          ∙ (ap (λ bs. earliest (renumbered_behind before bs)) (left_plain items i item c.bypass-item.is c.loop-bypass-test.true c.if-bypass.false)
+          ∙ (ap (λ bs. earliest (renumbered_after before bs)) (left_plain items i item c.bypass-item.is c.loop-bypass-test.true c.if-bypass.false)
           ∙ (not_here d (rows_of rows) before (bypass_item item) outs ins c.loop-bypass.invariant.numbers known.0 known.1 first_outs first_ins (unguarded (map bypass_item (drop (i + 1) items))) none
-          ∙ ap (λ done. earliest (renumbered_behind done (unguarded (map bypass_item (drop (i + 1) items))))) (sym done)));
+          ∙ ap (λ done. earliest (renumbered_after done (unguarded (map bypass_item (drop (i + 1) items))))) (sym done)));
     }

@@ -1,6 +1,6 @@
 use Rattle.std.proofs.Common.{◌-◌, ◌<◌, ◌≤◌, length, map, arith}
 use Rattle.std.proofs.lemmas.List.{length-map}
-use Rattle.hz_altern.specs.Extents.{told}
+use Rattle.hz_altern.specs.Extents.{reported}
 use Rattle.hz_altern.specs.Tables.{extent_in}
 use Rattle.hz_check_reservations.specs.Shape.{reserving_of}
 use Rattle.hz_check_reservations.proofs.Pasts.{tells_more, mapped_at, mapped_in}
@@ -26,6 +26,6 @@ loop-i-preserved g c =
     let some : 0 < c.loop-i.i = omega (arith, c.loop-i-test.true) in
     let within : c.loop-i.i ≤ length items = omega (arith, c.loop-i.auto.i) in
     let low : c.loop-i.i - 1 < length c.args.items.now = omega (arith, c.loop-i-test.true, c.loop-i.auto.i) in
-    tells_more (extent_in c.args.extents.now) items c.args.behind c.loop-i.i q (told c.extent.result) c.loop-i.past c.past_before-past.result some within
+    tells_more (extent_in c.args.extents.now) items c.args.beyond c.loop-i.i q (reported c.extent.result) c.loop-i.past c.past_before-past.result some within
     (mapped_at g.T.Reserves.reserves c.args.items.now (c.loop-i.i - 1) c.index-items-i.result q low c.index-items-i.is c.reserving-reserving.ensures)
     c.extent.ensures c.past_before-past.ensures.alternatives c.past_before-past.ensures.cycles c.loop-i.invariant

@@ -1,7 +1,7 @@
 use Rattle.std.proofs.Common.{List, None, refl, sym, subst}
 use Rattle.hz_check_reservations.specs.declared.listing.extents.PastExtents.{PastExtents}
 use Rattle.hz_altern.specs.Tables.{extent_in}
-use Rattle.hz_check_reservations.specs.Past.{AreCountable, TellsBehind}
+use Rattle.hz_check_reservations.specs.Past.{AreCountable, TellsAfter}
 use Rattle.hz_check_reservations.proofs.Pasts.{countable, of_classes, of_reservations, past_all, same_items}
 use Rattle.hz_mdread.specs.Shape.{description, class_item, reservation_item}
 use Rattle.hz_description_model.specs.Check.CountingOrder.{Reserving, reserving_class, reserving_reservation, reservations_of, classes_of}
@@ -29,5 +29,5 @@ returns c =
     let table = extent_in c.add_reservations.new.extents in
     let none : PastExtents = record { alternatives = None; cycles = None } in
     past_all d c.requires.named c.requires.formed c.args.order.now c.requires.order table c.in_ok-add_reservations.ensures none c.past_among-classes.result c.past_among.result refl refl
-    (subst (λ (items : List Reserving). TellsBehind table items none c.past_among-classes.result) (sym (same_items reserving_class class_item c.deref.result.now c.args.desc.now.classes.items c.deref.ensures.value)) c.past_among-classes.ensures)
-    (subst (λ (items : List Reserving). TellsBehind table items c.past_among-classes.result c.past_among.result) (sym (same_items reserving_reservation reservation_item c.deref-2.result.now c.args.desc.now.reservations.items c.deref-2.ensures.value)) c.past_among.ensures)
+    (subst (λ (items : List Reserving). TellsAfter table items none c.past_among-classes.result) (sym (same_items reserving_class class_item c.deref.result.now c.args.desc.now.classes.items c.deref.ensures.value)) c.past_among-classes.ensures)
+    (subst (λ (items : List Reserving). TellsAfter table items c.past_among-classes.result c.past_among.result) (sym (same_items reserving_reservation reservation_item c.deref-2.result.now c.args.desc.now.reservations.items c.deref-2.ensures.value)) c.past_among.ensures)

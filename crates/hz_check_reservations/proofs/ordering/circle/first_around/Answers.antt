@@ -10,7 +10,7 @@ use Rattle.hz_check_reservations.proofs.Around.{IsKnownOf, known_of_more, first_
 use Rattle.hz_check_reservations.proofs.Lists.{length-lists_of}
 use Rattle.hz_check_reservations.proofs.ordering.circle.first_around.Goals as goal
 
--- the last item of a front, and what stands behind it
+-- the last item of a front, and what comes after it
 parts : (order : List ℕ) (i : ℕ) → 0 < i → i ≤ length order → drop (i - 1) order ≡ get_or order (i - 1) 0 ∷ drop i order
 parts order i some within =
     let next : (i - 1) + 1 ≡ i = omega arith in

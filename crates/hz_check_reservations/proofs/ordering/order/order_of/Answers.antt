@@ -10,7 +10,7 @@ use Rattle.hz_check_reservations.specs.Orders.{IsGraph}
 use Rattle.hz_check_reservations.specs.Walks.{lists_of}
 use Rattle.hz_check_reservations.proofs.DescriptionNodes.{all_count, counts}
 use Rattle.hz_check_reservations.proofs.NameFacts.{are_named}
-use Rattle.hz_check_reservations.proofs.OrderSteps.{lists_count, lists_inside, all_left, circle_told, circle_found, order_told}
+use Rattle.hz_check_reservations.proofs.OrderSteps.{lists_count, lists_inside, all_left, circle_reported, circle_found, order_reported}
 use Rattle.hz_check_reservations.proofs.Reaching.{order_unwinds}
 use Rattle.hz_check_reservations.proofs.ordering.order.order_of.Goals as goal
 
@@ -72,28 +72,28 @@ unreachable-requires c =
     circle_found d now g c.in_ok-walk.walk.order.items walk (subst (λ (n : ℕ). IsFirstWith (λ node. Path (ends_in (lists_of now)) node node) n None) count none)
 
 pub returns-then-walk-clause-err : goal.returns-then-walk-clause-err
-returns-then-walk-clause-err c = λ told formed.
+returns-then-walk-clause-err c = λ reported formed.
     let d = description c.args.description.now in
     let now = c.as_slice-edges.result.now in
     let g = graph_now d now c.in_ok-lists.lists c.as_slice-edges.ensures.value c.in_ok-lists.ensures in
     let count : c.len-count.result ≡ length d.reservations = omega (arith, length-map c.args.description.now.reservations.items reservation_item) in
     let some = subst (λ (o : Option ℕ). IsFirstWith (λ node. Path (ends_in (lists_of now)) node node) c.len-count.result o) c.in-Some.is c.in_ok-place.ensures in
-    circle_told d now g (are_named d told formed) c.in-Some.place (subst (λ (n : ℕ). IsFirstWith (λ node. Path (ends_in (lists_of now)) node node) n (Some c.in-Some.place)) count some)
+    circle_reported d now g (are_named d reported formed) c.in-Some.place (subst (λ (n : ℕ). IsFirstWith (λ node. Path (ends_in (lists_of now)) node node) n (Some c.in-Some.place)) count some)
 
 pub returns-clause-ok : goal.returns-clause-ok
-returns-clause-ok c = λ told formed.
+returns-clause-ok c = λ reported formed.
     let d = description c.args.description.now in
     let now = c.as_slice-edges.result.now in
     let g = graph_now d now c.in_ok-lists.lists c.as_slice-edges.ensures.value c.in_ok-lists.ensures in
     let walked = c.in_ok-walk.walk.order.items in
     let walk = walk_now d now g walked c.in_ok-walk.walk.circular false c.if-walk.false c.in_ok-walk.ensures in
-    order_told d now g (are_named d told formed) walked c.pop.new.self.items walk (popped c.in_ok-walk.walk.order c.pop.new.self.items c.pop.ensures.rest (omega arith))
+    order_reported d now g (are_named d reported formed) walked c.pop.new.self.items walk (popped c.in_ok-walk.walk.order c.pop.new.self.items c.pop.ensures.rest (omega arith))
 
 pub returns-clause-unwinds : goal.returns-clause-unwinds
-returns-clause-unwinds c = λ told formed.
+returns-clause-unwinds c = λ reported formed.
     let d = description c.args.description.now in
     let now = c.as_slice-edges.result.now in
     let g = graph_now d now c.in_ok-lists.lists c.as_slice-edges.ensures.value c.in_ok-lists.ensures in
     let walked = c.in_ok-walk.walk.order.items in
     let walk = walk_now d now g walked c.in_ok-walk.walk.circular false c.if-walk.false c.in_ok-walk.ensures in
-    order_unwinds d c.pop.new.self.items (order_told d now g (are_named d told formed) walked c.pop.new.self.items walk (popped c.in_ok-walk.walk.order c.pop.new.self.items c.pop.ensures.rest (omega arith)))
+    order_unwinds d c.pop.new.self.items (order_reported d now g (are_named d reported formed) walked c.pop.new.self.items walk (popped c.in_ok-walk.walk.order c.pop.new.self.items c.pop.ensures.rest (omega arith)))

@@ -3,7 +3,7 @@ use Rattle.std.proofs.lemmas.List.{length-map}
 use Rattle.hz_description_model.specs.Check.CountingOrder.{reserving_class, classes_of}
 use Rattle.hz_check_reservations.proofs.Holding.{all_held}
 use Rattle.hz_check_reservations.proofs.Ordered.{written, names_in_all}
-use Rattle.hz_check_reservations.specs.Tables.{IsBehind}
+use Rattle.hz_check_reservations.specs.Tables.{IsAfter}
 use Rattle.hz_mdread.specs.Shape.{description, class_item}
 use Rattle.hz_check_reservations.specs.HabitTables.{HasHabits, habits_in}
 use Rattle.hz_check_reservations.proofs.BrokenClasses.{AreBrokenAmong, class_at, class_in, all_of_classes, broken_more, all_broken}
@@ -24,7 +24,7 @@ habits_of-requires-clause-held c =
     let items = c.args.desc.now.classes.items in
     let low : c.loop-i.i - 1 < length items = omega (arith, c.loop-i-test.true, c.loop-i.auto.i, c.len-i.ensures) in
     let q = reserving_class (class_item c.index-class.result.now) in
-    all_held (HasHabits d) (IsBehind d order) (habits_in c.add_reservations.new.table) c.in_ok-add_reservations.ensures q.expression
+    all_held (HasHabits d) (IsAfter d order) (habits_in c.add_reservations.new.table) c.in_ok-add_reservations.ensures q.expression
     (names_in_all d c.requires.named c.requires.formed order c.requires.order q (all_of_classes d q (class_in items (c.loop-i.i - 1) c.index-class.result.now low c.index-class.ensures)))
 
 pub loop-i-preserved : goal.loop-i-preserved

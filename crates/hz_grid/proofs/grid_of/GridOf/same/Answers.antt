@@ -3,5 +3,5 @@ use Rattle.hz_grid.proofs.grid_of.GridOf.same.Goals as goal
 
 pub returns : goal.returns
 returns g c =
-    let told = rw (c.deref.ensures.value, c.deref-2.ensures.value) at c.same_rows.ensures in
-    rw (← c.self.view_is, ← c.other.view_is) (same_from_rows c.self.inside.rows.items c.other.inside.rows.items c.self.invariant.rows c.other.invariant.rows _ told)
+    let reported = rw (c.deref.ensures.value, c.deref-2.ensures.value) at c.same_rows.ensures in
+    rw (← c.self.view_is, ← c.other.view_is) (same_from_rows c.self.inside.rows.items c.other.inside.rows.items c.self.invariant.rows c.other.invariant.rows _ reported)

@@ -11,9 +11,9 @@ invariant_of-self c =
     let seen = c.self.inside.seen.items in
     let place = c.place_of-place.result in
     let new : Seen = record { from = c.args.from; to = c.args.to; said = c.line_says-said.result } in
-    let told : IsSeen names text new = record {
+    let reported : IsSeen names text new = record {
       order = c.requires.order;
       within = subst (λ (s : Source). c.args.to ≤ length s.text) (sym c.self.view_is) c.requires.within;
       says = c.line_says-said.ensures;
     } in
-    record { places = length-set seen place new ∙ (c.self.invariant).places; each = All-set (IsSeen names text) seen place new told (c.self.invariant).each }
+    record { places = length-set seen place new ∙ (c.self.invariant).places; each = All-set (IsSeen names text) seen place new reported (c.self.invariant).each }

@@ -13,12 +13,12 @@ invariant_of-self g c =
     let is = c.self.inside.machine.now.kept in
     let states = c.self.inside.states.items in
     let next = c.walk.new.states in
-    let told = subst (λ (xs : List ℕ). parts_walk m.parts xs (advance 1 ∷ []) ≡ Some next) c.as_mut_slice-states.ensures.value (OnTrue_at c.if-not-walk.false c.walk.ensures.next) in
-    let stay = states_stay m is states next (advance 1 ∷ []) c.self.invariant.0 told in
-    (subst (AreStates m) (sym (refilled states next (as_many m is states next (advance 1 ∷ []) c.self.invariant.0 told))) stay, c.self.invariant.1)
+    let reported = subst (λ (xs : List ℕ). parts_walk m.parts xs (advance 1 ∷ []) ≡ Some next) c.as_mut_slice-states.ensures.value (OnTrue_at c.if-not-walk.false c.walk.ensures.next) in
+    let stay = states_stay m is states next (advance 1 ∷ []) c.self.invariant.0 reported in
+    (subst (AreStates m) (sym (refilled states next (as_many m is states next (advance 1 ∷ []) c.self.invariant.0 reported))) stay, c.self.invariant.1)
 
 pub unreachable-requires : goal.unreachable-requires
 unreachable-requires g c =
     let m = machine_of c.self.inside.machine.now in
-    let told = subst (λ (states : List ℕ). parts_walk m.parts states (advance 1 ∷ []) ≡ None) c.as_mut_slice-states.ensures.value (OnFalse_at c.if-not-walk.true c.walk.ensures.none) in
-    always_advances m c.self.inside.machine.now.kept c.self.inside.states.items c.self.invariant.0 told
+    let reported = subst (λ (states : List ℕ). parts_walk m.parts states (advance 1 ∷ []) ≡ None) c.as_mut_slice-states.ensures.value (OnFalse_at c.if-not-walk.true c.walk.ensures.none) in
+    always_advances m c.self.inside.machine.now.kept c.self.inside.states.items c.self.invariant.0 reported

@@ -20,8 +20,8 @@ end_waits-requires-clause-unissued c =
     let queue = c.args.self.now.queue in
     was_left (graph_of c.args.graph.now) (issued_at (slots_of c.args.self.now.slots.items)) c.args.place c.args.self.now.cycle queue.waiting.keys queue.ready.items queue.heads.keys c.requires.queued c.requires.later c.requires.ready
 
-pub wait_behind-requires-clause-within : goal.wait_behind-requires-clause-within
-wait_behind-requires-clause-within c = λ k d lt.
+pub wait_after-requires-clause-within : goal.wait_after-requires-clause-within
+wait_after-requires-clause-within c = λ k d lt.
     let n = length c.args.graph.now.insns.items in
     let e = row_all (λ e. (e.to < n) × (e.cost ≤ latency_limit)) c.args.row.now c.args.graph.now.edges.items c.args.place c.requires.row c.requires.edges k d lt in
     omega (arith, e.0, ap (λ (xs : List ℕ). length xs) c.deref.ensures.value, c.end_waits.ensures.waits.counts_size, length-map c.args.graph.now.insns.items node_of)
@@ -41,14 +41,14 @@ returns-clause-queued c =
     let key : Key = (record { 0 = c.height_at.result }, c.args.place) in
     let is = ap (λ (h : ℕ). let k : Key = (record { 0 = h }, c.args.place) in k) c.height_at.ensures in
     let ended = c.end.new.self in
-    let now = c.wait_behind.new.self in
+    let now = c.wait_after.new.self in
     let next = and_issued at c.args.place c.args.self.now.cycle in
     let waits = subst (λ (xs : List ℕ). AreWaits g next c.deref.result.now xs) (sym c.deref-2.ensures.value) (subst (λ (xs : List ℕ). AreWaits g next xs c.end_waits.new.self.ripes.items) (sym c.deref.ensures.value) c.end_waits.ensures.waits) in
     let edges = All-map (λ e. (e.to < n) × (e.cost ≤ latency_limit)) edge_of c.args.row.now (row_all (λ e. (e.to < n) × (e.cost ≤ latency_limit)) c.args.row.now c.args.graph.now.edges.items c.args.place c.requires.row c.requires.edges) in
     let to_within = λ (e : Edge) (h : Contains row e). (let (to, cost) = All-contains (λ (f : Edge). (f.to < n) × (f.cost ≤ latency_limit)) row e edges h in let long = length-map c.args.graph.now.insns.items node_of in let fit : e.to < length g.nodes = omega (arith, to, long) in fit) in
     let within = subst (λ (es : List Edge). (j : ℕ) → 0 < leading j es → j < length g.nodes) whole (λ j led. led_within (length g.nodes) j row to_within led) in
-    let more = c.in_ok-wait_behind.ensures.waiting ∙ (ap (λ (es : List Edge). all_wait c.deref.result.now c.deref-2.result.now es ended.waiting.keys) whole ∙ ap (all_wait c.deref.result.now c.deref-2.result.now (edges_from c.args.place g.edges)) c.in_ok-end.ensures.waiting) in
+    let more = c.in_ok-wait_after.ensures.waiting ∙ (ap (λ (es : List Edge). all_wait c.deref.result.now c.deref-2.result.now es ended.waiting.keys) whole ∙ ap (all_wait c.deref.result.now c.deref-2.result.now (edges_from c.args.place g.edges)) c.in_ok-end.ensures.waiting) in
     let done = issued_queue g at c.args.place c.args.self.now.cycle queue.waiting.keys queue.ready.items queue.heads.keys queued later ready ended.ready.items ended.heads.keys key c.class_at.result is c.class_at.ensures c.in_ok-end.ensures.row
-    c.deref.result.now c.deref-2.result.now waits within now.waiting.keys more c.in_ok-wait_behind.ensures.ordered in
-    subst (λ (hs : List Key). AreQueued g next c.args.self.now.cycle now.waiting.keys now.ready.items hs) (sym c.wait_behind.ensures.heads)
-    (subst (λ (rows : List (BTreeSet Key)). AreQueued g next c.args.self.now.cycle now.waiting.keys rows ended.heads.keys) (sym c.wait_behind.ensures.ready) done)
+    c.deref.result.now c.deref-2.result.now waits within now.waiting.keys more c.in_ok-wait_after.ensures.ordered in
+    subst (λ (hs : List Key). AreQueued g next c.args.self.now.cycle now.waiting.keys now.ready.items hs) (sym c.wait_after.ensures.heads)
+    (subst (λ (rows : List (BTreeSet Key)). AreQueued g next c.args.self.now.cycle now.waiting.keys rows ended.heads.keys) (sym c.wait_after.ensures.ready) done)

@@ -3,7 +3,7 @@ use Rattle.std.proofs.lemmas.Result.{err_from_is_err_and}
 use Rattle.hz_tabtext_model.specs.Reading.{classes_at}
 use Rattle.hz_tabfile.specs.Rests.{left_of}
 use Rattle.hz_tabfile.proofs.Many.{classes_go, classes_stop, classes_end}
-use Rattle.hz_tabfile.proofs.Told.{placed}
+use Rattle.hz_tabfile.proofs.Reported.{placed}
 use Rattle.hz_tabfile.proofs.reading.text.names_at.Goals as goal
 
 pub returns-in_err-rest : goal.returns-in_err-rest

@@ -17,7 +17,7 @@ use Rattle.hz_pipeline_model.specs.Compiling.Compiled.{Report}
 use Rattle.hz_tabtext_model.specs.Texts.{AreCounts}
 use Rattle.hz_tabtext_model.specs.Said.{counts_said}
 use Rattle.hz_grid.specs.Grids.{IsGrid}
-use Rattle.hz_pipeline_model.specs.Single.Told.{ListsAscending}
+use Rattle.hz_pipeline_model.specs.Single.Reported.{ListsAscending}
 use Rattle.hz_tabfile.proofs.Ranges.{all_made, shown_again, shown_weaker}
 use Rattle.hz_tabfile.proofs.writing.ranges.is_in_range.Goals as goal
 use Rattle.std.specs.Ordering.{nat_cmp}

@@ -6,7 +6,7 @@ use Rattle.hz_bound.specs.Shape.{bound_of}
 use Rattle.hz_depend.specs.GraphShape.{IsSchedulable}
 use Rattle.hz_rtl.specs.Shape.{instructions}
 use Rattle.hz_sched.specs.Shape.{graph_of, slots_of}
-use Rattle.hz_tool.proofs.BoundLemmas.{bound_is, bound_told}
+use Rattle.hz_tool.proofs.BoundLemmas.{bound_is, bound_reported}
 use Rattle.hz_tool.proofs.CommandLemmas.{block_schedule, decided_then, front_machine, refused_then, scheduled_then, uncompiled}
 use Rattle.hz_tool.proofs.JudgeLemmas.{block_else, block_then, scheduled_else}
 use Rattle.hz_tool.specs.Deciding.{Nothing}
@@ -71,5 +71,5 @@ returns c =
     (scheduled_then d front.checked is.checked.is front.compiled.machine machine block made.graph made.schedule by name (TellsBound d known insns) s t h))
     (Ok (Bounded front.checked made.graph made.schedule c.in-Ok.found)) (
       c.in-Ok.ensures.range,
-      (g, slots, found, block_schedule d front.checked is.checked.is front.compiled.machine machine block made.graph made.schedule by, bound_is d front.checked is.checked.is g found c.in-Ok.ensures.bound, (refl, bound_told d front.checked is.checked.is block made.graph found slots by.made.numbers)),
+      (g, slots, found, block_schedule d front.checked is.checked.is front.compiled.machine machine block made.graph made.schedule by, bound_is d front.checked is.checked.is g found c.in-Ok.ensures.bound, (refl, bound_reported d front.checked is.checked.is block made.graph found slots by.made.numbers)),
     )

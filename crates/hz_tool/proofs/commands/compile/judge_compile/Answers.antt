@@ -2,7 +2,7 @@ use Rattle.std.proofs.Common.{Ok}
 use Rattle.hz_answer_model.specs.TableAnswers.{WritesTablesOf}
 use Rattle.hz_tabfile.proofs.Sayable.{compiled_is_sayable}
 use Rattle.hz_tool.proofs.CommandLemmas.{decided_then, uncompiled}
-use Rattle.hz_tool.proofs.TablesLemmas.{tables_told}
+use Rattle.hz_tool.proofs.TablesLemmas.{tables_reported}
 use Rattle.hz_tool.specs.declared.done.Done.TheVariants.{Tables}
 use Rattle.hz_tool.proofs.commands.compile.judge_compile.Goals as goal
 
@@ -24,4 +24,4 @@ returns c =
     let d = is.checked.d in
     decided_then order.description.now c.args.described.now WritesTablesOf front is (WritesTablesOf d is.checked.is.known) (λ s t h. h)
     (Ok (Tables front.compiled front.checked))
-    (compiled_is_sayable front.compiled front.checked is.compiled.compiled is.compiled.options, tables_told d front.checked is.checked.is front.compiled is.compiled c.text_stands.ensures.listed c.text_stands.ensures.stands)
+    (compiled_is_sayable front.compiled front.checked is.compiled.compiled is.compiled.options, tables_reported d front.checked is.checked.is front.compiled is.compiled c.text_stands.ensures.listed c.text_stands.ensures.stands)

@@ -5,7 +5,7 @@ use Rattle.hz_replay.specs.declared.event.Event.{Event}
 use Rattle.hz_replay.specs.Traces.{events_in}
 use Rattle.hz_tables.specs.Machines.{machine_of}
 use Rattle.hz_tool.proofs.CommandLemmas.{decided_then, uncompiled}
-use Rattle.hz_tool.proofs.DrillLemmas.{drill_told, turns_counted}
+use Rattle.hz_tool.proofs.DrillLemmas.{drill_reported, turns_counted}
 use Rattle.hz_tool.specs.declared.done.Done.TheVariants.{Drilled}
 use Rattle.hz_tool.proofs.commands.drill.judge_drill.Goals as goal
 
@@ -38,4 +38,4 @@ returns c =
     let passed : c.from.result - c.count_issues-issues.result ≡ cycles_of t = omega (arith, sum, counted, c.from.ensures) in
     decided_then order.description.now c.args.described.now (λ d known. Drills d known order.number order.turns) front is (Drills d known order.number order.turns) (λ s t h. h)
     (Ok (Drilled order.turns issues (c.from.result - issues) c.in-Ok.drilled.states))
-    (tt, drill_told d front.checked is.checked.is all is.compiled all.machine.kept order.number order.turns issues (c.from.result - issues) t c.in-Ok.drilled.states.items c.in-Ok.ensures.drawn c.in-Ok.ensures.left counted passed)
+    (tt, drill_reported d front.checked is.checked.is all is.compiled all.machine.kept order.number order.turns issues (c.from.result - issues) t c.in-Ok.drilled.states.items c.in-Ok.ensures.drawn c.in-Ok.ensures.left counted passed)

@@ -16,7 +16,7 @@ use Rattle.hz_sched.specs.Shape.{graph_of}
 use Rattle.hz_tool.proofs.BlockLemmas.{graph_size, is_graph}
 use Rattle.hz_tool.proofs.CommandLemmas.{compiled_then, decided_then, front_machine, refused_then, uncompiled, whole}
 use Rattle.hz_tool.proofs.DecideLemmas.{refuses_weaker}
-use Rattle.hz_tool.proofs.JudgeLemmas.{block_else, block_then, classes_else, classes_then, few_then, many_told}
+use Rattle.hz_tool.proofs.JudgeLemmas.{block_else, block_then, classes_else, classes_then, few_then, many_reported}
 use Rattle.hz_tool.proofs.MachineLemmas.{classes_named}
 use Rattle.hz_tool.specs.Deciding.{Nothing}
 use Rattle.hz_tool.specs.Fronts.{IsFrontOf}
@@ -73,7 +73,7 @@ returns-then-are_many c =
     refuses_weaker (HasAtMost instruction_limit (length mine + length yours) b more) (whole order.description.now c.args.described.now (SchedulesBlocks a c.args.first.now b c.args.second.now))
     (λ s t h. compiled_then order.description.now c.args.described.now (SchedulesBlocks a c.args.first.now b c.args.second.now) c.in_ok-front.front is s t
     (both_then c.args.described.now a c.args.first.now b c.args.second.now c.in_ok-front.front is mine yours c.in_ok-one.ensures.ok c.in_ok-other.ensures.ok s t h))
-    (Insns order.second) (tt, many_told instruction_limit (length mine + length yours) b more (counted c.in_ok-one.one c.in_ok-other.other true c.if-are_many.ensures))
+    (Insns order.second) (tt, many_reported instruction_limit (length mine + length yours) b more (counted c.in_ok-one.one c.in_ok-other.other true c.if-are_many.ensures))
 
 pub judge_graph-requires-clause-classes : goal.judge_graph-requires-clause-classes
 judge_graph-requires-clause-classes c = c.in_ok-front.ensures.classes

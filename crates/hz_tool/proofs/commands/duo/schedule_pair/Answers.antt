@@ -5,7 +5,7 @@ use Rattle.hz_block_model.specs.Scheduling.Machines.{cannot_start_alone}
 use Rattle.hz_rtl.specs.Shape.{instructions}
 use Rattle.hz_sched.specs.Shape.{graph_of, node_of}
 use Rattle.hz_tables.specs.Machines.{machine_of}
-use Rattle.hz_tool.proofs.DuoLemmas.{none_told, pair_is, pair_refused, pair_told, pair_within}
+use Rattle.hz_tool.proofs.DuoLemmas.{none_reported, pair_is, pair_refused, pair_reported, pair_within}
 use Rattle.hz_tool.proofs.MachineLemmas.{classes_count, classes_named}
 use Rattle.hz_tool.proofs.SlotLemmas.{nodes_below, schedule_is}
 use Rattle.hz_tool.proofs.StartLemmas.{each_starts}
@@ -40,7 +40,7 @@ returns-in-Ok-cycles_alone-2 c = λ d known machine first second numbers more.
     let other = instructions c.args.other.now in
     let mine = nodes_below (length m.classes) (length d.classes) c.args.first c.requires.first.classes (classes_count d known m machine) in
     let yours = nodes_below (length m.classes) (length d.classes) c.args.second c.requires.second.classes (classes_count d known m machine) in
-    let (none, also) = none_told (cannot_start_alone m g) (cannot_start_alone m h) c.in-Ok.ensures.fault in
+    let (none, also) = none_reported (cannot_start_alone m g) (cannot_start_alone m h) c.in-Ok.ensures.fault in
     let both = c.in-Ok.ensures.schedule in
     let alone = c.in-Ok-cycles_alone.ensures in
     let late = c.in-Ok-cycles_alone-2.ensures in (
@@ -58,7 +58,7 @@ returns-in-Ok-cycles_alone-2 c = λ d known machine first second numbers more.
             pair_is d known m machine one other g h both.all first second mine yours both.legal both.greedy,
             schedule_is d known m one g alone.slots machine first mine alone.legal alone.greedy,
             schedule_is d known m other h late.slots machine second yours late.legal late.greedy,
-            (refl, pair_told d m.classes c.args.one.now c.args.other.now c.args.first c.args.second c.in-Ok.slots.items both.all alone.slots late.slots c.in-Ok-cycles_alone.first_alone c.in-Ok-cycles_alone-2.second_alone (classes_named machine) numbers more both.same (as_many d one g first) alone.last late.last),
+            (refl, pair_reported d m.classes c.args.one.now c.args.other.now c.args.first c.args.second c.in-Ok.slots.items both.all alone.slots late.slots c.in-Ok-cycles_alone.first_alone c.in-Ok-cycles_alone-2.second_alone (classes_named machine) numbers more both.same (as_many d one g first) alone.last late.last),
           ),
         ),
       ),

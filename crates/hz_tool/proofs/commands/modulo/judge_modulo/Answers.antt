@@ -14,8 +14,8 @@ use Rattle.hz_sched.specs.Shape.{graph_of, slots_of}
 use Rattle.hz_tables.specs.Machines.{machine_of}
 use Rattle.hz_tool.proofs.CommandLemmas.{block_schedule, compiled_then, decided_then, front_machine, refused_then, scheduled_then, uncompiled, whole}
 use Rattle.hz_tool.proofs.DecideLemmas.{refuses_weaker}
-use Rattle.hz_tool.proofs.JudgeLemmas.{block_else, block_then, few_then, many_told, scheduled_else}
-use Rattle.hz_tool.proofs.KernelLemmas.{kernel_is, kernel_told}
+use Rattle.hz_tool.proofs.JudgeLemmas.{block_else, block_then, few_then, many_reported, scheduled_else}
+use Rattle.hz_tool.proofs.KernelLemmas.{kernel_is, kernel_reported}
 use Rattle.hz_tool.proofs.MachineLemmas.{classes_named, compiled_of}
 use Rattle.hz_tool.specs.Deciding.{Nothing}
 use Rattle.hz_tool.specs.declared.done.Done.TheVariants.{Overlapped}
@@ -50,7 +50,7 @@ returns-then-is_long c =
     let more = HasClasses name d insns (Overlaps name d known insns) in
     refuses_weaker (HasAtMost body_limit (length insns) name more) (whole order.description.now c.args.described.now (OverlapsBlock name c.args.blocked.now))
     (λ s t h. compiled_then order.description.now c.args.described.now (OverlapsBlock name c.args.blocked.now) c.in_ok-front.front is s t (block_then name c.args.blocked.now (OverlapsBody name d known) insns c.in_ok-block.ensures.ok s t h))
-    (Insns order.block) (tt, many_told body_limit (length insns) name more (counted c.in_ok-block.block true c.if-is_long.ensures))
+    (Insns order.block) (tt, many_reported body_limit (length insns) name more (counted c.in_ok-block.block true c.if-is_long.ensures))
 
 pub schedule_block-requires-clause-classes : goal.schedule_block-requires-clause-classes
 schedule_block-requires-clause-classes c = c.in_ok-front.ensures.classes
@@ -129,7 +129,7 @@ returns c =
           first = k.first_edge;
           second = k.second_edge;
           kernel = kernel_is d front.checked is.checked.is block made.graph m slots k.interval k.first_edge k.second_edge found.least;
-          tells = kernel_told d front.checked is.checked.is block made.graph m.classes slots (map kernel_slot_of k.slots.items) k.interval k.stages k.first_edge k.second_edge (classes_named machine) by.made.numbers found.slots_are found.stages_are;
+          tells = kernel_reported d front.checked is.checked.is block made.graph m.classes slots (map kernel_slot_of k.slots.items) k.interval k.stages k.first_edge k.second_edge (classes_named machine) by.made.numbers found.slots_are found.stages_are;
         },
       ),
     )

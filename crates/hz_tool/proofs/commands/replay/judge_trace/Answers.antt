@@ -6,4 +6,4 @@ use Rattle.hz_tables.specs.Machines.{machine_of}
 use Rattle.hz_tool.proofs.commands.replay.judge_trace.Goals as goal
 
 pub returns-in-Err-clause-err : goal.returns-in-Err-clause-err
-returns-in-Err-clause-err c = tells_fault trace_word (TraceFaultAt (names_of_machine (machine_of c.args.machine.now)) c.args.text.now) c.args.file c.told.result (faults.fault_told c.in-Err.fault) c.refuse_fault.result c.told.ensures c.in-Err.ensures.err c.refuse_fault.ensures.value
+returns-in-Err-clause-err c = tells_fault trace_word (TraceFaultAt (names_of_machine (machine_of c.args.machine.now)) c.args.text.now) c.args.file c.reported.result (faults.fault_reported c.in-Err.fault) c.refuse_fault.result c.reported.ensures c.in-Err.ensures.err c.refuse_fault.ensures.value

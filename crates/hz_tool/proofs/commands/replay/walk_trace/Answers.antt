@@ -11,7 +11,7 @@ use Rattle.hz_replay.specs.declared.event.Event.{Event}
 use Rattle.hz_report.specs.Replays.{replay_text}
 use Rattle.hz_tables.specs.Machines.{machine_of}
 use Rattle.hz_tool.specs.Deciding.{replay_status}
-use Rattle.hz_tool.proofs.ReplayedLemmas.{replay_told}
+use Rattle.hz_tool.proofs.ReplayedLemmas.{replay_reported}
 use Rattle.hz_front.proofs.TraceLemmas.{trace_few}
 use Rattle.hz_front_model.specs.Phases.{TellsFault}
 use Rattle.hz_tool.proofs.DecideLemmas.{hands_on}
@@ -50,5 +50,5 @@ returns c =
     let outcome = c.outcome_of-outcome.result in
     let is = subst (λ (es : List Event). IsOutcome m (events_in es) outcome) c.deref.ensures.value c.outcome_of-outcome.ensures in (
       record { classes = events_of_classes names read.lines; asks = events_of_queries names read.lines; replayed = is },
-      inl (events_in events, read, subst (λ (ls : List ℕ). Walks m ls (events_in events) (replay_status outcome) (replay_text m events outcome)) c.in_ok-events.ensures.lines (replay_told m events outcome (events_of_classes names read.lines) is)),
+      inl (events_in events, read, subst (λ (ls : List ℕ). Walks m ls (events_in events) (replay_status outcome) (replay_text m events outcome)) c.in_ok-events.ensures.lines (replay_reported m events outcome (events_of_classes names read.lines) is)),
     )

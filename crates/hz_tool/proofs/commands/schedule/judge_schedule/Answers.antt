@@ -6,7 +6,7 @@ use Rattle.hz_sched.specs.Shape.{graph_of, slots_of}
 use Rattle.hz_tool.proofs.CommandLemmas.{block_schedule, decided_then, front_machine, refused_then, scheduled_then, uncompiled}
 use Rattle.hz_tool.proofs.JudgeLemmas.{block_else, block_then, scheduled_else}
 use Rattle.hz_tool.proofs.MachineLemmas.{classes_named}
-use Rattle.hz_tool.proofs.SlotLemmas.{text_told}
+use Rattle.hz_tool.proofs.SlotLemmas.{text_reported}
 use Rattle.hz_tool.specs.Deciding.{Nothing}
 use Rattle.hz_tool.specs.declared.done.Done.TheVariants.{Scheduled}
 use Rattle.hz_tool.proofs.commands.schedule.judge_schedule.Goals as goal
@@ -64,5 +64,5 @@ returns c =
     (scheduled_then d front.checked is.checked.is front.compiled.machine machine block made.graph made.schedule by name (TellsSchedule d known insns) s t h))
     (Ok (Scheduled front.compiled.machine made.graph made.schedule)) (
       record { places = by.places; classes = by.schedulable.classes },
-      (graph_of made.graph, slots, block_schedule d front.checked is.checked.is front.compiled.machine machine block made.graph made.schedule by, (refl, text_told d front.compiled.machine.classes.items block made.graph slots (classes_named machine) by.made.numbers)),
+      (graph_of made.graph, slots, block_schedule d front.checked is.checked.is front.compiled.machine machine block made.graph made.schedule by, (refl, text_reported d front.compiled.machine.classes.items block made.graph slots (classes_named machine) by.made.numbers)),
     )

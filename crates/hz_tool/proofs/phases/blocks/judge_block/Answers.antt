@@ -6,4 +6,4 @@ use Rattle.hz_rtl.specs.Faults as faults
 use Rattle.hz_tool.proofs.phases.blocks.judge_block.Goals as goal
 
 pub returns-in-Err-clause-err : goal.returns-in-Err-clause-err
-returns-in-Err-clause-err c = tells_fault rtl_word (blocks.FaultAt (trees c.args.read.now)) c.args.file c.told.result (faults.fault_of c.in-Err.fault) c.refuse_fault.result c.told.ensures c.in-Err.ensures.faults c.refuse_fault.ensures.value
+returns-in-Err-clause-err c = tells_fault rtl_word (blocks.FaultAt (trees c.args.read.now)) c.args.file c.reported.result (faults.fault_of c.in-Err.fault) c.refuse_fault.result c.reported.ensures c.in-Err.ensures.faults c.refuse_fault.ensures.value

@@ -17,15 +17,15 @@ use Rattle.hz_tool.proofs.phases.blocks.judge_block_text.Goals as goal
 
 pub returns-clause-ok : goal.returns-clause-ok
 returns-clause-ok c =
-    let told = subst (λ (fs : List Form). IfOk c.judge_block.result (λ block. blocks.Reads (trees fs) (instructions block))) c.deref.ensures.value c.judge_block.ensures.ok in
-    if_ok (λ block says. record { read = trees c.in_ok-read.read.items; forms = c.in_ok-read.ensures.ok; says = says }) c.judge_block.result told
+    let reported = subst (λ (fs : List Form). IfOk c.judge_block.result (λ block. blocks.Reads (trees fs) (instructions block))) c.deref.ensures.value c.judge_block.ensures.ok in
+    if_ok (λ block says. record { read = trees c.in_ok-read.read.items; forms = c.in_ok-read.ensures.ok; says = says }) c.judge_block.result reported
 
 pub returns-clause-err : goal.returns-clause-err
 returns-clause-err c =
     let file = c.args.file.now in
     let read = trees c.in_ok-read.read.items in
-    let told = subst (λ (fs : List Form). IfErr c.judge_block.result (Agrees (TellsFault rtl_word (blocks.FaultAt (trees fs)) file))) c.deref.ensures.value c.judge_block.ensures.err in
-    if_err (λ told h. forms_on file c.args.text.now read (λ read. IsBlock file read (λ insns. Nothing)) (refused told) c.in_ok-read.ensures.ok (block_wrong file read (λ insns. Nothing) told h)) c.judge_block.result told
+    let reported = subst (λ (fs : List Form). IfErr c.judge_block.result (Agrees (TellsFault rtl_word (blocks.FaultAt (trees fs)) file))) c.deref.ensures.value c.judge_block.ensures.err in
+    if_err (λ reported h. forms_on file c.args.text.now read (λ read. IsBlock file read (λ insns. Nothing)) (refused reported) c.in_ok-read.ensures.ok (block_wrong file read (λ insns. Nothing) reported h)) c.judge_block.result reported
 
 pub returns-in_err-read-clause-kind : goal.returns-in_err-read-clause-kind
 returns-in_err-read-clause-kind c = err_exit _ c.from_residual.result c.in_err-read.field-0.0 c.from_residual.ensures.1 c.in_err-read.ensures.kind

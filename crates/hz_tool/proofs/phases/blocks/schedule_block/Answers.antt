@@ -9,7 +9,7 @@ use Rattle.hz_rtl.specs.Shape.{instructions}
 use Rattle.hz_sched.specs.Shape.{graph_of, node_of}
 use Rattle.hz_tables.specs.Machines.{machine_of}
 use Rattle.hz_tool.proofs.BlockLemmas.{graph_size, is_graph}
-use Rattle.hz_tool.proofs.BlockRefusals.{stuck_within, stuck_told}
+use Rattle.hz_tool.proofs.BlockRefusals.{stuck_within, stuck_reported}
 use Rattle.hz_tool.proofs.DecideLemmas.{err_exit}
 use Rattle.hz_tool.proofs.JudgeLemmas.{classes_else, classes_then}
 use Rattle.hz_tool.proofs.MachineLemmas.{classes_count, classes_named}
@@ -46,7 +46,7 @@ refuse_stuck-requires c =
     let graph = c.in_ok-graph.graph in
     let size = graph_size c.args.checked.now c.args.block.now graph c.in_ok-graph.ensures.ok in
     stuck_within (length c.args.block.now.insns.items) c.in-Err.fault
-    (λ place told. let low = (stuck_first m (graph_of graph) place (sym c.in-Err.ensures.fault ∙ told)).0 in omega (arith, low, size, length-map graph.insns.items node_of))
+    (λ place reported. let low = (stuck_first m (graph_of graph) place (sym c.in-Err.ensures.fault ∙ reported)).0 in omega (arith, low, size, length-map graph.insns.items node_of))
 
 pub returns-clause-err : goal.returns-clause-err
 returns-clause-err c = λ d is machine.
@@ -60,7 +60,7 @@ returns-clause-err c = λ d is machine.
     let ranges = nodes_below (length m.classes) (length d.classes) made c.in_ok-graph.ensures.schedulable.classes (classes_count d is.known m machine) in (
       c.refuse_stuck.ensures.kind,
       agrees_weaker starts (HasClasses file d block starts) (classes_then file d block starts (all_have_classes d (classes_of g) block graph.classes)) c.refuse_stuck.result
-          (stuck_told c.args.file d is.known c.args.block.now.insns.items Nothing c.in-Err.fault c.refuse_stuck.result
-          (λ place i told there. first_stuck d is.known m machine g block graph ranges place i (sym c.in-Err.ensures.fault ∙ told) there)
+          (stuck_reported c.args.file d is.known c.args.block.now.insns.items Nothing c.in-Err.fault c.refuse_stuck.result
+          (λ place i reported there. first_stuck d is.known m machine g block graph ranges place i (sym c.in-Err.ensures.fault ∙ reported) there)
           c.refuse_stuck.ensures.answer),
     )

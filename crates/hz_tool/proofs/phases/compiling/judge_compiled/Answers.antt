@@ -37,4 +37,4 @@ returns-in-Ok c =
 pub returns : goal.returns
 returns c =
     let is = c.in_ok-checked.ensures.ok in
-    (c.refuse_limit.ensures.kind, limit_refused c.args.file.now c.args.text.now c.in_ok-checked.checked is c.refuse_limit.result (c.refuse_limit.ensures.told is.d is.is))
+    (c.refuse_limit.ensures.kind, limit_refused c.args.file.now c.args.text.now c.in_ok-checked.checked is c.refuse_limit.result (c.refuse_limit.ensures.reported is.d is.is))

@@ -1,5 +1,0 @@
-use Rattle.hz_check.proofs.Telling.CheckSteps.{copied_there}
-use Rattle.hz_check.proofs.faults.told.fault.Goals as goal
-
-pub returns : goal.returns
-returns c = rw c.fault_if_copied.ensures (copied_there c.args.told c.copy.result c.copy.ensures)

@@ -1,5 +1,0 @@
-use Rattle.hz_description_model.proofs.Check.ToldLaws.{units_past}
-use Rattle.hz_description_model.proofs.checks.units_past_their_limit_are_told.Goals as goal
-
-pub returns : goal.returns
-returns c = units_past

@@ -1,5 +1,0 @@
-use Rattle.hz_description_model.proofs.Reading.AddedLaws.{stands_behind, fault_there}
-use Rattle.hz_description_model.proofs.descriptions.faults_stand_behind_a_front.Goals as goal
-
-pub returns : goal.returns
-returns c = λ forms fault line. (stands_behind forms fault line, fault_there forms fault line)

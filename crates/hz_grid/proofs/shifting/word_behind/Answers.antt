@@ -1,9 +1,0 @@
-use Rattle.hz_grid.specs.Words.{row_of}
-use Rattle.hz_grid.proofs.ShiftLemmas.{behind_none, behind_there}
-use Rattle.hz_grid.proofs.shifting.word_behind.Goals as goal
-
-pub returns-then-place-more : goal.returns-then-place-more
-returns-then-place-more c bit small = behind_none (row_of c.args.words.now) c.args.more c.args.place bit c.if-place-more.true small
-
-pub returns-else-place-more : goal.returns-else-place-more
-returns-else-place-more c bit small = rw c.word_at.ensures (behind_there c.args.words.now c.args.more c.args.place bit c.requires c.if-place-more.false small)

@@ -1,7 +1,0 @@
-use Rattle.std.specs.Prelude.{◌==◌}
-use Rattle.hz_pipeline_model.proofs.Accepting.Rows.{numbers_tell}
-use Rattle.hz_laws.proofs.Leaving.CountsTold.{counts_told}
-use Rattle.hz_laws.proofs.leaving_laws.every_count_of_an_automaton_is_told.Goals as goal
-
-pub returns : goal.returns
-returns c = record { told = counts_told ◌==◌ numbers_tell }
