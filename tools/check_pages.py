@@ -112,7 +112,8 @@ def main():
     if given.sizes:
         print("\n".join(sizes.table(TOP)))
         return 0
-    wrong = links.check(TOP) + names.check(TOP) + manual.check(TOP)
+    # (a released tar has no sources, which names and links are of)
+    wrong = links.check(TOP) + names.check(TOP) + manual.check(TOP) if os.path.exists(os.path.join(TOP, "crates.txt")) else []
     if wrong:
         print("\n".join(wrong))
     print(f"links, names and the manual: {len(wrong)} faults")

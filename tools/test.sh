@@ -186,8 +186,8 @@ for each in whole tied; do
     replays $each 'ask line 2 n1 reserved
 accepted 1 issues 0 cycles' 'issue tied_asked' 'ask n1'
 done
-# the checks of pages
-python3 "$tools/test/test_pages.py" || bad=1
+# the checks of pages, where the sources are that pages name
+[ ! -e "$tools/../crates.txt" ] || python3 "$tools/test/test_pages.py" || bad=1
 # under ndfa any choice may be taken, and its order ties nothing
 { sed 's/query_//' tied-port.md; echo '(automata_option "ndfa")'; } > any.md
 cut any-cut --split any.md
@@ -237,7 +237,7 @@ if [ -e /dev/full ]; then
 fi
 
 # the lists of tools/check_limits.py, beside pages and sources
-sh "$tools/test/limits.sh" || bad=1
+[ ! -e "$tools/../crates.txt" ] || sh "$tools/test/limits.sh" || bad=1
 
 # the data sheets of tools/sheet.py
 sh "$tools/test/sheet.sh" "$hz" || bad=1
