@@ -415,22 +415,28 @@ expect_memory 32768 drill most_states 1 4
 expect_sink drill d 1 4
 
 # hz_why
-why expect 0 "$(printf 'accepted 2 issues 1 cycles\ncycle   0 1\na       1 3')" d t
+took='took alternative 1'
+why expect 0 "$(printf 'accepted 2 issues 1 cycles\nline 1 x in cycle -1 %s\nline 3 x in cycle 0 %s\ncycle   0 1\na       1 3' "$took" "$took")" d t
 why expect 0 'accepted 0 issues 0 cycles' d empty
 why expect 0 'accepted 0 issues 0 cycles' empty empty
 why expect 0 'accepted 0 issues 0 cycles' longest empty
 why expect 0 'accepted 0 issues 0 cycles' d longest_trace
 why expect 0 'accepted 0 issues 0 cycles' d many_events
-why expect 0 "$(printf 'accepted 2 issues 1 cycles\ncycle   0\na       3\nb       3')" two_automata t
-why expect 0 "$(printf 'accepted 2 issues 0 cycles\nby one of the choices\ncycle   0\na       2\nb       1')" ndfa both
-why expect 0 "$(printf 'accepted 1 issues 0 cycles\ncycle    0  1  2  3  4  5  6  7  8  9 10 11 12 13 14 15 16
+why expect 0 "$(printf 'accepted 2 issues 1 cycles\nline 3 x in cycle 0 %s\ncycle   0\na       3\nb       3' "$took")" two_automata t
+why expect 0 "$(printf 'accepted 2 issues 0 cycles\nby one of the choices\nline 1 x in cycle 0 took alternative 2\nline 2 y in cycle 0 %s\ncycle   0\na       2\nb       1' "$took")" \
+    ndfa both
+why expect 0 "$(printf 'accepted 1 issues 0 cycles\nline 1 c16 in cycle 0 took alternative 1\ncycle    0  1  2  3  4  5  6  7  8  9 10 11 12 13 14 15 16
 u        .  .  .  .  .  .  .  .  .  .  .  .  .  .  .  .  1')" states late_unit
 held='alternative 1: a in cycle 1 is planned by line'
-why expect 1 "$(printf 'refused line 2 x\nfits 1 cycle later\n%s 1, x\ncycle   0 1\na       . 1' "$held")" d twice
-why expect 1 "$(printf '%s\nfits 1 cycle later\n%s 5, x\ncycle   0 1\na       1 5' "$reported" "$held")" query asks
-why expect 1 "$(printf 'refused line 1 x\nfits in no later cycle\nalternative 1: presence_set line 2, v in cycle 0 without a pattern\ncycle   0\nv       .')" \
-    never twice
-why expect 1 "$(printf 'refused line 2 x\nfits 60 cycles later\nalternative 1: u in cycle 0 is held from line 1, x\ncycle  '
+takes='alternative 1 takes a 1'
+why expect 1 "$(printf 'refused line 2 x\nfits 1 cycle later\n%s 1, x\n%s\nline 1 x in cycle 0 %s\ncycle   0 1\na       . 1' "$held" "$takes" "$took")" d twice
+why expect 1 "$(printf '%s\nfits 1 cycle later\n%s 5, x\n%s\n' "$reported" "$held" "$takes"
+    printf 'line 1 x in cycle -1 %s\nline 5 x in cycle 0 %s\ncycle   0 1\na       1 5' "$took" "$took")" query asks
+never=$(printf 'refused line 1 x\nfits in no later cycle\nalternative 1: presence_set line 2, v in cycle 0 without a pattern\n'
+    printf '  wants u\nalternative 1 takes v 0\ncycle   0\nv       .')
+why expect 1 "$never" never twice
+why expect 1 "$(printf 'refused line 2 x\nfits 60 cycles later\nalternative 1: u in cycle 0 is held from line 1, x\n'
+    printf 'alternative 1 takes u 0-59\nline 1 x in cycle 0 %s\ncycle  ' "$took"
     for j in $(seq 0 35); do printf ' %s' $((j % 10)); done; printf '\nu      '; for j in $(seq 0 35); do printf ' 1'; done
     printf '\ncut after cycle 35')" sixty twice
 why expect 2 'fault no_unit line 3 UnknownUnit' query no_unit
@@ -496,7 +502,8 @@ expect 3 "limit late_limit line 50001 Cycles $long_name" replay late_limit t
 expect 1 "refused line 50002 $long_name" replay late_class late_issues
 row=$(head -c 32 /dev/zero | tr '\0' n)
 why expect 1 "$(printf 'refused line 50002 %s\nfits 1 cycle later\n' "$long_name"
-    printf 'alternative 1: %s in cycle 0 is held from line 50001, %s\n' "$long_name" "$long_name"
+    printf '%s..\nalternative 1 takes ..\n' "$(printf 'alternative 1: %s' "$long_name" | head -c 78)"
+    printf '%s..\n' "$(printf 'line 50001 %s' "$long_name" | head -c 78)"
     printf '%-32s       0\n%s   50001' cycle "$row")" late_class late_issues
 expect 2 'fault late_trace line 50001 BadLine' replay d late_trace
 why expect 2 'fault late_trace line 50001 BadLine' d late_trace
@@ -570,8 +577,7 @@ once b 2 'fault /dev/stdin line 1 BadShape' eval b /dev/stdin
 once circle 2 'fault /dev/stdin line 1 CircularReservation r' drill /dev/stdin 1 4
 why once alternatives 3 'limit /dev/stdin line 2 Alternatives x' /dev/stdin t
 why once bad 2 'fault /dev/stdin line 2 BadLine' d /dev/stdin
-why once never 1 "$(printf 'refused line 1 x\nfits in no later cycle\nalternative 1: presence_set line 2, v in cycle 0 without a pattern\ncycle   0\nv       .')" \
-    /dev/stdin t
+why once never 1 "$never" /dev/stdin t
 
 # hz_same: `other` is `k` with one entry changed, `renamed` with a class of another name, `turned` with its classes in the other order,
 # and `parts` the same machine in two automata

@@ -16,7 +16,7 @@ sys.dont_write_bytecode = True
 
 import check_gcc  # noqa: E402
 import check_modulo  # noqa: E402
-from check_why import WhyMaker  # noqa: E402
+from why_check.making import WhyMaker  # noqa: E402
 from check_walk import Simulation  # noqa: E402
 from extract import Reader, extract  # noqa: E402
 from extraction.forms import Fault  # noqa: E402

@@ -73,7 +73,7 @@ dist() {
     name=hz-$version
     root=$work/$name
     documents "$root"
-    copy "$root" VERSION tools/test.sh $(find tools/test -type f) tools/check_gcc.py tools/check_walk.py tools/check_why.py tools/check_bound.py tools/check_modulo.py \
+    copy "$root" VERSION tools/test.sh $(find tools/test -type f) tools/check_gcc.py tools/check_walk.py tools/check_why.py tools/why_check/*.py tools/check_bound.py tools/check_modulo.py \
         tools/check_memory.py tools/check_pages.py tools/pages/*.py tools/commands.txt tools/refuse_memory.c tools/check_large.py tools/large/*.py tools/check_built.py tools/build_genautomata.sh tools/fuzz_extract.py tools/fuzz_built.py tools/check_same.py tools/same_check/*.py tools/check_sheet.py tools/sheet_check/*.py
     put_programs "$into" "$root/bin" && put_launchers "$root/bin" ../tools && put_tools "$root/tools" && put_pages "$root/man" || failed
     sums sha256sum "$root" > "$work/sums" && mv "$work/sums" "$root/SHA256SUMS" && dated "$root" || failed

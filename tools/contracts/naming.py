@@ -35,8 +35,8 @@ class Reader:
         self.found = []
 
     def resolve(self, token):
-        """What a name is; nothing if the file knows no such name."""
-        head, _, rest = token.partition(".")
+        """What a name is; nothing if the file knows no such name. An operator that is named whole, as `◌==◌`, goes by its first piece."""
+        head, _, rest = next(filter(None, token.split("◌")), token).partition(".")
         if head in self.traits:
             return [self.traits[head]]
         if head in self.source.imports.modules and rest:

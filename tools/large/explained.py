@@ -1,6 +1,6 @@
-"""Descriptions at the ends of sizes for hz_why, and what it answers, by the calendar of tools/check_why.py. Nothing is asked of hz_why."""
+"""Descriptions at the ends of sizes for hz_why, and what it answers, by the calendar of tools/why_check. Nothing is asked of hz_why."""
 from check_walk import Simulation
-from check_why import Play
+from why_check.playing import Play
 
 
 def description(units, sets, classes):

@@ -1,8 +1,8 @@
 """The texts of `hz_why`: their parts, the picture of what is held, and a reason in the words of a block."""
 import re
 
-# a line of a trace, and the class on it, which a long line may lack; the line of a set statement is one of the description
-HELD = re.compile(r"(?<!_set )line (\d+)(?:,(?: [^\s()]+)?)?")
+# a line of a trace, and the class on it, of which a line that is cut may lack the end; the line of a set statement is one of the description
+HELD = re.compile(r"(?<!_set )line (\d+),(?: \S+)?")
 GROUP = re.compile(r"alternatives? [\d, .-]+: (.*)")
 CYCLE = re.compile(r" in cycle (\d+)")
 

@@ -3,7 +3,7 @@ import random
 import re
 
 from check_walk import Simulation
-from check_why import Play
+from why_check.playing import Play
 from .calendar import Expected
 
 # so many classes of a large description are the rows that are compared, with all classes as columns
@@ -74,7 +74,7 @@ class Comparison:
         self.same("automata", found, [tuple(name) for name in re.findall(r"^automaton (\S+) (\d+) (\d+)$", tables, re.M)])
 
     def held(self, play, events, shown, texts):
-        """What is held in each cycle by the calendar of check_why, with a text for each line."""
+        """What is held in each cycle by the calendar of why_check, with a text for each line."""
         played = play.played(events)
         if played is None:
             return
@@ -120,7 +120,7 @@ class Comparison:
 
 
 def events_of(slots):
-    """The events of a schedule as check_why takes them, and the number of the instruction of each line."""
+    """The events of a schedule as why_check takes them, and the number of the instruction of each line."""
     events, numbers, now = [], {}, 0
     for line, (cycle, number, name) in enumerate(slots, 1):
         if int(cycle) > now:

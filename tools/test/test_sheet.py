@@ -264,12 +264,14 @@ class Answers(unittest.TestCase):
         lines = {2: types.SimpleNamespace(number=7), 9: types.SimpleNamespace(number=8)}
         text = "fits 2 cycles later\nalternatives 1-2, 4: port in cycle 0 is held from line 2, y\n" \
             "alternative 3: port in cycle 2 is planned by line 9, z\n" \
-            "alternative 5: exclusion_set line 9, a (line 2, y) in cycle 0 with b (asked)\n" \
-            "alternatives 6, 8 ..: presence_set line 9, a (asked) in cycle 3 without b or ..\n" \
+            "alternative 5: exclusion_set line 9, a in cycle 0 with b\n  a is asked for; b is held from line 2, y\n" \
+            "alternatives 6, 8 ..: presence_set line 9, a in cycle 3 without a pattern\n  wants b; c\n" \
+            "alternative 7: port in cycle 1 is planned by line 2..\n" \
             "alternative 1 takes port 0-2\nline 2 y in cycle -1 took alternative 1\ncycle 0\n"
         self.assertEqual(reasons_in(text, lines, 9), "port is held by insn 7, port 2 cycles later is planned by insn 8, "
-                         "exclusion_set line 9, a (insn 7) with b (asked), presence_set line 9, a (asked) 3 cycles later without b or ..")
-        self.assertEqual(reasons_in(text, lines, 1), "port is held by insn 7 and 3 more")
+                         "exclusion_set line 9, a with b, presence_set line 9, a 3 cycles later without a pattern, "
+                         "port 1 cycle later is planned by line 2..")
+        self.assertEqual(reasons_in(text, lines, 1), "port is held by insn 7 and 4 more")
 
     def test_traces(self):
         self.assertEqual(events_in("; no\n\tissue\t add \r\nask u\nadvance 007\nissue x", 2), ([Event(2, "add"), Event(4, None, 7)], 5))

@@ -1,4 +1,5 @@
 pub mod BegunChains
+pub mod RowLemmas
 pub mod TailLemmas
 pub mod CycleLemmas
 pub mod TallyLemmas

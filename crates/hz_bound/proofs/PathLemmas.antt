@@ -14,8 +14,7 @@ use Rattle.hz_depend.specs.declared.parts.Edge.{Edge}
 use Rattle.hz_depend.specs.declared.parts.Graph.{Graph}
 use Rattle.std.specs.declared.alloc.Global.{Global}
 use Rattle.std.specs.declared.vec.Vec.{Vec}
-use Rattle.hz_sched.specs.Rows.{row_at}
-use Rattle.hz_bound.specs.Rows.{sum_of, Carries, Follows, IsChainOf, TailsFrom, LeadUp, IsPathOf}
+use Rattle.hz_bound.specs.Rows.{row_at, sum_of, Carries, Follows, IsChainOf, TailsFrom, LeadUp, IsPathOf}
 use Rattle.hz_depend.specs.GraphShape.{edge_of}
 use Rattle.hz_sched.specs.Shape.{node_of, graph_of}
 

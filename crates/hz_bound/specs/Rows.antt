@@ -1,11 +1,17 @@
 -- Tails and chains by rows of edges, one for each place. These words are only to prove with.
-use Rattle.std.specs.Prelude.{◌≡◌, ℕ, ◌+◌, ◌*◌, ◌<◌, ◌≤◌, ◌==◌, List, [], ◌∷◌, map, slice_index, length, min, if◌then◌else◌, Option, Some}
+use Rattle.std.specs.Prelude.{◌≡◌, ℕ, ◌+◌, ◌*◌, ◌<◌, ◌≤◌, ◌==◌, List, [], ◌∷◌, map, slice_index, slice_index_or, length, min, if◌then◌else◌, Option, Some}
+use Rattle.std.specs.declared.alloc.Global.{Global}
+use Rattle.std.specs.declared.vec.Vec.{Vec}
 use Rattle.std.specs.Option.{option_map_or}
 use Rattle.std.specs.List.{Contains}
 use Rattle.hz_description_model.specs.Reading.Limits.{latency_limit}
 use Rattle.hz_block_model.specs.Scheduling.Schedules.{Graph}
 use Rattle.hz_measure_model.specs.Bounds.Paths.{greatest, AreTails, IsLeast, IsChain}
 use Rattle.hz_depend.specs.declared.parts.Edge.{Edge}
+
+-- the row of an instruction, an empty one where there is none
+abbrev pub row_at : List (Vec Edge Global) → ℕ → List Edge
+row_at rows i = slice_index_or (map (λ row. row.items) rows) i []
 
 -- the cost of an edge and the tail where it leads
 abbrev pub sum_of : List ℕ → Edge → ℕ

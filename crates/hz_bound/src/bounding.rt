@@ -13,11 +13,11 @@ ghost use Rattle.hz_bound.specs.Shape.{names_of, lists_in, bound_of, IsInRange};
 use crate::chain::{chain_of, greatest_of};
 use crate::heaviest::{heaviest_of, value_of};
 use crate::parts::Bound;
+use crate::rows::outgoing;
 use crate::tails::tails_of;
 use hz_checked::Checked;
 use hz_depend::Graph;
 use hz_regexp::NoMemory;
-use hz_sched::outgoing;
 use std::alloc::Global;
 
 /// The greatest tail of a graph, and its chain.

@@ -4,8 +4,7 @@ ghost use Rattle.std.specs.Prelude.{◌≡◌, ◌≤◌, ◌<◌, ◌*◌, ◌=
 ghost use Rattle.hz_description_model.specs.Reading.Limits.{latency_limit};
 ghost use Rattle.hz_block_model.specs.Running.Limits.{instruction_limit};
 ghost use Rattle.hz_measure_model.specs.Bounds.Paths.{greatest};
-ghost use Rattle.hz_sched.specs.Rows.{row_at};
-ghost use Rattle.hz_bound.specs.Rows.{lesser, least_in, TailsFrom, LeadUp, IsChainOf};
+ghost use Rattle.hz_bound.specs.Rows.{row_at, lesser, least_in, TailsFrom, LeadUp, IsChainOf};
 
 use crate::tails::row_of;
 use hz_depend::Edge;

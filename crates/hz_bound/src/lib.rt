@@ -7,6 +7,7 @@ mod cycles;
 mod heaviest;
 mod loads;
 mod parts;
+mod rows;
 mod tails;
 mod tallies;
 mod writing;

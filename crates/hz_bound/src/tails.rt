@@ -4,8 +4,7 @@ ghost use Rattle.std.specs.Prelude.{◌≡◌, ◌≤◌, ◌<◌, ◌*◌, leng
 ghost use Rattle.hz_description_model.specs.Reading.Limits.{latency_limit};
 ghost use Rattle.hz_block_model.specs.Running.Limits.{instruction_limit};
 ghost use Rattle.hz_measure_model.specs.Bounds.Paths.{greatest};
-ghost use Rattle.hz_sched.specs.Rows.{row_at};
-ghost use Rattle.hz_bound.specs.Rows.{sum_of, TailsFrom, LeadUp};
+ghost use Rattle.hz_bound.specs.Rows.{row_at, sum_of, TailsFrom, LeadUp};
 
 use hz_depend::Edge;
 use hz_regexp::NoMemory;

@@ -10,4 +10,9 @@ mod ReadLines
 mod WholeTexts
 mod LoadCounts
 mod FormTexts
+mod BlankTexts
+mod BlankLists
+mod FreeForms
+mod FreeFormsOnly
+mod TakenUnits
 mod WrittenDescriptions

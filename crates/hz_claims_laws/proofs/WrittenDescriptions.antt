@@ -7,7 +7,7 @@ use Rattle.hz_description_model.specs.Reading.AddedItems.{Add, nothing, adds, Ha
 use Rattle.hz_description_model.specs.Reading.DescriptionForms.{DescriptionFault, Said, Addition, automata, units, reservation, class, bypass, set, options, attribute, all_options, IsReading, form_says, forms_say, with_addition, Reads}
 use Rattle.hz_description_model.specs.Reading.Descriptions.{Description, Options, no_items}
 use Rattle.hz_description_model.proofs.Reading.AddedLaws.{items_added}
-use Rattle.hz_laws.proofs.Written.FormsBack.{form_back}
+use Rattle.hz_claims_laws.proofs.FreeForms.{form_back}
 use Rattle.hz_claims_laws.specs.Files.{file_text, AreFrom, greatest_depth, WriteEach, nothing_more, one_form, gives, HasGiven}
 use Rattle.hz_claims_laws.proofs.FormTexts.{forms_back}
 
@@ -19,8 +19,8 @@ with_all d (a ∷ additions) = with_all (with_addition d a) additions
 module _ (read : List ℕ → Said) where
   written_adds : (n : ℕ) (forms : Trees) (additions : List Addition) → WriteEach read n forms additions → Add read n forms additions
   written_adds n forms additions nothing_more = nothing
-  written_adds n forms additions (one_form {form = form} {others = others} {addition = addition} {additions = rest} line w ws) =
-      adds (form_back read line n form addition w) (written_adds (n + 1) others rest ws)
+  written_adds n forms additions (one_form {form = form} {others = others} {addition = addition} {additions = rest} w ws) =
+      adds (form_back read n form addition w) (written_adds (n + 1) others rest ws)
 
   all_said : (n : ℕ) (d : Description) (forms : Trees) (additions : List Addition) → Add read n forms additions → forms_say read n d forms ≡ Ok (with_all d additions)
   all_said n d forms additions nothing = refl

@@ -7,7 +7,7 @@ use Rattle.hz_base_model.specs.Forms.Forms.{is_letter, integer_of, is_in_range}
 use Rattle.hz_base_model.specs.Forms.Trees.{Tree, Trees, list, vector, atom, quoted, number, none, more, line_of}
 use Rattle.hz_description_model.specs.Reading.DescriptionForms.{Said, Addition, options}
 use Rattle.hz_description_model.specs.Reading.Descriptions.{Options}
-use Rattle.hz_laws.specs.Written.{Writes}
+use Rattle.hz_claims_laws.specs.FreeForms.{WritesFreely}
 
 -- ---- the text of forms
 
@@ -106,10 +106,10 @@ abbrev mutual
 
 -- ---- descriptions
 
--- each form writes what it adds, on a line of its own, as the form of its number; so many forms come before the first
+-- each form writes what it adds, as the form of its number; so many forms come before the first
 pub data WriteEach (read : List ℕ → Said) : ℕ → Trees → List Addition → Type 0 where
   nothing_more : {n : ℕ} → WriteEach read n none []
-  one_form : {n : ℕ} {form : Tree} {others : Trees} {addition : Addition} {additions : List Addition} → (line : ℕ) → Writes read line n form addition → WriteEach read (n + 1) others additions
+  one_form : {n : ℕ} {form : Tree} {others : Trees} {addition : Addition} {additions : List Addition} → WritesFreely read n form addition → WriteEach read (n + 1) others additions
       → WriteEach read n (more form others) (addition ∷ additions)
 
 -- a form of options has an option

@@ -1,8 +1,11 @@
+pub mod Blanks
 pub mod Files
+pub mod FreeForms
 pub mod Guards
 pub mod Lines
 pub mod Numbers
 pub mod Reading
 pub mod TablesLines
+pub mod Taking
 pub mod UnitOrder
 pub mod Users

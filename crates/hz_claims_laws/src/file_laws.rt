@@ -14,8 +14,8 @@ pub fn files_say_the_forms_that_they_write()
     ensures example { file_text (more (list 1 (more (atom 1 (codes "define_cpu_unit")) (more (quoted 1 (codes "alu, mul")) (more (quoted 2 (codes "core")) none)))) (more (atom 2 (codes "x")) none)) ≡ codes "(define_cpu_unit " ++ (34 ∷ (codes "alu, mul" ++ (34 ∷ 10 ∷ 34 ∷ (codes "core" ++ (34 ∷ codes ") x\n"))))) }
 {}
 
-/// The text of a description, form by form as the manual has them, each on one line, says this description. It has what the forms write,
-/// in the order of the file: each operand in its place, each item with the line and the number of its form. `read` is what texts say as
+/// The text of a description, form by form as the manual has them, with any spaces in its lists, says this description. It has what the
+/// forms write, in the order of the file: each operand in its place, each item with the line and the number of its form. `read` is what texts say as
 /// expressions.
 pub fn files_say_the_descriptions_that_they_write()
     ensures { (read : List ℕ → Said) (forms : Trees) (additions : List Addition) → IsReading read → WriteEach read 0 forms additions → AreFrom 1 forms → greatest_depth forms ≤ 64

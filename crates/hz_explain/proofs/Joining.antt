@@ -2,6 +2,7 @@
 use Rattle.std.proofs.Common.{◌≡◌, ℕ, List, [], ◌∷◌, ◌++◌, sym, ap, ◌∙◌, append_assoc}
 use Rattle.std.specs.List.{concat}
 use Rattle.std.proofs.lemmas.List.{append-nil}
+use Rattle.std.proofs.lemmas.List.Folds.{concat-append}
 
 -- four texts, three, and two
 pub joined : (old a b c new w x y z : List ℕ) → a ≡ old ++ w → b ≡ a ++ x → c ≡ b ++ y → new ≡ c ++ z → new ≡ old ++ concat (w ∷ x ∷ y ∷ z ∷ [])
@@ -19,3 +20,10 @@ joined_three old a b new w x y ea eb en =
 
 pub joined_two : (old a new w z : List ℕ) → a ≡ old ++ w → new ≡ a ++ z → new ≡ old ++ (w ++ z)
 joined_two old a new w z ea en = en ∙ (ap (λ (l : List ℕ). l ++ z) ea ∙ append_assoc old w z)
+
+-- six texts
+pub joined_six : (old a b c d e new u v w x y z : List ℕ) → a ≡ old ++ u → b ≡ a ++ v → c ≡ b ++ w → d ≡ c ++ x → e ≡ d ++ y → new ≡ e ++ z → new ≡ old ++ concat (u ∷ v ∷ w ∷ x ∷ y ∷ z ∷ [])
+joined_six old a b c d e new u v w x y z ea eb ec ed ee en =
+    joined_three c d e new x y z ed ee en
+    ∙ (ap (λ (l : List ℕ). l ++ concat (x ∷ y ∷ z ∷ [])) (joined_three old a b c u v w ea eb ec)
+    ∙ (append_assoc old (concat (u ∷ v ∷ w ∷ [])) (concat (x ∷ y ∷ z ∷ [])) ∙ ap (λ (l : List ℕ). old ++ l) (sym (concat-append (u ∷ v ∷ w ∷ []) (x ∷ y ∷ z ∷ [])))))

@@ -1,5 +1,7 @@
 pub mod DrawLaws
+pub mod ListLaws
 pub mod TellLaws
+pub mod GroupingLaws
 pub mod WordLaws
 pub mod ShowLaws
 pub mod GatherLaws
@@ -8,3 +10,7 @@ pub mod TextLaws
 pub mod AnswerLaws
 pub mod WholeLaws
 pub mod NamingLaws
+pub mod WayLaws
+pub mod CutLaws
+pub mod DetailLaws
+pub mod TakingLaws

@@ -1,5 +1,5 @@
 -- What is reported by what the code holds is what the definitions tell.
-use Rattle.std.proofs.Common.{◌≡◌, ℕ, zero, suc, ◌+◌, ◌-◌, ◌<◌, ◌≤◌, ⊎_elim, Bool, true, false, cond, List, [], ◌∷◌, ◌++◌, map, take, drop, length, get_or, append_assoc, Contains, Option, Some, None, refl, sym, ap, ◌∙◌, subst, arith}
+use Rattle.std.proofs.Common.{◌≡◌, ℕ, zero, suc, ◌+◌, ◌-◌, ◌<◌, ◌≤◌, ⊎_elim, Bool, true, false, cond, List, [], ◌∷◌, ◌++◌, map, take, drop, length, append_assoc, Contains, Option, Some, None, refl, sym, ap, ◌∙◌, subst, arith}
 use Rattle.std.specs.Prelude.{◌&&◌, ◌==◌, codes, decimal, slice_get, slice_index_or, if◌then◌else◌}
 use Rattle.std.specs.List.{concat, find, flat_map}
 use Rattle.std.specs.Option.{option_map}
@@ -7,7 +7,7 @@ use Rattle.std.specs.declared.alloc.Global.{Global}
 use Rattle.std.specs.declared.vec.Vec.{Vec}
 use Rattle.std.proofs.Math.Path.{fun_ext}
 use Rattle.std.proofs.lemmas.Bool.{cases_lt, lt-ltb, le-ltb, eqb-true, eq-eqb, false_from_ne_true, and_parts}
-use Rattle.std.proofs.lemmas.List.{append-nil, drop_more, drop_all, map_more, map_push}
+use Rattle.std.proofs.lemmas.List.{append-nil, map_more, map_push}
 use Rattle.std.proofs.lemmas.List.Elements.{Contains-append_cases}
 use Rattle.std.proofs.lemmas.List.Folds.{concat-append}
 use Rattle.std.proofs.lemmas.Option.{slice_get-map, slice_get_cases}
@@ -17,13 +17,13 @@ use Rattle.hz_description_model.specs.Reservations.Automata.{UnitPlace}
 use Rattle.hz_description_model.specs.Reservations.Sets.{Statement}
 use Rattle.hz_pipeline_model.specs.Accepting.Events.{Event, issue, advance, ask, cycles_of}
 use Rattle.hz_pipeline_model.specs.Accepting.Replay.{Pipeline, chosen, any_fit, first_fit}
-use Rattle.hz_why_model.specs.Explanations.{Wording, held_word, choice_line, pair_words, holder_words, pattern_words, reason_words, alternative_line, alternative_lines}
+use Rattle.hz_why_model.specs.Explanations.{Wording, held_word, choice_line, pair_words, holder_words, pattern_words, reason_words}
 use Rattle.hz_why_model.specs.Holders.{Entry, entries, entry_at, entry_from, entries_from}
-use Rattle.hz_why_model.specs.Reasons.{same_place}
-use Rattle.hz_reasons.specs.Breaking.{reason_at, patterns_of, pattern_at}
+use Rattle.hz_why_model.specs.Reasons.{same_place, patterns_of}
+use Rattle.hz_reasons.specs.Breaking.{reason_at, pattern_at}
 use Rattle.hz_reasons.specs.Holding.{AreHolders, entry_with, pair_in, is_holder_of}
 use Rattle.hz_reasons.specs.Plans.{unit_of, statement_of, IsPlanOf}
-use Rattle.hz_explain.specs.Telling.{holder_in, pattern_or_none, pattern_numbered, patterns_or_none, pattern_in, unit_in, pair_reported, holder_reported, units_reported, pattern_reported, reason_reported, alternative_reported, alternatives_reported, choice_reported}
+use Rattle.hz_explain.specs.Telling.{holder_in, pattern_or_none, pattern_numbered, patterns_or_none, pattern_in, unit_in, pair_reported, holder_reported, units_reported, pattern_reported, reason_reported, choice_reported}
 use Rattle.hz_reasons.specs.declared.holders.Holder.{Holder}
 use Rattle.hz_reasons.specs.declared.plan.AutomatonUnit.{AutomatonUnit}
 use Rattle.hz_reasons.specs.declared.plan.Plan.{Plan}
@@ -32,25 +32,6 @@ use Rattle.hz_reasons.specs.declared.reasons.Break.{Break}
 use Rattle.hz_reasons.specs.declared.reasons.Reason.{Reason}
 use Rattle.hz_reasons.specs.declared.reasons.Reason.TheVariants.{Taken, Broken}
 use Rattle.hz_reasons.proofs.HoldingLaws.{holder_in_all, holder_from_now}
-
--- ---- one line more
-
-pub lines_next : (w : Wording UnitPlace) (plan : Plan) (issues : List Holder) (reasons : List (Option Reason)) (i : ℕ) (d : Option Reason) (old text : List ℕ) (all : List ℕ) → i < length reasons
-    → old ++ alternatives_reported w plan issues (i + 1) (drop i reasons) ≡ all → text ≡ old ++ alternative_reported w plan issues (i + 1) (get_or reasons i d)
-    → text ++ alternatives_reported w plan issues (i + 1 + 1) (drop (i + 1) reasons) ≡ all
-lines_next w plan issues reasons i d old text all lt come more =
-    let one : List ℕ = alternative_reported w plan issues (i + 1) (get_or reasons i d) in
-    let rest : List ℕ = alternatives_reported w plan issues (suc (i + 1)) (drop (i + 1) reasons) in
-    let on : i + 1 + 1 ≡ suc (i + 1) = omega arith in
-    ap (λ (n : ℕ). text ++ alternatives_reported w plan issues n (drop (i + 1) reasons)) on
-    ∙ (ap (λ (t : List ℕ). t ++ rest) more
-    ∙ (append_assoc old one rest
-    ∙ (sym (ap (λ (rs : List (Option Reason)). old ++ alternatives_reported w plan issues (i + 1) rs) (drop_more reasons i d lt)) ∙ come)))
-
-pub lines_end : (w : Wording UnitPlace) (plan : Plan) (issues : List Holder) (reasons : List (Option Reason)) (i n : ℕ) (text all : List ℕ) → length reasons ≤ i
-    → text ++ alternatives_reported w plan issues n (drop i reasons) ≡ all → text ≡ all
-lines_end w plan issues reasons i n text all le come =
-    sym (append-nil text) ∙ (sym (ap (λ (rs : List (Option Reason)). text ++ alternatives_reported w plan issues n rs) (drop_all i reasons le)) ∙ come)
 
 -- one reason more
 pub reasons_next : {A R Q : Type 0} (f : R → Q) (g : A → Q) (made : List R) (new : R) (all : List A) (i : ℕ) → i < length all → map f made ≡ map g (take i all)
@@ -153,7 +134,7 @@ of_set : (o : Option SetStatement) → map (λ (pattern : Vec AutomatonUnit Glob
 of_set None = refl
 of_set (Some s) = refl
 
-pattern_is : (sets : List SetStatement) (statements : List (Statement UnitPlace)) → map statement_of sets ≡ statements → (b : Break) → map unit_of (pattern_in sets b) ≡ pattern_at (patterns_of (slice_get statements b.statement)) b.pattern
+pub pattern_is : (sets : List SetStatement) (statements : List (Statement UnitPlace)) → map statement_of sets ≡ statements → (b : Break) → map unit_of (pattern_in sets b) ≡ pattern_at (patterns_of (slice_get statements b.statement)) b.pattern
 pattern_is sets statements same b =
     numbered_is (patterns_or_none (slice_get sets b.statement)) b.pattern
     ∙ ap (λ (ps : List (List UnitPlace)). pattern_at ps b.pattern)
@@ -193,7 +174,7 @@ module _ (w : Wording UnitPlace) (now : ℕ) (held : List (Entry UnitPlace)) whe
     at_same : (p : Pair UnitPlace) → entry_at w.same held p ≡ entry_at same_place held p
     at_same p = ap (λ (s : UnitPlace → UnitPlace → Bool). entry_at s held p) (fun_ext (λ a. fun_ext (λ b. same a b)))
 
-    reason_is : (r : Reason) → concat (reason_words w now held (reason_at statements now r)) ≡ reason_reported w plan issues r
+    pub reason_is : (r : Reason) → concat (reason_words w now held (reason_at statements now r)) ≡ reason_reported w plan issues r
     reason_is (Taken p) =
         let q : Pair UnitPlace = pair_in now (unit_in p) p.cycle in
         concat-append (pair_words w now held q) (holder_words w now held (entry_at w.same held q))
@@ -210,19 +191,6 @@ module _ (w : Wording UnitPlace) (now : ℕ) (held : List (Entry UnitPlace)) whe
         ∙ (ap (λ (t : List ℕ). t ++ concat (pattern_words w now held pattern)) (pair_is b.unit b.cycle)
         ∙ ap (λ (t : List ℕ). pair_reported w b.unit b.cycle ++ t) (said ∙ sym (append-nil reported))) in
         ap (λ (t : List ℕ). w.statement b.statement ++ (codes " line " ++ (decimal (w.line b.statement) ++ (codes ", " ++ t)))) both
-
-    pub line_is : (number : ℕ) (r : Option Reason) → alternative_reported w plan issues number r ≡ alternative_line w now held number (option_map (reason_at statements now) r)
-    line_is number None = refl
-    line_is number (Some r) =
-        let words : List (List ℕ) = reason_words w now held (reason_at statements now r) in
-        sym (ap (λ (t : List ℕ). codes "alternative " ++ (decimal number ++ (codes ": " ++ t)))
-        (concat-append words (codes "\n" ∷ []) ∙ ap (λ (t : List ℕ). t ++ concat (codes "\n" ∷ [])) (reason_is r)))
-
-    pub lines_are : (number : ℕ) (rs : List (Option Reason)) → alternatives_reported w plan issues number rs ≡ alternative_lines w now held number (map (option_map (reason_at statements now)) rs)
-    lines_are number [] = refl
-    lines_are number (r ∷ rs) =
-        ap (λ (t : List ℕ). t ++ alternatives_reported w plan issues (suc number) rs) (line_is number r)
-        ∙ ap (λ (t : List ℕ). alternative_line w now held number (option_map (reason_at statements now) r) ++ t) (lines_are (suc number) rs)
 
 -- ---- by which choices
 

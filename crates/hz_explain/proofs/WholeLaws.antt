@@ -1,5 +1,5 @@
 -- The whole answer on a trace.
-use Rattle.std.proofs.Common.{◌≡◌, ℕ, zero, suc, ◌+◌, inr, List, [], ◌∷◌, ◌++◌, length, map, take, drop, All, Some, refl, sym, ap, ◌∙◌, subst, arith, ◌≤◌, Option, None}
+use Rattle.std.proofs.Common.{◌≡◌, ℕ, zero, suc, ◌+◌, inr, List, [], ◌∷◌, ◌++◌, length, map, filter, take, drop, All, Some, refl, sym, ap, ◌∙◌, subst, arith, ◌≤◌, Option, None}
 use Rattle.std.specs.Prelude.{slice_get, slice_index_or}
 use Rattle.std.specs.List.{concat, flat_map}
 use Rattle.std.specs.declared.alloc.Global.{Global}
@@ -27,9 +27,11 @@ use Rattle.hz_replay.specs.Traces.{events_in, lines_in}
 use Rattle.hz_replay.specs.declared.event.Event.{Event as TraceEvent}
 use Rattle.hz_front_model.specs.Asks.{trace_names}
 use Rattle.hz_why_model.specs.Answers.{Explains}
-use Rattle.hz_why_model.specs.Explanations.{Wording, choice_line, wait_line, alternative_lines, reasons, TellsRefusal}
+use Rattle.hz_why_model.specs.Explanations.{Wording, choice_line, wait_line, alternative_lines, reasons, pair_lists, TellsRefusal}
 use Rattle.hz_why_model.specs.Holders.{Entry, entries_of, entries, entries_from}
 use Rattle.hz_why_model.specs.Pictures.{picture}
+use Rattle.hz_why_model.specs.Takes.{takes_lines}
+use Rattle.hz_why_model.specs.Ways.{Way, ways, still_holds, way_lines}
 use Rattle.hz_reasons.specs.Frontiers as frontiers
 use Rattle.hz_reasons.specs.Walking.{StopsAll}
 use Rattle.hz_reasons.proofs.PlanLaws.{map_twice}
@@ -82,6 +84,18 @@ module _ (d : Description) (parts : Parts) (is : IsPartsOf d parts) where
 pub front_all : (P : Event → Type 0) (es : List TraceEvent) (i : ℕ) → All P (events_in es) → All P (events_in (take i es))
 front_all P es i all = subst (All P) (take-map (λ (e : TraceEvent). event_of e.what) i es) (All-take P i (events_in es) all)
 
+abbrev issue_at : (line class number cycle : ℕ) → Way
+issue_at line class number cycle = record { line = line; class = class; number = number; cycle = cycle }
+
+-- lines of later events are of no issue
+ways_front : (now : ℕ) (t : List Event) (lines more choices : List ℕ) → length lines ≡ length t → ways now t (lines ++ more) choices ≡ ways now t lines choices
+ways_front now [] lines more choices each = refl
+ways_front now (e ∷ t) [] more choices each = absurd (omega (arith, each))
+ways_front now (advance n ∷ t) (l ∷ lines) more choices each = ways_front (n + now) t lines more choices (omega (arith, each))
+ways_front now (ask a u ∷ t) (l ∷ lines) more choices each = ways_front now t lines more choices (omega (arith, each))
+ways_front now (issue k ∷ t) (l ∷ lines) more [] each = refl
+ways_front now (issue k ∷ t) (l ∷ lines) more (i ∷ choices) each = ap (λ (ws : List Way). issue_at l k i now ∷ ws) (ways_front now t lines more choices (omega (arith, each)))
+
 module _ {U : Type 0} (m : Pipeline U) where
   -- lines of later events hold nothing
   entries_front : (now : ℕ) (t : List Event) (lines more choices : List ℕ) → length lines ≡ length t → entries m now t (lines ++ more) choices ≡ entries m now t lines choices
@@ -92,20 +106,26 @@ module _ {U : Type 0} (m : Pipeline U) where
   entries_front now (issue k ∷ t) (l ∷ lines) more [] each = refl
   entries_front now (issue k ∷ t) (l ∷ lines) more (i ∷ choices) each = ap (λ (es : List (Entry U)). entries_of l k (placed now (chosen m k i)) ++ es) (entries_front now t lines more choices (omega (arith, each)))
 
+  -- the text, by what stands reserved and by the issues
+  abbrev text_by : (w : Wording U) (t : List Event) (choices : List ℕ) (k : ℕ) (wait : Option ℕ) (held : List (Entry U)) (ws : List Way) → List ℕ
+  text_by w t choices k wait held ws = concat (
+      choice_line m.treatment
+      ∷ wait_line wait
+      ∷ alternative_lines w (cycles_of t) held m.statements (reasons w m t [] choices k)
+      ∷ takes_lines w.same w.unit (pair_lists w m t [] choices k)
+      ∷ way_lines w.class (cycles_of t) (filter (still_holds m (cycles_of t)) ws)
+      ∷ picture w.same w.unit (entries_from (cycles_of t) held) w.units (flat_map (λ a. a.pairs) (alternatives_at m k))
+      ∷ [])
+
   tells_front : (w : Wording U) (t : List Event) (lines more : List ℕ) (k : ℕ) (text : List ℕ) → length lines ≡ length t → TellsRefusal w m t lines k text → TellsRefusal w m t (lines ++ more) k text
   tells_front w t lines more k text each tells = record {
     choices = tells.choices;
     first = tells.first;
     wait = tells.wait;
     waits = tells.waits;
-    is = tells.is ∙ ap
-        (λ (held : List (Entry U)). concat (
-        choice_line m.treatment
-        ∷ wait_line tells.wait
-        ∷ alternative_lines w (cycles_of t) held 1 (reasons w m t lines tells.choices k)
-        ∷ picture w.same w.unit (entries_from (cycles_of t) held) w.units (flat_map (λ a. a.pairs) (alternatives_at m k))
-        ∷ []))
-        (sym (entries_front 0 t lines more tells.choices each));
+    is = tells.is
+        ∙ ap (λ (held : List (Entry U)). text_by w t tells.choices k tells.wait held (ways 0 t lines tells.choices)) (sym (entries_front 0 t lines more tells.choices each))
+        ∙ ap (λ (ws : List Way). text_by w t tells.choices k tells.wait (entries m 0 t (lines ++ more) tells.choices) ws) (sym (ways_front 0 t lines more tells.choices each));
   }
 
 -- one is refused

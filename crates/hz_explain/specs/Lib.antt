@@ -1,6 +1,11 @@
 pub mod Drawing
 pub mod Telling
+pub mod Listing
+pub mod Grouping
 pub mod Showing
 pub mod Answering
 pub mod Naming
 pub mod Deciding
+pub mod Ways
+pub mod Detailing
+pub mod Taking

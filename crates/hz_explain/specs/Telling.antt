@@ -1,5 +1,5 @@
 -- What is reported of a refusal, by what the code holds: its reasons, and the issues that hold what stands reserved.
-use Rattle.std.specs.Prelude.{◌≡◌, ◌==◌, ℕ, suc, Bool, nat_lt, List, [], ◌∷◌, ◌++◌, length, map, codes, decimal, Option, Some, None, slice_get, if◌then◌else◌}
+use Rattle.std.specs.Prelude.{◌≡◌, ◌==◌, ℕ, Bool, nat_lt, List, [], ◌∷◌, ◌++◌, length, map, codes, decimal, Option, Some, None, slice_get, if◌then◌else◌}
 use Rattle.std.specs.List.{concat, find, flat_map}
 use Rattle.std.specs.Option.{option_map}
 use Rattle.std.specs.declared.alloc.Global.{Global}
@@ -138,16 +138,6 @@ module _ (w : Wording UnitPlace) where
     abbrev pub reason_reported : Reason → List ℕ
     reason_reported (Taken p) = pair_reported (unit_in p) p.cycle ++ holder_reported p.cycle (holder_in plan issues (unit_of (unit_in p)) p.cycle)
     reason_reported (Broken b) = broken_reported plan b
-
-    -- the line of the alternative of this number; none if nothing forbids it
-    abbrev pub alternative_reported : ℕ → Option Reason → List ℕ
-    alternative_reported number None = []
-    alternative_reported number (Some reason) = concat (codes "alternative " ∷ decimal number ∷ codes ": " ∷ reason_reported reason ∷ codes "\n" ∷ [])
-
-    -- the lines of alternatives, of which the first has this number
-    abbrev pub alternatives_reported : ℕ → List (Option Reason) → List ℕ
-    alternatives_reported number [] = []
-    alternatives_reported number (reason ∷ reasons) = alternative_reported number reason ++ alternatives_reported (suc number) reasons
 
 -- by which choices
 abbrev pub choice_reported : (any_fit : Bool) → List ℕ

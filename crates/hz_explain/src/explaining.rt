@@ -14,8 +14,11 @@ ghost use Rattle.hz_reasons.specs.Holding.{AreHolders};
 ghost use Rattle.hz_reasons.specs.Plans.{IsPlanOf, IsWide};
 ghost use Rattle.hz_explain.specs.Telling.{AreReasons};
 
+use crate::groups::add_alternatives;
 use crate::picture::add_shown;
-use crate::telling::{add_alternatives, add_choice, add_wait, reasons};
+use crate::takes::add_takes;
+use crate::telling::{add_choice, add_wait, reasons};
+use crate::ways::add_ways;
 use hz_check::Parts;
 use hz_grid::NoMemory;
 use hz_mdread::Description;
@@ -23,7 +26,7 @@ use hz_reasons::{Frontier, Holder, Holders, Plan, Reason};
 use std::alloc::Global;
 
 /// Adds why an issue of the class is refused after the events whose issues hold this: when it fits, what forbids each of its
-/// alternatives, and a picture of what stands reserved.
+/// alternatives, what each takes, which issues still hold something, and a picture of what stands reserved.
 fn add_refusal(
     alloc: Global,
     text: &mut Vec<u8>,
@@ -37,24 +40,22 @@ fn add_refusal(
 ) -> Result<(), NoMemory>
     requires parts { IsPartsOf (description desc.now) parts.now }
     requires class { class < vec_len plan.now.classes }
+    requires wide { IsWide plan.now }
     ensures { OnOk result ((m : Pipeline UnitPlace) (t : List Event) (lines choices : List ℕ) → IsPlanOf m plan.now → AreReasons m (left_by m t choices) class reasons.now → AreHolders m t lines choices issues.now → text.new.items ≡ text.old.items ++ refusal_text (wording_of (description desc.now)) m t lines choices class wait) }
 {
     add_choice(text, plan.any_fit)?;
     add_wait(text, wait)?;
-    add_alternatives(text, desc, parts, plan, issues, reasons)?;
-    add_shown(
-        alloc,
-        text,
-        parts,
-        plan,
-        issues,
-        &plan.classes[class as usize],
-    )?;
+    add_alternatives(alloc, text, desc, parts, plan, issues, reasons)?;
+    let choices = plan.classes[class as usize].as_slice();
+    add_takes(alloc, text, parts, choices)?;
+    add_ways(alloc, text, desc, issues)?;
+    add_shown(alloc, text, parts, plan, issues, choices)?;
     Ok(())
 }
 
 /// Why an issue of the class is refused after the events of all these choices, of which the first hold this: when it fits by any of
-/// them, and by the first what forbids each of its alternatives, and a picture of what stands reserved. `NoMemory` where there was none.
+/// them; by the first what forbids each of its alternatives; what each takes; by the first which issues still hold something, and a
+/// picture of what stands reserved. `NoMemory` where there was none.
 pub fn tell_refusal(
     alloc: Global,
     desc: &Description,
@@ -87,7 +88,8 @@ pub fn tell_refusal(
     Ok(text)
 }
 
-/// What is left after accepted events whose issues hold this: a picture of what stands reserved. `NoMemory` where there was none.
+/// What is left after accepted events whose issues hold this: which of them still hold something, and a picture of what stands
+/// reserved. `NoMemory` where there was none.
 pub fn tell_left(
     alloc: Global,
     desc: &Description,
@@ -100,6 +102,7 @@ pub fn tell_left(
 {
     let mut text = Vec::new(alloc);
     add_choice(&mut text, plan.any_fit)?;
+    add_ways(alloc, &mut text, desc, &holders.issues)?;
     add_shown(alloc, &mut text, parts, plan, &holders.issues, &[])?;
     Ok(text)
 }

@@ -3,13 +3,18 @@
 #![tactic(auto)]
 
 mod answering;
+mod details;
 mod drawing;
 mod explaining;
+mod groups;
 mod judging;
+mod lists;
 mod naming;
 mod picture;
+mod takes;
 mod telling;
 mod top;
+mod ways;
 mod whole;
 mod words;
 

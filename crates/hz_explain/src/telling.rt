@@ -8,7 +8,7 @@ ghost use Rattle.hz_why_model.specs.Answers.{set_word};
 ghost use Rattle.hz_why_model.specs.Explanations.{held_word, wait_line};
 ghost use Rattle.hz_reasons.specs.Plans.{unit_of, AreFuture, IsPlanOf};
 ghost use Rattle.hz_explain.specs.Telling as reported;
-ghost use Rattle.hz_explain.specs.Telling.{AreReasons, wording_in, holder_in, pattern_in, pattern_numbered, pair_reported, holder_reported, units_reported, pattern_reported, broken_reported, reason_reported, alternative_reported, alternatives_reported, choice_reported, later_reported};
+ghost use Rattle.hz_explain.specs.Telling.{AreReasons, wording_in, holder_in, pattern_in, pattern_numbered, pair_reported, holder_reported, units_reported, pattern_reported, broken_reported, reason_reported, choice_reported, later_reported};
 ghost use Rattle.hz_reasons.specs.declared.reasons.Reason.TheVariants.{Taken};
 
 use crate::drawing::{add, add_number};
@@ -78,7 +78,7 @@ fn add_statement(text: &mut Vec<u8>, desc: &Description, statement: usize) -> Re
 }
 
 /// Adds a count.
-fn add_count(text: &mut Vec<u8>, count: usize) -> Result<(), NoMemory>
+pub(crate) fn add_count(text: &mut Vec<u8>, count: usize) -> Result<(), NoMemory>
     ensures { OnOk result (text.new.items ≡ text.old.items ++ decimal count) }
 {
     add(text, Buffer::new().format(count).as_bytes())
@@ -100,7 +100,7 @@ pub(crate) fn holder(
 }
 
 /// The pattern of this number; an empty one where there is none. It takes no memory.
-fn numbered(patterns: &[Vec<AutomatonUnit>], number: Option<usize>) -> &[AutomatonUnit]
+pub(crate) fn numbered(patterns: &[Vec<AutomatonUnit>], number: Option<usize>) -> &[AutomatonUnit]
     ensures { result.now ≡ pattern_numbered patterns.now number }
 {
     match number {
@@ -113,7 +113,7 @@ fn numbered(patterns: &[Vec<AutomatonUnit>], number: Option<usize>) -> &[Automat
 }
 
 /// The pattern by which a statement is broken; an empty one where a pattern is missed. It takes no memory.
-fn pattern(sets: &[SetStatement], broken: Break) -> &[AutomatonUnit]
+pub(crate) fn pattern(sets: &[SetStatement], broken: Break) -> &[AutomatonUnit]
     ensures { result.now ≡ pattern_in sets.now broken }
 {
     match sets.get(broken.statement) {
@@ -138,14 +138,14 @@ fn add_pair(
 }
 
 /// Adds the name of a class.
-fn add_class(text: &mut Vec<u8>, desc: &Description, class: u32) -> Result<(), NoMemory>
+pub(crate) fn add_class(text: &mut Vec<u8>, desc: &Description, class: u32) -> Result<(), NoMemory>
     ensures { OnOk result (text.new.items ≡ text.old.items ++ reported.class_name desc.now class) }
 {
     add(text, class_name(desc, class))
 }
 
 /// Adds whether something is held in the present cycle, or planned for a later one.
-fn add_held(text: &mut Vec<u8>, present: bool) -> Result<(), NoMemory>
+pub(crate) fn add_held(text: &mut Vec<u8>, present: bool) -> Result<(), NoMemory>
     ensures { OnOk result (text.new.items ≡ text.old.items ++ held_word present) }
 {
     if present {
@@ -155,7 +155,7 @@ fn add_held(text: &mut Vec<u8>, present: bool) -> Result<(), NoMemory>
 }
 
 /// Adds which issue holds something in a cycle.
-fn add_since(
+pub(crate) fn add_since(
     text: &mut Vec<u8>,
     desc: &Description,
     parts: &Parts,
@@ -172,7 +172,7 @@ fn add_since(
 }
 
 /// Adds which issue holds something in a cycle, if one does.
-fn add_holder(
+pub(crate) fn add_holder(
     text: &mut Vec<u8>,
     desc: &Description,
     parts: &Parts,
@@ -188,7 +188,7 @@ fn add_holder(
 }
 
 /// Adds units, each after a blank.
-fn add_units(
+pub(crate) fn add_units(
     text: &mut Vec<u8>,
     desc: &Description,
     parts: &Parts,
@@ -258,7 +258,7 @@ fn add_broken(
 }
 
 /// Adds what forbids an alternative.
-fn add_reason(
+pub(crate) fn add_reason(
     text: &mut Vec<u8>,
     desc: &Description,
     parts: &Parts,
@@ -272,61 +272,6 @@ fn add_reason(
         Reason::Taken(pair) => add_taken(text, desc, parts, plan, issues, pair),
         Reason::Broken(broken) => add_broken(text, desc, parts, plan, broken),
     }
-}
-
-/// Adds the line of the alternative of this number.
-fn add_line(
-    text: &mut Vec<u8>,
-    desc: &Description,
-    parts: &Parts,
-    plan: &Plan,
-    issues: &[Holder],
-    number: usize,
-    reason: Reason,
-) -> Result<(), NoMemory>
-    ensures { OnOk result (text.new.items ≡ text.old.items ++ alternative_reported (wording_in desc.now parts.now) plan.now issues.now number (Some reason)) }
-{
-    add(text, b"alternative ")?;
-    add_count(text, number)?;
-    add(text, b": ")?;
-    add_reason(text, desc, parts, plan, issues, reason)?;
-    add(text, b"\n")
-}
-
-/// Adds the line of the alternative of this number; none if nothing forbids it.
-fn add_alternative(
-    text: &mut Vec<u8>,
-    desc: &Description,
-    parts: &Parts,
-    plan: &Plan,
-    issues: &[Holder],
-    number: usize,
-    reason: Option<Reason>,
-) -> Result<(), NoMemory>
-    ensures { OnOk result (text.new.items ≡ text.old.items ++ alternative_reported (wording_in desc.now parts.now) plan.now issues.now number reason) }
-{
-    match reason {
-        Some(reason) => add_line(text, desc, parts, plan, issues, number, reason),
-        None => Ok(()),
-    }
-}
-
-/// Adds the lines of alternatives, which begin with number 1.
-pub(crate) fn add_alternatives(
-    text: &mut Vec<u8>,
-    desc: &Description,
-    parts: &Parts,
-    plan: &Plan,
-    issues: &[Holder],
-    reasons: &[Option<Reason>],
-) -> Result<(), NoMemory>
-    ensures { OnOk result (text.new.items ≡ text.old.items ++ alternatives_reported (wording_in desc.now parts.now) plan.now issues.now 1 reasons.now) }
-{
-    for place in 0..reasons.len() {
-        let reason = reasons[place];
-        add_alternative(text, desc, parts, plan, issues, place + 1, reason)?;
-    }
-    Ok(())
 }
 
 /// What forbids each alternative of a class, in their order.

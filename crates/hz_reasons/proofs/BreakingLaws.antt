@@ -13,8 +13,8 @@ use Rattle.hz_description_model.specs.Reservations.Sets.{SetKind, exclusion, pre
 use Rattle.hz_base_model.specs.Pairs.{Pair}
 use Rattle.hz_pipeline_model.specs.Accepting.Plays.{asks, holds_pattern}
 use Rattle.hz_why_model.specs.Reasons as model
-use Rattle.hz_why_model.specs.Reasons.{or_else, breaking, breaking_pattern, first_whole}
-use Rattle.hz_reasons.specs.Breaking.{looked_in, wants, breaks, patterns_of, pattern_at, broken_with, reason_at, broken_first_by, first_broken_by, first_number_from, number_in, HasPatternNumber}
+use Rattle.hz_why_model.specs.Reasons.{patterns_of, or_else, breaking, breaking_pattern, first_whole}
+use Rattle.hz_reasons.specs.Breaking.{looked_in, wants, breaks, pattern_at, broken_with, reason_at, broken_first_by, first_broken_by, first_number_from, number_in, HasPatternNumber}
 use Rattle.hz_reasons.specs.Plans.{unit_of, statement_of}
 use Rattle.hz_reasons.specs.declared.plan.AutomatonUnit.{AutomatonUnit}
 use Rattle.hz_reasons.specs.declared.plan.Place.{Place}

@@ -23,8 +23,9 @@ use Rattle.hz_pipeline_model.proofs.Accepting.ReplayLaws.{cycles_of-append}
 use Rattle.hz_pipeline_model.proofs.Accepting.Rows.{places_tell}
 use Rattle.hz_why_model.specs.Holders.{Entry, entries_of, entries, entry_at, entry_from, entries_from}
 use Rattle.hz_why_model.specs.Reasons.{same_place}
+use Rattle.hz_why_model.specs.Ways.{still_holds, ways}
 use Rattle.hz_reasons.specs.Calendars.{parts_at}
-use Rattle.hz_reasons.specs.Holding.{most, last_of, age_of, held_by, IsHolder, AreHolders, older, entry_with, is_holder_of}
+use Rattle.hz_reasons.specs.Holding.{most, last_of, age_of, held_by, IsHolder, way_of, AreHolders, older, entry_with, is_holder_of}
 use Rattle.hz_reasons.specs.Plans as plans
 use Rattle.hz_reasons.specs.Plans.{place_of, in_automaton, choices_at, IsPlanOf}
 use Rattle.hz_reasons.specs.Taken.{is_held}
@@ -33,6 +34,7 @@ use Rattle.hz_reasons.specs.declared.plan.Place.{Place}
 use Rattle.hz_reasons.specs.declared.plan.Plan.{Plan}
 use Rattle.hz_reasons.proofs.Finding.{find_alike, is_some-find, is_some-map}
 use Rattle.hz_reasons.proofs.TakenLaws.{held_alike}
+use Rattle.hz_reasons.proofs.WayLaws.{drop_index, ways_idle, ways_advance, ways_some, ways_same}
 
 -- ---- entries from a cycle on
 
@@ -98,10 +100,6 @@ no_items [] h = refl
 no_items (x ∷ xs) h = absurd (h x (Contains-head x xs))
 
 -- ---- one event more
-
-drop_index : (lines : List ℕ) (n : ℕ) → slice_index (drop 1 lines) n ≡ slice_index lines (suc n)
-drop_index [] n = refl
-drop_index (x ∷ xs) n = refl
 
 module _ (m : Pipeline UnitPlace) where
   -- an event that takes nothing
@@ -179,6 +177,9 @@ module _ (m : Pipeline UnitPlace) where
   older_is : (n : ℕ) (h : Holder) → IsHolder m h → IsHolder m (older n h)
   older_is n h is = let order = is.order in record { order = omega arith; within = is.within; reached = is.reached }
 
+  older_began : (n now later : ℕ) (h : Holder) → age_of h ≤ now → later ≡ n + now → age_of (older n h) ≤ later
+  older_began n now later h began is = omega arith
+
   module _ (t : List Event) (lines choices : List ℕ) (issues : List Holder) (are : AreHolders m t lines choices issues) where
     holders_advance : (n : ℕ) → AreHolders m (t ++ advance n ∷ []) lines choices (map (older n) (filter (λ h. nat_le n h.left) issues))
     holders_advance n =
@@ -189,10 +190,20 @@ module _ (m : Pipeline UnitPlace) where
               let found = Contains-from_map (older n) (filter (keeps n) issues) h there in
               let kept = Contains-from_filter (keeps n) found.0 issues found.1 in
               subst (λ (x : Holder). IsHolder m x) found.2 (older_is n found.0 (are.each found.0 kept.0));
+          early = λ h there.
+              let found = Contains-from_map (older n) (filter (keeps n) issues) h there in
+              let kept = Contains-from_filter (keeps n) found.0 issues found.1 in
+              let began = are.early found.0 kept.0 in
+              subst (λ (x : Holder). age_of x ≤ cycles_of (t ++ advance n ∷ [])) found.2 (older_began n (cycles_of t) (cycles_of (t ++ advance n ∷ [])) found.0 began (sym time));
           all =
               passed_all n issues are.each ∙ ap (entries_from n) are.all ∙ from-from n (cycles_of t) (entries m 0 t lines choices)
               ∙ ap (λ (c : ℕ). entries_from c (entries m 0 t lines choices)) time
               ∙ ap (entries_from (cycles_of (t ++ advance n ∷ []))) (sym (entries_idle (advance n) (λ c ls cs. refl) 0 t lines choices));
+          ways =
+              ap (λ (c : ℕ). map (way_of c) (map (older n) (filter (keeps n) issues))) (sym time)
+              ∙ ways_advance m n (cycles_of t) (ways 0 t lines choices) issues are.each are.early are.ways
+              ∙ ap (λ (c : ℕ). filter (still_holds m c) (ways 0 t lines choices)) time
+              ∙ ap (filter (still_holds m (cycles_of (t ++ advance n ∷ [])))) (sym (ways_idle (advance n) (λ c ls cs. refl) 0 t lines choices));
         }
 
     pub after_advance : (n : ℕ) (new : List Holder) → new ≡ map (older n) (filter (λ h. nat_le n h.left) issues) → AreHolders m (t ++ advance n ∷ []) lines choices new
@@ -204,9 +215,14 @@ module _ (m : Pipeline UnitPlace) where
         let time : cycles_of t ≡ cycles_of (t ++ ask a u ∷ []) = omega arith in
         record {
           each = are.each;
+          early = λ h there. let began = are.early h there in omega arith;
           all = are.all
               ∙ ap (λ (c : ℕ). entries_from c (entries m 0 t lines choices)) time
               ∙ ap (entries_from (cycles_of (t ++ ask a u ∷ []))) (sym (entries_idle (ask a u) (λ c ls cs. refl) 0 t lines choices));
+          ways =
+              ap (λ (c : ℕ). map (way_of c) issues) (sym time) ∙ are.ways
+              ∙ ap (λ (c : ℕ). filter (still_holds m c) (ways 0 t lines choices)) time
+              ∙ ap (filter (still_holds m (cycles_of (t ++ ask a u ∷ [])))) (sym (ways_idle (ask a u) (λ c ls cs. refl) 0 t lines choices));
         }
 
     -- what stands reserved after an issue
@@ -230,30 +246,47 @@ module _ (m : Pipeline UnitPlace) where
     holders_issue k i line last count there is =
         let h : Holder = record { line = line; class = k; number = i; last = last; left = last } in
         let now : last - last ≡ 0 = omega arith in
+        let sum = cycles_of-append t (issue k ∷ []) in
+        let time : cycles_of (t ++ issue k ∷ []) ≡ cycles_of t = omega arith in
         record {
           each = λ x among. ⊎_elim
               (λ old. are.each x old)
               (λ new. ⊎_elim (λ same. subst (λ (y : Holder). IsHolder m y) same is) (λ none. absurd (Contains-nil x none)) (Contains-cons_cases h x [] new))
+              (Contains-append_cases issues (h ∷ []) x among);
+          early = λ x among. ⊎_elim
+              (λ old. let began = are.early x old in omega arith)
+              (λ new. ⊎_elim (λ same. subst (λ (y : Holder). age_of y ≤ cycles_of (t ++ issue k ∷ [])) same (omega arith)) (λ none. absurd (Contains-nil x none)) (Contains-cons_cases h x [] new))
               (Contains-append_cases issues (h ∷ []) x among);
           all =
               flat_map-append (held_by m) issues (h ∷ [])
               ∙ ap (λ (es : List (Entry UnitPlace)). flat_map (held_by m) issues ++ es) (append-nil (held_by m h)
               ∙ ap (λ (a : ℕ). entries_from a (entries_of line k (chosen m k i))) now ∙ from_zero (entries_of line k (chosen m k i)))
               ∙ sym (beyond k i line count there);
+          ways = ways_some m t lines choices issues are.ways k i line count there is.reached.0 is.reached.1 last;
         }
 
     pub holders_none : (k i line : ℕ) → length choices ≡ issues_of t → slice_index lines (length t) ≡ line
         → ((p : Pair UnitPlace) → Contains (chosen m k i) p → ⊥) → AreHolders m (t ++ issue k ∷ []) lines (choices ++ i ∷ []) issues
-    holders_none k i line count there none = record {
-      each = are.each;
-      all =
-          sym (beyond k i line count there
-          ∙ ap (λ (ps : List (Pair UnitPlace)). flat_map (held_by m) issues ++ entries_of line k ps) (no_items (chosen m k i) none)
-          ∙ append-nil (flat_map (held_by m) issues));
-    }
+    holders_none k i line count there none =
+        let sum = cycles_of-append t (issue k ∷ []) in
+        let time : cycles_of (t ++ issue k ∷ []) ≡ cycles_of t = omega arith in
+        record {
+          each = are.each;
+          early = λ x among. let began = are.early x among in omega arith;
+          all =
+              sym (beyond k i line count there
+              ∙ ap (λ (ps : List (Pair UnitPlace)). flat_map (held_by m) issues ++ entries_of line k ps) (no_items (chosen m k i) none)
+              ∙ append-nil (flat_map (held_by m) issues));
+          ways = ways_same m t lines choices issues are.ways k i line count there none;
+        }
 
 pub holders_at_start : (m : Pipeline UnitPlace) (lines : List ℕ) (issues : List Holder) → issues ≡ [] → AreHolders m [] lines [] issues
-holders_at_start m lines issues none = subst (λ (hs : List Holder). AreHolders m [] lines [] hs) (sym none) (record { each = λ h there. absurd (Contains-nil h there); all = refl })
+holders_at_start m lines issues none = subst (λ (hs : List Holder). AreHolders m [] lines [] hs) (sym none) (record {
+  each = λ h there. absurd (Contains-nil h there);
+  early = λ h there. absurd (Contains-nil h there);
+  all = refl;
+  ways = refl;
+})
 
 -- ---- the last cycle of pairs
 

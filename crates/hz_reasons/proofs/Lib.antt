@@ -7,6 +7,7 @@ pub mod TakenLaws
 pub mod Finding
 pub mod BreakingLaws
 pub mod ReasonMeaning
+pub mod WayLaws
 pub mod HoldingLaws
 pub mod PlanLaws
 pub mod ExtentLaws

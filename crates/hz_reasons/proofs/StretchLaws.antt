@@ -1,9 +1,8 @@
 -- What the last stretch of a trace leaves held, as a trace of its own, is what the whole trace leaves held.
-use Rattle.std.proofs.Common.{◌≡◌, ℕ, suc, ◌+◌, ◌-◌, ◌<◌, ◌≤◌, ◌⊎◌, inl, inr, ⊎_elim, List, [], ◌∷◌, ◌++◌, length, take, drop, slice_index, Contains, Option, Some, None, refl, sym, ap, ◌∙◌, subst, arith, append_assoc}
+use Rattle.std.proofs.Common.{◌≡◌, ℕ, suc, ◌+◌, ◌-◌, ◌<◌, ◌≤◌, ◌⊎◌, inl, inr, ⊎_elim, false, List, [], ◌∷◌, ◌++◌, length, take, drop, slice_index, Contains, Option, Some, None, refl, sym, ap, ◌∙◌, subst, arith, append_assoc}
 use Rattle.std.specs.Prelude.{slice_get}
 use Rattle.std.specs.declared.alloc.Global.{Global}
 use Rattle.std.specs.declared.vec.Vec.{Vec}
-use Rattle.std.proofs.Math.Seq.{drop-nil}
 use Rattle.std.proofs.lemmas.List.{length-map, length-take, length-drop, map-append, drop-map, get_or-drop, take-append-drop}
 use Rattle.std.proofs.lemmas.List.Elements.{Contains-append_cases}
 use Rattle.hz_base_model.specs.Pairs.{Pair, placed}
@@ -16,6 +15,7 @@ use Rattle.hz_replay.specs.Lines.{event_of}
 use Rattle.hz_replay.specs.Traces.{events_in, lines_in}
 use Rattle.hz_replay.specs.declared.event.Event.{Event as TraceEvent}
 use Rattle.hz_why_model.specs.Holders.{Entry, entries_of, entries, entries_from}
+use Rattle.hz_why_model.specs.Ways.{Way, ways, still_holds}
 use Rattle.hz_why_model.proofs.Finding.{Contains-at}
 use Rattle.hz_reasons.specs.Holding.{last_of, last_of_choices, last_of_classes, AreHolders}
 use Rattle.hz_reasons.specs.Plans.{choices_of, choices_at, pairs_of, pairs_at, IsPlanOf}
@@ -26,12 +26,9 @@ use Rattle.hz_reasons.specs.declared.plan.Place.{Place}
 use Rattle.hz_reasons.specs.declared.plan.Plan.{Plan}
 use Rattle.hz_reasons.proofs.HoldLaws.{accepted_numbers}
 use Rattle.hz_reasons.proofs.HoldingLaws.{at_cycle, from-append, from-from, from_low, from_past, within_most, within_alternatives, listed_pair}
+use Rattle.hz_reasons.proofs.WayLaws.{drop_one, ways_past, ways_whole}
 
 -- ---- events before others
-
-drop_one : (n : ℕ) (lines : List ℕ) → drop n (drop 1 lines) ≡ drop (suc n) lines
-drop_one n [] = drop-nil n
-drop_one n (l ∷ lines) = refl
 
 module _ {U : Type 0} (m : Pipeline U) where
   entries_none : (now : ℕ) (t : List Event) (lines : List ℕ) → entries m now t lines [] ≡ []
@@ -129,8 +126,23 @@ module _ (m : Pipeline UnitPlace) (span : ℕ) (short : (k i : ℕ) (p : Pair Un
         ∙ sym (from-from (cycles_of t) (cycles_of before) new)
         ∙ ap (entries_from (cycles_of t)) (entries_back m (cycles_of before) 0 t (drop (length before) lines) (drop (issues_of before) choices))
 
+    ways_before : (w : Way) → Contains (ways 0 before lines choices) w → still_holds m whole w ≡ false
+    ways_before w there = ⊎_elim
+        (λ (none : before ≡ []). absurd (Contains-nil w (subst (λ (es : List Event). Contains (ways 0 es lines choices) w) none there)))
+        (λ (high : span ≤ cycles_of t).
+        let sum = cycles_of-append before t in
+        ways_past m span short before lines choices whole (omega arith) w there)
+        long
+
     stretch_holders : (issues : List Holder) → AreHolders m t (drop (length before) lines) (drop (issues_of before) choices) issues → AreHolders m (before ++ t) lines choices issues
-    stretch_holders issues are = record { each = are.each; all = are.all ∙ sym stretch_entries }
+    stretch_holders issues are =
+        let sum = cycles_of-append before t in
+        record {
+          each = are.each;
+          early = λ h there. let began = are.early h there in omega arith;
+          all = are.all ∙ sym stretch_entries;
+          ways = ways_whole m before t lines choices ways_before issues are.early are.ways;
+        }
 
 -- ---- the last cycle of a plan's alternatives
 

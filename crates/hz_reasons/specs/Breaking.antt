@@ -7,7 +7,7 @@ use Rattle.hz_description_model.specs.Reservations.Automata.{UnitPlace}
 use Rattle.hz_description_model.specs.Reservations.Sets.{SetKind, exclusion, presence, final_presence, absence, final_absence, Statement}
 use Rattle.hz_pipeline_model.specs.Accepting.Plays.{asks}
 use Rattle.hz_why_model.specs.Reasons as model
-use Rattle.hz_why_model.specs.Reasons.{taken, broken, or_else, breaking, breaking_pattern}
+use Rattle.hz_why_model.specs.Reasons.{taken, broken, patterns_of, or_else, breaking, breaking_pattern}
 use Rattle.hz_reasons.specs.Plans.{place_of, unit_of}
 use Rattle.hz_reasons.specs.Taken.{is_held}
 use Rattle.hz_reasons.specs.declared.plan.Place.{Place}
@@ -18,11 +18,6 @@ use Rattle.hz_reasons.specs.declared.statements.Seen.{Seen}
 use Rattle.hz_reasons.specs.declared.statements.Seen.TheVariants.{Standing, Added, Both}
 
 -- ---- what is answered
-
--- the patterns of a statement; none where there is no such statement
-abbrev pub patterns_of : Option (Statement UnitPlace) → List (List UnitPlace)
-patterns_of None = []
-patterns_of (Some s) = s.patterns
 
 -- the pattern of this number; an empty one without a number
 abbrev pub pattern_at : List (List UnitPlace) → Option ℕ → List UnitPlace

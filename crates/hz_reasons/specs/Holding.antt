@@ -1,5 +1,5 @@
 -- Which issues hold what stands reserved from the present cycle on.
-use Rattle.std.specs.Prelude.{◌&&◌, Bool, nat_le, ◌≡◌, ℕ, ◌+◌, ◌-◌, ◌≤◌, max, List, [], ◌∷◌, Contains}
+use Rattle.std.specs.Prelude.{◌&&◌, Bool, nat_le, ◌≡◌, ℕ, ◌+◌, ◌-◌, ◌≤◌, max, List, [], ◌∷◌, Contains, map}
 use Rattle.std.specs.List.{flat_map}
 use Rattle.std.specs.declared.alloc.Global.{Global}
 use Rattle.std.specs.declared.vec.Vec.{Vec}
@@ -8,6 +8,7 @@ use Rattle.hz_description_model.specs.Reservations.Automata.{UnitPlace}
 use Rattle.hz_pipeline_model.specs.Accepting.Events.{Event, cycles_of}
 use Rattle.hz_pipeline_model.specs.Accepting.Replay.{Pipeline, chosen}
 use Rattle.hz_why_model.specs.Holders.{Entry, entries_of, entries, entries_from}
+use Rattle.hz_why_model.specs.Ways.{Way, ways_left}
 use Rattle.hz_reasons.specs.Calendars.{parts_at}
 use Rattle.hz_reasons.specs.Plans.{choices_at, unit_of}
 use Rattle.hz_reasons.specs.Taken.{is_held}
@@ -48,10 +49,17 @@ pub record IsHolder (m : Pipeline UnitPlace) (h : Holder) : Type 0 where
   pub within : (p : Pair UnitPlace) → Contains (chosen m h.class h.number) p → p.cycle ≤ h.last
   pub reached : (p : Pair UnitPlace) × Contains (chosen m h.class h.number) p × (p.cycle ≡ h.last)
 
--- What stands reserved from the present cycle on after events that stand on these lines is what the issues hold, each something.
+-- the issue as it was, where the present cycle is `now`
+abbrev pub way_of : (now : ℕ) → Holder → Way
+way_of now h = record { line = h.line; class = h.class; number = h.number; cycle = now - age_of h }
+
+-- What stands reserved from the present cycle on after events that stand on these lines is what the issues hold, each something. They
+-- are the issues of the events that still hold something, each with the alternative that it took and the cycle in which it was.
 pub record AreHolders (m : Pipeline UnitPlace) (t : List Event) (lines choices : List ℕ) (issues : List Holder) : Type 0 where
   pub each : (h : Holder) → Contains issues h → IsHolder m h
+  pub early : (h : Holder) → Contains issues h → age_of h ≤ cycles_of t
   pub all : flat_map (held_by m) issues ≡ entries_from (cycles_of t) (entries m 0 t lines choices)
+  pub ways : map (way_of (cycles_of t)) issues ≡ ways_left m t lines choices
 
 -- the issue so many cycles later
 abbrev pub older : (cycles : ℕ) → Holder → Holder

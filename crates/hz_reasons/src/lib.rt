@@ -22,4 +22,5 @@ pub use holders::{Holder, Holders, cycles_left, first_holder, lines_are_those_of
 pub use hz_grid::NoMemory;
 pub use plan::{AutomatonUnit, Choice, Place, Plan, SetStatement};
 pub use reasons::{Break, Reason};
+pub use statements::adds;
 pub use walking::{Asked, Walked, hold, walk};

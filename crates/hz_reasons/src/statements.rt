@@ -35,7 +35,7 @@ pub(crate) fn stands(grids: &[Grid], unit: AutomatonUnit, cycle: u16) -> bool
 }
 
 /// Whether the unit is added in the cycle. It takes no memory.
-pub(crate) fn adds(parts: &[Usage], unit: AutomatonUnit, cycle: u16) -> bool
+pub fn adds(parts: &[Usage], unit: AutomatonUnit, cycle: u16) -> bool
     ensures { result ≡ is_held parts.now cycle (unit_of unit) }
 {
     match parts.get(usize::from(unit.automaton)) {

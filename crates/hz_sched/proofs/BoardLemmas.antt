@@ -1,5 +1,5 @@
 -- What is left, step by step.
-use Rattle.std.proofs.Common.{◌≡◌, ◌≢◌, ℕ, zero, suc, ◌+◌, ◌<◌, ◌≤◌, ◌==◌, ◌⊎◌, inl, inr, ⊎_elim, Bool, true, false, ◌&&◌, cond, max, List, [], ◌∷◌, ◌++◌, length, map, filter, replicate, take, Option, Some, None, is_some, All, Contains, get_or, refl, sym, ap, ◌∙◌, subst, arith}
+use Rattle.std.proofs.Common.{◌≡◌, ◌≢◌, ℕ, zero, suc, ◌+◌, ◌<◌, ◌≤◌, ◌⊎◌, inl, inr, ⊎_elim, Bool, true, false, ◌&&◌, max, List, [], ◌∷◌, ◌++◌, length, map, replicate, take, Option, Some, None, is_some, All, Contains, get_or, refl, sym, ap, ◌∙◌, subst, arith}
 use Rattle.std.specs.Prelude.{slice_index, nat_lt}
 use Rattle.std.specs.List.{find}
 use Rattle.std.specs.List.Sorted.{IsStrictlySortedBy}
@@ -9,12 +9,10 @@ use Rattle.std.specs.BTreeSet.{BTreeSet}
 use Rattle.std.proofs.Math.Seq.{take-append_seam}
 use Rattle.std.proofs.lemmas.Bool.{lt-ltb}
 use Rattle.std.proofs.lemmas.List.{length-map, get_or-map}
-use Rattle.std.proofs.lemmas.List.Elements.{All-map, All-filter}
+use Rattle.std.proofs.lemmas.List.Elements.{All-map}
 use Rattle.hz_pipeline_model.specs.Accepting.Events.{issue}
 use Rattle.hz_pipeline_model.specs.Tables.Machines.{Machine, parts_walk, IsWalked}
-use Rattle.hz_depend.specs.declared.parts.Edge as depend
 use Rattle.hz_depend.specs.declared.parts.GraphInsn.{GraphInsn}
-use Rattle.hz_depend.specs.GraphShape.{edge_of}
 use Rattle.hz_block_model.specs.Dependences.Graphs.{Edge}
 use Rattle.hz_block_model.specs.Scheduling.Schedules.{Node, Graph, Slot, class_at, height_at, GoesBefore, IsCandidate}
 use Rattle.hz_sched.specs.Shape.{node_of}
@@ -56,15 +54,6 @@ none_waited g counts ripes wide long counted zeros = record {
 }
 
 -- ---- one issue
-
--- rows of the code, as rows of edges
-pub edges_of_filter : (place : ℕ) (edges : List depend.Edge) → map edge_of (filter (λ e. e.from == place) edges) ≡ edges_from place (map edge_of edges)
-edges_of_filter place [] = refl
-edges_of_filter place (e ∷ edges) = go (e.from == place) (edges_of_filter place edges)
-  where
-    go : (b : Bool) → map edge_of (filter (λ e. e.from == place) edges) ≡ edges_from place (map edge_of edges) → map edge_of (cond b (e ∷ filter (λ e. e.from == place) edges) (filter (λ e. e.from == place) edges)) ≡ cond b (edge_of e ∷ edges_from place (map edge_of edges)) (edges_from place (map edge_of edges))
-    go true h = ap (λ (es : List Edge). edge_of e ∷ es) h
-    go false h = h
 
 module _ (g : Graph) (at : ℕ → Option ℕ) (place cycle : ℕ) (left : at place ≡ None) where
   pub enough : (counts ripes : List ℕ) (row : List Edge) → row ≡ edges_from place g.edges → AreWaits g at counts ripes → (j : ℕ) → leading j row ≤ slice_index counts j
@@ -197,14 +186,6 @@ module _ (m : Machine) (g : Graph) (slots : List Slot) (cycle : ℕ) (states : L
           let h = head_of j c in
           goes_before g k h.head j mine.key (found_first key_cmp exact_key same_key test heads k (q.first).ordered is h.head h.held h.passes) h.before in
           subst (λ (i : ℕ). IsCandidate (IsWalked m) g slots cycle i × ((j : ℕ) → IsCandidate (IsWalked m) g slots cycle j → GoesBefore g i j)) same (passes_candidate k held passes, before)
-
--- ---- rows
-
-pub row_all : (P : depend.Edge → Type 0) (row edges : List depend.Edge) (place : ℕ) → row ≡ filter (λ e. e.from == place) edges → All P edges → All P row
-row_all P row edges place is all = subst (All P) (sym is) (All-filter (λ e. e.from == place) P edges all)
-
-pub row_edges : (row edges : List depend.Edge) (place : ℕ) → row ≡ filter (λ e. e.from == place) edges → map edge_of row ≡ edges_from place (map edge_of edges)
-row_edges row edges place is = ap (λ (es : List depend.Edge). map edge_of es) is ∙ edges_of_filter place edges
 
 -- a slice that is written back
 written : (n : ℕ) (xs ys : List ℕ) → n ≡ length xs → take n (xs ++ ys) ≡ xs

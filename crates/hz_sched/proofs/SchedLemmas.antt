@@ -4,9 +4,7 @@ use Rattle.std.specs.Prelude.{slice_get, slice_index, position, nat_lt}
 use Rattle.std.specs.Bool.{OnTrue, OnFalse}
 use Rattle.std.specs.List.{find, position_or_len, AllPairs}
 use Rattle.std.specs.Option.{option_map}
-use Rattle.std.proofs.lemmas.Bool.{ltb-false}
-use Rattle.std.proofs.lemmas.List.{length-map, length-append, get_or-map}
-use Rattle.std.proofs.lemmas.List.Sums.{fails_before_first}
+use Rattle.std.proofs.lemmas.List.{length-map, length-append}
 use Rattle.std.proofs.lemmas.List.Elements.{All-get_or, All-contains, All-map, Contains-get_or}
 use Rattle.std.proofs.lemmas.Option.{slice_get-get_or}
 use Rattle.hz_base_model.proofs.Elements.{Contains-map}
@@ -16,12 +14,11 @@ use Rattle.hz_pipeline_model.proofs.Tables.TableLaws.{walk_stays}
 use Rattle.hz_pipeline_model.proofs.Tables.MachineLaws.{machine_walk-each, machine_walk-part}
 use Rattle.hz_replay.specs.Replaying.{Standing, AreStates}
 use Rattle.hz_depend.specs.declared.parts.Graph as depend_graph
-use Rattle.hz_depend.specs.declared.parts.GraphInsn.{GraphInsn}
 use Rattle.hz_depend.specs.GraphShape.{edge_of, IsSchedulable}
 use Rattle.hz_base_model.specs.Limits.{cycle_limit}
 use Rattle.hz_description_model.specs.Reading.Limits.{latency_limit}
-use Rattle.hz_block_model.specs.Scheduling.Schedules.{Node, Graph, Slot, class_at, present, GoesBefore, Greedy, IsCandidate}
-use Rattle.hz_block_model.specs.Scheduling.Machines.{Settles, most_wait, can_start}
+use Rattle.hz_block_model.specs.Scheduling.Schedules.{Graph, Slot, class_at, present, GoesBefore, Greedy, IsCandidate}
+use Rattle.hz_block_model.specs.Scheduling.Machines.{Settles, most_wait}
 use Rattle.hz_block_model.proofs.Scheduling.SameSchedules.{greedy_within}
 use Rattle.hz_sched.specs.Shape.{graph_of, node_of, slot_of, slots_of}
 use Rattle.hz_sched.specs.declared.parts.Slot as made

@@ -1,19 +1,22 @@
 //! A schedule that is made, and what is left for it.
 
-ghost use Rattle.std.specs.Prelude.{◌≡◌, ◌≤◌, ◌<◌, ◌+◌, ◌==◌, ◌++◌, ◌∷◌, [], None, length, All, IfOk, OnOk, filter, replicate, ◌^◌};
+ghost use Rattle.std.specs.Prelude.{◌≡◌, ◌≤◌, ◌<◌, ◌+◌, ◌==◌, ◌++◌, ◌∷◌, [], None, ℕ, length, map, slice_index, All, IfOk, OnOk, filter, replicate, ◌^◌};
 ghost use Rattle.std.specs.List.{Contains};
 ghost use Rattle.hz_description_model.specs.Reading.Limits.{latency_limit};
 ghost use Rattle.hz_block_model.specs.Scheduling.Schedules as model;
 ghost use Rattle.hz_sched.specs.Shape.{graph_of, slots_of};
-ghost use Rattle.hz_sched.specs.Waits.{issued_at, and_issued};
+ghost use Rattle.hz_depend.specs.GraphShape.{edge_of};
+ghost use Rattle.hz_sched.specs.Rows.{edge_to};
+ghost use Rattle.hz_sched.specs.Waits.{issued_at, and_issued, leading};
 ghost use Rattle.hz_sched.specs.Pending.{key_of, keys_at, AreWaits, IsQueue, AreLater};
 ghost use Rattle.hz_block_model.specs.Running.Limits.{instruction_limit};
 
+use crate::adjacency::Successor;
 use crate::naming::class_at;
 use crate::parts::Slot;
 use crate::queue::{Queue, height_at};
-use crate::waiting::{counts_of, release};
-use hz_depend::{Edge, Graph};
+use crate::waiting::release;
+use hz_depend::Graph;
 use hz_regexp::NoMemory;
 use std::alloc::Global;
 use std::cmp::Reverse;
@@ -39,19 +42,23 @@ fn no_waits(alloc: Global, count: usize) -> Result<Vec<u32>, NoMemory>
 }
 
 impl Board {
-    /// Nothing is issued yet. The classes are numbers below this one.
-    pub fn new(alloc: Global, graph: &Graph, classes: usize) -> Result<Board, NoMemory>
+    /// Nothing is issued yet. So many edges lead to each instruction, and the classes are numbers below this one.
+    pub fn new(
+        alloc: Global,
+        graph: &Graph,
+        counts: Vec<usize>,
+        classes: usize,
+    ) -> Result<Board, NoMemory>
         requires few { length graph.now.insns.items ≤ instruction_limit }
         requires classes { All (λ i. i.class < classes) graph.now.insns.items }
-        requires edges { All (λ e. e.to < length graph.now.insns.items) graph.now.edges.items }
+        requires size { length counts.items ≡ length graph.now.insns.items }
+        requires counted { (j : ℕ) → slice_index counts.items j ≡ leading j (map edge_of graph.now.edges.items) }
         ensures slots { IfOk result (λ board. board.slots.items ≡ []) }
         ensures cycle { IfOk result (λ board. board.cycle ≡ 0) }
         ensures waits { IfOk result (λ board. AreWaits (graph_of graph.now) (issued_at []) board.counts.items board.ripes.items) }
         ensures queued { IfOk result (λ board. IsQueue (graph_of graph.now) (issued_at []) 0 board.queue) }
     {
-        let count = graph.insns.len();
-        let counts = counts_of(alloc, count, &graph.edges)?;
-        let ripes = no_waits(alloc, count)?;
+        let ripes = no_waits(alloc, graph.insns.len())?;
         let queue = Queue::new(alloc, classes, &counts, &ripes)?;
         Ok(Board {
             slots: Vec::new(alloc),
@@ -69,10 +76,10 @@ impl Board {
         self.slots
     }
 
-    /// An instruction that is left is issued at the present cycle, where these edges lead from it: no other waits for it more.
-    fn end_waits(&mut self, graph: &Graph, row: &[Edge], place: u32)
+    /// An instruction that is left is issued at the present cycle, with these successors: no other waits for it more.
+    fn end_waits(&mut self, graph: &Graph, row: &[Successor], place: u32)
         requires place { place < length graph.now.insns.items }
-        requires row { row.now ≡ filter (λ e. e.from == place) graph.now.edges.items }
+        requires row { map (edge_to place) row.now ≡ filter (λ e. e.from == place) (map edge_of graph.now.edges.items) }
         requires edges { All (λ e. (e.to < length graph.now.insns.items) × (e.cost ≤ latency_limit)) graph.now.edges.items }
         requires small { self.old.cycle + latency_limit < 2 ^ 32 }
         requires unissued { issued_at (slots_of self.old.slots.items) place ≡ None }
@@ -85,10 +92,10 @@ impl Board {
         release(&mut self.counts, &mut self.ripes, row, self.cycle);
     }
 
-    /// Issues a ready instruction, where these edges lead from it, and all that wait for their cycles have to wait longer.
-    pub fn issue(&mut self, graph: &Graph, row: &[Edge], place: u32) -> Result<(), NoMemory>
+    /// Issues a ready instruction, with these successors, and all that wait for their cycles have to wait longer.
+    pub fn issue(&mut self, graph: &Graph, row: &[Successor], place: u32) -> Result<(), NoMemory>
         requires place { place < length graph.now.insns.items }
-        requires row { row.now ≡ filter (λ e. e.from == place) graph.now.edges.items }
+        requires row { map (edge_to place) row.now ≡ filter (λ e. e.from == place) (map edge_of graph.now.edges.items) }
         requires edges { All (λ e. (e.to < length graph.now.insns.items) × (e.cost ≤ latency_limit)) graph.now.edges.items }
         requires small { self.old.cycle + latency_limit < 2 ^ 32 }
         requires waits { AreWaits (graph_of graph.now) (issued_at (slots_of self.old.slots.items)) self.old.counts.items self.old.ripes.items }

@@ -10,14 +10,15 @@ ghost use Rattle.std.specs.Set.{remove_key};
 ghost use Rattle.hz_tables.specs.Machines.{machine_of};
 ghost use Rattle.hz_replay.specs.Replaying.{AreStates};
 ghost use Rattle.hz_block_model.specs.Scheduling.Schedules as model;
-ghost use Rattle.hz_depend.specs.GraphShape.{edge_of};
+ghost use Rattle.hz_sched.specs.Rows.{edges_to};
 ghost use Rattle.hz_sched.specs.Shape.{graph_of};
 ghost use Rattle.hz_sched.specs.Pending.{key_cmp, wait_cmp, may, keys_at, ripe_front, one_waits, all_wait, free_below, with_head, without_head, ChangesRow, IsInRange, IsQueue, AreLater};
 ghost use Rattle.hz_block_model.specs.Running.Limits.{instruction_limit};
 
+use crate::adjacency::Successor;
 use crate::fitting::fits;
 use crate::naming::class_at;
-use hz_depend::{Edge, Graph};
+use hz_depend::Graph;
 use hz_regexp::NoMemory;
 use hz_tables::Machine;
 use std::alloc::Global;
@@ -111,6 +112,7 @@ fn remove_ready(
 }
 
 /// An instruction waits for its cycle, if its count is 0.
+#[inline(always)]
 fn wait_if_free(
     waiting: &mut BTreeSet<(u32, u32)>,
     counts: &[usize],
@@ -247,23 +249,23 @@ impl Queue {
         }
     }
 
-    /// An instruction is issued from which these edges lead: those to which they lead wait for their cycles, if their counts are 0.
+    /// An instruction with these successors is issued: they wait for their cycles, if their counts are 0.
     pub fn wait_after(
         &mut self,
         counts: &[usize],
         ripes: &[u32],
-        row: &[Edge],
+        row: &[Successor],
     ) -> Result<(), NoMemory>
         requires size { length counts.now ≡ length ripes.now }
-        requires within { All (λ e. e.to < length counts.now) row.now }
+        requires within { All (λ s. s.place < length counts.now) row.now }
         requires ordered { IsStrictlySortedBy wait_cmp self.old.waiting.keys }
-        ensures waiting { OnOk result (self.new.waiting.keys ≡ all_wait counts.now ripes.now (map edge_of row.now) self.old.waiting.keys) }
+        ensures waiting { OnOk result (self.new.waiting.keys ≡ all_wait counts.now ripes.now (edges_to row.now) self.old.waiting.keys) }
         ensures ordered { OnOk result (IsStrictlySortedBy wait_cmp self.new.waiting.keys) }
         ensures ready { self.new.ready.items ≡ self.old.ready.items }
         ensures heads { self.new.heads.keys ≡ self.old.heads.keys }
     {
-        for edge in row {
-            wait_if_free(&mut self.waiting, counts, ripes, edge.to)?;
+        for successor in row {
+            wait_if_free(&mut self.waiting, counts, ripes, u32::from(successor.place))?;
         }
         Ok(())
     }

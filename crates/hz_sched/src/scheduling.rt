@@ -6,19 +6,20 @@ ghost use Rattle.hz_depend.specs.GraphShape.{IsSchedulable};
 ghost use Rattle.hz_block_model.specs.Scheduling.Schedules as model;
 ghost use Rattle.hz_block_model.specs.Scheduling.Machines.{Settles, most_wait, can_start, cannot_start_alone};
 ghost use Rattle.hz_sched.specs.Shape.{graph_of, slots_of, alone_in};
-ghost use Rattle.hz_sched.specs.Rows.{row_at};
+ghost use Rattle.hz_depend.specs.GraphShape.{edge_of};
+ghost use Rattle.hz_sched.specs.Rows.{row_at, edge_to};
 ghost use Rattle.hz_sched.specs.Waits.{issued_at};
 ghost use Rattle.hz_sched.specs.Standing.{left_below, AllStart};
 ghost use Rattle.hz_sched.specs.Pending.{IsBoard};
 ghost use Rattle.hz_pipeline_model.specs.Tables.Machines.{IsWalked};
 
+use crate::adjacency::{Adjacency, Successor, adjacency_of};
 use crate::board::Board;
 use crate::fault::SchedFault;
 use crate::fitting::first_unstartable;
 use crate::naming::class_at;
 use crate::parts::{Schedule, Slot};
-use crate::rows::outgoing;
-use hz_depend::{Edge, Graph};
+use hz_depend::Graph;
 use hz_regexp::NoMemory;
 use hz_replay::Replayer;
 use hz_tables::{Machine, Steps};
@@ -33,7 +34,7 @@ const MOST_WAIT: u32 = 1_513;
 fn issue_next<L: Ledger>(
     machine: &Machine,
     graph: &Graph,
-    rows: &[Vec<Edge>],
+    rows: &[Vec<Successor>],
     board: &mut Board,
     replayer: &mut Replayer<'_>,
     steps: &mut Steps<L>,
@@ -42,7 +43,7 @@ fn issue_next<L: Ledger>(
     requires schedulable { IsSchedulable (length machine.now.classes.items) graph.now }
     requires start { AllStart (machine_of machine.now) (graph_of graph.now) }
     requires size { length rows.now ≡ length graph.now.insns.items }
-    requires rows { (i : ℕ) → row_at rows.now i ≡ filter (λ e. e.from == i) graph.now.edges.items }
+    requires rows { (i : ℕ) → row_at rows.now i ≡ filter (λ e. e.from == i) (map edge_of graph.now.edges.items) }
     requires machine { replayer.old.machine ≡ machine_of machine.now }
     requires board { IsBoard (machine_of machine.now) (graph_of graph.now) board.old replayer.old.states }
     requires present { board.old.cycle ≡ model.present 0 (slots_of board.old.slots.items) }
@@ -67,10 +68,10 @@ fn issue_next<L: Ledger>(
     unreachable!()
 }
 
-/// The edges from an instruction.
-fn row_of(rows: &[Vec<Edge>], place: u32) -> &[Edge]
+/// The successors of an instruction.
+fn row_of(rows: &[Vec<Successor>], place: u32) -> &[Successor]
     requires { place < length rows.now }
-    ensures { result.now ≡ row_at rows.now place }
+    ensures { map (edge_to place) result.now ≡ row_at rows.now place }
 {
     rows[place as usize].as_slice()
 }
@@ -95,8 +96,8 @@ fn slots_on<L: Ledger>(
     ensures soon { IfOk result (λ slots. All (λ x. x.cycle ≤ most_wait * length graph.now.insns.items) slots.items) }
 {
     let mut steps = Steps::<L>::new(blank);
-    let rows = outgoing(alloc, graph.insns.len(), &graph.edges)?;
-    let mut board = Board::new(alloc, graph, machine.classes.len())?;
+    let Adjacency { rows, counts } = adjacency_of(alloc, graph.insns.len(), &graph.edges)?;
+    let mut board = Board::new(alloc, graph, counts, machine.classes.len())?;
     let mut replayer = Replayer::start(alloc, machine);
     for _turn in 0..graph.insns.len() {
         issue_next(machine, graph, &rows, &mut board, &mut replayer, &mut steps)?;

@@ -1,1 +1,9 @@
 pub mod BeginLaws
+pub mod FirstLaws
+pub mod NarrowLaws
+pub mod PictureLaws
+pub mod WayLaws
+pub mod GroupLaws
+pub mod AlikeLaws
+pub mod RunLaws
+pub mod StretchLaws

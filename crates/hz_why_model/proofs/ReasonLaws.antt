@@ -17,7 +17,7 @@ use Rattle.hz_why_model.proofs.Finding.{Contains-at, found, none_passes, found_a
 
 module _ {U : Type 0} where
   -- what breaks a statement in a cycle keeps it from allowing the cycle
-  breaks : (kind : SetKind) (units : List U) (patterns : List (List U)) (source added result : U → Type 0) (unit : U) (pattern : List U)
+  pub breaks : (kind : SetKind) (units : List U) (patterns : List (List U)) (source added result : U → Type 0) (unit : U) (pattern : List U)
       → BreaksBy kind units patterns source added result unit pattern → AllowsIn (record { kind = kind; units = units; patterns = patterns }) source added result → ⊥
   breaks exclusion units patterns source added result unit pattern h allows = allows.excluded refl (unit, h.0.0, h.0.1) (pattern, h.1.0, h.1.1)
   breaks presence units patterns source added result unit pattern h allows = h.1 (allows.present refl (unit, h.0.0, h.0.1))
@@ -32,7 +32,7 @@ module _ {U : Type 0} where
 
 -- ---- tests
 
-not_false : (b : Bool) → not b ≡ false → b ≡ true
+pub not_false : (b : Bool) → not b ≡ false → b ≡ true
 not_false true h = refl
 not_false false h = cc
 
@@ -52,13 +52,13 @@ not_both false b h d e = cc
 module _ {U : Type 0} (same : U → U → Bool) (tells : Tells same) where
   -- ---- what is held, as tests tell
 
-  test_of : (pairs : List (Pair U)) (cycle : ℕ) (u : U) → Holds pairs cycle u → holds same pairs cycle u ≡ true
+  pub test_of : (pairs : List (Pair U)) (cycle : ℕ) (u : U) → Holds pairs cycle u → holds same pairs cycle u ≡ true
   test_of pairs cycle u h = (has_decides same tells pairs (record { unit = u; cycle = cycle })).1 h
 
-  held_of : (pairs : List (Pair U)) (cycle : ℕ) (u : U) → holds same pairs cycle u ≡ true → Holds pairs cycle u
+  pub held_of : (pairs : List (Pair U)) (cycle : ℕ) (u : U) → holds same pairs cycle u ≡ true → Holds pairs cycle u
   held_of pairs cycle u h = (has_decides same tells pairs (record { unit = u; cycle = cycle })).0 h
 
-  whole_of : (pairs : List (Pair U)) (cycle : ℕ) (pattern : List U) → list_all (holds same pairs cycle) pattern ≡ true → (u : U) → Contains pattern u → Holds pairs cycle u
+  pub whole_of : (pairs : List (Pair U)) (cycle : ℕ) (pattern : List U) → list_all (holds same pairs cycle) pattern ≡ true → (u : U) → Contains pattern u → Holds pairs cycle u
   whole_of pairs cycle pattern h u is = held_of pairs cycle u (each_passes (holds same pairs cycle) pattern h u is)
 
   pattern_test : (pairs : List (Pair U)) (cycle : ℕ) (patterns : List (List U)) → HoldsPattern patterns (Holds pairs cycle) → holds_pattern patterns (holds same pairs cycle) ≡ true
@@ -101,7 +101,7 @@ module _ {U : Type 0} (same : U → U → Bool) (tells : Tells same) where
     unit_of pairs units u h = let is = found (holds same pairs cycle) units u h in (is.0, held_of pairs cycle u is.1)
 
     -- the unit and the pattern that are named break a statement that does not allow the cycle
-    broken_by : (kind : SetKind) (units : List U) (patterns : List (List U)) (u : U) → asks kind units patterns so ad re ≡ false → find (breaking kind ad re) units ≡ Some u → BreaksHere kind units patterns u (breaking_pattern kind patterns so re)
+    pub broken_by : (kind : SetKind) (units : List U) (patterns : List (List U)) (u : U) → asks kind units patterns so ad re ≡ false → find (breaking kind ad re) units ≡ Some u → BreaksHere kind units patterns u (breaking_pattern kind patterns so re)
     broken_by exclusion units patterns u h is =
         let both = and_parts (list_any re units) (holds_pattern patterns re) (not_false _ h) in
         (unit_of (source ++ added) units u is, first_is_whole (source ++ added) cycle patterns both.1)
@@ -115,7 +115,7 @@ module _ {U : Type 0} (same : U → U → Bool) (tells : Tells same) where
         (unit_of added units u is, first_is_whole (source ++ added) cycle patterns both.1)
 
     -- some unit breaks it
-    breaking_unit : (kind : SetKind) (units : List U) (patterns : List (List U)) → asks kind units patterns so ad re ≡ false → (u : U) × (find (breaking kind ad re) units ≡ Some u)
+    pub breaking_unit : (kind : SetKind) (units : List U) (patterns : List (List U)) → asks kind units patterns so ad re ≡ false → (u : U) × (find (breaking kind ad re) units ≡ Some u)
     breaking_unit exclusion units patterns h = found_any re units (and_parts (list_any re units) (holds_pattern patterns re) (not_false _ h)).0
     breaking_unit presence units patterns h = found_any ad units (not_false _ (or_false _ _ h).0)
     breaking_unit final_presence units patterns h = found_any ad units (not_false _ (or_false _ _ h).0)
@@ -126,7 +126,7 @@ module _ {U : Type 0} (same : U → U → Bool) (tells : Tells same) where
     AllowsHere kind units patterns = AllowsIn (record { kind = kind; units = units; patterns = patterns }) (Holds source cycle) (Holds added cycle) (Holds (source ++ added) cycle)
 
     -- a statement that passes its test allows the cycle
-    allowed_by : (kind : SetKind) (units : List U) (patterns : List (List U)) → asks kind units patterns so ad re ≡ true → AllowsHere kind units patterns
+    pub allowed_by : (kind : SetKind) (units : List U) (patterns : List (List U)) → asks kind units patterns so ad re ≡ true → AllowsHere kind units patterns
     allowed_by exclusion units patterns h = record {
       excluded = λ _ x y. not_both _ _ h (some_test (source ++ added) cycle units x) (pattern_test (source ++ added) cycle patterns y);
       present = λ e. absurd (cc);
@@ -237,7 +237,7 @@ module _ {U : Type 0} (same : U → U → Bool) (tells : Tells same) (source add
 
   -- ---- where nothing is named all is allowed
 
-  none_in_first : (n : ℕ) (s : Statement U) → (o : Option (Pair U)) → find (λ p. is_broken_in same source added s p.cycle) added ≡ o → option_and_then (λ p. broken_in same source added n s p.cycle) o ≡ None → find (λ p. is_broken_in same source added s p.cycle) added ≡ None
+  pub none_in_first : (n : ℕ) (s : Statement U) → (o : Option (Pair U)) → find (λ p. is_broken_in same source added s p.cycle) added ≡ o → option_and_then (λ p. broken_in same source added n s p.cycle) o ≡ None → find (λ p. is_broken_in same source added s p.cycle) added ≡ None
   none_in_first n s None e h = e
   none_in_first n s (Some p) e h =
       let is = found (λ (q : Pair U). is_broken_in same source added s q.cycle) added p e in

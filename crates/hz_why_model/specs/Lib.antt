@@ -3,6 +3,10 @@ pub mod Holders
 pub mod Choices
 pub mod Waits
 pub mod Pictures
+pub mod Lists
+pub mod Groups
+pub mod Takes
+pub mod Ways
 pub mod Explanations
 pub mod Answers
 pub mod Examples

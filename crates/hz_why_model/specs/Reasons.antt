@@ -1,10 +1,10 @@
 -- What forbids an alternative. GCC Internals, 'Specifying processor pipeline description', on set statements; which of several
 -- things is named is this profile's, docs/RULES.md, 'Reasons'.
-use Rattle.std.specs.Prelude.{◌≡◌, ◌==◌, ◌&&◌, ℕ, suc, Bool, not, List, [], ◌∷◌, ◌++◌, Option, Some, None, unwrap_or, slice_get}
+use Rattle.std.specs.Prelude.{◌≡◌, ◌==◌, ◌&&◌, ℕ, suc, Bool, true, false, not, List, [], ◌∷◌, ◌++◌, Option, Some, None, unwrap_or, slice_get}
 use Rattle.std.specs.List.{Contains, find, list_all}
 use Rattle.std.specs.Option.{option_map, option_and_then}
 use Rattle.std.specs.declared.cmp.Ordering.{Ordering}
-use Rattle.hz_base_model.specs.Pairs.{Pair, placed, ascending_by}
+use Rattle.hz_base_model.specs.Pairs.{Pair, placed, ascending_by, same_pair}
 use Rattle.hz_description_model.specs.Reservations.Alternatives.{Alternative}
 use Rattle.hz_description_model.specs.Reservations.Automata.{UnitPlace}
 use Rattle.hz_description_model.specs.Reservations.Sets.{SetKind, exclusion, presence, final_presence, absence, final_absence, Statement, Holds, HoldsPattern}
@@ -41,6 +41,11 @@ Forbids {U} statements source added (broken n cycle unit pattern) =
     (s : Statement U) × (slice_get statements n ≡ Some s) × BreaksBy s.kind s.units s.patterns (Holds source cycle) (Holds added cycle) (Holds (source ++ added) cycle) unit pattern
 
 -- ---- which is named
+
+-- the patterns of a statement, none where there is no such statement
+abbrev pub patterns_of : {U : Type 0} → Option (Statement U) → List (List U)
+patterns_of None = []
+patterns_of (Some s) = s.patterns
 
 -- the first of two answers that there is
 abbrev pub or_else : {A : Type 0} → Option A → Option A → Option A
@@ -95,6 +100,28 @@ module _ {U : Type 0} (same : U → U → Bool) (source added : List (Pair U)) w
 -- the order of the file.
 abbrev pub reason_of : {U : Type 0} → (U → U → Bool) → (U → U → Ordering) → List (Statement U) → (source : List (Pair U)) → (now : ℕ) → Alternative U → Option (Reason U)
 reason_of same unit_cmp statements source now a = first_reason same source (placed now (ascending_by unit_cmp a.pairs)) statements
+
+module _ {U : Type 0} (same : U → U → Bool) where
+  -- whether two patterns are the same
+  abbrev pub same_pattern : (xs ys : List U) → Bool
+  same_pattern [] [] = true
+  same_pattern [] (y ∷ ys) = false
+  same_pattern (x ∷ xs) [] = false
+  same_pattern (x ∷ xs) (y ∷ ys) = same x y && same_pattern xs ys
+
+  -- whether two reasons are the same
+  abbrev pub same_reason : Reason U → Reason U → Bool
+  same_reason (taken p) (taken q) = same_pair same p q
+  same_reason (taken p) (broken n cycle unit pattern) = false
+  same_reason (broken n cycle unit pattern) (taken q) = false
+  same_reason (broken n cycle unit pattern) (broken n' cycle' unit' pattern') = n == n' && (cycle == cycle' && (same unit unit' && same_pattern pattern pattern'))
+
+  -- whether two alternatives are forbidden for the same reason; for none both, if they are not forbidden
+  abbrev pub are_alike : (x y : Option (Reason U)) → Bool
+  are_alike None None = true
+  are_alike None (Some r) = false
+  are_alike (Some r) None = false
+  are_alike (Some r) (Some s) = same_reason r s
 
 -- whether two units of a description are the same
 abbrev pub same_place : UnitPlace → UnitPlace → Bool

@@ -1,5 +1,5 @@
 use Rattle.std.proofs.Common.{length, arith, refl, rules}
-use Rattle.hz_sched.specs.Rows.{row_at}
+use Rattle.hz_bound.specs.Rows.{row_at}
 use Rattle.hz_bound.proofs.TailLemmas.{row_inside, tails_small, starts_chain, none_begins, begun_ends, ends_at_last, goes_on}
 use Rattle.hz_bound.proofs.chain.chain_of.Goals as goal
 

@@ -1,6 +1,6 @@
 use Rattle.std.proofs.Common.{◌<◌, ◌≤◌, length}
 use Rattle.hz_bound.proofs.BegunChains.{IsBegun}
-use Rattle.hz_sched.specs.Rows.{row_at}
+use Rattle.hz_bound.specs.Rows.{row_at}
 use Rattle.hz_bound.proofs.chain.chain_of.Given as goal
 
 abbrev pub invariant-loop-turn : goal.invariant-loop-turn

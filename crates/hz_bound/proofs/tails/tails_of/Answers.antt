@@ -1,5 +1,5 @@
 use Rattle.std.proofs.Common.{◌-◌, length, ap, ◌∙◌, arith}
-use Rattle.hz_sched.specs.Rows.{row_at}
+use Rattle.hz_bound.specs.Rows.{row_at}
 use Rattle.hz_bound.proofs.TailLemmas.{row_inside, tails_seen, tails_step}
 use Rattle.hz_bound.proofs.tails.tails_of.Goals as goal
 

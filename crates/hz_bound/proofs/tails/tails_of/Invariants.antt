@@ -1,6 +1,5 @@
 use Rattle.std.proofs.Common.{length}
-use Rattle.hz_bound.specs.Rows.{TailsFrom}
-use Rattle.hz_sched.specs.Rows.{row_at}
+use Rattle.hz_bound.specs.Rows.{row_at, TailsFrom}
 use Rattle.hz_bound.proofs.tails.tails_of.Given as goal
 
 abbrev pub invariant-loop-place : goal.invariant-loop-place

@@ -1,9 +1,6 @@
-use Rattle.std.proofs.Common.{◌≡◌, ℕ, List, length, map, replicate, ap, ◌∙◌, arith}
+use Rattle.std.proofs.Common.{◌≡◌, ℕ, List, length, replicate, ap, sym, ◌∙◌, arith}
 use Rattle.std.proofs.lemmas.List.{length-map, length-replicate}
-use Rattle.hz_depend.specs.declared.parts.Edge.{Edge}
-use Rattle.hz_depend.specs.GraphShape.{edge_of}
 use Rattle.hz_sched.specs.Shape.{graph_of, node_of}
-use Rattle.hz_sched.specs.Waits.{leading}
 use Rattle.hz_sched.proofs.BoardLemmas.{none_waited, classes_of_nodes, board_queue}
 use Rattle.hz_block_model.proofs.Scheduling.SameSchedules.{class_below}
 use Rattle.hz_sched.proofs.board.Board.new.Goals as goal
@@ -12,11 +9,11 @@ pub returns-clause-waits : goal.returns-clause-waits
 returns-clause-waits c =
     let g = graph_of c.args.graph.now in
     let long = length-map c.args.graph.now.insns.items node_of in
-    let count : c.len-count.result ≡ length g.nodes = omega (arith, long, c.len-count.ensures, c.args.graph.now.insns.ok.0) in
-    none_waited g c.in_ok-counts.counts.items c.in_ok-ripes.ripes.items
-    (c.in_ok-counts.ensures.size ∙ count)
-    (ap (λ (xs : List ℕ). length xs) c.in_ok-ripes.ensures ∙ (length-replicate c.len-count.result 0 ∙ count))
-    (λ j. c.in_ok-counts.ensures.counted j ∙ ap (λ (es : List Edge). leading j (map edge_of es)) c.deref.ensures.value)
+    let count : c.len.result ≡ length g.nodes = omega (arith, long, c.len.ensures, c.args.graph.now.insns.ok.0) in
+    none_waited g c.args.counts.items c.in_ok-ripes.ripes.items
+    (c.requires.size ∙ sym long)
+    (ap (λ (xs : List ℕ). length xs) c.in_ok-ripes.ensures ∙ (length-replicate c.len.result 0 ∙ count))
+    c.requires.counted
     (c.in_ok-ripes.ensures ∙ ap (λ (n : ℕ). replicate n 0) count)
 
 pub returns-clause-queued : goal.returns-clause-queued
@@ -25,14 +22,14 @@ returns-clause-queued c =
     let insns = c.args.graph.now.insns.items in
     let long = length-map insns node_of in
     let queue = c.in_ok-queue.queue in
-    let counts = c.in_ok-counts.counts.items in
+    let counts = c.args.counts.items in
     let ripes = c.in_ok-ripes.ripes.items in
-    let count : c.len-count.result ≡ length g.nodes = omega (arith, long, c.len-count.ensures, c.args.graph.now.insns.ok.0) in
+    let count : c.len.result ≡ length g.nodes = omega (arith, long, c.len.ensures, c.args.graph.now.insns.ok.0) in
     let waits = none_waited g counts ripes
-    (c.in_ok-counts.ensures.size ∙ count)
-    (ap (λ (xs : List ℕ). length xs) c.in_ok-ripes.ensures ∙ (length-replicate c.len-count.result 0 ∙ count))
-    (λ j. c.in_ok-counts.ensures.counted j ∙ ap (λ (es : List Edge). leading j (map edge_of es)) c.deref.ensures.value)
+    (c.requires.size ∙ sym long)
+    (ap (λ (xs : List ℕ). length xs) c.in_ok-ripes.ensures ∙ (length-replicate c.len.result 0 ∙ count))
+    c.requires.counted
     (c.in_ok-ripes.ensures ∙ ap (λ (n : ℕ). replicate n 0) count) in
-    board_queue g counts ripes _ _ queue waits c.deref-2.ensures.value c.deref-3.ensures.value
+    board_queue g counts ripes _ _ queue waits c.deref.ensures.value c.deref-2.ensures.value
     (λ j lt. omega (arith, c.in_ok-queue.ensures.size, class_below c.args.classes g (classes_of_nodes c.args.classes insns c.requires.classes) j lt))
     c.in_ok-queue.ensures.waiting c.in_ok-queue.ensures.ordered c.in_ok-queue.ensures.none c.in_ok-queue.ensures.heads
